@@ -1,0 +1,4 @@
+pub mod Grown
+pub mod Copied
+pub mod Runs
+pub mod Contacts

@@ -1,0 +1,7 @@
+pub mod Outside
+pub mod Contacts
+pub mod Bits
+pub mod Words
+pub mod Puzzles
+pub mod Serial
+pub mod formers

@@ -1,0 +1,21 @@
+//! The ground of a Kademlia node: identifiers, addresses and contacts, the lists of them, the limits, and the outside
+//! as traits: a source and a sink of bytes, a datagram link with a clock, a check of identities, an object whose calls
+//! are steps. It opens no file and no socket, and knows no message.
+#![tactic(auto)]
+
+pub mod limits;
+pub mod list;
+pub mod memory;
+pub mod outside;
+pub mod plain;
+pub mod serial;
+pub mod steady;
+
+pub use list::{Addrs, Bytes, Contacts, List, Numbers, Reports};
+pub use memory::{BytesSink, BytesSource};
+pub use outside::{Check, Link, Sink, Source};
+pub use plain::{
+    Addr, Came, Contact, Event, Failed, Id, Ip, NoMemory, Policy, Proof, Report, is_usable,
+};
+pub use serial::{Made, Serial};
+pub use steady::{SteadySink, SteadySource};

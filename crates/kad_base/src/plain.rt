@@ -1,0 +1,103 @@
+//! Plain data: identifiers, addresses, contacts, and what a link did.
+ghost use Rattle.std.specs.Prelude.{◌↔◌, IsTrue};
+ghost use Rattle.kad_base.specs.Contacts.{IsUsable};
+
+use crate::list::Bytes;
+
+/// A Kademlia identifier: 160 bits as 20 bytes, the highest bit first.
+#[derive(Clone, Copy, Debug, PartialEq, Eq, PartialOrd, Ord, Hash)]
+pub struct Id(pub [u8; 20]);
+
+/// An address of IPv4 or IPv6, in network order. Those of IPv4 come first.
+#[derive(Clone, Copy, Debug, PartialEq, Eq, PartialOrd, Ord, Hash)]
+pub enum Ip {
+    V4([u8; 4]),
+    V6([u8; 16]),
+}
+
+/// A UDP address.
+#[derive(Clone, Copy, Debug, PartialEq, Eq, PartialOrd, Ord, Hash)]
+pub struct Addr {
+    pub ip: Ip,
+    pub port: u16,
+}
+
+/// A node as others name it: Kademlia's triple of identifier, address and port. One identifier at two addresses is
+/// two contacts.
+#[derive(Clone, Copy, Debug, PartialEq, Eq, PartialOrd, Ord, Hash)]
+pub struct Contact {
+    pub id: Id,
+    pub addr: Addr,
+}
+
+/// What shows that an identifier was made and not chosen (S/Kademlia, section 4.1): the public key that hashes to it,
+/// and the value X of the dynamic puzzle.
+#[derive(Clone, Copy, Debug, PartialEq, Eq, Hash)]
+pub struct Proof {
+    pub key: [u8; 32],
+    pub x: [u8; 20],
+}
+
+/// A contact as an answer names it, with or without its proof.
+#[derive(Clone, Copy, Debug, PartialEq, Eq, Hash)]
+pub struct Report {
+    pub contact: Contact,
+    pub proof: Option<Proof>,
+}
+
+/// Which reports pass: all, or those whose proof solves the static puzzle of `c1` bits and the dynamic puzzle of `c2`
+/// bits, each 0 to 32 (S/Kademlia, section 4.1).
+#[derive(Clone, Copy, Debug, PartialEq, Eq, Hash)]
+pub enum Policy {
+    Plain,
+    Puzzled { c1: u8, c2: u8 },
+}
+
+/// The allocator gave no memory.
+#[derive(Clone, Copy, Debug, PartialEq, Eq)]
+pub struct NoMemory;
+
+/// A source, a sink or a link failed, and counted it.
+#[derive(Clone, Copy, Debug, PartialEq, Eq)]
+pub struct Failed;
+
+/// What a receive gave, and the moment that it told, in milliseconds: a datagram of `len` bytes, or none.
+#[derive(Clone, Copy, Debug, PartialEq, Eq)]
+pub enum Came {
+    Packet { from: Addr, len: usize, at: u64 },
+    Quiet { at: u64 },
+}
+
+/// What a link did, as its transcript has it. `until` is the argument of the receive, and each moment is in
+/// milliseconds.
+#[derive(Debug, Drop, PartialEq, Eq)]
+pub enum Event {
+    Now {
+        at: u64,
+    },
+    Sent {
+        to: Addr,
+        bytes: Bytes,
+    },
+    Unsent {
+        to: Addr,
+        bytes: Bytes,
+    },
+    Got {
+        from: Addr,
+        bytes: Bytes,
+        until: u64,
+        at: u64,
+    },
+    Quiet {
+        until: u64,
+        at: u64,
+    },
+}
+
+/// Whether a node with the identifier `own` may ask the contact: it isn't the node itself, and its port isn't 0.
+pub fn is_usable(own: &Id, contact: &Contact) -> bool
+    ensures { IsTrue result ↔ IsUsable own.now contact.now }
+{
+    contact.id != *own && contact.addr.port != 0
+}
