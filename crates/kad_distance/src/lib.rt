@@ -1,0 +1,48 @@
+//! The XOR distance, the order of contacts that it gives, and the k closest contacts of a list.
+#![tactic(auto)]
+
+ghost use Rattle.std.specs.Prelude.{◌≡◌, ◌↔◌, IsTrue};
+ghost use Rattle.std.specs.Cmp.{IsTotalOrder};
+ghost use Rattle.kad_base.specs.declared.plain.Id.{Id};
+ghost use Rattle.kad_base.specs.Bits.{xor_bytes};
+ghost use Rattle.kad_distance.specs.Order.{closeness, IsCloser, TiesAreEqual};
+
+mod closest;
+
+pub use closest::k_least;
+use kad_base::{Contact, Id};
+use std::cmp::Ordering;
+
+/// The distance of two identifiers: x XOR y, read as an unsigned number, the highest bit first (Kademlia, section
+/// 2.1).
+pub fn distance(x: &Id, y: &Id) -> Id
+    ensures { result.0 ≡ xor_bytes x.now.0 y.now.0 }
+{
+    let mut bytes = [0u8; 20];
+    for i in 0..20 {
+        bytes[i] = x.0[i] ^ y.0[i];
+    }
+    Id(bytes)
+}
+
+/// Which of two contacts is closer to the target: by distance, then by address, IPv4 before IPv6, then by port.
+pub fn compare(target: &Id, a: &Contact, b: &Contact) -> Ordering
+    ensures { result ≡ closeness target.now a.now b.now }
+{
+    distance(target, &a.id)
+        .cmp(&distance(target, &b.id))
+        .then(a.addr.cmp(&b.addr))
+}
+
+/// Whether `a` is closer to the target than `b`. No contact is closer than itself.
+pub fn closer(target: &Id, a: &Contact, b: &Contact) -> bool
+    ensures { IsTrue result ↔ IsCloser target.now a.now b.now }
+{
+    compare(target, a, b).is_lt()
+}
+
+/// The law of the order: to each target it is total, and only a contact ties with itself.
+pub fn order_is_strict()
+    ensures total { (target : Id) → IsTotalOrder (closeness target) }
+    ensures strict { (target : Id) → TiesAreEqual (closeness target) }
+{}
