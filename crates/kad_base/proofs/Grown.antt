@@ -1,7 +1,6 @@
-use Rattle.std.proofs.Common.{◌≡◌, ℕ, ◌≤◌, List, ◌++◌, [], Option, Some, None, refl, sym, ap, ◌∙◌, arith, inl, inr}
-use Rattle.std.specs.Prelude.{IfSome}
+use Rattle.std.proofs.Common.{◌≡◌, List, ◌++◌, [], Option, Some, None, refl, sym, ap, ◌∙◌}
 use Rattle.std.proofs.lemmas.List.{append_assoc, append-nil}
-use Rattle.kad_base.specs.Outside.{Added, Grows, Rose, Shrinks}
+use Rattle.kad_base.specs.Outside.{Added, Grows, Shrinks}
 
 -- what two calls added, one after the other
 pub added_then : {A : Type 0} (a b : Option (List A)) (l : List A) (P Q R : List A → Type 0) → Grows a b P → Added b l Q → ((t u : List A) → P t → Q u → R (t ++ u)) → Added a l R

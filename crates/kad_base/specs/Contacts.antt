@@ -1,5 +1,5 @@
 -- Contacts: the triple of identifier, address and port (Kademlia, 2002, section 2.1).
-use Rattle.std.specs.Prelude.{◌≢◌, ℕ, List, [], ◌∷◌, Bool, filter, not}
+use Rattle.std.specs.Prelude.{◌≢◌, ℕ, List, ◌∷◌, Bool, filter, not}
 use Rattle.std.specs.List.{list_any}
 use Rattle.std.specs.Ordering.{ordering_then, is_eq, nat_cmp}
 use Rattle.std.specs.Cmp.Lexicographic.{slice_cmp}

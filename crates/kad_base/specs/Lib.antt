@@ -4,4 +4,5 @@ pub mod Bits
 pub mod Words
 pub mod Puzzles
 pub mod Serial
+pub mod Memory
 pub mod formers

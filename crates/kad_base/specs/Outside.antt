@@ -1,4 +1,4 @@
-use Rattle.std.specs.Prelude.{◌≡◌, ◌⊎◌, ℕ, ◌+◌, ◌-◌, ◌^◌, ◌<◌, ◌≤◌, List, [], ◌∷◌, ◌++◌, length, take, Option, Some, None, IfSome}
+use Rattle.std.specs.Prelude.{◌≡◌, ◌⊎◌, ℕ, ◌+◌, ◌^◌, ◌<◌, ◌≤◌, List, ◌++◌, take, Option, Some, IfSome}
 use Rattle.kad_base.specs.declared.plain.Came.{Came}
 use Rattle.kad_base.specs.declared.plain.Came.TheVariants.{Packet, Quiet as Quiet_came}
 use Rattle.kad_base.specs.declared.plain.Event.{Event}

@@ -1,5 +1,5 @@
 -- Runs of a serial object: the calls that were made, in order, each with its role and its reply.
-use Rattle.std.specs.Prelude.{◌≡◌, ℕ, Bool, ◌==◌, List, [], ◌∷◌, filter}
+use Rattle.std.specs.Prelude.{ℕ, ◌==◌, List, [], ◌∷◌, filter}
 use Rattle.kad_base.specs.declared.serial.Made.{Made}
 
 abbrev pub made : {C R : Type 0} → ℕ → C → R → Made C R

@@ -10,6 +10,8 @@ pub mod outside;
 pub mod plain;
 pub mod serial;
 pub mod steady;
+#[cfg(test)]
+mod tests;
 
 pub use list::{Addrs, Bytes, Contacts, List, Numbers, Reports};
 pub use memory::{BytesSink, BytesSource};

@@ -1,11 +1,12 @@
 //! A source and a sink in memory, whose calls fail where they are told to.
-ghost use Rattle.std.specs.Prelude.{◌≡◌, ◌<◌, ◌≤◌, length, drop, Some, IfOk, OnErr};
+ghost use Rattle.std.specs.Prelude.{◌≡◌, ◌<◌, ◌≤◌, [], length, drop, Some, IfOk, OnErr};
 
 use crate::list::{Bytes, Numbers};
 use crate::outside::{Sink, Source};
 use crate::plain::Failed;
+use std::marker::Model;
 
-/// Gives at most `piece` bytes a call. The calls whose numbers are in `failing` fail and take nothing.
+/// Gives at most `piece` bytes a call. The calls whose numbers, from 0, are in `failing` fail and take nothing.
 #[derive(Drop)]
 pub struct BytesSource {
     bytes: Bytes,
@@ -14,13 +15,24 @@ pub struct BytesSource {
     failing: Numbers,
     calls: u64,
     faults: u64,
-    ghost in_range: { at ≤ length bytes },
-    ghost some: { 0 < piece },
+}
+
+impl Model for BytesSource {
+    ghost use Rattle.std.specs.Prelude.{◌<◌, ◌≤◌, length, drop};
+    ghost use Rattle.kad_base.specs.Memory.{Supply};
+
+    ghost Value = { Supply };
+
+    ghost view = { λ s. record { rest = drop s.at s.bytes; failures = s.faults } };
+
+    ghost invariant = { λ s. (s.at ≤ length s.bytes) × (0 < s.piece) };
 }
 
 impl BytesSource {
     pub fn new(bytes: Bytes, piece: usize, failing: Numbers) -> Self
         requires { 0 < piece }
+        ensures rest { result.rest ≡ bytes }
+        ensures failures { result.failures ≡ 0 }
     {
         BytesSource {
             bytes,
@@ -34,9 +46,9 @@ impl BytesSource {
 }
 
 impl Source for BytesSource {
-    ghost left = { λ s. Some (drop s.at s.bytes) };
+    ghost left = { λ s. Some s.rest };
 
-    ghost faults = { λ s. s.faults };
+    ghost faults = { λ s. s.failures };
 
     fn take(&mut self, buf: &mut [u8]) -> Result<usize, Failed> {
         let fails = self.failing.as_slice().contains(&self.calls);
@@ -53,7 +65,8 @@ impl Source for BytesSource {
     }
 }
 
-/// Takes at most `piece` bytes a call. The calls whose numbers are in `failing` fail and write nothing.
+/// Takes at most `piece` bytes a call. The calls whose numbers, from 0, are in `failing` fail and write nothing; so
+/// does a call for whose bytes there is no memory.
 #[derive(Drop)]
 pub struct BytesSink {
     piece: usize,
@@ -61,12 +74,25 @@ pub struct BytesSink {
     room: Bytes,
     calls: u64,
     faults: u64,
-    ghost some: { 0 < piece },
+}
+
+impl Model for BytesSink {
+    ghost use Rattle.std.specs.Prelude.{◌<◌};
+    ghost use Rattle.kad_base.specs.Memory.{Store};
+
+    ghost Value = { Store };
+
+    ghost view = { λ s. record { taken = s.room; failures = s.faults } };
+
+    ghost invariant = { λ s. 0 < s.piece };
 }
 
 impl BytesSink {
+    /// `room` is the text that the bytes are appended to.
     pub fn new(piece: usize, failing: Numbers, room: Bytes) -> Self
         requires { 0 < piece }
+        ensures taken { result.taken ≡ room }
+        ensures failures { result.failures ≡ 0 }
     {
         BytesSink {
             piece,
@@ -77,17 +103,18 @@ impl BytesSink {
         }
     }
 
+    /// The bytes that were taken, after those that the room began with.
     pub fn written(&self) -> &[u8]
-        ensures { result.now ≡ self.now.room }
+        ensures { result.now ≡ self.now.taken }
     {
         self.room.as_slice()
     }
 }
 
 impl Sink for BytesSink {
-    ghost written = { λ s. Some s.room };
+    ghost written = { λ s. Some s.taken };
 
-    ghost faults = { λ s. s.faults };
+    ghost faults = { λ s. s.failures };
 
     fn give(&mut self, bytes: &[u8]) -> Result<usize, Failed> {
         let fails = self.failing.as_slice().contains(&self.calls);

@@ -1,10 +1,11 @@
 //! A source and a sink in memory that never fail.
-ghost use Rattle.std.specs.Prelude.{◌≡◌, ◌≤◌, ◌+◌, ◌++◌, length, take, drop, Some, None, if◌then◌else◌};
+ghost use Rattle.std.specs.Prelude.{◌≡◌, ◌≤◌, ◌+◌, ◌++◌, [], true, length, take, drop, Some, None, IfOk, if◌then◌else◌};
 
 use crate::list::Bytes;
 use crate::outside::{Sink, Source};
 use crate::plain::{Failed, NoMemory};
 use std::alloc::Global;
+use std::marker::Model;
 
 /// Copies the first n.
 fn copy_front(from: &[u8], to: &mut [u8], n: usize)
@@ -23,22 +24,33 @@ fn put_at(room: &mut [u8], at: usize, bytes: &[u8])
     room[at..at + bytes.len()].copy_from_slice(bytes);
 }
 
-/// Gives its bytes.
+/// Gives its bytes, as many a call as there is room for.
 #[derive(Drop)]
 pub struct SteadySource {
     bytes: Bytes,
     at: usize,
-    ghost in_range: { at ≤ length bytes },
+}
+
+impl Model for SteadySource {
+    ghost use Rattle.std.specs.Prelude.{◌≤◌, ℕ, List, length, drop};
+
+    ghost Value = { List ℕ };
+
+    ghost view = { λ s. drop s.at s.bytes };
+
+    ghost invariant = { λ s. s.at ≤ length s.bytes };
 }
 
 impl SteadySource {
-    pub fn new(bytes: Bytes) -> Self {
+    pub fn new(bytes: Bytes) -> Self
+        ensures { result ≡ bytes }
+    {
         SteadySource { bytes, at: 0 }
     }
 }
 
 impl Source for SteadySource {
-    ghost left = { λ s. Some (drop s.at s.bytes) };
+    ghost left = { λ s. Some s };
 
     ghost faults = { λ _. 0 };
 
@@ -51,17 +63,32 @@ impl Source for SteadySource {
     }
 }
 
-/// Keeps the bytes that fit, and tells them while all fit.
+/// Keeps the bytes of each call that fits into the room that is left, and tells them while each call has fitted.
 #[derive(Drop)]
 pub struct SteadySink {
     room: Vec<u8>,
     kept: usize,
     whole: bool,
-    ghost in_range: { kept ≤ length room.items },
+}
+
+impl Model for SteadySink {
+    ghost use Rattle.std.specs.Prelude.{◌≤◌, length, take};
+    ghost use Rattle.kad_base.specs.Memory.{Shelf};
+
+    ghost Value = { Shelf };
+
+    ghost view = { λ s. record { kept = take s.kept s.room.items; whole = s.whole; room = length s.room.items } };
+
+    ghost invariant = { λ s. s.kept ≤ length s.room.items };
 }
 
 impl SteadySink {
-    pub fn new(alloc: Global, len: usize) -> Result<SteadySink, NoMemory> {
+    /// Takes memory for `len` bytes, and none after that.
+    pub fn new(alloc: Global, len: usize) -> Result<SteadySink, NoMemory>
+        ensures kept { IfOk result (λ sink. sink.kept ≡ []) }
+        ensures whole { IfOk result (λ sink. sink.whole ≡ true) }
+        ensures room { IfOk result (λ sink. sink.room ≡ len) }
+    {
         match vec![in alloc; 0u8; len] {
             Ok(room) => Ok(SteadySink {
                 room,
@@ -72,15 +99,16 @@ impl SteadySink {
         }
     }
 
+    /// The bytes that were kept.
     pub fn written(&self) -> &[u8]
-        ensures { result.now ≡ take self.now.kept self.now.room.items }
+        ensures { result.now ≡ self.now.kept }
     {
         &self.room[..self.kept]
     }
 }
 
 impl Sink for SteadySink {
-    ghost written = { λ s. if s.whole then Some (take s.kept s.room.items) else None };
+    ghost written = { λ s. if s.whole then Some s.kept else None };
 
     ghost faults = { λ _. 0 };
 
