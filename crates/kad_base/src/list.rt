@@ -40,6 +40,22 @@ impl<T> List<T> {
     }
 }
 
+impl<T> List<T> {
+    /// The items of a `Vec`. Takes no memory.
+    pub fn from_vec(items: Vec<T>) -> Self
+        ensures { result ≡ items.items }
+    {
+        List { items }
+    }
+
+    /// The items as a `Vec`. Takes no memory.
+    pub fn into_vec(self) -> Vec<T>
+        ensures { result.items ≡ self }
+    {
+        self.items
+    }
+}
+
 impl<T: Drop> List<T> {
     /// Appends an item, or leaves the list.
     pub fn push(&mut self, item: T) -> Result<(), NoMemory>

@@ -1,0 +1,32 @@
+//! The query of a lookup, written without memory.
+ghost use Rattle.std.specs.Prelude.{◌≡◌, ◌+◌, ◌≤◌, ◌++◌, length, take};
+ghost use Rattle.kad_base.specs.Words.{word_bytes};
+ghost use Rattle.kad_krpc.specs.Form.{find_node_form};
+
+use kad_base::Id;
+
+/// Puts a part at a place, and answers the place behind it.
+fn put(buf: &mut [u8], at: usize, part: &[u8]) -> usize
+    requires { at + length part.now ≤ length buf.old }
+    ensures place { result ≡ at + length part.now }
+    ensures part { take result buf.new ≡ take at buf.old ++ part.now }
+{
+    let end = at + part.len();
+    buf[at..end].copy_from_slice(part);
+    end
+}
+
+/// Writes the read-only `find_node` query (BEP 5, BEP 43) in front of `buf`, and answers its length, which is 101
+/// bytes. The transaction id is the four bytes of `tx`, the lowest first.
+pub fn find_node_into(buf: &mut [u8; 160], own: &Id, target: &Id, tx: u32) -> usize
+    ensures length { result ≡ 101 }
+    ensures form { take result buf.new ≡ find_node_form own.now.0 target.now.0 (word_bytes tx) }
+{
+    let at = put(buf, 0, b"d1:ad2:id20:");
+    let at = put(buf, at, &own.0);
+    let at = put(buf, at, b"6:target20:");
+    let at = put(buf, at, &target.0);
+    let at = put(buf, at, b"e1:q9:find_node2:roi1e1:t4:");
+    let at = put(buf, at, &tx.to_le_bytes());
+    put(buf, at, b"1:y1:qe")
+}
