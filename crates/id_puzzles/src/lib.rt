@@ -2,6 +2,11 @@
 //! identifier is minted that solves both. Nothing here takes memory.
 #![tactic(auto)]
 
+mod bits;
+mod minting;
+mod puzzles;
 mod words;
 
+pub use minting::{Minted, Unminted, mint};
+pub use puzzles::{Sha1Check, passes};
 pub use words::Words;

@@ -1,6 +1,6 @@
 //! Words drawn from a seed.
-ghost use Rattle.std.specs.Prelude.{◌≡◌, ◌+◌, ◌^◌, ◌<◌};
-ghost use Rattle.kad_base.specs.Words.{word};
+ghost use Rattle.std.specs.Prelude.{◌≡◌, ◌+◌, ◌/◌, ◌%◌, ◌^◌, ◌<◌, ◌≤◌, length};
+ghost use Rattle.kad_base.specs.Words.{word, drawn_bytes};
 ghost use Rattle.id_puzzles.specs.Drawn.{Drawn, IsSeeded, drawn_by};
 
 use rand_chacha::ChaCha20Rng;
@@ -40,5 +40,17 @@ impl Words {
         ensures place { self.new ≡ record self.old { place = self.old.place + 1 } }
     {
         self.rng.next_word()
+    }
+
+    /// Fills the bytes with the next words, four bytes a word, the lowest first.
+    pub fn fill(&mut self, bytes: &mut [u8])
+        requires whole { length bytes.old % 4 ≡ 0 }
+        requires place { self.old.place + length bytes.old / 4 ≤ 2 ^ 60 }
+        ensures bytes { bytes.new ≡ drawn_bytes self.old.seed self.old.place (length bytes.old / 4) }
+        ensures place { self.new ≡ record self.old { place = self.old.place + length bytes.old / 4 } }
+    {
+        for i in 0..bytes.len() / 4 {
+            bytes[4 * i..4 * i + 4].copy_from_slice(&self.next().to_le_bytes());
+        }
     }
 }
