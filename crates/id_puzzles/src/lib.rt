@@ -5,6 +5,8 @@
 mod bits;
 mod minting;
 mod puzzles;
+#[cfg(test)]
+mod tests;
 mod words;
 
 pub use minting::{Minted, Unminted, mint};
