@@ -53,10 +53,10 @@ pub struct Queries {
 
 impl Model for Queries {
     ghost use Rattle.std.specs.Prelude.{List};
-    ghost use Rattle.query_book.specs.declared.Query.{Query as Query_};
+    ghost use Rattle.query_book.specs.declared.Query.{Query};
     ghost use Rattle.query_book.specs.Queries.{IsQueries};
 
-    ghost Value = { List Query_ };
+    ghost Value = { List Query };
 
     ghost view = { λ q. q.queries.items };
 
