@@ -1,0 +1,4 @@
+pub mod Drawing
+pub mod Seeds
+pub mod Xors
+pub mod Zeros
