@@ -1,3 +1,4 @@
 pub mod Numerals
 pub mod Records
 pub mod Unread
+pub mod Once

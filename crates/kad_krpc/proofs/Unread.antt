@@ -8,7 +8,7 @@ use Rattle.std.proofs.lemmas.List.{append_assoc, append_cancel_left, length-appe
 use Rattle.kad_base.specs.declared.plain.Contact.{Contact}
 use Rattle.kad_base.specs.declared.plain.Id.{Id}
 use Rattle.kad_krpc.specs.declared.message.Message.{Message}
-use Rattle.kad_krpc.specs.declared.message.Message.TheVariants.{Answer as Answer_message}
+use Rattle.kad_krpc.specs.declared.message.Message.TheVariants.{Answer as Answer_message, Fault as Fault_message}
 use Rattle.kad_krpc.specs.Form.{IsRecordable, records_of, nodes_part, answer_start, answer_end, answer_form, AreRecordable, SaysAnswer, Says}
 use Rattle.kad_krpc.proofs.Numerals.{length_once}
 
@@ -45,6 +45,7 @@ few_records bytes tail records end n e few f =
 -- a message that is said is an answer
 pub said_answer : (bytes : List ℕ) (message : Message) (P : Type 0) → Says bytes message → ((tx id : List ℕ) (nodes : Option (List Contact)) → SaysAnswer bytes tx id nodes → P) → P
 said_answer bytes (Answer_message tx answer) P says k = k tx answer.id.0 answer.nodes says
+said_answer bytes (Fault_message tx code text) P says k = absurd says
 
 pub form_of : (bytes tx id : List ℕ) (nodes : Option (List Contact)) → SaysAnswer bytes tx id nodes → bytes ≡ answer_start ++ (id ++ (nodes_part nodes ++ answer_end tx))
 unfolding answer_form

@@ -6,7 +6,7 @@ use Rattle.kad_base.specs.declared.plain.Ip.{Ip}
 use Rattle.kad_base.specs.declared.plain.Ip.TheVariants.{V4, V6}
 use Rattle.kad_base.specs.declared.plain.Contact.{Contact}
 use Rattle.kad_krpc.specs.declared.message.Message.{Message}
-use Rattle.kad_krpc.specs.declared.message.Message.TheVariants.{Answer as Answer_message}
+use Rattle.kad_krpc.specs.declared.message.Message.TheVariants.{Answer as Answer_message, Fault as Fault_message}
 
 -- the read-only find_node query (`ro` is BEP 43's) under a transaction id
 unfoldable pub find_node_form : List ℕ → List ℕ → List ℕ → List ℕ
@@ -70,3 +70,4 @@ pub record SaysAnswer (bytes : List ℕ) (tx id : List ℕ) (nodes : Option (Lis
 
 abbrev pub Says : List ℕ → Message → Type 0
 Says bytes (Answer_message tx answer) = SaysAnswer bytes tx answer.id.0 answer.nodes
+Says bytes (Fault_message tx code text) = ⊥

@@ -6,6 +6,8 @@ use kad_base::{Bytes, Contacts, Id};
 pub enum Message {
     /// `d1:r` the answer `1:t` the transaction id `1:y1:re`.
     Answer { tx: Bytes, answer: Answer },
+    /// `d1:el` the code and the text `e1:t` the transaction id `1:y1:ee`.
+    Fault { tx: Bytes, code: i64, text: Bytes },
 }
 
 /// The dictionary `r` of an answer.
