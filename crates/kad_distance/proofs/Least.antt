@@ -15,7 +15,7 @@ use Rattle.kad_distance.specs.KClosest.{by_ordering, put, each_once, count_below
 abbrev Below : {K : Type 0} → (K → K → Ordering) → K → List K → Type 0
 Below R x ys = AllByRecursion (λ y. R x y ≡ Less) ys
 
-all_put : {K : Type 0} (R : K → K → Ordering) (P : K → Type 0) (ys : List K) (x : K) → P x → AllByRecursion P ys → AllByRecursion P (put R ys x)
+pub all_put : {K : Type 0} (R : K → K → Ordering) (P : K → Type 0) (ys : List K) (x : K) → P x → AllByRecursion P ys → AllByRecursion P (put R ys x)
 all_put R P [] x px h = (px, tt)
 all_put R P (y ∷ ys) x px h =
     elim (R y x) as (λ r. AllByRecursion P (by_ordering r (y ∷ put R ys x) (y ∷ ys) (x ∷ y ∷ ys))) [
