@@ -1,21 +1,22 @@
 use Rattle.std.proofs.Common.{◌≡◌, ◌≢◌, ℕ, zero, suc, ◌+◌, ◌-◌, ◌<◌, ◌≤◌, List, [], ◌∷◌, ◌++◌, length, take, drop, get_or, Bool, true, false, not, cond, refl, sym, ap, subst, ◌∙◌, arith, add-zero, zero-add}
 use Rattle.std.specs.Prelude.{filter, fold, nat_lt, insert}
-use Rattle.std.specs.List.{AllByRecursion}
+use Rattle.std.specs.List.{All, AllByRecursion}
 use Rattle.std.specs.List.Sorted.{IsStrictlySortedBy}
 use Rattle.std.specs.Ordering.{is_lt, is_eq, ordering_reverse}
 use Rattle.std.specs.Cmp.{IsTotalOrder}
 use Rattle.std.specs.declared.cmp.Ordering.{Ordering}
 use Rattle.std.specs.declared.cmp.Ordering.TheVariants.{Less, Equal, Greater}
 use Rattle.std.proofs.lemmas.Cmp.{tied_itself}
+use Rattle.std.proofs.lemmas.List.Elements.{All-from_recursion, recursion_from_All}
 use Rattle.std.proofs.Math.Seq.{take-nil, take-length, take-append_seam}
 use Rattle.std.proofs.lemmas.List.Sums.{fold_more}
 use Rattle.std.proofs.lemmas.Bool.Decides.{nat_tests}
 use Rattle.kad_distance.specs.KClosest.{by_ordering, put, each_once, count_below, least, place_in, new_at}
 
-abbrev Below : {K : Type 0} → (K → K → Ordering) → K → List K → Type 0
+abbrev pub Below : {K : Type 0} → (K → K → Ordering) → K → List K → Type 0
 Below R x ys = AllByRecursion (λ y. R x y ≡ Less) ys
 
-pub all_put : {K : Type 0} (R : K → K → Ordering) (P : K → Type 0) (ys : List K) (x : K) → P x → AllByRecursion P ys → AllByRecursion P (put R ys x)
+all_put : {K : Type 0} (R : K → K → Ordering) (P : K → Type 0) (ys : List K) (x : K) → P x → AllByRecursion P ys → AllByRecursion P (put R ys x)
 all_put R P [] x px h = (px, tt)
 all_put R P (y ∷ ys) x px h =
     elim (R y x) as (λ r. AllByRecursion P (by_ordering r (y ∷ put R ys x) (y ∷ ys) (x ∷ y ∷ ys))) [
@@ -23,6 +24,13 @@ all_put R P (y ∷ ys) x px h =
       | Equal ↦ h
       | Greater ↦ (px, h)
     ]
+
+fold_all : {K : Type 0} (R : K → K → Ordering) (P : K → Type 0) (S ys : List K) → AllByRecursion P ys → AllByRecursion P S → AllByRecursion P (fold (put R) ys S)
+fold_all R P [] ys h all = h
+fold_all R P (x ∷ S) ys h all = fold_all R P S (put R ys x) (all_put R P ys x all.0 h) all.1
+
+pub once_all : {K : Type 0} (R : K → K → Ordering) (P : K → Type 0) (S : List K) → All P S → All P (each_once R S)
+once_all R P S all = All-from_recursion P (each_once R S) (fold_all R P S [] tt (recursion_from_All P S all))
 
 all_beyond : {K : Type 0} {R : K → K → Ordering} → IsTotalOrder R → (x y : K) (ys : List K) → R x y ≡ Less → Below R y ys → Below R x ys
 all_beyond o x y [] e h = tt
@@ -98,7 +106,7 @@ least_take {K} {R} o k S =
         ap (λ m. cond (nat_lt m k) (x ∷ filter (λ z. nat_lt (count z) k) xs) (filter (λ z. nat_lt (count z) k) xs)) (sym (zero-add (count x)))
         ∙ ap (λ l. cond (nat_lt (0 + count x) k) (x ∷ l) l) (filter_zero k count xs)
 
-take_twice : {K : Type 0} (k : ℕ) (ys : List K) → take k (take k ys) ≡ take k ys
+pub take_twice : {K : Type 0} (k : ℕ) (ys : List K) → take k (take k ys) ≡ take k ys
 take_twice zero ys = refl
 take_twice (suc k) [] = refl
 take_twice (suc k) (y ∷ ys) = ap (λ l. y ∷ l) (take_twice k ys)
@@ -113,7 +121,7 @@ take_cons {K} (suc k) y ys = ap (λ l. y ∷ l) (fewer k ys)
     fewer (suc k) (z ∷ ys) = ap (λ l. z ∷ l) (fewer k ys)
 
 -- the first k of a list with one more
-take_put : {K : Type 0} (R : K → K → Ordering) (k : ℕ) (ys : List K) (x : K) → take k (put R ys x) ≡ take k (put R (take k ys) x)
+pub take_put : {K : Type 0} (R : K → K → Ordering) (k : ℕ) (ys : List K) (x : K) → take k (put R ys x) ≡ take k (put R (take k ys) x)
 take_put R zero ys x = refl
 take_put R (suc k) [] x = refl
 take_put R (suc k) (y ∷ ys) x =

@@ -1,3 +1,4 @@
 pub mod Orders
 pub mod Least
+pub mod Members
 pub mod Chosen

@@ -2,15 +2,15 @@
 #![tactic(auto)]
 
 ghost use Rattle.std.specs.Prelude.{◌≡◌, ◌↔◌, IsTrue};
-ghost use Rattle.std.specs.Cmp.{IsTotalOrder};
-ghost use Rattle.kad_base.specs.declared.plain.Id.{Id};
 ghost use Rattle.kad_base.specs.Bits.{xor_bytes};
-ghost use Rattle.kad_distance.specs.Order.{closeness, IsCloser, TiesAreEqual};
+ghost use Rattle.kad_distance.specs.Order.{closeness, IsCloser};
 
 mod closest;
+mod laws;
 
 pub use closest::k_least;
 use kad_base::{Contact, Id};
+pub use laws::{closest_laws, order_is_strict};
 use std::cmp::Ordering;
 
 /// The distance of two identifiers: x XOR y, read as an unsigned number, the highest bit first (Kademlia, section
@@ -40,9 +40,3 @@ pub fn closer(target: &Id, a: &Contact, b: &Contact) -> bool
 {
     compare(target, a, b).is_lt()
 }
-
-/// The law of the order: to each target it is total, and only a contact ties with itself.
-pub fn order_is_strict()
-    ensures total { (target : Id) → IsTotalOrder (closeness target) }
-    ensures strict { (target : Id) → TiesAreEqual (closeness target) }
-{}
