@@ -127,6 +127,9 @@ least_below {K} {R} o t k S x in_ out =
 pub closest_rises : (target : Id) (k : ℕ) (S : List Contact) → IsStrictlySortedBy (closeness target) (k_closest target k S)
 closest_rises target k S = least_rises (closeness_total target) k S
 
+pub once_front : (target : Id) (k : ℕ) (S : List Contact) → IsStrictlySortedBy (closeness target) (take k (each_once (closeness target) S))
+once_front target k S = subst (IsStrictlySortedBy (closeness target)) (least_take (closeness_total target) k S) (closest_rises target k S)
+
 -- at most k
 pub closest_few : (target : Id) (k : ℕ) (S : List Contact) → length (k_closest target k S) ≤ k
 closest_few target k S = least_few (closeness_total target) k S

@@ -1,13 +1,13 @@
 use Rattle.std.proofs.Common.{◌≡◌, ◌≢◌, ℕ, zero, suc, ◌+◌, ◌-◌, ◌<◌, ◌≤◌, List, [], ◌∷◌, ◌++◌, length, take, drop, get_or, Bool, true, false, not, cond, refl, sym, ap, subst, ◌∙◌, arith, add-zero, zero-add}
 use Rattle.std.specs.Prelude.{filter, fold, nat_lt, insert}
 use Rattle.std.specs.List.{All, AllByRecursion}
-use Rattle.std.specs.List.Sorted.{IsStrictlySortedBy}
+use Rattle.std.specs.List.Sorted.{IsStrictlySortedBy, IsPartitionedBy}
 use Rattle.std.specs.Ordering.{is_lt, is_eq, ordering_reverse}
 use Rattle.std.specs.Cmp.{IsTotalOrder}
 use Rattle.std.specs.declared.cmp.Ordering.{Ordering}
 use Rattle.std.specs.declared.cmp.Ordering.TheVariants.{Less, Equal, Greater}
 use Rattle.std.proofs.lemmas.Cmp.{tied_itself}
-use Rattle.std.proofs.lemmas.List.Elements.{All-from_recursion, recursion_from_All}
+use Rattle.std.proofs.lemmas.List.Elements.{All-from_recursion, recursion_from_All, All-get_or}
 use Rattle.std.proofs.Math.Seq.{take-nil, take-length, take-append_seam}
 use Rattle.std.proofs.lemmas.List.Sums.{fold_more}
 use Rattle.std.proofs.lemmas.Bool.Decides.{nat_tests}
@@ -35,6 +35,15 @@ once_all R P S all = All-from_recursion P (each_once R S) (fold_all R P S [] tt 
 all_beyond : {K : Type 0} {R : K → K → Ordering} → IsTotalOrder R → (x y : K) (ys : List K) → R x y ≡ Less → Below R y ys → Below R x ys
 all_beyond o x y [] e h = tt
 all_beyond o x y (z ∷ ys) e h = (o.trans x y z e h.0, all_beyond o x y ys e h.1)
+
+all_tied : {K : Type 0} {R : K → K → Ordering} → IsTotalOrder R → (y x : K) (ys : List K) → R y x ≡ Equal → Below R y ys → Below R x ys
+all_tied o y x [] e h = tt
+all_tied o y x (z ∷ ys) e h = (sym (o.congr y x z e) ∙ h.0, all_tied o y x ys e h.1)
+
+lt_is : (r : Ordering) → is_lt r ≡ true → r ≡ Less
+lt_is Less e = refl
+lt_is Equal e = absurd cc
+lt_is Greater e = absurd cc
 
 put_rises : {K : Type 0} {R : K → K → Ordering} → IsTotalOrder R → (ys : List K) (x : K) → IsStrictlySortedBy R ys → IsStrictlySortedBy R (put R ys x)
 unfolding IsStrictlySortedBy
@@ -153,12 +162,40 @@ place_le R (y ∷ ys) x =
       | Greater ↦ omega arith
     ]
 
--- the step of a search: what is left, where the front is below
-pub place_here : {K : Type 0} (R : K → K → Ordering) (y : K) (ys : List K) (x : K) → R y x ≢ Less → place_in R (y ∷ ys) x ≡ 0
-place_here R y ys x ne = elim (R y x) as (λ r. r ≢ Less → by_ordering r (suc (place_in R ys x)) 0 0 ≡ 0) [ Less ↦ λ n. absurd (n refl) | Equal ↦ λ n. refl | Greater ↦ λ n. refl ] ne
+-- in order, the place of x is how many are below it
+pub place_count : {K : Type 0} {R : K → K → Ordering} → IsTotalOrder R → (ys : List K) (x : K) → IsStrictlySortedBy R ys → length (filter (λ y. is_lt (R y x)) ys) ≡ place_in R ys x
+unfolding IsStrictlySortedBy
+place_count o [] x h = refl
+place_count {K} {R} o (y ∷ ys) x h =
+    let rest = filter (λ z. is_lt (R z x)) ys in
+    elim (R y x) as (λ r. R y x ≡ r → length (cond (is_lt r) (y ∷ rest) rest) ≡ by_ordering r (suc (place_in R ys x)) 0 0) [
+      | Less ↦ λ e. ap suc (place_count o ys x h.1)
+      | Equal ↦ λ e. ap length (none_below o x ys (all_tied o y x ys e h.0))
+      | Greater ↦ λ e. let back : R x y ≡ Less = o.antisymm x y ∙ ap ordering_reverse e in ap length (none_below o x ys (all_beyond o x y ys back h.0))
+    ] refl
 
-pub place_on : {K : Type 0} (R : K → K → Ordering) (y : K) (ys : List K) (x : K) → R y x ≡ Less → place_in R (y ∷ ys) x ≡ suc (place_in R ys x)
-place_on R y ys x e = ap (λ r. by_ordering r (suc (place_in R ys x)) 0 0) e
+-- in order, those below x come first
+pub sorted_parts : {K : Type 0} {R : K → K → Ordering} → IsTotalOrder R → (ys : List K) (x : K) → IsStrictlySortedBy R ys → IsPartitionedBy (λ y. is_lt (R y x)) ys
+unfolding IsStrictlySortedBy
+sorted_parts o [] x h i j d le lt e = absurd (omega arith)
+sorted_parts o (y ∷ ys) x h zero zero d le lt e = e
+sorted_parts {K} {R} o (y ∷ ys) x h zero (suc j) d le lt e =
+    let z = get_or ys j d in
+    let first : R y z ≡ Less = All-get_or (λ w. R y w ≡ Less) ys j d (omega arith) (All-from_recursion (λ w. R y w ≡ Less) ys h.0) in
+    ap is_lt (o.trans y z x first (lt_is (R z x) e))
+sorted_parts o (y ∷ ys) x h (suc i) zero d le lt e = absurd (omega arith)
+sorted_parts o (y ∷ ys) x h (suc i) (suc j) d le lt e = sorted_parts o ys x h.1 i j d (omega arith) (omega arith) e
+
+pub count_front : {K : Type 0} (p : K → Bool) (ys : List K) (i : ℕ) → i ≤ length ys → ((k : ℕ) (d : K) → k < i → p (get_or ys k d) ≡ true) → ((k : ℕ) (d : K) → i ≤ k → k < length ys → p (get_or ys k d) ≡ false) → i ≡ length (filter p ys)
+count_front p [] i le a b = omega arith
+count_front {K} p (y ∷ ys) zero le a b =
+    let out : p y ≡ false = b 0 y (omega arith) (omega arith) in
+    count_front p ys zero (omega arith) (λ k d lt. absurd (omega arith)) (λ k d ge lt. b (suc k) d (omega arith) (omega arith))
+    ∙ sym (ap (λ v. length (cond v (y ∷ filter p ys) (filter p ys))) out)
+count_front {K} p (y ∷ ys) (suc i) le a b =
+    let in_ : p y ≡ true = a 0 y (omega arith) in
+    ap suc (count_front p ys i (omega arith) (λ k d lt. a (suc k) d (omega arith)) (λ k d ge lt. b (suc k) d (omega arith) (omega arith)))
+    ∙ sym (ap (λ v. length (cond v (y ∷ filter p ys) (filter p ys))) in_)
 
 pub new_end : {K : Type 0} (R : K → K → Ordering) (ys : List K) (x : K) → new_at R ys (length ys) x ≡ true
 new_end R [] x = refl

@@ -1,24 +1,22 @@
 //! The k closest contacts of a list, as a sorted list that each contact is put into.
-ghost use Rattle.std.specs.Prelude.{◌≡◌, ◌≤◌, length, take, IfOk, OnOk};
+ghost use Rattle.std.specs.Prelude.{◌≡◌, ◌≤◌, length, take, filter, IfOk, OnOk};
+ghost use Rattle.std.specs.List.Sorted.{IsStrictlySortedBy};
+ghost use Rattle.std.specs.Ordering.{is_lt};
 ghost use Rattle.kad_distance.specs.Order.{closeness};
-ghost use Rattle.kad_distance.specs.KClosest.{put, place_in, new_at, k_closest};
+ghost use Rattle.kad_distance.specs.KClosest.{put, new_at, k_closest};
 
 use crate::compare;
 use kad_base::{Contact, Contacts, Id, List, NoMemory};
 use std::alloc::Global;
-use std::cmp::Ordering;
 
-/// How many at the front of the list are closer.
-fn place(target: &Id, list: &[Contact], contact: &Contact) -> usize
+/// How many contacts of a sorted list are closer to the target, which is the contact's own place where the list has
+/// it. Takes no memory.
+pub fn place(target: &Id, list: &[Contact], contact: &Contact) -> usize
+    requires { IsStrictlySortedBy (closeness target.now) list.now }
     ensures within { result ≤ length list.now }
-    ensures place { result ≡ place_in (closeness target.now) list.now contact.now }
+    ensures count { result ≡ length (filter (λ other. is_lt (closeness target.now other contact.now)) list.now) }
 {
-    for (i, other) in list.iter().enumerate() {
-        if compare(target, other, contact) != Ordering::Less {
-            return i;
-        }
-    }
-    list.len()
+    list.partition_point(|other| compare(target, other, contact).is_lt())
 }
 
 /// The contact isn't the one at that place.
@@ -31,7 +29,8 @@ fn is_new(target: &Id, list: &[Contact], at: usize, contact: &Contact) -> bool
 
 /// Puts a contact in its place, and keeps the first k.
 fn put_in(target: &Id, k: usize, found: &mut Contacts, contact: &Contact) -> Result<(), NoMemory>
-    requires { length found.old ≤ k }
+    requires sorted { IsStrictlySortedBy (closeness target.now) found.old }
+    requires few { length found.old ≤ k }
     ensures { OnOk result (found.new ≡ take k (put (closeness target.now) found.old contact.now)) }
 {
     let at = place(target, found.as_slice(), contact);

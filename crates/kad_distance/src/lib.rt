@@ -1,14 +1,14 @@
 //! The XOR distance, the order of contacts that it gives, and the k closest contacts of a list.
 #![tactic(auto)]
 
-ghost use Rattle.std.specs.Prelude.{◌≡◌, ◌↔◌, IsTrue};
-ghost use Rattle.kad_base.specs.Bits.{xor_bytes};
+ghost use Rattle.std.specs.Prelude.{◌≡◌, ◌↔◌, ◌+◌, ◌<◌, ◌≤◌, IsTrue};
+ghost use Rattle.kad_base.specs.Bits.{xor_bytes, BeginsWithZeros};
 ghost use Rattle.kad_distance.specs.Order.{closeness, IsCloser};
 
 mod closest;
 mod laws;
 
-pub use closest::k_least;
+pub use closest::{k_least, place};
 use kad_base::{Contact, Id};
 pub use laws::{closest_laws, order_is_strict};
 use std::cmp::Ordering;
@@ -23,6 +23,31 @@ pub fn distance(x: &Id, y: &Id) -> Id
         bytes[i] = x.0[i] ^ y.0[i];
     }
     Id(bytes)
+}
+
+/// How many leading bits of the two agree, of 160. Takes no memory.
+pub fn shared_bits(a: &Id, b: &Id) -> u8
+    ensures within { result ≤ 160 }
+    ensures agree { BeginsWithZeros result (xor_bytes a.now.0 b.now.0) }
+    ensures differ { result < 160 → BeginsWithZeros (result + 1) (xor_bytes a.now.0 b.now.0) → ⊥ }
+{
+    leading_zeros(&distance(a, b).0)
+}
+
+/// How many zero bits the bytes begin with.
+fn leading_zeros(bytes: &[u8; 20]) -> u8
+    ensures within { result ≤ 160 }
+    ensures zeros { BeginsWithZeros result bytes.now }
+    ensures no_more { result < 160 → BeginsWithZeros (result + 1) bytes.now → ⊥ }
+{
+    let mut bits = 0;
+    for byte in bytes {
+        if *byte != 0 {
+            return bits + byte.leading_zeros() as u8;
+        }
+        bits += 8;
+    }
+    bits
 }
 
 /// Which of two contacts is closer to the target: by distance, then by address, IPv4 before IPv6, then by port.

@@ -1,15 +1,22 @@
-use Rattle.std.proofs.Common.{◌≡◌, ℕ, ◌≤◌, List, length, take, get_or, true, false, refl, sym, ap, ◌∙◌, arith}
+use Rattle.std.proofs.Common.{◌≡◌, ℕ, ◌≤◌, List, length, take, get_or, true, false, refl, sym, ap, subst, ◌∙◌, arith}
 use Rattle.std.proofs.Math.Seq.{take-length}
+use Rattle.std.specs.List.Sorted.{IsStrictlySortedBy}
 use Rattle.kad_base.specs.declared.plain.Contact.{Contact}
 use Rattle.kad_distance.specs.Order.{closeness}
 use Rattle.kad_distance.specs.KClosest.{put, each_once, least}
 use Rattle.kad_distance.proofs.Orders.{closeness_total}
 use Rattle.kad_distance.proofs.Least.{once_on, least_take}
+use Rattle.kad_distance.proofs.Chosen.{once_front}
 use Rattle.kad_distance.proofs.closest.k_least.Goals as goal
 
 pub loop-contact-preserved : goal.loop-contact-preserved
 loop-contact-preserved c =
     once_on (closeness c.args.target.now) c.args.k c.args.list.now c.loop-contact.contact-index _ c.loop-contact.found c.put_in.new.found c.loop-contact-test.true c.loop-contact.invariant c.in_ok-put_in.ensures
+
+pub put_in-requires-clause-sorted : goal.put_in-requires-clause-sorted
+put_in-requires-clause-sorted c =
+    let R = closeness c.args.target.now in
+    subst (IsStrictlySortedBy R) (sym c.loop-contact.invariant) (once_front c.args.target.now c.args.k (take c.loop-contact.contact-index c.args.list.now))
 
 pub returns : goal.returns
 returns c =
