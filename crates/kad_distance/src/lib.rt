@@ -7,6 +7,8 @@ ghost use Rattle.kad_distance.specs.Order.{closeness, IsCloser};
 
 mod closest;
 mod laws;
+#[cfg(test)]
+mod tests;
 
 pub use closest::{k_least, place};
 use kad_base::{Contact, Id};
