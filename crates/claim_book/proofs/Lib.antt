@@ -1,1 +1,6 @@
 pub mod Shown
+pub mod More
+pub mod Among
+pub mod Closest
+pub mod Claims
+pub mod Ends

@@ -29,5 +29,5 @@ pub fn lively()
 
 /// Where all paths have run out, each contact that the lookup found has answered.
 pub fn answered()
-    ensures { (s : Setting) (J : List Entry) (c : Contact) → Legal s J → ((p : ℕ) → p < s.paths → RunOut s p J) → among (result_of s J) c ≡ true → among (answered J) c ≡ true }
+    ensures { (s : Setting) (J : List Entry) (c : Contact) → 0 < s.paths → Legal s J → ((p : ℕ) → p < s.paths → RunOut s p J) → among (result_of s J) c ≡ true → among (answered J) c ≡ true }
 {}

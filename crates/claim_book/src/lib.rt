@@ -9,9 +9,9 @@ mod listed;
 mod nearest;
 mod plain;
 mod rules;
+mod serial;
 mod shows;
 mod state;
-mod steps;
 mod verdict;
 
 pub use calls::{BookCall, BookReply};
