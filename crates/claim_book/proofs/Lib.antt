@@ -4,3 +4,5 @@ pub mod Among
 pub mod Closest
 pub mod Claims
 pub mod Ends
+pub mod Unsettled
+pub mod Kept

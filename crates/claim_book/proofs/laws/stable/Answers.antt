@@ -1,3 +1,5 @@
+use Rattle.claim_book.proofs.Kept.{book_heard}
+use Rattle.claim_book.proofs.Unsettled.{rooms_kept}
 use Rattle.claim_book.proofs.Ends.{over_for_good}
 use Rattle.claim_book.proofs.laws.stable.Goals as goal
 
