@@ -6,3 +6,4 @@ pub mod Claims
 pub mod Ends
 pub mod Unsettled
 pub mod Kept
+pub mod Bounds
