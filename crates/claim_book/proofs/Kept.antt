@@ -178,6 +178,7 @@ book_more s J e owed owed' room room' near near' b f o less fits sort =
       legal = legal_more s J e b.legal f;
       one_path = b.one_path;
       one_query = b.one_query;
+      small = b.small;
       all_owed = (let old = b.all_owed in omega arith);
       fits = fits;
       can_sort = sort;
@@ -200,6 +201,7 @@ book_heard s J q c reports owed owed' room room' near near' b f more fits sort =
       legal = legal_more s J (Heard q c reports) b.legal f;
       one_path = b.one_path;
       one_query = b.one_query;
+      small = b.small;
       all_owed = (let old = b.all_owed in omega arith);
       fits = fits;
       can_sort = sort;

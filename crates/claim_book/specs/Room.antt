@@ -1,5 +1,5 @@
 -- The room that a book keeps, so that no later call on the contacts that it knows takes memory.
-use Rattle.std.specs.Prelude.{◌≡◌, ℕ, zero, suc, ◌+◌, ◌*◌, ◌<◌, ◌≤◌, List, length, Option, Some, None}
+use Rattle.std.specs.Prelude.{◌≡◌, ℕ, zero, suc, ◌+◌, ◌*◌, ◌<◌, ◌≤◌, List, length, Option, Some, None, [], ◌∷◌, Bool, true, false}
 use Rattle.std.specs.List.{sum_by, flat_map}
 use Rattle.kad_base.specs.declared.plain.Contact.{Contact}
 use Rattle.kad_base.specs.Contacts.{without}
@@ -29,6 +29,7 @@ pub record IsBook (s : Setting) (J : List Entry) (owed room near_room : ℕ) : T
   pub legal : Legal s J
   pub one_path : s.paths ≡ 1
   pub one_query : s.alpha ≡ 1
+  pub small : s.k < 256
   pub all_owed : room_for s.paths J ≤ owed
   pub fits : length J + owed ≤ room
   pub can_sort : s.k < near_room
@@ -40,3 +41,8 @@ chosen (Some p) e = path_of p e
 
 abbrev pub all_chosen : Option ℕ → List Entry → List Contact
 all_chosen one J = flat_map (chosen one) J
+
+-- the list has a member
+abbrev pub some : {A : Type 0} → List A → Bool
+some [] = false
+some (x ∷ xs) = true

@@ -1,8 +1,8 @@
 //! What a journal shows, read from its entries.
-ghost use Rattle.std.specs.Prelude.{◌≡◌, ◌+◌, ◌<◌, length, slice_get};
-ghost use Rattle.std.specs.Option.{option_to_list};
-ghost use Rattle.kad_base.specs.Contacts.{same, among};
-ghost use Rattle.claim_book.specs.Journal.{ask_of, answer_of, fail_of, path_of, ask_on, path, asked, askers, holders, answered, failed, turned, open_on, settles_on, things_in, things, settled, first_unsettled};
+ghost use Rattle.std.specs.Prelude.{◌≡◌, ◌+◌, ◌<◌, ◌++◌, length, slice_get, Some};
+ghost use Rattle.kad_base.specs.Contacts.{same, among, without};
+ghost use Rattle.claim_book.specs.Room.{some};
+ghost use Rattle.claim_book.specs.Journal.{ask_of, answer_of, fail_of, turned_of, path_of, ask_on, asker_of, holder_of, things_of, path, asked, askers, holders, answered, failed, turned, open_on, settles_on, things_in, things, settled, first_unsettled};
 
 use crate::plain::{Entry, Thing};
 use kad_base::{Contact, Report};
@@ -59,18 +59,38 @@ pub(crate) fn is_failed(journal: &[Entry], one: &Contact) -> bool
     journal.iter().any(|entry| fails(entry, one))
 }
 
+/// Which path asked the contact by this entry.
+fn asked_by(entry: &Entry, one: &Contact) -> Option<u8>
+    ensures { result ≡ slice_get (asker_of one.now entry.now) 0 }
+{
+    match entry {
+        Entry::Ask { path, contact } if is_same(one, contact) => Some(*path),
+        _ => None,
+    }
+}
+
 /// Which path asked the contact.
 pub(crate) fn asker(journal: &[Entry], one: &Contact) -> Option<u8>
     ensures { result ≡ slice_get (askers one.now journal.now) 0 }
 {
     for entry in journal {
-        if let Entry::Ask { path, contact } = entry {
-            if is_same(one, contact) {
-                return Some(*path);
-            }
+        if let Some(path) = asked_by(entry, one) {
+            return Some(path);
         }
     }
     None
+}
+
+/// Which path got the contact by this entry.
+fn held_by(entry: &Entry, one: &Contact) -> Option<u8>
+    ensures { result ≡ slice_get (holder_of one.now entry.now) 0 }
+{
+    match entry {
+        Entry::Seed { path, contact } | Entry::Taken { path, contact } if is_same(one, contact) => {
+            Some(*path)
+        }
+        _ => None,
+    }
 }
 
 /// Which path has the contact.
@@ -78,13 +98,23 @@ pub(crate) fn holder(journal: &[Entry], one: &Contact) -> Option<u8>
     ensures { result ≡ slice_get (holders one.now journal.now) 0 }
 {
     for entry in journal {
-        if let Entry::Seed { path, contact } | Entry::Taken { path, contact } = entry {
-            if is_same(one, contact) {
-                return Some(*path);
-            }
+        if let Some(path) = held_by(entry, one) {
+            return Some(path);
         }
     }
     None
+}
+
+/// It is a query of the path, of a contact that is neither heard nor lost.
+fn is_open(journal: &[Entry], entry: &Entry, one: u8) -> bool
+    ensures { result ≡ some (without (ask_on one entry.now) (answered journal.now ++ failed journal.now)) }
+{
+    match entry {
+        Entry::Ask { path, contact } => {
+            *path == one && !is_answered(journal, contact) && !is_failed(journal, contact)
+        }
+        _ => false,
+    }
 }
 
 /// How many queries of the path are open.
@@ -93,53 +123,61 @@ pub(crate) fn count_open(journal: &[Entry], path: u8) -> usize
 {
     journal
         .iter()
-        .filter(|entry| match entry {
-            Entry::Ask { path: by, contact } => {
-                *by == path && !is_answered(journal, contact) && !is_failed(journal, contact)
-            }
-            _ => false,
-        })
+        .filter(|entry| is_open(journal, entry, path))
         .count()
+}
+
+/// By it the path has a contact.
+fn is_on(entry: &Entry, one: u8) -> bool
+    ensures { result ≡ some (path_of one entry.now) }
+{
+    match entry {
+        Entry::Seed { path, .. } | Entry::Taken { path, .. } => *path == one,
+        _ => false,
+    }
 }
 
 /// How many contacts the path has, those that were lost among them.
 pub(crate) fn count_path(journal: &[Entry], one: u8) -> usize
     ensures { result ≡ length (path one journal.now) }
 {
-    journal
-        .iter()
-        .filter(|entry| match entry {
-            Entry::Seed { path, .. } | Entry::Taken { path, .. } => *path == one,
-            _ => false,
-        })
-        .count()
+    journal.iter().filter(|entry| is_on(entry, one)).count()
+}
+
+fn is_ask(entry: &Entry) -> bool
+    ensures { result ≡ some (ask_of entry.now) }
+{
+    matches!(entry, Entry::Ask { .. })
 }
 
 pub(crate) fn count_asked(journal: &[Entry]) -> usize
     ensures { result ≡ length (asked journal.now) }
 {
-    journal
-        .iter()
-        .filter(|entry| matches!(entry, Entry::Ask { .. }))
-        .count()
+    journal.iter().filter(|entry| is_ask(entry)).count()
+}
+
+fn is_lost(entry: &Entry) -> bool
+    ensures { result ≡ some (fail_of entry.now) }
+{
+    matches!(entry, Entry::Lost { .. })
 }
 
 pub(crate) fn count_failed(journal: &[Entry]) -> usize
     ensures { result ≡ length (failed journal.now) }
 {
-    journal
-        .iter()
-        .filter(|entry| matches!(entry, Entry::Lost { .. }))
-        .count()
+    journal.iter().filter(|entry| is_lost(entry)).count()
+}
+
+fn is_turned(entry: &Entry) -> bool
+    ensures { result ≡ some (turned_of entry.now) }
+{
+    matches!(entry, Entry::Turned { .. })
 }
 
 pub(crate) fn count_turned(journal: &[Entry]) -> usize
     ensures { result ≡ length (turned journal.now) }
 {
-    journal
-        .iter()
-        .filter(|entry| matches!(entry, Entry::Turned { .. }))
-        .count()
+    journal.iter().filter(|entry| is_turned(entry)).count()
 }
 
 /// How many things of the path are settled.
@@ -163,15 +201,31 @@ fn settles(entry: &Entry, one: u8) -> bool
     }
 }
 
-/// The thing at this place of what an answer gave: the contact that answered, and then its reports.
-fn thing_of(contact: &Contact, reports: &[Report], at: usize) -> Thing
-    requires { at < length reports.now + 1 }
-    ensures { slice_get (things_in contact.now reports.now) at ≡ Some result }
+/// How many things an entry gave to the path.
+fn count_given(entry: &Entry, one: u8) -> usize
+    ensures { result ≡ length (things_of one entry.now) }
 {
-    if at == 0 {
-        Thing::Responder { contact: *contact }
-    } else {
-        Thing::Told { report: reports[at - 1] }
+    match entry {
+        Entry::Heard { path, reports, .. } if *path == one => reports.as_slice().len() + 1,
+        _ => 0,
+    }
+}
+
+/// The thing at this place of what an entry gave to the path.
+fn given(entry: &Entry, one: u8, at: usize) -> Option<Thing>
+    ensures { result ≡ slice_get (things_of one entry.now) at }
+{
+    match entry {
+        Entry::Heard { path, contact, reports } if *path == one => {
+            if at == 0 {
+                return Some(Thing::Responder { contact: *contact });
+            }
+            match reports.as_slice().get(at - 1) {
+                Some(report) => Some(Thing::Told { report: *report }),
+                None => None,
+            }
+        }
+        _ => None,
     }
 }
 
@@ -181,13 +235,9 @@ fn thing_at(journal: &[Entry], one: u8, at: usize) -> Option<Thing>
 {
     let mut left = at;
     for entry in journal {
-        if let Entry::Heard { path, contact, reports } = entry {
-            if *path == one {
-                if left <= reports.len() {
-                    return Some(thing_of(contact, reports.as_slice(), left));
-                }
-                left -= reports.len() + 1;
-            }
+        match given(entry, one, left) {
+            Some(thing) => return Some(thing),
+            None => left -= count_given(entry, one),
         }
     }
     None
