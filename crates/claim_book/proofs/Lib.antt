@@ -7,3 +7,4 @@ pub mod Ends
 pub mod Unsettled
 pub mod Kept
 pub mod Bounds
+pub mod Sorting

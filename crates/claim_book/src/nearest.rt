@@ -1,5 +1,5 @@
 //! The k closest contacts of a journal, sorted in room that is there.
-ghost use Rattle.std.specs.Prelude.{◌≡◌, ◌≤◌, ◌<◌, length, take, vec_len, vec_capacity, Some};
+ghost use Rattle.std.specs.Prelude.{◌≡◌, ◌≤◌, ◌<◌, length, take, vec_len, vec_capacity, insert, fold};
 ghost use Rattle.std.specs.Option.{option_to_list};
 ghost use Rattle.kad_distance.specs.Order.{closeness};
 ghost use Rattle.kad_distance.specs.KClosest.{put, place_in, new_at, k_closest};
@@ -35,6 +35,19 @@ fn is_new(target: &Id, list: &[Contact], at: usize, contact: &Contact) -> bool
     at == list.len() || !compare(target, &list[at], contact).is_eq()
 }
 
+/// Inserts where there is room.
+fn insert_at(near: &mut Vec<Contact>, at: usize, contact: &Contact)
+    requires at { at ≤ vec_len near.old }
+    requires room { vec_len near.old < vec_capacity near.old }
+    ensures items { near.new.items ≡ insert near.old.items at contact.now }
+    ensures room { vec_capacity near.old ≤ vec_capacity near.new }
+{
+    match near.insert(at, *contact) {
+        Ok(()) => {}
+        Err(_) => unreachable!(),
+    }
+}
+
 /// Puts a contact in its place, and keeps the first k. Takes no memory.
 fn put_in(near: &mut Vec<Contact>, target: &Id, k: usize, contact: &Contact)
     requires few { length near.old.items ≤ k }
@@ -43,11 +56,12 @@ fn put_in(near: &mut Vec<Contact>, target: &Id, k: usize, contact: &Contact)
     ensures room { k < vec_capacity near.new }
 {
     let at = place(target, near.as_slice(), contact);
-    if at < k && is_new(target, near.as_slice(), at, contact) {
-        match near.insert(at, *contact) {
-            Ok(()) => near.truncate(k),
-            Err(_) => unreachable!(),
-        }
+    if at >= k {
+        return;
+    }
+    if is_new(target, near.as_slice(), at, contact) {
+        insert_at(near, at, contact);
+        near.truncate(k);
     }
 }
 
@@ -64,6 +78,23 @@ fn taken(entry: &Entry, one: Option<u8>) -> Option<Contact>
     }
 }
 
+/// Puts the contact of an entry in its place, where it has one that was not lost.
+fn put_alive(near: &mut Vec<Contact>, setting: &Setting, journal: &[Entry], entry: &Entry, one: Option<u8>)
+    requires few { length near.old.items ≤ setting.now.k }
+    requires room { setting.now.k < vec_capacity near.old }
+    ensures items { near.new.items ≡ take setting.now.k (fold (put (closeness setting.now.target)) near.old.items (without (chosen one entry.now) (failed journal.now))) }
+    ensures room { setting.now.k < vec_capacity near.new }
+{
+    let contact = match taken(entry, one) {
+        Some(contact) => contact,
+        None => return,
+    };
+    if is_failed(journal, &contact) {
+        return;
+    }
+    put_in(near, &setting.target, setting.k as usize, &contact);
+}
+
 /// Sorts the k closest contacts of the path, or of all paths, that were not lost. Takes no memory.
 fn sort_closest(near: &mut Vec<Contact>, setting: &Setting, journal: &[Entry], one: Option<u8>)
     requires { setting.now.k < vec_capacity near.old }
@@ -72,11 +103,7 @@ fn sort_closest(near: &mut Vec<Contact>, setting: &Setting, journal: &[Entry], o
 {
     near.clear();
     for entry in journal {
-        if let Some(contact) = taken(entry, one) {
-            if !is_failed(journal, &contact) {
-                put_in(near, &setting.target, setting.k as usize, &contact);
-            }
-        }
+        put_alive(near, setting, journal, entry, one);
     }
 }
 

@@ -15,14 +15,14 @@ returns-in-Some c =
 pub overflow_sub-left : goal.overflow_sub-left
 overflow_sub-left c =
     let le = none_past (things_of c.args.one c.entry-item.result) c.loop-entry.left (sym c.in-None.ensures) in
-    omega (arith, c.count_given.ensures)
+    omega (arith, c.count_given-left.ensures)
 
 pub loop-entry-preserved : goal.loop-entry-preserved
 loop-entry-preserved c =
     let le = none_past (things_of c.args.one c.entry-item.result) c.loop-entry.left (sym c.in-None.ensures) in
     let more = given_more c.args.one c.args.journal.now c.loop-entry.entry-index c.entry-item.result c.loop-entry-test.true in
     let here = ap (λ e. length (things_of c.args.one e)) c.entry-item.is in
-    omega (arith, c.count_given.ensures)
+    omega (arith, c.count_given-left.ensures)
 
 pub returns : goal.returns
 returns c = sym (given_end c.args.one c.args.journal.now c.loop-entry.entry-index c.loop-entry.left c.args.at c.loop-entry-test.false c.loop-entry.invariant)
