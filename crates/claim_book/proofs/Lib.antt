@@ -8,3 +8,4 @@ pub mod Unsettled
 pub mod Kept
 pub mod Bounds
 pub mod Sorting
+pub mod Deciding

@@ -52,7 +52,10 @@ pub(crate) fn has_run_out(near: &mut Vec<Contact>, setting: &Setting, journal: &
     ensures run_out { IsTrue result ↔ RunOut setting.now path journal.now }
     ensures room { setting.now.k < vec_capacity near.new }
 {
-    if count_open(journal, path) > 0 || front(journal, path).is_some() {
+    if count_open(journal, path) > 0 {
+        return false;
+    }
+    if front(journal, path).is_some() {
         return false;
     }
     sort_alive(near, setting, journal, path);
@@ -63,7 +66,10 @@ pub(crate) fn has_run_out(near: &mut Vec<Contact>, setting: &Setting, journal: &
 pub(crate) fn open_path(journal: &[Entry], contact: &Contact) -> Option<u8>
     ensures { MatchOption result (among (open_any journal.now) contact.now ≡ false) (λ p. (among (open_any journal.now) contact.now ≡ true) × (p ≡ asker_of contact.now journal.now)) }
 {
-    if is_answered(journal, contact) || is_failed(journal, contact) {
+    if is_answered(journal, contact) {
+        return None;
+    }
+    if is_failed(journal, contact) {
         return None;
     }
     asker(journal, contact)
