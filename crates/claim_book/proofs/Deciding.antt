@@ -135,3 +135,7 @@ some_holder (x ∷ J) c q e = some_holder J c q e
 
 pub no_holder : (J : List Entry) (c : Contact) → None ≡ slice_get (holders c J) 0 → among (took J) c ≡ false
 no_holder J c e = false_from_ne_true (among (took J) c) (λ h. let by = held_by_some c J h in let clash = by.1 in absurd cc)
+
+pub not_held : (J : List Entry) (c : Contact) (o : Option ℕ) → o ≡ slice_get (holders c J) 0 → ((q : ℕ) → o ≡ Some q → ⊥) → among (took J) c ≡ false
+not_held J c None e out = no_holder J c e
+not_held J c (Some q) e out = absurd (out q refl)

@@ -9,3 +9,4 @@ pub mod Kept
 pub mod Bounds
 pub mod Sorting
 pub mod Deciding
+pub mod Progress

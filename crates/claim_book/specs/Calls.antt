@@ -1,6 +1,7 @@
 -- The book as an object whose calls are steps: who may make which call, when each reply comes, and what it leaves.
-use Rattle.std.specs.Prelude.{◌≡◌, ◌≢◌, ℕ, ◌-◌, ◌<◌, ◌≤◌, [], List, length, Some, None, true, false, get_or}
+use Rattle.std.specs.Prelude.{◌≡◌, ◌≢◌, ℕ, ◌-◌, ◌<◌, ◌≤◌, [], List, length, Option, Some, None, true, false, get_or}
 use Rattle.kad_base.specs.declared.plain.Contact.{Contact}
+use Rattle.kad_base.specs.declared.plain.Report.{Report}
 use Rattle.kad_base.specs.Contacts.{among, IsUsable}
 use Rattle.kad_base.specs.Puzzles.{Passes}
 use Rattle.claim_book.specs.declared.plain.Setting.{Setting}
@@ -11,7 +12,7 @@ use Rattle.claim_book.specs.declared.plain.Entry.TheVariants.{Ask as Ask_entry, 
 use Rattle.claim_book.specs.declared.calls.BookCall.{BookCall}
 use Rattle.claim_book.specs.declared.calls.BookCall.TheVariants.{Next, Heard, Lost, Finish, Pull, Note, Settle}
 use Rattle.claim_book.specs.declared.calls.BookReply.{BookReply}
-use Rattle.claim_book.specs.declared.calls.BookReply.TheVariants.{Ask, RunOut as RunOut_reply, Later, Kept, NotOpen, Found, NotYet, Alive, Report, Idle, NotFront, Taken, Held, Turned, Rejected, Skipped, NoMemory}
+use Rattle.claim_book.specs.declared.calls.BookReply.TheVariants.{Ask, RunOut as RunOut_reply, Later, Kept, NotOpen, Found, NotYet, Alive, Report as Report_reply, Idle, NotFront, Taken, Held, Turned, Rejected, Skipped, NoMemory}
 use Rattle.claim_book.specs.Judged.{Judged}
 use Rattle.claim_book.specs.Journal.{took, path, asked, askers, failed, turned, open_any, unsettled, first_unsettled, may_ask}
 use Rattle.claim_book.specs.RunOut.{RunOut}
@@ -77,7 +78,7 @@ FinishStep s J other = ⊥
 
 abbrev pub PullStep : List Entry → ℕ → BookReply → Type 0
 PullStep J p (Alive c) = first_unsettled p J ≡ Some (Responder c)
-PullStep J p (Report r) = first_unsettled p J ≡ Some (Told r)
+PullStep J p (Report_reply r) = first_unsettled p J ≡ Some (Told r)
 PullStep J p Idle = unsettled p J ≡ []
 PullStep J p other = ⊥
 
@@ -126,13 +127,21 @@ abbrev pub after_kept : BookState → Entry → BookReply → BookState
 after_kept book e Kept = added book e
 after_kept book e other = book
 
+-- what a settled report leaves in the journal
+abbrev pub settle_entry : ℕ → Report → BookReply → Option Entry
+settle_entry p r Skipped = Some (Skipped_entry p r)
+settle_entry p r Rejected = Some (Rejected_entry p r)
+settle_entry p r (Held q) = Some (Held_entry p r.contact q)
+settle_entry p r Turned = Some (Turned_entry p r.contact)
+settle_entry p r Taken = Some (Taken_entry p r.contact)
+settle_entry p r other = None
+
+abbrev pub with_entry : BookState → Option Entry → BookState
+with_entry book None = book
+with_entry book (Some e) = added book e
+
 abbrev pub after_settle : BookState → ℕ → Judged → BookReply → BookState
-after_settle book p checked Skipped = added book (Skipped_entry p checked.report)
-after_settle book p checked Rejected = added book (Rejected_entry p checked.report)
-after_settle book p checked (Held q) = added book (Held_entry p checked.report.contact q)
-after_settle book p checked Turned = added book (Turned_entry p checked.report.contact)
-after_settle book p checked Taken = added book (Taken_entry p checked.report.contact)
-after_settle book p checked other = book
+after_settle book p checked reply = with_entry book (settle_entry p checked.report reply)
 
 -- the book after a reply: one entry more for a reply that changes it, and else as before
 abbrev pub book_after : BookState → ℕ → BookCall → BookReply → BookState

@@ -10,6 +10,7 @@ mod nearest;
 mod plain;
 mod rules;
 mod serial;
+mod settling;
 mod shows;
 mod state;
 mod verdict;

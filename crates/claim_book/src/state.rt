@@ -5,8 +5,7 @@ ghost use Rattle.std.specs.List.Sorted.{IsStrictlySortedBy};
 ghost use Rattle.kad_base.specs.Contacts.{IsUsable};
 ghost use Rattle.kad_distance.specs.Order.{closeness};
 ghost use Rattle.claim_book.specs.declared.plain.Entry.TheVariants.{Heard, Lost, Note};
-ghost use Rattle.claim_book.specs.declared.plain.Thing.TheVariants.{Told};
-ghost use Rattle.claim_book.specs.Journal.{asked, failed, turned, first_unsettled};
+ghost use Rattle.claim_book.specs.Journal.{asked, failed, turned};
 ghost use Rattle.claim_book.specs.Legal.{seeded};
 ghost use Rattle.claim_book.specs.Calls.{Counted};
 
@@ -15,10 +14,10 @@ use crate::listed::Journal;
 use crate::nearest::sort_result;
 use crate::plain::{Cause, Counts, Entry, Setting, Thing};
 use crate::rules::{has_run_out, may_ask, open_path};
-use crate::shows::{count_asked, count_failed, count_path, count_turned, front, holder};
+use crate::settling::{is_next, judge, settled};
+use crate::shows::{count_asked, count_failed, count_turned, front};
 use crate::verdict::Checked;
-use kad_base::limits::MAX_PATH_CONTACTS;
-use kad_base::{Contact, List, NoMemory, Report, Reports, is_usable};
+use kad_base::{Contact, List, NoMemory, Reports};
 use std::alloc::Global;
 use std::marker::Model;
 
@@ -182,13 +181,11 @@ impl Book {
         ensures step { NoteStep self.old.journal path contact result }
         ensures after { self.new ≡ after_kept self.old (Note path contact) result }
     {
-        match front(self.journal.as_slice(), path) {
-            Some(Thing::Responder { contact: first }) if first == contact => {
-                put(&mut self.journal, &mut self.owed, Entry::Note { path, contact });
-                BookReply::Kept
-            }
-            _ => BookReply::NotFront,
+        if !is_next(self.journal.as_slice(), path, &contact) {
+            return BookReply::NotFront;
         }
+        put(&mut self.journal, &mut self.owed, Entry::Note { path, contact });
+        BookReply::Kept
     }
 
     /// The report was checked, and is settled by the first rule that fits. Takes no memory.
@@ -196,29 +193,12 @@ impl Book {
         ensures step { SettleStep self.old.setting self.old.journal path checked result }
         ensures after { self.new ≡ after_settle self.old path checked result }
     {
-        let report = checked.report();
-        if !is_front(self.journal.as_slice(), path, &report) || checked.policy() != self.setting.policy {
-            return BookReply::NotFront;
+        let reply = judge(&self.setting, self.journal.as_slice(), path, &checked);
+        if let Some(entry) = settled(path, &checked.report(), &reply) {
+            put(&mut self.journal, &mut self.owed, entry);
+            return reply;
         }
-        let contact = report.contact;
-        if !is_usable(&self.setting.own, &contact) {
-            put(&mut self.journal, &mut self.owed, Entry::Skipped { path, report });
-            return BookReply::Skipped;
-        }
-        if !checked.passes() {
-            put(&mut self.journal, &mut self.owed, Entry::Rejected { path, report });
-            return BookReply::Rejected;
-        }
-        if let Some(by) = holder(self.journal.as_slice(), &contact) {
-            put(&mut self.journal, &mut self.owed, Entry::Held { path, contact, by });
-            return BookReply::Held { path: by };
-        }
-        if count_path(self.journal.as_slice(), path) == MAX_PATH_CONTACTS {
-            put(&mut self.journal, &mut self.owed, Entry::Turned { path, contact });
-            return BookReply::Turned;
-        }
-        put(&mut self.journal, &mut self.owed, Entry::Taken { path, contact });
-        BookReply::Taken
+        reply
     }
 }
 
@@ -228,7 +208,7 @@ fn put(journal: &mut Vec<Entry>, owed: &mut usize, entry: Entry)
     requires room { vec_len journal.old + owed.old ≤ vec_capacity journal.old }
     ensures items { journal.new.items ≡ journal.old.items ++ entry ∷ [] }
     ensures owed { owed.new + 1 ≡ owed.old }
-    ensures room { vec_len journal.new + owed.new ≤ vec_capacity journal.new }
+    ensures room { length journal.new.items + owed.new ≤ vec_capacity journal.new }
 {
     *owed -= 1;
     match journal.push(entry) {
@@ -243,7 +223,7 @@ fn reserve(journal: &mut Vec<Entry>, owed: &mut usize, more: usize) -> Result<()
     ensures items { journal.new.items ≡ journal.old.items }
     ensures ok { OnOk result (owed.new ≡ owed.old + more) }
     ensures err { OnErr result (owed.new ≡ owed.old) }
-    ensures room { vec_len journal.new + owed.new ≤ vec_capacity journal.new }
+    ensures room { length journal.new.items + owed.new ≤ vec_capacity journal.new }
 {
     let all = match owed.checked_add(more) {
         Some(all) => all,
@@ -258,6 +238,18 @@ fn reserve(journal: &mut Vec<Entry>, owed: &mut usize, more: usize) -> Result<()
     }
 }
 
+/// Appends a seed where there is room.
+fn put_seed(journal: &mut Vec<Entry>, entry: Entry)
+    requires { vec_len journal.old < vec_capacity journal.old }
+    ensures items { journal.new.items ≡ journal.old.items ++ entry ∷ [] }
+    ensures room { vec_capacity journal.old ≤ vec_capacity journal.new }
+{
+    match journal.push(entry) {
+        Ok(()) => {}
+        Err(_) => unreachable!(),
+    }
+}
+
 /// The seeds, each dealt to a path in turn, in a list that has room for them.
 fn seed(mut journal: Vec<Entry>, paths: u8, seeds: &[Contact]) -> Vec<Entry>
     requires empty { journal.items ≡ [] }
@@ -268,10 +260,7 @@ fn seed(mut journal: Vec<Entry>, paths: u8, seeds: &[Contact]) -> Vec<Entry>
 {
     for (i, contact) in seeds.iter().enumerate() {
         let path = (i % paths as usize) as u8;
-        match journal.push(Entry::Seed { path, contact: *contact }) {
-            Ok(()) => {}
-            Err(_) => unreachable!(),
-        }
+        put_seed(&mut journal, Entry::Seed { path, contact: *contact });
     }
     journal
 }
@@ -290,12 +279,3 @@ fn counts_of(journal: &[Entry]) -> Counts
     }
 }
 
-/// Whether the report is the first thing of the path that is not settled.
-fn is_front(journal: &[Entry], path: u8, report: &Report) -> bool
-    ensures { IsTrue result ↔ (first_unsettled path journal.now ≡ Some (Told report.now)) }
-{
-    match front(journal, path) {
-        Some(Thing::Told { report: first }) => first == *report,
-        _ => false,
-    }
-}

@@ -1,3 +1,4 @@
+use Rattle.claim_book.proofs.Progress.{legal_step}
 use Rattle.claim_book.proofs.Bounds.{turned_few}
 use Rattle.claim_book.proofs.Kept.{book_heard}
 use Rattle.claim_book.proofs.Unsettled.{rooms_kept}

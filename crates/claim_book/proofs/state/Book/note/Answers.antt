@@ -1,0 +1,23 @@
+use Rattle.std.proofs.Common.{◌≡◌, ◌<◌, ◌++◌, ◌∷◌, [], List, Some, None, Option, true, ap, sym, subst, ◌∙◌, refl}
+use Rattle.kad_base.specs.Contacts.{among}
+use Rattle.claim_book.specs.declared.plain.Entry.{Entry}
+use Rattle.claim_book.specs.declared.plain.Entry.TheVariants.{Ask, Heard, Lost, Note, Taken, Held, Turned, Rejected, Skipped}
+use Rattle.claim_book.specs.declared.plain.Thing.TheVariants.{Responder, Told}
+use Rattle.claim_book.specs.Journal.{open_on, open_any, first_unsettled, may_ask}
+use Rattle.claim_book.specs.Calls.{asker}
+use Rattle.claim_book.specs.Legal.{Fits}
+use Rattle.claim_book.proofs.Deciding.{open_on_asker}
+use Rattle.claim_book.proofs.Kept.{book_put, book_heard, some_owed}
+use Rattle.claim_book.proofs.state.Book.note.Goals as goal
+
+pub put-requires-clause-some : goal.put-requires-clause-some
+put-requires-clause-some c =
+    let J = c.self.inside.journal.items in
+    let fits = subst (λ l. first_unsettled c.args.path l ≡ Some (Responder c.args.contact)) c.as_slice.ensures.value (c.is_next.ensures.0 c.if-not-is_next.false) in
+    some_owed c.self.inside.setting J (Note c.args.path c.args.contact) _ _ _ c.self.invariant fits tt
+
+pub invariant_of-self : goal.invariant_of-self
+invariant_of-self c =
+    let J = c.self.inside.journal.items in
+    let fits = subst (λ l. first_unsettled c.args.path l ≡ Some (Responder c.args.contact)) c.as_slice.ensures.value (c.is_next.ensures.0 c.if-not-is_next.false) in
+    book_put c.self.inside.setting J _ (Note c.args.path c.args.contact) _ _ _ _ _ _ c.self.invariant fits tt c.put.ensures.items c.put.ensures.owed c.put.ensures.room c.self.invariant.can_sort
