@@ -10,3 +10,4 @@ pub mod Bounds
 pub mod Sorting
 pub mod Deciding
 pub mod Progress
+pub mod Seeding

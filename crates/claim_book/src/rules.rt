@@ -1,10 +1,10 @@
 //! What a path may do by its journal: whom it may ask, whether it has run out, who is open.
-ghost use Rattle.std.specs.Prelude.{◌≡◌, ◌↔◌, ◌<◌, IsTrue, IsNone, MatchOption, true, false, vec_capacity, find, not};
+ghost use Rattle.std.specs.Prelude.{◌≡◌, ◌↔◌, ◌<◌, ℕ, IsTrue, IsNone, MatchOption, true, false, vec_capacity, find, not};
 ghost use Rattle.std.specs.List.{All};
 ghost use Rattle.kad_base.specs.Contacts.{among};
 ghost use Rattle.claim_book.specs.Journal.{asked, answered, open_any, may_ask};
 ghost use Rattle.claim_book.specs.RunOut.{RunOut};
-ghost use Rattle.claim_book.specs.Calls.{asker as asker_of};
+ghost use Rattle.claim_book.specs.Calls.{asker as asker_of, IsNotYet};
 
 use crate::nearest::sort_alive;
 use crate::plain::{Entry, Setting};
@@ -60,6 +60,20 @@ pub(crate) fn has_run_out(near: &mut Vec<Contact>, setting: &Setting, journal: &
     }
     sort_alive(near, setting, journal, path);
     have_answered(journal, near.as_slice())
+}
+
+/// The first path that has not run out. Takes no memory.
+pub(crate) fn first_running(near: &mut Vec<Contact>, setting: &Setting, journal: &[Entry]) -> Option<u8>
+    requires { setting.now.k < vec_capacity near.old }
+    ensures first { MatchOption result ((p : ℕ) → p < setting.now.paths → RunOut setting.now p journal.now) (λ p. IsNotYet setting.now journal.now p) }
+    ensures room { setting.now.k < vec_capacity near.new }
+{
+    for path in 0..setting.paths {
+        if !has_run_out(near, setting, journal, path) {
+            return Some(path);
+        }
+    }
+    None
 }
 
 /// The path that asked a contact which is neither heard nor lost.

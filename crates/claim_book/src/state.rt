@@ -13,7 +13,7 @@ use crate::calls::BookReply;
 use crate::listed::Journal;
 use crate::nearest::sort_result;
 use crate::plain::{Cause, Counts, Entry, Setting, Thing};
-use crate::rules::{has_run_out, may_ask, open_path};
+use crate::rules::{first_running, has_run_out, may_ask, open_path};
 use crate::settling::{is_next, judge, settled};
 use crate::shows::{count_asked, count_failed, count_turned, front};
 use crate::verdict::Checked;
@@ -65,10 +65,7 @@ impl Book {
             Ok(near) => near,
             Err(_) => return Err(NoMemory),
         };
-        let owed = match seeds.len().checked_mul(2) {
-            Some(owed) => owed,
-            None => return Err(NoMemory),
-        };
+        let owed = 2 * seeds.len();
         let journal = match Vec::with_capacity(alloc, seeds.len() + owed) {
             Ok(journal) => journal,
             Err(_) => return Err(NoMemory),
@@ -150,10 +147,8 @@ impl Book {
         ensures step { FinishStep self.old.setting self.old.journal result }
         ensures after { self.new ≡ self.old }
     {
-        for path in 0..self.setting.paths {
-            if !has_run_out(&mut self.near, &self.setting, self.journal.as_slice(), path) {
-                return BookReply::NotYet { path };
-            }
+        if let Some(path) = first_running(&mut self.near, &self.setting, self.journal.as_slice()) {
+            return BookReply::NotYet { path };
         }
         sort_result(&mut self.near, &self.setting, self.journal.as_slice());
         match List::from_slice(*self.near.allocator(), self.near.as_slice()) {

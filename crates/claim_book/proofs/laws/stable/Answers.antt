@@ -1,3 +1,4 @@
+use Rattle.claim_book.proofs.Seeding.{book_new}
 use Rattle.claim_book.proofs.Progress.{legal_step}
 use Rattle.claim_book.proofs.Bounds.{turned_few}
 use Rattle.claim_book.proofs.Kept.{book_heard}
