@@ -1,19 +1,11 @@
 -- Contacts in lists, in filters of lists and among the closest.
-use Rattle.std.proofs.Common.{◌≡◌, ℕ, ◌+◌, ◌<◌, ◌≤◌, List, [], ◌∷◌, ◌++◌, length, take, drop, Bool, true, false, not, ◌||◌, ◌&&◌, cond, refl, sym, ap, subst, ◌∙◌, arith}
-use Rattle.std.specs.Prelude.{filter, fold, nat_lt, find, Option, Some, None}
-use Rattle.std.specs.List.{list_any, IsDistinct, AllByRecursion}
-use Rattle.std.specs.Ordering.{is_lt}
-use Rattle.std.specs.declared.cmp.Ordering.{Ordering}
-use Rattle.std.specs.declared.cmp.Ordering.TheVariants.{Less, Equal, Greater}
-use Rattle.std.proofs.lemmas.Cmp.{eq_by_cmp_equiv}
-use Rattle.std.proofs.lemmas.List.{append-nil, take-append-drop}
-use Rattle.std.proofs.lemmas.Bool.{or_cases, or_left, or_right, and_parts, and_from, not-true, true_from_ne_false}
-use Rattle.kad_base.specs.declared.plain.Id.{Id}
+use Rattle.std.proofs.Common.{◌≡◌, ◌+◌, List, [], ◌∷◌, length, Bool, true, false, not, ◌||◌, ◌&&◌, cond, refl, sym, ap, subst, ◌∙◌, arith}
+use Rattle.std.specs.Prelude.{filter, find, Some, None}
+use Rattle.std.specs.List.{IsDistinct, AllByRecursion}
+use Rattle.std.proofs.lemmas.Bool.{or_left, or_right, and_parts, and_from, not-true}
 use Rattle.kad_base.specs.declared.plain.Contact.{Contact}
 use Rattle.kad_base.specs.Contacts.{same, among, without}
-use Rattle.kad_base.proofs.Contacts.{same_exact, same_itself, same_back, same_like, contact_total, among_more}
-use Rattle.kad_distance.specs.Order.{closeness}
-use Rattle.kad_distance.specs.KClosest.{by_ordering, put, each_once, count_below, least, k_closest}
+use Rattle.kad_base.proofs.Contacts.{same_exact, same_itself, same_back}
 
 pub among_itself : (c : Contact) → among (c ∷ []) c ≡ true
 among_itself c = ap (λ b. b || false) (same_itself c)
@@ -38,6 +30,7 @@ among_filter p (x ∷ cs) c =
     passes : (a b q : Bool) → (a ≡ true → q ≡ true) → (a || (b && q)) ≡ ((a || b) && q)
     passes true b q f = sym (f refl)
     passes false b q f = refl
+
     fails : (a b q : Bool) → (a ≡ true → q ≡ false) → (b && q) ≡ ((a || b) && q)
     fails true true q f = refl
     fails true false q f = sym (f refl)
@@ -104,14 +97,18 @@ without_less (x ∷ cs) out more c d h f =
     or_no : (b : Bool) → (b || false) ≡ b
     or_no true = refl
     or_no false = refl
+
     last : (cs out : List Contact) (c : Contact) → x ≡ c → among (without (x ∷ cs) out) c ≡ true → (among (c ∷ []) c && not (among out c)) ≡ true
     last cs out c e h = and_from (among (c ∷ []) c) (not (among out c)) (among_itself c) (and_parts (among (x ∷ cs) c) (not (among out c)) (sym (among_without (x ∷ cs) out c) ∙ h)).1
+
     rest : (b : Bool) (x c : Contact) (l : List Contact) → same c x ≡ false → among (cond b (x ∷ l) l) c ≡ true → among l c ≡ true
     rest true x c l e h = sym (ap (λ t. t || among l c) e) ∙ h
     rest false x c l e h = h
+
     longer : (b : Bool) (x : Contact) (l m : List Contact) → length l + 1 ≡ length m → length (cond b (x ∷ l) l) + 1 ≡ length (cond b (x ∷ m) m)
     longer true x l m e = omega arith
     longer false x l m e = e
+
     apart : (cs out more : List Contact) (c : Contact) → ((x : Contact) → among more x ≡ (among out x || same x c)) → AllByRecursion (λ y. same c y ≡ false) cs → without cs more ≡ without cs out
     apart [] out more c f a = refl
     apart (y ∷ cs) out more c f a =

@@ -1,26 +1,23 @@
 -- How many contacts a lookup of one path takes, asks, loses and turns away.
-use Rattle.std.proofs.Common.{◌≡◌, ◌≢◌, ℕ, zero, suc, ◌+◌, ◌*◌, ◌-◌, ◌%◌, ◌<◌, ◌≤◌, List, [], ◌∷◌, ◌++◌, length, Bool, true, false, not, ◌||◌, ◌&&◌, cond, Option, Some, None, inl, inr, refl, sym, ap, subst, ◌∙◌, arith, eqb}
-use Rattle.std.specs.Prelude.{filter, drop, slice_get, map}
-use Rattle.std.specs.List.{IsDistinct, list_any}
+use Rattle.std.proofs.Common.{◌≡◌, ℕ, ◌+◌, ◌*◌, ◌%◌, ◌<◌, ◌≤◌, List, [], ◌∷◌, ◌++◌, length, Bool, true, false, cond, refl, sym, ap, subst, ◌∙◌, arith, eqb}
+use Rattle.std.specs.List.{IsDistinct}
 use Rattle.std.proofs.lemmas.Cmp.{eq_by_cmp_equiv}
 use Rattle.std.proofs.lemmas.Map.Keys.{IsDistinct-push}
 use Rattle.std.proofs.lemmas.Map.Made.{length-le_from_is_member}
 use Rattle.std.proofs.lemmas.List.{append-nil, length-append, length-map}
-use Rattle.std.proofs.lemmas.Bool.{eqb-true, eq-eqb, not_from_false}
+use Rattle.std.proofs.lemmas.Bool.{eqb-true, eq-eqb}
 use Rattle.kad_base.specs.declared.plain.Contact.{Contact}
-use Rattle.kad_base.specs.declared.plain.Report.{Report}
-use Rattle.kad_base.specs.Contacts.{same, among, without}
-use Rattle.kad_base.proofs.Contacts.{contact_total, among_more}
+use Rattle.kad_base.specs.Contacts.{same, among}
+use Rattle.kad_base.proofs.Contacts.{contact_total}
 use Rattle.claim_book.specs.declared.plain.Setting.{Setting}
-use Rattle.claim_book.specs.declared.plain.Thing.{Thing}
 use Rattle.claim_book.specs.declared.plain.Thing.TheVariants.{Told}
 use Rattle.claim_book.specs.declared.plain.Entry.{Entry}
-use Rattle.claim_book.specs.declared.plain.Entry.TheVariants.{Seed, Ask, Heard, Lost, Note, Taken, Held, Turned, Rejected, Skipped}
-use Rattle.claim_book.specs.Journal.{on_path, took_of, path_of, ask_of, answer_of, fail_of, turned_of, things_in, things_of, settles_on, took, path, asked, asked_on, answered, failed, turned, open_on, things, settled, first_unsettled}
-use Rattle.claim_book.specs.Legal.{SeedFits, Believed, Fits, Legal}
-use Rattle.claim_book.proofs.More.{took_more, path_more, asked_more, answered_more, failed_more, turned_more, things_more, settled_more, legal_more, along}
-use Rattle.claim_book.proofs.Claims.{open_says, among_left, among_right, path_took, asked_on_asked, asked_on_path, asked_distinct, ended_asked, answered_asked}
-use Rattle.claim_book.proofs.Ends.{asked_by_some, path_below, first_below}
+use Rattle.claim_book.specs.declared.plain.Entry.TheVariants.{Seed, Heard, Lost, Taken, Turned}
+use Rattle.claim_book.specs.Journal.{on_path, took_of, path_of, answer_of, fail_of, turned_of, things_in, things_of, settles_on, took, path, asked, answered, failed, turned, things, settled}
+use Rattle.claim_book.specs.Legal.{Fits, Legal}
+use Rattle.claim_book.proofs.More.{took_more, path_more, answered_more, failed_more, turned_more, things_more, settled_more, along}
+use Rattle.claim_book.proofs.Claims.{open_says, among_right, path_took, asked_on_path, asked_distinct, ended_asked, answered_asked}
+use Rattle.claim_book.proofs.Ends.{asked_by_some, first_below}
 use Rattle.claim_book.proofs.Unsettled.{settled_few}
 
 path_one : (p : ℕ) (e : Entry) → length (path_of p e) ≤ 1
@@ -40,6 +37,7 @@ path_few s J k = along (λ J. (p : ℕ) → length (path p J) ≤ 256) s (λ p. 
   where
     grows : (J : List Entry) (e : Entry) (p : ℕ) → length (path p (J ++ e ∷ [])) ≡ length (path p J) + length (path_of p e)
     grows J e p = ap length (path_more p J e) ∙ length-append (path p J) (path_of p e)
+
     step : (J : List Entry) (e : Entry) → Fits s J e → (p : ℕ) → length (path p J) ≤ 256 → length (path p (J ++ e ∷ [])) ≤ 256
     step J (Seed q c) f p le = (let few = f.few in omega (arith, grows J (Seed q c) p, path_one p (Seed q c), path_within p J))
     step J (Taken q c) f p le = full J q c p f.2 le (eqb q p) refl

@@ -1,24 +1,22 @@
 -- Who has a contact and who asks it: laws of legal journals.
-use Rattle.std.proofs.Common.{◌≡◌, ◌≢◌, ℕ, ◌+◌, ◌%◌, ◌<◌, ◌≤◌, List, [], ◌∷◌, ◌++◌, length, Bool, true, false, not, ◌||◌, ◌&&◌, cond, Option, Some, None, refl, sym, ap, subst, ◌∙◌, arith, eqb, inl, inr}
-use Rattle.std.specs.Prelude.{find, nat_lt, filter}
-use Rattle.std.specs.List.{IsDistinct, list_any, AllByRecursion}
-use Rattle.std.specs.List.Sorted.{IsStrictlySortedBy}
+use Rattle.std.proofs.Common.{◌≡◌, ℕ, ◌<◌, List, [], ◌∷◌, ◌++◌, length, Bool, true, false, not, ◌||◌, cond, Some, None, refl, sym, ap, subst, ◌∙◌, eqb, inl, inr}
+use Rattle.std.specs.Prelude.{find, nat_lt}
+use Rattle.std.specs.List.{IsDistinct, AllByRecursion}
 use Rattle.std.proofs.lemmas.Cmp.{eq_by_cmp_equiv}
 use Rattle.std.proofs.lemmas.Map.Keys.{IsDistinct-push}
 use Rattle.std.proofs.lemmas.List.{append-nil}
-use Rattle.std.proofs.lemmas.Bool.{or_cases, or_left, or_right, or_parts, and_parts, and_from, not-true, eqb-true, ltb-true}
+use Rattle.std.proofs.lemmas.Bool.{or_cases, or_left, or_right, or_parts, and_parts, not-true, eqb-true, ltb-true}
 use Rattle.kad_base.specs.declared.plain.Contact.{Contact}
-use Rattle.kad_base.specs.Contacts.{same, among, without}
-use Rattle.kad_base.proofs.Contacts.{same_exact, same_itself, same_back, contact_total, among_more}
-use Rattle.kad_distance.specs.Order.{closeness}
+use Rattle.kad_base.specs.Contacts.{same, among}
+use Rattle.kad_base.proofs.Contacts.{same_back, contact_total, among_more}
 use Rattle.kad_distance.specs.KClosest.{k_closest}
 use Rattle.claim_book.specs.declared.plain.Setting.{Setting}
 use Rattle.claim_book.specs.declared.plain.Entry.{Entry}
-use Rattle.claim_book.specs.declared.plain.Entry.TheVariants.{Seed, Ask, Heard, Lost, Note, Taken, Held, Turned, Rejected, Skipped}
-use Rattle.claim_book.specs.Journal.{on_path, took_of, path_of, ask_of, ask_on, asker_of, holder_of, answer_of, fail_of, things_of, took, path, asked, asked_on, askers, holders, answered, failed, open_any, open_on, alive, things, unsettled, first_unsettled, may_ask}
-use Rattle.claim_book.specs.Legal.{SeedFits, Believed, Fits, Legal}
+use Rattle.claim_book.specs.declared.plain.Entry.TheVariants.{Seed, Ask, Heard, Lost, Taken}
+use Rattle.claim_book.specs.Journal.{on_path, took_of, path_of, ask_of, ask_on, answer_of, fail_of, took, path, asked, asked_on, answered, failed, open_any, open_on, alive, may_ask}
+use Rattle.claim_book.specs.Legal.{Fits, Legal}
 use Rattle.claim_book.proofs.More.{took_more, path_more, asked_more, asked_on_more, answered_more, failed_more, legal_more, along}
-use Rattle.claim_book.proofs.Among.{among_itself, among_one, among_filter, among_without, found_passes, found_among, none_among}
+use Rattle.claim_book.proofs.Among.{among_one, among_without, found_passes, found_among}
 use Rattle.claim_book.proofs.Closest.{closest_within, distinct_sorted}
 
 -- what an ask says of the contact
@@ -115,7 +113,6 @@ each_more P xs ys zs e f g c h = pick (among xs c) refl
     pick true t = f c t
     pick false t = g c (in_append xs ys c (ap (λ l. among l c) (sym e) ∙ h) (λ u. absurd cc))
 
-
 asker_step : (s : Setting) (J : List Entry) (e : Entry) → Fits s J e → (p : ℕ) (c : Contact) → among (ask_on p e) c ≡ true → among (path p J) c ≡ true
 asker_step s J (Ask q d) f p c h =
     let i = on_path_in p q (d ∷ []) c h in
@@ -130,8 +127,8 @@ unfolding asked_on
 asked_on_path s =
     along (λ J. (p : ℕ) (c : Contact) → among (asked_on p J) c ≡ true → among (path p J) c ≡ true) s (λ p c h. absurd cc)
     (λ J e l d f p. each_more (λ c. among (path p (J ++ e ∷ [])) c ≡ true) (asked_on p J) (ask_on p e) (asked_on p (J ++ e ∷ [])) (asked_on_more p J e)
-        (λ c h. ap (λ l. among l c) (path_more p J e) ∙ among_left (path p J) (path_of p e) c (d p c h))
-        (λ c h. ap (λ l. among l c) (path_more p J e) ∙ among_left (path p J) (path_of p e) c (asker_step s J e f p c h)))
+    (λ c h. ap (λ l. among l c) (path_more p J e) ∙ among_left (path p J) (path_of p e) c (d p c h))
+    (λ c h. ap (λ l. among l c) (path_more p J e) ∙ among_left (path p J) (path_of p e) c (asker_step s J e f p c h)))
 
 -- what one path has or asked is among what all have or asked
 pub path_took : (p : ℕ) (J : List Entry) (c : Contact) → among (path p J) c ≡ true → among (took J) c ≡ true
@@ -189,12 +186,12 @@ unfolding answered failed
 ended_asked s =
     along (λ J. (c : Contact) → among (answered J ++ failed J) c ≡ true → among (asked J) c ≡ true) s (λ c h. absurd cc)
     (λ J e l d f c h.
-        let wide : (among (answered J ++ failed J) c || (among (answer_of e) c || among (fail_of e) c)) ≡ true =
-            regroup (among (answered J) c) (among (answer_of e) c) (among (failed J) c) (among (fail_of e) c) (among (answered J ++ failed J) c) (among_more (answered J) (failed J) c)
-            (sym (ap (λ l. among l c) (ap (λ l. l ++ failed (J ++ e ∷ [])) (answered_more J e) ∙ ap (λ l. (answered J ++ answer_of e) ++ l) (failed_more J e)) ∙ among_more (answered J ++ answer_of e) (failed J ++ fail_of e) c
-                ∙ ap (λ b. b || among (failed J ++ fail_of e) c) (among_more (answered J) (answer_of e) c) ∙ ap (λ b. (among (answered J) c || among (answer_of e) c) || b) (among_more (failed J) (fail_of e) c)) ∙ h) in
-        ap (λ l. among l c) (asked_more J e) ∙ among_left (asked J) (ask_of e) c
-        (elim (or_cases (among (answered J ++ failed J) c) (among (answer_of e) c || among (fail_of e) c) wide) [ inl t ↦ d c t | inr t ↦ ended_step s J e f c t ]))
+    let wide : (among (answered J ++ failed J) c || (among (answer_of e) c || among (fail_of e) c)) ≡ true =
+    regroup (among (answered J) c) (among (answer_of e) c) (among (failed J) c) (among (fail_of e) c) (among (answered J ++ failed J) c) (among_more (answered J) (failed J) c)
+    (sym (ap (λ l. among l c) (ap (λ l. l ++ failed (J ++ e ∷ [])) (answered_more J e) ∙ ap (λ l. (answered J ++ answer_of e) ++ l) (failed_more J e)) ∙ among_more (answered J ++ answer_of e) (failed J ++ fail_of e) c
+    ∙ ap (λ b. b || among (failed J ++ fail_of e) c) (among_more (answered J) (answer_of e) c) ∙ ap (λ b. (among (answered J) c || among (answer_of e) c) || b) (among_more (failed J) (fail_of e) c)) ∙ h) in
+    ap (λ l. among l c) (asked_more J e) ∙ among_left (asked J) (ask_of e) c
+    (elim (or_cases (among (answered J ++ failed J) c) (among (answer_of e) c || among (fail_of e) c) wide) [ inl t ↦ d c t | inr t ↦ ended_step s J e f c t ]))
   where
     regroup : (a b x y ab : Bool) → ab ≡ (a || x) → ((a || b) || (x || y)) ≡ true → (ab || (b || y)) ≡ true
     regroup true b x y ab e h = ap (λ t. t || (b || y)) e
@@ -230,9 +227,9 @@ unfolding path
 one_path s =
     along (λ J. (p q : ℕ) (c : Contact) → among (path p J) c ≡ true → among (path q J) c ≡ true → p ≡ q) s (λ p q c h k. absurd cc)
     (λ J e l d f p q c h k.
-        let new = path_new s J e (legal_more s J e l f) f in
-        let either = λ (n : ℕ) (t : among (path n (J ++ e ∷ [])) c ≡ true). or_cases (among (path n J) c) (among (path_of n e) c) (sym (among_more (path n J) (path_of n e) c) ∙ ap (λ l. among l c) (sym (path_more n J e)) ∙ t) in
-        elim (either p h) [
-          | inl a ↦ elim (either q k) [ inl b ↦ d p q c a b | inr b ↦ (let u = path_took p J c a in let v = new q c b in absurd cc) ]
-          | inr a ↦ elim (either q k) [ inl b ↦ (let u = path_took q J c b in let v = new p c a in absurd cc) | inr b ↦ path_entry s J e p q c a b ]
-        ])
+    let new = path_new s J e (legal_more s J e l f) f in
+    let either = λ (n : ℕ) (t : among (path n (J ++ e ∷ [])) c ≡ true). or_cases (among (path n J) c) (among (path_of n e) c) (sym (among_more (path n J) (path_of n e) c) ∙ ap (λ l. among l c) (sym (path_more n J e)) ∙ t) in
+    elim (either p h) [
+      | inl a ↦ elim (either q k) [ inl b ↦ d p q c a b | inr b ↦ (let u = path_took p J c a in let v = new q c b in absurd cc) ]
+      | inr a ↦ elim (either q k) [ inl b ↦ (let u = path_took q J c b in let v = new p c a in absurd cc) | inr b ↦ path_entry s J e p q c a b ]
+    ])

@@ -1,7 +1,7 @@
 -- Who is among the k closest of a list: those of the list with fewer than k different others closer.
-use Rattle.std.proofs.Common.{◌≡◌, ℕ, ◌+◌, ◌<◌, ◌≤◌, List, [], ◌∷◌, ◌++◌, length, take, Bool, true, false, not, ◌||◌, ◌&&◌, cond, refl, sym, ap, subst, ◌∙◌, arith}
+use Rattle.std.proofs.Common.{◌≡◌, ℕ, ◌<◌, ◌≤◌, List, [], ◌∷◌, Bool, true, false, ◌||◌, ◌&&◌, cond, refl, sym, ap, subst, ◌∙◌, arith}
 use Rattle.std.specs.Prelude.{filter, fold, nat_lt}
-use Rattle.std.specs.List.{list_any, IsDistinct, AllByRecursion}
+use Rattle.std.specs.List.{IsDistinct, AllByRecursion}
 use Rattle.std.specs.List.Sorted.{IsStrictlySortedBy}
 use Rattle.std.specs.Ordering.{is_lt, is_eq, eq_by_cmp}
 use Rattle.std.specs.declared.cmp.Ordering.{Ordering}
@@ -9,11 +9,11 @@ use Rattle.std.specs.declared.cmp.Ordering.TheVariants.{Less, Equal, Greater}
 use Rattle.std.proofs.lemmas.Cmp.{eq_by_cmp_equiv, tied_itself}
 use Rattle.std.proofs.lemmas.Map.Keys.{IsDistinct-from_sorted}
 use Rattle.std.proofs.lemmas.Map.Made.{length-le_from_is_member}
-use Rattle.std.proofs.lemmas.Bool.{or_cases, or_left, or_right, and_parts, and_from, lt-ltb, ltb-true}
+use Rattle.std.proofs.lemmas.Bool.{and_parts, and_from, lt-ltb, ltb-true}
 use Rattle.kad_base.specs.declared.plain.Id.{Id}
 use Rattle.kad_base.specs.declared.plain.Contact.{Contact}
-use Rattle.kad_base.specs.Contacts.{same, among, without}
-use Rattle.kad_base.proofs.Contacts.{same_exact, same_itself, same_back, same_like, contact_total, among_more}
+use Rattle.kad_base.specs.Contacts.{same, among}
+use Rattle.kad_base.proofs.Contacts.{same_exact, contact_total}
 use Rattle.kad_distance.specs.Order.{closeness}
 use Rattle.kad_distance.specs.KClosest.{by_ordering, put, each_once, count_below, least, k_closest}
 use Rattle.kad_distance.proofs.Orders.{closeness_total, closeness_exact}
@@ -41,6 +41,7 @@ among_put t (y ∷ ys) x c =
     twice true b d e = refl
     twice false true d e = refl
     twice false false d e = sym e
+
     front : (a b : Bool) → (a || b) ≡ (b || a)
     front true true = refl
     front true false = refl
@@ -111,8 +112,8 @@ fewer_below t S T x sub =
     length-le_from_is_member (eq_by_cmp_equiv contact_total) (filter p (each_once R S)) (filter p (each_once R T))
     (distinct_filter p (each_once R S) (distinct_sorted t (each_once R S) (each_once_rises (closeness_total t) S)))
     (λ c h.
-        let parts = and_parts (among (each_once R S) c) (p c) (sym (among_filter p (each_once R S) c) ∙ h) in
-        among_filter p (each_once R T) c ∙ and_from (among (each_once R T) c) (p c) (among_once t T c ∙ sub c (sym (among_once t S c) ∙ parts.0)) parts.1)
+    let parts = and_parts (among (each_once R S) c) (p c) (sym (among_filter p (each_once R S) c) ∙ h) in
+    among_filter p (each_once R T) c ∙ and_from (among (each_once R T) c) (p c) (among_once t T c ∙ sub c (sym (among_once t S c) ∙ parts.0)) parts.1)
 
 -- among the k closest of more contacts, and one of fewer: among the k closest of the fewer
 pub closest_of_fewer : (t : Id) (k : ℕ) (S T : List Contact) (c : Contact) → ((x : Contact) → among S x ≡ true → among T x ≡ true) → among S c ≡ true → among (k_closest t k T) c ≡ true → among (k_closest t k S) c ≡ true
@@ -127,3 +128,7 @@ closest_of_fewer t k S T c sub here h =
 -- the k closest are of the list
 pub closest_within : (t : Id) (k : ℕ) (S : List Contact) (c : Contact) → among (k_closest t k S) c ≡ true → among S c ≡ true
 closest_within t k S c h = (and_parts (among S c) (nat_lt (count_below (closeness t) S c) k) (sym (among_closest t k S c) ∙ h)).0
+
+pub sorted_two : (R : Contact → Contact → Ordering) (a b : Contact) → R a b ≡ Less → IsStrictlySortedBy R (a ∷ b ∷ [])
+unfolding IsStrictlySortedBy
+sorted_two R a b h = ((h, tt), (tt, tt))

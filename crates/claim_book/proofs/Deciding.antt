@@ -1,21 +1,17 @@
 -- What the reading of a journal decides.
-use Rattle.std.proofs.Common.{◌≡◌, ℕ, zero, suc, ◌+◌, ◌<◌, ◌≤◌, List, [], ◌∷◌, ◌++◌, length, take, get_or, Bool, true, false, not, ◌||◌, ◌&&◌, cond, Option, Some, None, refl, sym, ap, subst, ◌∙◌, arith, eqb}
-use Rattle.std.specs.Prelude.{filter, find, slice_get, nat_lt, IsTrue, ◌↔◌, MatchOption}
-use Rattle.std.specs.List.{flat_map, list_any, All}
-use Rattle.std.proofs.lemmas.List.{append-nil, take_more}
-use Rattle.std.proofs.lemmas.List.Folds.{find-append}
+use Rattle.std.proofs.Common.{◌≡◌, ℕ, zero, suc, ◌+◌, ◌<◌, ◌≤◌, List, [], ◌∷◌, ◌++◌, length, take, get_or, Bool, true, false, not, ◌||◌, ◌&&◌, cond, Option, Some, None, refl, sym, ap, subst, ◌∙◌, arith}
+use Rattle.std.specs.Prelude.{find, slice_get, MatchOption}
 use Rattle.std.proofs.lemmas.Option.{get_or_from_slice_get}
-use Rattle.std.proofs.lemmas.Bool.{and_from, eq-eqb, or_left, or_right, le-ltb, lt-ltb, false_from_ne_true, true_from_ne_false}
+use Rattle.std.proofs.lemmas.Bool.{and_from, eq-eqb, or_left, or_right, le-ltb, lt-ltb, false_from_ne_true}
 use Rattle.kad_base.specs.declared.plain.Contact.{Contact}
-use Rattle.kad_base.specs.Contacts.{same, among, without}
+use Rattle.kad_base.specs.Contacts.{same, among}
 use Rattle.kad_base.proofs.Contacts.{among_more}
 use Rattle.kad_distance.specs.KClosest.{k_closest}
 use Rattle.claim_book.specs.declared.plain.Setting.{Setting}
 use Rattle.claim_book.specs.declared.plain.Thing.{Thing}
 use Rattle.claim_book.specs.declared.plain.Entry.{Entry}
-use Rattle.claim_book.specs.declared.plain.Entry.TheVariants.{Seed, Ask, Heard, Lost, Note, Taken, Held, Turned, Rejected, Skipped}
-use Rattle.claim_book.specs.Journal.{on_path, ask_of, asker_of, asked, asked_on, askers, holders, took, path, answered, failed, alive, open_any, open_on, unsettled, first_unsettled, may_ask}
-use Rattle.claim_book.specs.RunOut.{RunOut}
+use Rattle.claim_book.specs.declared.plain.Entry.TheVariants.{Seed, Ask, Taken}
+use Rattle.claim_book.specs.Journal.{on_path, asked, asked_on, askers, holders, took, path, answered, failed, alive, open_any, open_on, unsettled, first_unsettled, may_ask}
 use Rattle.claim_book.specs.Calls.{asker}
 use Rattle.claim_book.proofs.Among.{among_without}
 use Rattle.claim_book.proofs.Claims.{among_left, among_right, open_any_says}
@@ -102,9 +98,10 @@ open_by J c None a f e = false_from_ne_true (among (open_any J) c) (λ h.
     was : (a b : Bool) → (a && b) ≡ true → a ≡ true
     was true b h = refl
     was false b h = h
-open_by J c (Some p) a f e =
-    (open_any_is J c ∙ ap (λ b. b && not (among (answered J) c || among (failed J) c)) (asker_asked c J p (sym e)) ∙ ap (λ b. not (b || among (failed J) c)) a ∙ ap not f,
-    sym (get_or_from_slice_get (askers c J) 0 p 0 (sym e)))
+open_by J c (Some p) a f e = (
+  open_any_is J c ∙ ap (λ b. b && not (among (answered J) c || among (failed J) c)) (asker_asked c J p (sym e)) ∙ ap (λ b. not (b || among (failed J) c)) a ∙ ap not f,
+  sym (get_or_from_slice_get (askers c J) 0 p 0 (sym e)),
+)
 
 first : (n : ℕ) (d : Contact) (J : List Entry) (c : Contact) (q : ℕ) → Some q ≡ slice_get (cond (same c d) (n ∷ []) [] ++ holders c J) 0 → (Some q ≡ slice_get (holders c J) 0 → among (path q J) c ≡ true) → among (on_path q n (d ∷ []) ++ path q J) c ≡ true
 first n d J c q e r =

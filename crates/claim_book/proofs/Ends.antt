@@ -1,26 +1,25 @@
 -- How paths end: laws of legal journals.
-use Rattle.std.proofs.Common.{◌≡◌, ◌≢◌, ℕ, zero, suc, ◌+◌, ◌%◌, ◌<◌, ◌≤◌, List, [], ◌∷◌, ◌++◌, length, get_or, Bool, true, false, not, ◌||◌, ◌&&◌, cond, Option, Some, None, ◌⊎◌, inl, inr, refl, sym, ap, subst, ◌∙◌, arith, eqb}
-use Rattle.std.specs.Prelude.{find, nat_lt, filter, drop, slice_get, IsSome}
-use Rattle.std.specs.List.{IsDistinct, list_any, AllByRecursion, All}
+use Rattle.std.proofs.Common.{◌≡◌, ℕ, zero, suc, ◌%◌, ◌<◌, ◌≤◌, List, [], ◌∷◌, ◌++◌, length, Bool, true, false, not, ◌||◌, ◌&&◌, cond, Some, None, ◌⊎◌, inl, inr, refl, sym, ap, subst, ◌∙◌, arith}
+use Rattle.std.specs.Prelude.{find, drop, slice_get, IsSome}
+use Rattle.std.specs.List.{AllByRecursion, All}
 use Rattle.std.proofs.lemmas.List.Elements.{All-from_recursion, recursion_from_All}
-use Rattle.std.proofs.lemmas.Bool.{or_cases, or_left, or_right, or_parts, and_parts, and_from, not-true, eqb-true, ltb-true, lt-ltb, true_from_ne_false, not_from_true, cases_lt, eq-eqb, ne_eqb}
+use Rattle.std.proofs.lemmas.Bool.{or_cases, or_left, or_right, and_parts, and_from, eqb-true, lt-ltb, cases_lt, eq-eqb, ne_eqb}
 use Rattle.kad_base.specs.declared.plain.Contact.{Contact}
 use Rattle.kad_base.specs.Contacts.{same, among, without}
-use Rattle.kad_base.proofs.Contacts.{same_exact, same_itself, same_back, among_more}
-use Rattle.kad_distance.specs.Order.{closeness}
+use Rattle.kad_base.proofs.Contacts.{same_exact, same_itself, among_more}
 use Rattle.kad_distance.specs.KClosest.{k_closest}
 use Rattle.claim_book.specs.declared.plain.Setting.{Setting}
 use Rattle.claim_book.specs.declared.plain.Thing.{Thing}
 use Rattle.claim_book.specs.declared.plain.Entry.{Entry}
 use Rattle.claim_book.specs.declared.plain.Entry.TheVariants.{Seed, Ask, Heard, Lost, Note, Taken, Held, Turned, Rejected, Skipped}
-use Rattle.claim_book.specs.Journal.{on_path, took_of, path_of, ask_of, ask_on, asker_of, holder_of, answer_of, fail_of, things_of, took, path, asked, asked_on, askers, holders, answered, failed, open_any, open_on, alive, things, settled, unsettled, first_unsettled, may_ask}
-use Rattle.claim_book.specs.Legal.{SeedFits, Believed, Fits, Legal, is_of, IsSeed}
+use Rattle.claim_book.specs.Journal.{on_path, path_of, ask_on, things_of, took, path, asked, asked_on, askers, holders, answered, failed, open_on, alive, things, settled, unsettled, first_unsettled, may_ask}
+use Rattle.claim_book.specs.Legal.{Fits, Legal, is_of, IsSeed}
 use Rattle.claim_book.specs.RunOut.{RunOut}
 use Rattle.claim_book.specs.Result.{result_of}
-use Rattle.claim_book.proofs.More.{took_more, path_more, asked_more, asked_on_more, answered_more, failed_more, things_more, legal_more, last_fits, along}
-use Rattle.claim_book.proofs.Among.{among_itself, among_one, among_filter, among_without, found_passes, found_among, none_found, none_among, among_none}
+use Rattle.claim_book.proofs.More.{path_more, asked_on_more, things_more, last_fits, along}
+use Rattle.claim_book.proofs.Among.{among_without, none_found, among_none}
 use Rattle.claim_book.proofs.Closest.{closest_within, closest_of_fewer}
-use Rattle.claim_book.proofs.Claims.{may_ask_says, may_ask_on_path, alive_on_path, open_says, among_left, among_right, answered_asked, one_path, asked_on_path, path_took, asked_on_asked}
+use Rattle.claim_book.proofs.Claims.{may_ask_says, may_ask_on_path, alive_on_path, open_says, among_left, among_right, answered_asked, one_path, asked_on_path, path_took}
 
 -- a contact of each of a list
 pub each_from_all : (P : Contact → Type 0) (cs : List Contact) → All P cs → (c : Contact) → among cs c ≡ true → P c
@@ -122,13 +121,13 @@ unfolding path things asked_on
 beyond s J z =
     along (λ J. (q : ℕ) → s.paths ≤ q → Beyond q J) s (λ q le. record { no_path = refl; no_things = refl; none_asked = refl })
     (λ J e l d f q le.
-        let b = d q le in
-        let o = off_step s J e q z le b f in
-        record {
-          no_path = both_nil (path q J) (path_of q e) (path q (J ++ e ∷ [])) (path_more q J e) b.no_path o.no_path;
-          no_things = both_nil (things q J) (things_of q e) (things q (J ++ e ∷ [])) (things_more q J e) b.no_things o.no_things;
-          none_asked = both_nil (asked_on q J) (ask_on q e) (asked_on q (J ++ e ∷ [])) (asked_on_more q J e) b.none_asked o.none_asked;
-        })
+    let b = d q le in
+    let o = off_step s J e q z le b f in
+    record {
+      no_path = both_nil (path q J) (path_of q e) (path q (J ++ e ∷ [])) (path_more q J e) b.no_path o.no_path;
+      no_things = both_nil (things q J) (things_of q e) (things q (J ++ e ∷ [])) (things_more q J e) b.no_things o.no_things;
+      none_asked = both_nil (asked_on q J) (ask_on q e) (asked_on q (J ++ e ∷ [])) (asked_on_more q J e) b.none_asked o.none_asked;
+    })
     J
 
 -- a contact of a path is on one of the lookup's paths
@@ -155,8 +154,8 @@ found_answered s J c z l over h =
     let by = held_by_some c J parts.0 in
     let here : among (alive by.0 J) c ≡ true = among_without (path by.0 J) (failed J) c ∙ and_from (among (path by.0 J) c) (not (among (failed J) c)) by.2 parts.1 in
     let sub : (x : Contact) → among (alive by.0 J) x ≡ true → among (without (took J) (failed J)) x ≡ true =
-        (λ x t. let q = and_parts (among (path by.0 J) x) (not (among (failed J) x)) (sym (among_without (path by.0 J) (failed J) x) ∙ t) in
-        among_without (took J) (failed J) x ∙ and_from (among (took J) x) (not (among (failed J) x)) (path_took by.0 J x q.0) q.1) in
+    (λ x t. let q = and_parts (among (path by.0 J) x) (not (among (failed J) x)) (sym (among_without (path by.0 J) (failed J) x) ∙ t) in
+    among_without (took J) (failed J) x ∙ and_from (among (took J) x) (not (among (failed J) x)) (path_took by.0 J x q.0) q.1) in
     each_from_all (λ x. among (answered J) x ≡ true) _ (over by.0 (path_below s J by.0 c z l by.2)).all_answered c
     (closest_of_fewer s.target s.k (alive by.0 J) (without (took J) (failed J)) c sub here h)
 

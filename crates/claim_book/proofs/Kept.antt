@@ -1,21 +1,20 @@
 -- What a book keeps, after one more entry.
-use Rattle.std.proofs.Common.{◌≡◌, ◌≢◌, ℕ, zero, suc, ◌+◌, ◌*◌, ◌-◌, ◌<◌, ◌≤◌, List, [], ◌∷◌, ◌++◌, length, Bool, true, false, not, ◌||◌, ◌&&◌, cond, Option, Some, None, inl, inr, refl, sym, ap, subst, ◌∙◌, arith, eqb}
-use Rattle.std.specs.Prelude.{filter, drop, slice_get, map}
-use Rattle.std.specs.List.{IsDistinct}
+use Rattle.std.proofs.Common.{◌≡◌, ℕ, ◌+◌, ◌*◌, ◌<◌, ◌≤◌, List, [], ◌∷◌, ◌++◌, length, Bool, true, false, not, ◌||◌, cond, Some, refl, sym, ap, subst, ◌∙◌, arith, eqb}
+use Rattle.std.specs.Prelude.{filter}
 use Rattle.std.proofs.lemmas.List.{append-nil, length-append}
-use Rattle.std.proofs.lemmas.List.Elements.{filter-append, filter_agree}
-use Rattle.std.proofs.lemmas.Bool.{eqb-true, ne_eqb, eq-eqb, not_from_false, and_from, or_parts}
+use Rattle.std.proofs.lemmas.List.Elements.{filter-append}
+use Rattle.std.proofs.lemmas.Bool.{ne_eqb, eq-eqb, not_from_false, and_from}
 use Rattle.kad_base.specs.declared.plain.Contact.{Contact}
 use Rattle.kad_base.specs.declared.plain.Report.{Report}
 use Rattle.kad_base.specs.Contacts.{same, among, without}
-use Rattle.kad_base.proofs.Contacts.{same_back, among_more}
+use Rattle.kad_base.proofs.Contacts.{among_more}
 use Rattle.claim_book.specs.declared.plain.Setting.{Setting}
 use Rattle.claim_book.specs.declared.plain.Thing.{Thing}
 use Rattle.claim_book.specs.declared.plain.Thing.TheVariants.{Responder, Told}
 use Rattle.claim_book.specs.declared.plain.Entry.{Entry}
 use Rattle.claim_book.specs.declared.plain.Entry.TheVariants.{Seed, Ask, Heard, Lost, Note, Taken, Held, Turned, Rejected, Skipped}
-use Rattle.claim_book.specs.Journal.{took_of, ask_of, answer_of, fail_of, things_of, settles_on, took, path, asked, asked_on, answered, failed, open_any, open_on, first_unsettled}
-use Rattle.claim_book.specs.Legal.{Believed, Fits, Legal}
+use Rattle.claim_book.specs.Journal.{took_of, ask_of, answer_of, fail_of, things_of, settles_on, took, asked, answered, failed, open_any, open_on, first_unsettled}
+use Rattle.claim_book.specs.Legal.{Fits, Legal}
 use Rattle.claim_book.specs.Room.{thing_room, unsettled_room, room_for, IsBook}
 use Rattle.claim_book.proofs.More.{took_more, asked_more, answered_more, failed_more, legal_more}
 use Rattle.claim_book.proofs.Among.{among_without, without_less}
@@ -65,8 +64,8 @@ fresh_taken J q c =
     let t = took_more J (Taken q c) in
     let p = λ (x : Contact). not (among (asked J) x) in
     let is : fresh (J ++ Taken q c ∷ []) ≡ length (filter p (took J)) + length (filter p (c ∷ [])) =
-        ap (λ l. length (without l (asked (J ++ Taken q c ∷ [])))) t ∙ ap (λ l. length (without (took J ++ c ∷ []) l)) a
-        ∙ ap length (filter-append p (took J) (c ∷ [])) ∙ length-append (filter p (took J)) (filter p (c ∷ [])) in
+    ap (λ l. length (without l (asked (J ++ Taken q c ∷ [])))) t ∙ ap (λ l. length (without (took J ++ c ∷ []) l)) a
+    ∙ ap length (filter-append p (took J) (c ∷ [])) ∙ length-append (filter p (took J)) (filter p (c ∷ [])) in
     let few = few_of_one p c in
     omega arith
 
@@ -88,10 +87,10 @@ opens_ask J q c =
     let l = failed_more J (Ask q c) ∙ same_lists (failed J) [] refl in
     let p = λ (x : Contact). not (among (answered J ++ failed J) x) in
     let is : opens (J ++ Ask q c ∷ []) ≡ length (filter p (asked J)) + length (filter p (c ∷ [])) =
-        ap (λ x. length (without x (answered (J ++ Ask q c ∷ []) ++ failed (J ++ Ask q c ∷ [])))) a
-        ∙ ap (λ x. length (without (asked J ++ c ∷ []) (x ++ failed (J ++ Ask q c ∷ [])))) n
-        ∙ ap (λ x. length (without (asked J ++ c ∷ []) (answered J ++ x))) l
-        ∙ ap length (filter-append p (asked J) (c ∷ [])) ∙ length-append (filter p (asked J)) (filter p (c ∷ [])) in
+    ap (λ x. length (without x (answered (J ++ Ask q c ∷ []) ++ failed (J ++ Ask q c ∷ [])))) a
+    ∙ ap (λ x. length (without (asked J ++ c ∷ []) (x ++ failed (J ++ Ask q c ∷ [])))) n
+    ∙ ap (λ x. length (without (asked J ++ c ∷ []) (answered J ++ x))) l
+    ∙ ap length (filter-append p (asked J) (c ∷ [])) ∙ length-append (filter p (asked J)) (filter p (c ∷ [])) in
     let few = few_of_one p c in
     omega arith
 
@@ -114,9 +113,9 @@ pub opens_heard : (s : Setting) (J : List Entry) (q : ℕ) (c : Contact) (e : En
 opens_heard s J q c e l h f g k =
     opens_end s J e q c l h f
     (λ x. ap (λ m. among (m ++ failed (J ++ e ∷ [])) x) (answered_more J e ∙ ap (λ m. answered J ++ m) g)
-        ∙ ap (λ m. among ((answered J ++ c ∷ []) ++ m) x) (failed_more J e ∙ same_lists (failed J) (fail_of e) k)
-        ∙ among_more (answered J ++ c ∷ []) (failed J) x ∙ ap (λ b. b || among (failed J) x) (among_last (answered J) c x)
-        ∙ swap (among (answered J) x) (same x c) (among (failed J) x) ∙ ap (λ b. b || same x c) (sym (among_more (answered J) (failed J) x)))
+    ∙ ap (λ m. among ((answered J ++ c ∷ []) ++ m) x) (failed_more J e ∙ same_lists (failed J) (fail_of e) k)
+    ∙ among_more (answered J ++ c ∷ []) (failed J) x ∙ ap (λ b. b || among (failed J) x) (among_last (answered J) c x)
+    ∙ swap (among (answered J) x) (same x c) (among (failed J) x) ∙ ap (λ b. b || same x c) (sym (among_more (answered J) (failed J) x)))
   where
     swap : (a b d : Bool) → ((a || b) || d) ≡ ((a || d) || b)
     swap true b d = refl
@@ -128,9 +127,9 @@ pub opens_lost : (s : Setting) (J : List Entry) (q : ℕ) (c : Contact) (e : Ent
 opens_lost s J q c e l h f g k =
     opens_end s J e q c l h f
     (λ x. ap (λ m. among (m ++ failed (J ++ e ∷ [])) x) (answered_more J e ∙ same_lists (answered J) (answer_of e) g)
-        ∙ ap (λ m. among (answered J ++ m) x) (failed_more J e ∙ ap (λ m. failed J ++ m) k)
-        ∙ among_more (answered J) (failed J ++ c ∷ []) x ∙ ap (λ b. among (answered J) x || b) (among_last (failed J) c x)
-        ∙ group (among (answered J) x) (among (failed J) x) (same x c) ∙ ap (λ b. b || same x c) (sym (among_more (answered J) (failed J) x)))
+    ∙ ap (λ m. among (answered J ++ m) x) (failed_more J e ∙ ap (λ m. failed J ++ m) k)
+    ∙ among_more (answered J) (failed J ++ c ∷ []) x ∙ ap (λ b. among (answered J) x || b) (among_last (failed J) c x)
+    ∙ group (among (answered J) x) (among (failed J) x) (same x c) ∙ ap (λ b. b || same x c) (sym (among_more (answered J) (failed J) x)))
   where
     group : (a b d : Bool) → (a || (b || d)) ≡ ((a || b) || d)
     group true b d = refl

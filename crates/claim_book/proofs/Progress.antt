@@ -1,22 +1,20 @@
 -- Each reply leaves a legal journal.
-use Rattle.std.proofs.Common.{◌≡◌, ◌≢◌, ℕ, ◌+◌, ◌<◌, ◌≤◌, List, [], ◌∷◌, ◌++◌, length, Option, Some, None, true, false, refl, sym, ap, subst, ◌∙◌, arith}
+use Rattle.std.proofs.Common.{◌≡◌, ℕ, ◌≤◌, List, length, Option, Some, None, true, refl, subst}
 use Rattle.kad_base.specs.declared.plain.Contact.{Contact}
 use Rattle.kad_base.specs.declared.plain.Report.{Report}
-use Rattle.kad_base.specs.Contacts.{among, IsUsable}
-use Rattle.kad_base.specs.Puzzles.{Passes}
+use Rattle.kad_base.specs.Contacts.{among}
 use Rattle.claim_book.specs.declared.plain.Setting.{Setting}
 use Rattle.claim_book.specs.declared.plain.Entry.{Entry}
 use Rattle.claim_book.specs.declared.plain.Entry.TheVariants.{Ask as Ask_entry, Heard as Heard_entry, Lost as Lost_entry, Note as Note_entry, Taken as Taken_entry, Held as Held_entry, Turned as Turned_entry, Rejected as Rejected_entry, Skipped as Skipped_entry}
 use Rattle.claim_book.specs.declared.calls.BookCall.{BookCall}
 use Rattle.claim_book.specs.declared.calls.BookCall.TheVariants.{Next, Heard, Lost, Finish, Pull, Note, Settle}
 use Rattle.claim_book.specs.declared.calls.BookReply.{BookReply}
-use Rattle.claim_book.specs.declared.calls.BookReply.TheVariants.{Ask, RunOut as RunOut_reply, Later, Kept, NotOpen, Found, NotYet, Alive, Report as Report_reply, Idle, NotFront, Taken, Held, Turned, Rejected, Skipped, NoMemory}
+use Rattle.claim_book.specs.declared.calls.BookReply.TheVariants.{Ask, Kept, Taken, Held, Turned, Rejected, Skipped}
 use Rattle.claim_book.specs.Judged.{Judged}
-use Rattle.claim_book.specs.Journal.{open_any, open_on}
+use Rattle.claim_book.specs.Journal.{open_any}
 use Rattle.claim_book.specs.Legal.{Believed, Fits, Legal}
-use Rattle.claim_book.specs.Room.{IsBook}
 use Rattle.claim_book.specs.State.{BookState, added}
-use Rattle.claim_book.specs.Calls.{BookMay, BookStep, IsFront, IsSound, SettleStep, settle_entry, with_entry, book_after, asker, path_of_role}
+use Rattle.claim_book.specs.Calls.{BookMay, BookStep, IsSound, SettleStep, settle_entry, with_entry, book_after, asker, path_of_role}
 use Rattle.claim_book.proofs.More.{legal_more}
 use Rattle.claim_book.proofs.Deciding.{open_on_asker}
 use Rattle.claim_book.proofs.Kept.{IsOwed}

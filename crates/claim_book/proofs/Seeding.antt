@@ -1,19 +1,19 @@
 -- A journal that has seeds alone.
-use Rattle.std.proofs.Common.{◌≡◌, ℕ, zero, suc, ◌+◌, ◌*◌, ◌%◌, ◌<◌, ◌≤◌, List, [], ◌∷◌, ◌++◌, length, take, get_or, Bool, true, false, not, cond, refl, sym, ap, subst, ◌∙◌, arith}
-use Rattle.std.specs.Prelude.{filter, drop}
+use Rattle.std.proofs.Common.{◌≡◌, ℕ, zero, suc, ◌+◌, ◌*◌, ◌%◌, ◌<◌, ◌≤◌, List, [], ◌∷◌, ◌++◌, length, take, get_or, refl, sym, ap, subst, ◌∙◌, arith}
+use Rattle.std.specs.Prelude.{drop}
 use Rattle.std.specs.List.{All, AllByRecursion, sum_by}
 use Rattle.std.specs.List.Sorted.{IsStrictlySortedBy}
 use Rattle.std.specs.declared.cmp.Ordering.{Ordering}
 use Rattle.std.specs.declared.cmp.Ordering.TheVariants.{Less}
-use Rattle.std.proofs.lemmas.List.{append-nil, append_assoc, length-append, take_more, take_all, length-take-le}
+use Rattle.std.proofs.lemmas.List.{take_more, take_all, length-take-le}
 use Rattle.kad_base.specs.declared.plain.Contact.{Contact}
-use Rattle.kad_base.specs.Contacts.{among, without, IsUsable}
+use Rattle.kad_base.specs.Contacts.{without, IsUsable}
 use Rattle.kad_distance.specs.Order.{closeness}
 use Rattle.claim_book.specs.declared.plain.Setting.{Setting}
 use Rattle.claim_book.specs.declared.plain.Entry.{Entry}
 use Rattle.claim_book.specs.declared.plain.Entry.TheVariants.{Seed}
 use Rattle.claim_book.specs.Journal.{seeds, took, asked, answered, failed, open_any, things, settled, unsettled}
-use Rattle.claim_book.specs.Legal.{SeedFits, Fits, Legal, seeded_from, seeded}
+use Rattle.claim_book.specs.Legal.{SeedFits, Legal, seeded_from, seeded}
 use Rattle.claim_book.specs.Room.{thing_room, unsettled_room, room_for, IsBook}
 use Rattle.claim_book.proofs.More.{legal_more}
 

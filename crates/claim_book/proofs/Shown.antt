@@ -1,16 +1,16 @@
 -- A contact of a filter of a journal, entry by entry.
-use Rattle.std.proofs.Common.{◌≡◌, ℕ, zero, suc, ◌+◌, ◌<◌, ◌≤◌, List, [], ◌∷◌, ◌++◌, length, take, get_or, Bool, true, false, not, cond, Option, Some, None, subst, ◌||◌, refl, sym, ap, ◌∙◌, arith, eqb}
+use Rattle.std.proofs.Common.{◌≡◌, ℕ, zero, suc, ◌+◌, ◌<◌, ◌≤◌, List, [], ◌∷◌, ◌++◌, length, take, get_or, Bool, true, false, not, cond, Some, None, ◌||◌, refl, sym, ap, ◌∙◌, arith, eqb}
 use Rattle.std.specs.Prelude.{filter, slice_get}
 use Rattle.std.proofs.lemmas.List.{length-append, take_more, take_all}
 use Rattle.std.proofs.lemmas.Option.{slice_get_past}
 use Rattle.std.proofs.lemmas.List.Elements.{filter-append}
 use Rattle.std.specs.List.{flat_map, list_any}
 use Rattle.kad_base.specs.declared.plain.Contact.{Contact}
-use Rattle.kad_base.specs.Contacts.{same, among, without}
+use Rattle.kad_base.specs.Contacts.{among, without}
 use Rattle.kad_base.proofs.Contacts.{among_more}
 use Rattle.claim_book.specs.declared.plain.Thing.{Thing}
 use Rattle.claim_book.specs.declared.plain.Entry.{Entry}
-use Rattle.claim_book.specs.declared.plain.Entry.TheVariants.{Seed, Ask, Heard, Lost, Note, Taken, Held, Turned, Rejected, Skipped}
+use Rattle.claim_book.specs.declared.plain.Entry.TheVariants.{Seed, Ask, Lost, Taken, Turned}
 use Rattle.claim_book.specs.Room.{some}
 use Rattle.claim_book.proofs.More.{things_more}
 use Rattle.claim_book.specs.Journal.{took_of, path_of, ask_of, ask_on, answer_of, fail_of, turned_of, asker_of, holder_of, things_of, took, path, asked, asked_on, answered, failed, turned, open_on, askers, holders, things}
@@ -94,6 +94,7 @@ count_open_by p J ended = count_each (λ e. without (ask_on p e) ended) one J �
     twice true true c h = ap (λ t. length (cond t (c ∷ []) [])) (sym h) ∙ sym (ap (λ t. cond (some (cond t (c ∷ []) [])) 1 0) (sym h))
     twice true false c h = ap (λ t. length (cond t (c ∷ []) [])) (sym h) ∙ sym (ap (λ t. cond (some (cond t (c ∷ []) [])) 1 0) (sym h))
     twice false d c h = refl
+
     one : (e : Entry) → length (without (ask_on p e) ended) ≡ cond (some (without (ask_on p e) ended)) 1 0
     one (Ask q c) = twice (eqb q p) (not (among ended c)) c refl
     one other = refl

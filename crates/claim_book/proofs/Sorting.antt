@@ -1,19 +1,18 @@
 -- The k closest of what the entries of a journal give, entry by entry.
-use Rattle.std.proofs.Common.{◌≡◌, ℕ, zero, suc, ◌+◌, ◌<◌, ◌≤◌, List, [], ◌∷◌, ◌++◌, length, take, get_or, Bool, true, false, not, cond, Option, Some, None, refl, sym, ap, subst, ◌∙◌, arith, eqb}
+use Rattle.std.proofs.Common.{◌≡◌, ℕ, suc, ◌+◌, ◌<◌, ◌≤◌, List, [], ◌∷◌, ◌++◌, length, take, get_or, Bool, true, false, not, cond, Option, Some, None, refl, sym, ap, ◌∙◌, arith, eqb}
 use Rattle.std.specs.Prelude.{filter, fold}
-use Rattle.std.specs.List.{flat_map}
 use Rattle.std.specs.declared.cmp.Ordering.{Ordering}
-use Rattle.std.proofs.lemmas.List.{append-nil, length-append, take_more, take_all, take_at, take-take, get_or_push, length-take, length_push}
+use Rattle.std.proofs.lemmas.List.{append-nil, take_more, take_all, take_at, take-take, get_or_push, length-take, length_push}
 use Rattle.std.proofs.lemmas.List.Elements.{filter-append}
 use Rattle.kad_base.specs.declared.plain.Id.{Id}
 use Rattle.kad_base.specs.declared.plain.Contact.{Contact}
 use Rattle.kad_base.specs.Contacts.{among, without}
 use Rattle.kad_distance.specs.Order.{closeness}
-use Rattle.kad_distance.specs.KClosest.{put, each_once, least, k_closest}
+use Rattle.kad_distance.specs.KClosest.{put, each_once, k_closest}
 use Rattle.kad_distance.proofs.Orders.{closeness_total}
 use Rattle.kad_distance.proofs.Least.{once_more, least_take}
 use Rattle.claim_book.specs.declared.plain.Entry.{Entry}
-use Rattle.claim_book.specs.declared.plain.Entry.TheVariants.{Seed, Ask, Heard, Lost, Note, Taken, Held, Turned, Rejected, Skipped}
+use Rattle.claim_book.specs.declared.plain.Entry.TheVariants.{Seed, Taken}
 use Rattle.claim_book.specs.Room.{chosen, all_chosen}
 use Rattle.claim_book.proofs.More.{flat_more}
 
@@ -53,8 +52,8 @@ sorted_more t k one J i d out old new lt was is =
     let ys = without (chosen one (get_or J i d)) out in
     let few : length ys ≤ 1 = omega (arith, filter_few (λ c. not (among out c)) (chosen one (get_or J i d)), chosen_one one (get_or J i d)) in
     let all : without (all_chosen one (take (i + 1) J)) out ≡ xs ++ ys =
-        ap (λ l. without (all_chosen one l) out) (take_more J i d lt) ∙ ap (λ l. without l out) (flat_more (chosen one) (take i J) (get_or J i d))
-        ∙ filter-append (λ c. not (among out c)) (all_chosen one (take i J)) (chosen one (get_or J i d)) in
+    ap (λ l. without (all_chosen one l) out) (take_more J i d lt) ∙ ap (λ l. without l out) (flat_more (chosen one) (take i J) (get_or J i d))
+    ∙ filter-append (λ c. not (among out c)) (all_chosen one (take i J)) (chosen one (get_or J i d)) in
     is ∙ ap (λ l. take k (fold (put R) l ys)) was ∙ few_more R k xs ys few ∙ ap (λ l. take k (each_once R l)) (sym all)
 
 pub sorted_all : (t : Id) (k : ℕ) (one : Option ℕ) (J : List Entry) (i : ℕ) (out near : List Contact) → length J ≤ i → near ≡ take k (each_once (closeness t) (without (all_chosen one (take i J)) out)) → near ≡ k_closest t k (without (all_chosen one J) out)

@@ -1,20 +1,20 @@
 -- What is unsettled, and how much room it may still need, after one more entry.
-use Rattle.std.proofs.Common.{◌≡◌, ◌≢◌, ℕ, zero, suc, ◌+◌, ◌*◌, ◌-◌, ◌<◌, ◌≤◌, List, [], ◌∷◌, ◌++◌, length, Bool, true, false, not, cond, Option, Some, None, ◌⊎◌, inl, inr, refl, sym, ap, subst, ◌∙◌, arith, eqb, add-zero, add-one}
-use Rattle.std.specs.Prelude.{filter, drop, slice_get, map}
+use Rattle.std.proofs.Common.{◌≡◌, ℕ, zero, suc, ◌+◌, ◌*◌, ◌<◌, ◌≤◌, List, [], ◌∷◌, ◌++◌, length, Bool, true, false, cond, Some, inl, inr, refl, sym, ap, ◌∙◌, arith, eqb, add-zero, add-one}
+use Rattle.std.specs.Prelude.{drop, slice_get, map}
 use Rattle.std.specs.List.{sum_by}
-use Rattle.std.proofs.lemmas.List.{append-nil, length-append, length-drop, drop-drop, drop-append-le, length-map}
+use Rattle.std.proofs.lemmas.List.{append-nil, length-append, length-drop, drop-drop, drop-append-le}
 use Rattle.std.proofs.lemmas.List.Sums.{sum_by-cons, sum_by-append}
 use Rattle.std.proofs.lemmas.Option.{slice_get_within}
-use Rattle.std.proofs.lemmas.Bool.{eqb-true, ne_eqb, eq-eqb, cases_lt, cases_eq}
+use Rattle.std.proofs.lemmas.Bool.{eqb-true, ne_eqb, eq-eqb, cases_lt}
 use Rattle.kad_base.specs.declared.plain.Contact.{Contact}
 use Rattle.kad_base.specs.declared.plain.Report.{Report}
 use Rattle.claim_book.specs.declared.plain.Setting.{Setting}
 use Rattle.claim_book.specs.declared.plain.Thing.{Thing}
 use Rattle.claim_book.specs.declared.plain.Thing.TheVariants.{Responder, Told}
 use Rattle.claim_book.specs.declared.plain.Entry.{Entry}
-use Rattle.claim_book.specs.declared.plain.Entry.TheVariants.{Seed, Ask, Heard, Lost, Note, Taken, Held, Turned, Rejected, Skipped}
-use Rattle.claim_book.specs.Journal.{on_path, things_in, things_of, settles_on, things, settled, unsettled, first_unsettled}
-use Rattle.claim_book.specs.Legal.{Believed, Fits, Legal}
+use Rattle.claim_book.specs.declared.plain.Entry.TheVariants.{Heard, Note, Taken, Held, Turned, Rejected, Skipped}
+use Rattle.claim_book.specs.Journal.{things_in, things_of, settles_on, things, settled, unsettled, first_unsettled}
+use Rattle.claim_book.specs.Legal.{Fits, Legal}
 use Rattle.claim_book.specs.Room.{thing_room, unsettled_room}
 use Rattle.claim_book.proofs.More.{things_more, settled_more, along}
 

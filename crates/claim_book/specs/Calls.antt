@@ -49,8 +49,9 @@ EndStep J c Kept = among (open_any J) c ≡ true
 EndStep J c NotOpen = among (open_any J) c ≡ false
 EndStep J c other = ⊥
 
+-- what an open contact gives to settle needs room
 abbrev pub HeardStep : List Entry → Contact → BookReply → Type 0
-HeardStep J c NoMemory = Unit {0}
+HeardStep J c NoMemory = among (open_any J) c ≡ true
 HeardStep J c other = EndStep J c other
 
 -- the number of what was asked, lost and turned away
@@ -73,7 +74,7 @@ pub record IsNotYet (s : Setting) (J : List Entry) (p : ℕ) : Type 0 where
 abbrev pub FinishStep : Setting → List Entry → BookReply → Type 0
 FinishStep s J (Found found counts) = IsFound s J found counts
 FinishStep s J (NotYet p) = IsNotYet s J p
-FinishStep s J NoMemory = Unit {0}
+FinishStep s J NoMemory = (p : ℕ) → p < s.paths → RunOut s p J
 FinishStep s J other = ⊥
 
 abbrev pub PullStep : List Entry → ℕ → BookReply → Type 0

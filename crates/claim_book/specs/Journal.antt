@@ -1,6 +1,6 @@
 -- What a journal shows: filters and counts of its entries, for any number of paths (S/Kademlia, 2007, section 4.4) and
 -- of queries at once (Kademlia, 2002, section 2.3).
-use Rattle.std.specs.Prelude.{ℕ, List, [], ◌∷◌, ◌++◌, length, drop, map, Option, Some, None, Bool, true, false, not, ◌==◌, nat_lt, filter, find, slice_get, if◌then◌else◌}
+use Rattle.std.specs.Prelude.{ℕ, List, [], ◌∷◌, ◌++◌, length, drop, map, Option, None, Bool, false, not, ◌==◌, nat_lt, filter, find, slice_get, if◌then◌else◌}
 use Rattle.std.specs.List.{flat_map}
 use Rattle.kad_base.specs.declared.plain.Contact.{Contact}
 use Rattle.kad_base.specs.declared.plain.Report.{Report}
@@ -59,7 +59,6 @@ fail_of other = []
 abbrev pub turned_of : Entry → List Contact
 turned_of (Turned q c) = c ∷ []
 turned_of other = []
-
 
 -- an answer gives its contact, then each contact that it reports
 abbrev pub things_in : Contact → List Report → List Thing

@@ -13,6 +13,8 @@ mod serial;
 mod settling;
 mod shows;
 mod state;
+#[cfg(test)]
+mod tests;
 mod verdict;
 
 pub use calls::{BookCall, BookReply};

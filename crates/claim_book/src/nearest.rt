@@ -79,7 +79,13 @@ fn taken(entry: &Entry, one: Option<u8>) -> Option<Contact>
 }
 
 /// Puts the contact of an entry in its place, where it has one that was not lost.
-fn put_alive(near: &mut Vec<Contact>, setting: &Setting, journal: &[Entry], entry: &Entry, one: Option<u8>)
+fn put_alive(
+    near: &mut Vec<Contact>,
+    setting: &Setting,
+    journal: &[Entry],
+    entry: &Entry,
+    one: Option<u8>,
+)
     requires few { length near.old.items ≤ setting.now.k }
     requires room { setting.now.k < vec_capacity near.old }
     ensures items { near.new.items ≡ take setting.now.k (fold (put (closeness setting.now.target)) near.old.items (without (chosen one entry.now) (failed journal.now))) }

@@ -37,9 +37,15 @@ pub struct Counts {
 #[derive(Debug, Drop, PartialEq, Eq)]
 pub enum Entry {
     /// The path starts with this contact of the routing table.
-    Seed { path: u8, contact: Contact },
+    Seed {
+        path: u8,
+        contact: Contact,
+    },
     /// The path asks the contact.
-    Ask { path: u8, contact: Contact },
+    Ask {
+        path: u8,
+        contact: Contact,
+    },
     /// The contact answered, and named these others.
     Heard {
         path: u8,
@@ -53,17 +59,36 @@ pub enum Entry {
         cause: Cause,
     },
     /// The contact that answered was noted.
-    Note { path: u8, contact: Contact },
+    Note {
+        path: u8,
+        contact: Contact,
+    },
     /// The reported contact is now this path's.
-    Taken { path: u8, contact: Contact },
+    Taken {
+        path: u8,
+        contact: Contact,
+    },
     /// The reported contact was on the path `by` already.
-    Held { path: u8, contact: Contact, by: u8 },
+    Held {
+        path: u8,
+        contact: Contact,
+        by: u8,
+    },
     /// The path was full.
-    Turned { path: u8, contact: Contact },
+    Turned {
+        path: u8,
+        contact: Contact,
+    },
     /// The report does not pass the policy.
-    Rejected { path: u8, report: Report },
+    Rejected {
+        path: u8,
+        report: Report,
+    },
     /// The reported contact is this node or has no port.
-    Skipped { path: u8, report: Report },
+    Skipped {
+        path: u8,
+        report: Report,
+    },
 }
 
 /// What an answer gives to settle: the contact that answered, then each contact that it reported.

@@ -34,7 +34,12 @@ fn have_answered(journal: &[Entry], near: &[Contact]) -> bool
 }
 
 /// Whom the path may ask, sorted in the room that is given. Takes no memory.
-pub(crate) fn may_ask(near: &mut Vec<Contact>, setting: &Setting, journal: &[Entry], path: u8) -> Option<Contact>
+pub(crate) fn may_ask(
+    near: &mut Vec<Contact>,
+    setting: &Setting,
+    journal: &[Entry],
+    path: u8,
+) -> Option<Contact>
     requires { setting.now.k < vec_capacity near.old }
     ensures contact { result ≡ may_ask setting.now path journal.now }
     ensures room { setting.now.k < vec_capacity near.new }
@@ -47,7 +52,12 @@ pub(crate) fn may_ask(near: &mut Vec<Contact>, setting: &Setting, journal: &[Ent
 }
 
 /// Whether the path has run out, with the closest sorted in the room that is given. Takes no memory.
-pub(crate) fn has_run_out(near: &mut Vec<Contact>, setting: &Setting, journal: &[Entry], path: u8) -> bool
+pub(crate) fn has_run_out(
+    near: &mut Vec<Contact>,
+    setting: &Setting,
+    journal: &[Entry],
+    path: u8,
+) -> bool
     requires { setting.now.k < vec_capacity near.old }
     ensures run_out { IsTrue result ↔ RunOut setting.now path journal.now }
     ensures room { setting.now.k < vec_capacity near.new }
@@ -63,7 +73,11 @@ pub(crate) fn has_run_out(near: &mut Vec<Contact>, setting: &Setting, journal: &
 }
 
 /// The first path that has not run out. Takes no memory.
-pub(crate) fn first_running(near: &mut Vec<Contact>, setting: &Setting, journal: &[Entry]) -> Option<u8>
+pub(crate) fn first_running(
+    near: &mut Vec<Contact>,
+    setting: &Setting,
+    journal: &[Entry],
+) -> Option<u8>
     requires { setting.now.k < vec_capacity near.old }
     ensures first { MatchOption result ((p : ℕ) → p < setting.now.paths → RunOut setting.now p journal.now) (λ p. IsNotYet setting.now journal.now p) }
     ensures room { setting.now.k < vec_capacity near.new }

@@ -67,7 +67,11 @@ pub(crate) fn settled(path: u8, report: &Report, reply: &BookReply) -> Option<En
     match reply {
         BookReply::Skipped => Some(Entry::Skipped { path, report }),
         BookReply::Rejected => Some(Entry::Rejected { path, report }),
-        BookReply::Held { path: by } => Some(Entry::Held { path, contact, by: *by }),
+        BookReply::Held { path: by } => Some(Entry::Held {
+            path,
+            contact,
+            by: *by,
+        }),
         BookReply::Turned => Some(Entry::Turned { path, contact }),
         BookReply::Taken => Some(Entry::Taken { path, contact }),
         _ => None,

@@ -216,7 +216,11 @@ fn given(entry: &Entry, one: u8, at: usize) -> Option<Thing>
     ensures { result ≡ slice_get (things_of one entry.now) at }
 {
     match entry {
-        Entry::Heard { path, contact, reports } if *path == one => {
+        Entry::Heard {
+            path,
+            contact,
+            reports,
+        } if *path == one => {
             if at == 0 {
                 return Some(Thing::Responder { contact: *contact });
             }

@@ -99,8 +99,17 @@ impl Book {
         ensures step { NextStep self.old.setting self.old.journal path result }
         ensures after { self.new ≡ after_next self.old path result }
     {
-        if let Some(contact) = may_ask(&mut self.near, &self.setting, self.journal.as_slice(), path) {
-            put(&mut self.journal, &mut self.owed, Entry::Ask { path, contact });
+        if let Some(contact) = may_ask(
+            &mut self.near,
+            &self.setting,
+            self.journal.as_slice(),
+            path,
+        ) {
+            put(
+                &mut self.journal,
+                &mut self.owed,
+                Entry::Ask { path, contact },
+            );
             return BookReply::Ask { contact };
         }
         if has_run_out(&mut self.near, &self.setting, self.journal.as_slice(), path) {
@@ -121,7 +130,15 @@ impl Book {
         };
         match reserve(&mut self.journal, &mut self.owed, 3 * reports.len() + 1) {
             Ok(()) => {
-                put(&mut self.journal, &mut self.owed, Entry::Heard { path, contact, reports });
+                put(
+                    &mut self.journal,
+                    &mut self.owed,
+                    Entry::Heard {
+                        path,
+                        contact,
+                        reports,
+                    },
+                );
                 BookReply::Kept
             }
             Err(NoMemory) => BookReply::NoMemory,
@@ -135,7 +152,15 @@ impl Book {
     {
         match open_path(self.journal.as_slice(), &contact) {
             Some(path) => {
-                put(&mut self.journal, &mut self.owed, Entry::Lost { path, contact, cause });
+                put(
+                    &mut self.journal,
+                    &mut self.owed,
+                    Entry::Lost {
+                        path,
+                        contact,
+                        cause,
+                    },
+                );
                 BookReply::Kept
             }
             None => BookReply::NotOpen,
@@ -179,7 +204,11 @@ impl Book {
         if !is_next(self.journal.as_slice(), path, &contact) {
             return BookReply::NotFront;
         }
-        put(&mut self.journal, &mut self.owed, Entry::Note { path, contact });
+        put(
+            &mut self.journal,
+            &mut self.owed,
+            Entry::Note { path, contact },
+        );
         BookReply::Kept
     }
 
@@ -255,7 +284,13 @@ fn seed(mut journal: Vec<Entry>, paths: u8, seeds: &[Contact]) -> Vec<Entry>
 {
     for (i, contact) in seeds.iter().enumerate() {
         let path = (i % paths as usize) as u8;
-        put_seed(&mut journal, Entry::Seed { path, contact: *contact });
+        put_seed(
+            &mut journal,
+            Entry::Seed {
+                path,
+                contact: *contact,
+            },
+        );
     }
     journal
 }
@@ -273,4 +308,3 @@ fn counts_of(journal: &[Entry]) -> Counts
         turned: count_turned(journal) as u32,
     }
 }
-

@@ -1,8 +1,8 @@
-use Rattle.std.proofs.Common.{◌≡◌, ℕ, ◌≤◌, List, length, take, true, false, refl, sym, ap, ◌∙◌, arith}
+use Rattle.std.proofs.Common.{ℕ, ◌≤◌, List, take, sym, ap, ◌∙◌, arith}
 use Rattle.std.specs.Prelude.{insert}
 use Rattle.kad_base.specs.declared.plain.Contact.{Contact}
 use Rattle.kad_distance.specs.Order.{closeness}
-use Rattle.kad_distance.specs.KClosest.{put, place_in, new_at}
+use Rattle.kad_distance.specs.KClosest.{place_in, new_at}
 use Rattle.kad_distance.proofs.Least.{put_past, put_old, put_new}
 use Rattle.claim_book.proofs.nearest.put_in.Goals as goal
 

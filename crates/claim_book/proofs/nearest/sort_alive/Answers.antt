@@ -1,4 +1,4 @@
-use Rattle.claim_book.specs.Journal.{alive, path, took}
+use Rattle.claim_book.specs.Journal.{alive, path}
 use Rattle.claim_book.proofs.nearest.sort_alive.Goals as goal
 
 pub returns-clause-items : goal.returns-clause-items

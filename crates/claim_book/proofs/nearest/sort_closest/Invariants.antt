@@ -9,5 +9,5 @@ use Rattle.claim_book.proofs.nearest.sort_closest.Given as goal
 abbrev pub invariant-loop-entry : goal.invariant-loop-entry
 invariant-loop-entry l = record {
   items : l.near.items ≡ take l.setting.k (each_once (closeness l.setting.target) (without (all_chosen l.one (take l.entry-index l.journal)) (failed l.journal)));
-  room : l.setting.k < vec_capacity l.near
+  room : l.setting.k < vec_capacity l.near;
 }

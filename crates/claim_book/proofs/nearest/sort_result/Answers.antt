@@ -1,4 +1,4 @@
-use Rattle.claim_book.specs.Journal.{alive, path, took}
+use Rattle.claim_book.specs.Journal.{took}
 use Rattle.claim_book.specs.Result.{result_of}
 use Rattle.claim_book.proofs.nearest.sort_result.Goals as goal
 

@@ -1,4 +1,4 @@
-use Rattle.std.proofs.Common.{◌≡◌, true, false, not, get_or, ap, sym, ◌∙◌}
+use Rattle.std.proofs.Common.{not, ap, sym, ◌∙◌}
 use Rattle.kad_base.specs.Contacts.{among}
 use Rattle.claim_book.specs.Journal.{asked}
 use Rattle.claim_book.proofs.Deciding.{find_here, find_on}

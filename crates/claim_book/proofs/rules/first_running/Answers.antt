@@ -1,4 +1,4 @@
-use Rattle.std.proofs.Common.{ℕ, ◌<◌, ◌+◌, below_more}
+use Rattle.std.proofs.Common.{below_more}
 use Rattle.claim_book.specs.RunOut.{RunOut}
 use Rattle.claim_book.proofs.rules.first_running.Goals as goal
 

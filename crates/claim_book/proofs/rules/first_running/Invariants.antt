@@ -5,5 +5,5 @@ use Rattle.claim_book.proofs.rules.first_running.Given as goal
 abbrev pub invariant-loop-path : goal.invariant-loop-path
 invariant-loop-path l = record {
   before : (p : ℕ) → p < l.path → RunOut l.setting p l.journal;
-  room : l.setting.k < vec_capacity l.near
+  room : l.setting.k < vec_capacity l.near;
 }

@@ -1,12 +1,11 @@
-use Rattle.std.proofs.Common.{◌≡◌, ◌<◌, [], List, length, Some, None, Option, true, false, refl, ap, sym, subst, ◌∙◌, arith}
+use Rattle.std.proofs.Common.{◌≡◌, List, length, Some, None, Option, true, false, refl, ap, sym, subst, ◌∙◌, arith}
 use Rattle.std.specs.List.{All}
 use Rattle.std.specs.Prelude.{is_some}
 use Rattle.std.proofs.lemmas.List.{nil_from_length}
 use Rattle.kad_base.specs.declared.plain.Contact.{Contact}
 use Rattle.kad_base.specs.Contacts.{among}
 use Rattle.claim_book.specs.declared.plain.Thing.{Thing}
-use Rattle.claim_book.specs.Journal.{answered, open_on, first_unsettled}
-use Rattle.claim_book.specs.RunOut.{RunOut}
+use Rattle.claim_book.specs.Journal.{answered, open_on}
 use Rattle.claim_book.proofs.Deciding.{none_unsettled, no_first}
 use Rattle.claim_book.proofs.rules.has_run_out.Goals as goal
 
@@ -24,10 +23,11 @@ pub returns-clause-run_out : goal.returns-clause-run_out
 returns-clause-run_out c =
     let J = c.args.journal.now in
     let near = c.as_slice.ensures.value ∙ c.sort_alive.ensures.items in
-    let P = λ (l : List Contact). All (λ x. among (answered J) x ≡ true) l in
-    (λ h. record {
+    let P = λ (l : List Contact). All (λ x. among (answered J) x ≡ true) l in (
+      λ h. record {
         none_open = nil_from_length (open_on c.args.path J) (let n = c.count_open.ensures in let t = c.if-count_open-gt0.false in omega arith);
         settled = none_unsettled c.args.path J (sym c.front.ensures ∙ none_is c.front.result c.if-is_some.ensures);
         all_answered = subst P near (c.have_answered.ensures.0 h);
       },
-    λ over. c.have_answered.ensures.1 (subst P (sym near) over.all_answered))
+      λ over. c.have_answered.ensures.1 (subst P (sym near) over.all_answered),
+    )

@@ -1,4 +1,4 @@
-use Rattle.std.proofs.Common.{◌≡◌, sym, ◌∙◌}
+use Rattle.std.proofs.Common.{sym}
 use Rattle.claim_book.proofs.Deciding.{heard_not_open, lost_not_open, open_by}
 use Rattle.claim_book.proofs.rules.open_path.Goals as goal
 

@@ -1,4 +1,4 @@
-use Rattle.std.proofs.Common.{◌≡◌, ◌≤◌, ◌<◌, ◌≢◌, length, Some, true, false, ap, sym, subst, ◌∙◌, arith, rules}
+use Rattle.std.proofs.Common.{◌≡◌, ◌<◌, length, Some, ap, sym, subst, ◌∙◌, arith, rules}
 use Rattle.kad_base.specs.declared.plain.Report.{Report}
 use Rattle.kad_base.specs.declared.plain.Policy.{Policy}
 use Rattle.kad_base.specs.Contacts.{IsUsable, among}

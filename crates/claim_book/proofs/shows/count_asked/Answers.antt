@@ -1,8 +1,7 @@
-use Rattle.std.proofs.Common.{rules, tests, ◌≡◌, ◌++◌, ◌∙◌}
+use Rattle.std.proofs.Common.{rules, tests, ◌∙◌}
 use Rattle.std.proofs.lemmas.Iterator.{YieldsList-from_slice}
 use Rattle.std.proofs.lemmas.Iterator.Consumers.{count_from_yields_List, YieldsList-from_filter}
-use Rattle.kad_base.specs.Contacts.{without}
-use Rattle.claim_book.specs.Journal.{ask_of, ask_on, fail_of, turned_of, path_of, answered, failed, settles_on, settled}
+use Rattle.claim_book.specs.Journal.{ask_of}
 use Rattle.claim_book.specs.Room.{some}
 use Rattle.claim_book.proofs.Shown.{count_asked}
 use Rattle.claim_book.proofs.shows.count_asked.Goals as goal

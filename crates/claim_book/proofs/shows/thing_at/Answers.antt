@@ -1,6 +1,6 @@
-use Rattle.std.proofs.Common.{◌≡◌, ◌+◌, ◌≤◌, length, take, Some, None, ap, sym, ◌∙◌, arith}
+use Rattle.std.proofs.Common.{length, ap, sym, ◌∙◌, arith}
 use Rattle.std.specs.Prelude.{slice_get}
-use Rattle.claim_book.specs.Journal.{things_of, things}
+use Rattle.claim_book.specs.Journal.{things_of}
 use Rattle.claim_book.proofs.Shown.{given_at, given_more, given_end, given_start, none_past}
 use Rattle.claim_book.proofs.shows.thing_at.Goals as goal
 

@@ -1,4 +1,4 @@
-use Rattle.std.proofs.Common.{◌≡◌, ◌≤◌, ◌<◌, length, ap, sym, ◌∙◌, arith}
+use Rattle.std.proofs.Common.{length, ap, arith}
 use Rattle.claim_book.specs.Journal.{asked, failed, turned}
 use Rattle.claim_book.proofs.Bounds.{asked_few, failed_few, turned_few}
 use Rattle.claim_book.proofs.state.Book.finish.Goals as goal

@@ -1,4 +1,4 @@
-use Rattle.std.proofs.Common.{◌≡◌, ◌≤◌, ◌<◌, ◌+◌, ◌*◌, length, refl, sym, subst, arith}
+use Rattle.std.proofs.Common.{refl, sym, subst, arith}
 use Rattle.claim_book.specs.Legal.{Legal}
 use Rattle.claim_book.proofs.Seeding.{book_new, legal_seeded}
 use Rattle.claim_book.proofs.state.Book.new.Goals as goal

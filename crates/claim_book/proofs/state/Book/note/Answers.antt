@@ -1,13 +1,8 @@
-use Rattle.std.proofs.Common.{◌≡◌, ◌<◌, ◌++◌, ◌∷◌, [], List, Some, None, Option, true, ap, sym, subst, ◌∙◌, refl}
-use Rattle.kad_base.specs.Contacts.{among}
-use Rattle.claim_book.specs.declared.plain.Entry.{Entry}
-use Rattle.claim_book.specs.declared.plain.Entry.TheVariants.{Ask, Heard, Lost, Note, Taken, Held, Turned, Rejected, Skipped}
-use Rattle.claim_book.specs.declared.plain.Thing.TheVariants.{Responder, Told}
-use Rattle.claim_book.specs.Journal.{open_on, open_any, first_unsettled, may_ask}
-use Rattle.claim_book.specs.Calls.{asker}
-use Rattle.claim_book.specs.Legal.{Fits}
-use Rattle.claim_book.proofs.Deciding.{open_on_asker}
-use Rattle.claim_book.proofs.Kept.{book_put, book_heard, some_owed}
+use Rattle.std.proofs.Common.{◌≡◌, Some, subst}
+use Rattle.claim_book.specs.declared.plain.Entry.TheVariants.{Note}
+use Rattle.claim_book.specs.declared.plain.Thing.TheVariants.{Responder}
+use Rattle.claim_book.specs.Journal.{first_unsettled}
+use Rattle.claim_book.proofs.Kept.{book_put, some_owed}
 use Rattle.claim_book.proofs.state.Book.note.Goals as goal
 
 pub put-requires-clause-some : goal.put-requires-clause-some

@@ -1,6 +1,5 @@
-use Rattle.std.proofs.Common.{◌≡◌, [], List, Some, ap, sym, subst, ◌∙◌}
-use Rattle.claim_book.specs.declared.plain.Entry.{Entry}
-use Rattle.claim_book.specs.Journal.{unsettled, first_unsettled}
+use Rattle.std.proofs.Common.{ap, sym, ◌∙◌}
+use Rattle.claim_book.specs.Journal.{first_unsettled}
 use Rattle.claim_book.specs.State.{BookState}
 use Rattle.claim_book.proofs.Deciding.{none_unsettled}
 use Rattle.claim_book.proofs.state.Book.pull.Goals as goal

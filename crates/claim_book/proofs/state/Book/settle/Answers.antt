@@ -1,4 +1,4 @@
-use Rattle.std.proofs.Common.{◌≡◌, ◌≤◌, length, Some, ap, sym, subst, ◌∙◌}
+use Rattle.std.proofs.Common.{◌≤◌, length, ap, sym, subst, ◌∙◌}
 use Rattle.claim_book.specs.Journal.{path}
 use Rattle.claim_book.specs.Calls.{SettleStep, settle_entry}
 use Rattle.claim_book.proofs.Bounds.{path_few}
