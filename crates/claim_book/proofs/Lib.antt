@@ -1,0 +1,13 @@
+pub mod Shown
+pub mod More
+pub mod Among
+pub mod Closest
+pub mod Claims
+pub mod Ends
+pub mod Unsettled
+pub mod Kept
+pub mod Bounds
+pub mod Sorting
+pub mod Deciding
+pub mod Progress
+pub mod Seeding

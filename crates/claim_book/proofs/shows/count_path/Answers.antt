@@ -1,0 +1,12 @@
+use Rattle.std.proofs.Common.{rules, tests, ◌∙◌}
+use Rattle.std.proofs.lemmas.Iterator.{YieldsList-from_slice}
+use Rattle.std.proofs.lemmas.Iterator.Consumers.{count_from_yields_List, YieldsList-from_filter}
+use Rattle.claim_book.specs.Journal.{path_of}
+use Rattle.claim_book.specs.Room.{some}
+use Rattle.claim_book.proofs.Shown.{count_path}
+use Rattle.claim_book.proofs.shows.count_path.Goals as goal
+
+pub returns : goal.returns
+returns c =
+    count_from_yields_List c.filter.result _ c.count.ensures.ran (YieldsList-from_filter _ (λ e. some (path_of c.args.one e)) (YieldsList-from_slice c.args.journal.now cc) c.filter.ensures.closure (λ x b q k. search (rules, tests)))
+    ∙ count_path c.args.one c.args.journal.now

@@ -1,0 +1,7 @@
+-- What callers see of a checked report: the verdict follows from it.
+use Rattle.kad_base.specs.declared.plain.Policy.{Policy}
+use Rattle.kad_base.specs.declared.plain.Report.{Report}
+
+pub record Judged : Type 0 where
+  pub policy : Policy
+  pub report : Report

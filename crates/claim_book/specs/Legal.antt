@@ -1,0 +1,75 @@
+-- Which entry may follow a journal.
+use Rattle.std.specs.Prelude.{◌≡◌, ℕ, ◌+◌, ◌%◌, ◌<◌, ◌≤◌, List, [], ◌∷◌, ◌++◌, length, Some, Bool, true, false, ◌==◌}
+use Rattle.std.specs.List.Sorted.{IsStrictlySortedBy}
+use Rattle.kad_base.specs.declared.plain.Contact.{Contact}
+use Rattle.kad_base.specs.declared.plain.Report.{Report}
+use Rattle.kad_base.specs.Contacts.{among, IsUsable}
+use Rattle.kad_base.specs.Puzzles.{Passes}
+use Rattle.kad_distance.specs.Order.{closeness}
+use Rattle.claim_book.specs.declared.plain.Setting.{Setting}
+use Rattle.claim_book.specs.declared.plain.Thing.TheVariants.{Responder, Told}
+use Rattle.claim_book.specs.declared.plain.Entry.{Entry}
+use Rattle.claim_book.specs.declared.plain.Entry.TheVariants.{Seed, Ask, Heard, Lost, Note, Taken, Held, Turned, Rejected, Skipped}
+use Rattle.claim_book.specs.Journal.{seeds, took, path, open_on, first_unsettled, may_ask}
+
+-- the seeds stand first, dealt to the paths in turn (S/Kademlia, 2007, section 4.4): few, usable, nearest first
+pub record SeedFits (s : Setting) (J : List Entry) (q : ℕ) (c : Contact) : Type 0 where
+  pub first : length (seeds J) ≡ length J
+  pub few : length J < s.k
+  pub turn : q ≡ length J % s.paths
+  pub usable : IsUsable s.own c
+  pub in_order : IsStrictlySortedBy (closeness s.target) (took J ++ c ∷ [])
+
+-- the contact is that of the first unsettled thing of the path, a report that is usable and passes
+pub record Believed (s : Setting) (J : List Entry) (q : ℕ) (c : Contact) : Type 0 where
+  pub report : Report
+  pub contact : report.contact ≡ c
+  pub first : first_unsettled q J ≡ Some (Told report)
+  pub usable : IsUsable s.own c
+  pub passes : Passes s.policy report
+
+-- the entry may follow J
+abbrev pub Fits : Setting → List Entry → Entry → Type 0
+Fits s J (Seed q c) = SeedFits s J q c
+Fits s J (Ask q c) = may_ask s q J ≡ Some c
+Fits s J (Heard q c reports) = (among (open_on q J) c ≡ true) × (length reports ≤ 16)
+Fits s J (Lost q c cause) = among (open_on q J) c ≡ true
+Fits s J (Note q c) = first_unsettled q J ≡ Some (Responder c)
+Fits s J (Skipped q r) = (first_unsettled q J ≡ Some (Told r)) × ¬ IsUsable s.own r.contact
+Fits s J (Rejected q r) = (first_unsettled q J ≡ Some (Told r)) × IsUsable s.own r.contact × ¬ Passes s.policy r
+Fits s J (Held q c by) = Believed s J q c × (among (path by J) c ≡ true)
+Fits s J (Turned q c) = Believed s J q c × (among (took J) c ≡ false) × (length (path q J) ≡ 256)
+Fits s J (Taken q c) = Believed s J q c × (among (took J) c ≡ false) × (length (path q J) < 256)
+
+-- each of the entries may follow those before it
+abbrev pub LegalAfter : Setting → List Entry → List Entry → Type 0
+LegalAfter s J [] = Unit {0}
+LegalAfter s J (e ∷ es) = Fits s J e × LegalAfter s (J ++ e ∷ []) es
+
+unfoldable pub Legal : Setting → List Entry → Type 0
+Legal s J = LegalAfter s [] J
+
+-- the contacts from rank i on as seeds, each on its path
+abbrev pub seeded_from : ℕ → ℕ → List Contact → List Entry
+seeded_from paths i [] = []
+seeded_from paths i (c ∷ cs) = Seed (i % paths) c ∷ seeded_from paths (i + 1) cs
+
+abbrev pub seeded : ℕ → List Contact → List Entry
+seeded paths cs = seeded_from paths 0 cs
+
+-- the entry is of path p
+abbrev pub is_of : ℕ → Entry → Bool
+is_of p (Seed q c) = q == p
+is_of p (Ask q c) = q == p
+is_of p (Heard q c reports) = q == p
+is_of p (Lost q c cause) = q == p
+is_of p (Note q c) = q == p
+is_of p (Taken q c) = q == p
+is_of p (Held q c by) = q == p
+is_of p (Turned q c) = q == p
+is_of p (Rejected q r) = q == p
+is_of p (Skipped q r) = q == p
+
+abbrev pub IsSeed : Entry → Type 0
+IsSeed (Seed q c) = Unit {0}
+IsSeed other = ⊥

@@ -1,0 +1,8 @@
+pub mod Journal
+pub mod Legal
+pub mod RunOut
+pub mod Result
+pub mod Judged
+pub mod State
+pub mod Calls
+pub mod Room

@@ -1,0 +1,48 @@
+-- The room that a book keeps, so that no later call on the contacts that it knows takes memory.
+use Rattle.std.specs.Prelude.{◌≡◌, ℕ, zero, suc, ◌+◌, ◌*◌, ◌<◌, ◌≤◌, List, length, Option, Some, None, [], ◌∷◌, Bool, true, false}
+use Rattle.std.specs.List.{sum_by, flat_map}
+use Rattle.kad_base.specs.declared.plain.Contact.{Contact}
+use Rattle.kad_base.specs.Contacts.{without}
+use Rattle.claim_book.specs.declared.plain.Setting.{Setting}
+use Rattle.claim_book.specs.declared.plain.Thing.{Thing}
+use Rattle.claim_book.specs.declared.plain.Thing.TheVariants.{Responder, Told}
+use Rattle.claim_book.specs.declared.plain.Entry.{Entry}
+use Rattle.claim_book.specs.Journal.{took_of, path_of, took, asked, open_any, unsettled}
+use Rattle.claim_book.specs.Legal.{Legal}
+
+-- a contact that answered is noted; a reported one is settled, and may then be asked and heard or lost
+abbrev pub thing_room : Thing → ℕ
+thing_room (Responder c) = 1
+thing_room (Told r) = 3
+
+-- what is unsettled on the first n paths
+abbrev pub unsettled_room : ℕ → List Entry → ℕ
+unsettled_room zero J = 0
+unsettled_room (suc n) J = unsettled_room n J + sum_by thing_room (unsettled n J)
+
+-- how many entries may still come, if no further contact answers
+unfoldable pub room_for : ℕ → List Entry → ℕ
+room_for paths J = 2 * length (without (took J) (asked J)) + length (open_any J) + unsettled_room paths J
+
+-- what a book keeps: its journal is legal, has room for what may still come, and there is room to sort the k closest
+pub record IsBook (s : Setting) (J : List Entry) (owed room near_room : ℕ) : Type 0 where
+  pub legal : Legal s J
+  pub one_path : s.paths ≡ 1
+  pub one_query : s.alpha ≡ 1
+  pub small : s.k < 256
+  pub all_owed : room_for s.paths J ≤ owed
+  pub fits : length J + owed ≤ room
+  pub can_sort : s.k < near_room
+
+-- what the k closest are sorted from: the contacts of one path, or of all
+abbrev pub chosen : Option ℕ → Entry → List Contact
+chosen None e = took_of e
+chosen (Some p) e = path_of p e
+
+abbrev pub all_chosen : Option ℕ → List Entry → List Contact
+all_chosen one J = flat_map (chosen one) J
+
+-- the list has a member
+abbrev pub some : {A : Type 0} → List A → Bool
+some [] = false
+some (x ∷ xs) = true

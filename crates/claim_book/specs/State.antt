@@ -1,0 +1,12 @@
+-- What callers see of a book.
+use Rattle.std.specs.Prelude.{List, [], ◌∷◌, ◌++◌}
+use Rattle.claim_book.specs.declared.plain.Setting.{Setting}
+use Rattle.claim_book.specs.declared.plain.Entry.{Entry}
+
+pub record BookState : Type 0 where
+  pub setting : Setting
+  pub journal : List Entry
+
+-- the book with one more entry
+abbrev pub added : BookState → Entry → BookState
+added book e = record { setting = book.setting; journal = book.journal ++ e ∷ [] }

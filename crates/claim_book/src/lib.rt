@@ -1,0 +1,23 @@
+//! The book of claims of a lookup: which path has which contact (a path is one of S/Kademlia's disjoint lookups), who
+//! was asked, and what came of it, as a journal that grows by one entry a call and stays legal whoever makes the calls.
+//! It has no clock, no socket and no thread; it takes memory where it is made and where an answer is heard alone.
+#![tactic(auto)]
+
+mod calls;
+mod laws;
+mod nearest;
+mod plain;
+mod rules;
+mod serial;
+mod settling;
+mod shows;
+mod state;
+#[cfg(test)]
+mod tests;
+mod verdict;
+
+pub use calls::{BookCall, BookReply};
+pub use laws::{answered, disjoint, lively, stable};
+pub use plain::{Cause, Counts, Entry, Journal, Setting, Thing};
+pub use state::Book;
+pub use verdict::Checked;
