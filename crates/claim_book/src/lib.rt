@@ -1,6 +1,7 @@
 //! The book of claims of a lookup: which path has which contact (a path is one of S/Kademlia's disjoint lookups), who
 //! was asked, and what came of it, as a journal that grows by one entry a call and stays legal whoever makes the calls.
-//! It has no clock, no socket and no thread; it takes memory where it is made and where an answer is heard alone.
+//! It has no clock, no socket and no thread. It takes memory where it is made, where an answer is heard, and for the list
+//! of what was found; no other call does.
 #![tactic(auto)]
 
 mod calls;
