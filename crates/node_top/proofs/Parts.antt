@@ -1,0 +1,49 @@
+-- Fronts of a text that is written, and of an input that is read.
+use Rattle.std.proofs.Common.{◌≡◌, ◌≢◌, ℕ, ◌+◌, ◌-◌, ◌<◌, List, [], ◌∷◌, ◌++◌, length, take, drop, get_or, Option, Some, None, inl, inr, refl, sym, ap, subst, ◌∙◌, arith}
+use Rattle.std.specs.Prelude.{IfSome}
+use Rattle.std.proofs.lemmas.List.{take-append-drop, append-nil, append_assoc, length-drop, take_more}
+use Rattle.std.proofs.Math.Seq.{take-length}
+use Rattle.kad_base.specs.declared.plain.Id.{Id}
+use Rattle.kad_base.specs.declared.plain.Contact.{Contact}
+use Rattle.kad_base.specs.declared.plain.Report.{Report}
+use Rattle.kad_base.specs.declared.plain.Policy.{Policy}
+use Rattle.kad_base.specs.Outside.{Shrinks}
+use Rattle.node_top.specs.Written.{IsFront}
+use Rattle.node_top.specs.Looked.{ReadsTooMuch, IsAdmitted, Admits, AdmitsOne}
+
+pub front : (all : List ℕ) (n : ℕ) (t u : List ℕ) → t ≡ take n all → u ≡ [] → IsFront (t ++ u) all
+front all n t u p q = (drop n all, ap (λ l. (t ++ l) ++ drop n all) q ∙ ap (λ l. l ++ drop n all) (append-nil t ∙ p) ∙ take-append-drop n all)
+
+-- what is left is as long as it is
+pub rest_whole : (all : List ℕ) (at : ℕ) → take (length all - at) (drop at all) ≡ drop at all
+rest_whole all at = ap (λ n. take n (drop at all)) (sym (length-drop at all)) ∙ take-length (drop at all)
+
+-- more was read than may be
+pub too_much : (a c : Option (List ℕ)) (front : List ℕ) → Shrinks a c front → length front ≡ 1048577 → ReadsTooMuch a c
+too_much a None front h long = tt
+too_much a (Some rest) front h long = (front, long, h)
+
+-- one report more
+pub admits_more : (own : Id) (policy : Policy) (rs : List Report) (cs : List Contact) (r : Report) → Admits own policy rs cs → IsAdmitted own policy r → Admits own policy (rs ++ r ∷ []) (cs ++ r.contact ∷ [])
+admits_more own policy [] cs r h ok = inl ([], ap (λ l. l ++ r.contact ∷ []) h, ok, refl)
+admits_more own policy (x ∷ rs) cs r h ok =
+    elim h [
+      | inl a ↦ inl (a.0 ++ r.contact ∷ [], ap (λ l. l ++ r.contact ∷ []) a.1, a.2, admits_more own policy rs a.0 r a.3 ok)
+      | inr b ↦ inr (b.0, admits_more own policy rs cs r b.1 ok)
+    ]
+
+pub admits_not : (own : Id) (policy : Policy) (rs : List Report) (cs : List Contact) (r : Report) → Admits own policy rs cs → ¬ IsAdmitted own policy r → Admits own policy (rs ++ r ∷ []) cs
+admits_not own policy [] cs r h n = inr (n, h)
+admits_not own policy (x ∷ rs) cs r h n =
+    elim h [
+      | inl a ↦ inl (a.0, a.1, a.2, admits_not own policy rs a.0 r a.3 n)
+      | inr b ↦ inr (b.0, admits_not own policy rs cs r b.1 n)
+    ]
+
+pub admits_one : (own : Id) (policy : Policy) (rs : List Report) (i : ℕ) (d : Report) (old new : List Contact) → i < length rs → Admits own policy (take i rs) old → AdmitsOne own policy (get_or rs i d) old new → Admits own policy (take (i + 1) rs) new
+admits_one own policy rs i d old new lt h one =
+    subst (λ l. Admits own policy l new) (sym (take_more rs i d lt))
+    (elim one [
+      | inl a ↦ subst (λ l. Admits own policy (take i rs ++ get_or rs i d ∷ []) l) (sym a.1) (admits_more own policy (take i rs) old (get_or rs i d) h a.0)
+      | inr b ↦ subst (λ l. Admits own policy (take i rs ++ get_or rs i d ∷ []) l) (sym b.1) (admits_not own policy (take i rs) old (get_or rs i d) h b.0)
+    ])

@@ -1,0 +1,55 @@
+-- What the printing calls write, piece by piece.
+use Rattle.std.proofs.Common.{◌≡◌, ℕ, ◌+◌, ◌*◌, ◌<◌, ◌≤◌, List, [], ◌∷◌, ◌++◌, length, take, drop, get_or, Result, Ok, Err, IfOk, refl, sym, ap, ◌∙◌, arith, string_bytes}
+use Rattle.std.specs.Prelude.{codes, String, flat_map, decimal}
+use Rattle.std.proofs.lemmas.List.{append_assoc, append-nil, drop_more, take_all, take_more}
+use Rattle.std.proofs.lemmas.Grind.{flat_map-append}
+use Rattle.hex.specs.Hex.{encode_lower}
+use Rattle.kad_base.specs.declared.plain.Contact.{Contact}
+use Rattle.node_top.specs.Text.{groups_after, ip_text}
+use Rattle.node_top.specs.Printed.{contact_text, counts_text, line_of, printed}
+
+-- a text that was written in these pieces
+pub pieces_are : {Z E : Type 0} (r : Result (String Z) E) (x y : List ℕ) → IfOk r (λ s. string_bytes s ≡ x) → x ≡ y → IfOk r (λ s. string_bytes s ≡ y)
+pieces_are (Ok s) x y h e = h ∙ e
+pieces_are (Err f) x y h e = tt
+
+pub contact_pieces : (contact : Contact) (id ip : List ℕ) → id ≡ encode_lower contact.id.0 → ip ≡ ip_text contact.addr.ip
+    → id ++ (32 ∷ (ip ++ (58 ∷ decimal contact.addr.port))) ≡ contact_text contact
+contact_pieces contact id ip e f =
+    rw (e, f) (sym (append_assoc (encode_lower contact.id.0) (codes " ") (ip_text contact.addr.ip ++ (58 ∷ decimal contact.addr.port)))
+    ∙ ap (λ (l : List ℕ). encode_lower contact.id.0 ++ codes " " ++ l) (sym (append_assoc (ip_text contact.addr.ip) (codes ":") (decimal contact.addr.port))))
+
+pub counts_pieces : (found asked failed turned : ℕ)
+    → codes "found " ++ (decimal found ++ (codes " asked " ++ (decimal asked ++ (codes " failed " ++ (decimal failed ++ (codes " turned " ++ decimal turned)))))) ≡ counts_text found asked failed turned
+counts_pieces found asked failed turned = sym (simp append_assoc refl)
+
+-- one contact more
+pub line_more : (found : List Contact) (output after : List ℕ) (k : ℕ) (d : Contact) (text : List ℕ) → k < length found
+    → output ≡ flat_map (λ c. line_of (contact_text c)) (take k found) → text ≡ contact_text (get_or found k d) → after ≡ output ++ line_of text
+    → after ≡ flat_map (λ c. line_of (contact_text c)) (take (k + 1) found)
+line_more found output after k d text lt o t a =
+    let f : Contact → List ℕ = λ c. line_of (contact_text c) in
+    let more = flat_map-append f (take k found) (get_or found k d ∷ []) in
+    let one = append-nil (f (get_or found k d)) in
+    a ∙ rw (o, t) (ap (λ (l : List ℕ). flat_map f (take k found) ++ l) (sym one)) ∙ sym more ∙ ap (flat_map f) (sym (take_more found k d lt))
+
+-- one group more
+pub group_more : (bytes text group after : List ℕ) (lead i : ℕ) → length bytes ≡ 16 → i < 8 → group ≡ encode_lower (get_or bytes (2 * i) 0 ∷ get_or bytes (2 * i + 1) 0 ∷ [])
+    → text ++ groups_after (lead ∷ []) (drop (2 * i) bytes) ≡ groups_after (codes "[") bytes → after ≡ text ++ (lead ∷ []) ++ group
+    → after ++ groups_after (58 ∷ []) (drop (2 * (i + 1)) bytes) ≡ groups_after (codes "[") bytes
+group_more bytes text group after lead i len lt g inv a =
+    let one = drop_more bytes (2 * i) 0 (omega arith) in
+    let two = drop_more bytes (2 * i + 1) 0 (omega arith) in
+    let next : 2 * (i + 1) ≡ 2 * i + 1 + 1 = omega arith in
+    let rest : List ℕ = groups_after (58 ∷ []) (drop (2 * (i + 1)) bytes) in
+    let d : groups_after (lead ∷ []) (drop (2 * i) bytes) ≡ (lead ∷ []) ++ group ++ rest = rw (one, two, next, g) refl in
+    ap (λ (l : List ℕ). l ++ rest) a ∙ append_assoc (text ++ (lead ∷ [])) group rest ∙ append_assoc text (lead ∷ []) (group ++ rest) ∙ ap (λ (l : List ℕ). text ++ l) (sym d) ∙ inv
+
+-- the text after a group and what stands before it were pushed
+pub pushed : (text lead_text middle group shown after : List ℕ) (lead : ℕ) → middle ≡ text ++ lead_text → lead_text ≡ lead ∷ [] → shown ≡ group → after ≡ middle ++ shown → after ≡ text ++ (lead ∷ []) ++ group
+pushed text lead_text middle group shown after lead m l s a = a ∙ rw (m, l, s) refl
+
+-- every contact is printed, and then the counts
+pub print_end : (found : List Contact) (output after text : List ℕ) (k asked failed turned : ℕ) → length found ≤ k → output ≡ flat_map (λ c. line_of (contact_text c)) (take k found)
+    → text ≡ counts_text (length found) asked failed turned → after ≡ output ++ line_of text → after ≡ printed found asked failed turned
+print_end found output after text k asked failed turned le o t a = a ∙ rw (o, t, take_all k found le) refl

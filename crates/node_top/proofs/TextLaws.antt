@@ -1,0 +1,224 @@
+-- A text has one reading.
+use Rattle.std.proofs.Common.{◌≡◌, ◌≢◌, ℕ, suc, ◌+◌, ◌/◌, ◌%◌, ◌^◌, ◌<◌, ◌⊎◌, inl, true, List, [], ◌∷◌, ◌++◌, length, slice_index, Option, Some, None, refl, sym, ap, ◌∙◌, subst, arith, lit<}
+use Rattle.std.specs.Prelude.{decimal, codes, All, flat_map, option_to_list}
+use Rattle.std.specs.Char.{to_ascii_lowercase}
+use Rattle.std.specs.Str.{str_to_ascii_lowercase}
+use Rattle.std.specs.List.{AllZip, AllPass}
+use Rattle.std.specs.Net.Text.{ipv4_text, dotted_text}
+use Rattle.std.proofs.lemmas.Fmt.{decimal_injective}
+use Rattle.std.proofs.lemmas.List.{append_assoc, append-nil}
+use Rattle.std.proofs.lemmas.List.Elements.{All-head, All-tail}
+use Rattle.hex.specs.Hex.{IsBytes, encode_lower, encode_with, is_hex_digit, lower_digits}
+use Rattle.kad_base.specs.declared.plain.Id.{Id}
+use Rattle.kad_base.specs.declared.plain.Ip.{Ip}
+use Rattle.kad_base.specs.declared.plain.Ip.TheVariants.{V4, V6}
+use Rattle.kad_base.specs.declared.plain.Addr.{Addr}
+use Rattle.kad_base.specs.declared.plain.Contact.{Contact}
+use Rattle.kad_base.specs.declared.plain.Proof.{Proof}
+use Rattle.kad_base.specs.declared.plain.Report.{Report}
+use Rattle.node_top.specs.Text.{IsV4, SpellsAddr, SpellsHex, SpellsId, SpellsNumber, addr_text, ip_text}
+use Rattle.node_top.specs.Lines.{EndsWithProof, IsBad, IsContactLine, IsFirstBad, IsPassedOver, Reporting, SpellsProof, Tells}
+use Rattle.node_top.specs.Printed.{contact_text}
+use Rattle.node_top.proofs.AddrSpelling.{decimal_digits, four, v4_bytes}
+use Rattle.node_top.proofs.HexSpelling.{encode_lower-same, lower_digit, spells_digits}
+use Rattle.hex.proofs.HexLemmas.{IsDigits-lower_digits}
+use Rattle.node_top.proofs.LineSpelling.{IsVisible, addr_visible, hex_visible, plain_line, uncut}
+
+-- ---- where a text is cut
+
+cut_once : (c : ℕ) (a b x y : List ℕ) → All (λ d. d ≢ c) a → All (λ d. d ≢ c) b → a ++ (c ∷ x) ≡ b ++ (c ∷ y) → (a ≡ b) × (x ≡ y)
+cut_once c [] [] x y ha hb e = (refl, cc)
+cut_once c [] (d ∷ b) x y ha hb e = absurd (All-head (λ (d : ℕ). d ≢ c) d b hb cc)
+cut_once c (d ∷ a) [] x y ha hb e = absurd (All-head (λ (d : ℕ). d ≢ c) d a ha cc)
+cut_once c (d ∷ a) (f ∷ b) x y ha hb e =
+    let same : d ≡ f = cc in
+    let rest : a ++ (c ∷ x) ≡ b ++ (c ∷ y) = cc in
+    let r = cut_once c a b x y (All-tail (λ (d : ℕ). d ≢ c) d a ha) (All-tail (λ (d : ℕ). d ≢ c) f b hb) rest in
+    (ap (λ (g : ℕ). g ∷ a) same ∙ ap (λ (l : List ℕ). f ∷ l) r.0, r.1)
+
+no_space : (xs : List ℕ) → All IsVisible xs → All (λ d. d ≢ 32) xs
+no_space xs h k d lt e = let v = h k d lt in omega arith
+
+-- ---- hex and numbers
+
+pub hex_once : (n : ℕ) (text a b : List ℕ) → SpellsHex n text a → SpellsHex n text b → a ≡ b
+hex_once n text a b s t = encode_lower-same a b s.fit t.fit (sym s.digits ∙ t.digits)
+
+pub id_once : (text : List ℕ) (a b : Id) → SpellsId text a → SpellsId text b → a ≡ b
+id_once text a b s t =
+    let made : List ℕ → Id = λ bytes. record { 0 = bytes } in
+    ap made (hex_once 20 text a.0 b.0 s t)
+
+pub number_once : (least most : ℕ) (text : List ℕ) (a b : ℕ) → most < 2 ^ 64 → SpellsNumber least most text a → SpellsNumber least most text b → a ≡ b
+number_once least most text a b fits s t =
+    let p = s.below in
+    let q = t.below in
+    decimal_injective a b (omega arith) (omega arith) (sym s.digits ∙ t.digits)
+
+-- ---- addresses
+
+digits_lack : (c n : ℕ) → n < 2 ^ 64 → (c < 48) ⊎ (57 < c) → All (λ d. d ≢ c) (decimal n)
+digits_lack c n fits out k d lt e = let r = decimal_digits n fits k d lt in omega arith
+
+dotted_joined : (a b c d : ℕ) → dotted_text a b c d ≡ decimal a ++ (46 ∷ (decimal b ++ (46 ∷ (decimal c ++ (46 ∷ decimal d)))))
+dotted_joined a b c d = simp append_assoc refl
+
+dotted_once : (a b c d e f g h : ℕ) → a < 256 → b < 256 → c < 256 → d < 256 → e < 256 → f < 256 → g < 256 → h < 256 → dotted_text a b c d ≡ dotted_text e f g h
+    → (a ≡ e) × (b ≡ f) × (c ≡ g) × (d ≡ h)
+dotted_once a b c d e f g h ha hb hc hd he hf hg hh same =
+    let joined = sym (dotted_joined a b c d) ∙ same ∙ dotted_joined e f g h in
+    let fits : (n : ℕ) → n < 256 → n < 2 ^ 64 = λ n lt. omega arith in
+    let lacks : (n : ℕ) → n < 256 → All (λ x. x ≢ 46) (decimal n) = λ n lt. digits_lack 46 n (fits n lt) (inl (lit< tt)) in
+    let one = cut_once 46 (decimal a) (decimal e) _ _ (lacks a ha) (lacks e he) joined in
+    let two = cut_once 46 (decimal b) (decimal f) _ _ (lacks b hb) (lacks f hf) one.1 in
+    let three = cut_once 46 (decimal c) (decimal g) _ _ (lacks c hc) (lacks g hg) two.1 in (
+      decimal_injective a e (fits a ha) (fits e he) one.0,
+      decimal_injective b f (fits b hb) (fits f hf) two.0,
+      decimal_injective c g (fits c hc) (fits g hg) three.0,
+      decimal_injective d h (fits d hd) (fits h hh) three.1,
+    )
+
+v4_once : (x y : List ℕ) → IsV4 (V4 x) → IsV4 (V4 y) → ipv4_text x ≡ ipv4_text y → x ≡ y
+v4_once x y hx hy e =
+    let p = dotted_once _ _ _ _ _ _ _ _ (hx.1 0) (hx.1 1) (hx.1 2) (hx.1 3) (hy.1 0) (hy.1 1) (hy.1 2) (hy.1 3) e in
+    four x hx.0 ∙ rw (p.0, p.1, p.2, p.3) refl ∙ sym (four y hy.0)
+
+ip_once : (a b : Ip) → IsV4 a → IsV4 b → ip_text a ≡ ip_text b → a ≡ b
+ip_once (V4 x) (V4 y) ha hb e = ap V4 (v4_once x y ha hb e)
+ip_once (V4 x) (V6 y) ha hb e = absurd hb
+ip_once (V6 x) b ha hb e = absurd ha
+
+no_colon : (ip : Ip) → IsV4 ip → All (λ d. d ≢ 58) (ip_text ip)
+no_colon ip h k d lt e = let r = v4_bytes ip h k d lt in omega arith
+
+pub addr_once : (text : List ℕ) (a b : Addr) → SpellsAddr text a → SpellsAddr text b → a ≡ b
+addr_once text a b s t =
+    let p = s.port in
+    let q = t.port in
+    let joined : ip_text a.ip ++ (58 ∷ decimal a.port) ≡ ip_text b.ip ++ (58 ∷ decimal b.port) =
+    sym (append_assoc (ip_text a.ip) (codes ":") (decimal a.port)) ∙ sym s.printed ∙ t.printed ∙ append_assoc (ip_text b.ip) (codes ":") (decimal b.port) in
+    let cut = cut_once 58 (ip_text a.ip) (ip_text b.ip) (decimal a.port) (decimal b.port) (no_colon a.ip s.v4) (no_colon b.ip t.v4) joined in
+    let made : Ip → ℕ → Addr = λ ip port. record { ip = ip; port = port } in
+    ap (λ (ip : Ip). made ip a.port) (ip_once a.ip b.ip s.v4 t.v4 cut.0) ∙ ap (made b.ip) (decimal_injective a.port b.port (omega arith) (omega arith) cut.1)
+
+-- ---- contact lines
+
+proof_once : (text : List ℕ) (a b : Proof) → SpellsProof text a → SpellsProof text b → a ≡ b
+proof_once text a b s t =
+    let joined : s.key ++ (32 ∷ s.x) ≡ t.key ++ (32 ∷ t.x) =
+    sym (append_assoc s.key (codes " ") s.x) ∙ sym s.spelled ∙ t.spelled ∙ append_assoc t.key (codes " ") t.x in
+    let cut = cut_once 32 s.key t.key s.x t.x (no_space s.key (hex_visible 32 s.key a.key s.spells_key)) (no_space t.key (hex_visible 32 t.key b.key t.spells_key)) joined in
+    let made : List ℕ → List ℕ → Proof = λ key x. record { key = key; x = x } in
+    ap (λ (k : List ℕ). made k a.x) (hex_once 32 t.key a.key b.key (subst (λ (l : List ℕ). SpellsHex 32 l a.key) cut.0 s.spells_key) t.spells_key)
+    ∙ ap (made b.key) (hex_once 20 t.x a.x b.x (subst (λ (l : List ℕ). SpellsHex 20 l a.x) cut.1 s.spells_x) t.spells_x)
+
+ends_once : (x y p q : List ℕ) (a b : Addr) (c d : Option Proof) → x ++ p ≡ y ++ q → SpellsAddr x a → SpellsAddr y b → EndsWithProof p c → EndsWithProof q d → (a ≡ b) × (c ≡ d)
+ends_once x y p q a b None None e s t hp hq =
+    let same : x ≡ y = sym (append-nil x) ∙ ap (λ (l : List ℕ). x ++ l) (sym hp) ∙ e ∙ ap (λ (l : List ℕ). y ++ l) hq ∙ append-nil y in
+    (addr_once y a b (subst (λ (l : List ℕ). SpellsAddr l a) same s) t, refl)
+ends_once x y p q a b None (Some d) e s t hp hq =
+    absurd (uncut x y hq.0 (addr_visible x a s) (sym (append-nil x) ∙ ap (λ (l : List ℕ). x ++ l) (sym hp) ∙ e ∙ ap (λ (l : List ℕ). y ++ l) hq.1))
+ends_once x y p q a b (Some c) None e s t hp hq =
+    absurd (uncut y x hp.0 (addr_visible y b t) (sym (append-nil y) ∙ ap (λ (l : List ℕ). y ++ l) (sym hq) ∙ sym e ∙ ap (λ (l : List ℕ). x ++ l) hp.1))
+ends_once x y p q a b (Some c) (Some d) e s t hp hq =
+    let joined : x ++ (32 ∷ hp.0) ≡ y ++ (32 ∷ hq.0) = ap (λ (l : List ℕ). x ++ l) (sym hp.1) ∙ e ∙ ap (λ (l : List ℕ). y ++ l) hq.1 in
+    let cut = cut_once 32 x y hp.0 hq.0 (no_space x (addr_visible x a s)) (no_space y (addr_visible y b t)) joined in
+    (addr_once y a b (subst (λ (l : List ℕ). SpellsAddr l a) cut.0 s) t, ap (λ (z : Proof). Some z) (proof_once hq.0 c d (subst (λ (l : List ℕ). SpellsProof l c) cut.1 hp.2) hq.2))
+
+whole : (line id address rest : List ℕ) → line ≡ id ++ codes " " ++ address ++ rest → line ≡ id ++ (32 ∷ (address ++ rest))
+whole line id address rest e = e ∙ append_assoc (id ++ codes " ") address rest ∙ append_assoc id (codes " ") (address ++ rest)
+
+report_of : Id → Addr → Option Proof → Report
+report_of id addr proof = record { contact = record { id = id; addr = addr }; proof = proof }
+
+pub contact_once : (line : List ℕ) (a b : Report) → IsContactLine line a → IsContactLine line b → a ≡ b
+unfolding report_of
+contact_once line a b s t =
+    let joined = sym (whole line s.id s.address s.rest s.spelled) ∙ whole line t.id t.address t.rest t.spelled in
+    let cut = cut_once 32 s.id t.id (s.address ++ s.rest) (t.address ++ t.rest) (no_space s.id (hex_visible 20 s.id a.contact.id.0 s.spells_id)) (no_space t.id (hex_visible 20 t.id b.contact.id.0 t.spells_id)) joined in
+    let ids = id_once t.id a.contact.id b.contact.id (subst (λ (l : List ℕ). SpellsId l a.contact.id) cut.0 s.spells_id) t.spells_id in
+    let ends = ends_once s.address t.address s.rest t.rest a.contact.addr b.contact.addr a.proof b.proof cut.1 s.spells_addr t.spells_addr s.ends t.ends in
+    ap (λ (i : Id). report_of i a.contact.addr a.proof) ids ∙ ap (λ (x : Addr). report_of b.contact.id x a.proof) ends.0 ∙ ap (report_of b.contact.id b.contact.addr) ends.1
+
+-- ---- lines
+
+-- a contact line begins with a hex digit
+digit_first : (id rest : List ℕ) → length id ≡ 40 → AllPass is_hex_digit id → IsPassedOver (id ++ rest) → ⊥
+digit_first [] rest len d p = absurd (omega arith)
+digit_first (c ∷ id) rest len d p =
+    let one = All-head (λ (x : ℕ). is_hex_digit x ≡ true) c id d in
+    let test : is_hex_digit 35 ≡ true = ap is_hex_digit (sym p) ∙ one in
+    cc test
+
+not_passed_over : (line : List ℕ) (report : Report) → IsContactLine line report → IsPassedOver line → ⊥
+not_passed_over line report s p =
+    let d = spells_digits 20 s.id report.contact.id.0 s.spells_id in
+    digit_first s.id (32 ∷ (s.address ++ s.rest)) d.0 d.1 (subst IsPassedOver (whole line s.id s.address s.rest s.spelled) p)
+
+told_once : (line : List ℕ) (a b : Option Report) → Tells line a → Tells line b → a ≡ b
+told_once line None None s t = refl
+told_once line None (Some b) s t = absurd (not_passed_over _ b t s)
+told_once line (Some a) None s t = absurd (not_passed_over _ a s t)
+told_once line (Some a) (Some b) s t = ap (λ (x : Report). Some x) (contact_once _ a b s t)
+
+all_told_once : (input : List (List ℕ)) (a b : List (Option Report)) → AllZip Tells input a → AllZip Tells input b → a ≡ b
+all_told_once [] [] [] s t = refl
+all_told_once [] [] (y ∷ b) s t = absurd t
+all_told_once [] (x ∷ a) b s t = absurd s
+all_told_once (line ∷ input) [] b s t = absurd s
+all_told_once (line ∷ input) (x ∷ a) [] s t = absurd t
+all_told_once (line ∷ input) (x ∷ a) (y ∷ b) s t =
+    ap (λ (z : Option Report). z ∷ a) (told_once line x y s.0 t.0) ∙ ap (λ (l : List (Option Report)). y ∷ l) (all_told_once input a b s.1 t.1)
+
+pub reading_once : (input : List (List ℕ)) (a b : List Report) → Reporting input a → Reporting input b → a ≡ b
+reading_once input a b s t = s.kept ∙ ap (flat_map option_to_list) (all_told_once input s.told t.told s.each t.each) ∙ sym t.kept
+
+-- a bad line stands in no input that is read
+bad_inside : (before after : List (List ℕ)) (line : List ℕ) (told : List (Option Report)) → AllZip Tells (before ++ line ∷ after) told → IsBad line → ⊥
+bad_inside [] after line [] s b = s
+bad_inside [] after line (x ∷ told) s b = b x s.0
+bad_inside (l ∷ before) after line [] s b = s
+bad_inside (l ∷ before) after line (x ∷ told) s b = bad_inside before after line told s.1 b
+
+pub read_or_bad : (input : List (List ℕ)) (reports : List Report) (number : ℕ) → Reporting input reports → IsFirstBad input number → ⊥
+read_or_bad input reports number r f = bad_inside f.before f.after f.line r.told (subst (λ (l : List (List ℕ)). AllZip Tells l r.told) f.split r.each) f.bad
+
+first_once : (a b c d : List (List ℕ)) (x y : List ℕ) (s t : List (Option Report)) → a ++ x ∷ c ≡ b ++ y ∷ d → AllZip Tells a s → AllZip Tells b t → IsBad x → IsBad y → length a ≡ length b
+first_once [] [] c d x y s t e ha hb bx by = refl
+first_once [] (l ∷ b) c d x y s [] e ha hb bx by = absurd hb
+first_once [] (l ∷ b) c d x y s (z ∷ t) e ha hb bx by = absurd (bx z (let same : l ≡ x = cc in subst (λ (q : List ℕ). Tells q z) same hb.0))
+first_once (l ∷ a) [] c d x y [] t e ha hb bx by = absurd ha
+first_once (l ∷ a) [] c d x y (z ∷ s) t e ha hb bx by = absurd (by z (let same : l ≡ y = cc in subst (λ (q : List ℕ). Tells q z) same ha.0))
+first_once (l ∷ a) (m ∷ b) c d x y [] t e ha hb bx by = absurd ha
+first_once (l ∷ a) (m ∷ b) c d x y (z ∷ s) [] e ha hb bx by = absurd hb
+first_once (l ∷ a) (m ∷ b) c d x y (z ∷ s) (w ∷ t) e ha hb bx by =
+    let rest : a ++ x ∷ c ≡ b ++ y ∷ d = cc in
+    ap suc (first_once a b c d x y s t rest ha.1 hb.1 bx by)
+
+pub bad_once : (input : List (List ℕ)) (m n : ℕ) → IsFirstBad input m → IsFirstBad input n → m ≡ n
+bad_once input m n f g =
+    let same = first_once f.before g.before f.after g.after f.line g.line f.good.1.told g.good.1.told (sym f.split ∙ g.split) f.good.1.each g.good.1.each f.bad g.bad in
+    f.place ∙ ap (λ (k : ℕ). k + 1) same ∙ sym g.place
+
+-- ---- what is printed reads back
+
+lower_stays : (v : ℕ) → v < 16 → to_ascii_lowercase (slice_index lower_digits v) ≡ slice_index lower_digits v
+lower_stays v lt = sym (lower_digit (slice_index lower_digits v) v (IsDigits-lower_digits v lt))
+
+lower_hex : (bytes : List ℕ) → IsBytes bytes → str_to_ascii_lowercase (encode_lower bytes) ≡ encode_lower bytes
+unfolding encode_with
+lower_hex [] h = refl
+lower_hex (b ∷ bytes) h =
+    let fits : b < 256 = h 0 in
+    let high = lower_stays (b / 16) (omega arith) in
+    let low = lower_stays (b % 16) (omega arith) in
+    let rest = lower_hex bytes (λ k. h (suc k)) in
+    rw (high, low, rest) refl
+
+pub reads_back : (contact : Contact) → length contact.id.0 ≡ 20 → IsBytes contact.id.0 → IsV4 contact.addr.ip → contact.addr.port < 2 ^ 16
+    → IsContactLine (contact_text contact) (record { contact = contact; proof = None })
+reads_back contact len fit v4 port =
+    plain_line (contact_text contact) (encode_lower contact.id.0) (addr_text contact.addr) contact.id contact.addr
+    (append_assoc (encode_lower contact.id.0) (codes " ") (addr_text contact.addr))
+    (record { long = len; fit = fit; digits = lower_hex contact.id.0 fit })
+    (record { printed = refl; v4 = v4; port = port })

@@ -1,0 +1,6 @@
+use Rattle.std.proofs.Common.{take}
+use Rattle.node_top.specs.Looked.{Admits}
+use Rattle.node_top.proofs.input.admitted.Given as goal
+
+abbrev pub invariant-loop-report : goal.invariant-loop-report
+invariant-loop-report g l = Admits l.own l.policy (take l.report-index l.reports) l.contacts

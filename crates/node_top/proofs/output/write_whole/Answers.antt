@@ -1,0 +1,16 @@
+use Rattle.std.proofs.Common.{◌≡◌, ◌+◌, ◌≤◌, ◌++◌, List, ℕ, [], length, take, drop, arith, refl, sym, ap, ◌∙◌, rules}
+use Rattle.std.proofs.lemmas.Grind.{common_steps}
+use Rattle.std.proofs.Math.Seq.{take-add, take-length}
+use Rattle.kad_base.proofs.Grown.{grows_then, grows_none, grows_weaker}
+use Rattle.node_top.proofs.Parts.{front, rest_whole}
+use Rattle.node_top.proofs.output.write_whole.Goals as goal
+
+pub returns-in-Err-clause-err : goal.returns-in-Err-clause-err
+returns-in-Err-clause-err g c = grows_then _ _ _ _ _ _ c.writing.invariant.written c.in-Err.ensures.err (front c.args.bytes.now c.writing.at)
+
+pub writing-preserved : goal.writing-preserved
+writing-preserved g c = record {
+  within = grind (arith, common_steps, c.in-Ok.ensures.bound);
+  written = grows_then _ _ _ _ _ _ c.writing.invariant.written c.in-Ok.ensures.ok (λ t u p q. rw (take-add, p, q, rest_whole c.args.bytes.now c.writing.at) refl);
+  faults = omega (arith, c.writing.invariant.faults, c.give.ensures.faults);
+}

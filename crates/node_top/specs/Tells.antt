@@ -1,0 +1,265 @@
+-- What the transcript of a link tells of the journal of a lookup: which entries its events give, and when. Queries are
+-- matched by transaction id and source address (BEP 5); who may be asked, and when a path waits, is Kademlia's (2002,
+-- section 2.3) on each of S/Kademlia's disjoint paths (2007, section 4.4).
+use Rattle.std.specs.Prelude.{◌≡◌, ◌≢◌, ◌⊎◌, ℕ, zero, suc, ◌+◌, ◌-◌, ◌%◌, ◌^◌, ◌<◌, ◌≤◌, min, List, [], ◌∷◌, ◌++◌, length, take, map, filter, Option, Some, None, Bool, true, false, not, nat_lt, Contains, if◌then◌else◌}
+use Rattle.std.specs.List.{AllByRecursion}
+use Rattle.kad_base.specs.declared.plain.Addr.{Addr}
+use Rattle.kad_base.specs.declared.plain.Contact.{Contact}
+use Rattle.kad_base.specs.declared.plain.Report.{Report}
+use Rattle.kad_base.specs.declared.plain.Policy.{Policy}
+use Rattle.kad_base.specs.declared.plain.Policy.TheVariants.{Plain, Puzzled}
+use Rattle.kad_base.specs.declared.plain.Event.{Event}
+use Rattle.kad_base.specs.declared.plain.Event.TheVariants.{Now, Sent, Unsent, Got, Quiet}
+use Rattle.kad_base.specs.Words.{word, word_bytes}
+use Rattle.kad_krpc.specs.declared.message.Answer.{Answer}
+use Rattle.kad_krpc.specs.declared.message.Message.TheVariants.{Answer as Answer_message}
+use Rattle.kad_krpc.specs.Form.{find_node_form, Says}
+use Rattle.claim_book.specs.declared.plain.Setting.{Setting}
+use Rattle.claim_book.specs.declared.plain.Cause.TheVariants.{SendFault, Timeout, WrongId}
+use Rattle.claim_book.specs.declared.plain.Entry.{Entry}
+use Rattle.claim_book.specs.declared.plain.Entry.TheVariants.{Ask, Heard, Lost}
+use Rattle.claim_book.specs.Journal.{may_ask}
+use Rattle.claim_book.specs.Legal.{is_of}
+
+-- what a lookup is given: its setting, the time to wait in milliseconds, and the generator's seed and next place
+pub record Given : Type 0 where
+  pub setting : Setting
+  pub timeout : ℕ
+  pub seed : List ℕ
+  pub place : ℕ
+
+-- an open query: the path and the contact of its Ask, its transaction id and its deadline
+pub record OpenQuery : Type 0 where
+  pub path : ℕ
+  pub contact : Contact
+  pub tx : ℕ
+  pub deadline : ℕ
+
+-- what the events so far show
+pub record Seen : Type 0 where
+  -- the last told moment
+  pub moment : ℕ
+  -- the open queries, oldest first
+  pub queries : List OpenQuery
+  -- how many queries were sent, or failed to be
+  pub sends : ℕ
+  -- how many datagrams were strays
+  pub strays : ℕ
+  -- how many receives the round has so far; 0 where the next one begins a round
+  pub receives : ℕ
+  -- the entries that the events gave, and of these the ones since the last receive
+  pub given : List Entry
+  pub since : List Entry
+
+-- the driver's entries of a journal: what was asked, heard and lost
+abbrev pub is_driven : Entry → Bool
+is_driven (Ask p c) = true
+is_driven (Heard p c reports) = true
+is_driven (Lost p c cause) = true
+is_driven other = false
+
+unfoldable pub driven : List Entry → List Entry
+driven J = filter is_driven J
+
+-- A moment that a sum would put past the last one is the last one.
+abbrev pub deadline_of : ℕ → ℕ → ℕ
+deadline_of moment timeout = min (moment + timeout) (2 ^ 64 - 1)
+
+-- the first of w, w + 1, .. that is not used, where 0 follows 2^32 - 1
+pub record IsFirstFree (w : ℕ) (used : List ℕ) (tx : ℕ) : Type 0 where
+  pub steps : ℕ
+  pub is : tx ≡ (w + steps) % 2 ^ 32
+  pub free : ¬ Contains used tx
+  pub before : (i : ℕ) → i < steps → Contains used ((w + i) % 2 ^ 32)
+
+-- the datagram is the query of a lookup to the contact, under the next drawn transaction id that is free
+pub record IsQuery (g : Given) (s : Seen) (to : Addr) (bytes : List ℕ) (c : Contact) (tx : ℕ) : Type 0 where
+  pub address : to ≡ c.addr
+  pub id : IsFirstFree (word g.seed (g.place + s.sends)) (map (λ q. q.tx) s.queries) tx
+  pub form : bytes ≡ find_node_form g.setting.own.0 g.setting.target.0 (word_bytes tx)
+
+-- events that give these entries, at no receive
+abbrev pub gives : Seen → List Entry → Seen
+gives s entries = record s { given = s.given ++ entries; since = s.since ++ entries }
+
+-- a query that was sent is open, and gives its Ask
+pub record SentGives (g : Given) (s : Seen) (to : Addr) (bytes : List ℕ) (t : Seen) : Type 0 where
+  pub path : ℕ
+  pub contact : Contact
+  pub tx : ℕ
+  pub is_query : IsQuery g s to bytes contact tx
+  pub after : t ≡ record (gives s (Ask path contact ∷ [])) { queries = s.queries ++ record { path = path; contact = contact; tx = tx; deadline = deadline_of s.moment g.timeout } ∷ []; sends = s.sends + 1 }
+
+-- one that could not be sent gives its Ask and is lost
+pub record UnsentGives (g : Given) (s : Seen) (to : Addr) (bytes : List ℕ) (t : Seen) : Type 0 where
+  pub path : ℕ
+  pub contact : Contact
+  pub tx : ℕ
+  pub is_query : IsQuery g s to bytes contact tx
+  pub after : t ≡ record (gives s (Ask path contact ∷ Lost path contact SendFault ∷ [])) { sends = s.sends + 1 }
+
+-- the earliest deadline of the open queries
+pub record IsEarliest (queries : List OpenQuery) (moment : ℕ) : Type 0 where
+  pub one : Contains (map (λ q. q.deadline) queries) moment
+  pub least : AllByRecursion (λ (q : OpenQuery). moment ≤ q.deadline) queries
+
+-- how long a receive waits: to the earliest deadline where it begins a round, and else not at all
+abbrev pub WaitsUntil : ℕ → Seen → ℕ → Type 0
+WaitsUntil zero s until = IsEarliest s.queries until
+WaitsUntil (suc n) s until = until ≡ s.moment
+
+-- Before a receive that begins a round the path may ask nothing: so it was at some point of the journal that has all
+-- that earlier receives gave and all that was asked and lost on the path, and nothing that comes later.
+pub record HasAsked (g : Given) (J : List Entry) (s : Seen) (p : ℕ) : Type 0 where
+  pub before : List Entry
+  pub behind : List Entry
+  pub later : List Entry
+  pub earlier : List Entry
+  pub splits : J ≡ before ++ behind
+  pub none : may_ask g.setting p before ≡ None
+  pub covers : s.given ≡ driven before ++ later
+  pub since_receive : s.since ≡ earlier ++ later
+  pub of_others : AllByRecursion (λ (e : Entry). is_of p e ≡ false) later
+
+abbrev pub HaveAsked : ℕ → Given → List Entry → Seen → Type 0
+HaveAsked zero g J s = (p : ℕ) → p < g.setting.paths → HasAsked g J s p
+HaveAsked (suc n) g J s = Unit {0}
+
+-- a receive may be made, and waits as long as it has to
+pub record Receives (g : Given) (J : List Entry) (s : Seen) (until : ℕ) : Type 0 where
+  pub some_open : s.queries ≢ []
+  pub waits : WaitsUntil s.receives s until
+  pub asked : HaveAsked s.receives g J s
+
+-- the reports that an answer gives: the first 16 contacts of `nodes`, without proofs; a lookup that wants proofs
+-- takes nothing from `nodes`
+abbrev pub bare : Contact → Report
+bare c = record { contact = c; proof = None }
+
+abbrev pub nodes_of : Option (List Contact) → List Contact
+nodes_of None = []
+nodes_of (Some nodes) = nodes
+
+abbrev pub reports_of : Policy → Answer → List Report
+reports_of Plain answer = map bare (take 16 (nodes_of answer.nodes))
+reports_of (Puzzled c1 c2) answer = []
+
+-- the datagram answers the open query: it is an answer with the query's transaction id, from its address
+pub record Answers (bytes : List ℕ) (from : Addr) (q : OpenQuery) (answer : Answer) : Type 0 where
+  pub says : Says bytes (Answer_message (word_bytes q.tx) answer)
+  pub source : from ≡ q.contact.addr
+
+-- an answer in the contact's own name is heard, and one in another name loses the contact
+abbrev pub AnswerGives : Policy → OpenQuery → Answer → Entry → Type 0
+AnswerGives policy q answer e =
+    ((answer.id ≡ q.contact.id) × (e ≡ Heard q.path q.contact (reports_of policy answer)))
+    ⊎ ((answer.id ≢ q.contact.id) × (e ≡ Lost q.path q.contact WrongId))
+
+-- the datagram is matched: it answers one of the open queries, which it closes
+pub record Matched (g : Given) (s : Seen) (from : Addr) (bytes : List ℕ) (e : Entry) (left : List OpenQuery) : Type 0 where
+  pub before : List OpenQuery
+  pub query : OpenQuery
+  pub behind : List OpenQuery
+  pub answer : Answer
+  pub queries : s.queries ≡ before ++ query ∷ behind
+  pub answers : Answers bytes from query answer
+  pub entry : AnswerGives g.setting.policy query answer e
+  pub closes : left ≡ before ++ behind
+
+-- the datagram is a stray: it answers no open query
+abbrev pub IsStray : Seen → Addr → List ℕ → Type 0
+IsStray s from bytes = (q : OpenQuery) → Contains s.queries q → (answer : Answer) → ¬ Answers bytes from q answer
+
+-- the moment has passed the deadline
+abbrev pub is_overdue : ℕ → OpenQuery → Bool
+is_overdue at q = not (nat_lt at q.deadline)
+
+abbrev pub timed_out : OpenQuery → Entry
+timed_out q = Lost q.path q.contact Timeout
+
+-- The receive told a moment: the queries that are overdue then are lost, oldest first.
+abbrev pub closed_at : ℕ → List OpenQuery → List Entry
+closed_at at queries = map timed_out (filter (is_overdue at) queries)
+
+abbrev pub open_at : ℕ → List OpenQuery → List OpenQuery
+open_at at queries = filter (λ q. not (is_overdue at q)) queries
+
+-- the state after a receive that first gave these entries and left these queries
+abbrev pub received : Seen → ℕ → List Entry → List OpenQuery → ℕ → ℕ → Seen
+received s at entries left strays receives = record {
+  moment = at;
+  queries = open_at at left;
+  sends = s.sends;
+  strays = strays;
+  receives = receives;
+  given = s.given ++ (entries ++ closed_at at left);
+  since = [];
+}
+
+-- the round goes on after a datagram while a query is open and it has had fewer than 32 receives
+abbrev pub goes_on : ℕ → List OpenQuery → ℕ
+goes_on n [] = 0
+goes_on n (q ∷ queries) = if nat_lt (n + 1) 32 then n + 1 else 0
+
+abbrev pub after_match : Seen → ℕ → Entry → List OpenQuery → Seen
+after_match s at e left = received s at (e ∷ []) left s.strays (goes_on s.receives (open_at at left))
+
+abbrev pub after_stray : Seen → ℕ → Seen
+after_stray s at = received s at [] s.queries (s.strays + 1) (goes_on s.receives (open_at at s.queries))
+
+abbrev pub after_quiet : Seen → ℕ → Seen
+after_quiet s at = received s at [] s.queries s.strays 0
+
+pub record MatchGives (g : Given) (s : Seen) (from : Addr) (bytes : List ℕ) (at : ℕ) (t : Seen) : Type 0 where
+  pub entry : Entry
+  pub left : List OpenQuery
+  pub matched : Matched g s from bytes entry left
+  pub after : t ≡ after_match s at entry left
+
+abbrev pub GotGives : Given → Seen → Addr → List ℕ → ℕ → Seen → Type 0
+GotGives g s from bytes at t = MatchGives g s from bytes at t ⊎ (IsStray s from bytes × (t ≡ after_stray s at))
+
+-- what one event gives; a lookup asks for the moment before anything else, and never again
+abbrev pub Gives : Given → List Entry → Seen → Event → Seen → Type 0
+Gives g J s (Now at) t = ⊥
+Gives g J s (Sent to bytes) t = SentGives g s to bytes t
+Gives g J s (Unsent to bytes) t = UnsentGives g s to bytes t
+Gives g J s (Got from bytes until at) t = Receives g J s until × GotGives g s from bytes at t
+Gives g J s (Quiet until at) t = Receives g J s until × (t ≡ after_quiet s at)
+
+-- what events give, one after another, up to what they show then
+abbrev pub TellsFrom : Given → List Entry → Seen → List Event → Seen → Type 0
+TellsFrom g J s [] t = t ≡ s
+TellsFrom g J s (e ∷ es) t = (mid : Seen) × Gives g J s e mid × TellsFrom g J mid es t
+
+-- after the first event, which tells the moment
+abbrev pub begun : ℕ → Seen
+begun at = record { moment = at; queries = []; sends = 0; strays = 0; receives = 0; given = []; since = [] }
+
+-- the events tell the journal so far: they give exactly its driver's entries, in order
+pub record TellsSoFar (g : Given) (J : List Entry) (events : List Event) (end : Seen) : Type 0 where
+  pub at : ℕ
+  pub rest : List Event
+  pub first : events ≡ Now at ∷ rest
+  pub gives : TellsFrom g J (begun at) rest end
+  pub all : end.given ≡ driven J
+
+-- the events tell the journal: so far, and no query is open at the end
+pub record Tells (g : Given) (J : List Entry) (events : List Event) : Type 0 where
+  pub end : Seen
+  pub so_far : TellsSoFar g J events end
+  pub none_open : end.queries ≡ []
+
+-- the events end with the stray of this number
+pub record EndsAtStray (g : Given) (events : List Event) (number : ℕ) : Type 0 where
+  pub journal : List Entry
+  pub before : List Event
+  pub end : Seen
+  pub from : Addr
+  pub bytes : List ℕ
+  pub until : ℕ
+  pub at : ℕ
+  pub so_far : TellsSoFar g journal before end
+  pub last : events ≡ before ++ Got from bytes until at ∷ []
+  pub stray : IsStray end from bytes
+  pub count : end.strays + 1 ≡ number

@@ -1,0 +1,83 @@
+//! The input of a command: its bytes, and the contacts that its lines give.
+ghost use Rattle.std.specs.Prelude.{◌≡◌, ◌≤◌, OnOk, IfOk, IsErrOf, IsTrue, ◌↔◌};
+ghost use Rattle.kad_base.specs.Outside.{Rose};
+ghost use Rattle.node_top.specs.Looked.{ReadsAll, ReadsTooMuch, IsAdmitted, Admits, AdmitsOne};
+
+use kad_base::limits::MAX_INPUT;
+use kad_base::{Bytes, Check, Contacts, Id, List, NoMemory, Policy, Report, Source, is_usable};
+use std::alloc::Global;
+
+/// Why an input was not read.
+#[derive(Clone, Copy, Debug, PartialEq, Eq)]
+pub(crate) enum ReadFault {
+    Source,
+    TooLong,
+    NoMemory,
+}
+
+/// Reads a source to its end, or to one byte more than an input may have.
+pub(crate) fn read_whole<S: Source>(alloc: Global, source: &mut S) -> Result<Bytes, ReadFault>
+    ensures ok { IfOk result (ReadsAll (S.left source.old) (S.left source.new)) }
+    ensures too_long { IsErrOf result ReadFault.TooLong → ReadsTooMuch (S.left source.old) (S.left source.new) }
+    ensures source { IsErrOf result ReadFault.Source → Rose (S.faults source.old) (S.faults source.new) }
+    ensures faults { S.faults source.old ≤ S.faults source.new }
+{
+    let mut bytes = List::new(alloc);
+    let mut buf = [0u8; 4096];
+    'reading: loop {
+        let missing = MAX_INPUT + 1 - bytes.len();
+        if missing == 0 {
+            return Err(ReadFault::TooLong);
+        }
+        let room = missing.min(4096);
+        match source.take(&mut buf[..room]) {
+            Ok(0) => return Ok(bytes),
+            Ok(n) => {
+                if bytes.extend(&buf[..n]).is_err() {
+                    return Err(ReadFault::NoMemory);
+                }
+            }
+            Err(_) => return Err(ReadFault::Source),
+        }
+    }
+}
+
+/// Whether the report's contact may be a seed.
+fn is_admitted<C: Check>(own: &Id, policy: Policy, check: &C, report: &Report) -> bool
+    ensures { IsTrue result ↔ IsAdmitted own.now policy report.now }
+{
+    is_usable(own, &report.contact) && check.check(policy, report)
+}
+
+/// Takes the report's contact, if it may be a seed.
+fn admit<C: Check>(
+    contacts: &mut Contacts,
+    own: &Id,
+    policy: Policy,
+    check: &C,
+    report: &Report,
+) -> Result<(), NoMemory>
+    ensures { OnOk result (AdmitsOne own.now policy report.now contacts.old contacts.new) }
+{
+    if is_admitted(own, policy, check, report) {
+        return contacts.push(report.contact);
+    }
+    Ok(())
+}
+
+/// The contacts of the reports that are usable and pass, in order.
+pub(crate) fn admitted<C: Check>(
+    alloc: Global,
+    own: &Id,
+    policy: Policy,
+    check: &C,
+    reports: &[Report],
+) -> Result<Contacts, NoMemory>
+    ensures { IfOk result (Admits own.now policy reports.now) }
+{
+    let mut contacts = List::new(alloc);
+    for report in reports {
+        admit(&mut contacts, own, policy, check, report)?;
+    }
+    Ok(contacts)
+}

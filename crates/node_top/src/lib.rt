@@ -1,0 +1,16 @@
+//! The top call of the node: the words of a command and its input in, its text and its status out. It opens no file
+//! and no socket: the source, the sink and the link are handed in.
+#![tactic(auto)]
+
+mod driver;
+mod input;
+mod lines;
+mod lookup;
+mod output;
+mod printed;
+mod status;
+mod text;
+mod top;
+mod words;
+
+pub use top::run;

@@ -1,0 +1,109 @@
+//! What is printed.
+ghost use Rattle.std.specs.Prelude.{◌≡◌, ◌++◌, ◌^◌, ◌<◌, IfOk, OnOk, length, string_bytes};
+ghost use Rattle.hex.specs.Hex.{IsBytes};
+ghost use Rattle.kad_base.specs.declared.plain.Contact.{Contact};
+ghost use Rattle.kad_base.specs.declared.plain.Ip.TheVariants.{V6};
+ghost use Rattle.node_top.specs.Text.{IsV4, ip_text};
+ghost use Rattle.node_top.specs.Lines.{IsContactLine};
+ghost use Rattle.node_top.specs.Printed.{printed, contact_text, counts_text, line_of};
+
+use kad_base::{Bytes, Contact, Ip, List, NoMemory};
+use std::alloc::{AllocError, Global};
+use std::net::Ipv4Addr;
+
+/// The output of a lookup: each contact found, on a line of its own and in order, and a last line with the counts: the
+/// queries made, refused sends included, the contacts that failed and the reports that were turned away.
+pub(crate) fn print(
+    alloc: Global,
+    found: &[Contact],
+    asked: u32,
+    failed: u32,
+    turned: u32,
+) -> Result<Bytes, NoMemory>
+    ensures { IfOk result (λ text. text ≡ printed found.now asked failed turned) }
+{
+    let mut output = List::new(alloc);
+    for contact in found {
+        let Ok(line) = print_contact(alloc, contact) else {
+            return Err(NoMemory);
+        };
+        add_line(&mut output, line.as_str())?;
+    }
+    let Ok(counts) = print_counts(alloc, found.len(), asked, failed, turned) else {
+        return Err(NoMemory);
+    };
+    add_line(&mut output, counts.as_str())?;
+    Ok(output)
+}
+
+/// The last line of a lookup.
+fn print_counts(
+    alloc: Global,
+    found: usize,
+    asked: u32,
+    failed: u32,
+    turned: u32,
+) -> Result<String, AllocError>
+    ensures { IfOk result (λ text. string_bytes text ≡ counts_text found asked failed turned) }
+{
+    format!(in alloc; "found {found} asked {asked} failed {failed} turned {turned}")
+}
+
+/// A text as a line.
+pub(crate) fn print_line(alloc: Global, text: &str) -> Result<Bytes, NoMemory>
+    ensures { IfOk result (λ line. line ≡ line_of text.now) }
+{
+    let mut line = List::new(alloc);
+    add_line(&mut line, text)?;
+    Ok(line)
+}
+
+/// Adds a text to an output, as a line.
+fn add_line(output: &mut Bytes, text: &str) -> Result<(), NoMemory>
+    ensures { OnOk result (output.new ≡ output.old ++ line_of text.now) }
+{
+    output.extend(text.as_bytes())?;
+    output.push(b'\n')
+}
+
+/// A contact as it is printed.
+fn print_contact(alloc: Global, contact: &Contact) -> Result<String, AllocError>
+    ensures { IfOk result (λ text. string_bytes text ≡ contact_text contact.now) }
+{
+    let id = hex::encode(alloc, contact.id.0)?;
+    let ip = print_ip(alloc, &contact.addr.ip)?;
+    let port = contact.addr.port;
+    format!(in alloc; "{id} {ip}:{port}")
+}
+
+/// An IP address as it is printed.
+fn print_ip(alloc: Global, ip: &Ip) -> Result<String, AllocError>
+    ensures { IfOk result (λ text. string_bytes text ≡ ip_text ip.now) }
+{
+    match *ip {
+        Ip::V4(bytes) => Ipv4Addr::from(bytes).to_string(alloc),
+        Ip::V6(bytes) => print_groups(alloc, bytes),
+    }
+}
+
+/// An IPv6 address as eight groups of four hex digits, in brackets.
+fn print_groups(alloc: Global, bytes: [u8; 16]) -> Result<String, AllocError>
+    ensures { IfOk result (λ text. string_bytes text ≡ ip_text (V6 bytes)) }
+{
+    let mut text = String::new(alloc);
+    let mut lead = '[';
+    for i in 0..8 {
+        let group = hex::encode(alloc, [bytes[2 * i], bytes[2 * i + 1]])?;
+        text.push(lead)?;
+        text.push_str(group.as_str())?;
+        lead = ':';
+    }
+    text.push(']')?;
+    Ok(text)
+}
+
+/// A contact of IPv4 as it is printed is a contact line that names it.
+pub(crate) fn reads_back()
+    ensures { (contact : Contact) → length contact.id.0 ≡ 20 → IsBytes contact.id.0 → IsV4 contact.addr.ip → contact.addr.port < 2 ^ 16
+        → IsContactLine (contact_text contact) (record { contact = contact; proof = None }) }
+{}
