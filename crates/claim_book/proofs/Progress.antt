@@ -1,10 +1,6 @@
 -- Each reply leaves a legal journal.
-<<<<<<< HEAD
-use Rattle.std.proofs.Common.{◌≡◌, ℕ, ◌≤◌, List, length, Option, Some, None, true, refl, subst}
-=======
 use Rattle.std.proofs.Common.{◌≡◌, ℕ, ◌+◌, ◌≤◌, List, [], ◌∷◌, ◌++◌, length, Option, Some, None, true, refl, subst}
 use Rattle.std.proofs.lemmas.Bool.{eq-eqb}
->>>>>>> dd72402837fa65ba81cb7824d00048f2c1cf6e10
 use Rattle.kad_base.specs.declared.plain.Contact.{Contact}
 use Rattle.kad_base.specs.declared.plain.Report.{Report}
 use Rattle.kad_base.specs.Contacts.{among}
@@ -16,20 +12,6 @@ use Rattle.claim_book.specs.declared.calls.BookCall.TheVariants.{Next, Heard, Lo
 use Rattle.claim_book.specs.declared.calls.BookReply.{BookReply}
 use Rattle.claim_book.specs.declared.calls.BookReply.TheVariants.{Ask, Kept, Taken, Held, Turned, Rejected, Skipped}
 use Rattle.claim_book.specs.Judged.{Judged}
-<<<<<<< HEAD
-use Rattle.claim_book.specs.Journal.{open_any}
-use Rattle.claim_book.specs.Legal.{Believed, Fits, Legal}
-use Rattle.claim_book.specs.State.{BookState, added}
-use Rattle.claim_book.specs.Calls.{BookMay, BookStep, IsSound, SettleStep, settle_entry, with_entry, book_after, asker, path_of_role}
-use Rattle.claim_book.proofs.More.{legal_more}
-use Rattle.claim_book.proofs.Deciding.{open_on_asker}
-use Rattle.claim_book.proofs.Kept.{IsOwed}
-
--- an entry that fits and for which there is room
-pub record Settling (s : Setting) (J : List Entry) (e : Entry) : Type 0 where
-  pub fits : Fits s J e
-  pub owed : IsOwed e
-=======
 use Rattle.claim_book.specs.Journal.{settles_on, open_any, unsettled}
 use Rattle.claim_book.specs.Legal.{Believed, Fits, Legal}
 use Rattle.claim_book.specs.State.{BookState, added}
@@ -44,21 +26,10 @@ pub record Settling (s : Setting) (J : List Entry) (p : ℕ) (e : Entry) : Type 
   pub fits : Fits s J e
   pub owed : IsOwed e
   pub settles : settles_on p e ≡ true
->>>>>>> dd72402837fa65ba81cb7824d00048f2c1cf6e10
 
 believed : (s : Setting) (J : List Entry) (p : ℕ) (checked : Judged) → IsSound s J p checked → Believed s J p checked.report.contact
 believed s J p checked h = record { report = checked.report; contact = refl; first = h.front.first; usable = h.usable; passes = h.passes }
 
-<<<<<<< HEAD
-pub settling : (s : Setting) (J : List Entry) (p : ℕ) (checked : Judged) (reply : BookReply) (e : Entry) → SettleStep s J p checked reply → settle_entry p checked.report reply ≡ Some e → Settling s J e
-settling s J p checked Skipped e h is = subst (Settling s J) (let q : Skipped_entry p checked.report ≡ e = cc in q) (record { fits = (h.0.first, h.1); owed = tt })
-settling s J p checked Rejected e h is = subst (Settling s J) (let q : Rejected_entry p checked.report ≡ e = cc in q) (record { fits = (h.0.first, h.1, h.2); owed = tt })
-settling s J p checked (Held n) e h is = subst (Settling s J) (let q : Held_entry p checked.report.contact n ≡ e = cc in q) (record { fits = (believed s J p checked h.0, h.1); owed = tt })
-settling s J p checked Turned e h is = subst (Settling s J) (let q : Turned_entry p checked.report.contact ≡ e = cc in q) (record { fits = (believed s J p checked h.0, h.1, h.2); owed = tt })
-settling s J p checked Taken e h is = subst (Settling s J) (let q : Taken_entry p checked.report.contact ≡ e = cc in q) (record { fits = (believed s J p checked h.0, h.1, h.2); owed = tt })
-settling s J p checked other e h is = absurd cc
-
-=======
 pub settling : (s : Setting) (J : List Entry) (p : ℕ) (checked : Judged) (reply : BookReply) (e : Entry) → SettleStep s J p checked reply → settle_entry p checked.report reply ≡ Some e → Settling s J p e
 settling s J p checked Skipped e h is = subst (Settling s J p) (let q : Skipped_entry p checked.report ≡ e = cc in q) (record { fits = (h.0.first, h.1); owed = tt; settles = eq-eqb p p refl })
 settling s J p checked Rejected e h is = subst (Settling s J p) (let q : Rejected_entry p checked.report ≡ e = cc in q) (record { fits = (h.0.first, h.1, h.2); owed = tt; settles = eq-eqb p p refl })
@@ -75,7 +46,6 @@ settled_less s J p checked reply e h is = (let w = settling s J p checked reply 
 pub noted_less : (s : Setting) (J : List Entry) (p : ℕ) (c : Contact) → NoteStep J p c Kept → length (unsettled p (J ++ Note_entry p c ∷ [])) + 1 ≡ length (unsettled p J)
 noted_less s J p c h = unsettled_less s J (Note_entry p c) p h (eq-eqb p p refl)
 
->>>>>>> dd72402837fa65ba81cb7824d00048f2c1cf6e10
 abbrev LegalBook : BookState → Type 0
 LegalBook b = Legal b.setting b.journal
 

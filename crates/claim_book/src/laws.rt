@@ -1,9 +1,5 @@
 // Laws of legal journals.
-<<<<<<< HEAD
-ghost use Rattle.std.specs.Prelude.{◌≡◌, ◌≢◌, ◌<◌, ◌≤◌, ◌⊎◌, ◌++◌, ◌∷◌, [], List, ℕ, true, IsSome};
-=======
 ghost use Rattle.std.specs.Prelude.{◌≡◌, ◌<◌, ◌≤◌, ◌⊎◌, ◌++◌, ◌∷◌, [], List, ℕ, true, IsSome};
->>>>>>> dd72402837fa65ba81cb7824d00048f2c1cf6e10
 ghost use Rattle.std.specs.List.{IsDistinct};
 ghost use Rattle.kad_base.specs.declared.plain.Contact.{Contact};
 ghost use Rattle.kad_base.specs.Contacts.{same, among};

@@ -1,19 +1,11 @@
 //! The book of claims of a lookup: which path has which contact (a path is one of S/Kademlia's disjoint lookups), who
 //! was asked, and what came of it, as a journal that grows by one entry a call and stays legal whoever makes the calls.
-<<<<<<< HEAD
-//! It has no clock, no socket and no thread; it takes memory where it is made and where an answer is heard alone.
-=======
 //! It has no clock, no socket and no thread. It takes memory where it is made, where an answer is heard, and for the list
 //! of what was found; no other call does.
->>>>>>> dd72402837fa65ba81cb7824d00048f2c1cf6e10
 #![tactic(auto)]
 
 mod calls;
 mod laws;
-<<<<<<< HEAD
-mod listed;
-=======
->>>>>>> dd72402837fa65ba81cb7824d00048f2c1cf6e10
 mod nearest;
 mod plain;
 mod rules;
@@ -27,11 +19,6 @@ mod verdict;
 
 pub use calls::{BookCall, BookReply};
 pub use laws::{answered, disjoint, lively, stable};
-<<<<<<< HEAD
-pub use listed::Journal;
-pub use plain::{Cause, Counts, Entry, Setting, Thing};
-=======
 pub use plain::{Cause, Counts, Entry, Journal, Setting, Thing};
->>>>>>> dd72402837fa65ba81cb7824d00048f2c1cf6e10
 pub use state::Book;
 pub use verdict::Checked;

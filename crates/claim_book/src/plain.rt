@@ -1,9 +1,5 @@
 //! What a lookup is set to, and what its journal is made of.
-<<<<<<< HEAD
-use kad_base::{Contact, Id, Policy, Report, Reports};
-=======
 use kad_base::{Contact, Id, List, Policy, Report, Reports};
->>>>>>> dd72402837fa65ba81cb7824d00048f2c1cf6e10
 
 /// What a lookup is set to. `own` is the node that asks; each of `paths` disjoint paths (S/Kademlia, section 4.4) has at
 /// most `alpha` queries open and ends when its `k` closest contacts have answered (Kademlia, section 2.3). `policy`
@@ -95,12 +91,9 @@ pub enum Entry {
     },
 }
 
-<<<<<<< HEAD
-=======
 /// What happened in a lookup, in order.
 pub type Journal = List<Entry>;
 
->>>>>>> dd72402837fa65ba81cb7824d00048f2c1cf6e10
 /// What an answer gives to settle: the contact that answered, then each contact that it reported.
 #[derive(Clone, Copy, Debug, PartialEq, Eq)]
 pub enum Thing {

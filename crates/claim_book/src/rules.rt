@@ -1,9 +1,5 @@
 //! What a path may do by its journal: whom it may ask, whether it has run out, who is open.
-<<<<<<< HEAD
-ghost use Rattle.std.specs.Prelude.{◌≡◌, ◌↔◌, ◌<◌, ℕ, IsTrue, IsNone, MatchOption, true, false, vec_capacity, find, not};
-=======
 ghost use Rattle.std.specs.Prelude.{◌≡◌, ◌↔◌, ◌<◌, ℕ, IsTrue, MatchOption, true, false, vec_capacity, find, not};
->>>>>>> dd72402837fa65ba81cb7824d00048f2c1cf6e10
 ghost use Rattle.std.specs.List.{All};
 ghost use Rattle.kad_base.specs.Contacts.{among};
 ghost use Rattle.claim_book.specs.Journal.{asked, answered, open_any, may_ask};

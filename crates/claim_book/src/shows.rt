@@ -1,15 +1,8 @@
 //! What a journal shows, read from its entries.
-<<<<<<< HEAD
-ghost use Rattle.std.specs.Prelude.{◌≡◌, ◌+◌, ◌<◌, ◌++◌, length, slice_get, Some};
-ghost use Rattle.kad_base.specs.Contacts.{same, among, without};
-ghost use Rattle.claim_book.specs.Room.{some};
-ghost use Rattle.claim_book.specs.Journal.{ask_of, answer_of, fail_of, turned_of, path_of, ask_on, asker_of, holder_of, things_of, path, asked, askers, holders, answered, failed, turned, open_on, settles_on, things_in, things, settled, first_unsettled};
-=======
 ghost use Rattle.std.specs.Prelude.{◌≡◌, ◌+◌, ◌++◌, length, slice_get};
 ghost use Rattle.kad_base.specs.Contacts.{same, among, without};
 ghost use Rattle.claim_book.specs.Room.{some};
 ghost use Rattle.claim_book.specs.Journal.{ask_of, answer_of, fail_of, turned_of, path_of, ask_on, asker_of, holder_of, things_of, path, asked, askers, holders, answered, failed, turned, open_on, settles_on, things, settled, first_unsettled};
->>>>>>> dd72402837fa65ba81cb7824d00048f2c1cf6e10
 
 use crate::plain::{Entry, Thing};
 use kad_base::{Contact, Report};

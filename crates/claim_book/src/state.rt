@@ -1,9 +1,5 @@
 //! The book: its journal, and what its calls do.
-<<<<<<< HEAD
-ghost use Rattle.std.specs.Prelude.{◌≡◌, ◌↔◌, ◌≤◌, ◌<◌, ◌+◌, ◌^◌, ◌++◌, ◌∷◌, [], length, IfOk, OnOk, OnErr, IsTrue, Some, vec_len, vec_capacity};
-=======
 ghost use Rattle.std.specs.Prelude.{◌≡◌, ◌≤◌, ◌<◌, ◌+◌, ◌^◌, ◌++◌, ◌∷◌, [], length, IfOk, OnOk, OnErr, vec_len, vec_capacity};
->>>>>>> dd72402837fa65ba81cb7824d00048f2c1cf6e10
 ghost use Rattle.std.specs.List.{All};
 ghost use Rattle.std.specs.List.Sorted.{IsStrictlySortedBy};
 ghost use Rattle.kad_base.specs.Contacts.{IsUsable};
@@ -14,14 +10,8 @@ ghost use Rattle.claim_book.specs.Legal.{seeded};
 ghost use Rattle.claim_book.specs.Calls.{Counted};
 
 use crate::calls::BookReply;
-<<<<<<< HEAD
-use crate::listed::Journal;
-use crate::nearest::sort_result;
-use crate::plain::{Cause, Counts, Entry, Setting, Thing};
-=======
 use crate::nearest::sort_result;
 use crate::plain::{Cause, Counts, Entry, Journal, Setting, Thing};
->>>>>>> dd72402837fa65ba81cb7824d00048f2c1cf6e10
 use crate::rules::{first_running, has_run_out, may_ask, open_path};
 use crate::settling::{is_next, judge, settled};
 use crate::shows::{count_asked, count_failed, count_turned, front};
@@ -88,12 +78,8 @@ impl Book {
         })
     }
 
-<<<<<<< HEAD
-    /// The journal is legal, whoever made the calls.
-=======
     /// The law of the book: its journal is legal, whoever made the calls. It does nothing, and is called where a proof
     /// needs the law.
->>>>>>> dd72402837fa65ba81cb7824d00048f2c1cf6e10
     pub fn legal(&self)
         ensures { Legal self.now.setting self.now.journal }
     {
@@ -105,11 +91,7 @@ impl Book {
         ensures journal { result ≡ self.journal }
         ensures legal { Legal self.setting self.journal }
     {
-<<<<<<< HEAD
-        Journal::from_entries(self.journal)
-=======
         List::from_vec(self.journal)
->>>>>>> dd72402837fa65ba81cb7824d00048f2c1cf6e10
     }
 
     /// What the path can ask. Takes no memory.
