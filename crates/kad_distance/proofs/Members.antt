@@ -50,8 +50,8 @@ same_members o (x ∷ xs) [] p q f g = let (n, lt, e) = f x (first_in x xs) in a
 same_members {K} {R} o (x ∷ xs) (y ∷ ys) p q f g =
     let e : x ≡ y = first_same o x y xs ys p.0 q.0 (in_cases y ys x (f x (first_in x xs))) (in_cases x xs y (g y (first_in y ys))) in
     let rest : xs ≡ ys = same_members o xs ys p.1 q.1
-      (λ z h. rest_in o x y xs ys e p.0 z h (in_cases y ys z (f z (later_in x xs z h))))
-      (λ z h. rest_in o y x ys xs (sym e) q.0 z h (in_cases x xs z (g z (later_in y ys z h)))) in
+    (λ z h. rest_in o x y xs ys e p.0 z h (in_cases y ys z (f z (later_in x xs z h))))
+    (λ z h. rest_in o y x ys xs (sym e) q.0 z h (in_cases x xs z (g z (later_in y ys z h)))) in
     cc
 
 -- `put` keeps the members and adds one

@@ -24,8 +24,8 @@ ends_once (Some m) (Some n) tx ty few all e =
     let less = few_records bytes tail records (answer_end tx) 4096 begins few refl in
     has_nodes bytes tail (Some n) ty (answer_end tx ≡ answer_end ty) begins e all
     (λ contacts each f.
-        let small = few_records bytes tail (records_of contacts) (answer_end ty) 4096 begins few f in
-        end_once tail records (answer_end tx) contacts ty (omega (arith, less)) (omega (arith, small)) refl f)
+    let small = few_records bytes tail (records_of contacts) (answer_end ty) 4096 begins few f in
+    end_once tail records (answer_end tx) contacts ty (omega (arith, less)) (omega (arith, small)) refl f)
 
 txs_once : (tx ty : List ℕ) → answer_end tx ≡ answer_end ty → tx ≡ ty
 txs_once tx ty e = append_cancel_left (codes "e1:t4:") tx ty (append_cancel_right (codes "e1:t4:" ++ tx) (codes "e1:t4:" ++ ty) (codes "1:y1:re") e)

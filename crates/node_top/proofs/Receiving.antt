@@ -79,13 +79,19 @@ pub match_goes : (g : Given) (stand : Stand) (q : Query) (place : ℕ) (J : List
 match_goes g stand q place J from bytes until at answer e w answers gives is = record {
   more = e ∷ [];
   journal = refl;
-  next = λ s st.
-  (after_match s at e [], (receives_of g stand q place J (e ∷ []) s until w st, inl (record {
-    entry = e;
-    left = [];
-    matched = record { before = []; query = as_open q; behind = []; answer = answer; queries = st.queries ∙ ap queries_of w.query; answers = answers; entry = gives; closes = refl };
-    after = refl;
-  })), record { moment = refl; queries = refl; sends = st.sends; strays = st.strays; receives = refl; given = ap (λ l. l ++ e ∷ []) st.given ∙ sym (driven_more J e is) });
+  next = λ s st. (
+    after_match s at e [],
+    (
+      receives_of g stand q place J (e ∷ []) s until w st,
+      inl (record {
+        entry = e;
+        left = [];
+        matched = record { before = []; query = as_open q; behind = []; answer = answer; queries = st.queries ∙ ap queries_of w.query; answers = answers; entry = gives; closes = refl };
+        after = refl;
+      }),
+    ),
+    record { moment = refl; queries = refl; sends = st.sends; strays = st.strays; receives = refl; given = ap (λ l. l ++ e ∷ []) st.given ∙ sym (driven_more J e is) },
+  );
 }
 
 closed_driven : (qs : List OpenQuery) → driven (map timed_out qs) ≡ map timed_out qs
@@ -114,16 +120,18 @@ stray_goes g stand to q place old new from bytes until at w none takes = record 
   more = closed_at at (as_open q ∷ []);
   journal = takes.expires.journal;
   next = λ s st.
-  let queries : s.queries ≡ as_open q ∷ [] = st.queries ∙ ap queries_of w.query in
-  (after_stray s at, (subst (λ J. Receives g J s until) (sym takes.expires.journal) (receives_of g stand q place old.journal (closed_at at (as_open q ∷ [])) s until w st), inr (stray_of q s from bytes queries none, refl)),
-    record {
-      moment = sym takes.moment;
-      queries = ap (open_at at) queries ∙ sym takes.expires.queries;
-      sends = st.sends;
-      strays = ap (λ n. n + 1) st.strays ∙ sym takes.strays;
-      receives = ap (λ l. goes_on s.receives (open_at at l)) queries ∙ ap (goes_on s.receives) (sym takes.expires.queries) ∙ round_is s.receives to.query ∙ ap (λ n. goes_round n to.query) st.receives ∙ sym takes.receives;
-      given = given_closed q at old.journal new.journal s queries st.given takes.expires.journal;
-    });
+      let queries : s.queries ≡ as_open q ∷ [] = st.queries ∙ ap queries_of w.query in (
+        after_stray s at,
+        (subst (λ J. Receives g J s until) (sym takes.expires.journal) (receives_of g stand q place old.journal (closed_at at (as_open q ∷ [])) s until w st), inr (stray_of q s from bytes queries none, refl)),
+        record {
+          moment = sym takes.moment;
+          queries = ap (open_at at) queries ∙ sym takes.expires.queries;
+          sends = st.sends;
+          strays = ap (λ n. n + 1) st.strays ∙ sym takes.strays;
+          receives = ap (λ l. goes_on s.receives (open_at at l)) queries ∙ ap (goes_on s.receives) (sym takes.expires.queries) ∙ round_is s.receives to.query ∙ ap (λ n. goes_round n to.query) st.receives ∙ sym takes.receives;
+          given = given_closed q at old.journal new.journal s queries st.given takes.expires.journal;
+        },
+      );
 }
 
 pub quiet_goes : (g : Given) (stand to : Stand) (q : Query) (place : ℕ) (old new : BookState) (until at : ℕ) → Waiting g stand q old.journal until → Expires q at old new to.query → to.moment ≡ at → to.receives ≡ 0 → to.strays ≡ stand.strays
@@ -132,16 +140,18 @@ quiet_goes g stand to q place old new until at w expires moment receives strays 
   more = closed_at at (as_open q ∷ []);
   journal = expires.journal;
   next = λ s st.
-  let queries : s.queries ≡ as_open q ∷ [] = st.queries ∙ ap queries_of w.query in
-  (after_quiet s at, (subst (λ J. Receives g J s until) (sym expires.journal) (receives_of g stand q place old.journal (closed_at at (as_open q ∷ [])) s until w st), refl),
-    record {
-      moment = sym moment;
-      queries = ap (open_at at) queries ∙ sym expires.queries;
-      sends = st.sends;
-      strays = st.strays ∙ sym strays;
-      receives = sym receives;
-      given = given_closed q at old.journal new.journal s queries st.given expires.journal;
-    });
+      let queries : s.queries ≡ as_open q ∷ [] = st.queries ∙ ap queries_of w.query in (
+        after_quiet s at,
+        (subst (λ J. Receives g J s until) (sym expires.journal) (receives_of g stand q place old.journal (closed_at at (as_open q ∷ [])) s until w st), refl),
+        record {
+          moment = sym moment;
+          queries = ap (open_at at) queries ∙ sym expires.queries;
+          sends = st.sends;
+          strays = st.strays ∙ sym strays;
+          receives = sym receives;
+          given = given_closed q at old.journal new.journal s queries st.given expires.journal;
+        },
+      );
 }
 
 weight_some : (stand : Stand) (q : Query) → stand.query ≡ Some q → weight_of stand ≡ 1 + 2 * (1000000 - stand.strays) + cond (nat_lt 0 stand.receives) 1 0
@@ -192,10 +202,10 @@ match_receives look from q old new told told' source bytes until at answer r ans
       few_strays = r.few;
       few_receives = omega arith;
       tells = λ words g began is h.
-      subst (λ J. Telling g to words.place J began told') (sym journal)
-      (telling_next g from to words.place words.place old.journal (old.journal ++ hears.entry ∷ []) (Got source bytes until at) began told told'
-      (match_goes g from q words.place old.journal source bytes until at answer hears.entry (waiting_of look g words from q old until is r.query r.open_one r.one_path r.one_query r.until_is) answers
-      (subst (λ (s : Setting). AnswerGives s.policy (as_open q) answer hears.entry) (sym is.setting) hears.gives) hears.is_driven) h grows);
+          subst (λ J. Telling g to words.place J began told') (sym journal)
+          (telling_next g from to words.place words.place old.journal (old.journal ++ hears.entry ∷ []) (Got source bytes until at) began told told'
+          (match_goes g from q words.place old.journal source bytes until at answer hears.entry (waiting_of look g words from q old until is r.query r.open_one r.one_path r.one_query r.until_is) answers
+          (subst (λ (s : Setting). AnswerGives s.policy (as_open q) answer hears.entry) (sym is.setting) hears.gives) hears.is_driven) h grows);
     }
 
 pub stray_receives : (look : LookSetting) (from to : Stand) (q : Query) (old new : BookState) (told told' : Option (List Event)) (source : Addr) (bytes : List ℕ) (until at : ℕ) → Receiving look from q old until → ((answer : Answer) → ¬ Answers bytes source (as_open q) answer) → TakesStray q at from to old new → Grows told told' (λ t. t ≡ Got source bytes until at ∷ []) → to.receives < 32
@@ -209,8 +219,8 @@ stray_receives look from to q old new told told' source bytes until at r none ta
   few_strays = takes.few;
   few_receives = few;
   tells = λ words g began is h.
-  telling_next g from to words.place words.place old.journal new.journal (Got source bytes until at) began told told'
-  (stray_goes g from to q words.place old new source bytes until at (waiting_of look g words from q old until is r.query r.open_one r.one_path r.one_query r.until_is) none takes) h grows;
+      telling_next g from to words.place words.place old.journal new.journal (Got source bytes until at) began told told'
+      (stray_goes g from to q words.place old new source bytes until at (waiting_of look g words from q old until is r.query r.open_one r.one_path r.one_query r.until_is) none takes) h grows;
 }
 
 still_waits : (q : Query) (at : ℕ) (old new : BookState) (x : Query) → Expires q at old new (Some x) → at < q.deadline
@@ -243,8 +253,8 @@ quiet_receives look from to q old new told told' until at r expires moment recei
   few_strays = (let few = r.few in omega (arith, few, strays));
   few_receives = omega (arith, receives);
   tells = λ words g began is h.
-  telling_next g from to words.place words.place old.journal new.journal (Quiet until at) began told told'
-  (quiet_goes g from to q words.place old new until at (waiting_of look g words from q old until is r.query r.open_one r.one_path r.one_query r.until_is) expires moment receives strays) h grows;
+      telling_next g from to words.place words.place old.journal new.journal (Quiet until at) began told told'
+      (quiet_goes g from to q words.place old new until at (waiting_of look g words from q old until is r.query r.open_one r.one_path r.one_query r.until_is) expires moment receives strays) h grows;
 }
 
 -- the last stray that a lookup takes

@@ -133,17 +133,20 @@ sent_goes g stand c J place tx idle is lt = record {
   more = Ask 0 c ∷ [];
   journal = refl;
   next = λ s st.
-  let none : s.queries ≡ [] = st.queries ∙ ap queries_of idle in
-  let q : OpenQuery = record { path = 0; contact = c; tx = tx; deadline = deadline_of s.moment g.timeout } in
-  let t : Seen = record (gives s (Ask 0 c ∷ [])) { queries = s.queries ++ q ∷ []; sends = s.sends + 1 } in
-  (t, record { path = 0; contact = c; tx = tx; is_query = is_query_of g stand c J place tx s st none is lt; after = refl }, record {
-    moment = st.moment;
-    queries = ap (λ l. l ++ q ∷ []) none ∙ ap (λ m. record { path = 0; contact = c; tx = tx; deadline = deadline_of m g.timeout } ∷ []) st.moment;
-    sends = (let h = st.sends in omega (arith, h));
-    strays = st.strays;
-    receives = st.receives;
-    given = ap (λ l. l ++ Ask 0 c ∷ []) st.given ∙ sym (driven_more J (Ask 0 c) refl);
-  });
+      let none : s.queries ≡ [] = st.queries ∙ ap queries_of idle in
+      let q : OpenQuery = record { path = 0; contact = c; tx = tx; deadline = deadline_of s.moment g.timeout } in
+      let t : Seen = record (gives s (Ask 0 c ∷ [])) { queries = s.queries ++ q ∷ []; sends = s.sends + 1 } in (
+        t,
+        record { path = 0; contact = c; tx = tx; is_query = is_query_of g stand c J place tx s st none is lt; after = refl },
+        record {
+          moment = st.moment;
+          queries = ap (λ l. l ++ q ∷ []) none ∙ ap (λ m. record { path = 0; contact = c; tx = tx; deadline = deadline_of m g.timeout } ∷ []) st.moment;
+          sends = (let h = st.sends in omega (arith, h));
+          strays = st.strays;
+          receives = st.receives;
+          given = ap (λ l. l ++ Ask 0 c ∷ []) st.given ∙ sym (driven_more J (Ask 0 c) refl);
+        },
+      );
 }
 
 -- it could not be sent
@@ -153,14 +156,17 @@ unsent_goes g stand c J place tx idle is lt = record {
   more = Ask 0 c ∷ Lost 0 c SendFault ∷ [];
   journal = append_assoc J (Ask 0 c ∷ []) (Lost 0 c SendFault ∷ []);
   next = λ s st.
-  let none : s.queries ≡ [] = st.queries ∙ ap queries_of idle in
-  let t : Seen = record (gives s (Ask 0 c ∷ Lost 0 c SendFault ∷ [])) { sends = s.sends + 1 } in
-  (t, record { path = 0; contact = c; tx = tx; is_query = is_query_of g stand c J place tx s st none is lt; after = refl }, record {
-    moment = st.moment;
-    queries = st.queries;
-    sends = (let h = st.sends in omega (arith, h));
-    strays = st.strays;
-    receives = st.receives;
-    given = ap (λ l. l ++ Ask 0 c ∷ Lost 0 c SendFault ∷ []) st.given ∙ sym (append_assoc (driven J) (Ask 0 c ∷ []) (Lost 0 c SendFault ∷ [])) ∙ ap (λ l. l ++ Lost 0 c SendFault ∷ []) (sym (driven_more J (Ask 0 c) refl)) ∙ sym (driven_more (J ++ Ask 0 c ∷ []) (Lost 0 c SendFault) refl);
-  });
+      let none : s.queries ≡ [] = st.queries ∙ ap queries_of idle in
+      let t : Seen = record (gives s (Ask 0 c ∷ Lost 0 c SendFault ∷ [])) { sends = s.sends + 1 } in (
+        t,
+        record { path = 0; contact = c; tx = tx; is_query = is_query_of g stand c J place tx s st none is lt; after = refl },
+        record {
+          moment = st.moment;
+          queries = st.queries;
+          sends = (let h = st.sends in omega (arith, h));
+          strays = st.strays;
+          receives = st.receives;
+          given = ap (λ l. l ++ Ask 0 c ∷ Lost 0 c SendFault ∷ []) st.given ∙ sym (append_assoc (driven J) (Ask 0 c ∷ []) (Lost 0 c SendFault ∷ [])) ∙ ap (λ l. l ++ Lost 0 c SendFault ∷ []) (sym (driven_more J (Ask 0 c) refl)) ∙ sym (driven_more (J ++ Ask 0 c ∷ []) (Lost 0 c SendFault) refl);
+        },
+      );
 }

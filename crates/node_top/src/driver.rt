@@ -1,9 +1,9 @@
 //! The driver of a lookup on one path with one query open: it asks, receives and settles until the path has run out.
 //! It takes a link and knows no socket, and keeps what it learns in the book of claims.
-mod look_up;
-mod plain;
 mod answer;
 mod ask;
+mod look_up;
+mod plain;
 mod receive;
 mod settle;
 

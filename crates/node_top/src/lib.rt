@@ -9,6 +9,8 @@ mod lookup;
 mod output;
 mod printed;
 mod status;
+#[cfg(test)]
+mod tests;
 mod text;
 mod top;
 mod words;

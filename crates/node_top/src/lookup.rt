@@ -72,7 +72,13 @@ fn read_contacts<S: Source, C: Check>(
         Err(LinesFault::Bad { line }) => return Err(Status::BadLine { line }),
         Err(LinesFault::NoMemory) => return Err(Status::NoMemory),
     };
-    match admitted(alloc, &setting.own, setting.policy, check, reports.as_slice()) {
+    match admitted(
+        alloc,
+        &setting.own,
+        setting.policy,
+        check,
+        reports.as_slice(),
+    ) {
         Ok(contacts) => {
             if contacts.as_slice().is_empty() {
                 return Err(Status::NoSeeds);

@@ -11,7 +11,6 @@ ghost use Rattle.claim_book.specs.Journal.{asked, open_on, unsettled, may_ask};
 ghost use Rattle.claim_book.specs.Legal.{Legal};
 ghost use Rattle.claim_book.specs.RunOut.{RunOut};
 ghost use Rattle.claim_book.specs.State.{added};
-
 ghost use Rattle.node_top.specs.Standing.{HasSent, HasRunOut, AsksOne, asked_more};
 
 use crate::driver::plain::{LookSetting, Query, Stand};

@@ -38,12 +38,7 @@ fn round_after(receives: u32, query: &Option<Query>) -> u32
 }
 
 /// Takes a stray: the round goes on while the query is open.
-fn take_stray(
-    book: &mut Book,
-    query: Query,
-    stand: &Stand,
-    at: u64,
-) -> Result<Stand, LookFault>
+fn take_stray(book: &mut Book, query: Query, stand: &Stand, at: u64) -> Result<Stand, LookFault>
     requires is_open { open_on 0 book.old.journal ≡ query.contact ∷ [] }
     requires few { stand.now.strays < 1000000 }
     requires round { stand.now.receives < 32 }

@@ -18,6 +18,6 @@ returns-in_default c =
     let kept = heard_kept b x c.in_ok-reports.reports c.apply.result c.legal.ensures c.requires c.apply.ensures.step c.in_default.not-NoMemory in
     record {
       ok = own_id c.args.policy c.args.query.now c.args.answer.now b c.apply.new.self (c.is_own.ensures.0 c.if-not-is_own.false) c.requires
-      (c.apply.ensures.after ∙ kept ∙ ap (λ (r : List Report). added b (Heard 0 x r)) c.in_ok-reports.ensures);
+          (c.apply.ensures.after ∙ kept ∙ ap (λ (r : List Report). added b (Heard 0 x r)) c.in_ok-reports.ensures);
       err = tt;
     }
