@@ -1,6 +1,5 @@
 -- From a lookup to the command that asked for it.
 use Rattle.std.proofs.Common.{◌≡◌, ℕ, zero, suc, ◌<◌, ◌≤◌, List, [], ◌∷◌, length, Option, Some, None, Result, Ok, Err, IfOk, IfErr, inl, inr, true, refl, sym, ap, subst, ◌∙◌, arith}
-use Rattle.std.specs.Prelude.{Contains}
 use Rattle.std.specs.List.{All}
 use Rattle.std.specs.List.Sorted.{IsStrictlySortedBy}
 use Rattle.kad_base.specs.declared.plain.Id.{Id}
@@ -31,7 +30,7 @@ use Rattle.node_top.specs.Words.{Word, CommandOf}
 use Rattle.node_top.specs.Printed.{printed}
 use Rattle.node_top.specs.Tells.{Given, Tells, EndsAtStray}
 use Rattle.node_top.specs.Standing.{given_of, LooksUp}
-use Rattle.node_top.specs.Looked.{Admits, Reads, setting_of, lookup_of, printed_of, LooksAt, Looked, Outside, LookCause, HasCause, number_of}
+use Rattle.node_top.specs.Looked.{Admits, Reads, setting_of, lookup_of, printed_of, LooksAt, Looked, Outside, LookCause, HasCause}
 
 all_cons : {A : Type 0} (P : A → Type 0) (x : A) (xs : List A) → P x → All P xs → All P (x ∷ xs)
 all_cons P x xs p h zero d lt = p
@@ -109,13 +108,3 @@ cause_of words look random o TooLong c h = h
 pub err_then : {T F : Type 0} (r : Result T F) (P Q : F → Type 0) → IfErr r P → ((x : F) → P x → Q x) → IfErr r Q
 err_then (Ok x) P Q h k = tt
 err_then (Err e) P Q h k = k e h
-
-pub is_status : (s : Status) → Contains (0 ∷ 2 ∷ 3 ∷ 4 ∷ 5 ∷ 6 ∷ 7 ∷ 8 ∷ 9 ∷ 11 ∷ []) (number_of s)
-is_status Usage = (1, omega arith, refl)
-is_status (BadLine line) = (2, omega arith, refl)
-is_status LinkFault = (3, omega arith, refl)
-is_status SourceFault = (5, omega arith, refl)
-is_status Strays = (6, omega arith, refl)
-is_status NoSeeds = (7, omega arith, refl)
-is_status NoMemory = (8, omega arith, refl)
-is_status TooLong = (9, omega arith, refl)

@@ -1,5 +1,5 @@
 //! Why a command ends with no output, with the number and the line of each.
-ghost use Rattle.std.specs.Prelude.{◌≡◌};
+ghost use Rattle.std.specs.Prelude.{◌≡◌, ◌≢◌, ◌<◌, ◌≤◌};
 ghost use Rattle.node_top.specs.Looked.{number_of};
 
 use crate::printed::print_line;
@@ -29,7 +29,8 @@ pub(crate) enum Status {
 impl Status {
     /// The exit status.
     pub(crate) fn number(&self) -> u8
-        ensures { result ≡ number_of self.now }
+        ensures number { result ≡ number_of self.now }
+        ensures known { (1 < result) × (result ≤ 11) × (result ≢ 5) × (result ≢ 10) }
     {
         match self {
             Status::Usage => 2,

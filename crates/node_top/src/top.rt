@@ -1,5 +1,5 @@
 //! The top call: one command, its output and its status.
-ghost use Rattle.std.specs.Prelude.{◌≡◌, ◌∷◌, [], ◌≤◌, map, string_bytes, Contains, OnOk, IfOk, IfErr};
+ghost use Rattle.std.specs.Prelude.{◌≡◌, ◌≢◌, ◌≤◌, map, string_bytes, IfOk, IfErr};
 ghost use Rattle.kad_base.specs.Outside.{Rose};
 ghost use Rattle.node_top.specs.Looked.{IsPlain, LookedUp, Looked, HasCause, HasBadLine, HasNoSeeds, HasStrays, ReadsTooMuch, outside_of};
 
@@ -80,7 +80,7 @@ pub fn run<R, S: Source, K: Sink, L: Link, C: Check>(
     ensures strays { result ≡ 7 → HasStrays (map (λ w. string_bytes w) words.now) random.now (L.told link.old) (L.told link.new) }
     ensures no_seeds { result ≡ 8 → HasNoSeeds (map (λ w. string_bytes w) words.now) random.now (S.left source.old) (S.left source.new) }
     ensures too_long { result ≡ 11 → ReadsTooMuch (S.left source.old) (S.left source.new) }
-    ensures statuses { Contains (0 ∷ 2 ∷ 3 ∷ 4 ∷ 5 ∷ 6 ∷ 7 ∷ 8 ∷ 9 ∷ 11 ∷ []) result }
+    ensures statuses { (result ≤ 11) × (result ≢ 1) × (result ≢ 10) }
 {
     match output_of(alloc, words, source, link, random, check) {
         Ok(text) => match write_whole(sink, text.as_slice()) {
