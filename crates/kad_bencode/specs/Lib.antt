@@ -1,0 +1,5 @@
+pub mod Keys
+pub mod Spelling
+pub mod Faults
+pub mod Machine
+pub mod formers

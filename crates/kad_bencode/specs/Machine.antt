@@ -1,0 +1,106 @@
+-- A second reading, one byte at a time, by a machine that knows all that it read. No public contract speaks of it: it is
+-- where the reader stands, for the proofs.
+use Rattle.std.specs.Prelude.{◌≡◌, ℕ, zero, suc, ◌+◌, ◌-◌, ◌*◌, ◌≤◌, ◌<◌, Bool, true, false, cond, ◌&&◌, List, [], ◌∷◌, ◌++◌, map, length, take, get_or, ℤ, pos, negsuc, nat_eq, nat_lt, nat_le, Option, Some, None}
+use Rattle.std.specs.List.{concat}
+use Rattle.kad_bencode.specs.Keys.{keys_of}
+use Rattle.kad_bencode.specs.Spelling.{numeral, pairs_text, string_text, text_of, Fits, each_once, values_of}
+use Rattle.kad_bencode.specs.Faults.{Open, InList, InPair, fronts, pairs_of}
+use Rattle.kad_bencode.specs.declared.entries.Pair.{Pair}
+use Rattle.kad_bencode.specs.declared.value.Value.{Value}
+use Rattle.kad_bencode.specs.declared.value.Value.TheVariants as value
+
+-- where a string goes: it is a value, or a key of the innermost dictionary
+pub data Place : Type 0 where
+  AsValue : List Open → Place
+  AsKey : List Open → List (Pair Value) → Place
+
+pub data State : Type 0 where
+  -- a value may begin; the innermost list may end
+  Ready : List Open → State
+  -- a key may begin; the innermost dictionary may end
+  Keyless : List Open → List (Pair Value) → State
+  -- the value has ended
+  Whole : Value → State
+  -- after i; after i-; after i0; after i and a number that isn't 0
+  Sign : List Open → State
+  Minus : List Open → State
+  Zero : List Open → State
+  Digits : List Open → Bool → ℕ → State
+  -- after a length, which is 0, or isn't
+  NoLength : Place → State
+  Length : Place → ℕ → State
+  -- in a string: how many bytes are missing, and those that have come
+  Body : Place → ℕ → List ℕ → State
+
+-- a value has ended
+abbrev pub filled : List Open → Value → State
+filled [] v = Whole v
+filled (InList values ∷ os) v = Ready (InList (values ++ v ∷ []) ∷ os)
+filled (InPair pairs key ∷ os) v = Keyless os (pairs ++ record { key = key; value = v } ∷ [])
+
+-- a string has ended
+abbrev pub stored : Place → List ℕ → State
+stored (AsValue os) s = filled os (value.Text s)
+stored (AsKey os pairs) s = Ready (InPair pairs s ∷ os)
+
+-- where it begins
+abbrev pub before : Place → State
+before (AsValue os) = Ready os
+before (AsKey os pairs) = Keyless os pairs
+
+abbrev pub signed : Bool → ℕ → ℤ
+signed false n = pos n
+signed true n = negsuc (n - 1)
+
+abbrev pub is_digit : ℕ → Bool
+is_digit b = nat_le 48 b && nat_lt b 58
+
+abbrev pub is_nonzero : ℕ → Bool
+is_nonzero b = nat_le 49 b && nat_lt b 58
+
+-- the innermost list ends
+abbrev pub closed : List Open → Option State
+closed [] = None
+closed (InList values ∷ os) = Some (filled os (value.List values))
+closed (InPair pairs key ∷ os) = None
+
+abbrev pub length_begins : Place → ℕ → Option State
+length_begins p b = cond (nat_eq b 48) (Some (NoLength p)) (cond (is_nonzero b) (Some (Length p (b - 48))) None)
+
+abbrev pub step : State → ℕ → Option State
+step (Ready os) b =
+    cond (nat_eq b 105) (Some (Sign os))
+    (cond (nat_eq b 108) (Some (Ready (InList [] ∷ os)))
+    (cond (nat_eq b 100) (Some (Keyless os []))
+    (cond (nat_eq b 101) (closed os)
+    (length_begins (AsValue os) b))))
+step (Keyless os pairs) b = cond (nat_eq b 101) (Some (filled os (value.Dict pairs))) (length_begins (AsKey os pairs) b)
+step (Whole v) b = None
+step (Sign os) b =
+    cond (nat_eq b 45) (Some (Minus os))
+    (cond (nat_eq b 48) (Some (Zero os))
+    (cond (is_nonzero b) (Some (Digits os false (b - 48))) None))
+step (Minus os) b = cond (is_nonzero b) (Some (Digits os true (b - 48))) None
+step (Zero os) b = cond (nat_eq b 101) (Some (filled os (value.Int (pos 0)))) None
+step (Digits os s n) b =
+    cond (nat_eq b 101) (Some (filled os (value.Int (signed s n))))
+    (cond (is_digit b) (Some (Digits os s (n * 10 + (b - 48)))) None)
+step (NoLength p) b = cond (nat_eq b 58) (Some (stored p [])) None
+step (Length p n) b =
+    cond (nat_eq b 58) (Some (Body p n []))
+    (cond (is_digit b) (Some (Length p (n * 10 + (b - 48)))) None)
+step (Body p n s) b = cond (nat_eq n 1) (Some (stored p (s ++ b ∷ []))) (Some (Body p (n - 1) (s ++ b ∷ [])))
+
+-- a state after further bytes
+abbrev pub run : Option State → List ℕ → Option State
+run state [] = state
+run None (b ∷ bs) = None
+run (Some state) (b ∷ bs) = run (step state b) bs
+
+-- the state where reading begins
+abbrev pub start : Option State
+start = Some (Ready [])
+
+-- where the reader stands after so many bytes
+abbrev pub Reached : List ℕ → ℕ → State → Type 0
+Reached bytes at state = run start (take at bytes) ≡ Some state
