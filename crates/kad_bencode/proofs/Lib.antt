@@ -1,3 +1,4 @@
 pub mod Folds
 pub mod Numerals
 pub mod Takes
+pub mod Said

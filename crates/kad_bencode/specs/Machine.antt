@@ -1,13 +1,16 @@
 -- A second reading, one byte at a time, by a machine that knows all that it read. No public contract speaks of it: it is
 -- where the reader stands, for the proofs.
-use Rattle.std.specs.Prelude.{◌≡◌, ℕ, zero, suc, ◌+◌, ◌-◌, ◌*◌, ◌≤◌, ◌<◌, Bool, true, false, cond, ◌&&◌, List, [], ◌∷◌, ◌++◌, map, length, take, get_or, ℤ, pos, negsuc, nat_eq, nat_lt, nat_le, Option, Some, None}
-use Rattle.std.specs.List.{concat}
+use Rattle.std.specs.Prelude.{◌≡◌, ℕ, zero, suc, ◌+◌, ◌-◌, ◌*◌, ◌^◌, min, ◌≤◌, ◌<◌, Bool, true, false, cond, ◌&&◌, List, [], ◌∷◌, ◌++◌, map, length, take, get_or, ℤ, pos, negsuc, nat_eq, nat_lt, nat_le, Option, Some, None}
+use Rattle.std.specs.List.{concat, AllByRecursion}
+use Rattle.std.specs.Prelude.{Result, Ok, Err, IfOk}
 use Rattle.kad_bencode.specs.Keys.{keys_of}
-use Rattle.kad_bencode.specs.Spelling.{numeral, pairs_text, string_text, text_of, Fits, each_once, values_of}
-use Rattle.kad_bencode.specs.Faults.{Open, InList, InPair, fronts, pairs_of}
+use Rattle.kad_bencode.specs.Spelling.{numeral, pairs_text, string_text, text_of, Fits, each_once, has_key, values_of, in_order, is_i64}
+use Rattle.kad_bencode.specs.Faults.{Open, InList, InPair, fronts, pairs_of, IsFirstFault}
 use Rattle.kad_bencode.specs.declared.entries.Pair.{Pair}
 use Rattle.kad_bencode.specs.declared.value.Value.{Value}
 use Rattle.kad_bencode.specs.declared.value.Value.TheVariants as value
+use Rattle.kad_bencode.specs.declared.value.BenFault.{BenFault}
+use Rattle.kad_bencode.specs.declared.value.BenFault.TheVariants.{Bad, NoMemory}
 
 -- where a string goes: it is a value, or a key of the innermost dictionary
 pub data Place : Type 0 where
@@ -104,3 +107,89 @@ start = Some (Ready [])
 -- where the reader stands after so many bytes
 abbrev pub Reached : List ℕ → ℕ → State → Type 0
 Reached bytes at state = run start (take at bytes) ≡ Some state
+
+-- ---- within the limits
+
+-- a dictionary that is open, with these pairs, in these
+abbrev pub FitsPairs : List Open → List (Pair Value) → Type 0
+FitsPairs os ps = (suc (length os) ≤ 16) × AllByRecursion (Fits (suc (length os))) (values_of ps) × (each_once (keys_of ps) ≡ true)
+
+-- what is open fits
+abbrev pub FitsOpen : List Open → Type 0
+FitsOpen [] = Unit {0}
+FitsOpen (InList vs ∷ os) = (suc (length os) ≤ 16) × AllByRecursion (Fits (suc (length os))) vs × FitsOpen os
+FitsOpen (InPair ps key ∷ os) = FitsPairs os ps × (has_key (keys_of ps) key ≡ false) × FitsOpen os
+
+abbrev pub FitsPlace : Place → Type 0
+FitsPlace (AsValue os) = FitsOpen os
+FitsPlace (AsKey os ps) = FitsPairs os ps × FitsOpen os
+
+abbrev pub FitsState : State → Type 0
+FitsState (Ready os) = FitsOpen os
+FitsState (Keyless os ps) = FitsPairs os ps × FitsOpen os
+FitsState (Whole v) = Fits 0 v
+FitsState (Sign os) = FitsOpen os
+FitsState (Minus os) = FitsOpen os
+FitsState (Zero os) = FitsOpen os
+FitsState (Digits os s n) = FitsOpen os
+FitsState (NoLength p) = FitsPlace p
+FitsState (Length p n) = FitsPlace p
+FitsState (Body p n s) = FitsPlace p
+
+-- ---- what each part of the reader does
+
+-- what was read, or the first fault
+abbrev pub Outcome : {A : Type 0} → List ℕ → Result A BenFault → (A → Type 0) → Type 0
+Outcome bytes (Ok x) P = P x
+Outcome bytes (Err (Bad bad)) P = IsFirstFault bytes bad
+Outcome bytes (Err NoMemory) P = Unit {0}
+
+-- a value comes next, and the innermost list doesn't end
+pub record Awaits (bytes : List ℕ) (at : ℕ) (os : List Open) : Type 0 where
+  pub reached : Reached bytes at (Ready os)
+  pub fits : FitsOpen os
+  pub within : at ≤ length bytes
+  pub goes : at < length bytes → get_or bytes at 0 ≡ 101 → closed os ≡ None
+
+-- the value and where it ends
+pub record ReadsValue (bytes : List ℕ) (at : ℕ) (os : List Open) (v : Value) (next : ℕ) : Type 0 where
+  pub tree : Value
+  pub reached : Reached bytes next (filled os tree)
+  pub fits : Fits (length os) tree
+  pub names : v ≡ in_order tree
+  pub within : next ≤ length bytes
+  pub after : at < next
+
+-- the integer and where it ends
+pub record ReadsInteger (bytes : List ℕ) (at : ℕ) (os : List Open) (n : ℤ) (next : ℕ) : Type 0 where
+  pub reached : Reached bytes next (filled os (value.Int n))
+  pub plain : is_i64 n ≡ true
+  pub within : next ≤ length bytes
+  pub after : at < next
+
+-- a string comes next
+pub record AwaitsString (bytes : List ℕ) (at : ℕ) (p : Place) : Type 0 where
+  pub reached : Reached bytes at (before p)
+  pub fits : FitsPlace p
+  pub within : at ≤ length bytes
+  pub goes : at < length bytes → is_digit (get_or bytes at 0) ≡ false → step (before p) (get_or bytes at 0) ≡ None
+
+-- the string and where it ends
+pub record ReadsString (bytes : List ℕ) (at : ℕ) (p : Place) (s : List ℕ) (next : ℕ) : Type 0 where
+  pub reached : Reached bytes next (stored p s)
+  pub text : take next bytes ≡ take at bytes ++ string_text s
+  pub within : next ≤ length bytes
+  pub after : at < next
+  pub state : State
+  pub before_last : Reached bytes (next - 1) state
+  pub fits : FitsState state
+
+-- digits of a number that isn't 0, as far as they go; the number is held up at the end of u64
+pub record ReadsDigits (bytes : List ℕ) (first : ℕ) (n : ℕ) (next : ℕ) : Type 0 where
+  pub number : ℕ
+  pub positive : 0 < number
+  pub text : take next bytes ≡ take first bytes ++ numeral number
+  pub value : n ≡ min number (2 ^ 64 - 1)
+  pub within : next ≤ length bytes
+  pub after : first < next
+  pub ends : next < length bytes → is_digit (get_or bytes next 0) ≡ false
