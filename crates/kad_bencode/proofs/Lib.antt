@@ -4,3 +4,4 @@ pub mod Takes
 pub mod Said
 pub mod Limits
 pub mod First
+pub mod Reading

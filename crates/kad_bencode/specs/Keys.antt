@@ -1,8 +1,10 @@
 -- Dictionaries as lists of pairs with ascending keys (BEP 3: keys are sorted as raw strings).
-use Rattle.std.specs.Prelude.{◌≡◌, ℕ, Bool, true, false, cond, List, [], ◌∷◌, ◌++◌, map, Option, Some, None}
+use Rattle.std.specs.Prelude.{◌≡◌, ℕ, Bool, true, false, cond, List, [], ◌∷◌, ◌++◌, map, take, drop, length, ◌≤◌, ◌<◌, Option, Some, None, Result, Ok, Err}
 use Rattle.std.specs.declared.cmp.Ordering.{Ordering}
+use Rattle.std.specs.declared.cmp.Ordering.TheVariants.{Less, Equal, Greater}
 use Rattle.std.specs.Ordering.{is_eq, nat_cmp, match_ordering}
 use Rattle.std.specs.Cmp.Lexicographic.{slice_cmp}
+use Rattle.std.specs.List.{AllByRecursion}
 use Rattle.std.specs.List.Sorted.{IsStrictlySortedBy}
 use Rattle.kad_bencode.specs.declared.entries.Pair.{Pair}
 
@@ -36,3 +38,8 @@ value_of (p ∷ ps) key = cond (is_eq (key_cmp key p.key)) (Some p.value) (value
 abbrev pub without : {V : Type 0} → List (Pair V) → List ℕ → List (Pair V)
 without [] key = []
 without (p ∷ ps) key = cond (is_eq (key_cmp key p.key)) ps (p ∷ without ps key)
+
+-- where a key is among ascending keys, or belongs
+abbrev pub IsPlace : {V : Type 0} → List (Pair V) → List ℕ → Result ℕ ℕ → Type 0
+IsPlace {V} pairs key (Ok i) = (i < length pairs) × AllByRecursion (λ p. key_cmp key p.key ≡ Greater) (take i pairs) × (p : Pair V) × (rest : List (Pair V)) × (drop i pairs ≡ p ∷ rest) × (key_cmp key p.key ≡ Equal)
+IsPlace pairs key (Err i) = (i ≤ length pairs) × AllByRecursion (λ p. key_cmp key p.key ≡ Greater) (take i pairs) × AllByRecursion (λ p. key_cmp key p.key ≡ Less) (drop i pairs)

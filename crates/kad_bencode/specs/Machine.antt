@@ -160,12 +160,30 @@ pub record ReadsValue (bytes : List ℕ) (at : ℕ) (os : List Open) (v : Value)
   pub within : next ≤ length bytes
   pub after : at < next
 
+-- after i, or after i-
+abbrev pub sign_state : Bool → List Open → State
+sign_state false os = Sign os
+sign_state true os = Minus os
+
+-- a number that isn't 0 comes next, behind the sign of the integer at `at`
+pub record AwaitsNumber (bytes : List ℕ) (at first : ℕ) (negative : Bool) (os : List Open) : Type 0 where
+  pub begins : Reached bytes at (Ready os)
+  pub reached : Reached bytes first (sign_state negative os)
+  pub fits : FitsOpen os
+  pub after : at < first
+  pub goes : first < length bytes → is_nonzero (get_or bytes first 0) ≡ false → step (sign_state negative os) (get_or bytes first 0) ≡ None
+
 -- the integer and where it ends
 pub record ReadsInteger (bytes : List ℕ) (at : ℕ) (os : List Open) (n : ℤ) (next : ℕ) : Type 0 where
   pub reached : Reached bytes next (filled os (value.Int n))
   pub plain : is_i64 n ≡ true
   pub within : next ≤ length bytes
   pub after : at < next
+
+-- an integer comes next
+pub record AwaitsInteger (bytes : List ℕ) (at : ℕ) (os : List Open) : Type 0 where
+  pub begins : Reached bytes at (Ready os)
+  pub fits : FitsOpen os
 
 -- a string comes next
 pub record AwaitsString (bytes : List ℕ) (at : ℕ) (p : Place) : Type 0 where
@@ -184,12 +202,31 @@ pub record ReadsString (bytes : List ℕ) (at : ℕ) (p : Place) (s : List ℕ) 
   pub before_last : Reached bytes (next - 1) state
   pub fits : FitsState state
 
--- digits of a number that isn't 0, as far as they go; the number is held up at the end of u64
-pub record ReadsDigits (bytes : List ℕ) (first : ℕ) (n : ℕ) (next : ℕ) : Type 0 where
+-- digits of a number that isn't 0; the number is held up at the end of u64
+pub record DigitsSoFar (bytes : List ℕ) (first : ℕ) (n : ℕ) (next : ℕ) : Type 0 where
   pub number : ℕ
   pub positive : 0 < number
   pub text : take next bytes ≡ take first bytes ++ numeral number
   pub value : n ≡ min number (2 ^ 64 - 1)
   pub within : next ≤ length bytes
   pub after : first < next
+
+-- all of them
+pub record ReadsDigits (bytes : List ℕ) (first : ℕ) (n : ℕ) (next : ℕ) : Type 0 where
+  pub digits : DigitsSoFar bytes first n next
   pub ends : next < length bytes → is_digit (get_or bytes next 0) ≡ false
+
+-- whether a byte stands at a place
+abbrev pub HasByte : List ℕ → ℕ → ℕ → Bool → Type 0
+HasByte bytes at byte true = (at < length bytes) × (get_or bytes at 0 ≡ byte)
+HasByte bytes at byte false = at < length bytes → get_or bytes at 0 ≡ byte → ⊥
+
+-- whether a digit that isn't 0 stands there
+abbrev pub HasNumber : List ℕ → ℕ → Bool → Type 0
+HasNumber bytes at true = (at < length bytes) × (is_nonzero (get_or bytes at 0) ≡ true)
+HasNumber bytes at false = at < length bytes → is_nonzero (get_or bytes at 0) ≡ false
+
+-- a number with its sign, where it is one of 64 bits
+abbrev pub IsSigned : Bool → ℕ → Option ℤ → Type 0
+IsSigned negative n None = is_i64 (signed negative n) ≡ false
+IsSigned negative n (Some z) = (z ≡ signed negative n) × (is_i64 (signed negative n) ≡ true)

@@ -1,7 +1,9 @@
-//! Bencode.
+//! Bencode, the encoding of BitTorrent (BEP 3), whole and both ways: bytes to values, and values to their one written
+//! form. It reads no message, and opens no file and no socket.
 #![tactic(auto)]
 
 pub mod entries;
+pub mod reader;
 pub mod value;
 
 pub use entries::{Dictionary, Pair};
