@@ -50,7 +50,7 @@ values_mapped : {V W : Type 0} (f : V → W) (ps : List (Pair V)) → values_of 
 values_mapped f [] = refl
 values_mapped f (p ∷ ps) = ap (λ l. f p.value ∷ l) (values_mapped f ps)
 
-keys_mapped : {V W : Type 0} (f : V → W) (ps : List (Pair V)) → keys_of (map (λ (p : Pair V). let q : Pair W = record { key = p.key; value = f p.value } in q) ps) ≡ keys_of ps
+pub keys_mapped : {V W : Type 0} (f : V → W) (ps : List (Pair V)) → keys_of (map (λ (p : Pair V). let q : Pair W = record { key = p.key; value = f p.value } in q) ps) ≡ keys_of ps
 keys_mapped f [] = refl
 keys_mapped f (p ∷ ps) = ap (λ l. p.key ∷ l) (keys_mapped f ps)
 

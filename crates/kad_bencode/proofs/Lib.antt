@@ -5,3 +5,5 @@ pub mod Said
 pub mod Limits
 pub mod First
 pub mod Reading
+pub mod Places
+pub mod Nested

@@ -77,7 +77,7 @@ number_reached bytes at next true os n end a d =
     reached_text bytes next end (numeral d.number) (Minus os) (Some (Digits os true d.number)) a.reached d.text
     (ap (run (Some (Minus os))) (sym (append-nil (numeral d.number))) ∙ numeral_run (Minus os) (Digits os true) (digit_minus os) (digit_digits os true) d.number d.positive [])
 
-different : (a b : ℕ) → (a ≡ b → ⊥) → nat_eq a b ≡ false
+pub different : (a b : ℕ) → (a ≡ b → ⊥) → nat_eq a b ≡ false
 different a b h = grind (arith, nat_tests)
 
 stuck_digits : (os : List Open) (s : Bool) (n b : ℕ) → (b ≡ 101 → ⊥) → is_digit b ≡ false → step (Digits os s n) b ≡ None

@@ -7,4 +7,5 @@ pub mod reader;
 pub mod value;
 
 pub use entries::{Dictionary, Pair};
+pub use reader::read;
 pub use value::{Bad, BenFault, Entries, Value, Values};

@@ -1,10 +1,17 @@
 //! Reads bencode (BEP 3): one cursor goes over the input, once. Lists and dictionaries that are open nest by a recursion
 //! that stops at the limit.
-ghost use Rattle.std.specs.Prelude.{◌≡◌, ℕ, suc, ◌+◌, ◌<◌, ◌≤◌, List, [], ◌∷◌, length, IsTrue, IfOk, IfErr, get_or};
-ghost use Rattle.kad_bencode.specs.Faults.{Open};
-ghost use Rattle.kad_bencode.specs.Machine.{HasByte, HasNumber, ReadsDigits, is_nonzero, Awaits, Outcome, ReadsInteger, ReadsString, AwaitsString, Place, AwaitsNumber, AwaitsInteger, IsSigned};
+ghost use Rattle.std.specs.Prelude.{◌≡◌, ℕ, suc, ◌+◌, ◌<◌, ◌≤◌, List, [], ◌∷◌, length, IsTrue, IfOk, IsErrOf, get_or};
+ghost use Rattle.kad_bencode.specs.Spelling.{Spells};
+ghost use Rattle.kad_bencode.specs.Faults.{Open, InList, IsFirstFault};
+ghost use Rattle.kad_bencode.specs.declared.value.Bad.{Bad};
+ghost use Rattle.kad_bencode.specs.Machine.{HasByte, HasNumber, ReadsDigits, is_nonzero, Awaits, Outcome, ReadsInteger, ReadsString, AwaitsString, Place, AwaitsNumber, AwaitsInteger, IsSigned, ReadsValue, Reached, Ready, Keyless, FitsOpen};
 
-use crate::value::{Bad, BenFault, Value};
+use crate::value::{Bad, BenFault, Entries, Value, Values};
+use kad_base::Bytes;
+use std::alloc::Global;
+
+/// The most lists and dictionaries that are open at once (this project's limit; BEP 3 has none).
+pub const MAX_DEPTH: usize = 16;
 
 /// Whether a byte stands at a place.
 fn has_byte(bytes: &[u8], at: usize, byte: u8) -> bool
@@ -126,4 +133,105 @@ fn string_at(bytes: &[u8], at: usize) -> Result<(&[u8], usize), BenFault>
     }
     let next = end + 1 + length as usize;
     Ok((&bytes[end + 1..next], next))
+}
+
+/// The value that the bytes spell, all of them. It takes memory in proportion to the bytes, however large a length they
+/// name.
+pub fn read(alloc: Global, bytes: &[u8]) -> Result<Value, BenFault>
+    ensures spells { IfOk result (Spells bytes.now) }
+    ensures fault { (bad : Bad) → IsErrOf result (BenFault.Bad bad) → IsFirstFault bytes.now bad }
+{
+    let (value, next) = value_at(alloc, bytes, 0, 0)?;
+    if next < bytes.len() {
+        return Err(BenFault::Bad(Bad::Trailing { at: next }));
+    }
+    Ok(value)
+}
+
+/// The value at a place, where that many lists and dictionaries are open, and where it ends.
+#[cycle(reading)]
+fn value_at(
+    alloc: Global,
+    bytes: &[u8],
+    at: usize,
+    depth: usize,
+) -> Result<(Value, usize), BenFault>
+    requires within { at ≤ length bytes.now }
+    requires depth { depth ≤ 16 }
+    ensures moves { IfOk result (λ x. (at < x.1) × (x.1 ≤ length bytes.now)) }
+    ensures reads { (os : List Open) → length os ≡ depth → Awaits bytes.now at os
+        → Outcome bytes.now result (λ x. ReadsValue bytes.now at os x.0 x.1) }
+{
+    if has_byte(bytes, at, b'i') {
+        let (number, next) = integer_at(bytes, at)?;
+        return Ok((Value::Int(number), next));
+    }
+    if has_byte(bytes, at, b'l') {
+        if depth == MAX_DEPTH {
+            return Err(BenFault::Bad(Bad::Deep { at }));
+        }
+        return list_at(alloc, bytes, at + 1, depth + 1);
+    }
+    if has_byte(bytes, at, b'd') {
+        if depth == MAX_DEPTH {
+            return Err(BenFault::Bad(Bad::Deep { at }));
+        }
+        return dictionary_at(alloc, bytes, at + 1, depth + 1);
+    }
+    let (text, next) = string_at(bytes, at)?;
+    let text = Bytes::from_slice(alloc, text)?;
+    Ok((Value::Text(text), next))
+}
+
+/// The rest of a list whose first value comes next, if it has one.
+#[cycle(reading)]
+fn list_at(
+    alloc: Global,
+    bytes: &[u8],
+    from: usize,
+    depth: usize,
+) -> Result<(Value, usize), BenFault>
+    requires within { from ≤ length bytes.now }
+    requires depth { depth ≤ 16 }
+    ensures moves { IfOk result (λ x. (from < x.1) × (x.1 ≤ length bytes.now)) }
+    ensures reads { (os : List Open) → suc (length os) ≡ depth → Reached bytes.now from (Ready (InList [] ∷ os)) → FitsOpen os
+        → Outcome bytes.now result (λ x. ReadsValue bytes.now from os x.0 x.1) }
+{
+    let mut values = Values::new(alloc);
+    let mut at = from;
+    'values: while !has_byte(bytes, at, b'e') {
+        let (value, next) = value_at(alloc, bytes, at, depth)?;
+        values.push(value)?;
+        at = next;
+    }
+    Ok((Value::List(values), at + 1))
+}
+
+/// The rest of a dictionary whose first key comes next, if it has one.
+#[cycle(reading)]
+fn dictionary_at(
+    alloc: Global,
+    bytes: &[u8],
+    from: usize,
+    depth: usize,
+) -> Result<(Value, usize), BenFault>
+    requires within { from ≤ length bytes.now }
+    requires depth { depth ≤ 16 }
+    ensures moves { IfOk result (λ x. (from < x.1) × (x.1 ≤ length bytes.now)) }
+    ensures reads { (os : List Open) → suc (length os) ≡ depth → Reached bytes.now from (Keyless os []) → FitsOpen os
+        → Outcome bytes.now result (λ x. ReadsValue bytes.now from os x.0 x.1) }
+{
+    let mut entries = Entries::new(alloc);
+    let mut at = from;
+    'pairs: while !has_byte(bytes, at, b'e') {
+        let (key, behind) = string_at(bytes, at)?;
+        if entries.get(key).is_some() {
+            return Err(BenFault::Bad(Bad::KeyTwice { at }));
+        }
+        let key = Bytes::from_slice(alloc, key)?;
+        let (value, next) = value_at(alloc, bytes, behind, depth)?;
+        entries.set(key, value)?;
+        at = next;
+    }
+    Ok((Value::Dict(entries), at + 1))
 }

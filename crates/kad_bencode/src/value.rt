@@ -2,7 +2,7 @@
 ghost use Rattle.std.specs.Prelude.{◌≡◌, [], List};
 
 use crate::entries::Dictionary;
-use kad_base::{Bytes, List};
+use kad_base::{Bytes, List, NoMemory};
 
 /// The values of a list, in order.
 pub type Values = List<Value>;
@@ -39,4 +39,15 @@ pub enum Bad {
 pub enum BenFault {
     Bad(Bad),
     NoMemory,
+}
+
+impl From<NoMemory> for BenFault {
+    ghost use Rattle.std.specs.Prelude.{◌≡◌};
+    ghost use Rattle.kad_bencode.specs.declared.value.BenFault.TheVariants as fault;
+
+    ghost from_gives = { λ _ e. e ≡ fault.NoMemory };
+
+    fn from(_: NoMemory) -> Self {
+        BenFault::NoMemory
+    }
 }
