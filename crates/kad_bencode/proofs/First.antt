@@ -59,14 +59,14 @@ standing bytes at text h t =
     (k, ap (λ m. take (m + length text) bytes) (sym l) ∙ ap (take (length (take at bytes) + length text)) (sym (take-append-drop at bytes)) ∙ take-append-add (take at bytes) (drop at bytes) (length text)
       ∙ ap (λ x. take at bytes ++ x) (ap (take (length text)) t.1 ∙ take-append-le (length text) text t.0 (omega arith) ∙ take_all (length text) text (omega arith)))
 
-integer_long : (n : ℤ) → 0 < length (integer_text n)
+pub integer_long : (n : ℤ) → 0 < length (integer_text n)
 integer_long (pos n) = omega arith
 integer_long (negsuc n) = omega arith
 
-string_long : (s : List ℕ) → 0 < length (string_text s)
+pub string_long : (s : List ℕ) → 0 < length (string_text s)
 string_long s = omega (arith, length-append (numeral (length s)) (58 ∷ s))
 
-front_reached : (bytes : List ℕ) (at : ℕ) (os : List Open) → take at bytes ≡ fronts os → Reached bytes at (Ready os)
+pub front_reached : (bytes : List ℕ) (at : ℕ) (os : List Open) → take at bytes ≡ fronts os → Reached bytes at (Ready os)
 front_reached bytes at os e = ap (run start) (e ∙ sym (append-nil (fronts os))) ∙ fronts_run os []
 
 module _ (bytes : List ℕ) (s : ℕ) (st : State) (reached : Reached bytes s st) (fits : FitsState st) (within : s ≤ length bytes) where

@@ -7,3 +7,4 @@ pub mod First
 pub mod Reading
 pub mod Places
 pub mod Nested
+pub mod Faults

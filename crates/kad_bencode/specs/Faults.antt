@@ -1,11 +1,13 @@
 -- Why bytes spell no value, and where it shows (this project's own rule; the forms are those of BEP 3).
-use Rattle.std.specs.Prelude.{◌≡◌, ℕ, suc, ◌+◌, ◌-◌, ◌≤◌, ◌<◌, Bool, true, false, List, [], ◌∷◌, ◌++◌, map, length, take, drop, ℤ, ◌⊎◌}
+use Rattle.std.specs.Prelude.{◌≡◌, ℕ, suc, ◌+◌, ◌-◌, ◌≤◌, ◌<◌, Bool, true, false, List, [], ◌∷◌, ◌++◌, map, length, take, drop, ℤ, ◌⊎◌, Result, Ok, Err}
 use Rattle.std.specs.List.{concat, flat_map}
 use Rattle.kad_bencode.specs.Keys.{keys_of}
 use Rattle.kad_bencode.specs.Spelling.{integer_text, string_text, pairs_text, text_of, IsText, is_i64, has_key}
 use Rattle.kad_bencode.specs.declared.entries.Pair.{Pair}
 use Rattle.kad_bencode.specs.declared.value.Value.{Value}
 use Rattle.kad_bencode.specs.declared.value.Bad.{Bad}
+use Rattle.kad_bencode.specs.declared.value.BenFault.{BenFault}
+use Rattle.kad_bencode.specs.declared.value.BenFault.TheVariants as fault
 use Rattle.kad_bencode.specs.declared.value.Bad.TheVariants.{NotBencode, Deep, NumberTooBig, KeyTwice, Trailing}
 
 -- some text begins so
@@ -87,3 +89,9 @@ pub record IsFirstFault (bytes : List ℕ) (bad : Bad) : Type 0 where
   pub seen : ℕ
   pub here : SeenAt bytes bad seen
   pub first : (other : Bad) (at : ℕ) → SeenAt bytes other at → seen ≤ at
+
+-- what is answered, unless memory ran out
+abbrev pub Answers : Result Value BenFault → Result Value Bad → Type 0
+Answers (Ok v) answer = answer ≡ Ok v
+Answers (Err (fault.Bad bad)) answer = answer ≡ Err bad
+Answers (Err fault.NoMemory) answer = Unit {0}

@@ -3,9 +3,12 @@
 #![tactic(auto)]
 
 pub mod entries;
+pub mod parts;
 pub mod reader;
 pub mod value;
+pub mod writer;
 
 pub use entries::{Dictionary, Pair};
-pub use reader::read;
+pub use reader::{MAX_DEPTH, read};
 pub use value::{Bad, BenFault, Entries, Value, Values};
+pub use writer::write;

@@ -2,8 +2,9 @@
 //! that stops at the limit.
 ghost use Rattle.std.specs.Prelude.{◌≡◌, ℕ, suc, ◌+◌, ◌<◌, ◌≤◌, List, [], ◌∷◌, length, IsTrue, IfOk, IsErrOf, get_or};
 ghost use Rattle.kad_bencode.specs.Spelling.{Spells};
-ghost use Rattle.kad_bencode.specs.Faults.{Open, InList, IsFirstFault};
+ghost use Rattle.kad_bencode.specs.Faults.{Open, InList, IsFirstFault, Answers};
 ghost use Rattle.kad_bencode.specs.declared.value.Bad.{Bad};
+ghost use Rattle.kad_bencode.specs.declared.value.Value.{Value};
 ghost use Rattle.kad_bencode.specs.Machine.{HasByte, HasNumber, ReadsDigits, is_nonzero, Awaits, Outcome, ReadsInteger, ReadsString, AwaitsString, Place, AwaitsNumber, AwaitsInteger, IsSigned, ReadsValue, Reached, Ready, Keyless, FitsOpen};
 
 use crate::value::{Bad, BenFault, Entries, Value, Values};
@@ -135,11 +136,22 @@ fn string_at(bytes: &[u8], at: usize) -> Result<(&[u8], usize), BenFault>
     Ok((&bytes[end + 1..next], next))
 }
 
-/// The value that the bytes spell, all of them. It takes memory in proportion to the bytes, however large a length they
-/// name.
+/// The value that the bytes spell, all of them, or the fault that is seen first. It takes memory in proportion to the
+/// bytes, however large a length they name.
 pub fn read(alloc: Global, bytes: &[u8]) -> Result<Value, BenFault>
+    // What is read is spelled so, and what is refused has that fault.
     ensures spells { IfOk result (Spells bytes.now) }
     ensures fault { (bad : Bad) → IsErrOf result (BenFault.Bad bad) → IsFirstFault bytes.now bad }
+    // What is spelled so is read, and what has that fault is refused, unless memory runs out.
+    ensures only { (v : Value) → Spells bytes.now v → Answers result (Ok v) }
+    ensures refused { (bad : Bad) → IsFirstFault bytes.now bad → Answers result (Err bad) }
+{
+    whole(alloc, bytes)
+}
+
+/// The value, and nothing behind it.
+fn whole(alloc: Global, bytes: &[u8]) -> Result<Value, BenFault>
+    ensures { Outcome bytes.now result (Spells bytes.now) }
 {
     let (value, next) = value_at(alloc, bytes, 0, 0)?;
     if next < bytes.len() {
