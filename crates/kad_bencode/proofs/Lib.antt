@@ -8,3 +8,4 @@ pub mod Reading
 pub mod Places
 pub mod Nested
 pub mod Faults
+pub mod Writing

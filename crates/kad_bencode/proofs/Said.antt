@@ -65,10 +65,10 @@ pub concat_push : (xs : List (List ℕ)) (x : List ℕ) → concat (xs ++ x ∷ 
 concat_push [] x = append-nil x
 concat_push (y ∷ ys) x = ap (λ l. y ++ l) (concat_push ys x) ∙ sym (append_assoc y (concat ys) x)
 
-texts_push : (vs : List Value) (v : Value) → concat (map text_of (vs ++ v ∷ [])) ≡ concat (map text_of vs) ++ text_of v
+pub texts_push : (vs : List Value) (v : Value) → concat (map text_of (vs ++ v ∷ [])) ≡ concat (map text_of vs) ++ text_of v
 texts_push vs v = ap concat (map-append text_of vs (v ∷ [])) ∙ concat_push (map text_of vs) (text_of v)
 
-pairs_push : (ps : List (Pair Value)) (key : List ℕ) (v : Value) → pairs_text (pairs_of (ps ++ record { key = key; value = v } ∷ [])) ≡ pairs_text (pairs_of ps) ++ (string_text key ++ text_of v)
+pub pairs_push : (ps : List (Pair Value)) (key : List ℕ) (v : Value) → pairs_text (pairs_of (ps ++ record { key = key; value = v } ∷ [])) ≡ pairs_text (pairs_of ps) ++ (string_text key ++ text_of v)
 pairs_push [] key v = append-nil (string_text key ++ text_of v)
 pairs_push (p ∷ ps) key v =
     ap (λ l. (string_text p.key ++ text_of p.value) ++ l) (pairs_push ps key v)

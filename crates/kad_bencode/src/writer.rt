@@ -61,14 +61,14 @@ fn append_value(value: &Value, to: &mut Vec<u8>) -> Result<(), NoMemory>
         Value::Text(text) => append_string(text.as_slice(), to),
         Value::List(values) => {
             append(to, b"l")?;
-            for value in values.as_slice() {
-                append_value(value, to)?;
+            'values: for item in values.as_slice() {
+                append_value(item, to)?;
             }
             append(to, b"e")
         }
         Value::Dict(entries) => {
             append(to, b"d")?;
-            for pair in entries.as_slice() {
+            'pairs: for pair in entries.as_slice() {
                 append_string(pair.key.as_slice(), to)?;
                 append_value(&pair.value, to)?;
             }
