@@ -13,6 +13,7 @@ use Rattle.kad_bencode.specs.declared.value.BenFault.{BenFault}
 use Rattle.kad_bencode.specs.declared.value.BenFault.TheVariants as fault
 use Rattle.kad_bencode.proofs.Takes.{text_run, fronts_run, pairs_taken, integer_run, string_run}
 use Rattle.kad_bencode.proofs.Said.{one_tree, whole_text, begins}
+use Rattle.kad_bencode.proofs.Ordered.{spelled_fits, spelled_in_order}
 use Rattle.kad_bencode.proofs.First.{first, ended, standing, reached_text, front_reached, integer_long, string_long}
 
 pub one_value : (bytes : List ℕ) (v w : Value) → Spells bytes v → Spells bytes w → v ≡ w
@@ -227,3 +228,7 @@ pub outcome_fault : (bytes : List ℕ) (r : Result Value BenFault) → Outcome b
 outcome_fault bytes (Ok v) h bad e = absurd (let f : ⊥ = cc in f)
 outcome_fault bytes (Err (fault.Bad other)) h bad e = let same : other ≡ bad = cc in subst (IsFirstFault bytes) same h
 outcome_fault bytes (Err fault.NoMemory) h bad e = absurd (let f : ⊥ = cc in f)
+
+pub outcome_limits : (bytes : List ℕ) (r : Result Value BenFault) → Outcome bytes r (Spells bytes) → IfOk r (λ v. Fits 0 v × (in_order v ≡ v))
+outcome_limits bytes (Ok v) h = (spelled_fits bytes v h, spelled_in_order bytes v h)
+outcome_limits bytes (Err e) h = tt

@@ -9,3 +9,4 @@ pub mod Places
 pub mod Nested
 pub mod Faults
 pub mod Writing
+pub mod Ordered

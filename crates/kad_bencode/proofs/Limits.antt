@@ -116,10 +116,10 @@ mapped_values : {W : Type 0} (f : Value → W) (ps : List (Pair Value)) → map 
 mapped_values f [] = refl
 mapped_values f (p ∷ ps) = ap (λ l. f p.value ∷ l) (mapped_values f ps)
 
-depth_of-pairs : (ps : List (Pair Value)) → depth_of (value.Dict ps) ≡ suc (greatest (map depth_of (values_of ps)))
+pub depth_of-pairs : (ps : List (Pair Value)) → depth_of (value.Dict ps) ≡ suc (greatest (map depth_of (values_of ps)))
 depth_of-pairs ps = depth_of-dict ps ∙ ap (λ l. suc (greatest l)) (mapped_values depth_of ps)
 
-is_plain-pairs : (ps : List (Pair Value)) → is_plain (value.Dict ps) ≡ (each_once (keys_of ps) && all_true (map is_plain (values_of ps)))
+pub is_plain-pairs : (ps : List (Pair Value)) → is_plain (value.Dict ps) ≡ (each_once (keys_of ps) && all_true (map is_plain (values_of ps)))
 is_plain-pairs ps = is_plain-dict ps ∙ ap (λ l. each_once (keys_of ps) && all_true l) (mapped_values is_plain ps)
 
 pub fits_dict : (os : List Open) (ps : List (Pair Value)) → FitsPairs os ps → Fits (length os) (value.Dict ps)

@@ -14,7 +14,7 @@ use Rattle.kad_bencode.specs.Keys.{key_cmp, keys_of, IsAscending, IsPlace, put, 
 use Rattle.kad_bencode.specs.declared.entries.Pair.{Pair}
 use Rattle.kad_bencode.proofs.Limits.{all_push}
 
-turned : (a b : List ℕ) → key_cmp a b ≡ Less → key_cmp b a ≡ Greater
+pub turned : (a b : List ℕ) → key_cmp a b ≡ Less → key_cmp b a ≡ Greater
 turned a b h = nat_list_cmp_total.antisymm b a ∙ ap ordering_reverse h
 
 turned_back : (a b : List ℕ) → key_cmp a b ≡ Greater → key_cmp b a ≡ Less
@@ -23,7 +23,7 @@ turned_back a b h = nat_list_cmp_total.antisymm b a ∙ ap ordering_reverse h
 module _ (V : Type 0) where
   -- ---- the pairs in front have keys below
 
-  put_front : (front back : List (Pair V)) (key : List ℕ) (v : V) → AllByRecursion (λ p. key_cmp key p.key ≡ Greater) front → put (front ++ back) key v ≡ front ++ put back key v
+  pub put_front : (front back : List (Pair V)) (key : List ℕ) (v : V) → AllByRecursion (λ p. key_cmp key p.key ≡ Greater) front → put (front ++ back) key v ≡ front ++ put back key v
   put_front [] back key v h = refl
   put_front (p ∷ ps) back key v h =
       ap (λ o. match_ordering o (record { key = key; value = v } ∷ p ∷ (ps ++ back)) (record { key = key; value = v } ∷ (ps ++ back)) (p ∷ put (ps ++ back) key v)) h.0

@@ -3,6 +3,7 @@
 #![tactic(auto)]
 
 pub mod entries;
+pub mod laws;
 pub mod parts;
 pub mod reader;
 pub mod value;
@@ -12,3 +13,6 @@ pub use entries::{Dictionary, Pair};
 pub use reader::{MAX_DEPTH, read};
 pub use value::{Bad, BenFault, Entries, Value, Values};
 pub use writer::write;
+
+#[cfg(test)]
+mod tests;

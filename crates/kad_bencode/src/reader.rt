@@ -1,7 +1,7 @@
 //! Reads bencode (BEP 3): one cursor goes over the input, once. Lists and dictionaries that are open nest by a recursion
 //! that stops at the limit.
 ghost use Rattle.std.specs.Prelude.{◌≡◌, ℕ, suc, ◌+◌, ◌<◌, ◌≤◌, List, [], ◌∷◌, length, IsTrue, IfOk, IsErrOf, get_or};
-ghost use Rattle.kad_bencode.specs.Spelling.{Spells};
+ghost use Rattle.kad_bencode.specs.Spelling.{Spells, Fits, in_order};
 ghost use Rattle.kad_bencode.specs.Faults.{Open, InList, IsFirstFault, Answers};
 ghost use Rattle.kad_bencode.specs.declared.value.Bad.{Bad};
 ghost use Rattle.kad_bencode.specs.declared.value.Value.{Value};
@@ -142,6 +142,7 @@ pub fn read(alloc: Global, bytes: &[u8]) -> Result<Value, BenFault>
     // What is read is spelled so, and what is refused has that fault.
     ensures spells { IfOk result (Spells bytes.now) }
     ensures fault { (bad : Bad) → IsErrOf result (BenFault.Bad bad) → IsFirstFault bytes.now bad }
+    ensures limits { IfOk result (λ v. Fits 0 v × (in_order v ≡ v)) }
     // What is spelled so is read, and what has that fault is refused, unless memory runs out.
     ensures only { (v : Value) → Spells bytes.now v → Answers result (Ok v) }
     ensures refused { (bad : Bad) → IsFirstFault bytes.now bad → Answers result (Err bad) }

@@ -1,4 +1,4 @@
-use Rattle.kad_bencode.proofs.Faults.{answers_value, answers_fault, outcome_value, outcome_fault}
+use Rattle.kad_bencode.proofs.Faults.{answers_value, answers_fault, outcome_value, outcome_fault, outcome_limits}
 use Rattle.kad_bencode.proofs.reader.read.Goals as goal
 
 pub returns-clause-spells : goal.returns-clause-spells
@@ -12,3 +12,6 @@ returns-clause-only c v s = answers_value c.args.bytes.now c.whole.result v (out
 
 pub returns-clause-refused : goal.returns-clause-refused
 returns-clause-refused c bad f = answers_fault c.args.bytes.now c.whole.result bad (outcome_value c.args.bytes.now c.whole.result c.whole.ensures) (outcome_fault c.args.bytes.now c.whole.result c.whole.ensures) f
+
+pub returns-clause-limits : goal.returns-clause-limits
+returns-clause-limits c = outcome_limits c.args.bytes.now c.whole.result c.whole.ensures
