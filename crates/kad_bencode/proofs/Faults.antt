@@ -1,9 +1,9 @@
 -- Bytes that spell a value have no fault, and others have one first fault.
-use Rattle.std.proofs.Common.{◌≡◌, ℕ, zero, suc, ◌+◌, ◌-◌, ◌<◌, ◌≤◌, Bool, true, false, List, [], ◌∷◌, ◌++◌, map, length, take, drop, get_or, Option, Some, None, Result, Ok, Err, IfOk, IsErrOf, ℤ, refl, sym, ap, ◌∙◌, subst, arith, append-nil, inl, inr, ◌⊎◌, ⊎_elim, length-append, length-drop}
+use Rattle.std.proofs.Common.{◌≡◌, ℕ, ◌+◌, ◌<◌, ◌≤◌, List, [], ◌∷◌, ◌++◌, length, take, Some, Result, Ok, Err, IfOk, IsErrOf, refl, sym, ap, ◌∙◌, subst, arith, append-nil, inl, inr, ◌⊎◌, ⊎_elim, length-append, length-drop}
 use Rattle.std.proofs.lemmas.List.{take_all}
-use Rattle.kad_bencode.specs.Spelling.{text_of, IsText, integer_text, string_text, pairs_text, in_order, Fits, Spells, numeral}
-use Rattle.kad_bencode.specs.Faults.{Open, InList, InPair, fronts, pairs_of, Stands, IsNotBencode, IsDeep, IsTooBig, IsTwice, IsTrailing, SeenAt, IsFirstFault, BeginsText, Answers}
-use Rattle.kad_bencode.specs.Machine.{Place, AsValue, AsKey, State, Ready, Keyless, Whole, filled, run, start, Reached, FitsState, Outcome}
+use Rattle.kad_bencode.specs.Spelling.{IsText, integer_text, string_text, pairs_text, in_order, Fits, Spells}
+use Rattle.kad_bencode.specs.Faults.{Open, InList, InPair, pairs_of, Stands, IsNotBencode, IsDeep, IsTooBig, IsTwice, IsTrailing, SeenAt, IsFirstFault, Answers}
+use Rattle.kad_bencode.specs.Machine.{AsKey, State, Ready, Keyless, Whole, filled, run, start, Reached, Outcome}
 use Rattle.kad_bencode.specs.declared.entries.Pair.{Pair}
 use Rattle.kad_bencode.specs.declared.value.Value.{Value}
 use Rattle.kad_bencode.specs.declared.value.Value.TheVariants as value
@@ -34,7 +34,7 @@ no_fault bytes v (Deep at) seen s d =
     let late : length bytes ≤ seen = first bytes (length bytes) (Whole s.tree) (whole_reached bytes v s) s.fits (omega arith) (Deep at) seen d in
     let same : seen ≡ at = d.1 in
     ⊎_elim (λ (t : Stands bytes at (108 ∷ [])). let k : at < length bytes = (standing bytes at (108 ∷ []) (omega arith) t).0 in omega arith)
-      (λ (t : Stands bytes at (100 ∷ [])). let k : at < length bytes = (standing bytes at (100 ∷ []) (omega arith) t).0 in omega arith) d.0.begins
+    (λ (t : Stands bytes at (100 ∷ [])). let k : at < length bytes = (standing bytes at (100 ∷ []) (omega arith) t).0 in omega arith) d.0.begins
 no_fault bytes v (NumberTooBig at) seen s d =
     let late : length bytes ≤ seen = first bytes (length bytes) (Whole s.tree) (whole_reached bytes v s) s.fits (omega arith) (NumberTooBig at) seen d in
     let last : at + length (integer_text d.number) ≡ seen + 1 = d.last in
@@ -61,7 +61,7 @@ past_big bytes at seen d =
     let k : at + length (integer_text d.number) ≤ length bytes = stands_within bytes at (integer_text d.number) (integer_long d.number) d.stands in
     record {
       reached = subst (λ i. Reached bytes i (filled d.opens (value.Int d.number))) d.last
-        (reached_text bytes at (at + length (integer_text d.number)) (integer_text d.number) (Ready d.opens) (Some (filled d.opens (value.Int d.number))) (front_reached bytes at d.opens d.front)
+          (reached_text bytes at (at + length (integer_text d.number)) (integer_text d.number) (Ready d.opens) (Some (filled d.opens (value.Int d.number))) (front_reached bytes at d.opens d.front)
           (standing bytes at (integer_text d.number) (integer_long d.number) d.stands).1
           (ap (run (Some (Ready d.opens))) (sym (append-nil (integer_text d.number))) ∙ integer_run d.opens d.number []));
       within = omega arith;
@@ -74,7 +74,7 @@ past_twice bytes at seen d =
     let r : Reached bytes at (Keyless d.opens d.pairs) = ap (run start) d.front ∙ fronts_run d.opens (100 ∷ pairs_text (pairs_of d.pairs)) ∙ ap (run (Some (Keyless d.opens []))) (sym (append-nil (pairs_text (pairs_of d.pairs)))) ∙ pairs_taken d.pairs d.opens [] in
     record {
       reached = subst (λ i. Reached bytes i (Ready (InPair d.pairs d.key ∷ d.opens))) d.last
-        (reached_text bytes at (at + length (string_text d.key)) (string_text d.key) (Keyless d.opens d.pairs) (Some (Ready (InPair d.pairs d.key ∷ d.opens))) r
+          (reached_text bytes at (at + length (string_text d.key)) (string_text d.key) (Keyless d.opens d.pairs) (Some (Ready (InPair d.pairs d.key ∷ d.opens))) r
           (standing bytes at (string_text d.key) (string_long d.key) d.stands).1
           (ap (run (Some (Keyless d.opens d.pairs))) (sym (append-nil (string_text d.key))) ∙ string_run (AsKey d.opens d.pairs) d.key []));
       within = omega arith;
@@ -87,10 +87,12 @@ past_deep bytes at d =
     ⊎_elim
     (λ (t : Stands bytes at (108 ∷ [])). inl (let p : Past bytes at (Ready (InList [] ∷ d.opens)) = record {
       reached = reached_text bytes at (at + 1) (108 ∷ []) (Ready d.opens) (Some (Ready (InList [] ∷ d.opens))) r (standing bytes at (108 ∷ []) (omega arith) t).1 refl;
-      within = (standing bytes at (108 ∷ []) (omega arith) t).0 } in p))
+      within = (standing bytes at (108 ∷ []) (omega arith) t).0;
+    } in p))
     (λ (t : Stands bytes at (100 ∷ [])). inr (let p : Past bytes at (Keyless d.opens []) = record {
       reached = reached_text bytes at (at + 1) (100 ∷ []) (Ready d.opens) (Some (Keyless d.opens [])) r (standing bytes at (100 ∷ []) (omega arith) t).1 refl;
-      within = (standing bytes at (100 ∷ []) (omega arith) t).0 } in p))
+      within = (standing bytes at (100 ∷ []) (omega arith) t).0;
+    } in p))
     d.begins
 
 same_state : (bytes : List ℕ) (seen : ℕ) (s t : State) → Past bytes seen s → Past bytes seen t → s ≡ t

@@ -1,20 +1,18 @@
 -- What the machine has taken, within the limits, has no fault that is seen before.
-use Rattle.std.proofs.Common.{◌≡◌, ℕ, zero, suc, ◌+◌, ◌-◌, ◌*◌, ◌<◌, ◌≤◌, Bool, true, false, cond, List, [], ◌∷◌, ◌++◌, map, length, take, drop, get_or, Option, Some, None, ℤ, pos, negsuc, nat_eq, refl, sym, ap, ◌∙◌, subst, arith, append_assoc, append-nil, inl, inr, ◌⊎◌, ⊎_elim, length-append, length-drop}
+use Rattle.std.proofs.Common.{◌≡◌, ℕ, suc, ◌+◌, ◌-◌, ◌<◌, ◌≤◌, true, false, List, [], ◌∷◌, ◌++◌, length, take, drop, get_or, Option, Some, None, ℤ, pos, negsuc, refl, sym, ap, ◌∙◌, arith, append_assoc, append-nil, inl, inr, ⊎_elim, length-append, length-drop}
 use Rattle.std.proofs.lemmas.Bool.{cases_lt}
-use Rattle.std.proofs.lemmas.List.{take_more, take-append-drop, length-take-le, take_all, drop-take, take-append-le}
+use Rattle.std.proofs.lemmas.List.{take_more, take-append-drop, length-take-le, take_all, take-append-le}
 use Rattle.std.proofs.Math.Seq.{take-append-add}
-use Rattle.kad_bencode.specs.Keys.{keys_of}
-use Rattle.kad_bencode.specs.Spelling.{text_of, IsText, integer_text, string_text, pairs_text, numeral, is_i64, is_plain, has_key, Fits}
-use Rattle.kad_bencode.specs.Faults.{Open, InList, InPair, fronts, pairs_of, BeginsText, Stands, IsNotBencode, IsDeep, IsTooBig, IsTwice, IsTrailing, SeenAt, IsFirstFault}
-use Rattle.kad_bencode.specs.Machine.{Place, AsValue, AsKey, State, Ready, Keyless, Whole, filled, stored, step, run, start, Reached, FitsPairs, FitsOpen, FitsState}
-use Rattle.kad_bencode.specs.declared.entries.Pair.{Pair}
+use Rattle.kad_bencode.specs.Spelling.{integer_text, string_text, pairs_text, numeral, Fits}
+use Rattle.kad_bencode.specs.Faults.{Open, InList, InPair, fronts, pairs_of, BeginsText, Stands, IsDeep, IsTooBig, IsTwice, SeenAt, IsFirstFault}
+use Rattle.kad_bencode.specs.Machine.{AsKey, State, Ready, Keyless, Whole, filled, step, run, start, Reached, FitsPairs, FitsOpen, FitsState}
 use Rattle.kad_bencode.specs.declared.value.Value.{Value}
 use Rattle.kad_bencode.specs.declared.value.Value.TheVariants as value
 use Rattle.kad_bencode.specs.declared.value.Bad.{Bad}
 use Rattle.kad_bencode.specs.declared.value.Bad.TheVariants.{NotBencode, Deep, NumberTooBig, KeyTwice, Trailing}
 use Rattle.kad_bencode.proofs.Folds.{is_plain-int}
-use Rattle.kad_bencode.proofs.Takes.{run_none, run_append, fronts_run, pairs_taken, integer_run, string_run, text_run}
-use Rattle.kad_bencode.proofs.Said.{nothing, same_some, begins, no_text, whole_text, run_front}
+use Rattle.kad_bencode.proofs.Takes.{run_append, fronts_run, pairs_taken, integer_run, string_run}
+use Rattle.kad_bencode.proofs.Said.{same_some, begins, no_text, whole_text}
 use Rattle.kad_bencode.proofs.Limits.{run_back, filled_fits}
 
 pub reached_more : (bytes : List ℕ) (i : ℕ) (st s : State) → Reached bytes i st → i < length bytes → step st (get_or bytes i 0) ≡ Some s → Reached bytes (i + 1) s
@@ -29,11 +27,12 @@ front_then bytes i j h =
     let e : i + (j - i) ≡ j = omega arith in
     sym (take-append-drop i (take j bytes)) ∙ ap (λ l. l ++ drop i (take j bytes)) (shorter bytes i j h)
   where
-  shorter : (bytes : List ℕ) (i j : ℕ) → i ≤ j → take i (take j bytes) ≡ take i bytes
-  shorter bytes i j h =
-      elim (cases_lt (length bytes) j) as (λ _. take i (take j bytes) ≡ take i bytes)
-      [ inl out ↦ ap (take i) (take_all j bytes (omega arith))
-      | inr within ↦ sym (take-append-le i (take j bytes) (drop j bytes) (omega (arith, length-take-le j bytes within))) ∙ ap (take i) (take-append-drop j bytes) ]
+    shorter : (bytes : List ℕ) (i j : ℕ) → i ≤ j → take i (take j bytes) ≡ take i bytes
+    shorter bytes i j h =
+        elim (cases_lt (length bytes) j) as (λ _. take i (take j bytes) ≡ take i bytes) [
+          | inl out ↦ ap (take i) (take_all j bytes (omega arith))
+          | inr within ↦ sym (take-append-le i (take j bytes) (drop j bytes) (omega (arith, length-take-le j bytes within))) ∙ ap (take i) (take-append-drop j bytes)
+        ]
 
 pub reached_back : (bytes : List ℕ) (i j : ℕ) (st s : State) → i ≤ j → Reached bytes j s → FitsState s → Reached bytes i st → FitsState st
 reached_back bytes i j st s h r f q =
@@ -55,9 +54,11 @@ pub standing : (bytes : List ℕ) (at : ℕ) (text : List ℕ) → 0 < length te
 standing bytes at text h t =
     let n : length (drop at bytes) ≡ length text + length t.0 = ap length t.1 ∙ length-append text t.0 in
     let k : at < length bytes = omega (arith, length-drop at bytes) in
-    let l : length (take at bytes) ≡ at = length-take-le at bytes (omega arith) in
-    (k, ap (λ m. take (m + length text) bytes) (sym l) ∙ ap (take (length (take at bytes) + length text)) (sym (take-append-drop at bytes)) ∙ take-append-add (take at bytes) (drop at bytes) (length text)
-      ∙ ap (λ x. take at bytes ++ x) (ap (take (length text)) t.1 ∙ take-append-le (length text) text t.0 (omega arith) ∙ take_all (length text) text (omega arith)))
+    let l : length (take at bytes) ≡ at = length-take-le at bytes (omega arith) in (
+      k,
+      ap (λ m. take (m + length text) bytes) (sym l) ∙ ap (take (length (take at bytes) + length text)) (sym (take-append-drop at bytes)) ∙ take-append-add (take at bytes) (drop at bytes) (length text)
+          ∙ ap (λ x. take at bytes ++ x) (ap (take (length text)) t.1 ∙ take-append-le (length text) text t.0 (omega arith) ∙ take_all (length text) text (omega arith)),
+    )
 
 pub integer_long : (n : ℤ) → 0 < length (integer_text n)
 integer_long (pos n) = omega arith
@@ -76,13 +77,13 @@ module _ (bytes : List ℕ) (s : ℕ) (st : State) (reached : Reached bytes s st
       let many : length d.opens ≡ 16 = d.many in
       ⊎_elim
       (λ (t : Stands bytes at (108 ∷ [])).
-        let q : Reached bytes (at + 1) (Ready (InList [] ∷ d.opens)) = reached_text bytes at (at + 1) (108 ∷ []) (Ready d.opens) (Some (Ready (InList [] ∷ d.opens))) r (standing bytes at (108 ∷ []) (omega arith) t).1 refl in
-        let f : FitsOpen (InList [] ∷ d.opens) = reached_back bytes (at + 1) s (Ready (InList [] ∷ d.opens)) st (omega arith) reached fits q in
-        let o : suc (length d.opens) ≤ 16 = f.0 in omega arith)
+      let q : Reached bytes (at + 1) (Ready (InList [] ∷ d.opens)) = reached_text bytes at (at + 1) (108 ∷ []) (Ready d.opens) (Some (Ready (InList [] ∷ d.opens))) r (standing bytes at (108 ∷ []) (omega arith) t).1 refl in
+      let f : FitsOpen (InList [] ∷ d.opens) = reached_back bytes (at + 1) s (Ready (InList [] ∷ d.opens)) st (omega arith) reached fits q in
+      let o : suc (length d.opens) ≤ 16 = f.0 in omega arith)
       (λ (t : Stands bytes at (100 ∷ [])).
-        let q : Reached bytes (at + 1) (Keyless d.opens []) = reached_text bytes at (at + 1) (100 ∷ []) (Ready d.opens) (Some (Keyless d.opens [])) r (standing bytes at (100 ∷ []) (omega arith) t).1 refl in
-        let f : FitsPairs d.opens [] × FitsOpen d.opens = reached_back bytes (at + 1) s (Keyless d.opens []) st (omega arith) reached fits q in
-        let o : suc (length d.opens) ≤ 16 = f.0.0 in omega arith)
+      let q : Reached bytes (at + 1) (Keyless d.opens []) = reached_text bytes at (at + 1) (100 ∷ []) (Ready d.opens) (Some (Keyless d.opens [])) r (standing bytes at (100 ∷ []) (omega arith) t).1 refl in
+      let f : FitsPairs d.opens [] × FitsOpen d.opens = reached_back bytes (at + 1) s (Keyless d.opens []) st (omega arith) reached fits q in
+      let o : suc (length d.opens) ≤ 16 = f.0.0 in omega arith)
       d.begins
 
   no_big : (at seen : ℕ) → seen < s → IsTooBig bytes at seen → ⊥
@@ -90,8 +91,8 @@ module _ (bytes : List ℕ) (s : ℕ) (st : State) (reached : Reached bytes s st
       let r : Reached bytes at (Ready d.opens) = front_reached bytes at d.opens d.front in
       let last : at + length (integer_text d.number) ≡ seen + 1 = d.last in
       let q : Reached bytes (at + length (integer_text d.number)) (filled d.opens (value.Int d.number)) =
-        reached_text bytes at (at + length (integer_text d.number)) (integer_text d.number) (Ready d.opens) (Some (filled d.opens (value.Int d.number))) r (standing bytes at (integer_text d.number) (integer_long d.number) d.stands).1
-        (ap (run (Some (Ready d.opens))) (sym (append-nil (integer_text d.number))) ∙ integer_run d.opens d.number []) in
+      reached_text bytes at (at + length (integer_text d.number)) (integer_text d.number) (Ready d.opens) (Some (filled d.opens (value.Int d.number))) r (standing bytes at (integer_text d.number) (integer_long d.number) d.stands).1
+      (ap (run (Some (Ready d.opens))) (sym (append-nil (integer_text d.number))) ∙ integer_run d.opens d.number []) in
       let f : FitsState (filled d.opens (value.Int d.number)) = reached_back bytes (at + length (integer_text d.number)) s (filled d.opens (value.Int d.number)) st (omega arith) reached fits q in
       let g : Fits (length d.opens) (value.Int d.number) = (filled_fits d.opens (value.Int d.number) f).1 in
       let e : true ≡ false = sym g.plain ∙ is_plain-int d.number ∙ d.big in cc
@@ -101,8 +102,8 @@ module _ (bytes : List ℕ) (s : ℕ) (st : State) (reached : Reached bytes s st
       let last : at + length (string_text d.key) ≡ seen + 1 = d.last in
       let r : Reached bytes at (Keyless d.opens d.pairs) = ap (run start) d.front ∙ fronts_run d.opens (100 ∷ pairs_text (pairs_of d.pairs)) ∙ ap (run (Some (Keyless d.opens []))) (sym (append-nil (pairs_text (pairs_of d.pairs)))) ∙ pairs_taken d.pairs d.opens [] in
       let q : Reached bytes (at + length (string_text d.key)) (Ready (InPair d.pairs d.key ∷ d.opens)) =
-        reached_text bytes at (at + length (string_text d.key)) (string_text d.key) (Keyless d.opens d.pairs) (Some (Ready (InPair d.pairs d.key ∷ d.opens))) r (standing bytes at (string_text d.key) (string_long d.key) d.stands).1
-        (ap (run (Some (Keyless d.opens d.pairs))) (sym (append-nil (string_text d.key))) ∙ string_run (AsKey d.opens d.pairs) d.key []) in
+      reached_text bytes at (at + length (string_text d.key)) (string_text d.key) (Keyless d.opens d.pairs) (Some (Ready (InPair d.pairs d.key ∷ d.opens))) r (standing bytes at (string_text d.key) (string_long d.key) d.stands).1
+      (ap (run (Some (Keyless d.opens d.pairs))) (sym (append-nil (string_text d.key))) ∙ string_run (AsKey d.opens d.pairs) d.key []) in
       let f : FitsOpen (InPair d.pairs d.key ∷ d.opens) = reached_back bytes (at + length (string_text d.key)) s (Ready (InPair d.pairs d.key ∷ d.opens)) st (omega arith) reached fits q in
       let e : true ≡ false = sym d.twice ∙ f.1 in cc
 
@@ -125,11 +126,14 @@ module _ (bytes : List ℕ) (s : ℕ) (st : State) (reached : Reached bytes s st
   pub not_bencode : (s < length bytes → step st (get_or bytes s 0) ≡ None) → ((v : Value) → st ≡ Whole v → ⊥) → IsFirstFault bytes (NotBencode s)
   not_bencode stuck partial = record {
     seen = s;
-    here = (record {
-      within = within;
-      begins = begins (take s bytes) st reached;
-      longest = λ h. no_text (take (s + 1) bytes) (ap (run start) (take_more bytes s 0 h) ∙ run_append start (take s bytes) (get_or bytes s 0 ∷ []) ∙ ap (λ o. run o (get_or bytes s 0 ∷ [])) reached ∙ stuck h);
-      unfinished = λ t. partial t.0 (same_some (sym reached ∙ whole_text (take s bytes) t));
-    }, refl);
+    here = (
+      record {
+        within = within;
+        begins = begins (take s bytes) st reached;
+        longest = λ h. no_text (take (s + 1) bytes) (ap (run start) (take_more bytes s 0 h) ∙ run_append start (take s bytes) (get_or bytes s 0 ∷ []) ∙ ap (λ o. run o (get_or bytes s 0 ∷ [])) reached ∙ stuck h);
+        unfinished = λ t. partial t.0 (same_some (sym reached ∙ whole_text (take s bytes) t));
+      },
+      refl,
+    );
     first = first;
   }

@@ -1,6 +1,6 @@
 -- The equations of the folds over values, and induction.
-use Rattle.std.proofs.Common.{◌≡◌, ℕ, suc, max, Bool, true, false, cond, List, [], ◌∷◌, ◌++◌, ◌&&◌, map, ℤ, refl, sym, ap, ◌∙◌, subst}
-use Rattle.std.specs.List.{concat, flat_map}
+use Rattle.std.proofs.Common.{◌≡◌, ℕ, suc, Bool, true, List, [], ◌∷◌, ◌++◌, ◌&&◌, map, ℤ, refl, sym, ap, ◌∙◌, subst}
+use Rattle.std.specs.List.{concat}
 use Rattle.kad_bencode.specs.Keys.{keys_of}
 use Rattle.kad_bencode.specs.Spelling.{integer_text, string_text, pairs_text, text_step, text_of, depth_step, depth_of, plain_step, is_plain, in_order_step, in_order, values_of, greatest, all_true, each_once, is_i64, put_all}
 use Rattle.kad_bencode.specs.Faults.{pairs_of}

@@ -1,13 +1,12 @@
 -- What is within the limits stays so while less is read.
-use Rattle.std.proofs.Common.{◌≡◌, ℕ, zero, suc, ◌+◌, ◌-◌, ◌*◌, ◌<◌, ◌≤◌, max, Bool, true, false, cond, not, ◌&&◌, ◌||◌, List, [], ◌∷◌, ◌++◌, map, length, Option, Some, None, ℤ, pos, negsuc, nat_eq, refl, sym, ap, ◌∙◌, subst, arith}
+use Rattle.std.proofs.Common.{◌≡◌, ℕ, suc, ◌+◌, ◌-◌, ◌*◌, ◌≤◌, Bool, true, false, not, ◌&&◌, ◌||◌, List, [], ◌∷◌, ◌++◌, map, length, Some, None, ℤ, pos, nat_eq, refl, sym, ap, ◌∙◌, subst, arith}
 use Rattle.std.specs.List.{AllByRecursion}
 use Rattle.std.specs.Ordering.{is_eq}
-use Rattle.std.specs.Cmp.{IsEquivalence}
 use Rattle.std.proofs.lemmas.Cmp.{nat_list_cmp_total, eq_by_cmp_equiv}
 use Rattle.kad_bencode.specs.Keys.{key_cmp, keys_of}
 use Rattle.kad_bencode.specs.Spelling.{depth_of, is_plain, is_i64, greatest, all_true, has_key, each_once, values_of, Fits}
 use Rattle.kad_bencode.specs.Faults.{Open, InList, InPair}
-use Rattle.kad_bencode.specs.Machine.{Place, AsValue, AsKey, State, Ready, Keyless, Whole, Sign, Minus, Zero, Digits, NoLength, Length, Body, filled, stored, before, signed, closed, is_digit, is_nonzero, length_begins, step, run, FitsPairs, FitsOpen, FitsPlace, FitsState}
+use Rattle.kad_bencode.specs.Machine.{Place, AsValue, AsKey, State, Ready, Keyless, Whole, Sign, Minus, Zero, Digits, NoLength, Length, Body, filled, stored, signed, closed, is_digit, is_nonzero, length_begins, step, run, FitsPairs, FitsOpen, FitsPlace, FitsState}
 use Rattle.kad_bencode.specs.declared.entries.Pair.{Pair}
 use Rattle.kad_bencode.specs.declared.value.Value.{Value}
 use Rattle.kad_bencode.specs.declared.value.Value.TheVariants as value
@@ -62,14 +61,14 @@ same_key a b = (eq_by_cmp_equiv nat_list_cmp_total).symm a b
 has_push : (ks : List (List ℕ)) (k key : List ℕ) → has_key (ks ++ k ∷ []) key ≡ (has_key ks key || is_eq (key_cmp key k))
 has_push [] k key = or_false (is_eq (key_cmp key k))
   where
-  or_false : (b : Bool) → (b || false) ≡ (false || b)
-  or_false true = refl
-  or_false false = refl
+    or_false : (b : Bool) → (b || false) ≡ (false || b)
+    or_false true = refl
+    or_false false = refl
 has_push (j ∷ ks) k key = ap (λ b. is_eq (key_cmp key j) || b) (has_push ks k key) ∙ or_assoc (is_eq (key_cmp key j)) (has_key ks key) (is_eq (key_cmp key k))
   where
-  or_assoc : (a b c : Bool) → (a || (b || c)) ≡ ((a || b) || c)
-  or_assoc true b c = refl
-  or_assoc false b c = refl
+    or_assoc : (a b c : Bool) → (a || (b || c)) ≡ ((a || b) || c)
+    or_assoc true b c = refl
+    or_assoc false b c = refl
 
 -- no key twice, and the new one isn't there
 pub once_push : (ks : List (List ℕ)) (k : List ℕ) → each_once (ks ++ k ∷ []) ≡ (each_once ks && not (has_key ks k))
@@ -79,11 +78,11 @@ once_push (j ∷ ks) k =
     ∙ ap (λ b. not (has_key ks j || b) && (each_once ks && not (has_key ks k))) (same_key j k)
     ∙ turned (has_key ks j) (is_eq (key_cmp k j)) (each_once ks) (has_key ks k)
   where
-  turned : (a b c d : Bool) → (not (a || b) && (c && not d)) ≡ ((not a && c) && not (b || d))
-  turned true b c d = refl
-  turned false true true d = refl
-  turned false true false d = refl
-  turned false false c d = refl
+    turned : (a b c d : Bool) → (not (a || b) && (c && not d)) ≡ ((not a && c) && not (b || d))
+    turned true b c d = refl
+    turned false true true d = refl
+    turned false true false d = refl
+    turned false false c d = refl
 
 -- ---- lists of values
 
@@ -97,9 +96,10 @@ fits_each n (v ∷ vs) h a =
 
 pub each_fits : (n : ℕ) (vs : List Value) → n + greatest (map depth_of vs) ≤ 16 → all_true (map is_plain vs) ≡ true → AllByRecursion (Fits n) vs
 each_fits n [] h a = tt
-each_fits n (v ∷ vs) h a =
-    (record { depth = omega arith; plain = and_left (is_plain v) (all_true (map is_plain vs)) a },
-    each_fits n vs (omega arith) (and_right (is_plain v) (all_true (map is_plain vs)) a))
+each_fits n (v ∷ vs) h a = (
+  record { depth = omega arith; plain = and_left (is_plain v) (all_true (map is_plain vs)) a },
+  each_fits n vs (omega arith) (and_right (is_plain v) (all_true (map is_plain vs)) a),
+)
 
 pub fits_list : (n : ℕ) (vs : List Value) → suc n ≤ 16 → AllByRecursion (Fits (suc n)) vs → Fits n (value.List vs)
 fits_list n vs h a =
@@ -148,9 +148,11 @@ at_most_16 (InPair ps key ∷ os) f = f.0.0
 -- ---- a value is filled in
 
 pub fits_pairs_push : (os : List Open) (ps : List (Pair Value)) (key : List ℕ) (v : Value) → FitsPairs os ps → has_key (keys_of ps) key ≡ false → Fits (suc (length os)) v → FitsPairs os (ps ++ record { key = key; value = v } ∷ [])
-fits_pairs_push os ps key v f h g =
-    (f.0, subst (AllByRecursion (Fits (suc (length os)))) (sym (values_push ps key v)) (all_push (Fits (suc (length os))) (values_of ps) v f.1 g),
-    ap each_once (keys_push ps key v) ∙ once_push (keys_of ps) key ∙ (λ i. f.2 i && not (h i)))
+fits_pairs_push os ps key v f h g = (
+  f.0,
+  subst (AllByRecursion (Fits (suc (length os)))) (sym (values_push ps key v)) (all_push (Fits (suc (length os))) (values_of ps) v f.1 g),
+  ap each_once (keys_push ps key v) ∙ once_push (keys_of ps) key ∙ (λ i. f.2 i && not (h i)),
+)
 
 pub fits_filled : (os : List Open) (v : Value) → FitsOpen os → Fits (length os) v → FitsState (filled os v)
 fits_filled [] v f g = g
@@ -215,6 +217,7 @@ step_back (Body p n t) b s =
 pub run_back : (bs : List ℕ) (st s : State) → FitsState s → run (Some st) bs ≡ Some s → FitsState st
 run_back [] st s f = λ h. subst FitsState (sym (same_some h)) f
 run_back (b ∷ bs) st s f =
-    elim (step st b) as (λ o. step st b ≡ o → run o bs ≡ Some s → FitsState st)
-    [ None ↦ λ e h. nothing (sym (run_none bs) ∙ h)
-    | Some t ↦ λ e h. step_back st b t e (run_back bs t s f h) ] refl
+    elim (step st b) as (λ o. step st b ≡ o → run o bs ≡ Some s → FitsState st) [
+      | None ↦ λ e h. nothing (sym (run_none bs) ∙ h)
+      | Some t ↦ λ e h. step_back st b t e (run_back bs t s f h)
+    ] refl

@@ -1,5 +1,5 @@
 -- The steps of the reader over values, lists and dictionaries.
-use Rattle.std.proofs.Common.{◌≡◌, ℕ, zero, suc, ◌+◌, ◌-◌, ◌*◌, ◌<◌, ◌≤◌, Bool, true, false, cond, ◌||◌, List, [], ◌∷◌, ◌++◌, map, length, take, drop, get_or, Option, Some, None, Result, Ok, Err, is_some, option_copied, Bor, ℤ, pos, negsuc, nat_eq, refl, sym, ap, ◌∙◌, subst, arith, append-nil, inl, inr, ◌⊎◌, Ordering}
+use Rattle.std.proofs.Common.{◌≡◌, ℕ, suc, ◌+◌, ◌-◌, ◌<◌, ◌≤◌, Bool, true, false, cond, ◌||◌, List, [], ◌∷◌, ◌++◌, map, length, take, drop, get_or, Option, Some, None, Result, Ok, Err, is_some, option_copied, Bor, ℤ, nat_eq, refl, sym, ap, ◌∙◌, subst, arith, inl, inr}
 use Rattle.std.specs.List.{AllByRecursion}
 use Rattle.std.specs.Ordering.{is_eq, match_ordering}
 use Rattle.std.specs.declared.cmp.Ordering.TheVariants.{Less, Equal, Greater}
@@ -8,13 +8,13 @@ use Rattle.std.proofs.lemmas.Bool.Decides.{nat_tests}
 use Rattle.std.proofs.lemmas.List.{take_all, map-append}
 use Rattle.std.proofs.Math.Seq.{drop-cons}
 use Rattle.kad_bencode.specs.Keys.{key_cmp, keys_of, put, value_of}
-use Rattle.kad_bencode.specs.Spelling.{text_of, string_text, has_key, in_order, put_all, Fits, Spells}
-use Rattle.kad_bencode.specs.Faults.{Open, InList, InPair, fronts, Stands, IsDeep, IsTwice, IsTrailing, IsFirstFault}
-use Rattle.kad_bencode.specs.Machine.{Place, AsValue, AsKey, State, Ready, Keyless, Whole, Sign, NoLength, Length, filled, stored, before, closed, is_digit, is_nonzero, length_begins, step, run, start, Reached, FitsPairs, FitsOpen, FitsState, Awaits, AwaitsInteger, AwaitsString, ReadsValue, ReadsInteger, ReadsString, HasByte, Outcome}
+use Rattle.kad_bencode.specs.Spelling.{string_text, has_key, in_order, put_all, Fits, Spells}
+use Rattle.kad_bencode.specs.Faults.{Open, InList, InPair, Stands, IsFirstFault}
+use Rattle.kad_bencode.specs.Machine.{Place, AsValue, AsKey, State, Ready, Keyless, Whole, Sign, NoLength, Length, filled, closed, is_digit, is_nonzero, length_begins, step, Reached, FitsPairs, FitsOpen, Awaits, AwaitsInteger, AwaitsString, ReadsValue, ReadsInteger, ReadsString, HasByte, Outcome}
 use Rattle.kad_bencode.specs.declared.entries.Pair.{Pair}
 use Rattle.kad_bencode.specs.declared.value.Value.{Value}
 use Rattle.kad_bencode.specs.declared.value.Value.TheVariants as value
-use Rattle.kad_bencode.specs.declared.value.Bad.TheVariants.{NotBencode, Deep, NumberTooBig, KeyTwice, Trailing}
+use Rattle.kad_bencode.specs.declared.value.Bad.TheVariants.{Deep, KeyTwice, Trailing}
 use Rattle.kad_bencode.specs.declared.value.BenFault.{BenFault}
 use Rattle.kad_bencode.specs.declared.value.BenFault.TheVariants.{Bad, NoMemory}
 use Rattle.kad_bencode.proofs.Folds.{in_order-int, in_order-text, in_order-list, in_order-dict, ordered_pairs, keys_mapped}
@@ -77,10 +77,11 @@ no_length p b h =
     ap (λ c. cond c (Some (NoLength p)) (cond (is_nonzero b) (Some (Length p (b - 48))) None)) (not_zero b h)
     ∙ ap (λ c. cond c (Some (Length p (b - 48))) None) (not_more b h)
   where
-  not_zero : (b : ℕ) → is_digit b ≡ false → nat_eq b 48 ≡ false
-  not_zero b h = grind (arith, nat_tests)
-  not_more : (b : ℕ) → is_digit b ≡ false → is_nonzero b ≡ false
-  not_more b h = grind (arith, nat_tests)
+    not_zero : (b : ℕ) → is_digit b ≡ false → nat_eq b 48 ≡ false
+    not_zero b h = grind (arith, nat_tests)
+
+    not_more : (b : ℕ) → is_digit b ≡ false → is_nonzero b ≡ false
+    not_more b h = grind (arith, nat_tests)
 
 stuck_ready : (os : List Open) (b : ℕ) → (b ≡ 105 → ⊥) → (b ≡ 108 → ⊥) → (b ≡ 100 → ⊥) → (b ≡ 101 → closed os ≡ None) → is_digit b ≡ false → step (Ready os) b ≡ None
 stuck_ready os b i l d e n =
@@ -89,9 +90,9 @@ stuck_ready os b i l d e n =
     ∙ ap (λ c. cond c (Some (Keyless os [])) (cond (nat_eq b 101) (closed os) (length_begins (AsValue os) b))) (different b 100 d)
     ∙ ends (nat_eq b 101) (closed os) (length_begins (AsValue os) b) (λ h. e (is_equal b 101 h)) (no_length (AsValue os) b n)
   where
-  ends : (c : Bool) (x y : Option State) → (c ≡ true → x ≡ None) → y ≡ None → cond c x y ≡ None
-  ends true x y f g = f refl
-  ends false x y f g = g
+    ends : (c : Bool) (x y : Option State) → (c ≡ true → x ≡ None) → y ≡ None → cond c x y ≡ None
+    ends true x y f g = f refl
+    ends false x y f g = g
 
 pub awaits_text : (bytes : List ℕ) (at : ℕ) (os : List Open) → Awaits bytes at os → HasByte bytes at 105 false → HasByte bytes at 108 false → HasByte bytes at 100 false → AwaitsString bytes at (AsValue os)
 awaits_text bytes at os a i l d = record {
@@ -181,32 +182,33 @@ or_twice false c = refl
 there_put : {V : Type 0} (ps : List (Pair V)) (k : List ℕ) (v : V) (key : List ℕ) → is_some (value_of (put ps k v) key) ≡ (is_eq (key_cmp key k) || is_some (value_of ps key))
 there_put [] k v key = some_cond (is_eq (key_cmp key k)) v None
 there_put {V} (p ∷ ps) k v key =
-    elim (key_cmp k p.key) as (λ o. key_cmp k p.key ≡ o → is_some (value_of (match_ordering o (record { key = k; value = v } ∷ p ∷ ps) (record { key = k; value = v } ∷ ps) (p ∷ put ps k v)) key) ≡ (is_eq (key_cmp key k) || is_some (value_of (p ∷ ps) key)))
-    [ Less ↦ λ e. some_cond (is_eq (key_cmp key k)) v (value_of (p ∷ ps) key)
-    | Equal ↦ λ e. some_cond (is_eq (key_cmp key k)) v (value_of ps key)
-      ∙ or_twice (is_eq (key_cmp key k)) (is_some (value_of ps key))
-      ∙ ap (λ x. is_eq (key_cmp key k) || (is_eq (key_cmp key x) || is_some (value_of ps key))) (exact_bytes k p.key e)
-      ∙ ap (λ b. is_eq (key_cmp key k) || b) (sym (some_cond (is_eq (key_cmp key p.key)) p.value (value_of ps key)))
-    | Greater ↦ λ e. some_cond (is_eq (key_cmp key p.key)) p.value (value_of (put ps k v) key)
-      ∙ ap (λ b. is_eq (key_cmp key p.key) || b) (there_put ps k v key)
-      ∙ or_swap (is_eq (key_cmp key p.key)) (is_eq (key_cmp key k)) (is_some (value_of ps key))
-      ∙ ap (λ b. is_eq (key_cmp key k) || b) (sym (some_cond (is_eq (key_cmp key p.key)) p.value (value_of ps key))) ] refl
+    elim (key_cmp k p.key) as (λ o. key_cmp k p.key ≡ o → is_some (value_of (match_ordering o (record { key = k; value = v } ∷ p ∷ ps) (record { key = k; value = v } ∷ ps) (p ∷ put ps k v)) key) ≡ (is_eq (key_cmp key k) || is_some (value_of (p ∷ ps) key))) [
+      | Less ↦ λ e. some_cond (is_eq (key_cmp key k)) v (value_of (p ∷ ps) key)
+      | Equal ↦ λ e. some_cond (is_eq (key_cmp key k)) v (value_of ps key)
+          ∙ or_twice (is_eq (key_cmp key k)) (is_some (value_of ps key))
+          ∙ ap (λ x. is_eq (key_cmp key k) || (is_eq (key_cmp key x) || is_some (value_of ps key))) (exact_bytes k p.key e)
+          ∙ ap (λ b. is_eq (key_cmp key k) || b) (sym (some_cond (is_eq (key_cmp key p.key)) p.value (value_of ps key)))
+      | Greater ↦ λ e. some_cond (is_eq (key_cmp key p.key)) p.value (value_of (put ps k v) key)
+          ∙ ap (λ b. is_eq (key_cmp key p.key) || b) (there_put ps k v key)
+          ∙ or_swap (is_eq (key_cmp key p.key)) (is_eq (key_cmp key k)) (is_some (value_of ps key))
+          ∙ ap (λ b. is_eq (key_cmp key k) || b) (sym (some_cond (is_eq (key_cmp key p.key)) p.value (value_of ps key)))
+    ] refl
 
 there_put_all : {V : Type 0} (filed ps : List (Pair V)) (key : List ℕ) → is_some (value_of (put_all filed ps) key) ≡ (is_some (value_of filed key) || has_key (keys_of ps) key)
 there_put_all filed [] key = or_false (is_some (value_of filed key))
   where
-  or_false : (b : Bool) → b ≡ (b || false)
-  or_false true = refl
-  or_false false = refl
+    or_false : (b : Bool) → b ≡ (b || false)
+    or_false true = refl
+    or_false false = refl
 there_put_all filed (p ∷ ps) key =
     there_put_all (put filed p.key p.value) ps key
     ∙ ap (λ b. b || has_key (keys_of ps) key) (there_put filed p.key p.value key)
     ∙ moved (is_eq (key_cmp key p.key)) (is_some (value_of filed key)) (has_key (keys_of ps) key)
   where
-  moved : (a b c : Bool) → ((a || b) || c) ≡ (b || (a || c))
-  moved true true c = refl
-  moved true false c = refl
-  moved false b c = refl
+    moved : (a b c : Bool) → ((a || b) || c) ≡ (b || (a || c))
+    moved true true c = refl
+    moved true false c = refl
+    moved false b c = refl
 
 pub there : (pairs : List (Pair Value)) (key : List ℕ) → is_some (value_of (put_all [] (ordered_pairs pairs)) key) ≡ has_key (keys_of pairs) key
 there pairs key = there_put_all [] (ordered_pairs pairs) key ∙ ap (λ ks. has_key ks key) (keys_mapped in_order pairs)

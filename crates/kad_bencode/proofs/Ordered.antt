@@ -1,5 +1,5 @@
 -- A value whose pairs were put in order stays within the limits, and putting it in order again changes nothing.
-use Rattle.std.proofs.Common.{◌≡◌, ℕ, zero, suc, ◌+◌, ◌<◌, ◌≤◌, max, Bool, true, false, cond, not, ◌&&◌, ◌||◌, List, [], ◌∷◌, ◌++◌, map, length, ℤ, refl, sym, ap, ◌∙◌, subst, arith, append_assoc, append-nil, Ordering}
+use Rattle.std.proofs.Common.{◌≡◌, ℕ, ◌+◌, ◌≤◌, true, false, not, ◌&&◌, ◌||◌, List, [], ◌∷◌, ◌++◌, map, refl, sym, ap, ◌∙◌, subst, arith, append_assoc, append-nil}
 use Rattle.std.specs.List.{AllByRecursion}
 use Rattle.std.specs.List.Sorted.{IsStrictlySortedBy}
 use Rattle.std.specs.Ordering.{is_eq, match_ordering}
@@ -9,7 +9,7 @@ use Rattle.kad_bencode.specs.Spelling.{text_of, depth_of, is_plain, greatest, al
 use Rattle.kad_bencode.specs.declared.entries.Pair.{Pair}
 use Rattle.kad_bencode.specs.declared.value.Value.{Value}
 use Rattle.kad_bencode.specs.declared.value.Value.TheVariants as value
-use Rattle.kad_bencode.proofs.Folds.{by_value, Each, EachValue, in_order-int, in_order-text, in_order-list, in_order-dict, ordered_pairs, depth_of-int, depth_of-text, is_plain-int, is_plain-text, is_plain-list, depth_of-list}
+use Rattle.kad_bencode.proofs.Folds.{by_value, Each, EachValue, in_order-int, in_order-text, in_order-list, in_order-dict, ordered_pairs, is_plain-list, depth_of-list}
 use Rattle.kad_bencode.proofs.Limits.{and_both, and_left, and_right, depth_of-pairs, is_plain-pairs}
 use Rattle.kad_bencode.proofs.Places.{put_ascending, put_front, turned}
 
@@ -44,9 +44,9 @@ unfolding IsStrictlySortedBy
 last_above [] p ps h = tt
 last_above (q ∷ qs) p ps h = (turned q.key p.key (among (λ k. key_cmp q.key k ≡ Less) qs p ps h.0), last_above qs p ps h.1)
   where
-  among : (P : List ℕ → Type 0) (qs : List (Pair Value)) (p : Pair Value) (ps : List (Pair Value)) → AllByRecursion P (keys_of (qs ++ p ∷ ps)) → P p.key
-  among P [] p ps a = a.0
-  among P (q ∷ qs) p ps a = among P qs p ps a.1
+    among : (P : List ℕ → Type 0) (qs : List (Pair Value)) (p : Pair Value) (ps : List (Pair Value)) → AllByRecursion P (keys_of (qs ++ p ∷ ps)) → P p.key
+    among P [] p ps a = a.0
+    among P (q ∷ qs) p ps a = among P qs p ps a.1
 
 put_last : (filed : List (Pair Value)) (p : Pair Value) (ps : List (Pair Value)) → IsAscending (filed ++ p ∷ ps) → put filed p.key p.value ≡ filed ++ p ∷ []
 put_last filed p ps h = ap (λ l. put l p.key p.value) (sym (append-nil filed)) ∙ put_front Value filed [] p.key p.value (last_above filed p ps h)
@@ -121,7 +121,7 @@ ordered_same (p ∷ ps) h = (λ i. record { key = p.key; value = h.0 i } ∷ ord
 ordered_list : (vs : List Value) → Each InOrder vs → InOrder (value.List vs)
 ordered_list vs e = record {
   depth = let a : greatest (map depth_of (map in_order vs)) ≤ greatest (map depth_of vs) = list_depth (greatest (map depth_of vs)) vs e (omega arith) in
-    omega (arith, ap depth_of (in_order-list vs), depth_of-list (map in_order vs), depth_of-list vs);
+      omega (arith, ap depth_of (in_order-list vs), depth_of-list (map in_order vs), depth_of-list vs);
   plain = λ h. ap is_plain (in_order-list vs) ∙ is_plain-list (map in_order vs) ∙ list_plain vs e (sym (is_plain-list vs) ∙ h);
   again = ap in_order (in_order-list vs) ∙ in_order-list (map in_order vs) ∙ ap value.List (list_again vs e) ∙ sym (in_order-list vs);
 }
@@ -132,14 +132,14 @@ ordered_dictionary ps e =
     record {
       depth = let a : greatest (map depth_of (values_of (put_all [] (ordered_pairs ps)))) ≤ greatest (map depth_of (values_of ps)) =
           all_to_greatest (greatest (map depth_of (values_of ps))) (values_of (put_all [] (ordered_pairs ps))) (values_put_all (λ v. depth_of v ≤ greatest (map depth_of (values_of ps))) [] (ordered_pairs ps) tt (pairs_depth (greatest (map depth_of (values_of ps))) ps e (omega arith))) in
-        omega (arith, ap depth_of (in_order-dict ps), depth_of-pairs (put_all [] (ordered_pairs ps)), depth_of-pairs ps);
+          omega (arith, ap depth_of (in_order-dict ps), depth_of-pairs (put_all [] (ordered_pairs ps)), depth_of-pairs ps);
       plain = λ h. ap is_plain (in_order-dict ps) ∙ is_plain-pairs (put_all [] (ordered_pairs ps))
-        ∙ and_both (each_once (keys_of (put_all [] (ordered_pairs ps)))) (all_true (map is_plain (values_of (put_all [] (ordered_pairs ps))))) (once_ascending (keys_of (put_all [] (ordered_pairs ps))) (ordered_ascending ps))
+          ∙ and_both (each_once (keys_of (put_all [] (ordered_pairs ps)))) (all_true (map is_plain (values_of (put_all [] (ordered_pairs ps))))) (once_ascending (keys_of (put_all [] (ordered_pairs ps))) (ordered_ascending ps))
           (all_to_true (values_of (put_all [] (ordered_pairs ps))) (values_put_all (λ v. is_plain v ≡ true) [] (ordered_pairs ps) tt (pairs_plain ps e (and_right (each_once (keys_of ps)) (all_true (map is_plain (values_of ps))) (sym (is_plain-pairs ps) ∙ h)))));
       again = ap in_order (in_order-dict ps) ∙ in_order-dict (put_all [] (ordered_pairs ps))
-        ∙ ap (λ l. value.Dict (put_all [] l)) (ordered_same (put_all [] (ordered_pairs ps)) (values_put_all (λ v. in_order v ≡ v) [] (ordered_pairs ps) tt (pairs_again ps e)))
-        ∙ ap value.Dict (put_all_ascending [] (put_all [] (ordered_pairs ps)) (ordered_ascending ps))
-        ∙ sym (in_order-dict ps);
+          ∙ ap (λ l. value.Dict (put_all [] l)) (ordered_same (put_all [] (ordered_pairs ps)) (values_put_all (λ v. in_order v ≡ v) [] (ordered_pairs ps) tt (pairs_again ps e)))
+          ∙ ap value.Dict (put_all_ascending [] (put_all [] (ordered_pairs ps)) (ordered_ascending ps))
+          ∙ sym (in_order-dict ps);
     }
 
 pub ordered : (t : Value) → InOrder t

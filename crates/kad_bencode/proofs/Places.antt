@@ -1,10 +1,9 @@
 -- Where a key is among ascending ones, and what `put`, `value_of` and `without` do there.
-use Rattle.std.proofs.Common.{◌≡◌, ℕ, zero, suc, ◌+◌, ◌-◌, ◌<◌, ◌≤◌, Bool, true, false, cond, List, [], ◌∷◌, ◌++◌, map, length, take, drop, get_or, Option, Some, None, Result, Ok, Err, OnOk, OnErr, refl, sym, ap, ◌∙◌, subst, arith, Ordering}
+use Rattle.std.proofs.Common.{◌≡◌, ℕ, zero, suc, ◌-◌, ◌<◌, ◌≤◌, true, false, cond, List, [], ◌∷◌, ◌++◌, length, take, drop, get_or, Option, Some, None, Result, Ok, Err, OnOk, OnErr, refl, sym, ap, ◌∙◌, subst, arith, Ordering}
 use Rattle.std.specs.List.{AllByRecursion, insert, remove}
 use Rattle.std.specs.List.Sorted.{IsStrictlySortedBy}
 use Rattle.std.specs.Ordering.{is_eq, match_ordering, ordering_reverse}
 use Rattle.std.specs.declared.cmp.Ordering.TheVariants.{Less, Equal, Greater}
-use Rattle.std.specs.Cmp.{IsTotalOrder}
 use Rattle.std.proofs.lemmas.Cmp.{nat_list_cmp_total}
 use Rattle.std.proofs.lemmas.Map.Lookups.{exact_bytes}
 use Rattle.std.proofs.lemmas.List.{take-append-drop}
@@ -65,8 +64,8 @@ module _ (V : Type 0) where
         let k : key ≡ q.key = exact_bytes key q.key same in
         set_is pairs i (record { key = q.key; value = v }) h.0
         ∙ sym (ap (λ l. put l key v) (sym (take-append-drop i pairs) ∙ ap (λ l. take i pairs ++ l) d) ∙ put_front (take i pairs) (q ∷ drop (suc i) pairs) key v h.1
-          ∙ ap (λ o. take i pairs ++ match_ordering o (record { key = key; value = v } ∷ q ∷ drop (suc i) pairs) (record { key = key; value = v } ∷ drop (suc i) pairs) (q ∷ put (drop (suc i) pairs) key v)) same
-          ∙ ap (λ x. take i pairs ++ record { key = x; value = v } ∷ drop (suc i) pairs) k)
+        ∙ ap (λ o. take i pairs ++ match_ordering o (record { key = key; value = v } ∷ q ∷ drop (suc i) pairs) (record { key = key; value = v } ∷ drop (suc i) pairs) (q ∷ put (drop (suc i) pairs) key v)) same
+        ∙ ap (λ x. take i pairs ++ record { key = x; value = v } ∷ drop (suc i) pairs) k)
 
     pub insert_put : (i : ℕ) (v : V) → IsPlace pairs key (Err i) → insert pairs i (record { key = key; value = v }) ≡ put pairs key v
     insert_put i v h =
@@ -78,7 +77,7 @@ module _ (V : Type 0) where
         let head : q ≡ h.2 = let f : q ∷ drop (suc i) pairs ≡ h.2 ∷ h.3 = sym d ∙ h.4 in cc in
         let same : key_cmp key q.key ≡ Equal = ap (λ (x : Pair V). key_cmp key x.key) head ∙ h.5 in
         sym (ap (λ l. value_of l key) (sym (take-append-drop i pairs) ∙ ap (λ l. take i pairs ++ l) d) ∙ value_front (take i pairs) (q ∷ drop (suc i) pairs) key h.1
-          ∙ ap (λ o. cond (is_eq o) (Some q.value) (value_of (drop (suc i) pairs) key)) same)
+        ∙ ap (λ o. cond (is_eq o) (Some q.value) (value_of (drop (suc i) pairs) key)) same)
 
     pub value_free : (i : ℕ) → IsPlace pairs key (Err i) → ◌≡◌ {A = Option V} None (value_of pairs key)
     value_free i h = sym (ap (λ l. value_of l key) (sym (take-append-drop i pairs)) ∙ value_front (take i pairs) (drop i pairs) key h.1 ∙ value_below (drop i pairs) key h.2)
@@ -87,7 +86,7 @@ module _ (V : Type 0) where
     remove_without i h =
         let d : drop i pairs ≡ h.2 ∷ drop (suc i) pairs = drop-cons pairs i h.2 h.0 ∙ (let f : get_or pairs i h.2 ∷ drop (suc i) pairs ≡ h.2 ∷ h.3 = sym (drop-cons pairs i h.2 h.0) ∙ h.4 in let g : get_or pairs i h.2 ≡ h.2 = cc in ap (λ x. x ∷ drop (suc i) pairs) g) in
         sym (ap (λ l. without l key) (sym (take-append-drop i pairs) ∙ ap (λ l. take i pairs ++ l) d) ∙ without_front (take i pairs) (h.2 ∷ drop (suc i) pairs) key h.1
-          ∙ ap (λ o. take i pairs ++ cond (is_eq o) (drop (suc i) pairs) (h.2 ∷ without (drop (suc i) pairs) key)) h.5)
+        ∙ ap (λ o. take i pairs ++ cond (is_eq o) (drop (suc i) pairs) (h.2 ∷ without (drop (suc i) pairs) key)) h.5)
 
     pub without_free : (i : ℕ) → IsPlace pairs key (Err i) → pairs ≡ without pairs key
     without_free i h = sym (ap (λ l. without l key) (sym (take-append-drop i pairs)) ∙ without_front (take i pairs) (drop i pairs) key h.1 ∙ ap (λ l. take i pairs ++ l) (without_below (drop i pairs) key h.2) ∙ take-append-drop i pairs)
@@ -113,10 +112,11 @@ module _ (V : Type 0) where
   unfolding IsStrictlySortedBy
   put_ascending [] key v h = (tt, tt)
   put_ascending (p ∷ ps) key v h =
-      elim (key_cmp key p.key) as (λ o. key_cmp key p.key ≡ o → IsAscending (match_ordering o (record { key = key; value = v } ∷ p ∷ ps) (record { key = key; value = v } ∷ ps) (p ∷ put ps key v)))
-      [ Less ↦ λ e. ((e, all_above key p.key (keys_of ps) e h.0), h)
-      | Equal ↦ λ e. (subst (λ k. AllByRecursion (λ j. key_cmp k j ≡ Less) (keys_of ps)) (sym (exact_bytes key p.key e)) h.0, h.1)
-      | Greater ↦ λ e. (all_put (λ k. key_cmp p.key k ≡ Less) ps key v (turned_back key p.key e) h.0, put_ascending ps key v h.1) ] refl
+      elim (key_cmp key p.key) as (λ o. key_cmp key p.key ≡ o → IsAscending (match_ordering o (record { key = key; value = v } ∷ p ∷ ps) (record { key = key; value = v } ∷ ps) (p ∷ put ps key v))) [
+        | Less ↦ λ e. ((e, all_above key p.key (keys_of ps) e h.0), h)
+        | Equal ↦ λ e. (subst (λ k. AllByRecursion (λ j. key_cmp k j ≡ Less) (keys_of ps)) (sym (exact_bytes key p.key e)) h.0, h.1)
+        | Greater ↦ λ e. (all_put (λ k. key_cmp p.key k ≡ Less) ps key v (turned_back key p.key e) h.0, put_ascending ps key v h.1)
+      ] refl
 
   pub without_ascending : (ps : List (Pair V)) (key : List ℕ) → IsAscending ps → IsAscending (without ps key)
   unfolding IsStrictlySortedBy
@@ -129,9 +129,9 @@ module _ (V : Type 0) where
   all_at : (P : List ℕ → Type 0) (ps : List (Pair V)) (i : ℕ) (q : Pair V) (rest : List (Pair V)) → AllByRecursion P (keys_of ps) → drop i ps ≡ q ∷ rest → P q.key
   all_at P [] i q rest a e = absurd (nothing_there i e)
     where
-    nothing_there : (i : ℕ) → drop i [] ≡ q ∷ rest → ⊥
-    nothing_there zero e = cc
-    nothing_there (suc i) e = cc
+      nothing_there : (i : ℕ) → drop i [] ≡ q ∷ rest → ⊥
+      nothing_there zero e = cc
+      nothing_there (suc i) e = cc
   all_at P (p ∷ ps) zero q rest a e = let h : p ≡ q = cc in subst (λ (x : Pair V). P x.key) h a.0
   all_at P (p ∷ ps) (suc i) q rest a e = all_at P ps i q rest a.1 e
 

@@ -1,22 +1,20 @@
 -- The steps of the reader's parts.
-use Rattle.std.proofs.Common.{◌≡◌, ℕ, zero, suc, ◌+◌, ◌-◌, ◌*◌, ◌^◌, ◌<◌, ◌≤◌, min, Bool, true, false, cond, ◌&&◌, List, [], ◌∷◌, ◌++◌, map, length, take, drop, get_or, Option, Some, None, ℤ, pos, negsuc, nat_eq, nat_lt, refl, sym, ap, ◌∙◌, subst, arith, append_assoc, append-nil, inl, inr, length-append, length-drop, w64}
+use Rattle.std.proofs.Common.{◌≡◌, ℕ, suc, ◌+◌, ◌-◌, ◌*◌, ◌^◌, ◌<◌, ◌≤◌, min, Bool, true, false, cond, List, [], ◌∷◌, ◌++◌, length, take, drop, get_or, Some, None, ℤ, pos, negsuc, nat_eq, refl, sym, ap, ◌∙◌, subst, arith, append_assoc, append-nil, inl, inr, length-append, length-drop, w64}
 use Rattle.std.proofs.lemmas.Bool.{cases_lt}
 use Rattle.std.proofs.lemmas.Bool.Decides.{nat_tests}
-use Rattle.std.proofs.lemmas.List.{take_more, take-append-drop, length-take-le, take_all, take-append-le}
+use Rattle.std.proofs.lemmas.List.{take_more, take-append-drop, length-take-le, take_all}
 use Rattle.std.proofs.lemmas.Int.{to_z-of_z}
 use Rattle.std.proofs.Math.Seq.{drop-append_seam, take-append-add}
 use mir.Val.{SFits, of_z, to_z}
-use Rattle.kad_bencode.specs.Keys.{keys_of}
-use Rattle.kad_bencode.specs.Spelling.{numeral, integer_text, string_text, is_i64, has_key}
-use Rattle.kad_bencode.specs.Faults.{Open, InPair, fronts, Stands, IsNotBencode, IsTooBig, IsTwice, IsFirstFault}
-use Rattle.kad_bencode.specs.Machine.{Place, AsValue, AsKey, State, Ready, Keyless, Whole, Sign, Minus, Zero, AwaitsInteger, Digits, NoLength, Length, Body, filled, stored, before, signed, is_digit, is_nonzero, step, run, start, Reached, FitsOpen, FitsPlace, FitsState, DigitsSoFar, ReadsDigits, sign_state, AwaitsNumber, ReadsInteger, IsSigned, HasByte, HasNumber, AwaitsString, ReadsString}
-use Rattle.kad_bencode.specs.declared.entries.Pair.{Pair}
+use Rattle.kad_bencode.specs.Spelling.{numeral, integer_text, string_text, is_i64}
+use Rattle.kad_bencode.specs.Faults.{Open, fronts, Stands, IsFirstFault}
+use Rattle.kad_bencode.specs.Machine.{Place, AsValue, AsKey, State, Ready, Whole, Sign, Minus, Zero, AwaitsInteger, Digits, NoLength, Length, Body, filled, stored, before, signed, is_digit, is_nonzero, step, run, Reached, FitsOpen, FitsPlace, FitsState, DigitsSoFar, ReadsDigits, sign_state, AwaitsNumber, ReadsInteger, HasByte, HasNumber, AwaitsString, ReadsString}
 use Rattle.kad_bencode.specs.declared.value.Value.{Value}
 use Rattle.kad_bencode.specs.declared.value.Value.TheVariants as value
-use Rattle.kad_bencode.specs.declared.value.Bad.TheVariants.{NotBencode, Deep, NumberTooBig, KeyTwice, Trailing}
+use Rattle.kad_bencode.specs.declared.value.Bad.TheVariants.{NotBencode, NumberTooBig}
 use Rattle.kad_bencode.proofs.Numerals.{numeral_digit, numeral_more}
-use Rattle.kad_bencode.proofs.Takes.{numeral_run, digit_sign, digit_minus, digit_digits, digit_before, digit_length, string_run, step_body}
-use Rattle.kad_bencode.proofs.Said.{nonzero_low, nonzero_high, run_front, said, sign_text}
+use Rattle.kad_bencode.proofs.Takes.{numeral_run, digit_sign, digit_minus, digit_digits, digit_before, digit_length, string_run}
+use Rattle.kad_bencode.proofs.Said.{nonzero_low, nonzero_high, run_front, said}
 use Rattle.kad_bencode.proofs.First.{reached_more, reached_text, not_bencode, first}
 
 pub digits_begin : (bytes : List ℕ) (first : ℕ) → first < length bytes → is_nonzero (get_or bytes first 0) ≡ true → DigitsSoFar bytes first (get_or bytes first 0 - 48) (first + 1)
@@ -43,7 +41,7 @@ digits_step bytes first n next m d h low high e =
       number = d.number * 10 + (get_or bytes next 0 - 48);
       positive = omega arith;
       text = take_more bytes next 0 h ∙ ap (λ l. l ++ get_or bytes next 0 ∷ []) d.text ∙ append_assoc (take first bytes) (numeral d.number) (get_or bytes next 0 ∷ [])
-        ∙ ap (λ l. take first bytes ++ l) (sym (numeral_more d.number (get_or bytes next 0 - 48) positive (omega arith) ∙ ap (λ x. numeral d.number ++ x ∷ []) back));
+          ∙ ap (λ l. take first bytes ++ l) (sym (numeral_more d.number (get_or bytes next 0 - 48) positive (omega arith) ∙ ap (λ x. numeral d.number ++ x ∷ []) back));
       value = omega arith;
       within = omega arith;
       after = omega arith;
@@ -117,7 +115,7 @@ number_read bytes at next negative os n end z a d h e i =
     let end_in : end < length bytes = h.0 in
     record {
       reached = reached_more bytes end (Digits os negative m) (filled os (value.Int (to_z w64 (of_z w64 z)))) (number_reached bytes at next negative os n end a d.digits) h.0
-        (step_end os negative m (get_or bytes end 0) h.1 ∙ ap (λ x. Some (filled os (value.Int x))) (same ∙ sym bits));
+          (step_end os negative m (get_or bytes end 0) h.1 ∙ ap (λ x. Some (filled os (value.Int x))) (same ∙ sym bits));
       plain = ap is_i64 bits ∙ plain;
       within = omega arith;
       after = omega arith;
@@ -138,10 +136,10 @@ number_text bytes at next negative os n end a d h =
     ∙ apart negative os d.number d.positive
     ∙ ap (λ l. l ++ integer_text (signed negative d.number)) (sym (run_front (take at bytes) (Ready os) a.begins))
   where
-  apart : (s : Bool) (os : List Open) (n : ℕ) → 0 < n → said (Digits os s n) ++ 101 ∷ [] ≡ fronts os ++ integer_text (signed s n)
-  apart false os n h = append_assoc (fronts os ++ 105 ∷ []) (numeral n) (101 ∷ []) ∙ append_assoc (fronts os) (105 ∷ []) (numeral n ++ 101 ∷ [])
-  apart true os n h = append_assoc (fronts os ++ 105 ∷ 45 ∷ []) (numeral n) (101 ∷ []) ∙ append_assoc (fronts os) (105 ∷ 45 ∷ []) (numeral n ++ 101 ∷ [])
-    ∙ (let e : suc (n - 1) ≡ n = omega arith in ap (λ m. fronts os ++ (105 ∷ 45 ∷ numeral m ++ 101 ∷ [])) (sym e))
+    apart : (s : Bool) (os : List Open) (n : ℕ) → 0 < n → said (Digits os s n) ++ 101 ∷ [] ≡ fronts os ++ integer_text (signed s n)
+    apart false os n h = append_assoc (fronts os ++ 105 ∷ []) (numeral n) (101 ∷ []) ∙ append_assoc (fronts os) (105 ∷ []) (numeral n ++ 101 ∷ [])
+    apart true os n h = append_assoc (fronts os ++ 105 ∷ 45 ∷ []) (numeral n) (101 ∷ []) ∙ append_assoc (fronts os) (105 ∷ 45 ∷ []) (numeral n ++ 101 ∷ [])
+        ∙ (let e : suc (n - 1) ≡ n = omega arith in ap (λ m. fronts os ++ (105 ∷ 45 ∷ numeral m ++ 101 ∷ [])) (sym e))
 
 pub number_big : (bytes : List ℕ) (at next : ℕ) (negative : Bool) (os : List Open) (n end : ℕ) → AwaitsNumber bytes at next negative os → ReadsDigits bytes next n end → HasByte bytes end 101 true → is_i64 (signed negative n) ≡ false → IsFirstFault bytes (NumberTooBig at)
 number_big bytes at next negative os n end a d h i =
@@ -245,7 +243,7 @@ empty_read bytes at p s e a z n =
     record {
       reached = subst (λ l. Reached bytes (at + 2) (stored p l)) (sym e) (at_place bytes (at + 1 + 1) (at + 2) (stored p []) next (reached_more bytes (at + 1) (NoLength p) (stored p []) (no_length_reached bytes at p a z) n.0 (ap (step (NoLength p)) n.1)));
       text = subst (λ l. take (at + 2) bytes ≡ take at bytes ++ string_text l) (sym e)
-        (ap (λ m. take m bytes) (sym next) ∙ take_more bytes (at + 1) 0 n.0 ∙ (λ i. take_more bytes at 0 z.0 i ++ n.1 i ∷ []) ∙ ap (λ x. (take at bytes ++ x ∷ []) ++ 58 ∷ []) z.1 ∙ append_assoc (take at bytes) (48 ∷ []) (58 ∷ []));
+          (ap (λ m. take m bytes) (sym next) ∙ take_more bytes (at + 1) 0 n.0 ∙ (λ i. take_more bytes at 0 z.0 i ++ n.1 i ∷ []) ∙ ap (λ x. (take at bytes ++ x ∷ []) ++ 58 ∷ []) z.1 ∙ append_assoc (take at bytes) (48 ∷ []) (58 ∷ []));
       within = omega arith;
       after = omega arith;
       state = NoLength p;
@@ -255,12 +253,13 @@ empty_read bytes at p s e a z n =
 
 no_digit : (b : ℕ) → (b ≡ 48 → ⊥) → is_nonzero b ≡ false → is_digit b ≡ false
 no_digit b h n =
-    elim (cases_lt b 48) as (λ _. is_digit b ≡ false)
-    [ inl low ↦ not_digit b low
-    | inr high ↦ elim (cases_lt 57 b) as (λ _. is_digit b ≡ false) [ inl above ↦ not_digit_above b above | inr below ↦ absurd (let k : is_nonzero b ≡ true = nonzero b (let g : b ≡ 48 → ⊥ = h in omega arith) below in let e : true ≡ false = sym k ∙ n in cc) ] ]
+    elim (cases_lt b 48) as (λ _. is_digit b ≡ false) [
+      | inl low ↦ not_digit b low
+      | inr high ↦ elim (cases_lt 57 b) as (λ _. is_digit b ≡ false) [ inl above ↦ not_digit_above b above | inr below ↦ absurd (let k : is_nonzero b ≡ true = nonzero b (let g : b ≡ 48 → ⊥ = h in omega arith) below in let e : true ≡ false = sym k ∙ n in cc) ]
+    ]
   where
-  nonzero : (b : ℕ) → 49 ≤ b → b ≤ 57 → is_nonzero b ≡ true
-  nonzero b k l = grind (arith, nat_tests)
+    nonzero : (b : ℕ) → 49 ≤ b → b ≤ 57 → is_nonzero b ≡ true
+    nonzero b k l = grind (arith, nat_tests)
 
 pub no_string : (bytes : List ℕ) (at : ℕ) (p : Place) → AwaitsString bytes at p → HasByte bytes at 48 false → HasNumber bytes at false → IsFirstFault bytes (NotBencode at)
 no_string bytes at p a z n =
@@ -275,7 +274,7 @@ pub length_unended : (bytes : List ℕ) (at : ℕ) (p : Place) (n end : ℕ) →
 length_unended bytes at p n end a d h =
     not_bencode bytes end (Length p d.digits.number) (length_reached bytes at p n end a d.digits) a.fits d.digits.within
     (λ k. ap (λ c. cond c (Some (Body p d.digits.number [])) (cond (is_digit (get_or bytes end 0)) (Some (Length p (d.digits.number * 10 + (get_or bytes end 0 - 48)))) None)) (different (get_or bytes end 0) 58 (h k))
-      ∙ ap (λ c. cond c (Some (Length p (d.digits.number * 10 + (get_or bytes end 0 - 48)))) None) (d.ends k)) (λ v e. cc)
+    ∙ ap (λ c. cond c (Some (Length p (d.digits.number * 10 + (get_or bytes end 0 - 48)))) None) (d.ends k)) (λ v e. cc)
 
 body_reached : (bytes : List ℕ) (at : ℕ) (p : Place) (n end : ℕ) → AwaitsString bytes at p → (d : DigitsSoFar bytes at n end) → HasByte bytes end 58 true → Reached bytes (end + 1) (Body p d.number [])
 body_reached bytes at p n end a d h = reached_more bytes end (Length p d.number) (Body p d.number []) (length_reached bytes at p n end a d) h.0 (ap (step (Length p d.number)) h.1)
@@ -295,9 +294,9 @@ body_short bytes at p n end a d h short =
     let value : n ≡ min number (2 ^ 64 - 1) = d.digits.value in
     let k : end < length bytes = h.0 in
     let r : Reached bytes (length bytes) (Body p (number - (length bytes - (end + 1))) ([] ++ drop (end + 1) bytes)) =
-      reached_text bytes (end + 1) (length bytes) (drop (end + 1) bytes) (Body p number []) (Some (Body p (number - (length bytes - (end + 1))) ([] ++ drop (end + 1) bytes)))
-      (body_reached bytes at p n end a d.digits h) (take_all (length bytes) bytes (omega arith) ∙ sym (take-append-drop (end + 1) bytes))
-      (body_part p number (number - (length bytes - (end + 1))) [] (drop (end + 1) bytes) (omega arith) (omega (arith, length-drop (end + 1) bytes))) in
+    reached_text bytes (end + 1) (length bytes) (drop (end + 1) bytes) (Body p number []) (Some (Body p (number - (length bytes - (end + 1))) ([] ++ drop (end + 1) bytes)))
+    (body_reached bytes at p n end a d.digits h) (take_all (length bytes) bytes (omega arith) ∙ sym (take-append-drop (end + 1) bytes))
+    (body_part p number (number - (length bytes - (end + 1))) [] (drop (end + 1) bytes) (omega arith) (omega (arith, length-drop (end + 1) bytes))) in
     not_bencode bytes (length bytes) (Body p (number - (length bytes - (end + 1))) ([] ++ drop (end + 1) bytes)) r a.fits (omega arith) (λ q. absurd (omega arith)) (λ v e. cc)
 
 -- a part of the bytes behind a place
@@ -314,9 +313,9 @@ string_read bytes at p n end s e a d h fits small =
     let number : d.digits.number ≡ n = omega arith in
     let long : length s ≡ n = ap length e ∙ length-take-le n (drop (end + 1) bytes) (omega (arith, length-drop (end + 1) bytes)) in
     let text : take (end + 1 + n) bytes ≡ take at bytes ++ string_text s =
-      part_text bytes (end + 1) n (omega arith) ∙ ap (λ l. l ++ take n (drop (end + 1) bytes)) (take_more bytes end 0 h.0) ∙ ap (λ l. (take end bytes ++ get_or bytes end 0 ∷ []) ++ l) (sym e) ∙ ap (λ l. (l ++ get_or bytes end 0 ∷ []) ++ s) d.digits.text ∙ ap (λ x. ((take at bytes ++ numeral d.digits.number) ++ x ∷ []) ++ s) h.1
-      ∙ append_assoc (take at bytes ++ numeral d.digits.number) (58 ∷ []) s ∙ append_assoc (take at bytes) (numeral d.digits.number) (58 ∷ s)
-      ∙ ap (λ m. take at bytes ++ (numeral m ++ 58 ∷ s)) (number ∙ sym long) in
+    part_text bytes (end + 1) n (omega arith) ∙ ap (λ l. l ++ take n (drop (end + 1) bytes)) (take_more bytes end 0 h.0) ∙ ap (λ l. (take end bytes ++ get_or bytes end 0 ∷ []) ++ l) (sym e) ∙ ap (λ l. (l ++ get_or bytes end 0 ∷ []) ++ s) d.digits.text ∙ ap (λ x. ((take at bytes ++ numeral d.digits.number) ++ x ∷ []) ++ s) h.1
+    ∙ append_assoc (take at bytes ++ numeral d.digits.number) (58 ∷ []) s ∙ append_assoc (take at bytes) (numeral d.digits.number) (58 ∷ s)
+    ∙ ap (λ m. take at bytes ++ (numeral m ++ 58 ∷ s)) (number ∙ sym long) in
     let last : end + 1 + (n - 1) ≡ end + 1 + n - 1 = omega arith in
     let front : List ℕ = take (n - 1) (drop (end + 1) bytes) in
     let front_long : length front ≡ n - 1 = length-take-le (n - 1) (drop (end + 1) bytes) (omega (arith, length-drop (end + 1) bytes)) in
@@ -327,7 +326,7 @@ string_read bytes at p n end s e a d h fits small =
       after = omega arith;
       state = Body p 1 ([] ++ front);
       before_last = at_place bytes (end + 1 + (n - 1)) (end + 1 + n - 1) (Body p 1 ([] ++ front)) last
-        (reached_text bytes (end + 1) (end + 1 + (n - 1)) front (Body p d.digits.number []) (Some (Body p 1 ([] ++ front))) (body_reached bytes at p n end a d.digits h) (part_text bytes (end + 1) (n - 1) (omega arith))
+          (reached_text bytes (end + 1) (end + 1 + (n - 1)) front (Body p d.digits.number []) (Some (Body p 1 ([] ++ front))) (body_reached bytes at p n end a d.digits h) (part_text bytes (end + 1) (n - 1) (omega arith))
           (body_part p d.digits.number 1 [] front (omega arith) (omega arith)));
       fits = a.fits;
     }

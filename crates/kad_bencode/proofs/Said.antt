@@ -1,12 +1,10 @@
 -- What the machine has read can be told from its state, and each state can go on to a whole text.
-use Rattle.std.proofs.Common.{◌≡◌, ℕ, zero, suc, ◌+◌, ◌-◌, ◌*◌, ◌/◌, ◌%◌, ◌<◌, ◌≤◌, Bool, true, false, cond, ◌&&◌, List, [], ◌∷◌, ◌++◌, map, length, Option, Some, None, ℤ, pos, negsuc, nat_eq, nat_lt, nat_le, refl, sym, ap, ◌∙◌, subst, arith, append_assoc, append-nil, inl, inr, replicate, length-append}
-use Rattle.std.specs.List.{concat, flat_map}
-use Rattle.std.proofs.lemmas.Bool.{cases_lt}
+use Rattle.std.proofs.Common.{◌≡◌, ℕ, zero, suc, ◌+◌, ◌-◌, ◌*◌, ◌<◌, ◌≤◌, Bool, true, false, cond, List, [], ◌∷◌, ◌++◌, map, length, Option, Some, None, pos, nat_eq, refl, sym, ap, ◌∙◌, subst, arith, append_assoc, append-nil, replicate, length-append}
+use Rattle.std.specs.List.{concat}
 use Rattle.std.proofs.lemmas.Bool.Decides.{nat_tests}
-use Rattle.std.proofs.lemmas.List.Concat.{flat_map-append}
 use Rattle.std.proofs.lemmas.List.{map-append, length-replicate}
 use Rattle.kad_bencode.specs.Spelling.{numeral, integer_text, string_text, pairs_text, text_of, IsText}
-use Rattle.kad_bencode.specs.Faults.{Open, InList, InPair, fronts, front_of, pairs_of, BeginsText}
+use Rattle.kad_bencode.specs.Faults.{Open, InList, InPair, fronts, pairs_of, BeginsText}
 use Rattle.kad_bencode.specs.Machine.{Place, AsValue, AsKey, State, Ready, Keyless, Whole, Sign, Minus, Zero, Digits, NoLength, Length, Body, filled, stored, before, signed, closed, is_digit, is_nonzero, length_begins, step, run, start}
 use Rattle.kad_bencode.specs.declared.entries.Pair.{Pair}
 use Rattle.kad_bencode.specs.declared.value.Value.{Value}
@@ -130,9 +128,9 @@ length_says : (p : Place) (b : ℕ) (s : State) → length_begins p b ≡ Some s
 length_says p b s = split (nat_eq b 48) (Some (NoLength p)) (cond (is_nonzero b) (Some (Length p (b - 48))) None)
     (λ e. next (NoLength p) (ap (λ x. said_before p ++ x ∷ []) (sym (is_equal b 48 e)) ∙ ap (λ l. l ++ b ∷ []) (sym (said_as_before p))) tt)
     (λ _. split (is_nonzero b) (Some (Length p (b - 48))) None
-      (λ e. let low : 49 ≤ b = nonzero_low b e in let high : b < 58 = nonzero_high b e in let back : 48 + (b - 48) ≡ b = omega arith in
-        next (Length p (b - 48)) (ap (λ l. said_before p ++ l) (numeral_digit (b - 48) (omega arith) (omega arith) ∙ ap (λ x. x ∷ []) back) ∙ ap (λ l. l ++ b ∷ []) (sym (said_as_before p))) (omega arith))
-      (λ _. nothing))
+    (λ e. let low : 49 ≤ b = nonzero_low b e in let high : b < 58 = nonzero_high b e in let back : 48 + (b - 48) ≡ b = omega arith in
+    next (Length p (b - 48)) (ap (λ l. said_before p ++ l) (numeral_digit (b - 48) (omega arith) (omega arith) ∙ ap (λ x. x ∷ []) back) ∙ ap (λ l. l ++ b ∷ []) (sym (said_as_before p))) (omega arith))
+    (λ _. nothing))
 
 closed_says : (os : List Open) (s : State) → closed os ≡ Some s → Next (Ready os) 101 s
 closed_says [] s h = nothing h
@@ -169,42 +167,42 @@ step_says (Sign os) b s g =
     split (nat_eq b 45) (Some (Minus os)) _ (λ e. next (Minus os) (sym (append_assoc (fronts os) (105 ∷ []) (45 ∷ [])) ∙ ap (λ x. (fronts os ++ 105 ∷ []) ++ x ∷ []) (sym (is_equal b 45 e))) tt)
     (λ _. split (nat_eq b 48) (Some (Zero os)) _ (λ e. next (Zero os) (sym (append_assoc (fronts os) (105 ∷ []) (48 ∷ [])) ∙ ap (λ x. (fronts os ++ 105 ∷ []) ++ x ∷ []) (sym (is_equal b 48 e))) tt)
     (λ _. split (is_nonzero b) (Some (Digits os false (b - 48))) None
-      (λ e. let low : 49 ≤ b = nonzero_low b e in let high : b < 58 = nonzero_high b e in let back : 48 + (b - 48) ≡ b = omega arith in
-        next (Digits os false (b - 48)) (ap (λ l. (fronts os ++ 105 ∷ []) ++ l) (numeral_digit (b - 48) (omega arith) (omega arith) ∙ ap (λ x. x ∷ []) back)) (omega arith))
-      (λ _. nothing)))
+    (λ e. let low : 49 ≤ b = nonzero_low b e in let high : b < 58 = nonzero_high b e in let back : 48 + (b - 48) ≡ b = omega arith in
+    next (Digits os false (b - 48)) (ap (λ l. (fronts os ++ 105 ∷ []) ++ l) (numeral_digit (b - 48) (omega arith) (omega arith) ∙ ap (λ x. x ∷ []) back)) (omega arith))
+    (λ _. nothing)))
 step_says (Minus os) b s g =
     split (is_nonzero b) (Some (Digits os true (b - 48))) None
-      (λ e. let low : 49 ≤ b = nonzero_low b e in let high : b < 58 = nonzero_high b e in let back : 48 + (b - 48) ≡ b = omega arith in
-        next (Digits os true (b - 48)) (ap (λ l. (fronts os ++ 105 ∷ 45 ∷ []) ++ l) (numeral_digit (b - 48) (omega arith) (omega arith) ∙ ap (λ x. x ∷ []) back)) (omega arith))
-      (λ _. nothing)
+    (λ e. let low : 49 ≤ b = nonzero_low b e in let high : b < 58 = nonzero_high b e in let back : 48 + (b - 48) ≡ b = omega arith in
+    next (Digits os true (b - 48)) (ap (λ l. (fronts os ++ 105 ∷ 45 ∷ []) ++ l) (numeral_digit (b - 48) (omega arith) (omega arith) ∙ ap (λ x. x ∷ []) back)) (omega arith))
+    (λ _. nothing)
 step_says (Zero os) b s g =
     split (nat_eq b 101) (Some (filled os (value.Int (pos 0)))) None
-      (λ e. next (filled os (value.Int (pos 0))) (said_filled os (value.Int (pos 0)) ∙ ap (λ l. fronts os ++ l) (text_of-int (pos 0)) ∙ sym (append_assoc (fronts os) (105 ∷ 48 ∷ []) (101 ∷ [])) ∙ ap (λ x. (fronts os ++ 105 ∷ 48 ∷ []) ++ x ∷ []) (sym (is_equal b 101 e))) (good_filled os (value.Int (pos 0))))
-      (λ _. nothing)
+    (λ e. next (filled os (value.Int (pos 0))) (said_filled os (value.Int (pos 0)) ∙ ap (λ l. fronts os ++ l) (text_of-int (pos 0)) ∙ sym (append_assoc (fronts os) (105 ∷ 48 ∷ []) (101 ∷ [])) ∙ ap (λ x. (fronts os ++ 105 ∷ 48 ∷ []) ++ x ∷ []) (sym (is_equal b 101 e))) (good_filled os (value.Int (pos 0))))
+    (λ _. nothing)
 step_says (Digits os s n) b t g =
     split (nat_eq b 101) (Some (filled os (value.Int (signed s n)))) _
-      (λ e. next (filled os (value.Int (signed s n))) (said_filled os (value.Int (signed s n)) ∙ ap (λ l. fronts os ++ l) (text_of-int (signed s n) ∙ signed_says s n g) ∙ signed_apart os s n ∙ ap (λ x. ((fronts os ++ 105 ∷ sign_text s) ++ numeral n) ++ x ∷ []) (sym (is_equal b 101 e))) (good_filled os (value.Int (signed s n))))
-      (λ _. split (is_digit b) (Some (Digits os s (n * 10 + (b - 48)))) None
-        (λ e. let low : 48 ≤ b = digit_low b e in let high : b < 58 = digit_high b e in let back : 48 + (b - 48) ≡ b = omega arith in
-          next (Digits os s (n * 10 + (b - 48))) (ap (λ l. (fronts os ++ 105 ∷ sign_text s) ++ l) (numeral_more n (b - 48) g (omega arith) ∙ ap (λ x. numeral n ++ x ∷ []) back) ∙ sym (append_assoc (fronts os ++ 105 ∷ sign_text s) (numeral n) (b ∷ []))) (omega arith))
-        (λ _. nothing))
+    (λ e. next (filled os (value.Int (signed s n))) (said_filled os (value.Int (signed s n)) ∙ ap (λ l. fronts os ++ l) (text_of-int (signed s n) ∙ signed_says s n g) ∙ signed_apart os s n ∙ ap (λ x. ((fronts os ++ 105 ∷ sign_text s) ++ numeral n) ++ x ∷ []) (sym (is_equal b 101 e))) (good_filled os (value.Int (signed s n))))
+    (λ _. split (is_digit b) (Some (Digits os s (n * 10 + (b - 48)))) None
+    (λ e. let low : 48 ≤ b = digit_low b e in let high : b < 58 = digit_high b e in let back : 48 + (b - 48) ≡ b = omega arith in
+    next (Digits os s (n * 10 + (b - 48))) (ap (λ l. (fronts os ++ 105 ∷ sign_text s) ++ l) (numeral_more n (b - 48) g (omega arith) ∙ ap (λ x. numeral n ++ x ∷ []) back) ∙ sym (append_assoc (fronts os ++ 105 ∷ sign_text s) (numeral n) (b ∷ []))) (omega arith))
+    (λ _. nothing))
 step_says (NoLength p) b s g =
     split (nat_eq b 58) (Some (stored p [])) None
-      (λ e. next (stored p []) (said_stored p [] ∙ sym (append_assoc (said_before p) (48 ∷ []) (58 ∷ [])) ∙ ap (λ x. (said_before p ++ 48 ∷ []) ++ x ∷ []) (sym (is_equal b 58 e))) (good_stored p []))
-      (λ _. nothing)
+    (λ e. next (stored p []) (said_stored p [] ∙ sym (append_assoc (said_before p) (48 ∷ []) (58 ∷ [])) ∙ ap (λ x. (said_before p ++ 48 ∷ []) ++ x ∷ []) (sym (is_equal b 58 e))) (good_stored p []))
+    (λ _. nothing)
 step_says (Length p n) b s g =
     split (nat_eq b 58) (Some (Body p n [])) _
-      (λ e. let z : 0 + n ≡ n = omega arith in next (Body p n []) (ap (λ m. (said_before p ++ numeral m) ++ 58 ∷ []) z ∙ ap (λ x. (said_before p ++ numeral n) ++ x ∷ []) (sym (is_equal b 58 e))) g)
-      (λ _. split (is_digit b) (Some (Length p (n * 10 + (b - 48)))) None
-        (λ e. let low : 48 ≤ b = digit_low b e in let high : b < 58 = digit_high b e in let back : 48 + (b - 48) ≡ b = omega arith in
-          next (Length p (n * 10 + (b - 48))) (ap (λ l. said_before p ++ l) (numeral_more n (b - 48) g (omega arith) ∙ ap (λ x. numeral n ++ x ∷ []) back) ∙ sym (append_assoc (said_before p) (numeral n) (b ∷ []))) (omega arith))
-        (λ _. nothing))
+    (λ e. let z : 0 + n ≡ n = omega arith in next (Body p n []) (ap (λ m. (said_before p ++ numeral m) ++ 58 ∷ []) z ∙ ap (λ x. (said_before p ++ numeral n) ++ x ∷ []) (sym (is_equal b 58 e))) g)
+    (λ _. split (is_digit b) (Some (Length p (n * 10 + (b - 48)))) None
+    (λ e. let low : 48 ≤ b = digit_low b e in let high : b < 58 = digit_high b e in let back : 48 + (b - 48) ≡ b = omega arith in
+    next (Length p (n * 10 + (b - 48))) (ap (λ l. said_before p ++ l) (numeral_more n (b - 48) g (omega arith) ∙ ap (λ x. numeral n ++ x ∷ []) back) ∙ sym (append_assoc (said_before p) (numeral n) (b ∷ []))) (omega arith))
+    (λ _. nothing))
 step_says (Body p n t) b s g =
     split (nat_eq n 1) (Some (stored p (t ++ b ∷ []))) (Some (Body p (n - 1) (t ++ b ∷ [])))
-      (λ e. let one : length (t ++ b ∷ []) ≡ length t + n = omega (arith, length-append t (b ∷ []), is_equal n 1 e) in
-        next (stored p (t ++ b ∷ [])) (said_stored p (t ++ b ∷ []) ∙ body_says p t b (length (t ++ b ∷ [])) (length t + n) one) (good_stored p (t ++ b ∷ [])))
-      (λ e. let more : length (t ++ b ∷ []) + (n - 1) ≡ length t + n = omega (arith, length-append t (b ∷ [])) in
-        next (Body p (n - 1) (t ++ b ∷ [])) (append_assoc (said_before p) (numeral (length (t ++ b ∷ []) + (n - 1))) (58 ∷ t ++ b ∷ []) ∙ body_says p t b (length (t ++ b ∷ []) + (n - 1)) (length t + n) more) (let h : n ≡ 1 → ⊥ = not_equal n 1 e in omega arith))
+    (λ e. let one : length (t ++ b ∷ []) ≡ length t + n = omega (arith, length-append t (b ∷ []), is_equal n 1 e) in
+    next (stored p (t ++ b ∷ [])) (said_stored p (t ++ b ∷ []) ∙ body_says p t b (length (t ++ b ∷ [])) (length t + n) one) (good_stored p (t ++ b ∷ [])))
+    (λ e. let more : length (t ++ b ∷ []) + (n - 1) ≡ length t + n = omega (arith, length-append t (b ∷ [])) in
+    next (Body p (n - 1) (t ++ b ∷ [])) (append_assoc (said_before p) (numeral (length (t ++ b ∷ []) + (n - 1))) (58 ∷ t ++ b ∷ []) ∙ body_says p t b (length (t ++ b ∷ []) + (n - 1)) (length t + n) more) (let h : n ≡ 1 → ⊥ = not_equal n 1 e in omega arith))
 
 -- what a run says
 pub record After (st : State) (bs : List ℕ) (s : State) : Type 0 where
@@ -218,12 +216,13 @@ run_none_is (b ∷ bs) = refl
 pub run_says : (bs : List ℕ) (st s : State) → Good st → run (Some st) bs ≡ Some s → After st bs s
 run_says [] st s g = λ h. record { says = ap said (sym (same_some h)) ∙ sym (append-nil (said st)); good = subst Good (same_some h) g }
 run_says (b ∷ bs) st s g =
-    elim (step st b) as (λ o. step st b ≡ o → run o bs ≡ Some s → After st (b ∷ bs) s)
-    [ None ↦ λ e h. nothing (sym (run_none_is bs) ∙ h)
-    | Some t ↦ λ e h.
-      let n : Next st b t = step_says st b t g e in
-      let a : After t bs s = run_says bs t s n.good h in
-      record { says = a.says ∙ ap (λ l. l ++ bs) n.says ∙ append_assoc (said st) (b ∷ []) bs; good = a.good } ] refl
+    elim (step st b) as (λ o. step st b ≡ o → run o bs ≡ Some s → After st (b ∷ bs) s) [
+      | None ↦ λ e h. nothing (sym (run_none_is bs) ∙ h)
+      | Some t ↦ λ e h.
+          let n : Next st b t = step_says st b t g e in
+          let a : After t bs s = run_says bs t s n.good h in
+          record { says = a.says ∙ ap (λ l. l ++ bs) n.says ∙ append_assoc (said st) (b ∷ []) bs; good = a.good }
+    ] refl
 
 -- ---- going on
 
@@ -253,8 +252,11 @@ goes_body : (p : Place) (n : ℕ) (s : List ℕ) → 0 < n → GoesOn (Some (Bod
 goes_body p zero s h = absurd (omega arith)
 goes_body p (suc n) s h =
     let g : GoesOn (Some (stored p (s ++ 0 ∷ replicate n 0))) = goes_stored p (s ++ 0 ∷ replicate n 0) in
-    record { rest = (0 ∷ replicate n 0) ++ g.rest; tree = g.tree;
-      whole = ap (λ m. run (Some (Body p (suc m) s)) ((0 ∷ replicate n 0) ++ g.rest)) (sym (length-replicate n 0)) ∙ body_run p s 0 (replicate n 0) g.rest ∙ g.whole }
+    record {
+      rest = (0 ∷ replicate n 0) ++ g.rest;
+      tree = g.tree;
+      whole = ap (λ m. run (Some (Body p (suc m) s)) ((0 ∷ replicate n 0) ++ g.rest)) (sym (length-replicate n 0)) ∙ body_run p s 0 (replicate n 0) g.rest ∙ g.whole;
+    }
 
 pub goes_on : (st : State) → Good st → GoesOn (Some st)
 goes_on (Ready os) g = goes_ready os

@@ -1,11 +1,11 @@
 -- The machine takes each text: after a value's text it stands where that value is filled in.
-use Rattle.std.proofs.Common.{◌≡◌, ℕ, zero, suc, ◌+◌, ◌-◌, ◌*◌, ◌/◌, ◌%◌, ◌<◌, ◌≤◌, Bool, true, false, cond, List, [], ◌∷◌, ◌++◌, map, length, Option, Some, None, ℤ, pos, negsuc, nat_eq, nat_lt, nat_le, refl, sym, ap, ◌∙◌, subst, arith, append_assoc, append-nil, inl, inr}
-use Rattle.std.specs.List.{concat, flat_map}
+use Rattle.std.proofs.Common.{◌≡◌, ℕ, zero, suc, ◌+◌, ◌-◌, ◌*◌, ◌/◌, ◌%◌, ◌<◌, ◌≤◌, Bool, true, false, List, [], ◌∷◌, ◌++◌, map, length, Option, Some, None, ℤ, pos, negsuc, refl, sym, ap, ◌∙◌, arith, append_assoc, append-nil, inl, inr}
+use Rattle.std.specs.List.{concat}
 use Rattle.std.proofs.lemmas.Bool.{cases_lt}
 use Rattle.std.proofs.lemmas.Bool.Decides.{nat_tests}
 use Rattle.kad_bencode.specs.Spelling.{numeral, integer_text, string_text, pairs_text, text_of}
 use Rattle.kad_bencode.specs.Faults.{Open, InList, InPair, fronts, front_of, pairs_of}
-use Rattle.kad_bencode.specs.Machine.{Place, AsValue, AsKey, State, Ready, Keyless, Whole, Sign, Minus, Zero, Digits, NoLength, Length, Body, filled, stored, before, signed, closed, step, run, start}
+use Rattle.kad_bencode.specs.Machine.{Place, AsValue, AsKey, State, Ready, Keyless, Whole, Sign, Minus, Digits, Length, Body, filled, stored, before, step, run, start}
 use Rattle.kad_bencode.specs.declared.entries.Pair.{Pair}
 use Rattle.kad_bencode.specs.declared.value.Value.{Value}
 use Rattle.kad_bencode.specs.declared.value.Value.TheVariants as value
@@ -25,14 +25,16 @@ module _ (st : State) (num : ℕ → State) (first : (d : ℕ) → 0 < d → d <
   numeral_run_within : (f n : ℕ) → n ≤ f → 0 < n → (x : List ℕ) → run (Some st) (numeral n ++ x) ≡ run (Some (num n)) x
   numeral_run_within zero n k h x = absurd (omega arith)
   numeral_run_within (suc f) n k h x =
-      elim (cases_lt n 10) as (λ _. run (Some st) (numeral n ++ x) ≡ run (Some (num n)) x) [ inl small ↦ ap (λ l. run (Some st) (l ++ x)) (numeral_digit n h small) ∙ ap (λ o. run o x) (first n h small)
-      | inr big ↦
-        let e : n / 10 * 10 + n % 10 ≡ n = omega arith in
-        ap (λ l. run (Some st) (l ++ x)) (numeral_step n big)
-        ∙ ap (run (Some st)) (append_assoc (numeral (n / 10)) ((48 + n % 10) ∷ []) x)
-        ∙ numeral_run_within f (n / 10) (omega arith) (omega arith) ((48 + n % 10) ∷ x)
-        ∙ ap (λ o. run o x) (more (n / 10) (n % 10) (omega arith) (omega arith))
-        ∙ ap (λ m. run (Some (num m)) x) e ]
+      elim (cases_lt n 10) as (λ _. run (Some st) (numeral n ++ x) ≡ run (Some (num n)) x) [
+        | inl small ↦ ap (λ l. run (Some st) (l ++ x)) (numeral_digit n h small) ∙ ap (λ o. run o x) (first n h small)
+        | inr big ↦
+            let e : n / 10 * 10 + n % 10 ≡ n = omega arith in
+            ap (λ l. run (Some st) (l ++ x)) (numeral_step n big)
+            ∙ ap (run (Some st)) (append_assoc (numeral (n / 10)) ((48 + n % 10) ∷ []) x)
+            ∙ numeral_run_within f (n / 10) (omega arith) (omega arith) ((48 + n % 10) ∷ x)
+            ∙ ap (λ o. run o x) (more (n / 10) (n % 10) (omega arith) (omega arith))
+            ∙ ap (λ m. run (Some (num m)) x) e
+      ]
 
   pub numeral_run : (n : ℕ) → 0 < n → (x : List ℕ) → run (Some st) (numeral n ++ x) ≡ run (Some (num n)) x
   numeral_run n h x = numeral_run_within n n (omega arith) h x

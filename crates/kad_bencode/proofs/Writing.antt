@@ -1,12 +1,11 @@
 -- The steps of the writer.
-use Rattle.std.proofs.Common.{◌≡◌, ℕ, zero, suc, ◌+◌, ◌-◌, ◌*◌, ◌/◌, ◌%◌, ◌^◌, ◌<◌, ◌≤◌, max, Bool, true, false, cond, List, [], ◌∷◌, ◌++◌, map, length, take, get_or, Result, Ok, Err, OnOk, OnErr, ℤ, pos, negsuc, nat_eq, refl, sym, ap, ◌∙◌, subst, arith, append_assoc, append-nil, inl, inr, decimal, w64}
+use Rattle.std.proofs.Common.{◌≡◌, ℕ, zero, suc, ◌+◌, ◌%◌, ◌^◌, ◌<◌, ◌≤◌, List, [], ◌∷◌, ◌++◌, map, length, take, get_or, Result, Ok, Err, ℤ, pos, negsuc, refl, sym, ap, ◌∙◌, subst, arith, append_assoc, decimal, w64}
 use Rattle.std.specs.List.{concat}
 use Rattle.std.specs.Fmt.{signed_decimal}
 use Rattle.std.proofs.lemmas.Fmt.{decimal_by_steps}
 use Rattle.std.proofs.lemmas.Int.{to_z-of_z}
 use mir.Val.{SFits, of_z, to_z}
-use Rattle.std.proofs.lemmas.Bool.{cases_lt}
-use Rattle.std.proofs.lemmas.List.{take_more, take-append-le, take_all}
+use Rattle.std.proofs.lemmas.List.{take_more, take_all}
 use Rattle.std.proofs.Math.Seq.{take-append_seam}
 use Rattle.kad_bencode.specs.Spelling.{numeral, integer_text, string_text, pairs_text, text_of, depth_of, greatest}
 use Rattle.kad_bencode.specs.Faults.{pairs_of}
@@ -14,7 +13,7 @@ use Rattle.kad_bencode.specs.Written.{Keeps, Appends}
 use Rattle.kad_bencode.specs.declared.entries.Pair.{Pair}
 use Rattle.kad_bencode.specs.declared.value.Value.{Value}
 use Rattle.kad_bencode.specs.declared.value.Value.TheVariants as value
-use Rattle.kad_bencode.proofs.Folds.{text_of-int, text_of-text, text_of-list, text_of-dict, depth_of-list, depth_of-dict}
+use Rattle.kad_bencode.proofs.Folds.{text_of-list, text_of-dict, depth_of-list, depth_of-dict}
 use Rattle.kad_bencode.proofs.Numerals.{numeral_digit, numeral_step}
 use Rattle.kad_bencode.proofs.Said.{texts_push, pairs_push}
 

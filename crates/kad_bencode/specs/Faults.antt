@@ -1,6 +1,6 @@
 -- Why bytes spell no value, and where it shows (this project's own rule; the forms are those of BEP 3).
-use Rattle.std.specs.Prelude.{◌≡◌, ℕ, suc, ◌+◌, ◌-◌, ◌≤◌, ◌<◌, Bool, true, false, List, [], ◌∷◌, ◌++◌, map, length, take, drop, ℤ, ◌⊎◌, Result, Ok, Err}
-use Rattle.std.specs.List.{concat, flat_map}
+use Rattle.std.specs.Prelude.{◌≡◌, ℕ, ◌+◌, ◌≤◌, ◌<◌, true, false, List, [], ◌∷◌, ◌++◌, map, length, take, drop, ℤ, ◌⊎◌, Result, Ok, Err}
+use Rattle.std.specs.List.{concat}
 use Rattle.kad_bencode.specs.Keys.{keys_of}
 use Rattle.kad_bencode.specs.Spelling.{integer_text, string_text, pairs_text, text_of, IsText, is_i64, has_key}
 use Rattle.kad_bencode.specs.declared.entries.Pair.{Pair}

@@ -1,11 +1,11 @@
 -- A second reading, one byte at a time, by a machine that knows all that it read. No public contract speaks of it: it is
 -- where the reader stands, for the proofs.
-use Rattle.std.specs.Prelude.{◌≡◌, ℕ, zero, suc, ◌+◌, ◌-◌, ◌*◌, ◌^◌, min, ◌≤◌, ◌<◌, Bool, true, false, cond, ◌&&◌, List, [], ◌∷◌, ◌++◌, map, length, take, get_or, ℤ, pos, negsuc, nat_eq, nat_lt, nat_le, Option, Some, None}
-use Rattle.std.specs.List.{concat, AllByRecursion}
-use Rattle.std.specs.Prelude.{Result, Ok, Err, IfOk}
+use Rattle.std.specs.Prelude.{◌≡◌, ℕ, suc, ◌+◌, ◌-◌, ◌*◌, ◌^◌, min, ◌≤◌, ◌<◌, Bool, true, false, cond, ◌&&◌, List, [], ◌∷◌, ◌++◌, length, take, get_or, ℤ, pos, negsuc, nat_eq, nat_lt, nat_le, Option, Some, None}
+use Rattle.std.specs.List.{AllByRecursion}
+use Rattle.std.specs.Prelude.{Result, Ok, Err}
 use Rattle.kad_bencode.specs.Keys.{keys_of}
-use Rattle.kad_bencode.specs.Spelling.{numeral, pairs_text, string_text, text_of, Fits, each_once, has_key, values_of, in_order, is_i64}
-use Rattle.kad_bencode.specs.Faults.{Open, InList, InPair, fronts, pairs_of, IsFirstFault}
+use Rattle.kad_bencode.specs.Spelling.{numeral, string_text, Fits, each_once, has_key, values_of, in_order, is_i64}
+use Rattle.kad_bencode.specs.Faults.{Open, InList, InPair, IsFirstFault}
 use Rattle.kad_bencode.specs.declared.entries.Pair.{Pair}
 use Rattle.kad_bencode.specs.declared.value.Value.{Value}
 use Rattle.kad_bencode.specs.declared.value.Value.TheVariants as value

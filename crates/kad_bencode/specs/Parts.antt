@@ -1,5 +1,5 @@
 -- The parts of a value, by its kind.
-use Rattle.std.specs.Prelude.{◌≡◌, ℕ, List, Option, Some, None, ℤ}
+use Rattle.std.specs.Prelude.{ℕ, List, Option, Some, None, ℤ}
 use Rattle.kad_bencode.specs.Keys.{value_of}
 use Rattle.kad_bencode.specs.declared.value.Value.{Value}
 use Rattle.kad_bencode.specs.declared.value.Value.TheOpen as layer

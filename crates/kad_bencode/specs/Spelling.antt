@@ -1,6 +1,6 @@
 -- What bytes spell (BEP 3). A value stands here for a tree that a text names, limits aside: its integers may be any,
 -- and its dictionaries may have their pairs in any order and a key twice.
-use Rattle.std.specs.Prelude.{◌≡◌, ℕ, zero, suc, ◌+◌, ◌≤◌, ◌<◌, ◌^◌, max, Bool, true, false, not, cond, ◌&&◌, ◌||◌, List, [], ◌∷◌, ◌++◌, map, length, ℤ, pos, negsuc, nat_eq, nat_lt}
+use Rattle.std.specs.Prelude.{◌≡◌, ℕ, suc, ◌+◌, ◌≤◌, ◌^◌, max, Bool, true, false, not, cond, ◌&&◌, ◌||◌, List, [], ◌∷◌, ◌++◌, map, length, ℤ, pos, negsuc, nat_eq, nat_lt}
 use Rattle.std.specs.List.{concat, flat_map}
 use Rattle.std.specs.Ordering.{is_eq}
 use Rattle.std.specs.Int.Digits.{digits_of}

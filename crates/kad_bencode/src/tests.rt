@@ -37,11 +37,26 @@ fn refusals_name_the_fault_and_its_place(rt: HostRuntime) {
     refused(&rt, alloc, b"02:ab", Bad::NotBencode { at: 1 });
     refused(&rt, alloc, b"", Bad::NotBencode { at: 0 });
     refused(&rt, alloc, b"9:ab", Bad::NotBencode { at: 4 });
-    refused(&rt, alloc, b"99999999999999999999999:ab", Bad::NotBencode { at: 26 });
+    refused(
+        &rt,
+        alloc,
+        b"99999999999999999999999:ab",
+        Bad::NotBencode { at: 26 },
+    );
     refused(&rt, alloc, b"i1ex", Bad::Trailing { at: 3 });
     refused(&rt, alloc, b"d1:a0:1:a0:e", Bad::KeyTwice { at: 6 });
-    refused(&rt, alloc, b"i9223372036854775808e", Bad::NumberTooBig { at: 0 });
-    refused(&rt, alloc, b"llllllllllllllllleeeeeeeeeeeeeeeee", Bad::Deep { at: 16 });
+    refused(
+        &rt,
+        alloc,
+        b"i9223372036854775808e",
+        Bad::NumberTooBig { at: 0 },
+    );
+    refused(
+        &rt,
+        alloc,
+        b"llllllllllllllllleeeeeeeeeeeeeeeee",
+        Bad::Deep { at: 16 },
+    );
 }
 
 #[test]
@@ -55,14 +70,46 @@ fn examples_are_read_and_written(rt: HostRuntime) {
     same(&rt, alloc, b"l4:spam4:eggse");
     same(&rt, alloc, b"d3:cow3:moo4:spam4:eggse");
     same(&rt, alloc, b"d4:spaml1:a1:bee");
-    same(&rt, alloc, b"d1:ad2:id20:abcdefghij0123456789e1:q4:ping1:t2:aa1:y1:qe");
-    same(&rt, alloc, b"d1:rd2:id20:mnopqrstuvwxyz123456e1:t2:aa1:y1:re");
-    same(&rt, alloc, b"d1:ad2:id20:abcdefghij01234567896:target20:mnopqrstuvwxyz123456e1:q9:find_node1:t2:aa1:y1:qe");
-    same(&rt, alloc, b"d1:rd2:id20:0123456789abcdefghij5:nodes9:def456...e1:t2:aa1:y1:re");
-    same(&rt, alloc, b"d1:ad2:id20:abcdefghij01234567899:info_hash20:mnopqrstuvwxyz123456e1:q9:get_peers1:t2:aa1:y1:qe");
-    same(&rt, alloc, b"d1:rd2:id20:abcdefghij01234567895:token8:aoeusnth6:valuesl6:axje.u6:idhtnmee1:t2:aa1:y1:re");
-    same(&rt, alloc, b"d1:ad2:id20:abcdefghij012345678912:implied_porti1e9:info_hash20:mnopqrstuvwxyz1234564:porti6881e5:token8:aoeusnthe1:q13:announce_peer1:t2:aa1:y1:qe");
-    same(&rt, alloc, b"d1:eli201e23:A Generic Error Ocurrede1:t2:aa1:y1:ee");
+    same(
+        &rt,
+        alloc,
+        b"d1:ad2:id20:abcdefghij0123456789e1:q4:ping1:t2:aa1:y1:qe",
+    );
+    same(
+        &rt,
+        alloc,
+        b"d1:rd2:id20:mnopqrstuvwxyz123456e1:t2:aa1:y1:re",
+    );
+    same(
+        &rt,
+        alloc,
+        b"d1:ad2:id20:abcdefghij01234567896:target20:mnopqrstuvwxyz123456e1:q9:find_node1:t2:aa1:y1:qe",
+    );
+    same(
+        &rt,
+        alloc,
+        b"d1:rd2:id20:0123456789abcdefghij5:nodes9:def456...e1:t2:aa1:y1:re",
+    );
+    same(
+        &rt,
+        alloc,
+        b"d1:ad2:id20:abcdefghij01234567899:info_hash20:mnopqrstuvwxyz123456e1:q9:get_peers1:t2:aa1:y1:qe",
+    );
+    same(
+        &rt,
+        alloc,
+        b"d1:rd2:id20:abcdefghij01234567895:token8:aoeusnth6:valuesl6:axje.u6:idhtnmee1:t2:aa1:y1:re",
+    );
+    same(
+        &rt,
+        alloc,
+        b"d1:ad2:id20:abcdefghij012345678912:implied_porti1e9:info_hash20:mnopqrstuvwxyz1234564:porti6881e5:token8:aoeusnthe1:q13:announce_peer1:t2:aa1:y1:qe",
+    );
+    same(
+        &rt,
+        alloc,
+        b"d1:eli201e23:A Generic Error Ocurrede1:t2:aa1:y1:ee",
+    );
 }
 
 #[test]

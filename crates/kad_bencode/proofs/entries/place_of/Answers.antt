@@ -1,4 +1,4 @@
-use Rattle.std.proofs.Common.{arith, ◌≤◌, ◌-◌}
+use Rattle.std.proofs.Common.{arith, ◌-◌}
 use Rattle.std.specs.declared.cmp.Ordering.TheVariants.{Less, Equal, Greater}
 use Rattle.kad_bencode.proofs.Places.{place_above, place_there, place_further, place_first, compared}
 use Rattle.kad_bencode.proofs.entries.place_of.Goals as goal
@@ -17,7 +17,7 @@ pub loop-at-preserved : goal.loop-at-preserved
 loop-at-preserved g c = record {
   within = omega arith;
   below = place_further g.row.V.Denot c.args.pairs.now c.args.key.now c.loop-at.at c.index-pairs-at.result c.requires c.loop-at-test.true c.loop-at.invariant.within c.index-pairs-at.is
-    (compared g.row.V.Denot c.args.pairs.now c.args.key.now (c.loop-at.at - 1) c.index-pairs-at.result c.as_slice.result.now Less c.cmp.result c.index-pairs-at.is c.as_slice.ensures c.cmp.ensures c.in-Less.is) c.loop-at.invariant.below;
+      (compared g.row.V.Denot c.args.pairs.now c.args.key.now (c.loop-at.at - 1) c.index-pairs-at.result c.as_slice.result.now Less c.cmp.result c.index-pairs-at.is c.as_slice.ensures c.cmp.ensures c.in-Less.is) c.loop-at.invariant.below;
 }
 
 pub returns : goal.returns

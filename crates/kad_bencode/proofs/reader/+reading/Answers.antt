@@ -1,8 +1,8 @@
-use Rattle.std.proofs.Common.{◌≡◌, ℕ, suc, ◌+◌, ◌≤◌, List, ◌∷◌, ◌++◌, [], length, ap, sym, subst, ◌∙◌, arith, is_some, true, false}
+use Rattle.std.proofs.Common.{◌≡◌, ◌≤◌, ◌∷◌, ap, sym, subst, ◌∙◌, arith, is_some, false}
 use Rattle.std.proofs.lemmas.Result.{err_from_is_err_and}
 use Rattle.kad_bencode.specs.Keys.{put, value_of}
-use Rattle.kad_bencode.specs.Faults.{Open, InList, InPair}
-use Rattle.kad_bencode.specs.Machine.{AsKey, AsValue, ReadsValue, ReadsString}
+use Rattle.kad_bencode.specs.Faults.{InList, InPair}
+use Rattle.kad_bencode.specs.Machine.{AsKey, AsValue, ReadsString}
 use Rattle.kad_bencode.proofs.Nested.{widened, passed, some_copied, deep_list, deep_dictionary, list_opened, dictionary_opened, opened_value, awaits_text, text_value, ListSoFar, list_awaits, list_more, list_ends, PairsSoFar, pairs_await, key_twice, key_new, pairs_more, pairs_end}
 use Rattle.kad_bencode.proofs.reader.+reading.Goals as goal
 
@@ -32,11 +32,11 @@ dictionary_at-pairs-preserved t c = record {
   after = omega (arith, c.in_ok-key.ensures.moves, c.in_ok-value.ensures.moves, c.pairs.invariant.after);
   within = omega (arith, c.in_ok-value.ensures.moves);
   so_far = λ os d r f.
-    let l : PairsSoFar c.args.bytes.now c.pairs.at os c.pairs.entries = c.pairs.invariant.so_far os d r f in
-    let s : ReadsString c.args.bytes.now c.pairs.at (AsKey os l.pairs) c.in_ok-key.key.now c.in_ok-key.behind = c.in_ok-key.ensures.reads (AsKey os l.pairs) (pairs_await c.args.bytes.now c.pairs.at os c.pairs.entries l f c.pairs.invariant.within c.pairs-test.ensures) in
-    let new : is_some (value_of c.pairs.entries c.in_ok-key.key.now) ≡ false = ap is_some (sym c.get.ensures) ∙ some_copied c.get.result ∙ sym c.is_some.ensures ∙ c.if-is_some.false in
-    subst (PairsSoFar c.args.bytes.now c.in_ok-value.next os) (sym (c.in_ok-set.ensures.ok ∙ ap (λ k. put c.pairs.entries k c.in_ok-value.value) c.in_ok-key-2.ensures))
-    (pairs_more c.args.bytes.now c.pairs.at os c.pairs.entries c.in_ok-key.key.now c.in_ok-key.behind c.in_ok-value.value c.in_ok-value.next l new
+      let l : PairsSoFar c.args.bytes.now c.pairs.at os c.pairs.entries = c.pairs.invariant.so_far os d r f in
+      let s : ReadsString c.args.bytes.now c.pairs.at (AsKey os l.pairs) c.in_ok-key.key.now c.in_ok-key.behind = c.in_ok-key.ensures.reads (AsKey os l.pairs) (pairs_await c.args.bytes.now c.pairs.at os c.pairs.entries l f c.pairs.invariant.within c.pairs-test.ensures) in
+      let new : is_some (value_of c.pairs.entries c.in_ok-key.key.now) ≡ false = ap is_some (sym c.get.ensures) ∙ some_copied c.get.result ∙ sym c.is_some.ensures ∙ c.if-is_some.false in
+      subst (PairsSoFar c.args.bytes.now c.in_ok-value.next os) (sym (c.in_ok-set.ensures.ok ∙ ap (λ k. put c.pairs.entries k c.in_ok-value.value) c.in_ok-key-2.ensures))
+      (pairs_more c.args.bytes.now c.pairs.at os c.pairs.entries c.in_ok-key.key.now c.in_ok-key.behind c.in_ok-value.value c.in_ok-value.next l new
       (c.in_ok-value.ensures.reads (InPair l.pairs c.in_ok-key.key.now ∷ os) d (key_new c.args.bytes.now c.pairs.at os c.pairs.entries c.in_ok-key.key.now c.in_ok-key.behind l f s new)));
 }
 
@@ -56,10 +56,10 @@ list_at-values-preserved t c = record {
   after = omega (arith, c.in_ok-value.ensures.moves, c.values.invariant.after);
   within = omega (arith, c.in_ok-value.ensures.moves);
   so_far = λ os d r f.
-    let l : ListSoFar c.args.bytes.now c.values.at os c.values.values = c.values.invariant.so_far os d r f in
-    let few : c.args.depth ≤ 16 = c.requires.depth in
-    subst (ListSoFar c.args.bytes.now c.in_ok-value.next os) (sym c.in_ok-push.ensures.ok)
-    (list_more c.args.bytes.now c.values.at os c.values.values c.in_ok-value.value c.in_ok-value.next l
+      let l : ListSoFar c.args.bytes.now c.values.at os c.values.values = c.values.invariant.so_far os d r f in
+      let few : c.args.depth ≤ 16 = c.requires.depth in
+      subst (ListSoFar c.args.bytes.now c.in_ok-value.next os) (sym c.in_ok-push.ensures.ok)
+      (list_more c.args.bytes.now c.values.at os c.values.values c.in_ok-value.value c.in_ok-value.next l
       (c.in_ok-value.ensures.reads (InList l.trees ∷ os) d (list_awaits c.args.bytes.now c.values.at os c.values.values l (omega arith) f c.values.invariant.within c.values-test.ensures)));
 }
 

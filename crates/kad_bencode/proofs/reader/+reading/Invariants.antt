@@ -1,4 +1,4 @@
-use Rattle.std.proofs.Common.{◌≡◌, ℕ, suc, ◌+◌, ◌-◌, ◌*◌, ◌≤◌, List, [], ◌∷◌, length}
+use Rattle.std.proofs.Common.{◌≡◌, suc, ◌+◌, ◌-◌, ◌*◌, ◌≤◌, List, [], ◌∷◌, length}
 use Rattle.kad_bencode.specs.Faults.{Open, InList}
 use Rattle.kad_bencode.specs.Machine.{Reached, Ready, Keyless, FitsOpen}
 use Rattle.kad_bencode.proofs.Nested.{ListSoFar, PairsSoFar}

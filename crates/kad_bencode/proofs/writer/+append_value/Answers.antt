@@ -1,4 +1,4 @@
-use Rattle.std.proofs.Common.{◌≡◌, ℕ, ◌<◌, ◌≤◌, ◌++◌, ◌∷◌, [], arith, ap, ◌∙◌, sym, length, take, map, append_assoc}
+use Rattle.std.proofs.Common.{◌<◌, ◌≤◌, ◌++◌, ◌∷◌, arith, ap, ◌∙◌, sym, take, map, append_assoc}
 use Rattle.std.specs.List.{concat}
 use Rattle.std.proofs.lemmas.Result.{err_from_is_err_and}
 use Rattle.kad_bencode.specs.Spelling.{text_of, string_text, depth_of, pairs_text}
@@ -38,7 +38,7 @@ returns-in_err-append_value-in-Dict t c =
     kept_exit c.from_residual-in_err-append_value-in-Dict.result p.0 c.args.to.now.items c.append_string-in-pairs.new.to.items c.append_value-in-pairs.new.to.items
     ((100 ∷ pairs_text (pairs_of (take c.pairs.pair-index c.as_slice-pair-items.result.now))) ++ string_text c.as_slice-in-pairs.result.now) (text_of c.args.value.now) p.1
     (c.in_ok-append_string-in-Dict.ensures ∙ ap (λ l. l ++ string_text c.as_slice-in-pairs.result.now) c.pairs.invariant
-      ∙ append_assoc c.args.to.now.items (100 ∷ pairs_text (pairs_of (take c.pairs.pair-index c.as_slice-pair-items.result.now))) (string_text c.as_slice-in-pairs.result.now))
+    ∙ append_assoc c.args.to.now.items (100 ∷ pairs_text (pairs_of (take c.pairs.pair-index c.as_slice-pair-items.result.now))) (string_text c.as_slice-in-pairs.result.now))
     c.in_err-append_value-in-Dict.ensures
 
 pub returns-after-values : goal.returns-after-values

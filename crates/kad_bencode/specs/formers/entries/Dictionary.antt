@@ -1,5 +1,5 @@
 -- `Dictionary` as a type that may hold the type that holds it, by its values.
-use mathlib.Core.Path.{◌≡◌, refl, sym, ap, subst, ◌∙◌}
+use mathlib.Core.Path.{◌≡◌, refl, sym, ap, subst}
 use mathlib.Core.List.{List, [], ◌∷◌, map}
 use mathlib.Core.Former.{Former, this, const, pair, list, via, children}
 use Prim.Native.Nat.{ℕ}
@@ -7,7 +7,7 @@ use base.Stored.{code_map, coded_list, coded_ℕ, gcons}
 use denote.RattleType.{RattleType}
 use denote.HoleLaws.{Alike}
 use denote.HolePlaces.{Recodes, struct_places, laid}
-use denote.Hole.Carrier.{listed, list-listed}
+use denote.Hole.Carrier.{listed}
 use denote.Hole.Fix.{over}
 use denote.Param.Weighed.{Weighed, w_const, w_pair, w_via, w_list}
 use denote.Model.Placed.{view_places}

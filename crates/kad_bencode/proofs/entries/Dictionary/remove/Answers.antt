@@ -1,6 +1,6 @@
 use Rattle.std.proofs.Common.{◌≡◌, ◌∙◌, subst, get_or, Ok, Err, sym, ap}
 use Rattle.std.specs.List.{remove}
-use Rattle.kad_bencode.specs.Keys.{IsPlace, IsAscending, value_of}
+use Rattle.kad_bencode.specs.Keys.{IsPlace, IsAscending}
 use Rattle.kad_bencode.proofs.Places.{value_there, value_free, remove_without, without_free, without_ascending}
 use Rattle.kad_bencode.proofs.entries.Dictionary.remove.Goals as goal
 
