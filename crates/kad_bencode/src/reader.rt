@@ -14,128 +14,6 @@ use std::alloc::Global;
 /// The most lists and dictionaries that are open at once (this project's limit; BEP 3 has none).
 pub const MAX_DEPTH: usize = 16;
 
-/// Whether a byte stands at a place.
-fn has_byte(bytes: &[u8], at: usize, byte: u8) -> bool
-    ensures { HasByte bytes.now at byte result }
-{
-    at < bytes.len() && bytes[at] == byte
-}
-
-/// Whether a digit that isn't 0 stands at a place.
-fn has_number(bytes: &[u8], at: usize) -> bool
-    ensures { HasNumber bytes.now at result }
-{
-    at < bytes.len() && bytes[at] >= b'1' && bytes[at] <= b'9'
-}
-
-/// The number whose digits begin at a place, the first of them not 0, and where they end. A number beyond u64 is held up
-/// at its end.
-fn digits_from(bytes: &[u8], first: usize) -> (u64, usize)
-    requires within { first < length bytes.now }
-    requires nonzero { IsTrue (is_nonzero (get_or bytes.now first 0)) }
-    ensures { ReadsDigits bytes.now first result.0 result.1 }
-{
-    let mut number = (bytes[first] - b'0') as u64;
-    let mut next = first + 1;
-    while next < bytes.len() && bytes[next] >= b'0' && bytes[next] <= b'9' {
-        let digit = (bytes[next] - b'0') as u64;
-        number = number.saturating_mul(10).saturating_add(digit);
-        next += 1;
-    }
-    (number, next)
-}
-
-/// A number that isn't 0 as a signed one, where it is one of 64 bits.
-fn signed_of(negative: bool, number: u64) -> Option<i64>
-    requires { 0 < number }
-    ensures { IsSigned negative number result }
-{
-    if negative {
-        if number <= 1 << 63 {
-            Some(-((number - 1) as i64) - 1)
-        } else {
-            None
-        }
-    } else if number < 1 << 63 {
-        Some(number as i64)
-    } else {
-        None
-    }
-}
-
-/// The rest of the integer at `at`, whose number, not 0, begins at `first`.
-fn number_at(
-    bytes: &[u8],
-    at: usize,
-    first: usize,
-    negative: bool,
-) -> Result<(i64, usize), BenFault>
-    requires { first ≤ length bytes.now }
-    ensures moves { IfOk result (λ x. (first < x.1) × (x.1 ≤ length bytes.now)) }
-    ensures reads { (os : List Open) → AwaitsNumber bytes.now at first negative os
-        → Outcome bytes.now result (λ x. ReadsInteger bytes.now at os x.0 x.1) }
-{
-    if !has_number(bytes, first) {
-        return Err(BenFault::Bad(Bad::NotBencode { at: first }));
-    }
-    let (number, end) = digits_from(bytes, first);
-    if !has_byte(bytes, end, b'e') {
-        return Err(BenFault::Bad(Bad::NotBencode { at: end }));
-    }
-    match signed_of(negative, number) {
-        Some(value) => Ok((value, end + 1)),
-        None => Err(BenFault::Bad(Bad::NumberTooBig { at })),
-    }
-}
-
-/// The integer at a place, where its `i` stands, and where it ends.
-fn integer_at(bytes: &[u8], at: usize) -> Result<(i64, usize), BenFault>
-    requires within { at < length bytes.now }
-    requires begins { get_or bytes.now at 0 ≡ 105 }
-    ensures moves { IfOk result (λ x. (at < x.1) × (x.1 ≤ length bytes.now)) }
-    ensures reads { (os : List Open) → AwaitsInteger bytes.now at os
-        → Outcome bytes.now result (λ x. ReadsInteger bytes.now at os x.0 x.1) }
-{
-    if has_byte(bytes, at + 1, b'0') {
-        if !has_byte(bytes, at + 2, b'e') {
-            return Err(BenFault::Bad(Bad::NotBencode { at: at + 2 }));
-        }
-        return Ok((0, at + 3));
-    }
-    if has_byte(bytes, at + 1, b'-') {
-        return number_at(bytes, at, at + 2, true);
-    }
-    number_at(bytes, at, at + 1, false)
-}
-
-/// The string at a place, and where it ends.
-fn string_at(bytes: &[u8], at: usize) -> Result<(&[u8], usize), BenFault>
-    requires { at ≤ length bytes.now }
-    ensures moves { IfOk result (λ x. (at < x.1) × (x.1 ≤ length bytes.now)) }
-    ensures reads { (p : Place) → AwaitsString bytes.now at p
-        → Outcome bytes.now result (λ x. ReadsString bytes.now at p x.0.now x.1) }
-{
-    if has_byte(bytes, at, b'0') {
-        if !has_byte(bytes, at + 1, b':') {
-            return Err(BenFault::Bad(Bad::NotBencode { at: at + 1 }));
-        }
-        return Ok((&bytes[at..at], at + 2));
-    }
-    if !has_number(bytes, at) {
-        return Err(BenFault::Bad(Bad::NotBencode { at }));
-    }
-    let (length, end) = digits_from(bytes, at);
-    if !has_byte(bytes, end, b':') {
-        return Err(BenFault::Bad(Bad::NotBencode { at: end }));
-    }
-    let rest = bytes.len() - (end + 1);
-    if length > rest as u64 {
-        return Err(BenFault::Bad(Bad::NotBencode { at: bytes.len() }));
-    }
-    let next = end + 1 + length as usize;
-    Ok((&bytes[end + 1..next], next))
-}
-
 /// The value that the bytes spell, all of them, or the fault that is seen first. It takes memory in proportion to the
 /// bytes, however large a length they name.
 pub fn read(alloc: Global, bytes: &[u8]) -> Result<Value, BenFault>
@@ -247,4 +125,126 @@ fn dictionary_at(
         at = next;
     }
     Ok((Value::Dict(entries), at + 1))
+}
+
+/// The string at a place, and where it ends.
+fn string_at(bytes: &[u8], at: usize) -> Result<(&[u8], usize), BenFault>
+    requires { at ≤ length bytes.now }
+    ensures moves { IfOk result (λ x. (at < x.1) × (x.1 ≤ length bytes.now)) }
+    ensures reads { (p : Place) → AwaitsString bytes.now at p
+        → Outcome bytes.now result (λ x. ReadsString bytes.now at p x.0.now x.1) }
+{
+    if has_byte(bytes, at, b'0') {
+        if !has_byte(bytes, at + 1, b':') {
+            return Err(BenFault::Bad(Bad::NotBencode { at: at + 1 }));
+        }
+        return Ok((&bytes[at..at], at + 2));
+    }
+    if !has_number(bytes, at) {
+        return Err(BenFault::Bad(Bad::NotBencode { at }));
+    }
+    let (length, end) = digits_from(bytes, at);
+    if !has_byte(bytes, end, b':') {
+        return Err(BenFault::Bad(Bad::NotBencode { at: end }));
+    }
+    let rest = bytes.len() - (end + 1);
+    if length > rest as u64 {
+        return Err(BenFault::Bad(Bad::NotBencode { at: bytes.len() }));
+    }
+    let next = end + 1 + length as usize;
+    Ok((&bytes[end + 1..next], next))
+}
+
+/// The integer at a place, where its `i` stands, and where it ends.
+fn integer_at(bytes: &[u8], at: usize) -> Result<(i64, usize), BenFault>
+    requires within { at < length bytes.now }
+    requires begins { get_or bytes.now at 0 ≡ 105 }
+    ensures moves { IfOk result (λ x. (at < x.1) × (x.1 ≤ length bytes.now)) }
+    ensures reads { (os : List Open) → AwaitsInteger bytes.now at os
+        → Outcome bytes.now result (λ x. ReadsInteger bytes.now at os x.0 x.1) }
+{
+    if has_byte(bytes, at + 1, b'0') {
+        if !has_byte(bytes, at + 2, b'e') {
+            return Err(BenFault::Bad(Bad::NotBencode { at: at + 2 }));
+        }
+        return Ok((0, at + 3));
+    }
+    if has_byte(bytes, at + 1, b'-') {
+        return number_at(bytes, at, at + 2, true);
+    }
+    number_at(bytes, at, at + 1, false)
+}
+
+/// The rest of the integer at `at`, whose number, not 0, begins at `first`.
+fn number_at(
+    bytes: &[u8],
+    at: usize,
+    first: usize,
+    negative: bool,
+) -> Result<(i64, usize), BenFault>
+    requires { first ≤ length bytes.now }
+    ensures moves { IfOk result (λ x. (first < x.1) × (x.1 ≤ length bytes.now)) }
+    ensures reads { (os : List Open) → AwaitsNumber bytes.now at first negative os
+        → Outcome bytes.now result (λ x. ReadsInteger bytes.now at os x.0 x.1) }
+{
+    if !has_number(bytes, first) {
+        return Err(BenFault::Bad(Bad::NotBencode { at: first }));
+    }
+    let (number, end) = digits_from(bytes, first);
+    if !has_byte(bytes, end, b'e') {
+        return Err(BenFault::Bad(Bad::NotBencode { at: end }));
+    }
+    match signed_of(negative, number) {
+        Some(value) => Ok((value, end + 1)),
+        None => Err(BenFault::Bad(Bad::NumberTooBig { at })),
+    }
+}
+
+/// A number that isn't 0 as a signed one, where it is one of 64 bits.
+fn signed_of(negative: bool, number: u64) -> Option<i64>
+    requires { 0 < number }
+    ensures { IsSigned negative number result }
+{
+    if negative {
+        if number <= 1 << 63 {
+            Some(-((number - 1) as i64) - 1)
+        } else {
+            None
+        }
+    } else if number < 1 << 63 {
+        Some(number as i64)
+    } else {
+        None
+    }
+}
+
+/// The number whose digits begin at a place, the first of them not 0, and where they end. A number beyond u64 is held up
+/// at its end.
+fn digits_from(bytes: &[u8], first: usize) -> (u64, usize)
+    requires within { first < length bytes.now }
+    requires nonzero { IsTrue (is_nonzero (get_or bytes.now first 0)) }
+    ensures { ReadsDigits bytes.now first result.0 result.1 }
+{
+    let mut number = (bytes[first] - b'0') as u64;
+    let mut next = first + 1;
+    while next < bytes.len() && bytes[next] >= b'0' && bytes[next] <= b'9' {
+        let digit = (bytes[next] - b'0') as u64;
+        number = number.saturating_mul(10).saturating_add(digit);
+        next += 1;
+    }
+    (number, next)
+}
+
+/// Whether a digit that isn't 0 stands at a place.
+fn has_number(bytes: &[u8], at: usize) -> bool
+    ensures { HasNumber bytes.now at result }
+{
+    at < bytes.len() && bytes[at] >= b'1' && bytes[at] <= b'9'
+}
+
+/// Whether a byte stands at a place.
+fn has_byte(bytes: &[u8], at: usize, byte: u8) -> bool
+    ensures { HasByte bytes.now at byte result }
+{
+    at < bytes.len() && bytes[at] == byte
 }
