@@ -1,0 +1,12 @@
+pub mod Folds
+pub mod Numerals
+pub mod Takes
+pub mod Said
+pub mod Limits
+pub mod First
+pub mod Reading
+pub mod Places
+pub mod Nested
+pub mod Faults
+pub mod Writing
+pub mod Ordered

@@ -1,0 +1,7 @@
+use Rattle.std.specs.List.Sorted.{IsStrictlySortedBy}
+use Rattle.std.proofs.Common.{rules}
+use Rattle.kad_bencode.proofs.entries.Dictionary.new.Goals as goal
+
+pub invariant_of-result : goal.invariant_of-result
+unfolding IsStrictlySortedBy
+invariant_of-result g c = search rules
