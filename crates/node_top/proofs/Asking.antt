@@ -1,5 +1,5 @@
 -- One contact more is asked: its query is open, or it is lost at once.
-use Rattle.std.proofs.Common.{◌≡◌, ℕ, ◌+◌, ◌^◌, ◌<◌, ◌≤◌, List, [], ◌∷◌, ◌++◌, length, Option, Some, None, refl, sym, ap, subst, ◌∙◌, arith}
+use Rattle.std.proofs.Common.{◌≡◌, ◌+◌, ◌^◌, ◌<◌, ◌≤◌, List, [], ◌∷◌, ◌++◌, length, Option, Some, None, refl, sym, ap, subst, ◌∙◌}
 use Rattle.std.proofs.lemmas.List.{append-nil, length-append}
 use Rattle.kad_base.specs.declared.plain.Contact.{Contact}
 use Rattle.kad_base.specs.declared.plain.Event.{Event}
@@ -12,15 +12,15 @@ use Rattle.claim_book.specs.declared.plain.Setting.{Setting}
 use Rattle.claim_book.specs.declared.plain.Cause.TheVariants.{SendFault}
 use Rattle.claim_book.specs.declared.plain.Entry.{Entry}
 use Rattle.claim_book.specs.declared.plain.Entry.TheVariants.{Ask, Lost}
-use Rattle.claim_book.specs.Journal.{ask_of, seeds, asked, open_on, may_ask}
+use Rattle.claim_book.specs.Journal.{seeds, asked, open_on, may_ask}
 use Rattle.claim_book.specs.Legal.{Legal}
 use Rattle.claim_book.specs.State.{BookState, added}
 use Rattle.claim_book.proofs.More.{asked_more, seeds_more}
 use Rattle.node_top.specs.declared.driver.plain.LookSetting.{LookSetting}
 use Rattle.node_top.specs.declared.driver.plain.Query.{Query}
 use Rattle.node_top.specs.declared.driver.plain.Stand.{Stand}
-use Rattle.node_top.specs.Tells.{Given, deadline_of}
-use Rattle.node_top.specs.Standing.{contacts_of, Telling, HasSent, IsOf, TellsOn, AsksOne}
+use Rattle.node_top.specs.Tells.{deadline_of}
+use Rattle.node_top.specs.Standing.{contacts_of, Telling, HasSent, TellsOn, AsksOne}
 use Rattle.node_top.proofs.BookFacts.{open_asked, open_lost}
 use Rattle.node_top.proofs.Telling.{telling_next, sent_goes, unsent_goes}
 

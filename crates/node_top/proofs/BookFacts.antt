@@ -1,25 +1,24 @@
 -- What a legal journal of one path says of its open query.
-use Rattle.std.proofs.Common.{◌≡◌, ◌≢◌, ℕ, ◌+◌, ◌<◌, ◌≤◌, List, [], ◌∷◌, ◌++◌, length, get_or, Option, Some, None, Bool, true, false, not, ◌&&◌, ◌||◌, cond, ◌⊎◌, inl, inr, refl, sym, ap, subst, ◌∙◌, arith}
+use Rattle.std.proofs.Common.{◌≡◌, ◌≢◌, ℕ, ◌<◌, ◌≤◌, List, [], ◌∷◌, ◌++◌, length, get_or, Some, Bool, true, false, not, ◌&&◌, ◌||◌, cond, inl, inr, refl, sym, ap, subst, ◌∙◌}
 use Rattle.std.specs.Prelude.{filter, slice_get, IsSome}
 use Rattle.std.specs.List.{flat_map}
-use Rattle.std.proofs.lemmas.List.{append-nil, append_assoc, length-append}
+use Rattle.std.proofs.lemmas.List.{append-nil}
 use Rattle.std.proofs.lemmas.List.Elements.{filter-append}
 use Rattle.kad_base.specs.declared.plain.Contact.{Contact}
 use Rattle.kad_base.specs.declared.plain.Report.{Report}
 use Rattle.kad_base.specs.Contacts.{same, among, without}
-use Rattle.kad_base.proofs.Contacts.{same_exact, same_itself, among_more}
+use Rattle.kad_base.proofs.Contacts.{same_itself, among_more}
 use Rattle.claim_book.specs.declared.plain.Setting.{Setting}
 use Rattle.claim_book.specs.declared.plain.Cause.{Cause}
 use Rattle.claim_book.specs.declared.plain.Entry.{Entry}
 use Rattle.claim_book.specs.declared.plain.Entry.TheVariants.{Ask, Heard, Lost}
 use Rattle.claim_book.specs.declared.calls.BookReply.{BookReply}
 use Rattle.claim_book.specs.declared.calls.BookReply.TheVariants.{Ask as Ask_reply, RunOut as RunOut_reply, Later, Kept, NotOpen, NoMemory}
-use Rattle.claim_book.specs.Journal.{ask_of, ask_on, answer_of, fail_of, asked, asked_on, askers, answered, failed, open_any, open_on, unsettled, may_ask}
+use Rattle.claim_book.specs.Journal.{ask_of, ask_on, answer_of, fail_of, asked, asked_on, askers, answered, failed, open_on, unsettled, may_ask}
 use Rattle.claim_book.specs.Legal.{Legal}
-use Rattle.claim_book.specs.RunOut.{RunOut}
 use Rattle.claim_book.specs.State.{BookState, added}
-use Rattle.claim_book.specs.Calls.{NextStep, EndStep, HeardStep, after_next, after_kept, asker}
-use Rattle.claim_book.proofs.More.{asked_more, asked_on_more, answered_more, failed_more}
+use Rattle.claim_book.specs.Calls.{NextStep, EndStep, HeardStep, after_kept, asker}
+use Rattle.claim_book.proofs.More.{asked_on_more, answered_more, failed_more}
 use Rattle.claim_book.proofs.Among.{among_itself, among_one, among_without, none_among}
 use Rattle.claim_book.proofs.Claims.{MayAsk, may_ask_says, open_says, asked_on_path, asked_on_asked, ended_asked, one_path}
 use Rattle.claim_book.proofs.Ends.{asked_by_some, over_or_ask}

@@ -1,5 +1,5 @@
 -- From a lookup to the command that asked for it.
-use Rattle.std.proofs.Common.{◌≡◌, ℕ, zero, suc, ◌<◌, ◌≤◌, List, [], ◌∷◌, length, Option, Some, None, Result, Ok, Err, IfOk, IfErr, inl, inr, true, refl, sym, ap, subst, ◌∙◌, arith}
+use Rattle.std.proofs.Common.{◌≡◌, ℕ, zero, suc, ◌<◌, ◌≤◌, List, [], ◌∷◌, length, Option, Result, Ok, Err, IfErr, inl, inr, sym, ap, subst, ◌∙◌, arith}
 use Rattle.std.specs.List.{All}
 use Rattle.std.specs.List.Sorted.{IsStrictlySortedBy}
 use Rattle.kad_base.specs.declared.plain.Id.{Id}
@@ -7,20 +7,19 @@ use Rattle.kad_base.specs.declared.plain.Contact.{Contact}
 use Rattle.kad_base.specs.declared.plain.Report.{Report}
 use Rattle.kad_base.specs.declared.plain.Policy.{Policy}
 use Rattle.kad_base.specs.declared.plain.Event.{Event}
-use Rattle.kad_base.specs.Contacts.{among, IsUsable}
-use Rattle.kad_base.specs.Outside.{Grows, Rose}
+use Rattle.kad_base.specs.Contacts.{IsUsable}
+use Rattle.kad_base.specs.Outside.{Grows}
 use Rattle.kad_distance.specs.Order.{closeness}
 use Rattle.kad_distance.specs.KClosest.{k_closest}
 use Rattle.kad_distance.proofs.Chosen.{closest_rises, closest_few, closest_all}
 use Rattle.id_puzzles.specs.Drawn.{Drawn}
 use Rattle.claim_book.specs.declared.plain.Setting.{Setting}
-use Rattle.claim_book.specs.Journal.{asked, failed, turned, answered}
+use Rattle.claim_book.specs.Journal.{asked, failed, turned}
 use Rattle.claim_book.specs.Legal.{Legal}
 use Rattle.claim_book.specs.RunOut.{RunOut}
 use Rattle.claim_book.specs.Result.{result_of}
 use Rattle.claim_book.proofs.Claims.{took_distinct, asked_distinct}
 use Rattle.claim_book.proofs.Ends.{found_answered}
-use Rattle.node_top.specs.declared.driver.plain.LookSetting.{LookSetting}
 use Rattle.node_top.specs.declared.driver.plain.Outcome.{Outcome}
 use Rattle.node_top.specs.declared.status.Status.{Status}
 use Rattle.node_top.specs.declared.status.Status.TheVariants.{Usage, BadLine, LinkFault, SourceFault, Strays, NoSeeds, NoMemory, TooLong}
@@ -30,7 +29,7 @@ use Rattle.node_top.specs.Words.{Word, CommandOf}
 use Rattle.node_top.specs.Printed.{printed}
 use Rattle.node_top.specs.Tells.{Given, Tells, EndsAtStray}
 use Rattle.node_top.specs.Standing.{given_of, LooksUp}
-use Rattle.node_top.specs.Looked.{Admits, Reads, setting_of, lookup_of, printed_of, LooksAt, Looked, Outside, LookCause, HasCause}
+use Rattle.node_top.specs.Looked.{Admits, Reads, setting_of, lookup_of, printed_of, LooksAt, Outside, LookCause, HasCause}
 
 all_cons : {A : Type 0} (P : A → Type 0) (x : A) (xs : List A) → P x → All P xs → All P (x ∷ xs)
 all_cons P x xs p h zero d lt = p

@@ -1,5 +1,5 @@
 -- The open query ends by an answer or by its deadline.
-use Rattle.std.proofs.Common.{◌≡◌, ◌≢◌, ℕ, ◌+◌, ◌<◌, ◌≤◌, List, [], ◌∷◌, ◌++◌, length, Option, Some, None, Bool, true, false, not, cond, inl, inr, refl, sym, ap, subst, ◌∙◌, arith}
+use Rattle.std.proofs.Common.{◌≡◌, ◌≢◌, ℕ, ◌<◌, ◌≤◌, List, [], ◌∷◌, ◌++◌, Option, Some, None, true, false, not, cond, inl, inr, refl, sym, ap, subst, ◌∙◌, arith}
 use Rattle.std.specs.Prelude.{nat_lt, map, MatchOption}
 use Rattle.std.proofs.lemmas.List.{append-nil}
 use Rattle.std.proofs.lemmas.Bool.Decides.{nat_tests}
@@ -20,7 +20,7 @@ use Rattle.claim_book.specs.State.{BookState, added}
 use Rattle.claim_book.proofs.More.{asked_more, seeds_more}
 use Rattle.node_top.specs.declared.driver.plain.Query.{Query}
 use Rattle.node_top.specs.Tells.{OpenQuery, Answers, reports_of, timed_out, closed_at, open_at}
-use Rattle.node_top.specs.Standing.{as_open, queries_of, contacts_of, Hears, Expires}
+use Rattle.node_top.specs.Standing.{as_open, Hears, Expires}
 use Rattle.node_top.proofs.BookFacts.{open_heard, open_lost}
 
 -- what was not the query's own answer answers it not

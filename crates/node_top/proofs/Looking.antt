@@ -1,5 +1,5 @@
 -- A lookup begins with its seeds, goes round, and ends where its path has run out.
-use Rattle.std.proofs.Common.{◌≡◌, ℕ, ◌+◌, ◌-◌, ◌*◌, ◌%◌, ◌<◌, ◌≤◌, List, [], ◌∷◌, ◌++◌, length, Option, Some, None, refl, sym, ap, subst, ◌∙◌, arith}
+use Rattle.std.proofs.Common.{◌≡◌, ℕ, ◌+◌, ◌-◌, ◌*◌, ◌<◌, ◌≤◌, List, [], ◌∷◌, ◌++◌, length, Option, None, refl, sym, ap, subst, ◌∙◌, arith}
 use Rattle.std.proofs.lemmas.List.{append-nil}
 use Rattle.kad_base.specs.declared.plain.Contact.{Contact}
 use Rattle.kad_base.specs.declared.plain.Event.{Event}
@@ -8,18 +8,16 @@ use Rattle.kad_base.proofs.Grown.{grows_weaker}
 use Rattle.id_puzzles.specs.Drawn.{Drawn}
 use Rattle.claim_book.specs.declared.plain.Setting.{Setting}
 use Rattle.claim_book.specs.declared.plain.Entry.{Entry}
-use Rattle.claim_book.specs.declared.plain.Entry.TheVariants.{Seed}
-use Rattle.claim_book.specs.Journal.{seeds, asked, asked_on, answered, failed, open_on}
+use Rattle.claim_book.specs.Journal.{seeds, asked, asked_on, open_on}
 use Rattle.claim_book.specs.Legal.{Legal, seeded_from, seeded}
 use Rattle.claim_book.specs.RunOut.{RunOut}
 use Rattle.claim_book.specs.Result.{result_of}
 use Rattle.claim_book.specs.State.{BookState}
 use Rattle.node_top.specs.declared.driver.plain.LookSetting.{LookSetting}
 use Rattle.node_top.specs.declared.driver.plain.Outcome.{Outcome}
-use Rattle.node_top.specs.declared.driver.plain.Query.{Query}
 use Rattle.node_top.specs.declared.driver.plain.Stand.{Stand}
 use Rattle.node_top.specs.Tells.{Given, driven, Tells}
-use Rattle.node_top.specs.Standing.{queries_of, contacts_of, Telling, StandsAfter, Settled, IsOf, AsksOne, HasRunOut, weight_of, given_of, IsDone, LooksUp}
+use Rattle.node_top.specs.Standing.{queries_of, contacts_of, Telling, Settled, IsOf, AsksOne, HasRunOut, weight_of, given_of, IsDone, LooksUp}
 use Rattle.node_top.proofs.Settling.{driven_append, seeds_append}
 use Rattle.node_top.proofs.BookFacts.{open_by_driven, asked_by_driven}
 use Rattle.node_top.proofs.Telling.{telling_settled}

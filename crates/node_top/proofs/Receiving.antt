@@ -20,8 +20,8 @@ use Rattle.claim_book.specs.State.{BookState}
 use Rattle.node_top.specs.declared.driver.plain.LookSetting.{LookSetting}
 use Rattle.node_top.specs.declared.driver.plain.Query.{Query}
 use Rattle.node_top.specs.declared.driver.plain.Stand.{Stand}
-use Rattle.node_top.specs.Tells.{Given, OpenQuery, Seen, is_driven, driven, IsEarliest, WaitsUntil, HaveAsked, Receives, Answers, AnswerGives, IsStray, is_overdue, timed_out, closed_at, open_at, goes_on, after_match, after_stray, after_quiet, TellsSoFar, EndsAtStray}
-use Rattle.node_top.specs.Standing.{as_open, queries_of, Stands, StandsAfter, Telling, IsOf, TellsOn, Hears, Expires, waits_until, goes_round, weight_of, ReceivesOne, TakesStray, EndsByStray}
+use Rattle.node_top.specs.Tells.{Given, OpenQuery, Seen, is_driven, driven, IsEarliest, WaitsUntil, HaveAsked, Receives, Answers, AnswerGives, IsStray, is_overdue, timed_out, closed_at, open_at, goes_on, after_match, after_stray, after_quiet, EndsAtStray}
+use Rattle.node_top.specs.Standing.{as_open, queries_of, Stands, StandsAfter, Telling, IsOf, Hears, Expires, waits_until, goes_round, weight_of, ReceivesOne, TakesStray, EndsByStray}
 use Rattle.node_top.proofs.Settling.{driven_append}
 use Rattle.node_top.proofs.Telling.{GoesOn, telling_next, driven_more}
 use Rattle.node_top.proofs.Ending.{open_late}

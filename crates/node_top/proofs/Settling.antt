@@ -1,20 +1,20 @@
 -- Settling adds entries that are not the driver's, and each takes one thing from the front.
-use Rattle.std.proofs.Common.{◌≡◌, ◌≢◌, ℕ, suc, ◌+◌, ◌-◌, ◌<◌, ◌≤◌, List, [], ◌∷◌, ◌++◌, length, drop, Option, Some, None, Bool, true, false, cond, refl, sym, ap, subst, ◌∙◌, arith}
-use Rattle.std.specs.Prelude.{filter, slice_get}
+use Rattle.std.proofs.Common.{◌≡◌, ◌≢◌, ℕ, ◌+◌, ◌<◌, List, [], ◌∷◌, ◌++◌, length, drop, Some, true, false, cond, refl, sym, ap, ◌∙◌, arith}
+use Rattle.std.specs.Prelude.{slice_get}
 use Rattle.std.proofs.lemmas.List.{append-nil, append_assoc, length-append, length-drop}
 use Rattle.std.proofs.lemmas.List.Concat.{flat_map-append}
 use Rattle.std.proofs.lemmas.List.Elements.{filter-append}
 use Rattle.kad_base.specs.declared.plain.Contact.{Contact}
 use Rattle.kad_base.specs.declared.plain.Report.{Report}
 use Rattle.claim_book.specs.declared.plain.Thing.{Thing}
-use Rattle.claim_book.specs.declared.plain.Thing.TheVariants.{Responder, Told}
+use Rattle.claim_book.specs.declared.plain.Thing.TheVariants.{Responder}
 use Rattle.claim_book.specs.declared.plain.Entry.{Entry}
 use Rattle.claim_book.specs.declared.plain.Entry.TheVariants.{Note as Note_entry, Taken as Taken_entry, Held as Held_entry, Turned as Turned_entry, Rejected as Rejected_entry, Skipped as Skipped_entry}
 use Rattle.claim_book.specs.declared.calls.BookReply.{BookReply}
-use Rattle.claim_book.specs.declared.calls.BookReply.TheVariants.{Ask, RunOut, Later, Kept, NotOpen, Found, NotYet, Alive, Report as Report_reply, Idle, NotFront, Taken, Held, Turned, Rejected, Skipped, NoMemory}
+use Rattle.claim_book.specs.declared.calls.BookReply.TheVariants.{Kept, Alive, Report as Report_reply, Idle, NotFront, Taken, Held, Turned, Rejected, Skipped}
 use Rattle.claim_book.specs.Judged.{Judged}
 use Rattle.claim_book.specs.Journal.{seed_of, seeds, things_of, settles_on, things, settled, unsettled, first_unsettled}
-use Rattle.claim_book.specs.State.{BookState, added}
+use Rattle.claim_book.specs.State.{BookState}
 use Rattle.claim_book.specs.Calls.{PullStep, NoteStep, SettleStep, IsFront, after_kept, after_settle}
 use Rattle.claim_book.proofs.More.{things_more, settled_more}
 use Rattle.node_top.specs.Tells.{is_driven, driven}

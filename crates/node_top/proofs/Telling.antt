@@ -1,6 +1,6 @@
 -- What the events tell goes on, event by event, while the journal grows.
-use Rattle.std.proofs.Common.{◌≡◌, ◌≢◌, ℕ, zero, suc, ◌+◌, ◌%◌, ◌^◌, ◌<◌, ◌≤◌, List, [], ◌∷◌, ◌++◌, length, Option, Some, None, true, cond, refl, sym, ap, subst, ◌∙◌, arith}
-use Rattle.std.specs.Prelude.{Contains, map}
+use Rattle.std.proofs.Common.{◌≡◌, ℕ, zero, suc, ◌+◌, ◌%◌, ◌^◌, ◌<◌, List, [], ◌∷◌, ◌++◌, Option, Some, None, true, cond, refl, sym, ap, subst, ◌∙◌, arith}
+use Rattle.std.specs.Prelude.{map}
 use Rattle.std.proofs.lemmas.List.{append-nil, append_assoc}
 use Rattle.kad_base.specs.declared.plain.Contact.{Contact}
 use Rattle.kad_base.specs.declared.plain.Event.{Event}
@@ -12,10 +12,9 @@ use Rattle.kad_krpc.specs.Form.{find_node_form}
 use Rattle.claim_book.specs.declared.plain.Cause.TheVariants.{SendFault}
 use Rattle.claim_book.specs.declared.plain.Entry.{Entry}
 use Rattle.claim_book.specs.declared.plain.Entry.TheVariants.{Ask, Lost}
-use Rattle.node_top.specs.declared.driver.plain.Query.{Query}
 use Rattle.node_top.specs.declared.driver.plain.Stand.{Stand}
-use Rattle.node_top.specs.Tells.{Given, OpenQuery, Seen, is_driven, driven, IsFirstFree, IsQuery, gives, deadline_of, HasAsked, HaveAsked, Receives, Gives, TellsFrom, begun, TellsSoFar}
-use Rattle.node_top.specs.Standing.{as_open, queries_of, Stands, StandsAfter, Telling}
+use Rattle.node_top.specs.Tells.{Given, OpenQuery, Seen, is_driven, driven, IsFirstFree, IsQuery, gives, deadline_of, HasAsked, HaveAsked, Receives, Gives, TellsFrom, begun}
+use Rattle.node_top.specs.Standing.{queries_of, Stands, StandsAfter, Telling}
 use Rattle.node_top.proofs.Settling.{driven_append}
 
 asked_longer : (g : Given) (J more : List Entry) (s : Seen) (p : ℕ) → HasAsked g J s p → HasAsked g (J ++ more) s p

@@ -1,7 +1,7 @@
-use Rattle.std.proofs.Common.{◌≡◌, ◌∙◌, ap, sym}
+use Rattle.std.proofs.Common.{◌∙◌, ap}
 use Rattle.kad_distance.specs.KClosest.{k_closest}
 use Rattle.node_top.proofs.Receiving.{ok_then}
-use Rattle.node_top.proofs.Commands.{seeds_few, seeds_rise, seeds_usable, looks_at, strays_at}
+use Rattle.node_top.proofs.Commands.{seeds_few, seeds_rise, seeds_usable, looks_at}
 use Rattle.node_top.proofs.lookup.lookup.Goals as goal
 
 pub look_up_alone-requires-clause-few : goal.look_up_alone-requires-clause-few

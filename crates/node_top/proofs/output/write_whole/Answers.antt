@@ -1,7 +1,7 @@
-use Rattle.std.proofs.Common.{◌≡◌, ◌+◌, ◌≤◌, ◌++◌, List, ℕ, [], length, take, drop, arith, refl, sym, ap, ◌∙◌, rules}
+use Rattle.std.proofs.Common.{arith, refl}
 use Rattle.std.proofs.lemmas.Grind.{common_steps}
-use Rattle.std.proofs.Math.Seq.{take-add, take-length}
-use Rattle.kad_base.proofs.Grown.{grows_then, grows_none, grows_weaker}
+use Rattle.std.proofs.Math.Seq.{take-add}
+use Rattle.kad_base.proofs.Grown.{grows_then}
 use Rattle.node_top.proofs.Parts.{front, rest_whole}
 use Rattle.node_top.proofs.output.write_whole.Goals as goal
 

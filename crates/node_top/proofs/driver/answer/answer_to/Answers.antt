@@ -1,4 +1,4 @@
-use Rattle.std.proofs.Common.{◌≡◌, Some, None, Err, ap, sym, subst, ◌∙◌}
+use Rattle.std.proofs.Common.{Err, ap}
 use Rattle.kad_base.specs.Words.{word_bytes}
 use Rattle.kad_krpc.specs.declared.message.Message.TheVariants.{Answer as Answer_message}
 use Rattle.node_top.proofs.Ending.{own_answered}

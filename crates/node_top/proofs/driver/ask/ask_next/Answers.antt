@@ -1,11 +1,10 @@
-use Rattle.std.proofs.Common.{◌≡◌, ◌∷◌, [], ◌∙◌, ap, sym, refl}
-use Rattle.kad_base.specs.declared.plain.Contact.{Contact}
+use Rattle.std.proofs.Common.{◌∙◌, ap}
 use Rattle.claim_book.specs.Journal.{open_on}
 use Rattle.claim_book.specs.State.{BookState, added}
 use Rattle.claim_book.specs.declared.plain.Entry.TheVariants.{Lost}
 use Rattle.claim_book.specs.declared.plain.Cause.TheVariants.{SendFault}
 use Rattle.node_top.proofs.BookFacts.{open_asked}
-use Rattle.node_top.proofs.Asking.{Asking, sent_asks, unsent_asks}
+use Rattle.node_top.proofs.Asking.{sent_asks, unsent_asks}
 use Rattle.node_top.proofs.BookFacts.{few_asked}
 use Rattle.node_top.proofs.driver.ask.ask_next.Goals as goal
 

@@ -1,4 +1,4 @@
-use Rattle.std.proofs.Common.{◌≡◌, ◌∙◌}
+use Rattle.std.proofs.Common.{◌∙◌}
 use Rattle.node_top.proofs.BookFacts.{lost_kept}
 use Rattle.node_top.proofs.driver.ask.lose.Goals as goal
 

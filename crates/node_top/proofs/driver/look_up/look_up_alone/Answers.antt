@@ -1,9 +1,8 @@
-use Rattle.std.proofs.Common.{◌≡◌, ◌∙◌, ◌+◌, length, refl, ap, sym, arith}
-use Rattle.id_puzzles.specs.Drawn.{Drawn}
+use Rattle.std.proofs.Common.{◌∙◌, refl, ap, arith}
 use Rattle.node_top.specs.Standing.{contacts_of, given_of}
 use Rattle.node_top.proofs.Telling.{telling_begun}
 use Rattle.node_top.proofs.Receiving.{ok_then}
-use Rattle.node_top.proofs.Looking.{Starts, starts, settled_open, round_asked, asked_less, looked_up}
+use Rattle.node_top.proofs.Looking.{starts, settled_open, round_asked, asked_less, looked_up}
 use Rattle.node_top.proofs.driver.look_up.look_up_alone.Goals as goal
 
 pub rounds-init : goal.rounds-init

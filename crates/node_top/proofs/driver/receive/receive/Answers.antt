@@ -1,7 +1,6 @@
-use Rattle.std.proofs.Common.{◌≡◌, take, ap, sym, subst, refl, ◌<◌, arith}
+use Rattle.std.proofs.Common.{take, sym, subst, refl, ◌<◌}
 use Rattle.node_top.specs.declared.driver.plain.Stand.{Stand}
-use Rattle.node_top.specs.Standing.{TakesStray, ReceivesOne}
-use Rattle.node_top.proofs.Receiving.{Receiving, match_receives, stray_receives, quiet_receives, last_stray, ok_then, round_few}
+use Rattle.node_top.proofs.Receiving.{match_receives, stray_receives, quiet_receives, last_stray, ok_then, round_few}
 use Rattle.node_top.proofs.driver.receive.receive.Goals as goal
 
 pub returns-in-Ok-clause-ok : goal.returns-in-Ok-clause-ok

@@ -1,5 +1,4 @@
-use Rattle.std.proofs.Common.{◌≡◌, ◌∙◌, sym, ap}
-use Rattle.node_top.specs.Standing.{Settled}
+use Rattle.std.proofs.Common.{◌∙◌, sym, ap}
 use Rattle.node_top.proofs.Settling.{settled_not, settled_then}
 use Rattle.node_top.proofs.driver.settle.settle_all.Goals as goal
 

@@ -1,6 +1,5 @@
-use Rattle.std.proofs.Common.{◌≡◌, ◌+◌, true, false, length, ap, sym, subst, ◌∙◌, arith}
+use Rattle.std.proofs.Common.{◌≡◌, sym, subst}
 use Rattle.claim_book.specs.declared.plain.Thing.TheVariants.{Responder, Told}
-use Rattle.claim_book.specs.Journal.{unsettled, first_unsettled}
 use Rattle.claim_book.specs.State.{BookState}
 use Rattle.node_top.specs.Standing.{Settled, SettlesOne}
 use Rattle.node_top.proofs.Settling.{settled_by, settled_not, less_by}
