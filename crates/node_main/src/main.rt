@@ -1,0 +1,120 @@
+//! The program: the real words, random bytes, socket and standard streams, and one call of the node.
+#![tactic(auto)]
+
+ghost use Rattle.std.specs.Prelude.{◌≡◌, ◌≢◌, codes};
+ghost use Rattle.std.specs.IoError.{error_kind};
+ghost use Rattle.node_main.specs.declared.Refusal.{Refusal};
+
+mod stdin;
+mod stdout;
+#[cfg(test)]
+mod tests;
+mod udp;
+
+use id_puzzles::Sha1Check;
+use kad_base::{Addr, Ip};
+use node_top::run;
+use std::alloc::AllocError;
+use std::io::{ErrorKind, Input};
+use std::process::ExitCode;
+use std::random::RandomSource;
+use std::rt::{Clock, Env, Net};
+use std::{env, io};
+use stdin::StandardInput;
+use stdout::StandardOutput;
+use udp::UdpLink;
+
+/// Any IPv4 address of this machine, and a port that the system picks.
+const ANY: Addr = Addr {
+    ip: Ip::V4([0; 4]),
+    port: 0,
+};
+
+/// Why the node isn't started.
+#[derive(Clone, Copy, Debug, PartialEq, Eq)]
+enum Refusal {
+    /// A word of the command line isn't UTF-8, or the system gave no random bytes.
+    Start,
+    /// There is no memory for the words.
+    Memory,
+    /// No UDP socket could be bound, or the clock can't be read.
+    Socket,
+}
+
+impl Refusal {
+    fn status(self) -> u8
+        ensures start { self ≡ Refusal.Start → result ≡ 1 }
+        ensures memory { self ≡ Refusal.Memory → result ≡ 9 }
+        ensures socket { self ≡ Refusal.Socket → result ≡ 14 }
+    {
+        match self {
+            Refusal::Start => 1,
+            Refusal::Memory => 9,
+            Refusal::Socket => 14,
+        }
+    }
+
+    fn line(self) -> &'static str
+        ensures start { self ≡ Refusal.Start → result.now ≡ codes "no start" }
+        ensures memory { self ≡ Refusal.Memory → result.now ≡ codes "no memory" }
+        ensures socket { self ≡ Refusal.Socket → result.now ≡ codes "no socket" }
+    {
+        match self {
+            Refusal::Start => "no start",
+            Refusal::Memory => "no memory",
+            Refusal::Socket => "no socket",
+        }
+    }
+}
+
+/// The words after the program's name.
+fn words<R: Env + AllocGlobal>(rt: &R) -> Result<Vec<String>, Refusal> {
+    let args = env::args(rt).map_err(|e| refusal_of(&e))?;
+    args.skip(1)
+        .collect(rt.alloc())
+        .map_err(|_: AllocError| Refusal::Memory)
+}
+
+/// What the error of reading the words means.
+fn refusal_of(error: &io::Error) -> Refusal
+    ensures memory { error_kind error.now ≡ ErrorKind.OutOfMemory → result ≡ Refusal.Memory }
+    ensures start { error_kind error.now ≢ ErrorKind.OutOfMemory → result ≡ Refusal.Start }
+{
+    match error.kind() {
+        ErrorKind::OutOfMemory => Refusal::Memory,
+        _ => Refusal::Start,
+    }
+}
+
+/// Takes the words, then draws, then binds, and runs the node; its status.
+fn started<R>(rt: &R) -> Result<u8, Refusal>
+where
+    R: Env + AllocGlobal + RandomSource + Net + Clock + Input + Print,
+{
+    let words = words(rt)?;
+    let mut random = [0u8; 32];
+    rt.fill_bytes(&mut random).map_err(|_| Refusal::Start)?;
+    let mut link = UdpLink::bind(rt, ANY).map_err(|_| Refusal::Socket)?;
+    let mut source = StandardInput::new(rt.reader());
+    let mut sink = StandardOutput::new(rt);
+    Ok(run(
+        rt,
+        rt.alloc(),
+        words.as_slice(),
+        &mut source,
+        &mut link,
+        &mut sink,
+        &random,
+        &Sha1Check,
+    ))
+}
+
+fn main(rt: HostRuntime) -> ExitCode {
+    match started(&rt) {
+        Ok(status) => ExitCode::from(status),
+        Err(refusal) => {
+            let _ = rt.println(refusal.line());
+            ExitCode::from(refusal.status())
+        }
+    }
+}
