@@ -1,5 +1,5 @@
 -- What the k closest of a list are, and how they follow from those of other lists.
-use Rattle.std.proofs.Common.{◌≡◌, ℕ, zero, suc, ◌+◌, ◌<◌, ◌≤◌, ◌↔◌, ◌⊎◌, inl, inr, List, [], ◌∷◌, ◌++◌, length, take, refl, sym, ap, subst, ◌∙◌, arith}
+use Rattle.std.proofs.Common.{◌≡◌, ℕ, zero, suc, ◌<◌, ◌≤◌, ◌↔◌, inl, inr, List, [], ◌∷◌, ◌++◌, length, take, refl, sym, ap, subst, ◌∙◌, arith}
 use Rattle.std.specs.Prelude.{fold}
 use Rattle.std.specs.List.{All, AllByRecursion, Contains}
 use Rattle.std.specs.List.Sorted.{IsStrictlySortedBy}
@@ -121,7 +121,7 @@ least_below {K} {R} o t k S x in_ out =
     let e = least_take o k S in
     All-from_recursion (λ y. R y x ≡ Less) (least R k S)
     (subst (λ (l : List K). AllByRecursion (λ y. R y x ≡ Less) l) (sym e)
-      (front_below R k (each_once R S) x (each_once_rises o S) (once_in t S x in_) (λ h. out (subst (λ (l : List K). Contains l x) (sym e) h))))
+    (front_below R k (each_once R S) x (each_once_rises o S) (once_in t S x in_) (λ h. out (subst (λ (l : List K). Contains l x) (sym e) h))))
 
 -- in strict order
 pub closest_rises : (target : Id) (k : ℕ) (S : List Contact) → IsStrictlySortedBy (closeness target) (k_closest target k S)

@@ -1,9 +1,8 @@
 -- Lists in strict order are told apart by their members.
-use Rattle.std.proofs.Common.{◌≡◌, ℕ, zero, suc, ◌+◌, ◌<◌, ◌⊎◌, inl, inr, List, [], ◌∷◌, ◌++◌, length, get_or, refl, sym, ap, subst, ◌∙◌, arith}
+use Rattle.std.proofs.Common.{◌≡◌, zero, suc, ◌⊎◌, inl, inr, List, [], ◌∷◌, refl, sym, subst, ◌∙◌, arith}
 use Rattle.std.specs.Prelude.{fold}
-use Rattle.std.specs.List.{AllByRecursion, Contains}
+use Rattle.std.specs.List.{Contains}
 use Rattle.std.specs.List.Sorted.{IsStrictlySortedBy}
-use Rattle.std.specs.Ordering.{ordering_reverse}
 use Rattle.std.specs.Cmp.{IsTotalOrder}
 use Rattle.std.specs.declared.cmp.Ordering.{Ordering}
 use Rattle.std.specs.declared.cmp.Ordering.TheVariants.{Less, Equal, Greater}
@@ -50,8 +49,8 @@ same_members o (x ∷ xs) [] p q f g = let (n, lt, e) = f x (first_in x xs) in a
 same_members {K} {R} o (x ∷ xs) (y ∷ ys) p q f g =
     let e : x ≡ y = first_same o x y xs ys p.0 q.0 (in_cases y ys x (f x (first_in x xs))) (in_cases x xs y (g y (first_in y ys))) in
     let rest : xs ≡ ys = same_members o xs ys p.1 q.1
-      (λ z h. rest_in o x y xs ys e p.0 z h (in_cases y ys z (f z (later_in x xs z h))))
-      (λ z h. rest_in o y x ys xs (sym e) q.0 z h (in_cases x xs z (g z (later_in y ys z h)))) in
+    (λ z h. rest_in o x y xs ys e p.0 z h (in_cases y ys z (f z (later_in x xs z h))))
+    (λ z h. rest_in o y x ys xs (sym e) q.0 z h (in_cases x xs z (g z (later_in y ys z h)))) in
     cc
 
 -- `put` keeps the members and adds one

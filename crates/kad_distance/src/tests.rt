@@ -52,7 +52,12 @@ fn measures_and_compares(rt: HostRuntime) {
         (3, contact(1), contact(2), Ordering::Greater),
         (0, near, contact(255), Ordering::Greater),
         (0, at(1, highest, 1), at(1, highest, 2), Ordering::Less),
-        (0, at(1, highest, 1), at(1, Ip::V4([127; 4]), 2), Ordering::Greater),
+        (
+            0,
+            at(1, highest, 1),
+            at(1, Ip::V4([127; 4]), 2),
+            Ordering::Greater,
+        ),
         (0, at(1, highest, 2), at(1, v6(0), 1), Ordering::Less),
         (0, at(1, v6(1), 2), at(1, v6(2), 1), Ordering::Less),
         (0, at(2, highest, 1), at(1, v6(2), 1), Ordering::Greater),
@@ -79,7 +84,10 @@ fn chooses_and_finds_places(rt: HostRuntime) -> Result<(), Fail> {
     assert_eq!(rt; k_least(alloc, &target, 20, &list)?.as_slice(), &sorted[..]);
     assert_eq!(rt; k_least(alloc, &target, 2, &[])?.len(), 0);
     let one = [at(1, v6(1), 1), contact(1), at(1, v6(0), 2)];
-    assert_eq!(rt; k_least(alloc, &target, 2, &one)?.as_slice(), [one[1], one[2]].as_slice());
+    assert_eq!(rt;
+        k_least(alloc, &target, 2, &one)?.as_slice(),
+        [one[1], one[2]].as_slice()
+    );
     let two = [contact(3), contact(1)];
     assert_eq!(rt; place_among(alloc, &two, &contact(2))?, 1);
     assert_eq!(rt; place_among(alloc, &two, &contact(1))?, 0);

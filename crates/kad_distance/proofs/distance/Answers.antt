@@ -1,4 +1,4 @@
-use Rattle.std.proofs.Common.{◌≢◌, below_more, get_or-set_other, get_or-set_same, length-set, zero, suc, ◌≡◌, ℕ, ◌<◌, ◌+◌, List, [], ◌∷◌, length, get_or, refl, ap, sym, ◌∙◌, arith}
+use Rattle.std.proofs.Common.{◌≢◌, below_more, get_or-set_other, get_or-set_same, zero, suc, ◌≡◌, ℕ, ◌<◌, List, [], ◌∷◌, length, get_or, refl, ap, sym, ◌∙◌, arith}
 use Rattle.std.specs.Prelude.{bit_xor}
 use Rattle.std.proofs.lemmas.Grind.{common_steps, same_number_lists}
 use Rattle.kad_base.specs.Bits.{xor_bytes}

@@ -1,9 +1,8 @@
-use Rattle.std.proofs.Common.{◌≡◌, ℕ, ◌<◌, length, get_or, Bool, not, refl, sym, ap, ◌∙◌, arith, eq-eqb}
+use Rattle.std.proofs.Common.{ℕ, ◌<◌, length, not, sym, ap, ◌∙◌, arith, eq-eqb}
 use Rattle.std.specs.Ordering.{is_eq}
 use Rattle.kad_distance.specs.Order.{closeness}
 use Rattle.kad_distance.specs.KClosest.{new_at}
 use Rattle.kad_distance.proofs.Least.{new_end, new_here}
-use Rattle.std.proofs.lemmas.Grind.{common_steps}
 use Rattle.kad_distance.proofs.closest.is_new.Goals as goal
 
 pub returns-then-at-list : goal.returns-then-at-list

@@ -1,9 +1,9 @@
-use Rattle.std.proofs.Common.{◌≡◌, ℕ, ◌≤◌, List, length, take, get_or, true, false, refl, sym, ap, subst, ◌∙◌, arith}
+use Rattle.std.proofs.Common.{◌≡◌, ℕ, List, length, take, sym, ap, subst, ◌∙◌, arith}
 use Rattle.std.proofs.Math.Seq.{take-length}
 use Rattle.std.specs.List.Sorted.{IsStrictlySortedBy}
 use Rattle.kad_base.specs.declared.plain.Contact.{Contact}
 use Rattle.kad_distance.specs.Order.{closeness}
-use Rattle.kad_distance.specs.KClosest.{put, each_once, least}
+use Rattle.kad_distance.specs.KClosest.{each_once}
 use Rattle.kad_distance.proofs.Orders.{closeness_total}
 use Rattle.kad_distance.proofs.Least.{once_on, least_take}
 use Rattle.kad_distance.proofs.Chosen.{once_front}

@@ -1,10 +1,9 @@
-use Rattle.std.proofs.Common.{◌≡◌, ℕ, ◌≤◌, List, length, take, true, false, refl, sym, ap, ◌∙◌, arith}
+use Rattle.std.proofs.Common.{ℕ, ◌≤◌, List, length, take, sym, ap, ◌∙◌, arith}
 use Rattle.std.specs.Prelude.{insert, filter}
 use Rattle.std.specs.Ordering.{is_lt}
-use Rattle.std.proofs.lemmas.Grind.{common_steps}
 use Rattle.kad_base.specs.declared.plain.Contact.{Contact}
 use Rattle.kad_distance.specs.Order.{closeness}
-use Rattle.kad_distance.specs.KClosest.{put, place_in, new_at}
+use Rattle.kad_distance.specs.KClosest.{place_in, new_at}
 use Rattle.kad_distance.proofs.Orders.{closeness_total}
 use Rattle.kad_distance.proofs.Least.{place_count, put_past, put_old, put_new}
 use Rattle.kad_distance.proofs.closest.put_in.Goals as goal
