@@ -1,7 +1,7 @@
 -- The next contact of lists that stand in order is the first of all that is left of them.
-use Rattle.std.proofs.Common.{◌≡◌, ◌≢◌, ℕ, zero, suc, ◌+◌, ◌-◌, ◌<◌, ◌≤◌, ◌⊎◌, inl, inr, List, [], ◌∷◌, ◌++◌, length, take, drop, set, get_or, map, replicate, Option, Some, None, Bool, true, false, cond, refl, sym, ap, subst, ◌∙◌, arith}
+use Rattle.std.proofs.Common.{◌≡◌, ℕ, zero, suc, ◌+◌, ◌-◌, ◌<◌, ◌≤◌, ◌⊎◌, inl, inr, List, [], ◌∷◌, ◌++◌, length, take, drop, set, get_or, map, replicate, Option, Some, None, Bool, true, false, cond, refl, sym, ap, subst, ◌∙◌, arith}
 use Rattle.std.specs.Prelude.{flat_map, slice_get}
-use Rattle.std.specs.List.{All, AllByRecursion, Contains}
+use Rattle.std.specs.List.{AllByRecursion, Contains}
 use Rattle.std.specs.List.Sorted.{IsStrictlySortedBy}
 use Rattle.std.specs.Ordering.{is_lt, is_eq, ordering_reverse}
 use Rattle.std.specs.Cmp.{IsTotalOrder}
@@ -10,11 +10,11 @@ use Rattle.std.specs.declared.cmp.Ordering.TheVariants.{Less, Equal, Greater}
 use Rattle.std.proofs.lemmas.Cmp.{tied_itself}
 use Rattle.std.proofs.lemmas.List.{append_assoc, append-nil}
 use Rattle.std.proofs.Math.Seq.{take-nil, take-append_seam}
-use Rattle.std.proofs.lemmas.List.Elements.{All-from_recursion, recursion_from_All, All-head, All-tail, Contains-get_or, Contains-append_cases, Contains-append_left, Contains-append_right}
+use Rattle.std.proofs.lemmas.List.Elements.{All-from_recursion, recursion_from_All, Contains-append_cases, Contains-append_left, Contains-append_right}
 use Rattle.kad_distance.specs.Order.{TiesAreEqual}
 use Rattle.kad_distance.specs.KClosest.{each_once}
 use Rattle.kad_distance.proofs.Least.{each_once_rises, once_all}
-use Rattle.kad_distance.proofs.Members.{first_in, later_in, in_cases, below_in, same_members, once_in, once_from}
+use Rattle.kad_distance.proofs.Members.{first_in, later_in, in_cases, same_members, once_in, once_from}
 use Rattle.lookup_merge.specs.Rests.{rests, first, nearer_of, nearest_of, after, stands, place_after}
 
 abbrev pub joined : {K : Type 0} → List (List K) → List K
@@ -269,13 +269,13 @@ nearest_first {K} {R} o t c lists h is =
     let least : AllByRecursion (λ y. R c y ≡ Less) (each_once R T) = recursion_from_All (λ y. R c y ≡ Less) (each_once R T) (once_all R (λ y. R c y ≡ Less) T (All-from_recursion (λ y. R c y ≡ Less) T above)) in
     same_members o (each_once R S) (c ∷ each_once R T) (each_once_rises o S) (least, each_once_rises o T)
     (λ z in_. elim (joined_keeps t c lists z (once_from R S z in_)) [
-        | inl e ↦ subst (λ (w : K). Contains (c ∷ each_once R T) w) e (first_in c (each_once R T))
-        | inr k ↦ later_in c (each_once R T) z (once_in t T z k)
-      ])
+      | inl e ↦ subst (λ (w : K). Contains (c ∷ each_once R T) w) e (first_in c (each_once R T))
+      | inr k ↦ later_in c (each_once R T) z (once_in t T z k)
+    ])
     (λ z in_. elim (in_cases c (each_once R T) z in_) [
-        | inl e ↦ once_in t S z (subst (λ (w : K). Contains S w) e (elim (nearest_from R c None lists is) [ inl f ↦ absurd cc | inr k ↦ k ]))
-        | inr k ↦ once_in t S z (joined_from R c lists z (once_from R T z k))
-      ])
+      | inl e ↦ once_in t S z (subst (λ (w : K). Contains S w) e (elim (nearest_from R c None lists is) [ inl f ↦ absurd cc | inr k ↦ k ]))
+      | inr k ↦ once_in t S z (joined_from R c lists z (once_from R T z k))
+    ])
 
 -- one step of the merging
 pub merge_step : {K : Type 0} {R : K → K → Ordering} → IsTotalOrder R → TiesAreEqual R → (c : K) (lists : List (List K)) (found all : List K) (k i : ℕ) → i < k → AllByRecursion (IsStrictlySortedBy R) lists → nearest_of R None lists ≡ Some c → found ++ take (k - i) (each_once R (joined lists)) ≡ all → (found ++ c ∷ []) ++ take (k - (i + 1)) (each_once R (joined (map (after R c) lists))) ≡ all

@@ -1,6 +1,5 @@
-use Rattle.std.proofs.Common.{◌≡◌, ◌≤◌, ◌++◌, ◌-◌, ℕ, List, length, map, take, drop, None, Some, sym, ap, ◌∙◌, arith}
+use Rattle.std.proofs.Common.{◌≡◌, ◌≤◌, ◌++◌, ◌-◌, ℕ, List, length, map, take, None, sym, ap, ◌∙◌, arith}
 use Rattle.std.proofs.lemmas.List.{length-replicate}
-use Rattle.std.specs.List.{AllByRecursion}
 use Rattle.std.specs.List.Sorted.{IsStrictlySortedBy}
 use Rattle.std.proofs.lemmas.List.Elements.{recursion_from_All}
 use Rattle.kad_base.specs.declared.plain.Contact.{Contact}
@@ -18,7 +17,7 @@ loop-init c =
     record {
       same = ap length c.in_ok-places.ensures ∙ length-replicate (length c.args.lists.now) 0;
       whole = ap (λ (l : List Contact). l ++ take (c.args.k - 0) (each_once R (joined (rests c.args.lists.now c.in_ok-places.places.items)))) c.new-found.ensures
-        ∙ merge_start R c.args.lists.now c.in_ok-places.places.items c.args.k c.in_ok-places.ensures;
+          ∙ merge_start R c.args.lists.now c.in_ok-places.places.items c.args.k c.in_ok-places.ensures;
     }
 
 pub returns-in-None : goal.returns-in-None
@@ -40,9 +39,9 @@ loop-preserved c =
     record {
       same = ap length whole ∙ c.pass.ensures.same;
       whole = merge_more (closeness_total c.args.target.now) (closeness_exact c.args.target.now) x (rests lists c.loop.places.items) _ c.loop.found _ _ c.args.k c.loop.counter
-        c.loop-test.true (rests_rise R lists c.loop.places.items (recursion_from_All (IsStrictlySortedBy R) lists c.requires)) is
-        (ap (rests lists) whole ∙ c.pass.ensures.passed ∙ ap (λ (l : List ℕ). map (after R x) (rests lists l)) c.as_mut_slice.ensures.value)
-        c.in_ok-push-in-Some.ensures.ok c.loop.invariant.whole;
+          c.loop-test.true (rests_rise R lists c.loop.places.items (recursion_from_All (IsStrictlySortedBy R) lists c.requires)) is
+          (ap (rests lists) whole ∙ c.pass.ensures.passed ∙ ap (λ (l : List ℕ). map (after R x) (rests lists l)) c.as_mut_slice.ensures.value)
+          c.in_ok-push-in-Some.ensures.ok c.loop.invariant.whole;
     }
 
 pub returns : goal.returns

@@ -1,4 +1,4 @@
-use Rattle.std.proofs.Common.{◌<◌, length, sym, ◌∙◌, ap, arith}
+use Rattle.std.proofs.Common.{◌∙◌, ap}
 use Rattle.kad_distance.specs.Order.{closeness}
 use Rattle.lookup_merge.specs.Rests.{nearer_of}
 use Rattle.lookup_merge.proofs.Merged.{nearest_more}

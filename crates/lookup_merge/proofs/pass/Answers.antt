@@ -1,4 +1,4 @@
-use Rattle.std.proofs.Common.{arith, length-set, ◌∙◌}
+use Rattle.std.proofs.Common.{length-set, ◌∙◌}
 use Rattle.kad_distance.specs.Order.{closeness}
 use Rattle.lookup_merge.proofs.Merged.{pass_more}
 use Rattle.lookup_merge.proofs.pass.Goals as goal

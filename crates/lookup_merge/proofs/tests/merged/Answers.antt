@@ -1,8 +1,6 @@
-use Rattle.std.proofs.Common.{List, [], ◌∷◌, subst, sym}
+use Rattle.std.proofs.Common.{[], ◌∷◌, subst, sym}
 use Rattle.std.specs.List.Sorted.{IsStrictlySortedBy}
 use Rattle.std.proofs.lemmas.List.Elements.{All-nil, All-cons}
-use Rattle.kad_base.specs.declared.plain.Contact.{Contact}
-use Rattle.kad_base.specs.declared.plain.Id.{Id}
 use Rattle.kad_distance.specs.Order.{closeness}
 use Rattle.kad_distance.proofs.Chosen.{closest_rises}
 use Rattle.lookup_merge.proofs.tests.merged.Goals as goal
