@@ -3,7 +3,7 @@ mod link;
 
 use crate::run;
 use id_puzzles::Sha1Check;
-use kad_base::{BytesSink, BytesSource, List, Numbers, SteadySink, SteadySource};
+use kad_base::{BytesSink, BytesSource, List, Numbers, Sink, Source, SteadySink, SteadySource};
 use link::{Answer, NEVER, ScriptLink};
 use std::alloc::Global;
 use std::test::Fail;
@@ -11,7 +11,11 @@ use std::test::Fail;
 /// `#n` is the identifier of nineteen zero bytes and n, and contact n has it at 127.0.0.1 and port 6000 + n.
 const LINE_1: &str = "0000000000000000000000000000000000000001 127.0.0.1:6001\n";
 
-const LINE_2: &str = "0000000000000000000000000000000000000002 127.0.0.1:6002\n";
+const FOUND_1: &str =
+    "0000000000000000000000000000000000000001 127.0.0.1:6001\nfound 1 asked 1 failed 0 turned 0\n";
+
+const FOUND_2: &str =
+    "0000000000000000000000000000000000000002 127.0.0.1:6002\nfound 1 asked 2 failed 1 turned 0\n";
 
 /// What a lookup of zeros by the node of ones wrote, its status, and the datagrams that it sent.
 #[derive(Drop)]
@@ -244,16 +248,8 @@ fn lines(alloc: Global, from: u8, to: u8) -> Result<String, Fail> {
     Ok(text)
 }
 
-#[test]
-fn a_contact_that_answers_is_found(rt: HostRuntime) -> Result<(), Fail> {
-    let alloc = rt.alloc();
-    let played = play(&rt, LINE_1, ScriptLink::new(alloc, &ONE, NEVER, NEVER))?;
-    assert_eq!(rt; played.status, 0);
-    assert_eq!(rt;
-        played.text.as_str(),
-        "0000000000000000000000000000000000000001 127.0.0.1:6001\nfound 1 asked 1 failed 0 turned 0\n"
-    );
-    // The one datagram that was sent, with the sixth word of the generator of 32 zero bytes.
+/// The query to contact 1, with the sixth word of the generator of 32 zero bytes.
+fn query(alloc: Global) -> Result<Vec<u8>, Fail> {
     let mut query = Vec::new(alloc);
     query.extend_from_slice(b"d1:ad2:id20:")?;
     query.extend_from_slice(&[0xff; 20])?;
@@ -262,6 +258,16 @@ fn a_contact_that_answers_is_found(rt: HostRuntime) -> Result<(), Fail> {
     query.extend_from_slice(b"e1:q9:find_node2:roi1e1:t4:")?;
     query.extend_from_slice(&[0xa0, 0x8d, 0xed, 0x1a])?;
     query.extend_from_slice(b"1:y1:qe")?;
+    Ok(query)
+}
+
+#[test]
+fn a_contact_that_answers_is_found(rt: HostRuntime) -> Result<(), Fail> {
+    let alloc = rt.alloc();
+    let query = query(alloc)?;
+    let played = play(&rt, LINE_1, ScriptLink::new(alloc, &ONE, NEVER, NEVER))?;
+    assert_eq!(rt; played.status, 0);
+    assert_eq!(rt; played.text.as_str(), FOUND_1);
     assert_eq!(rt; query.len(), 101);
     assert_eq!(rt; played.sent.len(), 1);
     assert_eq!(rt; played.sent[0].as_slice(), query.as_slice());
@@ -269,159 +275,146 @@ fn a_contact_that_answers_is_found(rt: HostRuntime) -> Result<(), Fail> {
 }
 
 #[test]
-fn lookups_end_with_their_counts(rt: HostRuntime) -> Result<(), Fail> {
-    let alloc = rt.alloc();
-    // Nothing to begin with: nothing is sent.
-    let played = play(&rt, "", ScriptLink::new(alloc, &ONE, NEVER, NEVER))?;
-    assert_eq!(rt;
-        (played.status, played.text.as_str(), played.sent.len()),
-        (8, "no seeds\n", 0)
-    );
+fn nothing_to_begin_with_sends_nothing(rt: HostRuntime) -> Result<(), Fail> {
+    let link = ScriptLink::new(rt.alloc(), &ONE, NEVER, NEVER);
+    let played = play(&rt, "", link)?;
+    assert_eq!(rt; played.status, 8);
+    assert_eq!(rt; played.text.as_str(), "no seeds\n");
+    assert_eq!(rt; played.sent.len(), 0);
+    Ok(())
+}
 
-    // An answer from another port is a stray; one in another name loses the contact.
-    let link = ScriptLink::new(alloc, &ONE_FROM_ANOTHER_PORT_FIRST, NEVER, NEVER);
+#[test]
+fn an_answer_from_another_port_is_a_stray(rt: HostRuntime) -> Result<(), Fail> {
+    let link = ScriptLink::new(rt.alloc(), &ONE_FROM_ANOTHER_PORT_FIRST, NEVER, NEVER);
     let played = play(&rt, LINE_1, link)?;
-    assert_eq!(rt;
-        played.text.as_str(),
-        "0000000000000000000000000000000000000001 127.0.0.1:6001\nfound 1 asked 1 failed 0 turned 0\n"
-    );
-    let played = play(
-        &rt,
-        LINE_1,
-        ScriptLink::new(alloc, &ONE_AS_ANOTHER, NEVER, NEVER),
-    )?;
-    assert_eq!(rt;
-        (played.status, played.text.as_str()),
-        (0, "found 0 asked 1 failed 1 turned 0\n")
-    );
-
-    // A refused send loses the contact, and a failed receive ends the lookup.
-    let two = lines(alloc, 1, 2)?;
-    let played = play(&rt, two.as_str(), ScriptLink::new(alloc, &TWO, 0, NEVER))?;
-    assert_eq!(rt;
-        (played.status, played.text.as_str()),
-        (
-            0,
-            "0000000000000000000000000000000000000002 127.0.0.1:6002\nfound 1 asked 2 failed 1 turned 0\n"
-        )
-    );
-    let played = play(&rt, LINE_1, ScriptLink::new(alloc, &ONE, NEVER, 0))?;
-    assert_eq!(rt; (played.status, played.text.as_str()), (4, "link fault\n"));
+    assert_eq!(rt; played.status, 0);
+    assert_eq!(rt; played.text.as_str(), FOUND_1);
     Ok(())
 }
 
 #[test]
-fn the_eight_closest_that_answer_are_found(rt: HostRuntime) -> Result<(), Fail> {
-    let alloc = rt.alloc();
-    let input = lines(alloc, 1, 8)?;
-    // A ninth that is named is not asked while eight closer ones answer.
-    let played = play(
-        &rt,
-        input.as_str(),
-        ScriptLink::new(alloc, &NINE, NEVER, NEVER),
-    )?;
-    let mut text = lines(alloc, 1, 8)?;
+fn an_answer_in_another_name_loses_the_contact(rt: HostRuntime) -> Result<(), Fail> {
+    let link = ScriptLink::new(rt.alloc(), &ONE_AS_ANOTHER, NEVER, NEVER);
+    let played = play(&rt, LINE_1, link)?;
+    assert_eq!(rt; played.status, 0);
+    assert_eq!(rt; played.text.as_str(), "found 0 asked 1 failed 1 turned 0\n");
+    Ok(())
+}
+
+#[test]
+fn a_refused_send_loses_the_contact(rt: HostRuntime) -> Result<(), Fail> {
+    let two = lines(rt.alloc(), 1, 2)?;
+    let link = ScriptLink::new(rt.alloc(), &TWO, 0, NEVER);
+    let played = play(&rt, two.as_str(), link)?;
+    assert_eq!(rt; played.status, 0);
+    assert_eq!(rt; played.text.as_str(), FOUND_2);
+    Ok(())
+}
+
+#[test]
+fn a_failed_receive_ends_the_lookup(rt: HostRuntime) -> Result<(), Fail> {
+    let link = ScriptLink::new(rt.alloc(), &ONE, NEVER, 0);
+    let played = play(&rt, LINE_1, link)?;
+    assert_eq!(rt; played.status, 4);
+    assert_eq!(rt; played.text.as_str(), "link fault\n");
+    Ok(())
+}
+
+#[test]
+fn a_ninth_is_not_asked_while_eight_closer_ones_answer(rt: HostRuntime) -> Result<(), Fail> {
+    let input = lines(rt.alloc(), 1, 8)?;
+    let mut text = lines(rt.alloc(), 1, 8)?;
     text.push_str("found 8 asked 8 failed 0 turned 0\n")?;
-    assert_eq!(rt; (played.status, played.text.as_str()), (0, text.as_str()));
-    // It is where one of them doesn't.
-    let played = play(
-        &rt,
-        input.as_str(),
-        ScriptLink::new(alloc, &EIGHT, NEVER, NEVER),
-    )?;
-    let mut text = lines(alloc, 2, 9)?;
-    text.push_str("found 8 asked 9 failed 1 turned 0\n")?;
-    assert_eq!(rt; (played.status, played.text.as_str()), (0, text.as_str()));
+    let link = ScriptLink::new(rt.alloc(), &NINE, NEVER, NEVER);
+    let played = play(&rt, input.as_str(), link)?;
+    assert_eq!(rt; played.status, 0);
+    assert_eq!(rt; played.text.as_str(), text.as_str());
     Ok(())
 }
 
 #[test]
-fn bad_input_and_a_bad_outside_are_named(rt: HostRuntime) -> Result<(), Fail> {
+fn a_ninth_is_asked_where_one_of_eight_is_silent(rt: HostRuntime) -> Result<(), Fail> {
+    let input = lines(rt.alloc(), 1, 8)?;
+    let mut text = lines(rt.alloc(), 2, 9)?;
+    text.push_str("found 8 asked 9 failed 1 turned 0\n")?;
+    let link = ScriptLink::new(rt.alloc(), &EIGHT, NEVER, NEVER);
+    let played = play(&rt, input.as_str(), link)?;
+    assert_eq!(rt; played.status, 0);
+    assert_eq!(rt; played.text.as_str(), text.as_str());
+    Ok(())
+}
+
+#[test]
+fn a_bad_line_is_named(rt: HostRuntime) -> Result<(), Fail> {
+    let input = "0000000000000000000000000000000000000001 127.0.0.1:6001\nxyz\n";
+    let link = ScriptLink::new(rt.alloc(), &ONE, NEVER, NEVER);
+    let played = play(&rt, input, link)?;
+    assert_eq!(rt; played.status, 3);
+    assert_eq!(rt; played.text.as_str(), "bad line 2\n");
+    Ok(())
+}
+
+/// The status of a lookup over the script in which contact 1 answers.
+fn status_of<S: Source, K: Sink>(
+    rt: &HostRuntime,
+    words: &[String],
+    source: &mut S,
+    sink: &mut K,
+) -> u8 {
+    let mut link = ScriptLink::new(rt.alloc(), &ONE, NEVER, NEVER);
+    run(
+        rt,
+        rt.alloc(),
+        words,
+        source,
+        &mut link,
+        sink,
+        &[0; 32],
+        &Sha1Check,
+    )
+}
+
+#[test]
+fn a_failed_read_ends_the_command(rt: HostRuntime) -> Result<(), Fail> {
     let alloc = rt.alloc();
     let words = words(alloc)?;
-    let mut link = ScriptLink::new(alloc, &ONE, NEVER, NEVER);
-    let played = play(
-        &rt,
-        "0000000000000000000000000000000000000001 127.0.0.1:6001\nxyz\n",
-        ScriptLink::new(alloc, &ONE, NEVER, NEVER),
-    )?;
-    assert_eq!(rt; (played.status, played.text.as_str()), (3, "bad line 2\n"));
-
-    // The first read fails.
-    let mut source = BytesSource::new(
-        List::from_slice(alloc, LINE_1.as_bytes())?,
-        100,
-        List::from_slice(alloc, &[0])?,
-    );
-    let mut sink = BytesSink::new(100, none(alloc), List::new(alloc));
-    assert_eq!(rt;
-        run(
-            &rt,
-            alloc,
-            &words,
-            &mut source,
-            &mut link,
-            &mut sink,
-            &[0; 32],
-            &Sha1Check
-        ),
-        6
-    );
+    let input = List::from_slice(alloc, LINE_1.as_bytes())?;
+    let mut source = BytesSource::new(input, 100, List::from_slice(alloc, &[0])?);
+    let mut sink = SteadySink::new(alloc, 1000)?;
+    assert_eq!(rt; status_of(&rt, &words, &mut source, &mut sink), 6);
     assert_eq!(rt; sink.written(), b"source fault\n".as_slice());
+    Ok(())
+}
 
-    // The sink takes a byte a call, and its fourth call fails.
+#[test]
+fn a_failed_write_leaves_a_front(rt: HostRuntime) -> Result<(), Fail> {
+    let alloc = rt.alloc();
+    let words = words(alloc)?;
     let mut source = SteadySource::new(List::from_slice(alloc, LINE_1.as_bytes())?);
+    // A byte a call, and the fourth call fails.
     let mut sink = BytesSink::new(1, List::from_slice(alloc, &[3])?, List::new(alloc));
-    assert_eq!(rt;
-        run(
-            &rt,
-            alloc,
-            &words,
-            &mut source,
-            &mut link,
-            &mut sink,
-            &[0; 32],
-            &Sha1Check
-        ),
-        5
-    );
+    assert_eq!(rt; status_of(&rt, &words, &mut source, &mut sink), 5);
     assert_eq!(rt; sink.written(), b"000".as_slice());
+    Ok(())
+}
 
-    // One byte more than an input may have.
-    let long = vec![in alloc; b'#'; 1_048_577]?;
-    let mut source = SteadySource::new(List::from_vec(long));
+#[test]
+fn too_long_an_input_is_named(rt: HostRuntime) -> Result<(), Fail> {
+    let alloc = rt.alloc();
+    let words = words(alloc)?;
+    let mut source = SteadySource::new(List::from_vec(vec![in alloc; b'#'; 1_048_577]?));
     let mut sink = SteadySink::new(alloc, 1000)?;
-    assert_eq!(rt;
-        run(
-            &rt,
-            alloc,
-            &words,
-            &mut source,
-            &mut link,
-            &mut sink,
-            &[0; 32],
-            &Sha1Check
-        ),
-        11
-    );
+    assert_eq!(rt; status_of(&rt, &words, &mut source, &mut sink), 11);
     assert_eq!(rt; sink.written(), b"too long\n".as_slice());
+    Ok(())
+}
 
-    // No words at all.
-    let mut source = SteadySource::new(List::new(alloc));
-    let mut sink = SteadySink::new(alloc, 1000)?;
-    assert_eq!(rt;
-        run(
-            &rt,
-            alloc,
-            &[],
-            &mut source,
-            &mut link,
-            &mut sink,
-            &[0; 32],
-            &Sha1Check
-        ),
-        2
-    );
+#[test]
+fn no_words_ask_for_nothing(rt: HostRuntime) -> Result<(), Fail> {
+    let mut source = SteadySource::new(List::new(rt.alloc()));
+    let mut sink = SteadySink::new(rt.alloc(), 1000)?;
+    assert_eq!(rt; status_of(&rt, &[], &mut source, &mut sink), 2);
     assert_eq!(rt; sink.written(), b"usage\n".as_slice());
     Ok(())
 }

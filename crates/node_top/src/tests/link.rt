@@ -68,21 +68,6 @@ impl ScriptLink {
         self.sent
     }
 
-    /// Puts the answers of the contact at this port to this query on their way.
-    fn answer(&mut self, port: u16, query: &[u8]) -> Result<(), AllocError> {
-        for answer in self.answers {
-            if port == 6000 + answer.to as u16 {
-                let bytes = written(self.alloc, answer, query)?;
-                self.coming.push(Delivery {
-                    at: answer.at,
-                    port: answer.port,
-                    bytes,
-                })?;
-            }
-        }
-        Ok(())
-    }
-
     /// The place of the first datagram on its way that comes at or before the moment.
     fn next(&self, until: u64) -> Option<usize> {
         let mut best: Option<(usize, u64)> = None;
@@ -126,6 +111,34 @@ fn written(alloc: Global, answer: &Answer, query: &[u8]) -> Result<Vec<u8>, Allo
     Ok(bytes)
 }
 
+/// Keeps a copy of what was sent.
+fn keep(alloc: Global, sent: &mut Vec<Vec<u8>>, bytes: &[u8]) -> Result<(), AllocError> {
+    let copy = bytes.to_vec(alloc)?;
+    sent.push(copy)?;
+    Ok(())
+}
+
+/// Puts the answers of the contact at this port to this query on their way.
+fn put_answers(
+    alloc: Global,
+    answers: &[Answer],
+    coming: &mut Vec<Delivery>,
+    port: u16,
+    query: &[u8],
+) -> Result<(), AllocError> {
+    for answer in answers {
+        if port == 6000 + answer.to as u16 {
+            let bytes = written(alloc, answer, query)?;
+            coming.push(Delivery {
+                at: answer.at,
+                port: answer.port,
+                bytes,
+            })?;
+        }
+    }
+    Ok(())
+}
+
 impl Link for ScriptLink {
     ghost told = { λ _. None };
 
@@ -142,11 +155,10 @@ impl Link for ScriptLink {
     fn send(&mut self, to: Addr, bytes: &[u8]) -> Result<(), Failed> {
         let fails = self.sends == self.failing_send;
         self.sends = self.sends.saturating_add(1);
-        let kept = match bytes.to_vec(self.alloc) {
-            Ok(copy) => self.sent.push(copy).is_ok(),
-            Err(_) => false,
-        };
-        if fails || !kept || self.answer(to.port, bytes).is_err() {
+        let answers = if fails { &[] } else { self.answers };
+        let kept = keep(self.alloc, &mut self.sent, bytes);
+        let put = put_answers(self.alloc, answers, &mut self.coming, to.port, bytes);
+        if fails || kept.is_err() || put.is_err() {
             self.send_faults = self.send_faults.saturating_add(1);
             return Err(Failed);
         }
