@@ -1,0 +1,101 @@
+//! The table under a turn: its word, its slot, and what each seat knows.
+use atomic_table::{Join, Play, Seat, Split, Table, TableRule};
+use kad_base::{Made, Serial};
+use std::alloc::Global;
+use std::collections::LinkedList;
+use std::marker::{Brand, PhantomData};
+use std::snapshot::Snapshot;
+
+/// What is fixed when a turn is made.
+#[derive(Drop)]
+pub struct Opening<S> {
+    pub state: Snapshot<S>,
+    pub roles: u8,
+}
+
+/// A role, and the beginning of the run that its holder has seen. No value of it is made.
+pub struct Part<S, C, R> {
+    pub start: S,
+    pub role: u8,
+    pub seen: LinkedList<Made<C, R>>,
+}
+
+/// What a seat knows. No value of it is made.
+pub struct View<S, C, R> {
+    pub parts: LinkedList<Part<S, C, R>>,
+    pub marked: bool,
+}
+
+pub struct InOneRun<S> {
+    object: PhantomData<S>,
+}
+
+impl<S: Serial> TableRule<S, View<S, S::Call, S::Reply>, Opening<S>> for InOneRun<S> {
+    ghost use Rattle.turn_book.specs.Rule.{Kept, newcomer};
+
+    ghost holds = { λ key. Kept S.may S.step S.after key.state.value key.roles };
+
+    ghost first = { λ key. newcomer key.state.value key.roles };
+}
+
+pub struct Take<S> {
+    object: PhantomData<S>,
+}
+
+impl<S: Serial> Play<S, View<S, S::Call, S::Reply>> for Take<S> {
+    ghost use Rattle.turn_book.specs.Rule.{Taken};
+
+    ghost then = { Taken S.may S.step S.after };
+}
+
+/// The call that a step adds to the run. Each call of a program picks it.
+pub trait Noted<C, R> {
+    ghost use Rattle.std.specs.Prelude.{Option};
+    ghost use Rattle.kad_base.specs.declared.serial.Made.{Made};
+
+    ghost made: { Option (Made C R) };
+}
+
+impl<C, R> Noted<C, R> for Brand {
+    ghost use Rattle.std.specs.Prelude.{None};
+
+    ghost made = { None };
+}
+
+pub struct Give<S, J> {
+    object: PhantomData<(S, J)>,
+}
+
+impl<S: Serial, J: Noted<S::Call, S::Reply>> Play<S, View<S, S::Call, S::Reply>> for Give<S, J> {
+    ghost use Rattle.turn_book.specs.Rule.{Gave};
+
+    ghost then = { Gave J.made };
+}
+
+pub struct Deal;
+
+impl<S, C, R> Split<View<S, C, R>> for Deal {
+    ghost use Rattle.turn_book.specs.Rule.{without_first, only_first};
+
+    ghost left = { without_first };
+
+    ghost right = { only_first };
+}
+
+impl<S, C, R> Join<View<S, C, R>> for Deal {
+    ghost use Rattle.turn_book.specs.Rule.{joined, nobody};
+
+    ghost both = { joined };
+
+    ghost spent = { nobody };
+}
+
+pub type Board<S> = Table<
+    S,
+    View<S, <S as Serial>::Call, <S as Serial>::Reply>,
+    Opening<S>,
+    InOneRun<S>,
+    Global,
+>;
+
+pub type Stand<S> = Seat<S, View<S, <S as Serial>::Call, <S as Serial>::Reply>>;

@@ -1,0 +1,19 @@
+//! One object behind a mutual-exclusion lock whose calls are linearised: whatever the threads do, their calls stand in
+//! one legal run of the object, each once, and each thread's in its own order. A 'turn' is that lock, and a 'pass' the
+//! right to call in one role, which knows the beginning of the run that its holder has seen.
+//!
+//! Linearizability is Herlihy and Wing's (1990). The run exists in proofs alone: at run time there is one word and one
+//! slot. A caller spins with exponential backoff, and takes no memory beyond what the object's own step takes. Nothing
+//! here knows what the object is.
+#![tactic(auto)]
+
+mod board;
+mod lock;
+mod row;
+mod seats;
+mod calls;
+#[cfg(test)]
+mod tests;
+
+pub use lock::{Told, Turn, TurnNoMemory};
+pub use row::{Pass, Passes};
