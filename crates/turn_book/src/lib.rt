@@ -8,12 +8,14 @@
 #![tactic(auto)]
 
 mod board;
+mod calls;
 mod lock;
 mod row;
 mod seats;
-mod calls;
+mod threads;
 #[cfg(test)]
 mod tests;
 
 pub use lock::{Told, Turn, TurnNoMemory};
 pub use row::{Pass, Passes};
+pub use threads::{sent_pass, sent_turn};

@@ -55,6 +55,7 @@ impl<S: Serial> Turn<S> {
         ensures state { IfOk result (λ t. t.0.start ≡ state) }
         ensures roles { IfOk result (λ t. t.0.roles ≡ n) }
         ensures passes { IfOk result (λ t. t.1.passes ≡ all_fresh t.0) }
+        ensures all { IfOk result (λ t. AreAll t.0 t.1.passes) }
         ensures room { IfOk result (λ t. t.1.room ≡ n) }
         ensures refused { IfErr result (λ e. e.state ≡ state) }
     {

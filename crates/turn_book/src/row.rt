@@ -75,6 +75,7 @@ pub struct Passes<S: Serial> {
 }
 
 impl<S: Serial> Model for Passes<S> {
+    ghost use Rattle.std.specs.Prelude.{◌≤◌, vec_capacity};
     ghost use Rattle.turn_book.specs.Turns.{Row};
 
     ghost Value = { Row S S.Call S.Reply };
