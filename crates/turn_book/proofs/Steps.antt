@@ -19,62 +19,62 @@ use Rattle.turn_book.specs.Turns.{IsPrefix}
 use Rattle.turn_book.specs.Rule.{Each, total, either_of, part, view, nobody, roles_from, newcomer, without_first, only_first, joined, has, shown, pushed, Knows, Kept, Taken, Gave}
 use Rattle.turn_book.proofs.Lists.{Each-append, Each-weaker, Each-both, Each-map, Each-drop, Each-take, total-append, total-set, total-at, total-two, total-map, IsPrefix-push, IsPrefix-refl, none_of, calls_of-other, calls_of-same}
 
-module _ {S C R : Type 0} where
+module _ {C R : Type 0} where
   -- what holds of each view holds still, once that of one seat has changed
-  views_stay : (K : ℕ → View S C R → Type 0) (vs : List (View S C R)) (id : ℕ) (w : View S C R) → K id w → ((j : ℕ) (v : View S C R) → j ≢ id → get_elem? vs j ≡ some v → K j v)
-      → (j : ℕ) (v : View S C R) → get_elem? (set vs id w) j ≡ some v → K j v
-  views_stay K vs id w mine others j v e = ⊎_elim (λ (t : (j ≡ id) × (w ≡ v)). subst (λ (x : ℕ × View S C R). K x.0 x.1) (λ i. (sym t.0 i, t.1 i)) mine)
+  views_stay : (K : ℕ → View C R → Type 0) (vs : List (View C R)) (id : ℕ) (w : View C R) → K id w → ((j : ℕ) (v : View C R) → j ≢ id → get_elem? vs j ≡ some v → K j v)
+      → (j : ℕ) (v : View C R) → get_elem? (set vs id w) j ≡ some v → K j v
+  views_stay K vs id w mine others j v e = ⊎_elim (λ (t : (j ≡ id) × (w ≡ v)). subst (λ (x : ℕ × View C R). K x.0 x.1) (λ i. (sym t.0 i, t.1 i)) mine)
       (λ (t : (j ≢ id) × (get_elem? vs j ≡ some v)). others j v t.0 t.1) (at_set vs id j w v e)
 
   -- the holders of a role, where one view has changed and has the same roles
-  same_roles : (r : ℕ) (vs : List (View S C R)) (id : ℕ) (v w : View S C R) → get_elem? vs id ≡ some v → has r w ≡ has r v → total (has r) (set vs id w) ≡ total (has r) vs
+  same_roles : (r : ℕ) (vs : List (View C R)) (id : ℕ) (v w : View C R) → get_elem? vs id ≡ some v → has r w ≡ has r v → total (has r) (set vs id w) ≡ total (has r) vs
   same_roles r vs id v w at same = let h = total-set (has r) vs id v w at in omega arith
 
-  shown_roles : (r : ℕ) (run : List (Made C R)) (ps : List (Part S C R)) (m k : Bool) → has r (view (map (shown run) ps) m) ≡ has r (view ps k)
-  shown_roles r run ps m k = total-map (λ (p : Part S C R). either_of (eqb p.role r)) (shown run) ps
+  shown_roles : (r : ℕ) (run : List (Made C R)) (ps : List (Part C R)) (m k : Bool) → has r (view (map (shown run) ps) m) ≡ has r (view ps k)
+  shown_roles r run ps m k = total-map (λ (p : Part C R). either_of (eqb p.role r)) (shown run) ps
 
-  all_shown : (start : S) (run : List (Made C R)) (ps : List (Part S C R)) → Each (λ p. (p.start ≡ start) × IsPrefix p.seen run × (calls_of p.role p.seen ≡ calls_of p.role run)) ps
-      → Each (λ p. (p.start ≡ start) × IsPrefix p.seen run × (calls_of p.role p.seen ≡ calls_of p.role run)) (map (shown run) ps) × Each (λ p. p.seen ≡ run) (map (shown run) ps)
-  all_shown start run [] k = (tt, tt)
-  all_shown start run (p ∷ ps) k = let rest = all_shown start run ps k.1 in (((k.0.0, IsPrefix-refl run run refl, refl), rest.0), (refl, rest.1))
+  all_shown : (run : List (Made C R)) (ps : List (Part C R))
+      → Each (λ p. IsPrefix p.seen run × (calls_of p.role p.seen ≡ calls_of p.role run)) (map (shown run) ps) × Each (λ p. p.seen ≡ run) (map (shown run) ps)
+  all_shown run [] = (tt, tt)
+  all_shown run (p ∷ ps) = let rest = all_shown run ps in (((IsPrefix-refl run run refl, refl), rest.0), (refl, rest.1))
 
-  at_inside : (vs : List (View S C R)) (i : ℕ) (v : View S C R) → get_elem? vs i ≡ some v → i < length vs
+  at_inside : (vs : List (View C R)) (i : ℕ) (v : View C R) → get_elem? vs i ≡ some v → i < length vs
   at_inside [] i v e = absurd (some-ne-none v (sym e))
   at_inside (x ∷ vs) zero v e = omega arith
   at_inside (x ∷ vs) (suc i) v e = let h = at_inside vs i v e in omega arith
 
   -- the marked view stays, where another changes
-  unset : (vs : List (View S C R)) (id holder : ℕ) (v w o : View S C R) → v.marked ≡ false → get_elem? vs id ≡ some v → get_elem? vs holder ≡ some o → o.marked ≡ true → get_elem? (set vs id w) holder ≡ some o
+  unset : (vs : List (View C R)) (id holder : ℕ) (v w o : View C R) → v.marked ≡ false → get_elem? vs id ≡ some v → get_elem? vs holder ≡ some o → o.marked ≡ true → get_elem? (set vs id w) holder ≡ some o
   unset vs id holder v w o free at there marked =
       set_else vs id holder w
-      (λ same. true≢false (sym marked ∙ (ap (λ (z : View S C R). z.marked) (some-injective o v (sym there ∙ (ap (get_elem? vs) same ∙ at))) ∙ free)))
+      (λ same. true≢false (sym marked ∙ (ap (λ (z : View C R). z.marked) (some-injective o v (sym there ∙ (ap (get_elem? vs) same ∙ at))) ∙ free)))
       ∙ there
 
 module _ {S C R : Type 0} (may : ℕ → C → Type 0) (move : S → ℕ → C → R → Type 0) (after : S → ℕ → C → R → S) (start : S) (n : ℕ) where
   abbrev St : Type 0
-  St = State S (View S C R)
+  St = State S (View C R)
 
   abbrev M : Type 0
-  M = Me S (View S C R)
+  M = Me S (View C R)
 
   abbrev Rule : St → Type 0
   Rule = Kept may move after start n
 
   -- a step that changes nothing
-  unmoved : (s : St) (r : Rule s) (id : ℕ) (cs : List (ℕ × S)) (v : View S C R) → get_elem? s.views id ≡ some v → Rule (stepped s 0 (get_or s.words 0 0) id cs v keeps)
+  unmoved : (s : St) (r : Rule s) (id : ℕ) (cs : List (ℕ × S)) (v : View C R) → get_elem? s.views id ≡ some v → Rule (stepped s 0 (get_or s.words 0 0) id cs v keeps)
   unmoved s r id cs v at = subst Rule (λ i. record { words = sym (set-get_or s.words 0 0) i; homes = s.homes; views = sym (set_again s.views id v at) i }) r
 
-  pub takes : (slots id : ℕ) (me : M) (old new role : ℕ) → 1 ≤ has role me.0 → old % 2 ≡ 0 → new ≡ old + 1 → Allows Rule slots id me 0 (λ x. either (eqb x old) new x) (Taken may move after (step slots 0 old new none) me)
+  pub takes : (slots id : ℕ) (me : M) (old new role : ℕ) → 1 ≤ has role me.0 → old % 2 ≡ 0 → new ≡ old + 1 → Allows Rule slots id me 0 (λ x. either (eqb x old) new x) (Taken may move after (Some start) (step slots 0 old new none) me)
   takes slots id me old new role some_role even up s r wide at small = let x : ℕ = get_or s.words 0 0 in dite (ℕ_discrete x old)
       (λ hit.
       let free : r.busy ≡ 0 = (let b = r.bit in let w = r.word in omega arith) in
       let known = r.each_seat id me.0 at in
       let home = r.home free in
       let now : S = left_by after start r.run in
-      let seen = all_shown start r.run me.0.parts known.0 in
+      let seen = all_shown r.run me.0.parts in
       let one = r.wide in
       let word = r.word in
-      let w : View S C R = view (map (shown r.run) me.0.parts) true in (
+      let w : View C R = view (map (shown r.run) me.0.parts) true in (
         w,
         grab 0 now,
         ap (λ l. get_elem? l 0) home,
@@ -87,7 +87,7 @@ module _ {S C R : Type 0} (may : ℕ → C → Type 0) (move : S → ℕ → C �
           word = get_or-set_same s.words 0 new 0 (omega arith) ∙ omega arith;
           legal = r.legal;
           below = r.below;
-          each_seat = views_stay (Knows start r.run 1 id) s.views id w (seen.0, λ _. (refl, refl, seen.1))
+          each_seat = views_stay (Knows r.run 1 id) s.views id w (seen.0, λ _. (refl, refl, seen.1))
               (λ j v other e. let k = r.each_seat j v e in (k.0, λ m. let b = (k.1 m).0 in absurd (omega arith)));
           apart = λ role. let same = same_roles role s.views id me.0 w at (shown_roles role r.run me.0.parts true me.0.marked) in let a = r.apart role in omega arith;
           known = λ role above. same_roles role s.views id me.0 w at (shown_roles role r.run me.0.parts true me.0.marked) ∙ r.known role above;
@@ -101,9 +101,9 @@ module _ {S C R : Type 0} (may : ℕ → C → Type 0) (move : S → ℕ → C �
             now,
             refl,
             omega arith,
-            Each-weaker _ _ me.0.parts
-                (λ p k. (subst (λ z. IsRun may move after z r.run) (sym k.0) r.legal, ap (λ z. left_by after z r.run) (sym k.0), k.1, k.2))
-                known.0,
+            r.legal,
+            refl,
+            known.0,
           ),
           λ miss. absurd (miss hit),
         ),
@@ -117,18 +117,18 @@ module _ {S C R : Type 0} (may : ℕ → C → Type 0) (move : S → ℕ → C �
       ))
 
   -- what another seat knows stays so, where an made of a role that it has not is added
-  others_know : (run : List (Made C R)) (busy holder : ℕ) (e : Made C R) (j : ℕ) (v : View S C R) → (j ≡ holder → ⊥) → has e.role v ≡ 0 → Knows start run busy holder j v → Knows start (run ++ e ∷ []) 0 0 j v
+  others_know : (run : List (Made C R)) (busy holder : ℕ) (e : Made C R) (j : ℕ) (v : View C R) → (j ≡ holder → ⊥) → has e.role v ≡ 0 → Knows run busy holder j v → Knows (run ++ e ∷ []) 0 0 j v
   others_know run busy holder e j v apart none_has k = (
-    Each-both (λ (p : Part S C R). (p.start ≡ start) × IsPrefix p.seen run × (calls_of p.role p.seen ≡ calls_of p.role run)) (λ (p : Part S C R). eqb p.role e.role ≡ false)
-        (λ (p : Part S C R). (p.start ≡ start) × IsPrefix p.seen (run ++ e ∷ []) × (calls_of p.role p.seen ≡ calls_of p.role (run ++ e ∷ []))) v.parts
-        (λ p a f. (a.0, IsPrefix-push p.seen run e a.1, a.2 ∙ sym (calls_of-other p.role run e (λ is. eqb-false p.role e.role f (sym is))))) k.0
-        (none_of (λ (p : Part S C R). eqb p.role e.role) v.parts none_has),
+    Each-both (λ (p : Part C R). IsPrefix p.seen run × (calls_of p.role p.seen ≡ calls_of p.role run)) (λ (p : Part C R). eqb p.role e.role ≡ false)
+        (λ (p : Part C R). IsPrefix p.seen (run ++ e ∷ []) × (calls_of p.role p.seen ≡ calls_of p.role (run ++ e ∷ []))) v.parts
+        (λ p a f. (IsPrefix-push p.seen run e a.0, a.1 ∙ sym (calls_of-other p.role run e (λ is. eqb-false p.role e.role f (sym is))))) k.0
+        (none_of (λ (p : Part C R). eqb p.role e.role) v.parts none_has),
     λ m. absurd (apart ((k.1 m).1)),
   )
 
   -- the view of a seat that has the slot
-  abbrev pub busy_view : ℕ → List (Made C R) → View S C R
-  busy_view role seen = view (part start role seen ∷ []) true
+  abbrev pub busy_view : ℕ → List (Made C R) → View C R
+  busy_view role seen = view (part role seen ∷ []) true
 
   pub gives : (slots id : ℕ) (seen : List (Made C R)) (e : Made C R) (st : S) → may e.role e.call → move (left_by after start seen) e.role e.call e.reply → st ≡ after (left_by after start seen) e.role e.call e.reply
       → 2 * length seen + 2 < 2 ^ 64 → Allows Rule slots id (busy_view e.role seen, (0, st) ∷ []) 0 (λ x. (x + 1) % 2 ^ 64) (Gave (Some e) (step slots 0 1 0 none) (busy_view e.role seen, (0, st) ∷ []))
@@ -137,7 +137,7 @@ module _ {S C R : Type 0} (may : ℕ → C → Type 0) (move : S → ℕ → C �
       let known = r.each_seat id me at in
       let mark = known.1 refl in
       let here : seen ≡ r.run = mark.2.0 in
-      let w : View S C R = view (part start e.role (seen ++ e ∷ []) ∷ []) false in
+      let w : View C R = view (part e.role (seen ++ e ∷ []) ∷ []) false in
       let run : List (Made C R) = r.run ++ e ∷ [] in
       let x : ℕ = get_or s.words 0 0 in
       let one = r.wide in
@@ -160,8 +160,8 @@ module _ {S C R : Type 0} (may : ℕ → C → Type 0) (move : S → ℕ → C �
           word = get_or-set_same s.words 0 ((x + 1) % 2 ^ 64) 0 (omega arith) ∙ (up ∙ omega (arith, length-append r.run (e ∷ [])));
           legal = IsRun-push may move after start r.run e r.legal allowed (subst (λ z. move (left_by after start z) e.role e.call e.reply) here told);
           below = Each-append (λ (y : Made C R). y.role < n) r.run (e ∷ []) r.below (lt_of_not-le (λ (above : n ≤ e.role). let z = r.known e.role above in let t = total-at (has e.role) s.views id me at in omega arith), tt);
-          each_seat = views_stay (Knows start run 0 0) s.views id w
-              (((refl, IsPrefix-refl (seen ++ e ∷ []) run (ap (λ l. l ++ e ∷ []) here), ap (λ l. calls_of e.role (l ++ e ∷ [])) here), tt), λ m. absurd (true≢false (sym m)))
+          each_seat = views_stay (Knows run 0 0) s.views id w
+              (((IsPrefix-refl (seen ++ e ∷ []) run (ap (λ l. l ++ e ∷ []) here), ap (λ l. calls_of e.role (l ++ e ∷ [])) here), tt), λ m. absurd (true≢false (sym m)))
               (λ j v other is. others_know r.run r.busy r.holder e j v (λ same. other (same ∙ sym mark.1)) (let t = total-two (has e.role) s.views id j me v (λ q. other (sym q)) at is in let a = r.apart e.role in omega arith) (r.each_seat j v is));
           apart = λ role. let same = same_roles role s.views id me w at refl in let a = r.apart role in omega arith;
           known = λ role above. same_roles role s.views id me w at refl ∙ r.known role above;
@@ -172,25 +172,25 @@ module _ {S C R : Type 0} (may : ℕ → C → Type 0) (move : S → ℕ → C �
         refl,
       )
 
-  opened : (from count : ℕ) → Each (λ (p : Part S C R). (p.start ≡ start) × IsPrefix p.seen [] × (calls_of p.role p.seen ≡ [])) (roles_from start from count)
+  opened : (from count : ℕ) → Each (λ (p : Part C R). IsPrefix p.seen [] × (calls_of p.role p.seen ≡ [])) (roles_from from count)
   opened from zero = tt
-  opened from (suc k) = ((refl, ([], refl), refl), opened (from + 1) k)
+  opened from (suc k) = ((([], refl), refl), opened (from + 1) k)
 
-  none_below : (role from count : ℕ) → role < from → total (λ (p : Part S C R). either_of (eqb p.role role)) (roles_from start from count) ≡ 0
+  none_below : (role from count : ℕ) → role < from → total (λ (p : Part C R). either_of (eqb p.role role)) (roles_from from count) ≡ 0
   none_below role from zero lt = refl
   none_below role from (suc k) lt = let f : eqb from role ≡ false = ne_eqb from role (λ e. omega arith) in let g = ap either_of f in let h = none_below role (from + 1) k (omega arith) in omega arith
 
-  none_above : (role from count : ℕ) → from + count ≤ role → total (λ (p : Part S C R). either_of (eqb p.role role)) (roles_from start from count) ≡ 0
+  none_above : (role from count : ℕ) → from + count ≤ role → total (λ (p : Part C R). either_of (eqb p.role role)) (roles_from from count) ≡ 0
   none_above role from zero lt = refl
   none_above role from (suc k) lt = let f : eqb from role ≡ false = ne_eqb from role (λ e. omega arith) in let g = ap either_of f in let h = none_above role (from + 1) k (omega arith) in omega arith
 
-  one_each : (role from count : ℕ) → total (λ (p : Part S C R). either_of (eqb p.role role)) (roles_from start from count) ≤ 1
+  one_each : (role from count : ℕ) → total (λ (p : Part C R). either_of (eqb p.role role)) (roles_from from count) ≤ 1
   one_each role from zero = omega arith
   one_each role from (suc k) = dite (ℕ_discrete from role)
       (λ is. let g = ap either_of (eq-eqb from role is) in let h = none_below role (from + 1) k (omega arith) in omega arith)
       (λ not. let g = ap either_of (ne_eqb from role not) in let h = one_each role (from + 1) k in omega arith)
 
-  pub starts : Rule (opening (0 ∷ []) (start ∷ []) (newcomer start n))
+  pub starts : Rule (opening (0 ∷ []) (start ∷ []) (newcomer n))
   starts = record {
     run = [];
     busy = 0;
@@ -208,15 +208,15 @@ module _ {S C R : Type 0} (may : ℕ → C → Type 0) (move : S → ℕ → C �
     owner = λ b. absurd (omega arith);
   }
     where
-      first : (j : ℕ) (v : View S C R) → get_elem? (newcomer start n ∷ []) j ≡ some v → Knows start [] 0 0 j v
-      first zero v e = subst (Knows start [] 0 0 0) (some-injective _ _ e) (opened 0 n, λ m. absurd (true≢false (sym m)))
+      first : (j : ℕ) (v : View C R) → get_elem? (newcomer n ∷ []) j ≡ some v → Knows [] 0 0 j v
+      first zero v e = subst (Knows [] 0 0 0) (some-injective _ _ e) (opened 0 n, λ m. absurd (true≢false (sym m)))
       first (suc j) v e = absurd (some-ne-none v (sym e))
 
-  dealt_roles : (role : ℕ) (ps : List (Part S C R)) (m k : Bool) → has role (view (drop 1 ps) m) + has role (view (take 1 ps) k) ≡ has role (view ps m)
+  dealt_roles : (role : ℕ) (ps : List (Part C R)) (m k : Bool) → has role (view (drop 1 ps) m) + has role (view (take 1 ps) k) ≡ has role (view ps m)
   dealt_roles role [] m k = refl
   dealt_roles role (p ∷ ps) m k = omega arith
 
-  pub deals : (id : ℕ) (v : View S C R) → v.marked ≡ false → Splits Rule id v (without_first v) (only_first v)
+  pub deals : (id : ℕ) (v : View C R) → v.marked ≡ false → Splits Rule id v (without_first v) (only_first v)
   deals id v free s r at = let known = r.each_seat id v at in record {
     run = r.run;
     busy = r.busy;
@@ -227,8 +227,8 @@ module _ {S C R : Type 0} (may : ℕ → C → Type 0) (move : S → ℕ → C �
     legal = r.legal;
     below = r.below;
     each_seat = λ j u e. ⊎_elim
-        (views_stay (Knows start r.run r.busy r.holder) s.views id (without_first v) (Each-drop _ v.parts known.0, λ m. let k = known.1 m in (k.0, k.1, Each-drop _ v.parts k.2)) (λ i x _. r.each_seat i x) j u)
-        (λ (t : only_first v ≡ u). subst (Knows start r.run r.busy r.holder j) t (Each-take _ v.parts known.0, λ m. absurd (true≢false (sym m))))
+        (views_stay (Knows r.run r.busy r.holder) s.views id (without_first v) (Each-drop _ v.parts known.0, λ m. let k = known.1 m in (k.0, k.1, Each-drop _ v.parts k.2)) (λ i x _. r.each_seat i x) j u)
+        (λ (t : only_first v ≡ u). subst (Knows r.run r.busy r.holder j) t (Each-take _ v.parts known.0, λ m. absurd (true≢false (sym m))))
         (at_snoc (set s.views id (without_first v)) (only_first v) u j e);
     apart = λ role. let same = kept role s.views at in let a = r.apart role in omega arith;
     known = λ role above. kept role s.views at ∙ r.known role above;
@@ -237,14 +237,14 @@ module _ {S C R : Type 0} (may : ℕ → C → Type 0) (move : S → ℕ → C �
     owner = λ b. let o = r.owner b in (o.0, at_longer (set s.views id (without_first v)) (only_first v ∷ []) r.holder o.0 (unset s.views id r.holder v (without_first v) o.0 free at o.1 o.2), o.2, o.3);
   }
     where
-      kept : (role : ℕ) (vs : List (View S C R)) → get_elem? vs id ≡ some v → total (has role) (set vs id (without_first v) ++ only_first v ∷ []) ≡ total (has role) vs
+      kept : (role : ℕ) (vs : List (View C R)) → get_elem? vs id ≡ some v → total (has role) (set vs id (without_first v) ++ only_first v ∷ []) ≡ total (has role) vs
       kept role vs at =
           let a = total-append (has role) (set vs id (without_first v)) (only_first v ∷ []) in let b = total-set (has role) vs id v (without_first v) at in let c = dealt_roles role v.parts v.marked false in omega arith
 
-  pub joins : (id : ℕ) (v : View S C R) (other : ℕ) (w : View S C R) → v.marked ≡ false → w.marked ≡ false → Joins Rule id v other w (joined v w) nobody
+  pub joins : (id : ℕ) (v : View C R) (other : ℕ) (w : View C R) → v.marked ≡ false → w.marked ≡ false → Joins Rule id v other w (joined v w) nobody
   joins id v other w free free_too s r at apart there = let known = r.each_seat id v at in
       let theirs = ⊎_elim (λ (t : (other ≡ id) × (joined v w ≡ w)). absurd (apart t.0)) (λ (t : (other ≢ id) × (get_elem? s.views other ≡ some w)). t.1) (at_set s.views id other (joined v w) w there) in
-      let K = Knows start r.run r.busy r.holder in record {
+      let K = Knows r.run r.busy r.holder in record {
         run = r.run;
         busy = r.busy;
         holder = r.holder;
@@ -263,7 +263,7 @@ module _ {S C R : Type 0} (may : ℕ → C → Type 0) (move : S → ℕ → C �
             (o.0, unset (set s.views id (joined v w)) other r.holder w nobody o.0 free_too there (unset s.views id r.holder v (joined v w) o.0 free at o.1 o.2) o.2, o.2, o.3);
       }
     where
-      kept : (role : ℕ) (vs : List (View S C R)) → get_elem? vs id ≡ some v → get_elem? (set vs id (joined v w)) other ≡ some w → total (has role) (set (set vs id (joined v w)) other nobody) ≡ total (has role) vs
+      kept : (role : ℕ) (vs : List (View C R)) → get_elem? vs id ≡ some v → get_elem? (set vs id (joined v w)) other ≡ some w → total (has role) (set (set vs id (joined v w)) other nobody) ≡ total (has role) vs
       kept role vs at there =
           let a = total-set (has role) (set vs id (joined v w)) other w nobody there in let b = total-set (has role) vs id v (joined v w) at in
-          let c = total-append (λ (p : Part S C R). either_of (eqb p.role role)) v.parts w.parts in omega arith
+          let c = total-append (λ (p : Part C R). either_of (eqb p.role role)) v.parts w.parts in omega arith

@@ -1,6 +1,6 @@
 -- The rule of a turn, and what each step tells.
 -- The word is twice the length of the run, and one more while a seat has the slot.
-use Rattle.std.specs.Prelude.{◌≡◌, ◌≢◌, ℕ, zero, suc, ◌+◌, ◌-◌, ◌*◌, ◌<◌, ◌≤◌, ◌==◌, Bool, true, false, List, [], ◌∷◌, ◌++◌, map, length, slice_index, drop, take, Option, Some, None, cond}
+use Rattle.std.specs.Prelude.{◌≡◌, ◌≢◌, ℕ, zero, suc, ◌+◌, ◌-◌, ◌*◌, ◌<◌, ◌≤◌, ◌==◌, Bool, true, false, List, [], ◌∷◌, ◌++◌, map, length, slice_index, drop, take, Option, Some, None, cond, IfSome}
 use mathlib.Core.Option.{some, none}
 use lib.ListN.{get_elem?}
 use Rattle.atomic_table.specs.Table.{State, Me, Step}
@@ -24,51 +24,51 @@ abbrev pub either_of : Bool → ℕ
 either_of true = 1
 either_of false = 0
 
-module _ {S C R : Type 0} where
-  abbrev pub part : S → ℕ → List (Made C R) → Part S C R
-  part start role seen = record { start = start; role = role; seen = seen }
+module _ {C R : Type 0} where
+  abbrev pub part : ℕ → List (Made C R) → Part C R
+  part role seen = record { role = role; seen = seen }
 
-  abbrev pub view : List (Part S C R) → Bool → View S C R
+  abbrev pub view : List (Part C R) → Bool → View C R
   view parts marked = record { parts = parts; marked = marked }
 
-  abbrev pub nobody : View S C R
+  abbrev pub nobody : View C R
   nobody = view [] false
 
-  abbrev pub roles_from : S → ℕ → ℕ → List (Part S C R)
-  roles_from start k zero = []
-  roles_from start k (suc n) = part start k [] ∷ roles_from start (k + 1) n
+  abbrev pub roles_from : ℕ → ℕ → List (Part C R)
+  roles_from k zero = []
+  roles_from k (suc n) = part k [] ∷ roles_from (k + 1) n
 
-  abbrev pub newcomer : S → ℕ → View S C R
-  newcomer start n = view (roles_from start 0 n) false
+  abbrev pub newcomer : ℕ → View C R
+  newcomer n = view (roles_from 0 n) false
 
-  abbrev pub without_first : View S C R → View S C R
+  abbrev pub without_first : View C R → View C R
   without_first v = view (drop 1 v.parts) v.marked
 
-  abbrev pub only_first : View S C R → View S C R
+  abbrev pub only_first : View C R → View C R
   only_first v = view (take 1 v.parts) false
 
-  abbrev pub joined : View S C R → View S C R → View S C R
+  abbrev pub joined : View C R → View C R → View C R
   joined v w = view (v.parts ++ w.parts) false
 
   -- how often a view has the role r
-  abbrev pub has : ℕ → View S C R → ℕ
+  abbrev pub has : ℕ → View C R → ℕ
   has r v = total (λ p. either_of (p.role == r)) v.parts
 
   -- the part, once it has seen the run
-  abbrev pub shown : List (Made C R) → Part S C R → Part S C R
-  shown run p = part p.start p.role run
+  abbrev pub shown : List (Made C R) → Part C R → Part C R
+  shown run p = part p.role run
 
   -- the part, once a call was added
-  abbrev pub pushed : Made C R → Part S C R → Part S C R
-  pushed e p = part p.start p.role (p.seen ++ e ∷ [])
+  abbrev pub pushed : Made C R → Part C R → Part C R
+  pushed e p = part p.role (p.seen ++ e ∷ [])
 
-  abbrev pub Knows : S → List (Made C R) → ℕ → ℕ → ℕ → View S C R → Type 0
-  Knows start run busy holder j v =
-      Each (λ p. (p.start ≡ start) × IsPrefix p.seen run × (calls_of p.role p.seen ≡ calls_of p.role run)) v.parts
+  abbrev pub Knows : List (Made C R) → ℕ → ℕ → ℕ → View C R → Type 0
+  Knows run busy holder j v =
+      Each (λ p. IsPrefix p.seen run × (calls_of p.role p.seen ≡ calls_of p.role run)) v.parts
       × (v.marked ≡ true → (busy ≡ 1) × (j ≡ holder) × Each (λ p. p.seen ≡ run) v.parts)
 
 module _ {S C R : Type 0} (may : ℕ → C → Type 0) (step : S → ℕ → C → R → Type 0) (after : S → ℕ → C → R → S) where
-  pub record Kept (start : S) (n : ℕ) (s : State S (View S C R)) : Type 0 where
+  pub record Kept (start : S) (n : ℕ) (s : State S (View C R)) : Type 0 where
     pub run : List (Made C R)
     pub busy : ℕ
     pub holder : ℕ
@@ -77,60 +77,63 @@ module _ {S C R : Type 0} (may : ℕ → C → Type 0) (step : S → ℕ → C �
     pub word : slice_index s.words 0 ≡ 2 * length run + busy
     pub legal : IsRun may step after start run
     pub below : Each (λ e. e.role < n) run
-    pub each_seat : (j : ℕ) (v : View S C R) → get_elem? s.views j ≡ some v → Knows start run busy holder j v
+    pub each_seat : (j : ℕ) (v : View C R) → get_elem? s.views j ≡ some v → Knows run busy holder j v
     pub apart : (r : ℕ) → total (has r) s.views ≤ 1
     pub known : (r : ℕ) → n ≤ r → total (has r) s.views ≡ 0
     pub home : busy ≡ 0 → s.homes ≡ some (left_by after start run) ∷ []
     pub out : busy ≡ 1 → s.homes ≡ none ∷ []
-    pub owner : busy ≡ 1 → (v : View S C R) × (get_elem? s.views holder ≡ some v) × (v.marked ≡ true) × ((r : ℕ) × (1 ≤ has r v))
+    pub owner : busy ≡ 1 → (v : View C R) × (get_elem? s.views holder ≡ some v) × (v.marked ≡ true) × ((r : ℕ) × (1 ≤ has r v))
 
   abbrev Sat : Type 0
-  Sat = Me S (View S C R)
+  Sat = Me S (View C R)
 
   -- the slot was taken, and the run seen
-  abbrev pub Took : Sat → ℕ → Sat → Type 0
-  Took m found m' =
+  abbrev pub Took : S → Sat → ℕ → Sat → Type 0
+  Took start m found m' =
       (run : List (Made C R)) × (st : S) × (m' ≡ (view (map (shown run) m.0.parts) true, (0, st) ∷ m.1)) × (found ≡ 2 * length run)
-      × Each (λ p. IsRun may step after p.start run × (st ≡ left_by after p.start run) × IsPrefix p.seen run × (calls_of p.role p.seen ≡ calls_of p.role run)) m.0.parts
+      × IsRun may step after start run × (st ≡ left_by after start run)
+      × Each (λ p. IsPrefix p.seen run × (calls_of p.role p.seen ≡ calls_of p.role run)) m.0.parts
 
-  abbrev pub Taken : Step S → Sat → ℕ → Sat → Type 0
-  Taken st m found m' = (found ≡ st.first → Took m found m') × (found ≢ st.first → m' ≡ m)
+  -- what that tells, where the opening state is told
+  abbrev pub Taken : Option S → Step S → Sat → ℕ → Sat → Type 0
+  Taken start st m found m' = (found ≡ st.first → IfSome start (λ z. Took z m found m')) × (found ≢ st.first → m' ≡ m)
 
-module _ {S C R : Type 0} where
+module _ {C R : Type 0} where
   -- the parts, once a call was added
-  abbrev pub added : Option (Made C R) → List (Part S C R) → List (Part S C R)
+  abbrev pub added : Option (Made C R) → List (Part C R) → List (Part C R)
   added None ps = ps
   added (Some e) ps = map (pushed e) ps
 
-  -- the slot was given back, and a call added to the run
-  abbrev pub Gave : Option (Made C R) → Step S → Me S (View S C R) → ℕ → Me S (View S C R) → Type 0
-  Gave made st m found m' = m' ≡ (view (added made m.0.parts) false, [])
-
-  abbrev pub seen_in : List (Part S C R) → List (Made C R)
+  abbrev pub seen_in : List (Part C R) → List (Made C R)
   seen_in [] = []
   seen_in (p ∷ ps) = p.seen
 
+module _ {S C R : Type 0} where
+  -- the slot was given back, and a call added to the run
+  abbrev pub Gave : Option (Made C R) → Step S → Me S (View C R) → ℕ → Me S (View C R) → Type 0
+  Gave made st m found m' = m' ≡ (view (added made m.0.parts) false, [])
+
   -- what a seat has seen
-  abbrev pub seen_by : Me S (View S C R) → List (Made C R)
+  abbrev pub seen_by : Me S (View C R) → List (Made C R)
   seen_by m = seen_in m.0.parts
 
   -- a seat with one role, which has not the slot
-  abbrev pub IsIdle : S → ℕ → Me S (View S C R) → Type 0
-  IsIdle start role m = m ≡ (view (part start role (seen_by m) ∷ []) false, [])
+  abbrev pub IsIdle : ℕ → Me S (View C R) → Type 0
+  IsIdle role m = m ≡ (view (part role (seen_by m) ∷ []) false, [])
 
   -- a seat with one role, which has the slot, with st in it
-  abbrev pub HasSlot : S → ℕ → S → Me S (View S C R) → Type 0
-  HasSlot start role st m = m ≡ (view (part start role (seen_by m) ∷ []) true, (0, st) ∷ [])
+  abbrev pub HasSlot : ℕ → S → Me S (View C R) → Type 0
+  HasSlot role st m = m ≡ (view (part role (seen_by m) ∷ []) true, (0, st) ∷ [])
 
 module _ {S C R : Type 0} (may : ℕ → C → Type 0) (step : S → ℕ → C → R → Type 0) (after : S → ℕ → C → R → S) where
   -- a seat that has the slot, and has seen the run that leads to the state there
-  abbrev pub IsBusy : S → ℕ → Me S (View S C R) → Type 0
-  IsBusy start role m = (st : S) × HasSlot start role st m × IsRun may step after start (seen_by m) × (st ≡ left_by after start (seen_by m))
+  abbrev pub IsBusy : S → ℕ → Me S (View C R) → Type 0
+  IsBusy start role m = (st : S) × HasSlot role st m × IsRun may step after start (seen_by m) × (st ≡ left_by after start (seen_by m))
 
   -- the call was made at the slot, and is not yet in the run
-  abbrev pub IsReady : S → ℕ → C → R → Me S (View S C R) → Type 0
+  abbrev pub IsReady : S → ℕ → C → R → Me S (View C R) → Type 0
   IsReady start role call reply m =
-      (st : S) × HasSlot start role st m × IsRun may step after start (seen_by m) × step (left_by after start (seen_by m)) role call reply
+      (st : S) × HasSlot role st m × IsRun may step after start (seen_by m) × step (left_by after start (seen_by m)) role call reply
       × (st ≡ after (left_by after start (seen_by m)) role call reply)
 
   -- the run that was seen goes on, ends with the call, and has no other of the role's that is new
@@ -139,10 +142,10 @@ module _ {S C R : Type 0} (may : ℕ → C → Type 0) (step : S → ℕ → C �
       (between : List (Made C R)) × (seen ≡ (before ++ between) ++ made role call reply ∷ []) × IsRun may step after start seen
       × (calls_of role seen ≡ calls_of role before ++ made role call reply ∷ [])
 
-module _ {S C R : Type 0} where
+module _ {C R : Type 0} where
   -- the part of a pass
-  abbrev pub part_of : Holder S C R → Part S C R
-  part_of p = part p.turn.start p.role p.seen
+  abbrev pub part_of : Holder C R → Part C R
+  part_of p = part p.role p.seen
 
 -- what contracts see of a turn, by its table and what that was told when it was made
 abbrev pub origin_of : {S : Type 0} → TableId → Opening S → Origin S

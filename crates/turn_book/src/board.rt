@@ -14,15 +14,14 @@ pub struct Opening<S> {
 }
 
 /// A role, and the beginning of the run that its holder has seen. No value of it is made.
-pub struct Part<S, C, R> {
-    pub start: S,
+pub struct Part<C, R> {
     pub role: u8,
     pub seen: LinkedList<Made<C, R>>,
 }
 
 /// What a seat knows. No value of it is made.
-pub struct View<S, C, R> {
-    pub parts: LinkedList<Part<S, C, R>>,
+pub struct View<C, R> {
+    pub parts: LinkedList<Part<C, R>>,
     pub marked: bool,
 }
 
@@ -30,22 +29,35 @@ pub struct InOneRun<S> {
     object: PhantomData<S>,
 }
 
-impl<S: Serial> TableRule<S, View<S, S::Call, S::Reply>, Opening<S>> for InOneRun<S> {
+impl<S: Serial> TableRule<S, View<S::Call, S::Reply>, Opening<S>> for InOneRun<S> {
     ghost use Rattle.turn_book.specs.Rule.{Kept, newcomer};
 
     ghost holds = { λ key. Kept S.may S.step S.after key.state.value key.roles };
 
-    ghost first = { λ key. newcomer key.state.value key.roles };
+    ghost first = { λ key. newcomer key.roles };
 }
 
-pub struct Take<S> {
-    object: PhantomData<S>,
+/// The state that the turn opened with. Each call of a program picks it.
+pub trait Opened<S> {
+    ghost use Rattle.std.specs.Prelude.{Option};
+
+    ghost start: { Option S };
 }
 
-impl<S: Serial> Play<S, View<S, S::Call, S::Reply>> for Take<S> {
+impl<S> Opened<S> for Brand {
+    ghost use Rattle.std.specs.Prelude.{None};
+
+    ghost start = { None };
+}
+
+pub struct Take<S, J> {
+    object: PhantomData<(S, J)>,
+}
+
+impl<S: Serial, J: Opened<S>> Play<S, View<S::Call, S::Reply>> for Take<S, J> {
     ghost use Rattle.turn_book.specs.Rule.{Taken};
 
-    ghost then = { Taken S.may S.step S.after };
+    ghost then = { Taken S.may S.step S.after J.start };
 }
 
 /// The call that a step adds to the run. Each call of a program picks it.
@@ -66,7 +78,7 @@ pub struct Give<S, J> {
     object: PhantomData<(S, J)>,
 }
 
-impl<S: Serial, J: Noted<S::Call, S::Reply>> Play<S, View<S, S::Call, S::Reply>> for Give<S, J> {
+impl<S: Serial, J: Noted<S::Call, S::Reply>> Play<S, View<S::Call, S::Reply>> for Give<S, J> {
     ghost use Rattle.turn_book.specs.Rule.{Gave};
 
     ghost then = { Gave J.made };
@@ -74,7 +86,7 @@ impl<S: Serial, J: Noted<S::Call, S::Reply>> Play<S, View<S, S::Call, S::Reply>>
 
 pub struct Deal;
 
-impl<S, C, R> Split<View<S, C, R>> for Deal {
+impl<C, R> Split<View<C, R>> for Deal {
     ghost use Rattle.turn_book.specs.Rule.{without_first, only_first};
 
     ghost left = { without_first };
@@ -82,7 +94,7 @@ impl<S, C, R> Split<View<S, C, R>> for Deal {
     ghost right = { only_first };
 }
 
-impl<S, C, R> Join<View<S, C, R>> for Deal {
+impl<C, R> Join<View<C, R>> for Deal {
     ghost use Rattle.turn_book.specs.Rule.{joined, nobody};
 
     ghost both = { joined };
@@ -92,10 +104,10 @@ impl<S, C, R> Join<View<S, C, R>> for Deal {
 
 pub type Board<S> = Table<
     S,
-    View<S, <S as Serial>::Call, <S as Serial>::Reply>,
+    View<<S as Serial>::Call, <S as Serial>::Reply>,
     Opening<S>,
     InOneRun<S>,
     Global,
 >;
 
-pub type Stand<S> = Seat<S, View<S, <S as Serial>::Call, <S as Serial>::Reply>>;
+pub type Stand<S> = Seat<S, View<<S as Serial>::Call, <S as Serial>::Reply>>;

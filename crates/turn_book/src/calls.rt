@@ -5,7 +5,7 @@ ghost use Rattle.kad_base.specs.Serial.{calls_of, made};
 ghost use Rattle.turn_book.specs.Turns.{IsPrefix};
 ghost use Rattle.turn_book.specs.Rule.{IsIdle, IsBusy, IsReady, Called, seen_by, part, view};
 
-use crate::board::{Board, Give, Noted, Stand, Take};
+use crate::board::{Board, Give, Noted, Opened, Stand, Take};
 use crossbeam_utils::Backoff;
 use kad_base::Serial;
 use std::marker::Brand;
@@ -16,11 +16,12 @@ use std::sync::Wait;
 const END: u64 = 1 << 63;
 
 /// Waits for the slot, and takes it: the word is even while the slot is free.
-fn take<S: Serial, R: Wait>(rt: &R, board: &Board<S>, seat: &mut Stand<S>, role: u8)
+fn take<S: Serial, R: Wait, J: Opened<S>>(rt: &R, board: &Board<S>, seat: &mut Stand<S>, role: u8)
+    requires picked { J.start ≡ Some board.now.shared.key.state.value }
     requires words { board.now.shared.table_id.words ≡ 1 }
     requires slots { board.now.shared.table_id.slots ≡ 1 }
     requires own { seat.old.table_id ≡ board.now.shared.table_id }
-    requires idle { IsIdle board.now.shared.key.state.value role seat.old.me }
+    requires idle { IsIdle role seat.old.me }
     ensures same { (seat.new.table_id ≡ seat.old.table_id) × (seat.new.id ≡ seat.old.id) }
     ensures busy { IsBusy S.may S.step S.after board.now.shared.key.state.value role seat.new.me }
     ensures run { IsPrefix (seen_by seat.old.me) (seen_by seat.new.me) × (calls_of role (seen_by seat.old.me) ≡ calls_of role (seen_by seat.new.me)) }
@@ -32,7 +33,7 @@ fn take<S: Serial, R: Wait>(rt: &R, board: &Board<S>, seat: &mut Stand<S>, role:
         if word % 2 == 0 && word < END {
             let found = board
                 .shared
-                .compare_exchange::<Take<S>>(seat, 0, word, word + 1);
+                .compare_exchange::<Take<S, J>>(seat, 0, word, word + 1);
             if found == word {
                 return;
             }
@@ -71,7 +72,7 @@ fn give<S: Serial, J: Noted<S::Call, S::Reply>>(
     requires ready { IsReady S.may S.step S.after board.now.shared.key.state.value role call.now.value reply.now seat.old.me }
     requires room { 2 * length (seen_by seat.old.me) < 2 ^ 63 }
     ensures same { (seat.new.table_id ≡ seat.old.table_id) × (seat.new.id ≡ seat.old.id) }
-    ensures given { seat.new.me ≡ (view (part board.now.shared.key.state.value role (seen_by seat.old.me ++ made role call.now.value reply.now ∷ []) ∷ []) false, []) }
+    ensures given { seat.new.me ≡ (view (part role (seen_by seat.old.me ++ made role call.now.value reply.now ∷ []) ∷ []) false, []) }
 {
     let _ = call;
     let _ = reply;
@@ -90,15 +91,15 @@ pub(crate) fn call_at<S: Serial, R: Wait>(
     requires words { board.now.shared.table_id.words ≡ 1 }
     requires slots { board.now.shared.table_id.slots ≡ 1 }
     requires own { seat.old.table_id ≡ board.now.shared.table_id }
-    requires idle { IsIdle board.now.shared.key.state.value role seat.old.me }
+    requires idle { IsIdle role seat.old.me }
     requires may { S.may role call }
     ensures same { (seat.new.table_id ≡ seat.old.table_id) × (seat.new.id ≡ seat.old.id) }
-    ensures idle { IsIdle board.now.shared.key.state.value role seat.new.me }
+    ensures idle { IsIdle role seat.new.me }
     ensures called { Called S.may S.step S.after board.now.shared.key.state.value role call result (seen_by seat.old.me) (seen_by seat.new.me) }
     ensures room { length (seen_by seat.new.me) ≤ 2 ^ 62 }
 {
     let asked = Snapshot::of(&call);
-    take(rt, board, seat, role);
+    take::<S, R, Brand>(rt, board, seat, role);
     let reply = work(board, seat, role, call);
     give::<S, Brand>(board, seat, role, &asked, &reply);
     reply

@@ -12,9 +12,9 @@ mod calls;
 mod lock;
 mod row;
 mod seats;
-mod threads;
 #[cfg(test)]
 mod tests;
+mod threads;
 
 pub use lock::{Told, Turn, TurnNoMemory};
 pub use row::{Pass, Passes};

@@ -6,7 +6,6 @@ ghost use Rattle.turn_book.specs.Turns.{GoesOnTo, mine, all_fresh, AreAll, Close
 use crate::board::{Board, Opening};
 use crate::row::{Pass, Passes};
 use crate::seats::{deal, gather, only};
-
 use atomic_table::{Refused, Table};
 use kad_base::Serial;
 use std::alloc::{AllocFailed, Global};
@@ -45,11 +44,7 @@ pub struct Told {
 
 impl<S: Serial> Turn<S> {
     /// Opens a turn with this state, and makes a pass for each of `n` roles. The one error is want of memory.
-    pub fn new(
-        alloc: Global,
-        state: S,
-        n: u8,
-    ) -> Result<(Turn<S>, Passes<S>), TurnNoMemory<S>>
+    pub fn new(alloc: Global, state: S, n: u8) -> Result<(Turn<S>, Passes<S>), TurnNoMemory<S>>
         requires some { 0 < n }
         requires few { n ≤ 64 }
         ensures state { IfOk result (λ t. t.0.start ≡ state) }
@@ -73,7 +68,7 @@ impl<S: Serial> Turn<S> {
         }
         match Table::new(alloc, &[0], slots, &opening) {
             Ok((board, seat)) => {
-                deal(&board, &opening, seat, &mut list, n);
+                deal(&board, seat, &mut list, n);
                 Ok((Turn { board }, Passes::with_room(list, n)))
             }
             Err(Refused { slots }) => Err(TurnNoMemory { state: only(slots) }),
@@ -83,7 +78,7 @@ impl<S: Serial> Turn<S> {
     /// Waits for the lock and makes the call, at one point of the turn's run. It takes no memory beyond the object's own
     /// step. After 2^62 calls it waits for good.
     pub fn call<R: Wait>(&self, rt: &R, pass: &mut Pass<S>, call: S::Call) -> S::Reply
-        requires pass { pass.old.turn ≡ self.now }
+        requires pass { pass.old.turn ≡ self.now.id }
         requires may { S.may pass.old.role call }
         ensures pass { (pass.new.turn ≡ pass.old.turn) × (pass.new.role ≡ pass.old.role) }
         ensures run { IsRun S.may S.step S.after self.now.start pass.new.seen }

@@ -2,18 +2,16 @@
 ghost use Rattle.std.specs.Prelude.{◌≡◌, ◌^◌, ◌<◌, ◌≤◌, [], ◌∷◌, ◌++◌, length, false, IsNone, ◌↔◌, vec_capacity};
 ghost use Rattle.std.specs.Option.{option_to_list};
 
-use crate::board::{Board, Opening, Stand};
+use crate::board::{Board, Stand};
 use crate::calls;
 use kad_base::Serial;
 use std::marker::Model;
-use std::snapshot::Snapshot;
 use std::sync::Wait;
 
 /// A role at a turn, and what its holder has seen of the turn's run. It has no bytes but its role, and can't be copied.
 #[derive(Drop)]
 pub struct Pass<S: Serial> {
     role: u8,
-    opening: Snapshot<Opening<S>>,
     seat: Stand<S>,
 }
 
@@ -21,31 +19,27 @@ impl<S: Serial> Model for Pass<S> {
     ghost use Rattle.turn_book.specs.Rule.{IsIdle, seen_by};
     ghost use Rattle.turn_book.specs.Turns.{Holder};
 
-    ghost Value = { Holder S S.Call S.Reply };
+    ghost Value = { Holder S.Call S.Reply };
 
-    ghost view = { λ p. record { turn = record { id = p.seat.table_id; start = p.opening.value.state.value; roles = p.opening.value.roles }; role = p.role; seen = seen_by p.seat.me } };
+    ghost view = { λ p. record { turn = p.seat.table_id; role = p.role; seen = seen_by p.seat.me } };
 
-    ghost invariant = { λ p. IsIdle p.opening.value.state.value p.role p.seat.me };
+    ghost invariant = { λ p. IsIdle p.role p.seat.me };
 }
 
 impl<S: Serial> Pass<S> {
     ghost use Rattle.kad_base.specs.Serial.{made, IsRun};
     ghost use Rattle.turn_book.specs.Turns.{GoesOnTo, fresh, mine};
-    ghost use Rattle.turn_book.specs.Rule.{view, part, origin_of, IsBoard, part_of};
+    ghost use Rattle.turn_book.specs.Rule.{view, part, IsBoard, part_of};
 
-    pub(crate) fn new(role: u8, opening: &Opening<S>, seat: Stand<S>) -> Pass<S>
-        requires { seat.me ≡ (view (part opening.now.state.value role [] ∷ []) false, []) }
-        ensures { result ≡ fresh (record { id = seat.table_id; start = opening.now.state.value; roles = opening.now.roles }) role }
+    pub(crate) fn new(role: u8, seat: Stand<S>) -> Pass<S>
+        requires { seat.me ≡ (view (part role [] ∷ []) false, []) }
+        ensures { result ≡ fresh seat.table_id role }
     {
-        Pass {
-            role,
-            opening: Snapshot::of(opening),
-            seat,
-        }
+        Pass { role, seat }
     }
 
     pub(crate) fn into_seat(self) -> Stand<S>
-        ensures own { result.table_id ≡ self.turn.id }
+        ensures own { result.table_id ≡ self.turn }
         ensures view { result.me ≡ (view (part_of self ∷ []) false, []) }
     {
         self.seat
@@ -54,10 +48,10 @@ impl<S: Serial> Pass<S> {
     /// Makes the call at one point of the run.
     pub(crate) fn call_at<R: Wait>(&mut self, rt: &R, board: &Board<S>, call: S::Call) -> S::Reply
         requires board { IsBoard board.now.shared.table_id board.now.shared.key.roles }
-        requires own { self.old.turn ≡ origin_of board.now.shared.table_id board.now.shared.key }
+        requires own { self.old.turn ≡ board.now.shared.table_id }
         requires may { S.may self.old.role call }
         ensures same { (self.new.turn ≡ self.old.turn) × (self.new.role ≡ self.old.role) }
-        ensures run { IsRun S.may S.step S.after self.old.turn.start self.new.seen }
+        ensures run { IsRun S.may S.step S.after board.now.shared.key.state.value self.new.seen }
         ensures seen { GoesOnTo (made self.old.role call result) self.old.seen self.new.seen }
         ensures mine { mine self.new ≡ mine self.old ++ made self.old.role call result ∷ [] }
         ensures few { length self.new.seen ≤ 2 ^ 62 }
@@ -78,7 +72,7 @@ impl<S: Serial> Model for Passes<S> {
     ghost use Rattle.std.specs.Prelude.{◌≤◌, vec_capacity};
     ghost use Rattle.turn_book.specs.Turns.{Row};
 
-    ghost Value = { Row S S.Call S.Reply };
+    ghost Value = { Row S.Call S.Reply };
 
     ghost view = { λ r. record { passes = r.list.items; room = r.room } };
 

@@ -2,9 +2,9 @@
 ghost use Rattle.std.specs.Prelude.{◌≡◌, ◌<◌, ◌≤◌, [], ◌∷◌, List, length, map, false, vec_capacity};
 ghost use Rattle.std.specs.List.{All, range_with_len};
 ghost use Rattle.turn_book.specs.Turns.{fresh};
-ghost use Rattle.turn_book.specs.Rule.{view, newcomer, origin_of, part_of};
+ghost use Rattle.turn_book.specs.Rule.{view, newcomer, part_of};
 
-use crate::board::{Board, Deal, Opening, Stand};
+use crate::board::{Board, Deal, Stand};
 use crate::row::Pass;
 use kad_base::Serial;
 
@@ -23,31 +23,28 @@ pub(crate) fn only<S>(mut items: Vec<S>) -> S
 /// A pass for each role, in order.
 pub(crate) fn deal<S: Serial>(
     board: &Board<S>,
-    opening: &Opening<S>,
     mut seat: Stand<S>,
     list: &mut Vec<Pass<S>>,
     roles: u8,
 )
     requires words { board.now.shared.table_id.words ≡ 1 }
-    requires opening { board.now.shared.key ≡ opening.now }
-    requires roles { opening.now.roles ≡ roles }
     requires own { seat.table_id ≡ board.now.shared.table_id }
-    requires seat { seat.me ≡ (newcomer opening.now.state.value roles, []) }
+    requires seat { seat.me ≡ (newcomer roles, []) }
     requires list { list.old.items ≡ [] }
     requires room { roles ≤ vec_capacity list.old }
-    ensures passes { list.new.items ≡ map (fresh (origin_of board.now.shared.table_id board.now.shared.key)) (range_with_len 0 roles) }
+    ensures passes { list.new.items ≡ map (fresh board.now.shared.table_id) (range_with_len 0 roles) }
     ensures room { roles ≤ vec_capacity list.new }
 {
     for role in 0..roles {
         let given = board.shared.split_seat::<Deal>(&mut seat);
-        list.push_reserved(Pass::new(role, opening, given));
+        list.push_reserved(Pass::new(role, given));
     }
 }
 
 /// The parts of all passes together.
 pub(crate) fn gather<S: Serial>(board: &Board<S>, mut list: Vec<Pass<S>>) -> Stand<S>
     requires words { board.now.shared.table_id.words ≡ 1 }
-    requires own { All (λ p. p.turn ≡ origin_of board.now.shared.table_id board.now.shared.key) list.items }
+    requires own { All (λ p. p.turn ≡ board.now.shared.table_id) list.items }
     requires some { 0 < length list.items }
     ensures own { result.table_id ≡ board.now.shared.table_id }
     ensures views { result.me ≡ (view (map part_of list.items) false, []) }

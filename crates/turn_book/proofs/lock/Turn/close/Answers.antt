@@ -1,4 +1,4 @@
-use Rattle.std.proofs.Common.{◌≡◌, ◌∙◌, ap, map, false, sym, subst, List}
+use Rattle.std.proofs.Common.{◌∙◌, map, false, []}
 use Rattle.turn_book.specs.Turns.{Origin, AreAll, Closed}
 use Rattle.turn_book.specs.Rule.{view, part_of, origin_of}
 use Rattle.turn_book.proofs.Views.{ends}
