@@ -1,8 +1,7 @@
 //! A counter behind a turn: two threads count it up, and passes go out and come back.
-ghost use Rattle.std.specs.Prelude.{◌≡◌, ◌+◌, ◌%◌, ◌^◌, [], ◌∷◌, length};
-ghost use Rattle.turn_book.specs.Turns.{AreAll};
+ghost use Rattle.std.specs.Prelude.{◌≡◌, ◌+◌, ◌%◌, ◌^◌};
 
-use crate::{Pass, Passes, Turn, TurnNoMemory};
+use crate::{Pass, Turn, TurnNoMemory};
 use kad_base::Serial;
 use std::alloc::Global;
 use std::sync::Wait;
@@ -73,5 +72,40 @@ fn counted<R: Threads + Wait + Sync>(rt: &R, alloc: Global) -> Option<(u64, u64)
 fn two_threads_count_to_2000(rt: HostRuntime) -> Result<(), Fail> {
     let found = counted(&rt, rt.alloc());
     assert_eq!(rt; found, Some((2000, 2000)));
+    Ok(())
+}
+
+/// One pass goes out, makes a call and comes back: whether no other was left, the reply, and what `close` answers.
+fn called_once<R: Wait>(rt: &R, alloc: Global) -> Option<(bool, u64, u64, u64)> {
+    let Ok((turn, mut passes)) = Turn::new(alloc, Counter { count: 7 }, 1) else {
+        return None;
+    };
+    let mut pass = passes.pop()?;
+    let none_left = passes.pop().is_none();
+    let reply = turn.call(rt, &mut pass, 5);
+    passes.push(pass);
+    let (counter, told) = turn.close(passes);
+    Some((none_left, reply, counter.count, told.calls))
+}
+
+#[test]
+fn a_pass_goes_out_and_comes_back(rt: HostRuntime) -> Result<(), Fail> {
+    let found = called_once(&rt, rt.alloc());
+    assert_eq!(rt; found, Some((true, 12, 12, 1)));
+    Ok(())
+}
+
+/// The state as it comes back, whether a turn of 64 roles was opened or refused.
+fn returned(alloc: Global) -> u64 {
+    match Turn::new(alloc, Counter { count: 9 }, 64) {
+        Ok((turn, passes)) => turn.close(passes).0.count,
+        Err(TurnNoMemory { state }) => state.count,
+    }
+}
+
+#[test]
+fn the_state_comes_back(rt: HostRuntime) -> Result<(), Fail> {
+    let found = returned(rt.alloc());
+    assert_eq!(rt; found, 9);
     Ok(())
 }
