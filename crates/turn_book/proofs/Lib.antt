@@ -1,4 +1,5 @@
 pub mod Lists
+pub mod Shares
 pub mod Steps
 pub mod Uses
 pub mod Views

@@ -1,6 +1,5 @@
 -- Lists of which each element has a fact, sums over lists, and beginnings.
 use Rattle.std.proofs.Common.{◌≡◌, ◌≢◌, ℕ, zero, suc, ◌+◌, ◌<◌, ◌≤◌, Bool, true, false, true≢false, eqb, List, [], ◌∷◌, ◌++◌, map, length, set, drop, take, refl, sym, ap, ◌∙◌, subst, arith, append_assoc, eq-eqb, ne_eqb, filter, cond, append-nil, lt_of_not-le, All, slice_index_or}
-use Rattle.std.specs.List.{Any}
 use mathlib.Core.Logic.{dite}
 use native.Mathlib.Decide.{ℕ_discrete}
 use mathlib.Core.Option.{some, some-injective, some-ne-none}
@@ -97,13 +96,6 @@ module _ {A : Type 0} where
   Each-all P [] a k d lt = absurd (omega arith)
   Each-all P (x ∷ xs) a zero d lt = a.0
   Each-all P (x ∷ xs) a (suc k) d lt = Each-all P xs a.1 k d (omega arith)
-
-  -- a number that is counted is some element's
-  pub any_counted : {B : Type 0} (f : A → B) (g : B → ℕ) (n : ℕ) (xs : List A) → 1 ≤ total (λ y. either_of (eqb (g y) n)) (map f xs) → Any (λ x. g (f x) ≡ n) xs
-  any_counted f g n [] counted = absurd (omega arith)
-  any_counted f g n (x ∷ xs) counted = dite (ℕ_discrete (g (f x)) n)
-      (λ here. (0, x, omega arith, refl, here))
-      (λ other. let off = ap either_of (ne_eqb (g (f x)) n other) in let a = any_counted f g n xs (omega arith) in (suc a.0, a.1, omega (arith, a.2), a.3, a.4))
 
 module _ {A : Type 0} (g : A → ℕ) where
   -- how many elements have the number n

@@ -4,7 +4,7 @@ use mathlib.Core.Logic.{dite}
 use mathlib.Core.Option.{some, none, some-injective, some-ne-none}
 use native.Mathlib.Decide.{ℕ_discrete}
 use lib.ListN.{get_elem?}
-use Rattle.std.specs.List.{range_with_len, Any}
+use Rattle.std.specs.List.{range_with_len}
 use Rattle.atomic_table.specs.Table.{State, Me, Final, Seen}
 use Rattle.kad_base.specs.declared.serial.Made.{Made}
 use Rattle.kad_base.specs.Serial.{calls_of, left_by, IsRun}
@@ -14,7 +14,9 @@ use Rattle.turn_book.specs.Turns.{Origin, Holder, IsPrefix, mine, fresh, all_fre
 use Rattle.std.proofs.lemmas.List.FromFn.{length-map-range_with_len}
 use Rattle.std.proofs.lemmas.List.Elements.{All-map}
 use Rattle.turn_book.specs.Rule.{Each, total, either_of, has, part, view, roles_from, without_first, only_first, part_of, Kept, Knows}
-use Rattle.turn_book.proofs.Lists.{Each-weaker, Each-unmap, Each-all, total-at, total-two, any_counted, holds_every}
+use Rattle.turn_book.proofs.Lists.{Each-weaker, Each-unmap, Each-all, total-at, total-two, total-map, holds_every}
+use Rattle.turn_book.proofs.Shares.{holders, shares, all_mine}
+use Rattle.std.specs.List.Sorted.{IsPermutation}
 
 abbrev pub Stood : Type 0 → Type 0 → Type 0 → Type 0
 Stood S C R = Me S (View C R)
@@ -90,12 +92,15 @@ module _ {S C R : Type 0} (may : ℕ → C → Type 0) (move : S → ℕ → C �
       let held : left_by after t.start r.run ≡ state = some-injective _ _ same in
       let known = r.each_seat id (view (map part_of ps) false) at in
       let number : word ≡ 2 * length r.run = (let w = r.word in let e = at_first words word at_word in let same_words = ap (λ l. get_or l 0 0) f.2 in omega arith) in
+      let counted : (role : ℕ) → has role (view (map part_of ps) false) ≡ holders role ps = λ role. total-map (λ (p : Part C R). either_of (eqb p.role role)) part_of ps in
       let knows = Each-unmap _ part_of ps known.0 in record {
         run = r.run;
         legal = r.legal;
         left = sym held;
         told = (let m = number in omega arith);
         prefixes = Each-all _ ps (Each-weaker _ _ ps (λ p k. k.0) knows);
-        own = Each-all _ ps (Each-weaker _ _ ps (λ p k. sym k.1) knows);
-        others = Each-all _ r.run (Each-weaker _ _ r.run (λ e below. any_counted part_of (λ (p : Part C R). p.role) e.role ps (all_roles id ps s r at long e.role below)) r.below);
+        in_order = Each-all _ ps (Each-weaker _ _ ps (λ p k. sym k.1) knows);
+        each_once = subst (IsPermutation r.run) (all_mine r.run ps (Each-weaker _ _ ps (λ p k. k.1) knows))
+            (shares ps r.run (λ role. let a = r.apart role in let b = total-at (has role) s.views id (view (map part_of ps) false) at in let c = counted role in omega arith)
+            (Each-weaker _ _ r.run (λ e below. let a = all_roles id ps s r at long e.role below in let c = counted e.role in omega arith) r.below));
       }

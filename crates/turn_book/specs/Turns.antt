@@ -1,6 +1,7 @@
 -- What contracts see of a turn and of its passes, and what its calls promise.
 use Rattle.std.specs.Prelude.{◌≡◌, ℕ, List, [], ◌∷◌, ◌++◌, length, map}
-use Rattle.std.specs.List.{range_with_len, All, Any}
+use Rattle.std.specs.List.{range_with_len, flat_map, All}
+use Rattle.std.specs.List.Sorted.{IsPermutation}
 use Rattle.atomic_table.specs.Seated.{TableId}
 use Rattle.kad_base.specs.declared.serial.Made.{Made}
 use Rattle.kad_base.specs.Serial.{calls_of, left_by, IsRun}
@@ -50,12 +51,12 @@ module _ {C R : Type 0} where
 
 module _ {S C R : Type 0} (may : ℕ → C → Type 0) (step : S → ℕ → C → R → Type 0) (after : S → ℕ → C → R → S) where
   -- Herlihy and Wing (1990): one sequential run explains all calls. It leads from the opening state to the one handed
-  -- back, each pass has seen a beginning of it, and it has the calls of the passes' own roles, in order, and no others
+  -- back, each pass has seen a beginning of it, and it has the passes' own calls, each once and each pass's in order
   pub record Closed (turn : Origin S) (passes : List (Holder C R)) (state : S) (calls : ℕ) : Type 0 where
     pub run : List (Made C R)
     pub legal : IsRun may step after turn.start run
     pub left : state ≡ left_by after turn.start run
     pub told : calls ≡ length run
     pub prefixes : All (λ p. IsPrefix p.seen run) passes
-    pub own : All (λ p. calls_of p.role run ≡ mine p) passes
-    pub others : All (λ e. Any (λ p. p.role ≡ e.role) passes) run
+    pub in_order : All (λ p. calls_of p.role run ≡ mine p) passes
+    pub each_once : IsPermutation run (flat_map mine passes)
