@@ -1,9 +1,9 @@
 -- Each step at the table keeps the rule.
-use Rattle.std.proofs.Common.{◌≡◌, ◌≢◌, ◌⊎◌, ℕ, zero, suc, ◌+◌, ◌-◌, ◌*◌, ◌%◌, ◌^◌, ◌<◌, ◌≤◌, Bool, true, false, true≢false, eqb, List, [], ◌∷◌, ◌++◌, map, length, get_or, set, drop, take, Some, None, refl, sym, ap, ◌∙◌, subst, ⊎_elim, arith, lt_of_not-le, length-append, length-set, get_or-set_same, eq-eqb, ne_eqb}
+use Rattle.std.proofs.Common.{◌≡◌, ◌≢◌, ℕ, zero, suc, ◌+◌, ◌*◌, ◌%◌, ◌^◌, ◌<◌, ◌≤◌, Bool, true, false, true≢false, eqb, List, [], ◌∷◌, ◌++◌, map, length, get_or, set, drop, take, Some, refl, sym, ap, ◌∙◌, subst, ⊎_elim, arith, lt_of_not-le, length-append, length-set, get_or-set_same, eq-eqb, ne_eqb}
 use Rattle.std.proofs.lemmas.Bool.{eqb-false}
 use mathlib.Core.Logic.{dite}
 use mathlib.Core.Option.{some, none, some-injective, some-ne-none}
-use native.Mathlib.Decide.{ℕ_discrete, dec_lt}
+use native.Mathlib.Decide.{ℕ_discrete}
 use lib.ListN.{get_elem?}
 use lib.Seq.{set-get_or}
 use prog.Atomic.{either}
@@ -11,13 +11,13 @@ use Rattle.std.proofs.Math.Nat.{mod-eq_of_lt}
 use Rattle.atomic_table.specs.Table.{State, Me, step, keeps, takes as grab, gives as put, stepped, Allows, Splits, Joins, opening}
 use Rattle.atomic_table.proofs.Lists.{at_set, set_again, at_snoc, set_here, set_else, at_longer}
 use Rattle.kad_base.specs.declared.serial.Made.{Made}
-use Rattle.kad_base.specs.Serial.{made, calls_of, left_by, IsRun}
+use Rattle.kad_base.specs.Serial.{calls_of, left_by}
 use Rattle.kad_base.proofs.Runs.{left_by-append, IsRun-push}
 use Rattle.turn_book.specs.declared.board.Part.{Part}
 use Rattle.turn_book.specs.declared.board.View.{View}
 use Rattle.turn_book.specs.Turns.{IsPrefix}
-use Rattle.turn_book.specs.Rule.{Each, total, either_of, part, view, nobody, roles_from, newcomer, without_first, only_first, joined, has, shown, pushed, Knows, Kept, Taken, Gave}
-use Rattle.turn_book.proofs.Lists.{Each-append, Each-weaker, Each-both, Each-map, Each-drop, Each-take, total-append, total-set, total-at, total-two, total-map, IsPrefix-push, IsPrefix-refl, none_of, calls_of-other, calls_of-same}
+use Rattle.turn_book.specs.Rule.{Each, total, either_of, part, view, nobody, roles_from, newcomer, without_first, only_first, joined, has, shown, Knows, Kept, Taken, Gave}
+use Rattle.turn_book.proofs.Lists.{Each-append, Each-both, Each-drop, Each-take, total-append, total-set, total-at, total-two, total-map, IsPrefix-push, IsPrefix-refl, none_of, calls_of-other}
 
 module _ {C R : Type 0} where
   -- what holds of each view holds still, once that of one seat has changed

@@ -1,16 +1,16 @@
 -- What a call's steps come to together.
-use Rattle.std.proofs.Common.{◌≡◌, ◌≢◌, ℕ, ◌+◌, ◌*◌, ◌%◌, ◌^◌, ◌<◌, ◌≤◌, Bool, true, false, List, [], ◌∷◌, ◌++◌, map, length, Some, None, Option, refl, sym, ap, ◌∙◌, subst, arith, eq-eqb, eqb, IfSome}
+use Rattle.std.proofs.Common.{◌≡◌, ℕ, ◌+◌, ◌*◌, ◌%◌, ◌^◌, ◌<◌, ◌≤◌, false, List, [], ◌∷◌, ◌++◌, length, Some, Option, refl, sym, ap, ◌∙◌, subst, arith, eq-eqb, eqb, IfSome}
 use prog.Atomic.{either}
-use mathlib.Core.Option.{some, none}
-use Rattle.atomic_table.specs.Table.{State, Me, step, Allows, rest}
+use mathlib.Core.Option.{none}
+use Rattle.atomic_table.specs.Table.{Me, step, Allows, rest}
 use Rattle.kad_base.specs.declared.serial.Made.{Made}
-use Rattle.kad_base.specs.Serial.{made, calls_of, left_by, IsRun}
-use Rattle.kad_base.proofs.Runs.{left_by-append, IsRun-push}
+use Rattle.kad_base.specs.Serial.{made, calls_of, left_by}
+use Rattle.kad_base.proofs.Runs.{IsRun-push}
 use Rattle.turn_book.specs.declared.board.View.{View}
 use Rattle.turn_book.specs.Turns.{IsPrefix}
-use Rattle.turn_book.specs.Rule.{either_of, has, part, view, Kept, Took, Taken, Gave, seen_in, seen_by, IsIdle, HasSlot, IsBusy, IsReady, Called}
+use Rattle.turn_book.specs.Rule.{either_of, has, part, view, Kept, Took, Taken, Gave, seen_in, seen_by, IsIdle, IsBusy, IsReady, Called}
 use Rattle.turn_book.proofs.Lists.{calls_of-same}
-use Rattle.turn_book.proofs.Steps.{busy_view, gives, takes}
+use Rattle.turn_book.proofs.Steps.{gives, takes}
 
 module _ {S C R : Type 0} where
   pub has_own : (role : ℕ) (m m' : Me S (View C R)) → IsIdle role m → m' ≡ m → 1 ≤ has role m'.0

@@ -1,19 +1,18 @@
 -- Views that are dealt out, put together again, and read at the end.
-use Rattle.std.proofs.Common.{◌≡◌, ◌≢◌, ◌⊎◌, ℕ, zero, suc, ◌+◌, ◌-◌, ◌*◌, ◌/◌, ◌<◌, ◌≤◌, Bool, true, false, true≢false, eqb, List, [], ◌∷◌, ◌++◌, map, length, get_or, refl, sym, ap, ◌∙◌, subst, arith, lt_of_not-le, eq-eqb, ne_eqb, length-append, All, slice_index_or}
+use Rattle.std.proofs.Common.{◌≡◌, ℕ, suc, ◌+◌, ◌-◌, ◌*◌, ◌/◌, ◌<◌, ◌≤◌, false, true≢false, eqb, List, [], ◌∷◌, ◌++◌, map, length, get_or, refl, sym, ap, ◌∙◌, subst, arith, lt_of_not-le}
 use mathlib.Core.Logic.{dite}
-use mathlib.Core.Option.{some, none, some-injective, some-ne-none}
+use mathlib.Core.Option.{some, some-injective, some-ne-none}
 use native.Mathlib.Decide.{ℕ_discrete}
 use lib.ListN.{get_elem?}
 use Rattle.std.specs.List.{range_with_len}
 use Rattle.atomic_table.specs.Table.{State, Me, Final, Seen}
-use Rattle.kad_base.specs.declared.serial.Made.{Made}
-use Rattle.kad_base.specs.Serial.{calls_of, left_by, IsRun}
+use Rattle.kad_base.specs.Serial.{left_by}
 use Rattle.turn_book.specs.declared.board.Part.{Part}
 use Rattle.turn_book.specs.declared.board.View.{View}
-use Rattle.turn_book.specs.Turns.{Origin, Holder, IsPrefix, mine, fresh, all_fresh, AreAll, Closed}
+use Rattle.turn_book.specs.Turns.{Origin, Holder, fresh, all_fresh, AreAll, Closed}
 use Rattle.std.proofs.lemmas.List.FromFn.{length-map-range_with_len}
 use Rattle.std.proofs.lemmas.List.Elements.{All-map}
-use Rattle.turn_book.specs.Rule.{Each, total, either_of, has, part, view, roles_from, without_first, only_first, part_of, Kept, Knows}
+use Rattle.turn_book.specs.Rule.{either_of, has, part, view, roles_from, without_first, only_first, part_of, Kept}
 use Rattle.turn_book.proofs.Lists.{Each-weaker, Each-unmap, Each-all, total-at, total-two, total-map, holds_every}
 use Rattle.turn_book.proofs.Shares.{holders, shares, all_mine}
 use Rattle.std.specs.List.Sorted.{IsPermutation}

@@ -1,13 +1,13 @@
 -- The rule of a turn, and what each step tells.
 -- The word is twice the length of the run, and one more while a seat has the slot.
-use Rattle.std.specs.Prelude.{◌≡◌, ◌≢◌, ℕ, zero, suc, ◌+◌, ◌-◌, ◌*◌, ◌<◌, ◌≤◌, ◌==◌, Bool, true, false, List, [], ◌∷◌, ◌++◌, map, length, slice_index, drop, take, Option, Some, None, cond, IfSome}
+use Rattle.std.specs.Prelude.{◌≡◌, ◌≢◌, ℕ, zero, suc, ◌+◌, ◌*◌, ◌<◌, ◌≤◌, ◌==◌, Bool, true, false, List, [], ◌∷◌, ◌++◌, map, length, slice_index, drop, take, Option, Some, None, IfSome}
 use mathlib.Core.Option.{some, none}
 use lib.ListN.{get_elem?}
 use Rattle.atomic_table.specs.Table.{State, Me, Step}
 use Rattle.kad_base.specs.declared.serial.Made.{Made}
 use Rattle.kad_base.specs.Serial.{made, calls_of, left_by, IsRun}
 use Rattle.atomic_table.specs.Seated.{TableId}
-use Rattle.turn_book.specs.Turns.{Origin, Holder, IsPrefix, GoesOnTo}
+use Rattle.turn_book.specs.Turns.{Origin, Holder, IsPrefix}
 use Rattle.turn_book.specs.declared.board.Opening.{Opening}
 use Rattle.turn_book.specs.declared.board.Part.{Part}
 use Rattle.turn_book.specs.declared.board.View.{View}

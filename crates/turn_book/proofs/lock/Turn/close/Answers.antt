@@ -1,5 +1,5 @@
 use Rattle.std.proofs.Common.{◌∙◌, map, false, []}
-use Rattle.turn_book.specs.Turns.{Origin, AreAll, Closed}
+use Rattle.turn_book.specs.Turns.{Origin, AreAll}
 use Rattle.turn_book.specs.Rule.{view, part_of, origin_of}
 use Rattle.turn_book.proofs.Views.{ends}
 use Rattle.turn_book.proofs.lock.Turn.close.Goals as goal
