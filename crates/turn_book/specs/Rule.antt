@@ -1,4 +1,4 @@
--- The rule of a turn, and what each step tells.
+-- The rule of a turn, and what each step tells. The rule is this project's own.
 -- The word is twice the length of the run, and one more while a seat has the slot.
 use Rattle.std.specs.Prelude.{◌≡◌, ◌≢◌, ℕ, zero, suc, ◌+◌, ◌*◌, ◌<◌, ◌≤◌, ◌==◌, Bool, true, false, List, [], ◌∷◌, ◌++◌, map, length, slice_index, drop, take, Option, Some, None, IfSome}
 use mathlib.Core.Option.{some, none}
@@ -12,41 +12,51 @@ use Rattle.turn_book.specs.declared.board.Opening.{Opening}
 use Rattle.turn_book.specs.declared.board.Part.{Part}
 use Rattle.turn_book.specs.declared.board.View.{View}
 
+-- each element has the fact
 abbrev pub Each : {A : Type 0} → (A → Type 0) → List A → Type 0
 Each P [] = Unit {0}
 Each P (x ∷ xs) = P x × Each P xs
 
+-- the sum of a number of each element
 abbrev pub total : {A : Type 0} → (A → ℕ) → List A → ℕ
 total f [] = 0
 total f (x ∷ xs) = f x + total f xs
 
+-- 1 for true, and 0 for false
 abbrev pub either_of : Bool → ℕ
 either_of true = 1
 either_of false = 0
 
 module _ {C R : Type 0} where
+  -- a role, and what its holder has seen of the run
   abbrev pub part : ℕ → List (Made C R) → Part C R
   part role seen = record { role = role; seen = seen }
 
+  -- what a seat knows: its parts, and whether it has the slot
   abbrev pub view : List (Part C R) → Bool → View C R
   view parts marked = record { parts = parts; marked = marked }
 
+  -- a seat that has no role
   abbrev pub nobody : View C R
   nobody = view [] false
 
+  -- n roles from k on, of which nothing was seen
   abbrev pub roles_from : ℕ → ℕ → List (Part C R)
   roles_from k zero = []
   roles_from k (suc n) = part k [] ∷ roles_from (k + 1) n
 
+  -- the first seat, which has all roles
   abbrev pub newcomer : ℕ → View C R
   newcomer n = view (roles_from 0 n) false
 
+  -- a view is cut in two: what is left, and the first part
   abbrev pub without_first : View C R → View C R
   without_first v = view (drop 1 v.parts) v.marked
 
   abbrev pub only_first : View C R → View C R
   only_first v = view (take 1 v.parts) false
 
+  -- the parts of two seats in one
   abbrev pub joined : View C R → View C R → View C R
   joined v w = view (v.parts ++ w.parts) false
 
@@ -62,12 +72,16 @@ module _ {C R : Type 0} where
   abbrev pub pushed : Made C R → Part C R → Part C R
   pushed e p = part p.role (p.seen ++ e ∷ [])
 
+  -- what seat j knows: each part is a beginning of the run that has all its role's calls, and the marked seat has the
+  -- slot and has seen the whole run
   abbrev pub Knows : List (Made C R) → ℕ → ℕ → ℕ → View C R → Type 0
   Knows run busy holder j v =
       Each (λ p. IsPrefix p.seen run × (calls_of p.role p.seen ≡ calls_of p.role run)) v.parts
       × (v.marked ≡ true → (busy ≡ 1) × (j ≡ holder) × Each (λ p. p.seen ≡ run) v.parts)
 
 module _ {S C R : Type 0} (may : ℕ → C → Type 0) (step : S → ℕ → C → R → Type 0) (after : S → ℕ → C → R → S) where
+  -- the rule: there is a run, whose length the word tells. The slot is at home with the state that the run leaves, or out
+  -- with the one marked seat; no two seats have one role
   pub record Kept (start : S) (n : ℕ) (s : State S (View C R)) : Type 0 where
     pub run : List (Made C R)
     pub busy : ℕ
@@ -84,6 +98,7 @@ module _ {S C R : Type 0} (may : ℕ → C → Type 0) (step : S → ℕ → C �
     pub out : busy ≡ 1 → s.homes ≡ none ∷ []
     pub owner : busy ≡ 1 → (v : View C R) × (get_elem? s.views holder ≡ some v) × (v.marked ≡ true) × ((r : ℕ) × (1 ≤ has r v))
 
+  -- a seat: its view, and the slots that it has
   abbrev Sat : Type 0
   Sat = Me S (View C R)
 
@@ -104,6 +119,7 @@ module _ {C R : Type 0} where
   added None ps = ps
   added (Some e) ps = map (pushed e) ps
 
+  -- what the first part has seen
   abbrev pub seen_in : List (Part C R) → List (Made C R)
   seen_in [] = []
   seen_in (p ∷ ps) = p.seen

@@ -25,6 +25,7 @@ pub struct View<C, R> {
     pub marked: bool,
 }
 
+/// The rule of a turn's table: all calls stand in one run.
 pub struct InOneRun<S> {
     object: PhantomData<S>,
 }
@@ -50,6 +51,7 @@ impl<S> Opened<S> for Brand {
     ghost start = { None };
 }
 
+/// The step that takes the slot, and tells the run so far.
 pub struct Take<S, J> {
     object: PhantomData<(S, J)>,
 }
@@ -74,6 +76,7 @@ impl<C, R> Noted<C, R> for Brand {
     ghost made = { None };
 }
 
+/// The step that gives the slot back, and adds the call to the run.
 pub struct Give<S, J> {
     object: PhantomData<(S, J)>,
 }
@@ -84,6 +87,7 @@ impl<S: Serial, J: Noted<S::Call, S::Reply>> Play<S, View<S::Call, S::Reply>> fo
     ghost then = { Gave J.made };
 }
 
+/// How the first seat is cut into one for each role, and how they are put together at the end.
 pub struct Deal;
 
 impl<C, R> Split<View<C, R>> for Deal {
@@ -102,6 +106,7 @@ impl<C, R> Join<View<C, R>> for Deal {
     ghost spent = { nobody };
 }
 
+/// The table of a turn: one word and one slot.
 pub type Board<S> = Table<
     S,
     View<<S as Serial>::Call, <S as Serial>::Reply>,
@@ -110,4 +115,5 @@ pub type Board<S> = Table<
     Global,
 >;
 
+/// A seat at it.
 pub type Stand<S> = Seat<S, View<<S as Serial>::Call, <S as Serial>::Reply>>;

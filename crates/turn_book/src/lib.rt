@@ -18,4 +18,3 @@ mod threads;
 
 pub use lock::{Told, Turn, TurnNoMemory};
 pub use row::{Pass, Passes};
-pub use threads::{sent_pass, sent_turn};

@@ -80,11 +80,12 @@ impl<S: Serial> Turn<S> {
     pub fn call<R: Wait>(&self, rt: &R, pass: &mut Pass<S>, call: S::Call) -> S::Reply
         requires pass { pass.old.turn ≡ self.now.id }
         requires may { S.may pass.old.role call }
-        ensures pass { (pass.new.turn ≡ pass.old.turn) × (pass.new.role ≡ pass.old.role) }
+        ensures turn { pass.new.turn ≡ pass.old.turn }
+        ensures role { pass.new.role ≡ pass.old.role }
         ensures run { IsRun S.may S.step S.after self.now.start pass.new.seen }
         ensures seen { GoesOnTo (made pass.old.role call result) pass.old.seen pass.new.seen }
         ensures mine { mine pass.new ≡ mine pass.old ++ made pass.old.role call result ∷ [] }
-        ensures few { length pass.new.seen ≤ 2 ^ 62 }
+        ensures bound { length pass.new.seen ≤ 2 ^ 62 }
     {
         pass.call_at(rt, &self.board, call)
     }

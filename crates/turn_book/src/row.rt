@@ -50,11 +50,12 @@ impl<S: Serial> Pass<S> {
         requires board { IsBoard board.now.shared.table_id board.now.shared.key.roles }
         requires own { self.old.turn ≡ board.now.shared.table_id }
         requires may { S.may self.old.role call }
-        ensures same { (self.new.turn ≡ self.old.turn) × (self.new.role ≡ self.old.role) }
+        ensures turn { self.new.turn ≡ self.old.turn }
+        ensures role { self.new.role ≡ self.old.role }
         ensures run { IsRun S.may S.step S.after board.now.shared.key.state.value self.new.seen }
         ensures seen { GoesOnTo (made self.old.role call result) self.old.seen self.new.seen }
         ensures mine { mine self.new ≡ mine self.old ++ made self.old.role call result ∷ [] }
-        ensures few { length self.new.seen ≤ 2 ^ 62 }
+        ensures bound { length self.new.seen ≤ 2 ^ 62 }
     {
         let role = self.role;
         calls::call_at(rt, board, &mut self.seat, role, call)

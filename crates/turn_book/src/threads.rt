@@ -1,4 +1,5 @@
-//! A turn may be shared between threads, and it and its passes sent to another, where its object may be sent.
+//! Where the object may be sent to another thread, so may its turn and its passes, and the turn may be shared: these
+//! functions do nothing, and are checked as proof of it.
 ghost use Rattle.std.specs.Prelude.{◌≡◌};
 
 use crate::lock::Turn;
@@ -18,7 +19,7 @@ fn shared<T: Sync>(thing: &T) -> &T
 }
 
 /// The turn, from whichever thread.
-pub fn sent_turn<S: Serial + Send>(turn: Turn<S>) -> Turn<S>
+pub(crate) fn sent_turn<S: Serial + Send>(turn: Turn<S>) -> Turn<S>
     ensures { result ≡ turn }
 {
     shared(&turn);
@@ -26,7 +27,7 @@ pub fn sent_turn<S: Serial + Send>(turn: Turn<S>) -> Turn<S>
 }
 
 /// The pass, from whichever thread.
-pub fn sent_pass<S: Serial + Send>(pass: Pass<S>) -> Pass<S>
+pub(crate) fn sent_pass<S: Serial + Send>(pass: Pass<S>) -> Pass<S>
     ensures { result ≡ pass }
 {
     sent(pass)
