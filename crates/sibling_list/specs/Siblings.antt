@@ -1,6 +1,6 @@
 -- The siblings of a node: the contacts closest to its own identifier (S/Kademlia, 2007, section 4.3; the number is this
 -- project's own).
-use Rattle.std.specs.Prelude.{◌≡◌, ◌≢◌, ℕ, ◌≤◌, List, ◌∷◌, [], ◌++◌, take, filter, length, not, cond, ◌||◌}
+use Rattle.std.specs.Prelude.{◌≢◌, ◌≤◌, List, ◌∷◌, [], ◌++◌, filter, length, not, cond}
 use Rattle.std.specs.List.{All}
 use Rattle.std.specs.List.Sorted.{IsStrictlySortedBy}
 use Rattle.std.specs.Str.{bytes_eq}

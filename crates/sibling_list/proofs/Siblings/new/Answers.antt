@@ -1,4 +1,3 @@
-use Rattle.std.proofs.Common.{◌≤◌, ℕ, sym, subst, arith}
 use Rattle.sibling_list.proofs.Listing.{none_yet}
 use Rattle.sibling_list.proofs.Siblings.new.Goals as goal
 
