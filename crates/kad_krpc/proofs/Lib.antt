@@ -1,4 +1,3 @@
-pub mod Numerals
-pub mod Records
-pub mod Unread
-pub mod Once
+pub mod Dictionaries
+pub mod Lists
+pub mod Steps

@@ -1,2 +1,3 @@
+pub mod Records
+pub mod Reading
 pub mod Form
-pub mod Plain
