@@ -1,3 +1,4 @@
 pub mod Dictionaries
 pub mod Lists
 pub mod Steps
+pub mod Decoding

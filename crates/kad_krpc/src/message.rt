@@ -14,9 +14,16 @@ pub enum Message {
         ask: Ask,
     },
     /// `d1:r` the answer `1:t` the transaction id `1:y1:re`.
-    Answer { tx: Bytes, answer: Answer },
+    Answer {
+        tx: Bytes,
+        answer: Answer,
+    },
     /// `d1:el` the code and the text `e1:t` the transaction id `1:y1:ee`.
-    Fault { tx: Bytes, code: i64, text: Bytes },
+    Fault {
+        tx: Bytes,
+        code: i64,
+        text: Bytes,
+    },
 }
 
 /// What a query asks, with its arguments. `id` is who asks.

@@ -2,7 +2,7 @@
 ghost use Rattle.std.specs.Prelude.{◌≡◌, option_copied, IfOk, Ok, Err};
 ghost use Rattle.kad_krpc.specs.declared.message.Message.{Message};
 ghost use Rattle.kad_krpc.specs.declared.message.KrpcFault.{KrpcFault};
-ghost use Rattle.kad_krpc.specs.Reading.{Says, Refuses, Gives, IfRefused, said, query_by, query_at, answer_message_at, fault_at};
+ghost use Rattle.kad_krpc.specs.Reading.{Says, Refuses, Gives, IfRefused, unspelled, said, query_by, query_at, answer_message_at, fault_at};
 
 use crate::answer::read_answer;
 use crate::ask::{read_ask, read_only};
@@ -64,6 +64,16 @@ fn read_value(alloc: Global, value: Value) -> Result<Message, KrpcFault>
     }
 }
 
+/// The refusal of a datagram that is not one value of bencode.
+fn unspelled(fault: BenFault) -> KrpcFault
+    ensures { result ≡ unspelled fault }
+{
+    match fault {
+        BenFault::Bad(bad) => KrpcFault::Bad(bad),
+        BenFault::NoMemory => KrpcFault::NoMemory,
+    }
+}
+
 /// Reads a datagram of any length: what it says, or the first step of the reading that fails. Keys that BEP 5 and BEP 43
 /// don't name are passed over. Each string is copied once, and the memory taken is in proportion to the datagram.
 pub fn decode(alloc: Global, bytes: &[u8]) -> Result<Message, KrpcFault>
@@ -76,7 +86,6 @@ pub fn decode(alloc: Global, bytes: &[u8]) -> Result<Message, KrpcFault>
 {
     match read(alloc, bytes) {
         Ok(value) => read_value(alloc, value),
-        Err(BenFault::Bad(bad)) => Err(KrpcFault::Bad(bad)),
-        Err(BenFault::NoMemory) => Err(KrpcFault::NoMemory),
+        Err(fault) => Err(unspelled(fault)),
     }
 }
