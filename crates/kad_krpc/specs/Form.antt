@@ -11,8 +11,7 @@ use Rattle.kad_base.specs.declared.plain.Report.{Report}
 use Rattle.kad_bencode.specs.Spelling.{text_of}
 use Rattle.kad_bencode.specs.declared.entries.Pair.{Pair}
 use Rattle.kad_bencode.specs.declared.value.Value.{Value}
-use Rattle.kad_bencode.specs.declared.value.Value.TheOpen as layer
-use Rattle.kad_bencode.specs.declared.value.Value.TheViews.{roll-Value}
+use Rattle.kad_bencode.specs.declared.value.Value.TheVariants.{Int, Text, List as Values, Dict}
 use Rattle.kad_krpc.specs.declared.message.Message.{Message}
 use Rattle.kad_krpc.specs.declared.message.Message.TheVariants as message
 use Rattle.kad_krpc.specs.declared.message.Ask.{Ask}
@@ -22,19 +21,7 @@ use Rattle.kad_krpc.specs.declared.message.Port.TheVariants.{Given, Implied}
 use Rattle.kad_krpc.specs.declared.message.Answer.{Answer}
 use Rattle.kad_krpc.specs.Records.{addr_bytes, nodes_bytes, snodes_bytes}
 
--- ---- values
-
-abbrev pub int : ℤ → Value
-int n = roll-Value (layer.Int n)
-
-abbrev pub text : List ℕ → Value
-text bytes = roll-Value (layer.Text bytes)
-
-abbrev pub list : List Value → Value
-list values = roll-Value (layer.List values)
-
-abbrev pub dict : List (Pair Value) → Value
-dict pairs = roll-Value (layer.Dict pairs)
+-- ---- parts
 
 -- a key with its value, and with nothing where the value is missing
 abbrev pub pair : List ℕ → Value → List (Pair Value)
@@ -47,55 +34,75 @@ maybe key form (Some x) = pair key (form x)
 -- ---- messages
 
 -- an implied port is written as 1, beside `implied_port`
-abbrev pub announced : Id → Id → Port → List ℕ → Value
+abbrev pub announced : Id → Id → Port → List ℕ → List (Pair Value)
 announced id info_hash (Given port) token =
-    dict (pair (codes "id") (text id.0) ++ (pair (codes "info_hash") (text info_hash.0) ++ (pair (codes "port") (int (pos port)) ++ pair (codes "token") (text token))))
+    pair (codes "id") (Text id.0)
+    ++ pair (codes "info_hash") (Text info_hash.0)
+    ++ pair (codes "port") (Int (pos port))
+    ++ pair (codes "token") (Text token)
 announced id info_hash Implied token =
-    dict (pair (codes "id") (text id.0) ++ (pair (codes "implied_port") (int (pos 1)) ++ (pair (codes "info_hash") (text info_hash.0) ++ (pair (codes "port") (int (pos 1)) ++ pair (codes "token") (text token)))))
+    pair (codes "id") (Text id.0)
+    ++ pair (codes "implied_port") (Int (pos 1))
+    ++ pair (codes "info_hash") (Text info_hash.0)
+    ++ pair (codes "port") (Int (pos 1))
+    ++ pair (codes "token") (Text token)
 
 -- the arguments of a query; those of a method that isn't known are none
-abbrev pub arguments_of : Ask → Value
-arguments_of (Ping id) = dict (pair (codes "id") (text id.0))
-arguments_of (FindNode id target) = dict (pair (codes "id") (text id.0) ++ pair (codes "target") (text target.0))
-arguments_of (GetPeers id info_hash) = dict (pair (codes "id") (text id.0) ++ pair (codes "info_hash") (text info_hash.0))
+abbrev pub arguments_of : Ask → List (Pair Value)
+arguments_of (Ping id) = pair (codes "id") (Text id.0)
+arguments_of (FindNode id target) = pair (codes "id") (Text id.0) ++ pair (codes "target") (Text target.0)
+arguments_of (GetPeers id info_hash) = pair (codes "id") (Text id.0) ++ pair (codes "info_hash") (Text info_hash.0)
 arguments_of (AnnouncePeer id info_hash port token) = announced id info_hash port token
-arguments_of (Other method) = dict []
+arguments_of (Other method) = []
 
-abbrev pub method_of : Ask → List ℕ
-method_of (Ping id) = codes "ping"
-method_of (FindNode id target) = codes "find_node"
-method_of (GetPeers id info_hash) = codes "get_peers"
-method_of (AnnouncePeer id info_hash port token) = codes "announce_peer"
-method_of (Other method) = method
+abbrev pub name_of : Ask → List ℕ
+name_of (Ping id) = codes "ping"
+name_of (FindNode id target) = codes "find_node"
+name_of (GetPeers id info_hash) = codes "get_peers"
+name_of (AnnouncePeer id info_hash port token) = codes "announce_peer"
+name_of (Other method) = method
 
 abbrev pub read_only_pair : Bool → List (Pair Value)
-read_only_pair true = pair (codes "ro") (int (pos 1))
+read_only_pair true = pair (codes "ro") (Int (pos 1))
 read_only_pair false = []
 
-abbrev pub answer_value : Answer → Value
-answer_value answer =
-    dict (pair (codes "id") (text answer.id.0)
-    ++ (maybe (codes "nodes") (λ nodes. text (nodes_bytes nodes)) answer.nodes
-    ++ (maybe (codes "snodes") (λ snodes. text (snodes_bytes snodes)) answer.snodes
-    ++ (maybe (codes "token") text answer.token
-    ++ maybe (codes "values") (λ values. list (map (λ peer. text (addr_bytes peer)) values)) answer.values))))
+abbrev pub nodes_value : List Contact → Value
+nodes_value nodes = Text (nodes_bytes nodes)
 
--- the value whose text is the message
-abbrev pub value_form : Message → Value
-value_form (message.Query tx read_only ask) =
-    dict (pair (codes "a") (arguments_of ask)
-    ++ (pair (codes "q") (text (method_of ask))
-    ++ (read_only_pair read_only
-    ++ (pair (codes "t") (text tx)
-    ++ pair (codes "y") (text (codes "q"))))))
-value_form (message.Answer tx answer) =
-    dict (pair (codes "r") (answer_value answer) ++ (pair (codes "t") (text tx) ++ pair (codes "y") (text (codes "r"))))
-value_form (message.Fault tx code said) =
-    dict (pair (codes "e") (list (int code ∷ text said ∷ [])) ++ (pair (codes "t") (text tx) ++ pair (codes "y") (text (codes "e"))))
+abbrev pub snodes_value : List Report → Value
+snodes_value snodes = Text (snodes_bytes snodes)
+
+abbrev pub peers_value : List Addr → Value
+peers_value peers = Values (map (λ peer. Text (addr_bytes peer)) peers)
+
+abbrev pub answer_pairs : Answer → List (Pair Value)
+answer_pairs answer =
+    pair (codes "id") (Text answer.id.0)
+    ++ maybe (codes "nodes") nodes_value answer.nodes
+    ++ maybe (codes "snodes") snodes_value answer.snodes
+    ++ maybe (codes "token") Text answer.token
+    ++ maybe (codes "values") peers_value answer.values
+
+-- the pairs of the message's dictionary
+abbrev pub message_pairs : Message → List (Pair Value)
+message_pairs (message.Query tx read_only ask) =
+    pair (codes "a") (Dict (arguments_of ask))
+    ++ pair (codes "q") (Text (name_of ask))
+    ++ read_only_pair read_only
+    ++ pair (codes "t") (Text tx)
+    ++ pair (codes "y") (Text (codes "q"))
+message_pairs (message.Answer tx answer) =
+    pair (codes "r") (Dict (answer_pairs answer))
+    ++ pair (codes "t") (Text tx)
+    ++ pair (codes "y") (Text (codes "r"))
+message_pairs (message.Fault tx code said) =
+    pair (codes "e") (Values (Int code ∷ Text said ∷ []))
+    ++ pair (codes "t") (Text tx)
+    ++ pair (codes "y") (Text (codes "e"))
 
 -- the written form
 unfoldable pub form : Message → List ℕ
-form m = text_of (value_form m)
+form m = text_of (Dict (message_pairs m))
 
 -- ---- which messages have one
 
