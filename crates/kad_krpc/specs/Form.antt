@@ -159,3 +159,8 @@ IsWritable (message.Fault tx code text) = Unit {0}
 unfoldable pub find_node_form : List ℕ → List ℕ → List ℕ → List ℕ
 find_node_form own target tx =
     codes "d1:ad2:id20:" ++ own ++ codes "6:target20:" ++ target ++ codes "e1:q9:find_node2:roi1e1:t4:" ++ tx ++ codes "1:y1:qe"
+
+-- the read-only get_peers query under a transaction id
+unfoldable pub get_peers_form : List ℕ → List ℕ → List ℕ → List ℕ
+get_peers_form own info_hash tx =
+    codes "d1:ad2:id20:" ++ own ++ codes "9:info_hash20:" ++ info_hash ++ codes "e1:q9:get_peers2:roi1e1:t4:" ++ tx ++ codes "1:y1:qe"

@@ -12,7 +12,10 @@ mod step;
 mod writer;
 
 pub use message::{Answer, Ask, Key, KrpcFault, Message, Port};
-pub use query::find_node_into;
+pub use query::{find_node_into, get_peers_into};
 pub use reader::decode;
 pub use record::split_record;
 pub use writer::encode;
+
+#[cfg(test)]
+mod tests;
