@@ -13,7 +13,7 @@ use Rattle.kad_krpc.specs.Form.{pair, maybe, nodes_value, snodes_value, peers_va
 use Rattle.kad_krpc.specs.Filing.{put_maybe}
 
 -- each key is below this one
-abbrev Below : List ℕ → List (Pair Value) → Type 0
+abbrev pub Below : List ℕ → List (Pair Value) → Type 0
 Below key ps = AllByRecursion (λ p. key_cmp key p.key ≡ Greater) ps
 
 put_last : (ps : List (Pair Value)) (key : List ℕ) (v : Value) → Below key ps → put ps key v ≡ ps ++ pair key v
@@ -22,7 +22,7 @@ put_last (p ∷ ps) key v b =
     ap (λ o. match_ordering o (record { key = key; value = v } ∷ p ∷ ps) (record { key = key; value = v } ∷ ps) (p ∷ put ps key v)) b.0
     ∙ ap (λ l. p ∷ l) (put_last ps key v b.1)
 
-maybe_last : {A : Type 0} (ps : List (Pair Value)) (key : List ℕ) (form : A → Value) (o : Option A) → Below key ps → put_maybe ps key form o ≡ ps ++ maybe key form o
+pub maybe_last : {A : Type 0} (ps : List (Pair Value)) (key : List ℕ) (form : A → Value) (o : Option A) → Below key ps → put_maybe ps key form o ≡ ps ++ maybe key form o
 maybe_last ps key form None b = sym (append-nil ps)
 maybe_last ps key form (Some x) b = put_last ps key (form x) b
 
@@ -35,25 +35,25 @@ below_maybe key other form None e = tt
 below_maybe key other form (Some x) e = (e, tt)
 
 module _ (a : Answer) where
-  abbrev one : List (Pair Value)
+  abbrev pub one : List (Pair Value)
   one = pair (codes "id") (Text a.id.0)
 
-  abbrev two : List (Pair Value)
+  abbrev pub two : List (Pair Value)
   two = one ++ maybe (codes "nodes") nodes_value a.nodes
 
-  abbrev three : List (Pair Value)
+  abbrev pub three : List (Pair Value)
   three = two ++ maybe (codes "snodes") snodes_value a.snodes
 
-  abbrev four : List (Pair Value)
+  abbrev pub four : List (Pair Value)
   four = three ++ maybe (codes "token") Text a.token
 
-  below_two : (key : List ℕ) → key_cmp key (codes "id") ≡ Greater → key_cmp key (codes "nodes") ≡ Greater → Below key two
+  pub below_two : (key : List ℕ) → key_cmp key (codes "id") ≡ Greater → key_cmp key (codes "nodes") ≡ Greater → Below key two
   below_two key i n = below_more key one (maybe (codes "nodes") nodes_value a.nodes) (i, tt) (below_maybe key (codes "nodes") nodes_value a.nodes n)
 
-  below_three : (key : List ℕ) → key_cmp key (codes "id") ≡ Greater → key_cmp key (codes "nodes") ≡ Greater → key_cmp key (codes "snodes") ≡ Greater → Below key three
+  pub below_three : (key : List ℕ) → key_cmp key (codes "id") ≡ Greater → key_cmp key (codes "nodes") ≡ Greater → key_cmp key (codes "snodes") ≡ Greater → Below key three
   below_three key i n s = below_more key two (maybe (codes "snodes") snodes_value a.snodes) (below_two key i n) (below_maybe key (codes "snodes") snodes_value a.snodes s)
 
-  below_four : Below (codes "values") four
+  pub below_four : Below (codes "values") four
   below_four = below_more (codes "values") three (maybe (codes "token") Text a.token) (below_three (codes "values") refl refl refl) (below_maybe (codes "values") (codes "token") Text a.token refl)
 
   pub answer_filed : (r0 r1 r2 r3 r4 : List (Pair Value)) → r0 ≡ put [] (codes "id") (Text a.id.0) → r1 ≡ put_maybe r0 (codes "nodes") nodes_value a.nodes → r2 ≡ put_maybe r1 (codes "snodes") snodes_value a.snodes → r3 ≡ put_maybe r2 (codes "token") Text a.token → r4 ≡ put_maybe r3 (codes "values") peers_value a.values → r4 ≡ answer_pairs a

@@ -4,3 +4,6 @@ pub mod Steps
 pub mod Decoding
 pub mod Filed
 pub mod Shallow
+pub mod Cut
+pub mod Spelled
+pub mod ReadBack

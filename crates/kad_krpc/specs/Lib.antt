@@ -2,3 +2,4 @@ pub mod Records
 pub mod Reading
 pub mod Form
 pub mod Filing
+pub mod Well

@@ -1,10 +1,11 @@
 //! The examples of BEP 5 both ways, this project's own keys, and refusals with their keys.
-ghost use Rattle.std.specs.Prelude.{◌≡◌, None};
-ghost use Rattle.kad_krpc.specs.Form.{IsWritable};
+ghost use Rattle.std.specs.Prelude.{◌≡◌, ◌∷◌, [], None, IfOk};
+ghost use Rattle.std.specs.List.{AllByRecursion};
+ghost use Rattle.kad_krpc.specs.Form.{IsV4, IsProved, IsWritable};
 
 use crate::message::{Answer, Ask, Key, KrpcFault, Message, Port};
 use crate::{decode, encode, find_node_into, get_peers_into, split_record};
-use kad_base::{Addr, Bytes, Contact, Id, Ip, List, Proof, Report};
+use kad_base::{Addr, Addrs, Bytes, Contact, Id, Ip, List, Proof, Report, Reports};
 use kad_bencode::Bad;
 use std::alloc::Global;
 use std::process::Abort;
@@ -19,7 +20,9 @@ fn bytes(alloc: Global, text: &[u8]) -> Result<Bytes, Fail> {
 }
 
 /// 127.0.0.1:6881.
-fn here() -> Addr {
+fn here() -> Addr
+    ensures { result ≡ record { ip = Ip.V4 (127 ∷ 0 ∷ 0 ∷ 1 ∷ []); port = 6881 } }
+{
     Addr {
         ip: Ip::V4([127, 0, 0, 1]),
         port: 6881,
@@ -276,11 +279,10 @@ fn peers_are_read(rt: HostRuntime) -> Result<(), Fail> {
     Ok(())
 }
 
-/// A node with its proof, a token and a peer, with the length of each string worked by hand.
-#[test]
-fn each_part_of_an_answer_is_read_and_written(rt: HostRuntime) -> Result<(), Fail> {
-    let alloc = rt.alloc();
-    let tx = bytes(alloc, b"aa")?;
+/// A node with its proof.
+fn proved_node(alloc: Global) -> Result<Reports, Fail>
+    ensures { IfOk result (AllByRecursion IsProved) }
+{
     let mut snodes = List::new(alloc);
     snodes.push(Report {
         contact: Contact {
@@ -292,8 +294,24 @@ fn each_part_of_an_answer_is_read_and_written(rt: HostRuntime) -> Result<(), Fai
             x: *b"xxxxxxxxxxxxxxxxxxxx",
         }),
     })?;
+    Ok(snodes)
+}
+
+fn one_peer(alloc: Global) -> Result<Addrs, Fail>
+    ensures { IfOk result (AllByRecursion (λ peer. IsV4 peer.ip)) }
+{
     let mut values = List::new(alloc);
     values.push(here())?;
+    Ok(values)
+}
+
+/// A node with its proof, a token and a peer, with the length of each string worked by hand.
+#[test]
+fn each_part_of_an_answer_is_read_and_written(rt: HostRuntime) -> Result<(), Fail> {
+    let alloc = rt.alloc();
+    let tx = bytes(alloc, b"aa")?;
+    let snodes = proved_node(alloc)?;
+    let values = one_peer(alloc)?;
     let token = bytes(alloc, b"aoeusnth")?;
     let message = Message::Answer {
         tx,
@@ -353,9 +371,10 @@ fn refusals_name_the_place_and_the_length(rt: HostRuntime) {
 fn a_record_of_either_length_is_split(rt: HostRuntime) {
     let record = b"mnopqrstuvwxyz123456AAAABBBBCCCCDDDD\x1a\xe1";
     match split_record::<16>(record, 0) {
-        Some((_, address, port)) => {
-            assert_eq!(&rt; address, *b"AAAABBBBCCCCDDDD");
-            assert_eq!(&rt; port, 6881);
+        Some(parts) => {
+            let address = parts.1;
+            assert!(&rt; address == *b"AAAABBBBCCCCDDDD");
+            assert_eq!(&rt; parts.2, 6881);
         }
         None => assert!(&rt; false, "no record"),
     }
