@@ -1,5 +1,5 @@
 -- Records that were written are cut apart again.
-use Rattle.std.proofs.Common.{◌≡◌, ℕ, zero, suc, ◌+◌, ◌*◌, ◌/◌, ◌%◌, ◌<◌, ◌≤◌, List, [], ◌∷◌, ◌++◌, map, take, drop, get_or, length, Option, Some, None, refl, sym, ap, ◌∙◌, subst, arith, length-append, append_assoc}
+use Rattle.std.proofs.Common.{◌≡◌, ℕ, zero, suc, ◌+◌, ◌*◌, ◌/◌, ◌%◌, ◌<◌, List, [], ◌∷◌, ◌++◌, map, take, drop, get_or, length, Option, Some, None, refl, sym, ap, ◌∙◌, arith, length-append, append_assoc}
 use Rattle.std.specs.Prelude.{flat_map}
 use Rattle.std.specs.List.{AllByRecursion, range_with_len}
 use Rattle.std.proofs.Math.Nat.{mul-div_cancel_left, mul-mod_right}
@@ -12,7 +12,7 @@ use Rattle.kad_base.specs.declared.plain.Addr.{Addr}
 use Rattle.kad_base.specs.declared.plain.Contact.{Contact}
 use Rattle.kad_base.specs.declared.plain.Proof.{Proof}
 use Rattle.kad_base.specs.declared.plain.Report.{Report}
-use Rattle.kad_krpc.specs.Records.{port_bytes, ip_bytes, addr_bytes, node_bytes, proof_bytes, proved_bytes, part, port_at, addr_at, id_at, node_in, proof_in, proved_in, records_in}
+use Rattle.kad_krpc.specs.Records.{port_bytes, ip_bytes, addr_bytes, node_bytes, proof_bytes, proved_bytes, part, port_at, addr_at, node_in, proved_in, records_in}
 use Rattle.kad_krpc.specs.Form.{IsV4, IsNode, HasProof, IsProved}
 use Rattle.kad_krpc.specs.Well.{IsWellIp, IsWellProof, IsWellContact, IsWellReport, IsWellAddr}
 

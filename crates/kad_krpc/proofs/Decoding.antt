@@ -1,5 +1,5 @@
 -- What decoding answers, from what bencode's reading answers and what its value says.
-use Rattle.std.proofs.Common.{◌≡◌, ℕ, ◌%◌, Bool, true, false, cond, ◌&&◌, List, length, nat_eq, Option, Some, None, Result, Ok, Err, IsErrOf, ℤ, pos, refl, sym, ap, ◌∙◌, subst}
+use Rattle.std.proofs.Common.{◌≡◌, ℕ, ◌%◌, Bool, true, false, cond, List, length, nat_eq, Option, Some, None, Result, Ok, Err, IsErrOf, refl, sym, ap, ◌∙◌, subst}
 use Rattle.std.specs.Prelude.{codes}
 use Rattle.kad_base.specs.declared.plain.Id.{Id}
 use Rattle.kad_bencode.specs.Keys.{value_of}
@@ -21,7 +21,7 @@ use Rattle.kad_krpc.specs.declared.message.Key.TheVariants as key
 use Rattle.kad_krpc.specs.declared.message.KrpcFault.{KrpcFault}
 use Rattle.kad_krpc.specs.declared.message.KrpcFault.TheVariants.{Bad, Missing, Shape, Records, NoMemory}
 use Rattle.kad_krpc.specs.Records.{node_in, proved_in, records_in}
-use Rattle.kad_krpc.specs.Reading.{Step, then, of_kind, needed, optional, as_some, records, dict_of, id_of, port_of, kind_of, code_text_of, peers_in, is_implied, port_by, find_node_at, get_peers_at, announced_by, rest_at, arguments_at, ask_by, ask_of, method_in, query_by, nodes_by, snodes_by, values_by, answer_by, answer_at, answer_message_at, fault_at, body_at, said, Says, Fails, Refuses, Gives, IfRefused, unspelled}
+use Rattle.kad_krpc.specs.Reading.{Step, then, of_kind, needed, optional, as_some, records, dict_of, id_of, port_of, kind_of, code_text_of, is_implied, port_by, rest_at, ask_by, ask_of, method_in, nodes_by, snodes_by, values_by, answer_by, answer_at, body_at, said, Says, Refuses, Gives, IfRefused, unspelled}
 
 -- ---- no step fails as bencode does
 

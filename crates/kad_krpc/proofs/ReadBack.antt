@@ -1,5 +1,5 @@
 -- What a written message says: each step of the reading gives its part back.
-use Rattle.std.proofs.Common.{◌≡◌, ◌≢◌, ℕ, zero, ◌+◌, ◌*◌, ◌%◌, ◌<◌, ◌≤◌, Bool, true, false, cond, ◌&&◌, List, [], ◌∷◌, ◌++◌, map, length, nat_eq, ℤ, pos, Option, Some, None, Ok, Err, refl, sym, ap, ◌∙◌, subst, arith}
+use Rattle.std.proofs.Common.{◌≡◌, ◌≢◌, ℕ, ◌%◌, ◌<◌, ◌≤◌, Bool, true, false, cond, ◌&&◌, List, [], ◌∷◌, ◌++◌, map, length, ℤ, pos, Option, Some, None, Ok, Err, refl, sym, ap, ◌∙◌, arith}
 use Rattle.std.specs.Prelude.{codes, bytes_eq, flat_map, option_to_list, option_map}
 use Rattle.std.specs.List.{AllByRecursion}
 use Rattle.std.specs.Ordering.{is_eq}
@@ -21,10 +21,8 @@ use Rattle.kad_krpc.specs.declared.message.Message.{Message}
 use Rattle.kad_krpc.specs.declared.message.Message.TheVariants as message
 use Rattle.kad_krpc.specs.declared.message.Ask.{Ask}
 use Rattle.kad_krpc.specs.declared.message.Ask.TheVariants.{Ping, FindNode, GetPeers, AnnouncePeer, Other}
-use Rattle.kad_krpc.specs.declared.message.Port.{Port}
 use Rattle.kad_krpc.specs.declared.message.Port.TheVariants.{Given, Implied}
 use Rattle.kad_krpc.specs.declared.message.Answer.{Answer}
-use Rattle.kad_krpc.specs.declared.message.Method.{Method}
 use Rattle.kad_krpc.specs.declared.message.Method.TheVariants as method
 use Rattle.kad_krpc.specs.declared.message.Kind.{Kind}
 use Rattle.kad_krpc.specs.declared.message.Kind.TheVariants as kind
@@ -32,8 +30,8 @@ use Rattle.kad_krpc.specs.declared.message.Key.{Key}
 use Rattle.kad_krpc.specs.declared.message.Key.TheVariants as key
 use Rattle.kad_krpc.specs.declared.message.KrpcFault.TheVariants.{Records}
 use Rattle.kad_krpc.specs.Records.{addr_bytes, node_bytes, proved_bytes, nodes_bytes, snodes_bytes, node_in, proved_in, addr_at, records_in}
-use Rattle.kad_krpc.specs.Reading.{Step, then, dict_of, dict_in, id_of, id_in, port_of, port_in, kind_of, kind_in, code_text_of, code_text_in, code_text, of_kind, needed, optional, as_some, records, peer_in, peers_in, port_by, is_implied, announced_by, rest_at, arguments_at, ask_by, ask_of, method_in, query_by, is_read_only, is_one, nodes_by, snodes_by, values_by, answer_by, answer_at, answer_message_at, fault_at, body_at, said, Says}
-use Rattle.kad_krpc.specs.Form.{IsNode, IsProved, IsV4, Each, IsWritable, IsWritableAsk, IsWritableAnswer, IsUnknown, pair, maybe, nodes_value, snodes_value, peers_value, answer_pairs, arguments_of, name_of, read_only_pair, message_pairs}
+use Rattle.kad_krpc.specs.Reading.{Step, then, dict_of, dict_in, id_of, id_in, port_of, port_in, kind_of, kind_in, code_text_of, code_text_in, code_text, of_kind, needed, optional, as_some, records, peer_in, port_by, is_implied, ask_by, ask_of, method_in, query_by, is_read_only, is_one, nodes_by, snodes_by, values_by, answer_at, body_at, said, Says}
+use Rattle.kad_krpc.specs.Form.{IsNode, IsProved, IsV4, Each, IsWritable, IsWritableAsk, IsWritableAnswer, IsUnknown, maybe, nodes_value, snodes_value, peers_value, answer_pairs, arguments_of, name_of, message_pairs}
 use Rattle.kad_krpc.specs.Well.{IsWell, IsWellAsk, IsWellAnswer, IsWellContact, IsWellReport, IsWellAddr}
 use Rattle.kad_bencode.proofs.Faults.{one_value}
 use Rattle.kad_krpc.proofs.Filed.{one, two, three, four}

@@ -1,5 +1,5 @@
 -- A message nests at most three lists and dictionaries.
-use Rattle.std.proofs.Common.{◌≡◌, ℕ, ◌≤◌, suc, max, Bool, true, false, List, [], ◌∷◌, ◌++◌, map, ℤ, Option, Some, None, refl, sym, ap, ◌∙◌, subst, arith}
+use Rattle.std.proofs.Common.{ℕ, ◌≤◌, suc, true, false, List, [], ◌∷◌, ◌++◌, map, ℤ, Option, Some, None, arith}
 use Rattle.std.specs.Prelude.{codes, pos}
 use Rattle.kad_bencode.specs.Spelling.{depth_of, greatest}
 use Rattle.kad_bencode.specs.declared.entries.Pair.{Pair}
@@ -14,7 +14,7 @@ use Rattle.kad_krpc.specs.declared.message.Ask.TheVariants.{Ping, FindNode, GetP
 use Rattle.kad_krpc.specs.declared.message.Port.TheVariants.{Given, Implied}
 use Rattle.kad_krpc.specs.declared.message.Answer.{Answer}
 use Rattle.kad_krpc.specs.Records.{addr_bytes}
-use Rattle.kad_krpc.specs.Form.{pair, maybe, nodes_value, snodes_value, peers_value, answer_pairs, arguments_of, name_of, read_only_pair, message_pairs}
+use Rattle.kad_krpc.specs.Form.{pair, maybe, nodes_value, snodes_value, peers_value, answer_pairs, arguments_of, name_of, message_pairs}
 
 -- no value is deeper
 abbrev Within : ℕ → List (Pair Value) → Type 0

@@ -1,12 +1,11 @@
 -- The dictionary of a message is a value that bencode reads back: its integers are of 64 bits, and its pairs are in order.
-use Rattle.std.proofs.Common.{◌≡◌, ℕ, ◌+◌, ◌<◌, ◌≤◌, ◌^◌, Bool, true, false, not, cond, ◌&&◌, ◌||◌, List, [], ◌∷◌, ◌++◌, map, ℤ, pos, Option, Some, None, refl, sym, ap, ◌∙◌, subst, append-nil, arith}
+use Rattle.std.proofs.Common.{◌≡◌, ℕ, ◌<◌, ◌^◌, true, false, not, ◌&&◌, ◌||◌, List, [], ◌∷◌, ◌++◌, map, ℤ, pos, Option, Some, None, refl, sym, ap, ◌∙◌, append-nil, arith}
 use Rattle.std.specs.Prelude.{codes}
 use Rattle.std.specs.List.{AllByRecursion}
 use Rattle.std.specs.Ordering.{is_eq}
-use Rattle.std.specs.declared.cmp.Ordering.TheVariants.{Greater}
 use Rattle.kad_base.specs.declared.plain.Addr.{Addr}
-use Rattle.kad_bencode.specs.Keys.{key_cmp, keys_of, put}
-use Rattle.kad_bencode.specs.Spelling.{is_plain, is_i64, all_true, has_key, each_once, put_all, in_order, text_of, depth_of, Fits, Spells}
+use Rattle.kad_bencode.specs.Keys.{keys_of, put}
+use Rattle.kad_bencode.specs.Spelling.{is_plain, is_i64, all_true, has_key, each_once, put_all, in_order, Spells}
 use Rattle.kad_bencode.specs.declared.entries.Pair.{Pair}
 use Rattle.kad_bencode.specs.declared.value.Value.{Value}
 use Rattle.kad_bencode.specs.declared.value.Value.TheVariants.{Int, Text, List as Values, Dict}
@@ -21,8 +20,7 @@ use Rattle.kad_krpc.specs.declared.message.Ask.TheVariants.{Ping, FindNode, GetP
 use Rattle.kad_krpc.specs.declared.message.Port.TheVariants.{Given, Implied}
 use Rattle.kad_krpc.specs.declared.message.Answer.{Answer}
 use Rattle.kad_krpc.specs.Records.{addr_bytes}
-use Rattle.kad_krpc.specs.Form.{pair, maybe, nodes_value, snodes_value, peers_value, answer_pairs, arguments_of, name_of, read_only_pair, message_pairs, form}
-use Rattle.kad_krpc.specs.Filing.{put_maybe}
+use Rattle.kad_krpc.specs.Form.{maybe, nodes_value, snodes_value, peers_value, answer_pairs, arguments_of, name_of, message_pairs, form}
 use Rattle.kad_krpc.specs.Well.{IsWell, IsWellAsk}
 use Rattle.kad_krpc.proofs.Filed.{Below, below_two, below_three, below_four, one, two, three, four, maybe_last}
 use Rattle.kad_krpc.proofs.Shallow.{shallow}

@@ -1,5 +1,5 @@
 -- Steps that were taken, one after another.
-use Rattle.std.proofs.Common.{◌≡◌, ℕ, List, Option, Result, Ok, Err, refl, sym, ap, ◌∙◌}
+use Rattle.std.proofs.Common.{◌≡◌, ℕ, List, Option, ap, ◌∙◌}
 use Rattle.std.specs.Prelude.{codes}
 use Rattle.kad_base.specs.declared.plain.Id.{Id}
 use Rattle.kad_bencode.specs.Keys.{value_of}

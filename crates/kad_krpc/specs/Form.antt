@@ -1,5 +1,5 @@
 -- The one written form of a KRPC message (BEP 5): a dictionary with its keys in ascending order.
-use Rattle.std.specs.Prelude.{◌≡◌, ◌≢◌, ℕ, Bool, true, false, List, [], ◌∷◌, ◌++◌, length, map, codes, ℤ, pos, Option, Some, None}
+use Rattle.std.specs.Prelude.{◌≢◌, ℕ, Bool, true, false, List, [], ◌∷◌, ◌++◌, map, codes, pos, Option, Some, None}
 use Rattle.std.specs.List.{AllByRecursion}
 use Rattle.kad_base.specs.declared.plain.Id.{Id}
 use Rattle.kad_base.specs.declared.plain.Ip.{Ip}

@@ -1,7 +1,7 @@
 -- What a datagram says: the steps in which a KRPC message is read off the value that the datagram spells (BEP 5; `ro`
 -- is BEP 43's, `snodes` and the order of the steps are this project's own). The first step that fails is the refusal.
 -- Keys that no step names are passed over.
-use Rattle.std.specs.Prelude.{◌≡◌, ℕ, ◌≤◌, ◌%◌, Bool, true, false, cond, ◌&&◌, List, [], ◌∷◌, length, map, flat_map, codes, bytes_eq, nat_eq, nat_le, nat_lt, ℤ, pos, negsuc, Option, Some, None, option_to_list, Result, Ok, Err}
+use Rattle.std.specs.Prelude.{◌≡◌, ℕ, ◌%◌, Bool, true, false, cond, ◌&&◌, List, [], ◌∷◌, length, flat_map, codes, bytes_eq, nat_eq, nat_le, nat_lt, ℤ, pos, negsuc, Option, Some, None, option_to_list, Result, Ok, Err}
 use Rattle.kad_base.specs.declared.plain.Id.{Id}
 use Rattle.kad_base.specs.declared.plain.Addr.{Addr}
 use Rattle.kad_base.specs.declared.plain.Contact.{Contact}

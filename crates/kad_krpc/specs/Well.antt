@@ -1,6 +1,5 @@
 -- What the types of a message keep of their arrays and numbers, for laws that speak of every message.
-use Rattle.std.specs.Prelude.{◌≡◌, ℕ, ◌<◌, List, length, ℤ, true, Option, Some, None}
-use Rattle.std.specs.List.{AllByRecursion}
+use Rattle.std.specs.Prelude.{◌≡◌, ◌<◌, length, true, Option, Some, None}
 use Rattle.kad_base.specs.declared.plain.Id.{Id}
 use Rattle.kad_base.specs.declared.plain.Ip.{Ip}
 use Rattle.kad_base.specs.declared.plain.Ip.TheVariants.{V4, V6}

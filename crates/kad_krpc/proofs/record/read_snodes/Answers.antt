@@ -1,4 +1,4 @@
-use Rattle.std.proofs.Common.{rules, ◌≡◌, ◌+◌, ◌*◌, ◌++◌, [], ◌∷◌, map, ap, sym, ◌∙◌}
+use Rattle.std.proofs.Common.{◌*◌, ◌++◌, [], ◌∷◌, map, ap, sym, ◌∙◌}
 use Rattle.std.specs.List.{range_with_len}
 use Rattle.kad_krpc.specs.Records.{part, proved_in}
 use Rattle.kad_krpc.proofs.Lists.{one_more, one_part}

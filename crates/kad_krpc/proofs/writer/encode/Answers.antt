@@ -1,7 +1,7 @@
-use Rattle.std.proofs.Common.{◌≡◌, ◌≤◌, ℕ, List, [], ◌++◌, sym, ap, ◌∙◌, subst}
+use Rattle.std.proofs.Common.{◌≤◌, ◌++◌, sym, ap, ◌∙◌, subst}
 use Rattle.kad_bencode.specs.Spelling.{depth_of, text_of}
 use Rattle.kad_bencode.specs.declared.value.Value.TheVariants.{Dict}
-use Rattle.kad_krpc.specs.Form.{form, message_pairs}
+use Rattle.kad_krpc.specs.Form.{form}
 use Rattle.kad_krpc.proofs.Shallow.{shallow}
 use Rattle.kad_krpc.proofs.writer.encode.Goals as goal
 
