@@ -1,4 +1,9 @@
-pub mod Numerals
-pub mod Records
-pub mod Unread
-pub mod Once
+pub mod Dictionaries
+pub mod Lists
+pub mod Steps
+pub mod Decoding
+pub mod Filed
+pub mod Shallow
+pub mod Cut
+pub mod Spelled
+pub mod ReadBack

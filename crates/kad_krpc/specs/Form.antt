@@ -1,73 +1,166 @@
--- The written forms of KRPC messages (BEP 5): each one dictionary with its keys in ascending order.
-use Rattle.std.specs.Prelude.{◌≡◌, ℕ, ◌/◌, ◌%◌, ◌≤◌, List, [], ◌∷◌, ◌++◌, length, codes, Option, Some, None}
-use Rattle.std.specs.List.{flat_map, AllByRecursion}
-use Rattle.std.specs.Fmt.{decimal}
+-- The one written form of a KRPC message (BEP 5): a dictionary with its keys in ascending order.
+use Rattle.std.specs.Prelude.{◌≢◌, ℕ, Bool, true, false, List, [], ◌∷◌, ◌++◌, map, codes, pos, Option, Some, None}
+use Rattle.std.specs.List.{AllByRecursion}
+use Rattle.kad_base.specs.declared.plain.Id.{Id}
 use Rattle.kad_base.specs.declared.plain.Ip.{Ip}
 use Rattle.kad_base.specs.declared.plain.Ip.TheVariants.{V4, V6}
+use Rattle.kad_base.specs.declared.plain.Addr.{Addr}
 use Rattle.kad_base.specs.declared.plain.Contact.{Contact}
+use Rattle.kad_base.specs.declared.plain.Proof.{Proof}
+use Rattle.kad_base.specs.declared.plain.Report.{Report}
+use Rattle.kad_bencode.specs.Spelling.{text_of}
+use Rattle.kad_bencode.specs.declared.entries.Pair.{Pair}
+use Rattle.kad_bencode.specs.declared.value.Value.{Value}
+use Rattle.kad_bencode.specs.declared.value.Value.TheVariants.{Int, Text, List as Values, Dict}
 use Rattle.kad_krpc.specs.declared.message.Message.{Message}
-use Rattle.kad_krpc.specs.declared.message.Message.TheVariants.{Answer as Answer_message, Fault as Fault_message}
+use Rattle.kad_krpc.specs.declared.message.Message.TheVariants as message
+use Rattle.kad_krpc.specs.declared.message.Ask.{Ask}
+use Rattle.kad_krpc.specs.declared.message.Ask.TheVariants.{Ping, FindNode, GetPeers, AnnouncePeer, Other}
+use Rattle.kad_krpc.specs.declared.message.Port.{Port}
+use Rattle.kad_krpc.specs.declared.message.Port.TheVariants.{Given, Implied}
+use Rattle.kad_krpc.specs.declared.message.Answer.{Answer}
+use Rattle.kad_krpc.specs.Records.{addr_bytes, nodes_bytes, snodes_bytes}
+
+-- ---- parts
+
+-- a key with its value, and with nothing where the value is missing
+abbrev pub pair : List ℕ → Value → List (Pair Value)
+pair key value = record { key = key; value = value } ∷ []
+
+abbrev pub maybe : {A : Type 0} → List ℕ → (A → Value) → Option A → List (Pair Value)
+maybe key form None = []
+maybe key form (Some x) = pair key (form x)
+
+-- ---- messages
+
+-- an implied port is written as 1, beside `implied_port`
+abbrev pub announced : Id → Id → Port → List ℕ → List (Pair Value)
+announced id info_hash (Given port) token =
+    pair (codes "id") (Text id.0)
+    ++ pair (codes "info_hash") (Text info_hash.0)
+    ++ pair (codes "port") (Int (pos port))
+    ++ pair (codes "token") (Text token)
+announced id info_hash Implied token =
+    pair (codes "id") (Text id.0)
+    ++ pair (codes "implied_port") (Int (pos 1))
+    ++ pair (codes "info_hash") (Text info_hash.0)
+    ++ pair (codes "port") (Int (pos 1))
+    ++ pair (codes "token") (Text token)
+
+-- the arguments of a query; those of a method that isn't known are none
+abbrev pub arguments_of : Ask → List (Pair Value)
+arguments_of (Ping id) = pair (codes "id") (Text id.0)
+arguments_of (FindNode id target) = pair (codes "id") (Text id.0) ++ pair (codes "target") (Text target.0)
+arguments_of (GetPeers id info_hash) = pair (codes "id") (Text id.0) ++ pair (codes "info_hash") (Text info_hash.0)
+arguments_of (AnnouncePeer id info_hash port token) = announced id info_hash port token
+arguments_of (Other method) = []
+
+abbrev pub name_of : Ask → List ℕ
+name_of (Ping id) = codes "ping"
+name_of (FindNode id target) = codes "find_node"
+name_of (GetPeers id info_hash) = codes "get_peers"
+name_of (AnnouncePeer id info_hash port token) = codes "announce_peer"
+name_of (Other method) = method
+
+abbrev pub read_only_pair : Bool → List (Pair Value)
+read_only_pair true = pair (codes "ro") (Int (pos 1))
+read_only_pair false = []
+
+abbrev pub nodes_value : List Contact → Value
+nodes_value nodes = Text (nodes_bytes nodes)
+
+abbrev pub snodes_value : List Report → Value
+snodes_value snodes = Text (snodes_bytes snodes)
+
+abbrev pub peers_value : List Addr → Value
+peers_value peers = Values (map (λ peer. Text (addr_bytes peer)) peers)
+
+abbrev pub answer_pairs : Answer → List (Pair Value)
+answer_pairs answer =
+    pair (codes "id") (Text answer.id.0)
+    ++ maybe (codes "nodes") nodes_value answer.nodes
+    ++ maybe (codes "snodes") snodes_value answer.snodes
+    ++ maybe (codes "token") Text answer.token
+    ++ maybe (codes "values") peers_value answer.values
+
+-- the pairs of the message's dictionary
+abbrev pub message_pairs : Message → List (Pair Value)
+message_pairs (message.Query tx read_only ask) =
+    pair (codes "a") (Dict (arguments_of ask))
+    ++ pair (codes "q") (Text (name_of ask))
+    ++ read_only_pair read_only
+    ++ pair (codes "t") (Text tx)
+    ++ pair (codes "y") (Text (codes "q"))
+message_pairs (message.Answer tx answer) =
+    pair (codes "r") (Dict (answer_pairs answer))
+    ++ pair (codes "t") (Text tx)
+    ++ pair (codes "y") (Text (codes "r"))
+message_pairs (message.Fault tx code said) =
+    pair (codes "e") (Values (Int code ∷ Text said ∷ []))
+    ++ pair (codes "t") (Text tx)
+    ++ pair (codes "y") (Text (codes "e"))
+
+-- the written form
+unfoldable pub form : Message → List ℕ
+form m = text_of (Dict (message_pairs m))
+
+-- ---- which messages have one
+
+abbrev pub IsV4 : Ip → Type 0
+IsV4 (V4 bytes) = Unit {0}
+IsV4 (V6 bytes) = ⊥
+
+-- a record has a place for addresses of IPv4 alone
+abbrev pub IsNode : Contact → Type 0
+IsNode c = IsV4 c.addr.ip
+
+abbrev pub HasProof : Option Proof → Type 0
+HasProof None = ⊥
+HasProof (Some proof) = Unit {0}
+
+abbrev pub IsProved : Report → Type 0
+IsProved r = IsV4 r.contact.addr.ip × HasProof r.proof
+
+abbrev pub Each : {A : Type 0} → (A → Type 0) → Option (List A) → Type 0
+Each P None = Unit {0}
+Each P (Some items) = AllByRecursion P items
+
+pub record IsWritableAnswer (answer : Answer) : Type 0 where
+  pub nodes : Each IsNode answer.nodes
+  pub snodes : Each IsProved answer.snodes
+  pub values : Each (λ (a : Addr). IsV4 a.ip) answer.values
+
+abbrev pub IsGivenPort : Port → Type 0
+IsGivenPort (Given port) = port ≢ 0
+IsGivenPort Implied = Unit {0}
+
+-- a method that isn't known isn't named as one of the four
+pub record IsUnknown (method : List ℕ) : Type 0 where
+  pub ping : method ≢ codes "ping"
+  pub find_node : method ≢ codes "find_node"
+  pub get_peers : method ≢ codes "get_peers"
+  pub announce_peer : method ≢ codes "announce_peer"
+
+abbrev pub IsWritableAsk : Ask → Type 0
+IsWritableAsk (Ping id) = Unit {0}
+IsWritableAsk (FindNode id target) = Unit {0}
+IsWritableAsk (GetPeers id info_hash) = Unit {0}
+IsWritableAsk (AnnouncePeer id info_hash port token) = IsGivenPort port
+IsWritableAsk (Other method) = IsUnknown method
+
+abbrev pub IsWritable : Message → Type 0
+IsWritable (message.Query tx read_only ask) = IsWritableAsk ask
+IsWritable (message.Answer tx answer) = IsWritableAnswer answer
+IsWritable (message.Fault tx code text) = Unit {0}
+
+-- ---- the query of a lookup
 
 -- the read-only find_node query (`ro` is BEP 43's) under a transaction id
 unfoldable pub find_node_form : List ℕ → List ℕ → List ℕ → List ℕ
 find_node_form own target tx =
     codes "d1:ad2:id20:" ++ own ++ codes "6:target20:" ++ target ++ codes "e1:q9:find_node2:roi1e1:t4:" ++ tx ++ codes "1:y1:qe"
 
--- a port in network order
-abbrev pub port_bytes : ℕ → List ℕ
-port_bytes port = port / 256 ∷ port % 256 ∷ []
-
--- an address of IPv4 is its four bytes; a compact record of BEP 5 has no place for one of IPv6
-abbrev pub ip_bytes : Ip → List ℕ
-ip_bytes (V4 bytes) = bytes
-ip_bytes (V6 bytes) = bytes
-
-abbrev pub IsV4 : Ip → Type 0
-IsV4 (V4 bytes) = length bytes ≡ 4
-IsV4 (V6 bytes) = ⊥
-
--- a compact record can name the contact
-abbrev pub IsRecordable : Contact → Type 0
-IsRecordable c = (length c.id.0 ≡ 20) × IsV4 c.addr.ip
-
--- a compact record: identifier, address, port
-abbrev pub record_of : Contact → List ℕ
-record_of c = c.id.0 ++ ip_bytes c.addr.ip ++ port_bytes c.addr.port
-
--- the records of `nodes`
-unfoldable pub records_of : List Contact → List ℕ
-records_of nodes = flat_map record_of nodes
-
--- the key `nodes` with its string, where it is there
-abbrev pub nodes_part : Option (List Contact) → List ℕ
-nodes_part None = []
-nodes_part (Some nodes) = codes "5:nodes" ++ decimal (length (records_of nodes)) ++ 58 ∷ records_of nodes
-
--- an answer up to its identifier
-abbrev pub answer_start : List ℕ
-answer_start = codes "d1:rd2:id20:"
-
--- the end of an answer: its transaction id and its kind
-abbrev pub answer_end : List ℕ → List ℕ
-answer_end tx = codes "e1:t4:" ++ tx ++ codes "1:y1:re"
-
--- an answer in its written form
-unfoldable pub answer_form : List ℕ → Option (List Contact) → List ℕ → List ℕ
-answer_form id nodes tx = answer_start ++ (id ++ (nodes_part nodes ++ answer_end tx))
-
-abbrev pub AreRecordable : Option (List Contact) → Type 0
-AreRecordable None = Unit {0}
-AreRecordable (Some nodes) = AllByRecursion IsRecordable nodes
-
--- The bytes of a datagram are an answer in its written form, with a transaction id of four bytes, an identifier and,
--- where the key is there, contacts with addresses of IPv4. No other message is read so far.
-pub record SaysAnswer (bytes : List ℕ) (tx id : List ℕ) (nodes : Option (List Contact)) : Type 0 where
-  pub short : length bytes ≤ 4096
-  pub tx_length : length tx ≡ 4
-  pub id_length : length id ≡ 20
-  pub recordable : AreRecordable nodes
-  pub form : bytes ≡ answer_form id nodes tx
-
-abbrev pub Says : List ℕ → Message → Type 0
-Says bytes (Answer_message tx answer) = SaysAnswer bytes tx answer.id.0 answer.nodes
-Says bytes (Fault_message tx code text) = ⊥
+-- the read-only get_peers query under a transaction id
+unfoldable pub get_peers_form : List ℕ → List ℕ → List ℕ → List ℕ
+get_peers_form own info_hash tx =
+    codes "d1:ad2:id20:" ++ own ++ codes "9:info_hash20:" ++ info_hash ++ codes "e1:q9:get_peers2:roi1e1:t4:" ++ tx ++ codes "1:y1:qe"

@@ -1,2 +1,5 @@
+pub mod Records
+pub mod Reading
 pub mod Form
-pub mod Plain
+pub mod Filing
+pub mod Well

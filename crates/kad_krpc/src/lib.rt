@@ -1,12 +1,23 @@
-//! KRPC messages (BEP 5): the query that a lookup sends, and the answer that it reads, in the one form in which this
-//! project writes it. It knows no lookup and no socket.
+//! KRPC messages (BEP 5) over bencode, both ways: what a datagram says, and the one written form of a message. It knows
+//! no lookup and no socket.
 #![tactic(auto)]
 
 mod answer;
+mod ask;
+mod laws;
 mod message;
 mod query;
-mod spelled;
+mod reader;
+mod record;
+mod step;
+mod writer;
 
-pub use answer::decode;
-pub use message::{Answer, KrpcFault, Message};
-pub use query::find_node_into;
+pub use laws::{form_says, one_message};
+pub use message::{Answer, Ask, Key, KrpcFault, Message, Port};
+pub use query::{find_node_into, get_peers_into};
+pub use reader::decode;
+pub use record::split_record;
+pub use writer::encode;
+
+#[cfg(test)]
+mod tests;

@@ -1,28 +1,129 @@
 //! What a datagram may say.
-use kad_base::{Bytes, Contacts, Id};
+use kad_base::{Addrs, Bytes, Contacts, Id, NoMemory, Reports};
+use kad_bencode::{Bad, BenFault};
 
-/// A message of BEP 5. Of its kinds answers alone are read so far.
+/// A message of KRPC (BEP 5): one dictionary of bencode with its keys in ascending order. `tx` is the transaction id,
+/// which an answer repeats.
 #[derive(Debug, Drop, PartialEq, Eq)]
 pub enum Message {
+    /// `d1:a` the arguments `1:q` the method, where read-only `2:roi1e`, `1:t` the transaction id `1:y1:qe`. A node that
+    /// says that it is read-only answers no query (BEP 43).
+    Query {
+        tx: Bytes,
+        read_only: bool,
+        ask: Ask,
+    },
     /// `d1:r` the answer `1:t` the transaction id `1:y1:re`.
-    Answer { tx: Bytes, answer: Answer },
+    Answer {
+        tx: Bytes,
+        answer: Answer,
+    },
     /// `d1:el` the code and the text `e1:t` the transaction id `1:y1:ee`.
-    Fault { tx: Bytes, code: i64, text: Bytes },
+    Fault {
+        tx: Bytes,
+        code: i64,
+        text: Bytes,
+    },
 }
 
-/// The dictionary `r` of an answer.
+/// What a query asks, with its arguments. `id` is who asks.
+#[derive(Debug, Drop, PartialEq, Eq)]
+pub enum Ask {
+    Ping {
+        id: Id,
+    },
+    FindNode {
+        id: Id,
+        target: Id,
+    },
+    GetPeers {
+        id: Id,
+        info_hash: Id,
+    },
+    AnnouncePeer {
+        id: Id,
+        info_hash: Id,
+        port: Port,
+        token: Bytes,
+    },
+    /// A query by another name. Its arguments are not read.
+    Other {
+        method: Bytes,
+    },
+}
+
+/// The port that a peer announces.
+#[derive(Clone, Copy, Debug, PartialEq, Eq)]
+pub enum Port {
+    /// This one.
+    Given(u16),
+    /// The one that the datagram came from (`implied_port`).
+    Implied,
+}
+
+/// The dictionary `r` of an answer. Where a key is missing its part is `None`.
 #[derive(Debug, Drop, PartialEq, Eq)]
 pub struct Answer {
     /// Who answered.
     pub id: Id,
-    /// The contacts of the key `nodes`, in order, where the key is there: compact records of 26 bytes.
+    /// `nodes`: compact records of 26 bytes, identifier, IPv4 address and port.
     pub nodes: Option<Contacts>,
+    /// `snodes`, this project's own key: records of 78 bytes, identifier, public key, X, IPv4 address and port.
+    pub snodes: Option<Reports>,
+    /// `token`: what a later `announce_peer` has to bring along.
+    pub token: Option<Bytes>,
+    /// `values`: peers of the info hash, each a string of 6 bytes, IPv4 address and port.
+    pub values: Option<Addrs>,
+}
+
+/// A key of a message, as a refusal names it; `Top` is the whole message.
+#[derive(Clone, Copy, Debug, PartialEq, Eq)]
+pub enum Key {
+    Top,
+    T,
+    Y,
+    Q,
+    A,
+    R,
+    E,
+    Id,
+    Target,
+    InfoHash,
+    Token,
+    ImpliedPort,
+    Port,
+    Nodes,
+    Snodes,
+    Values,
+}
+
+/// What `y` says that a message is.
+#[derive(Clone, Copy, Debug, PartialEq, Eq)]
+pub(crate) enum Kind {
+    Query,
+    Answer,
+    Fault,
+}
+
+/// The methods of BEP 5.
+#[derive(Clone, Copy, Debug, PartialEq, Eq)]
+pub(crate) enum Method {
+    Ping,
+    FindNode,
+    GetPeers,
+    AnnouncePeer,
 }
 
 /// Why a datagram was not read.
 #[derive(Clone, Copy, Debug, PartialEq, Eq)]
 pub enum KrpcFault {
-    /// The datagram is not of the form that is read.
-    Unread,
+    /// It is not one value of bencode.
+    Bad(Bad),
+    /// The key isn't there.
+    Missing { key: Key },
+    /// The key's value isn't of its kind.
+    Shape { key: Key },
+    /// The key's string is of `len` bytes, which are not whole records.
+    Records { key: Key, len: usize },
     NoMemory,
 }

@@ -1,7 +1,7 @@
-//! The query of a lookup, written without memory.
+//! The queries of a lookup, written without memory.
 ghost use Rattle.std.specs.Prelude.{◌≡◌, ◌+◌, ◌≤◌, ◌++◌, length, take};
 ghost use Rattle.kad_base.specs.Words.{word_bytes};
-ghost use Rattle.kad_krpc.specs.Form.{find_node_form};
+ghost use Rattle.kad_krpc.specs.Form.{find_node_form, get_peers_form};
 
 use kad_base::Id;
 
@@ -27,6 +27,21 @@ pub fn find_node_into(buf: &mut [u8; 160], own: &Id, target: &Id, tx: u32) -> us
     let at = put(buf, at, b"6:target20:");
     let at = put(buf, at, &target.0);
     let at = put(buf, at, b"e1:q9:find_node2:roi1e1:t4:");
+    let at = put(buf, at, &tx.to_le_bytes());
+    put(buf, at, b"1:y1:qe")
+}
+
+/// Writes the read-only `get_peers` query (BEP 5, BEP 43) in front of `buf`, and answers its length, which is 104
+/// bytes. The transaction id is the four bytes of `tx`, the lowest first.
+pub fn get_peers_into(buf: &mut [u8; 160], own: &Id, info_hash: &Id, tx: u32) -> usize
+    ensures length { result ≡ 104 }
+    ensures form { take result buf.new ≡ get_peers_form own.now.0 info_hash.now.0 (word_bytes tx) }
+{
+    let at = put(buf, 0, b"d1:ad2:id20:");
+    let at = put(buf, at, &own.0);
+    let at = put(buf, at, b"9:info_hash20:");
+    let at = put(buf, at, &info_hash.0);
+    let at = put(buf, at, b"e1:q9:get_peers2:roi1e1:t4:");
     let at = put(buf, at, &tx.to_le_bytes());
     put(buf, at, b"1:y1:qe")
 }

@@ -1,0 +1,17 @@
+//! Laws of the written form. Each is the clause of a function that does nothing.
+ghost use Rattle.std.specs.Prelude.{◌≡◌, List, ℕ};
+ghost use Rattle.kad_krpc.specs.declared.message.Message.{Message};
+ghost use Rattle.kad_krpc.specs.Form.{IsWritable, form};
+ghost use Rattle.kad_krpc.specs.Well.{IsWell};
+ghost use Rattle.kad_krpc.specs.Reading.{Says};
+
+/// The written form of a message says it. A message is well formed by its types: identifiers have 20 bytes, addresses 4,
+/// and so on.
+pub fn form_says()
+    ensures { (m : Message) → IsWell m → IsWritable m → Says (form m) m }
+{}
+
+/// Bytes say one message at most.
+pub fn one_message()
+    ensures { (bytes : List ℕ) (m n : Message) → Says bytes m → Says bytes n → m ≡ n }
+{}

@@ -1,0 +1,398 @@
+//! The examples of BEP 5 both ways, this project's own keys, and refusals with their keys.
+ghost use Rattle.std.specs.Prelude.{◌≡◌, ◌∷◌, [], None, IfOk};
+ghost use Rattle.std.specs.List.{AllByRecursion};
+ghost use Rattle.kad_krpc.specs.Form.{IsV4, IsProved, IsWritable};
+
+use crate::message::{Answer, Ask, Key, KrpcFault, Message, Port};
+use crate::{decode, encode, find_node_into, get_peers_into, split_record};
+use kad_base::{Addr, Addrs, Bytes, Contact, Id, Ip, List, Proof, Report, Reports};
+use kad_bencode::Bad;
+use std::alloc::Global;
+use std::process::Abort;
+use std::test::Fail;
+
+const ABC: Id = Id(*b"abcdefghij0123456789");
+
+const MNO: Id = Id(*b"mnopqrstuvwxyz123456");
+
+fn bytes(alloc: Global, text: &[u8]) -> Result<Bytes, Fail> {
+    Ok(List::from_slice(alloc, text)?)
+}
+
+/// 127.0.0.1:6881.
+fn here() -> Addr
+    ensures { result ≡ record { ip = Ip.V4 (127 ∷ 0 ∷ 0 ∷ 1 ∷ []); port = 6881 } }
+{
+    Addr {
+        ip: Ip::V4([127, 0, 0, 1]),
+        port: 6881,
+    }
+}
+
+fn reads(rt: &impl Abort, alloc: Global, text: &[u8], message: &Message) {
+    match decode(alloc, text) {
+        Ok(read) => assert!(rt; read == *message),
+        Err(_) => assert!(rt; false, "refused"),
+    }
+}
+
+fn writes(rt: &impl Abort, alloc: Global, message: &Message, text: &[u8])
+    requires { IsWritable message.now }
+{
+    match encode(alloc, message) {
+        Ok(written) => assert_eq!(rt; written.as_slice(), text),
+        Err(_) => assert!(rt; false, "no memory"),
+    }
+}
+
+fn refuses(rt: &impl Abort, alloc: Global, text: &[u8], fault: KrpcFault) {
+    match decode(alloc, text) {
+        Ok(_) => assert!(rt; false, "read"),
+        Err(found) => assert_eq!(rt; found, fault),
+    }
+}
+
+/// An answer with the identifier alone.
+fn bare(id: Id) -> Answer
+    ensures { result ≡ record { id = id; nodes = None; snodes = None; token = None; values = None } }
+{
+    Answer {
+        id,
+        nodes: None,
+        snodes: None,
+        token: None,
+        values: None,
+    }
+}
+
+#[test]
+fn a_ping_is_read_and_written(rt: HostRuntime) -> Result<(), Fail> {
+    let alloc = rt.alloc();
+    let text = b"d1:ad2:id20:abcdefghij0123456789e1:q4:ping1:t2:aa1:y1:qe";
+    let tx = bytes(alloc, b"aa")?;
+    let message = Message::Query {
+        tx,
+        read_only: false,
+        ask: Ask::Ping { id: ABC },
+    };
+    reads(&rt, alloc, text, &message);
+    writes(&rt, alloc, &message, text);
+    Ok(())
+}
+
+#[test]
+fn a_find_node_is_read_and_written(rt: HostRuntime) -> Result<(), Fail> {
+    let alloc = rt.alloc();
+    let text =
+        b"d1:ad2:id20:abcdefghij01234567896:target20:mnopqrstuvwxyz123456e1:q9:find_node1:t2:aa1:y1:qe";
+    let tx = bytes(alloc, b"aa")?;
+    let message = Message::Query {
+        tx,
+        read_only: false,
+        ask: Ask::FindNode {
+            id: ABC,
+            target: MNO,
+        },
+    };
+    reads(&rt, alloc, text, &message);
+    writes(&rt, alloc, &message, text);
+    Ok(())
+}
+
+#[test]
+fn a_get_peers_is_read_and_written(rt: HostRuntime) -> Result<(), Fail> {
+    let alloc = rt.alloc();
+    let text =
+        b"d1:ad2:id20:abcdefghij01234567899:info_hash20:mnopqrstuvwxyz123456e1:q9:get_peers1:t2:aa1:y1:qe";
+    let tx = bytes(alloc, b"aa")?;
+    let message = Message::Query {
+        tx,
+        read_only: false,
+        ask: Ask::GetPeers {
+            id: ABC,
+            info_hash: MNO,
+        },
+    };
+    reads(&rt, alloc, text, &message);
+    writes(&rt, alloc, &message, text);
+    Ok(())
+}
+
+/// The example of BEP 5 has an implied port beside a port, which is written as 1.
+#[test]
+fn an_implied_port_is_read_and_written(rt: HostRuntime) -> Result<(), Fail> {
+    let alloc = rt.alloc();
+    let tx = bytes(alloc, b"aa")?;
+    let token = bytes(alloc, b"aoeusnth")?;
+    let message = Message::Query {
+        tx,
+        read_only: false,
+        ask: Ask::AnnouncePeer {
+            id: ABC,
+            info_hash: MNO,
+            port: Port::Implied,
+            token,
+        },
+    };
+    reads(
+        &rt,
+        alloc,
+        b"d1:ad2:id20:abcdefghij012345678912:implied_porti1e9:info_hash20:mnopqrstuvwxyz1234564:porti6881e5:token8:aoeusnthe1:q13:announce_peer1:t2:aa1:y1:qe",
+        &message,
+    );
+    writes(
+        &rt,
+        alloc,
+        &message,
+        b"d1:ad2:id20:abcdefghij012345678912:implied_porti1e9:info_hash20:mnopqrstuvwxyz1234564:porti1e5:token8:aoeusnthe1:q13:announce_peer1:t2:aa1:y1:qe",
+    );
+    Ok(())
+}
+
+#[test]
+fn a_given_port_is_read_and_written(rt: HostRuntime) -> Result<(), Fail> {
+    let alloc = rt.alloc();
+    let text =
+        b"d1:ad2:id20:abcdefghij01234567899:info_hash20:mnopqrstuvwxyz1234564:porti6881e5:token8:aoeusnthe1:q13:announce_peer1:t2:aa1:y1:qe";
+    let tx = bytes(alloc, b"aa")?;
+    let token = bytes(alloc, b"aoeusnth")?;
+    let message = Message::Query {
+        tx,
+        read_only: false,
+        ask: Ask::AnnouncePeer {
+            id: ABC,
+            info_hash: MNO,
+            port: Port::Given(6881),
+            token,
+        },
+    };
+    reads(&rt, alloc, text, &message);
+    writes(&rt, alloc, &message, text);
+    Ok(())
+}
+
+/// A method that isn't one of the four is read without its arguments.
+#[test]
+fn an_unknown_method_is_read(rt: HostRuntime) -> Result<(), Fail> {
+    let alloc = rt.alloc();
+    let tx = bytes(alloc, b"aa")?;
+    let method = bytes(alloc, b"vote")?;
+    let message = Message::Query {
+        tx,
+        read_only: true,
+        ask: Ask::Other { method },
+    };
+    reads(&rt, alloc, b"d1:q4:vote2:roi1e1:t2:aa1:y1:qe", &message);
+    Ok(())
+}
+
+/// Any `ro` but 1 counts as none.
+#[test]
+fn another_ro_counts_as_none(rt: HostRuntime) -> Result<(), Fail> {
+    let alloc = rt.alloc();
+    let tx = bytes(alloc, b"aa")?;
+    let message = Message::Query {
+        tx,
+        read_only: false,
+        ask: Ask::Ping { id: ABC },
+    };
+    reads(
+        &rt,
+        alloc,
+        b"d1:ad2:id20:abcdefghij0123456789e1:q4:ping2:roi2e1:t2:aa1:y1:qe",
+        &message,
+    );
+    Ok(())
+}
+
+#[test]
+fn an_answer_with_an_id_alone_is_read_and_written(rt: HostRuntime) -> Result<(), Fail> {
+    let alloc = rt.alloc();
+    let text = b"d1:rd2:id20:mnopqrstuvwxyz123456e1:t2:aa1:y1:re";
+    let tx = bytes(alloc, b"aa")?;
+    let message = Message::Answer {
+        tx,
+        answer: bare(MNO),
+    };
+    reads(&rt, alloc, text, &message);
+    writes(&rt, alloc, &message, text);
+    Ok(())
+}
+
+#[test]
+fn an_error_message_is_read_and_written(rt: HostRuntime) -> Result<(), Fail> {
+    let alloc = rt.alloc();
+    let text = b"d1:eli201e23:A Generic Error Ocurrede1:t2:aa1:y1:ee";
+    let tx = bytes(alloc, b"aa")?;
+    let said = bytes(alloc, b"A Generic Error Ocurred")?;
+    let message = Message::Fault {
+        tx,
+        code: 201,
+        text: said,
+    };
+    reads(&rt, alloc, text, &message);
+    writes(&rt, alloc, &message, text);
+    Ok(())
+}
+
+/// A usual client's answer has keys that no step names.
+#[test]
+fn nodes_are_read_beside_other_keys(rt: HostRuntime) -> Result<(), Fail> {
+    let alloc = rt.alloc();
+    let tx = bytes(alloc, b"aa")?;
+    let mut nodes = List::new(alloc);
+    nodes.push(Contact {
+        id: MNO,
+        addr: here(),
+    })?;
+    let mut answer = bare(ABC);
+    answer.nodes = Some(nodes);
+    let message = Message::Answer { tx, answer };
+    reads(
+        &rt,
+        alloc,
+        b"d2:ip6:axje.u1:rd2:id20:abcdefghij01234567895:nodes26:mnopqrstuvwxyz123456\x7f\x00\x00\x01\x1a\xe11:pi6881ee1:t2:aa1:v4:LT011:y1:re",
+        &message,
+    );
+    Ok(())
+}
+
+/// The peers of BEP 5's example, and one string of another length, which is passed over.
+#[test]
+fn peers_are_read(rt: HostRuntime) -> Result<(), Fail> {
+    let alloc = rt.alloc();
+    let tx = bytes(alloc, b"aa")?;
+    let mut values = List::new(alloc);
+    values.push(Addr {
+        ip: Ip::V4([97, 120, 106, 101]),
+        port: 11893,
+    })?;
+    let mut answer = bare(ABC);
+    answer.values = Some(values);
+    let message = Message::Answer { tx, answer };
+    reads(
+        &rt,
+        alloc,
+        b"d1:rd2:id20:abcdefghij01234567896:valuesl3:abc6:axje.uee1:t2:aa1:y1:re",
+        &message,
+    );
+    Ok(())
+}
+
+/// A node with its proof.
+fn proved_node(alloc: Global) -> Result<Reports, Fail>
+    ensures { IfOk result (AllByRecursion IsProved) }
+{
+    let mut snodes = List::new(alloc);
+    snodes.push(Report {
+        contact: Contact {
+            id: MNO,
+            addr: here(),
+        },
+        proof: Some(Proof {
+            key: *b"kkkkkkkkkkkkkkkkkkkkkkkkkkkkkkkk",
+            x: *b"xxxxxxxxxxxxxxxxxxxx",
+        }),
+    })?;
+    Ok(snodes)
+}
+
+fn one_peer(alloc: Global) -> Result<Addrs, Fail>
+    ensures { IfOk result (AllByRecursion (λ peer. IsV4 peer.ip)) }
+{
+    let mut values = List::new(alloc);
+    values.push(here())?;
+    Ok(values)
+}
+
+/// A node with its proof, a token and a peer, with the length of each string worked by hand.
+#[test]
+fn each_part_of_an_answer_is_read_and_written(rt: HostRuntime) -> Result<(), Fail> {
+    let alloc = rt.alloc();
+    let tx = bytes(alloc, b"aa")?;
+    let snodes = proved_node(alloc)?;
+    let values = one_peer(alloc)?;
+    let token = bytes(alloc, b"aoeusnth")?;
+    let message = Message::Answer {
+        tx,
+        answer: Answer {
+            id: ABC,
+            nodes: None,
+            snodes: Some(snodes),
+            token: Some(token),
+            values: Some(values),
+        },
+    };
+    let text =
+        b"d1:rd2:id20:abcdefghij01234567896:snodes78:mnopqrstuvwxyz123456kkkkkkkkkkkkkkkkkkkkkkkkkkkkkkkkxxxxxxxxxxxxxxxxxxxx\x7f\x00\x00\x01\x1a\xe15:token8:aoeusnth6:valuesl6:\x7f\x00\x00\x01\x1a\xe1ee1:t2:aa1:y1:re";
+    reads(&rt, alloc, text, &message);
+    writes(&rt, alloc, &message, text);
+    Ok(())
+}
+
+/// The first step that fails is named.
+#[test]
+fn refusals_name_the_key(rt: HostRuntime) {
+    let alloc = rt.alloc();
+    refuses(&rt, alloc, b"le", KrpcFault::Shape { key: Key::Top });
+    refuses(&rt, alloc, b"de", KrpcFault::Missing { key: Key::T });
+    refuses(&rt, alloc, b"d1:t2:aae", KrpcFault::Missing { key: Key::Y });
+    refuses(
+        &rt,
+        alloc,
+        b"d1:t2:aa1:y1:xe",
+        KrpcFault::Shape { key: Key::Y },
+    );
+    refuses(
+        &rt,
+        alloc,
+        b"d1:q4:ping1:t2:aa1:y1:qe",
+        KrpcFault::Missing { key: Key::A },
+    );
+}
+
+#[test]
+fn refusals_name_the_place_and_the_length(rt: HostRuntime) {
+    let alloc = rt.alloc();
+    refuses(&rt, alloc, b"i1ex", KrpcFault::Bad(Bad::Trailing { at: 3 }));
+    refuses(
+        &rt,
+        alloc,
+        b"d1:rd2:id20:abcdefghij01234567895:nodes27:mnopqrstuvwxyz1234567654321e1:t2:aa1:y1:re",
+        KrpcFault::Records {
+            key: Key::Nodes,
+            len: 27,
+        },
+    );
+}
+
+/// A record of BEP 32 has an IPv6 address; one byte less is none.
+#[test]
+fn a_record_of_either_length_is_split(rt: HostRuntime) {
+    let record = b"mnopqrstuvwxyz123456AAAABBBBCCCCDDDD\x1a\xe1";
+    match split_record::<16>(record, 0) {
+        Some(parts) => {
+            let address = parts.1;
+            assert!(&rt; address == *b"AAAABBBBCCCCDDDD");
+            assert_eq!(&rt; parts.2, 6881);
+        }
+        None => assert!(&rt; false, "no record"),
+    }
+    assert!(&rt; split_record::<16>(record, 1).is_none());
+}
+
+/// The two queries of a lookup, with the transaction id 0x1aed8da0.
+#[test]
+fn queries_are_written(rt: HostRuntime) {
+    let mut buf = [0u8; 160];
+    let len = find_node_into(&mut buf, &ABC, &MNO, 0x1aed8da0);
+    assert_eq!(&rt;
+        &buf[..len],
+        b"d1:ad2:id20:abcdefghij01234567896:target20:mnopqrstuvwxyz123456e1:q9:find_node2:roi1e1:t4:\xa0\x8d\xed\x1a1:y1:qe".as_slice()
+    );
+    let len = get_peers_into(&mut buf, &ABC, &MNO, 0x1aed8da0);
+    assert_eq!(&rt;
+        &buf[..len],
+        b"d1:ad2:id20:abcdefghij01234567899:info_hash20:mnopqrstuvwxyz123456e1:q9:get_peers2:roi1e1:t4:\xa0\x8d\xed\x1a1:y1:qe".as_slice()
+    );
+}
