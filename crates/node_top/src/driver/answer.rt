@@ -15,6 +15,13 @@ use kad_base::{Addr, Contact, Id, List, NoMemory, Policy, Report, Reports, Seria
 use kad_krpc::{Answer, KrpcFault, Message, decode};
 use std::alloc::Global;
 
+/// Whether the datagram is short enough to be read.
+fn is_short(bytes: &[u8]) -> bool
+    ensures { IsTrue result ↔ (length bytes.now ≤ 4096) }
+{
+    bytes.len() <= MAX_DATAGRAM
+}
+
 /// Whether the transaction id is the four bytes of the word.
 #[tactic(auto, unfolding(kad_base::specs::Words::word_bytes))]
 fn is_tx(bytes: &[u8], word: u32) -> bool
@@ -77,7 +84,7 @@ pub(crate) fn reply_to(
 ) -> Result<Option<Reply>, NoMemory>
     ensures { IfOk result (λ o. MatchOption o ((r : Reply) → ¬ Replies bytes.now from (as_open query.now) r) (λ r. Replies bytes.now from (as_open query.now) r)) }
 {
-    if bytes.len() > MAX_DATAGRAM {
+    if !is_short(bytes) {
         return Ok(None);
     }
     if !is_source(&from, &query.contact.addr) {
