@@ -170,7 +170,7 @@ AnswerGives policy q answer e =
     ((answer.id ≡ q.contact.id) × (e ≡ Heard q.path q.contact (reports_of policy answer)))
     ⊎ ((answer.id ≢ q.contact.id) × (e ≡ Lost q.path q.contact WrongId))
 
--- and so does an error message, with its code
+-- what a reply gives: an error message loses the contact, with its code
 abbrev pub ReplyGives : Policy → OpenQuery → Reply → Entry → Type 0
 ReplyGives policy q (reply.Answer answer) e = AnswerGives policy q answer e
 ReplyGives policy q (reply.Error code) e = e ≡ Lost q.path q.contact (Error code)

@@ -1,4 +1,3 @@
-use Rattle.std.specs.Prelude.{◌≤◌, length}
 use Rattle.node_top.proofs.Ending.{own_replied, refused_replied}
 use Rattle.node_top.proofs.driver.answer.reply_to.Goals as goal
 
