@@ -9,7 +9,6 @@ use Rattle.kad_base.specs.declared.plain.Event.{Event}
 use Rattle.kad_base.specs.declared.plain.Event.TheVariants.{Got, Quiet}
 use Rattle.kad_base.specs.Outside.{Grows}
 use Rattle.kad_base.proofs.Grown.{grows_then}
-use Rattle.kad_krpc.specs.declared.message.Answer.{Answer}
 use Rattle.kad_base.specs.Contacts.{among}
 use Rattle.kad_distance.specs.KClosest.{k_closest}
 use Rattle.id_puzzles.specs.Drawn.{Drawn}
@@ -19,8 +18,9 @@ use Rattle.claim_book.specs.Journal.{asked, alive, open_on, may_ask}
 use Rattle.claim_book.specs.State.{BookState}
 use Rattle.node_top.specs.declared.driver.plain.LookSetting.{LookSetting}
 use Rattle.node_top.specs.declared.driver.plain.Query.{Query}
+use Rattle.node_top.specs.declared.driver.plain.Reply.{Reply}
 use Rattle.node_top.specs.declared.driver.plain.Stand.{Stand}
-use Rattle.node_top.specs.Tells.{Given, OpenQuery, Seen, is_driven, driven, IsEarliest, WaitsUntil, HaveAsked, Receives, Answers, AnswerGives, IsStray, is_overdue, timed_out, closed_at, open_at, goes_on, after_match, after_stray, after_quiet, EndsAtStray}
+use Rattle.node_top.specs.Tells.{Given, OpenQuery, Seen, is_driven, driven, IsEarliest, WaitsUntil, HaveAsked, Receives, Replies, ReplyGives, IsStray, is_overdue, timed_out, closed_at, open_at, goes_on, after_match, after_stray, after_quiet, EndsAtStray}
 use Rattle.node_top.specs.Standing.{as_open, queries_of, Stands, StandsAfter, Telling, IsOf, Hears, Expires, waits_until, goes_round, weight_of, ReceivesOne, TakesStray, EndsByStray}
 use Rattle.node_top.proofs.Settling.{driven_append}
 use Rattle.node_top.proofs.Telling.{GoesOn, telling_next, driven_more}
@@ -73,10 +73,10 @@ receives_of g stand q place J more s until w st =
       asked = asked_of s.receives g J more s w.one_path w.none st.given;
     }
 
--- the open query was answered
-pub match_goes : (g : Given) (stand : Stand) (q : Query) (place : ℕ) (J : List Entry) (from : Addr) (bytes : List ℕ) (until at : ℕ) (answer : Answer) (e : Entry) → Waiting g stand q J until → Answers bytes from (as_open q) answer → AnswerGives g.setting.policy (as_open q) answer e → is_driven e ≡ true
+-- the open query had its reply
+pub match_goes : (g : Given) (stand : Stand) (q : Query) (place : ℕ) (J : List Entry) (from : Addr) (bytes : List ℕ) (until at : ℕ) (what : Reply) (e : Entry) → Waiting g stand q J until → Replies bytes from (as_open q) what → ReplyGives g.setting.policy (as_open q) what e → is_driven e ≡ true
     → GoesOn g stand (record { moment = at; query = None; receives = 0; strays = stand.strays }) place place J (J ++ e ∷ []) (Got from bytes until at)
-match_goes g stand q place J from bytes until at answer e w answers gives is = record {
+match_goes g stand q place J from bytes until at what e w replies gives is = record {
   more = e ∷ [];
   journal = refl;
   next = λ s st. (
@@ -86,7 +86,7 @@ match_goes g stand q place J from bytes until at answer e w answers gives is = r
       inl (record {
         entry = e;
         left = [];
-        matched = record { before = []; query = as_open q; behind = []; answer = answer; queries = st.queries ∙ ap queries_of w.query; answers = answers; entry = gives; closes = refl };
+        matched = record { before = []; query = as_open q; behind = []; what = what; queries = st.queries ∙ ap queries_of w.query; replies = replies; entry = gives; closes = refl };
         after = refl;
       }),
     ),
@@ -109,12 +109,12 @@ given_closed q at J J' s queries given is =
     ap (λ l. l ++ closed_at at s.queries) given ∙ ap (λ l. driven J ++ closed_at at l) queries
     ∙ sym (ap driven is ∙ driven_append J (closed_at at (as_open q ∷ [])) ∙ ap (λ l. driven J ++ l) (closed_driven (filter (is_overdue at) (as_open q ∷ []))))
 
-stray_of : (q : Query) (s : Seen) (from : Addr) (bytes : List ℕ) → s.queries ≡ as_open q ∷ [] → ((answer : Answer) → ¬ Answers bytes from (as_open q) answer) → IsStray s from bytes
-stray_of q s from bytes queries none x has answer h =
+stray_of : (q : Query) (s : Seen) (from : Addr) (bytes : List ℕ) → s.queries ≡ as_open q ∷ [] → ((r : Reply) → ¬ Replies bytes from (as_open q) r) → IsStray s from bytes
+stray_of q s from bytes queries none x has r h =
     let is : x ≡ as_open q = contains_one (as_open q) x (subst (λ l. Contains l x) queries has) in
-    none answer (subst (λ y. Answers bytes from y answer) is h)
+    none r (subst (λ y. Replies bytes from y r) is h)
 
-pub stray_goes : (g : Given) (stand to : Stand) (q : Query) (place : ℕ) (old new : BookState) (from : Addr) (bytes : List ℕ) (until at : ℕ) → Waiting g stand q old.journal until → ((answer : Answer) → ¬ Answers bytes from (as_open q) answer) → TakesStray q at stand to old new
+pub stray_goes : (g : Given) (stand to : Stand) (q : Query) (place : ℕ) (old new : BookState) (from : Addr) (bytes : List ℕ) (until at : ℕ) → Waiting g stand q old.journal until → ((r : Reply) → ¬ Replies bytes from (as_open q) r) → TakesStray q at stand to old new
     → GoesOn g stand to place place old.journal new.journal (Got from bytes until at)
 stray_goes g stand to q place old new from bytes until at w none takes = record {
   more = closed_at at (as_open q ∷ []);
@@ -188,9 +188,9 @@ pub record Receiving (look : LookSetting) (from : Stand) (q : Query) (old : Book
   pub few : from.strays < 1000000
   pub until_is : until ≡ waits_until from.receives q.deadline from.moment
 
-pub match_receives : (look : LookSetting) (from : Stand) (q : Query) (old new : BookState) (told told' : Option (List Event)) (source : Addr) (bytes : List ℕ) (until at : ℕ) (answer : Answer) → Receiving look from q old until → Answers bytes source (as_open q) answer → Hears look.setting.policy q answer old new → Grows told told' (λ t. t ≡ Got source bytes until at ∷ [])
+pub match_receives : (look : LookSetting) (from : Stand) (q : Query) (old new : BookState) (told told' : Option (List Event)) (source : Addr) (bytes : List ℕ) (until at : ℕ) (what : Reply) → Receiving look from q old until → Replies bytes source (as_open q) what → Hears look.setting.policy q what old new → Grows told told' (λ t. t ≡ Got source bytes until at ∷ [])
     → ReceivesOne look from (record { moment = at; query = None; receives = 0; strays = from.strays }) old new told told'
-match_receives look from q old new told told' source bytes until at answer r answers hears grows =
+match_receives look from q old new told told' source bytes until at what r replies hears grows =
     let to : Stand = record { moment = at; query = None; receives = 0; strays = from.strays } in
     let journal = ap (λ (b : BookState). b.journal) hears.after in
     record {
@@ -204,11 +204,11 @@ match_receives look from q old new told told' source bytes until at answer r ans
       tells = λ words g began is h.
           subst (λ J. Telling g to words.place J began told') (sym journal)
           (telling_next g from to words.place words.place old.journal (old.journal ++ hears.entry ∷ []) (Got source bytes until at) began told told'
-          (match_goes g from q words.place old.journal source bytes until at answer hears.entry (waiting_of look g words from q old until is r.query r.open_one r.one_path r.one_query r.until_is) answers
-          (subst (λ (s : Setting). AnswerGives s.policy (as_open q) answer hears.entry) (sym is.setting) hears.gives) hears.is_driven) h grows);
+          (match_goes g from q words.place old.journal source bytes until at what hears.entry (waiting_of look g words from q old until is r.query r.open_one r.one_path r.one_query r.until_is) replies
+          (subst (λ (s : Setting). ReplyGives s.policy (as_open q) what hears.entry) (sym is.setting) hears.gives) hears.is_driven) h grows);
     }
 
-pub stray_receives : (look : LookSetting) (from to : Stand) (q : Query) (old new : BookState) (told told' : Option (List Event)) (source : Addr) (bytes : List ℕ) (until at : ℕ) → Receiving look from q old until → ((answer : Answer) → ¬ Answers bytes source (as_open q) answer) → TakesStray q at from to old new → Grows told told' (λ t. t ≡ Got source bytes until at ∷ []) → to.receives < 32
+pub stray_receives : (look : LookSetting) (from to : Stand) (q : Query) (old new : BookState) (told told' : Option (List Event)) (source : Addr) (bytes : List ℕ) (until at : ℕ) → Receiving look from q old until → ((r : Reply) → ¬ Replies bytes source (as_open q) r) → TakesStray q at from to old new → Grows told told' (λ t. t ≡ Got source bytes until at ∷ []) → to.receives < 32
     → ReceivesOne look from to old new told told'
 stray_receives look from to q old new told told' source bytes until at r none takes grows few = record {
   setting = takes.expires.setting;
@@ -258,7 +258,7 @@ quiet_receives look from to q old new told told' until at r expires moment recei
 }
 
 -- the last stray that a lookup takes
-pub last_stray : (look : LookSetting) (from : Stand) (q : Query) (old : BookState) (told told' : Option (List Event)) (source : Addr) (bytes : List ℕ) (until at : ℕ) → Receiving look from q old until → ((answer : Answer) → ¬ Answers bytes source (as_open q) answer) → Grows told told' (λ t. t ≡ Got source bytes until at ∷ []) → from.strays + 1 ≡ 1000000
+pub last_stray : (look : LookSetting) (from : Stand) (q : Query) (old : BookState) (told told' : Option (List Event)) (source : Addr) (bytes : List ℕ) (until at : ℕ) → Receiving look from q old until → ((r : Reply) → ¬ Replies bytes source (as_open q) r) → Grows told told' (λ t. t ≡ Got source bytes until at ∷ []) → from.strays + 1 ≡ 1000000
     → EndsByStray look from old told told'
 last_stray look from q old told told' source bytes until at r none grows number g words began is h =
     grows_then began told told' _ _ _ h grows (λ es fs p e. ends es fs p e)

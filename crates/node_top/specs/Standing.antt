@@ -6,7 +6,6 @@ use Rattle.kad_base.specs.declared.plain.Event.{Event}
 use Rattle.kad_base.specs.Outside.{Grows}
 use Rattle.kad_base.specs.declared.plain.Event.TheVariants.{Sent, Unsent}
 use Rattle.kad_base.specs.Words.{word, word_bytes}
-use Rattle.kad_krpc.specs.declared.message.Answer.{Answer}
 use Rattle.kad_krpc.specs.Form.{find_node_form}
 use Rattle.id_puzzles.specs.Drawn.{Drawn}
 use Rattle.claim_book.specs.declared.plain.Setting.{Setting}
@@ -21,8 +20,9 @@ use Rattle.claim_book.specs.State.{BookState, added}
 use Rattle.node_top.specs.declared.driver.plain.LookSetting.{LookSetting}
 use Rattle.node_top.specs.declared.driver.plain.Outcome.{Outcome}
 use Rattle.node_top.specs.declared.driver.plain.Query.{Query}
+use Rattle.node_top.specs.declared.driver.plain.Reply.{Reply}
 use Rattle.node_top.specs.declared.driver.plain.Stand.{Stand}
-use Rattle.node_top.specs.Tells.{Given, deadline_of, AnswerGives, closed_at, open_at, OpenQuery, Seen, is_driven, driven, TellsSoFar, Tells, EndsAtStray}
+use Rattle.node_top.specs.Tells.{Given, deadline_of, ReplyGives, closed_at, open_at, OpenQuery, Seen, is_driven, driven, TellsSoFar, Tells, EndsAtStray}
 
 abbrev pub as_open : Query → OpenQuery
 as_open q = record { path = 0; contact = q.contact; tx = q.tx; deadline = q.deadline }
@@ -119,10 +119,10 @@ pub record HasRunOut (words words' : Drawn) (old new : BookState) (told told' : 
   pub book : new ≡ old
   pub told_same : told' ≡ told
 
--- the book has one entry more, that of the answer to the open query
-pub record Hears (policy : Policy) (q : Query) (answer : Answer) (old new : BookState) : Type 0 where
+-- the book has one entry more, that of the reply to the open query
+pub record Hears (policy : Policy) (q : Query) (r : Reply) (old new : BookState) : Type 0 where
   pub entry : Entry
-  pub gives : AnswerGives policy (as_open q) answer entry
+  pub gives : ReplyGives policy (as_open q) r entry
   pub after : new ≡ added old entry
   pub closes : open_on 0 new.journal ≡ []
   pub asks_none : asked new.journal ≡ asked old.journal

@@ -1,7 +1,7 @@
--- What the transcript of a link tells of the journal of a lookup: which entries its events give, and when. Queries are
--- matched by transaction id and source address (BEP 5); who may be asked, and when a path waits, is Kademlia's (2002,
--- section 2.3) on each of S/Kademlia's disjoint paths (2007, section 4.4).
-use Rattle.std.specs.Prelude.{◌≡◌, ◌≢◌, ◌⊎◌, ℕ, zero, suc, ◌+◌, ◌-◌, ◌%◌, ◌^◌, ◌<◌, ◌≤◌, min, List, [], ◌∷◌, ◌++◌, take, map, filter, Option, Some, None, Bool, true, false, not, nat_lt, Contains, if◌then◌else◌}
+-- What the transcript of a link tells of the journal of a lookup: which entries its events give, and when. Answers and
+-- error messages are matched to queries by transaction id and source address (BEP 5); who may be asked, and when a path
+-- waits, is Kademlia's (2002, section 2.3) on each of S/Kademlia's disjoint paths (2007, section 4.4).
+use Rattle.std.specs.Prelude.{◌≡◌, ◌≢◌, ◌⊎◌, ℕ, zero, suc, ◌+◌, ◌-◌, ◌%◌, ◌^◌, ◌<◌, ◌≤◌, min, List, [], ◌∷◌, ◌++◌, length, take, map, filter, Option, Some, None, Bool, true, false, not, nat_lt, Contains, if◌then◌else◌}
 use Rattle.std.specs.List.{AllByRecursion}
 use Rattle.kad_base.specs.declared.plain.Addr.{Addr}
 use Rattle.kad_base.specs.declared.plain.Contact.{Contact}
@@ -12,14 +12,18 @@ use Rattle.kad_base.specs.declared.plain.Event.{Event}
 use Rattle.kad_base.specs.declared.plain.Event.TheVariants.{Now, Sent, Unsent, Got, Quiet}
 use Rattle.kad_base.specs.Words.{word, word_bytes}
 use Rattle.kad_krpc.specs.declared.message.Answer.{Answer}
-use Rattle.kad_krpc.specs.declared.message.Message.TheVariants.{Answer as Answer_message}
-use Rattle.kad_krpc.specs.Form.{find_node_form, Says}
+use Rattle.kad_krpc.specs.declared.message.Message.{Message}
+use Rattle.kad_krpc.specs.declared.message.Message.TheVariants as message
+use Rattle.kad_krpc.specs.Form.{find_node_form}
+use Rattle.kad_krpc.specs.Reading.{Says}
 use Rattle.claim_book.specs.declared.plain.Setting.{Setting}
-use Rattle.claim_book.specs.declared.plain.Cause.TheVariants.{SendFault, Timeout, WrongId}
+use Rattle.claim_book.specs.declared.plain.Cause.TheVariants.{SendFault, Timeout, WrongId, Error}
 use Rattle.claim_book.specs.declared.plain.Entry.{Entry}
 use Rattle.claim_book.specs.declared.plain.Entry.TheVariants.{Ask, Heard, Lost}
 use Rattle.claim_book.specs.Journal.{may_ask}
 use Rattle.claim_book.specs.Legal.{is_of}
+use Rattle.node_top.specs.declared.driver.plain.Reply.{Reply}
+use Rattle.node_top.specs.declared.driver.plain.Reply.TheVariants as reply
 
 -- what a lookup is given: its setting, the time to wait in milliseconds, and the generator's seed and next place
 pub record Given : Type 0 where
@@ -131,22 +135,33 @@ pub record Receives (g : Given) (J : List Entry) (s : Seen) (until : ℕ) : Type
   pub waits : WaitsUntil s.receives s until
   pub asked : HaveAsked s.receives g J s
 
--- the reports that an answer gives: the first 16 contacts of `nodes`, without proofs; a lookup that wants proofs
--- takes nothing from `nodes`
+-- the reports that an answer gives: the first 16 contacts of `nodes` (BEP 5), without proofs; where the lookup wants
+-- proofs the first 16 of `snodes` alone (this project's own key); none where that part is missing
 abbrev pub bare : Contact → Report
 bare c = record { contact = c; proof = None }
 
-abbrev pub nodes_of : Option (List Contact) → List Contact
-nodes_of None = []
-nodes_of (Some nodes) = nodes
+abbrev pub part_of : {A : Type 0} → Option (List A) → List A
+part_of None = []
+part_of (Some items) = items
 
 abbrev pub reports_of : Policy → Answer → List Report
-reports_of Plain answer = map bare (take 16 (nodes_of answer.nodes))
-reports_of (Puzzled c1 c2) answer = []
+reports_of Plain answer = map bare (take 16 (part_of answer.nodes))
+reports_of (Puzzled c1 c2) answer = take 16 (part_of answer.snodes)
 
--- the datagram answers the open query: it is an answer with the query's transaction id, from its address
-pub record Answers (bytes : List ℕ) (from : Addr) (q : OpenQuery) (answer : Answer) : Type 0 where
-  pub says : Says bytes (Answer_message (word_bytes q.tx) answer)
+-- what a message says to the query with this transaction id: an answer, or an error message with its code (BEP 5); a
+-- query says nothing to it
+abbrev pub SaysTo : List ℕ → Message → Reply → Type 0
+SaysTo id (message.Query tx read_only ask) r = ⊥
+SaysTo id (message.Answer tx answer) r = (tx ≡ id) × (r ≡ reply.Answer answer)
+SaysTo id (message.Fault tx code text) r = (tx ≡ id) × (r ≡ reply.Error code)
+
+-- the datagram replies to the open query: it is short enough to be read (this project's own limit), says an answer or an
+-- error message with the query's transaction id, and comes from the query's address (BEP 5)
+pub record Replies (bytes : List ℕ) (from : Addr) (q : OpenQuery) (r : Reply) : Type 0 where
+  pub short : length bytes ≤ 4096
+  pub said : Message
+  pub says : Says bytes said
+  pub to_query : SaysTo (word_bytes q.tx) said r
   pub source : from ≡ q.contact.addr
 
 -- an answer in the contact's own name is heard, and one in another name loses the contact
@@ -155,20 +170,25 @@ AnswerGives policy q answer e =
     ((answer.id ≡ q.contact.id) × (e ≡ Heard q.path q.contact (reports_of policy answer)))
     ⊎ ((answer.id ≢ q.contact.id) × (e ≡ Lost q.path q.contact WrongId))
 
--- the datagram is matched: it answers one of the open queries, which it closes
+-- what a reply gives: an error message loses the contact, with its code
+abbrev pub ReplyGives : Policy → OpenQuery → Reply → Entry → Type 0
+ReplyGives policy q (reply.Answer answer) e = AnswerGives policy q answer e
+ReplyGives policy q (reply.Error code) e = e ≡ Lost q.path q.contact (Error code)
+
+-- the datagram is matched: it replies to one of the open queries, which it closes
 pub record Matched (g : Given) (s : Seen) (from : Addr) (bytes : List ℕ) (e : Entry) (left : List OpenQuery) : Type 0 where
   pub before : List OpenQuery
   pub query : OpenQuery
   pub behind : List OpenQuery
-  pub answer : Answer
+  pub what : Reply
   pub queries : s.queries ≡ before ++ query ∷ behind
-  pub answers : Answers bytes from query answer
-  pub entry : AnswerGives g.setting.policy query answer e
+  pub replies : Replies bytes from query what
+  pub entry : ReplyGives g.setting.policy query what e
   pub closes : left ≡ before ++ behind
 
--- the datagram is a stray: it answers no open query
+-- the datagram is a stray: it replies to no open query
 abbrev pub IsStray : Seen → Addr → List ℕ → Type 0
-IsStray s from bytes = (q : OpenQuery) → Contains s.queries q → (answer : Answer) → ¬ Answers bytes from q answer
+IsStray s from bytes = (q : OpenQuery) → Contains s.queries q → (r : Reply) → ¬ Replies bytes from q r
 
 -- the moment has passed the deadline
 abbrev pub is_overdue : ℕ → OpenQuery → Bool

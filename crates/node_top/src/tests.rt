@@ -1,5 +1,6 @@
 //! Whole lookups over a scripted link.
 mod link;
+mod replies;
 
 use crate::run;
 use id_puzzles::Sha1Check;

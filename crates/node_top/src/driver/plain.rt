@@ -1,6 +1,7 @@
 //! What a lookup is given, what it answers, and where it stands between two calls on its link.
 use claim_book::{Counts, Journal, Setting};
 use kad_base::{Contact, Contacts};
+use kad_krpc::Answer;
 
 /// What a lookup is given: its setting, and the time to wait for an answer in milliseconds.
 #[derive(Clone, Copy, Debug)]
@@ -25,6 +26,14 @@ pub(crate) enum LookFault {
     /// The last stray that a lookup takes was received.
     Strays,
     NoMemory,
+}
+
+/// What a datagram says to an open query (BEP 5).
+#[derive(Debug, Drop)]
+pub(crate) enum Reply {
+    Answer(Answer),
+    /// An error message. Its text is not kept.
+    Error { code: i64 },
 }
 
 /// A query that is open: whom it asks, its transaction id, and its deadline in milliseconds.

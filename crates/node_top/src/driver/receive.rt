@@ -4,7 +4,7 @@ ghost use Rattle.kad_base.specs.Outside.{Rose};
 ghost use Rattle.claim_book.specs.Journal.{open_on};
 ghost use Rattle.node_top.specs.Standing.{ReceivesOne, TakesStray, EndsByStray, waits_until, goes_round};
 
-use crate::driver::answer::{answer_to, expire, hear};
+use crate::driver::answer::{expire, hear, reply_to};
 use crate::driver::plain::{LookFault, LookSetting, Query, Stand};
 use claim_book::Book;
 use kad_base::limits::{MAX_ROUND_RECEIVES, MAX_STRAYS};
@@ -59,7 +59,7 @@ fn take_stray(book: &mut Book, query: Query, stand: &Stand, at: u64) -> Result<S
     })
 }
 
-/// Makes one receive call, and tells the book what it gave: the answer of the open query, or that its deadline has
+/// Makes one receive call, and tells the book what it gave: the reply to the open query, or that its deadline has
 /// passed at the told moment.
 pub(crate) fn receive<L: Link>(
     alloc: Global,
@@ -84,8 +84,8 @@ pub(crate) fn receive<L: Link>(
     ensures recv_faults { L.recv_faults link.old ≤ L.recv_faults link.new }
 {
     match link.recv(buf, wait_until(stand, &query)) {
-        Ok(Came::Packet { from, len, at }) => match answer_to(alloc, &query, from, &buf[..len]) {
-            Ok(Some(answer)) => match hear(alloc, book, look.setting.policy, &query, &answer) {
+        Ok(Came::Packet { from, len, at }) => match reply_to(alloc, &query, from, &buf[..len]) {
+            Ok(Some(reply)) => match hear(alloc, book, look.setting.policy, &query, &reply) {
                 Ok(()) => Ok(Stand {
                     moment: at,
                     query: None,

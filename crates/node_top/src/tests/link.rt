@@ -15,6 +15,17 @@ pub struct Answer {
     pub nodes: &'static [u8],
 }
 
+/// A query to contact `to` brings this datagram at this moment from this port: the query's transaction id between two
+/// given texts.
+#[derive(Clone, Copy, Debug)]
+pub struct Scripted {
+    pub to: u8,
+    pub at: u64,
+    pub port: u16,
+    pub front: &'static [u8],
+    pub behind: &'static [u8],
+}
+
 /// A datagram on its way.
 #[derive(Debug, Drop)]
 struct Delivery {
@@ -28,6 +39,7 @@ struct Delivery {
 pub struct ScriptLink {
     alloc: Global,
     answers: &'static [Answer],
+    scripted: &'static [Scripted],
     failing_send: u64,
     failing_receive: u64,
     sends: u64,
@@ -52,8 +64,31 @@ impl ScriptLink {
         ScriptLink {
             alloc,
             answers,
+            scripted: &[],
             failing_send,
             failing_receive,
+            sends: 0,
+            receives: 0,
+            moment: 0,
+            sent: Vec::new(alloc),
+            coming: Vec::new(alloc),
+            send_faults: 0,
+            recv_faults: 0,
+        }
+    }
+
+    /// No call of this link fails.
+    pub fn with_scripted(
+        alloc: Global,
+        answers: &'static [Answer],
+        scripted: &'static [Scripted],
+    ) -> Self {
+        ScriptLink {
+            alloc,
+            answers,
+            scripted,
+            failing_send: NEVER,
+            failing_receive: NEVER,
             sends: 0,
             receives: 0,
             moment: 0,
@@ -90,6 +125,11 @@ fn put_id(bytes: &mut Vec<u8>, n: u8) -> Result<(), AllocError> {
     Ok(())
 }
 
+/// The transaction id of a lookup's query.
+fn id_of(query: &[u8]) -> &[u8] {
+    query.get(90..94).unwrap_or(b"")
+}
+
 /// An answer in its written form, with the transaction id of the query.
 fn written(alloc: Global, answer: &Answer, query: &[u8]) -> Result<Vec<u8>, AllocError> {
     let mut bytes = Vec::new(alloc);
@@ -106,8 +146,16 @@ fn written(alloc: Global, answer: &Answer, query: &[u8]) -> Result<Vec<u8>, Allo
         }
     }
     bytes.extend_from_slice(b"e1:t4:")?;
-    bytes.extend_from_slice(query.get(90..94).unwrap_or(b""))?;
+    bytes.extend_from_slice(id_of(query))?;
     bytes.extend_from_slice(b"1:y1:re")?;
+    Ok(bytes)
+}
+
+/// A scripted datagram, with the transaction id of the query.
+fn spelled(alloc: Global, scripted: &Scripted, query: &[u8]) -> Result<Vec<u8>, AllocError> {
+    let mut bytes = scripted.front.to_vec(alloc)?;
+    bytes.extend_from_slice(id_of(query))?;
+    bytes.extend_from_slice(scripted.behind)?;
     Ok(bytes)
 }
 
@@ -139,6 +187,27 @@ fn put_answers(
     Ok(())
 }
 
+/// Puts the scripted datagrams that a query to this port brings on their way.
+fn put_scripted(
+    alloc: Global,
+    scripted: &[Scripted],
+    coming: &mut Vec<Delivery>,
+    port: u16,
+    query: &[u8],
+) -> Result<(), AllocError> {
+    for one in scripted {
+        if port == 6000 + one.to as u16 {
+            let bytes = spelled(alloc, one, query)?;
+            coming.push(Delivery {
+                at: one.at,
+                port: one.port,
+                bytes,
+            })?;
+        }
+    }
+    Ok(())
+}
+
 impl Link for ScriptLink {
     ghost told = { λ _. None };
 
@@ -156,9 +225,11 @@ impl Link for ScriptLink {
         let fails = self.sends == self.failing_send;
         self.sends = self.sends.saturating_add(1);
         let answers = if fails { &[] } else { self.answers };
+        let scripted = if fails { &[] } else { self.scripted };
         let kept = keep(self.alloc, &mut self.sent, bytes);
         let put = put_answers(self.alloc, answers, &mut self.coming, to.port, bytes);
-        if fails || kept.is_err() || put.is_err() {
+        let more = put_scripted(self.alloc, scripted, &mut self.coming, to.port, bytes);
+        if fails || kept.is_err() || put.is_err() || more.is_err() {
             self.send_faults = self.send_faults.saturating_add(1);
             return Err(Failed);
         }

@@ -6,7 +6,7 @@ use Rattle.node_top.proofs.driver.receive.receive.Goals as goal
 pub returns-in-Ok-clause-ok : goal.returns-in-Ok-clause-ok
 returns-in-Ok-clause-ok g c =
     let p = c.in-Ok-Packet in
-    match_receives c.args.look.now c.args.stand.now c.args.query c.args.book.now c.hear.new.book _ _ p.from (take p.len c.recv.new.buf) c.wait_until.result p.at c.in-Ok-Some.answer
+    match_receives c.args.look.now c.args.stand.now c.args.query c.args.book.now c.hear.new.book _ _ p.from (take p.len c.recv.new.buf) c.wait_until.result p.at c.in-Ok-Some.reply
     (record { query = c.requires.query; open_one = c.requires.is_open; setting = c.requires.setting; one_path = c.requires.one_path; one_query = c.requires.one_query; few = c.requires.few; until_is = c.wait_until.ensures })
     (rw c.in-Ok-Some.field-0-is at c.in-Ok-Some.ensures) c.in-Ok.ensures.ok (rw p.field-0-is at p.ensures.ok)
 

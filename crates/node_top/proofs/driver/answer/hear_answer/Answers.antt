@@ -5,7 +5,7 @@ use Rattle.claim_book.specs.declared.plain.Entry.TheVariants.{Heard}
 use Rattle.claim_book.specs.State.{added}
 use Rattle.node_top.proofs.Ending.{wrong_id, own_id}
 use Rattle.node_top.proofs.BookFacts.{heard_kept}
-use Rattle.node_top.proofs.driver.answer.hear.Goals as goal
+use Rattle.node_top.proofs.driver.answer.hear_answer.Goals as goal
 
 pub returns-then-not-is_own-clause-ok : goal.returns-then-not-is_own-clause-ok
 returns-then-not-is_own-clause-ok c =
