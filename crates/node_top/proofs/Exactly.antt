@@ -22,7 +22,7 @@ use Rattle.node_top.proofs.LookupForm.{command_once}
 -- ---- what was read
 
 pub rose_after : (a b c : ℕ) → a ≤ b → Rose b c → Rose a c
-rose_after a b c le h = elim h [ | inl lt ↦ inl (omega (arith, le, lt)) | inr last ↦ inr last ]
+rose_after a b c le h = elim h [ inl lt ↦ inl (omega (arith, le, lt)) | inr last ↦ inr last ]
 
 -- where the rest is told, one input was read to its end
 input_once : (old new : Option (List ℕ)) (x y : List ℕ) → new ≢ None → ReadsAll old new x → ReadsAll old new y → x ≡ y
@@ -54,13 +54,13 @@ admits_once own policy [] xs ys s t = s ∙ sym t
 admits_once own policy (r ∷ rs) xs ys s t =
     elim s [
       | inl a ↦ elim t [
-          | inl b ↦ a.1 ∙ ap (λ l. r.contact ∷ l) (admits_once own policy rs a.0 b.0 a.3 b.3) ∙ sym b.1
-          | inr b ↦ absurd (b.0 a.2)
-        ]
+        | inl b ↦ a.1 ∙ ap (λ l. r.contact ∷ l) (admits_once own policy rs a.0 b.0 a.3 b.3) ∙ sym b.1
+        | inr b ↦ absurd (b.0 a.2)
+      ]
       | inr a ↦ elim t [
-          | inl b ↦ absurd (a.0 b.2)
-          | inr b ↦ admits_once own policy rs xs ys a.1 b.1
-        ]
+        | inl b ↦ absurd (a.0 b.2)
+        | inr b ↦ admits_once own policy rs xs ys a.1 b.1
+      ]
     ]
 
 reads_once : (setting : Setting) (old new : Option (List ℕ)) (xs ys : List Contact) → new ≢ None → Reads setting old new xs → Reads setting old new ys → xs ≡ ys
