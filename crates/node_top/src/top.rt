@@ -1,5 +1,5 @@
 //! The top call: one command, its output and its status.
-ghost use Rattle.std.specs.Prelude.{◌≡◌, ◌≢◌, ◌≤◌, ◌↔◌, None, map, string_bytes, IfOk, IfErr};
+ghost use Rattle.std.specs.Prelude.{◌≡◌, ◌≢◌, ◌≤◌, ◌⊎◌, ◌↔◌, None, map, string_bytes, IfOk, IfErr};
 ghost use Rattle.kad_base.specs.Outside.{Rose};
 ghost use Rattle.node_top.specs.Looked.{IsPlain, LookedUp, Looked, HasCause, HasBadLine, HasNoSeeds, HasSeeds, HasStrays, ReadsTooMuch, outside_of};
 ghost use Rattle.node_top.specs.Endings.{number_of, status_line, Writes, WritesLine, CutShort, EndsEarly, OrNoMemory};
@@ -77,7 +77,7 @@ pub fn run<R, S: Source, K: Sink, L: Link, C: Check>(
     // The text that was written is that of a legal journal which the link's events tell and whose paths have run out.
     ensures looked_up { result ≡ 0 → LookedUp (map (λ w. string_bytes w) words.now) random.now (S.left source.old) (S.left source.new) (L.told link.old) (L.told link.new) (K.written sink.old) (K.written sink.new) }
 
-    // What is wrong with the words is seen before anything else.
+    // Words of another form end with 2, and only they.
     ensures usage { result ≡ 2 ↔ ¬ IsPlain (map (λ w. string_bytes w) words.now) }
 
     // Each other status but 9 comes only with its cause.
@@ -86,22 +86,23 @@ pub fn run<R, S: Source, K: Sink, L: Link, C: Check>(
     ensures sink_fault { result ≡ 5 → Rose (K.faults sink.old) (K.faults sink.new) }
     ensures source_fault { result ≡ 6 → Rose (S.faults source.old) (S.faults source.new) }
     ensures strays { result ≡ 7 → HasStrays (map (λ w. string_bytes w) words.now) random.now (L.told link.old) (L.told link.new) }
+    ensures begun { (result ≡ 4) ⊎ (result ≡ 7) → HasSeeds (map (λ w. string_bytes w) words.now) random.now (S.left source.old) (S.left source.new) }
     ensures no_seeds { result ≡ 8 → HasNoSeeds (map (λ w. string_bytes w) words.now) random.now (S.left source.old) (S.left source.new) }
     ensures too_long { result ≡ 11 → ReadsTooMuch (S.left source.old) (S.left source.new) }
 
-    // Where its cause holds, nothing but want of memory keeps a status from coming.
+    // Where the source goes on telling, each of these causes brings its status, want of memory aside.
     ensures bad_line_comes { IsPlain (map (λ w. string_bytes w) words.now) → S.left source.new ≢ None → ¬ Rose (S.faults source.old) (S.faults source.new) → HasBadLine (S.left source.old) (S.left source.new) → OrNoMemory result 3 }
     ensures no_seeds_come { S.left source.new ≢ None → ¬ Rose (S.faults source.old) (S.faults source.new) → HasNoSeeds (map (λ w. string_bytes w) words.now) random.now (S.left source.old) (S.left source.new) → OrNoMemory result 8 }
     ensures too_long_comes { S.left source.new ≢ None → ReadsTooMuch (S.left source.old) (S.left source.new) → OrNoMemory result 11 }
 
-    // With a good input and a quiet outside a lookup is done.
+    // With a good input, no failure and few strays a lookup is done, want of memory aside.
     ensures complete { S.left source.new ≢ None → ¬ Rose (S.faults source.old) (S.faults source.new) → ¬ Rose (L.recv_faults link.old) (L.recv_faults link.new) → ¬ Rose (K.faults sink.old) (K.faults sink.new) → ¬ HasStrays (map (λ w. string_bytes w) words.now) random.now (L.told link.old) (L.told link.new) → HasSeeds (map (λ w. string_bytes w) words.now) random.now (S.left source.old) (S.left source.new) → OrNoMemory result 0 }
 
     // What was written: the line of the status, or at 5 a front of the text.
     ensures line { result ≢ 0 → result ≢ 5 → WritesLine result (S.left source.old) (S.left source.new) (K.written sink.old) (K.written sink.new) (K.faults sink.old) (K.faults sink.new) }
     ensures cut_short { result ≡ 5 → CutShort (map (λ w. string_bytes w) words.now) random.now (S.left source.old) (S.left source.new) (L.told link.old) (L.told link.new) (K.written sink.old) (K.written sink.new) }
 
-    // What was not touched.
+    // What was not called: the source at 2, and the link at each status that comes before the lookup begins.
     ensures unread { result ≡ 2 → source.new ≡ source.old }
     ensures unasked { EndsEarly result → link.new ≡ link.old }
     ensures statuses { (result ≤ 11) × (result ≢ 1) × (result ≢ 10) }
