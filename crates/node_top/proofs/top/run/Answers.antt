@@ -1,4 +1,4 @@
-use Rattle.std.proofs.Common.{sym, ap, ◌∙◌, subst}
+use Rattle.std.proofs.Common.{sym, subst}
 use Rattle.node_top.specs.Endings.{OrNoMemory}
 use Rattle.node_top.proofs.Exactly.{looked_seeds, found, bad_line_comes, no_seeds_come, too_long_comes, completes}
 use Rattle.node_top.proofs.top.run.Goals as goal
