@@ -1,5 +1,5 @@
 -- From a lookup to the command that asked for it.
-use Rattle.std.proofs.Common.{◌≡◌, ℕ, zero, suc, ◌<◌, ◌≤◌, List, [], ◌∷◌, length, Option, Result, Ok, Err, IfErr, inl, inr, sym, ap, subst, ◌∙◌, arith}
+use Rattle.std.proofs.Common.{◌≡◌, ◌≢◌, ℕ, zero, suc, ◌<◌, ◌≤◌, List, [], ◌∷◌, length, Option, Result, Ok, Err, IfErr, inl, inr, sym, ap, subst, ◌∙◌, arith}
 use Rattle.std.specs.List.{All}
 use Rattle.std.specs.List.Sorted.{IsStrictlySortedBy}
 use Rattle.kad_base.specs.declared.plain.Id.{Id}
@@ -69,9 +69,9 @@ text_is s o text a b c d is =
     ∙ ap (λ n. printed (result_of s o.journal) (length (asked o.journal)) n o.counts.turned) c
     ∙ ap (λ n. printed (result_of s o.journal) (length (asked o.journal)) (length (failed o.journal)) n) d
 
-pub looks_at : (look : LookWords) (random : List ℕ) (s : Setting) (words words' : Drawn) (left left' : Option (List ℕ)) (told told' : Option (List Event)) (contacts starts : List Contact) (o : Outcome) (text : List ℕ) → s ≡ setting_of look random → words ≡ record { seed = random; place = 5 } → Reads s left left' contacts → starts ≡ k_closest s.target s.k contacts
+pub looks_at : (look : LookWords) (random : List ℕ) (s : Setting) (words words' : Drawn) (left left' : Option (List ℕ)) (told told' : Option (List Event)) (contacts starts : List Contact) (o : Outcome) (text : List ℕ) → s ≡ setting_of look random → words ≡ record { seed = random; place = 5 } → Reads s left left' contacts → contacts ≢ [] → starts ≡ k_closest s.target s.k contacts
     → LooksUp (record { setting = s; timeout = look.timeout }) starts words words' told told' o → text ≡ printed o.found o.counts.asked o.counts.failed o.counts.turned → LooksAt look random left left' told told' text
-looks_at look random s words words' left left' told told' contacts starts o text e f reads closest up is =
+looks_at look random s words words' left left' told told' contacts starts o text e f reads some_one closest up is =
     let now = setting_of look random in
     let legal = subst (λ (x : Setting). Legal x o.journal) e up.legal in
     let over = subst (λ (x : Setting). (p : ℕ) → p < x.paths → RunOut x p o.journal) e up.run_out in
@@ -79,6 +79,7 @@ looks_at look random s words words' left left' told told' contacts starts o text
     record {
       contacts = contacts;
       reads = subst (λ (x : Setting). Reads x left left' contacts) e reads;
+      some_one = some_one;
       journal = o.journal;
       legal = legal;
       seeds_are = up.seeds_are ∙ closest ∙ ap (λ (x : Setting). k_closest x.target x.k contacts) e;
@@ -97,9 +98,9 @@ strays_at look random s words told told' e f ends = subst (λ (g : Given). Grows
 pub cause_of : (words : List Word) (look : LookWords) (random : List ℕ) (o : Outside) (status : Status) → CommandOf words (Lookup look) → LookCause look random o status → HasCause words random o status
 cause_of words look random o Usage c h = absurd h
 cause_of words look random o (BadLine line) c h = h
-cause_of words look random o LinkFault c h = h
+cause_of words look random o LinkFault c h = (h.0, record { look = look; command = c; reads = h.1 })
 cause_of words look random o SourceFault c h = h
-cause_of words look random o Strays c h = record { look = look; command = c; ends = h }
+cause_of words look random o Strays c h = (record { look = look; command = c; ends = h.0 }, record { look = look; command = c; reads = h.1 })
 cause_of words look random o NoSeeds c h = record { look = look; command = c; reads = h }
 cause_of words look random o NoMemory c h = tt
 cause_of words look random o TooLong c h = h

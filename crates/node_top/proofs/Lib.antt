@@ -16,3 +16,4 @@ pub mod Ending
 pub mod Receiving
 pub mod Looking
 pub mod Commands
+pub mod Exactly

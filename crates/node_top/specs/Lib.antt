@@ -6,3 +6,4 @@ pub mod Tells
 pub mod Standing
 pub mod Looked
 pub mod Written
+pub mod Endings

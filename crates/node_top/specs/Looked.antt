@@ -1,7 +1,7 @@
 -- What the top call promises: the input that was read, the seeds that it gives, and that the printed text is that of a
 -- legal journal which the link's events tell and whose paths have all run out (S/Kademlia, 2007, section 4.4, over
 -- Kademlia, 2002, section 2.3).
-use Rattle.std.specs.Prelude.{◌≡◌, ◌⊎◌, ℕ, ◌<◌, List, [], ◌∷◌, ◌++◌, length, Option, Some, None, IfSome, true}
+use Rattle.std.specs.Prelude.{◌≡◌, ◌≢◌, ◌⊎◌, ℕ, ◌<◌, ◌≤◌, List, [], ◌∷◌, ◌++◌, length, Option, Some, None, IfSome, true}
 use Rattle.std.specs.List.{IsDistinct}
 use Rattle.kad_base.specs.declared.plain.Id.{Id}
 use Rattle.kad_base.specs.declared.plain.Contact.{Contact}
@@ -30,9 +30,13 @@ use Rattle.node_top.specs.Lines.{lines, Reporting, IsFirstBad}
 use Rattle.node_top.specs.Printed.{printed}
 use Rattle.node_top.specs.Tells.{Given, Tells, EndsAtStray}
 
--- where the rest is told, nothing is left, and these bytes were read
+-- where the rest is told, nothing is left, and these bytes were read, which are no more than an input may have
 abbrev pub ReadsAll : Option (List ℕ) → Option (List ℕ) → List ℕ → Type 0
-ReadsAll old new input = IfSome new (λ rest. (rest ≡ []) × (old ≡ Some input))
+ReadsAll old new input = IfSome new (λ rest. (rest ≡ []) × (old ≡ Some input) × (length input ≤ 1048576))
+
+-- where the rest is told, no more was read than an input may have
+abbrev pub ReadsFew : Option (List ℕ) → Option (List ℕ) → Type 0
+ReadsFew old new = IfSome new (λ rest. (front : List ℕ) × (length front ≤ 1048576) × (old ≡ Some (front ++ rest)))
 
 -- where the rest is told, one byte more was read than an input may have
 abbrev pub ReadsTooMuch : Option (List ℕ) → Option (List ℕ) → Type 0
@@ -74,6 +78,12 @@ pub record Reads (setting : Setting) (left left' : Option (List ℕ)) (contacts 
   pub good_lines : Reporting (lines input) reports
   pub admits : Admits setting.own setting.policy reports contacts
 
+-- the same, and some contact is among them
+pub record ReadsSome (setting : Setting) (left left' : Option (List ℕ)) : Type 0 where
+  pub contacts : List Contact
+  pub reads : Reads setting left left' contacts
+  pub some_one : contacts ≢ []
+
 -- the text of a journal
 abbrev pub printed_of : Setting → List Entry → List ℕ
 printed_of setting J = printed (result_of setting J) (length (asked J)) (length (failed J)) (length (turned J))
@@ -84,6 +94,7 @@ printed_of setting J = printed (result_of setting J) (length (asked J)) (length 
 pub record LooksAt (look : LookWords) (random : List ℕ) (left left' : Option (List ℕ)) (told told' : Option (List Event)) (text : List ℕ) : Type 0 where
   pub contacts : List Contact
   pub reads : Reads (setting_of look random) left left' contacts
+  pub some_one : contacts ≢ []
   pub journal : List Entry
   pub legal : Legal (setting_of look random) journal
   pub seeds_are : seeds journal ≡ k_closest look.target 8 contacts
@@ -110,12 +121,22 @@ pub record LookedUp (words : List Word) (random : List ℕ) (left left' : Option
   pub looked : Looked words random left left' told told' text
   pub writes : Grows written written' (λ added. added ≡ text)
 
--- the input was read to its end, and this line of it is the first that is bad
-pub record HasBadLine (left left' : Option (List ℕ)) : Type 0 where
+-- the input was read to its end, and the line of this number is the first that is bad
+pub record IsBadLine (left left' : Option (List ℕ)) (number : ℕ) : Type 0 where
   pub input : List ℕ
   pub read : ReadsAll left left' input
-  pub number : ℕ
   pub first_bad : IsFirstBad (lines input) number
+
+-- the input was read to its end, and it has a bad line
+abbrev pub HasBadLine : Option (List ℕ) → Option (List ℕ) → Type 0
+HasBadLine left left' = (number : ℕ) × IsBadLine left left' number
+
+-- the words ask for a lookup; the input was read to its end, its lines are good, and some give a contact that is usable
+-- and passes
+pub record HasSeeds (words : List Word) (random : List ℕ) (left left' : Option (List ℕ)) : Type 0 where
+  pub look : LookWords
+  pub command : CommandOf words (Lookup look)
+  pub reads : ReadsSome (setting_of look random) left left'
 
 -- the words ask for a lookup; the input was read to its end, its lines are good, and none gives a contact that is
 -- usable and passes
@@ -156,40 +177,30 @@ outside_of left left' source_faults source_faults' told told' recv_faults recv_f
 -- why a lookup ended with no output
 abbrev pub LookCause : LookWords → List ℕ → Outside → Status → Type 0
 LookCause look random o Usage = ⊥
-LookCause look random o (BadLine line) = HasBadLine o.left o.left'
-LookCause look random o LinkFault = Rose o.recv_faults o.recv_faults'
-LookCause look random o SourceFault = Rose o.source_faults o.source_faults'
-LookCause look random o Strays = Grows o.told o.told' (λ events. EndsAtStray (lookup_of look random) events 1000000)
+LookCause look random o (BadLine line) = IsBadLine o.left o.left' line
+LookCause look random o LinkFault = Rose o.recv_faults o.recv_faults' × ReadsSome (setting_of look random) o.left o.left'
+LookCause look random o SourceFault = Rose o.source_faults o.source_faults' × ReadsFew o.left o.left'
+LookCause look random o Strays =
+    Grows o.told o.told' (λ events. EndsAtStray (lookup_of look random) events 1000000) × ReadsSome (setting_of look random) o.left o.left'
 LookCause look random o NoSeeds = Reads (setting_of look random) o.left o.left' []
 LookCause look random o NoMemory = Unit {0}
 LookCause look random o TooLong = ReadsTooMuch o.left o.left'
 
 -- why a command ended with no output
 abbrev pub HasCause : List Word → List ℕ → Outside → Status → Type 0
-HasCause words random o Usage = ¬ IsPlain words
-HasCause words random o (BadLine line) = HasBadLine o.left o.left'
-HasCause words random o LinkFault = Rose o.recv_faults o.recv_faults'
-HasCause words random o SourceFault = Rose o.source_faults o.source_faults'
-HasCause words random o Strays = HasStrays words random o.told o.told'
+HasCause words random o Usage = (¬ IsPlain words) × (o.left' ≡ o.left)
+HasCause words random o (BadLine line) = IsBadLine o.left o.left' line
+HasCause words random o LinkFault = Rose o.recv_faults o.recv_faults' × HasSeeds words random o.left o.left'
+HasCause words random o SourceFault = Rose o.source_faults o.source_faults' × ReadsFew o.left o.left'
+HasCause words random o Strays = HasStrays words random o.told o.told' × HasSeeds words random o.left o.left'
 HasCause words random o NoSeeds = HasNoSeeds words random o.left o.left'
 HasCause words random o NoMemory = Unit {0}
 HasCause words random o TooLong = ReadsTooMuch o.left o.left'
 
--- the number of a status
-abbrev pub number_of : Status → ℕ
-number_of Usage = 2
-number_of (BadLine line) = 3
-number_of LinkFault = 4
-number_of SourceFault = 6
-number_of Strays = 7
-number_of NoSeeds = 8
-number_of NoMemory = 9
-number_of TooLong = 11
-
 -- why an input gave no contacts
 abbrev pub InputCause : Setting → Option (List ℕ) → Option (List ℕ) → ℕ → ℕ → Status → Type 0
-InputCause setting left left' faults faults' (BadLine line) = HasBadLine left left'
-InputCause setting left left' faults faults' SourceFault = Rose faults faults'
+InputCause setting left left' faults faults' (BadLine line) = IsBadLine left left' line
+InputCause setting left left' faults faults' SourceFault = Rose faults faults' × ReadsFew left left'
 InputCause setting left left' faults faults' NoSeeds = Reads setting left left' []
 InputCause setting left left' faults faults' NoMemory = Unit {0}
 InputCause setting left left' faults faults' TooLong = ReadsTooMuch left left'

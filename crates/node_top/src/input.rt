@@ -1,7 +1,7 @@
 //! The input of a command: its bytes, and the contacts that its lines give.
 ghost use Rattle.std.specs.Prelude.{◌≡◌, ◌≤◌, OnOk, IfOk, IsErrOf, IsTrue, ◌↔◌};
 ghost use Rattle.kad_base.specs.Outside.{Rose};
-ghost use Rattle.node_top.specs.Looked.{ReadsAll, ReadsTooMuch, IsAdmitted, Admits, AdmitsOne};
+ghost use Rattle.node_top.specs.Looked.{ReadsAll, ReadsFew, ReadsTooMuch, IsAdmitted, Admits, AdmitsOne};
 
 use kad_base::limits::MAX_INPUT;
 use kad_base::{Bytes, Check, Contacts, Id, List, NoMemory, Policy, Report, Source, is_usable};
@@ -20,6 +20,7 @@ pub(crate) fn read_whole<S: Source>(alloc: Global, source: &mut S) -> Result<Byt
     ensures ok { IfOk result (ReadsAll (S.left source.old) (S.left source.new)) }
     ensures too_long { IsErrOf result ReadFault.TooLong → ReadsTooMuch (S.left source.old) (S.left source.new) }
     ensures source { IsErrOf result ReadFault.Source → Rose (S.faults source.old) (S.faults source.new) }
+    ensures few { IsErrOf result ReadFault.Source → ReadsFew (S.left source.old) (S.left source.new) }
     ensures faults { S.faults source.old ≤ S.faults source.new }
 {
     let mut bytes = List::new(alloc);

@@ -118,7 +118,7 @@ pub(crate) fn one_bad_line()
 #[cfg(test)]
 mod tests {
     use super::*;
-    use crate::printed::{print, print_line};
+    use crate::printed::print;
     use kad_base::{Addr, Id, Ip};
 
     fn contact(last: u8, ip: Ip, port: u16) -> Contact {
@@ -222,7 +222,5 @@ mod tests {
         let wanted =
             b"00000000000000000000000000000000000000af 127.0.0.1:6001\n0000000000000000000000000000000000000001 [2001:0db8:0000:0000:0000:0000:0000:00ff]:6881\nfound 2 asked 22 failed 3 turned 4000000000\n";
         assert_eq!(rt; text.as_slice(), wanted.as_slice());
-        let line = print_line(rt.alloc(), "no seeds").expect(&rt, "memory");
-        assert_eq!(rt; line.as_slice(), b"no seeds\n".as_slice());
     }
 }

@@ -1,7 +1,8 @@
 //! The command `lookup`: reads the contacts of the input, looks the target up from the closest of them, and makes the
 //! text of what it found.
-ghost use Rattle.std.specs.Prelude.{◌≡◌, ◌≤◌, IfOk, IfErr};
+ghost use Rattle.std.specs.Prelude.{◌≡◌, ◌≢◌, ◌≤◌, [], IfOk, IfErr};
 ghost use Rattle.node_top.specs.Printed.{printed};
+ghost use Rattle.node_top.specs.Endings.{EndsEarly, number_of};
 ghost use Rattle.node_top.specs.Looked.{own_of, setting_of, Reads, LooksAt, LookCause, InputCause, outside_of};
 
 use crate::driver::{LookFault, LookSetting, Outcome, look_up_alone};
@@ -58,6 +59,7 @@ fn read_contacts<S: Source, C: Check>(
     check: &C,
 ) -> Result<Contacts, Status>
     ensures ok { IfOk result (Reads setting.now (S.left source.old) (S.left source.new)) }
+    ensures some_one { IfOk result (λ contacts. contacts ≢ []) }
     ensures cause { IfErr result (InputCause setting.now (S.left source.old) (S.left source.new) (S.faults source.old) (S.faults source.new)) }
     ensures faults { S.faults source.old ≤ S.faults source.new }
 {
@@ -118,6 +120,7 @@ pub(crate) fn lookup<S: Source, L: Link, C: Check>(
 ) -> Result<Bytes, Status>
     ensures ok { IfOk result (λ text. LooksAt words.now random.now (S.left source.old) (S.left source.new) (L.told link.old) (L.told link.new) text) }
     ensures cause { IfErr result (LookCause words.now random.now (outside_of (S.left source.old) (S.left source.new) (S.faults source.old) (S.faults source.new) (L.told link.old) (L.told link.new) (L.recv_faults link.old) (L.recv_faults link.new))) }
+    ensures early { IfErr result (λ status. EndsEarly (number_of status) → link.new ≡ link.old) }
     ensures source_faults { S.faults source.old ≤ S.faults source.new }
     ensures recv_faults { L.recv_faults link.old ≤ L.recv_faults link.new }
 {

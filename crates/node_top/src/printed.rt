@@ -49,15 +49,6 @@ fn print_counts(
     format!(in alloc; "found {found} asked {asked} failed {failed} turned {turned}")
 }
 
-/// A text as a line.
-pub(crate) fn print_line(alloc: Global, text: &str) -> Result<Bytes, NoMemory>
-    ensures { IfOk result (λ line. line ≡ line_of text.now) }
-{
-    let mut line = List::new(alloc);
-    add_line(&mut line, text)?;
-    Ok(line)
-}
-
 /// Adds a text to an output, as a line.
 fn add_line(output: &mut Bytes, text: &str) -> Result<(), NoMemory>
     ensures { OnOk result (output.new ≡ output.old ++ line_of text.now) }

@@ -1,10 +1,11 @@
 //! Why a command ends with no output, with the number and the line of each.
-ghost use Rattle.std.specs.Prelude.{◌≡◌, ◌≢◌, ◌<◌, ◌≤◌};
-ghost use Rattle.node_top.specs.Looked.{number_of};
+ghost use Rattle.std.specs.Prelude.{◌≡◌, ◌≢◌, ◌<◌, ◌≤◌, ◌+◌, ◌++◌, length, take};
+ghost use Rattle.node_top.specs.Endings.{number_of, status_line};
 
-use crate::printed::print_line;
-use kad_base::{Bytes, NoMemory};
-use std::alloc::Global;
+use itoa::Buffer;
+
+/// The room that the longest line takes: `bad line `, 20 digits and the line feed.
+pub(crate) const LINE_ROOM: usize = 30;
 
 /// Why a command ends with no output.
 #[derive(Clone, Copy, Debug, PartialEq, Eq)]
@@ -26,6 +27,28 @@ pub(crate) enum Status {
     TooLong,
 }
 
+/// Puts bytes at a place, and answers the place behind them.
+fn put(room: &mut [u8], at: usize, bytes: &[u8]) -> usize
+    requires { at + length bytes.now ≤ length room.old }
+    ensures behind { result ≡ at + length bytes.now }
+    ensures written { take result room.new ≡ take at room.old ++ bytes.now }
+{
+    let behind = at + bytes.len();
+    room[at..behind].copy_from_slice(bytes);
+    behind
+}
+
+/// Puts the line that names a bad line of the input.
+fn put_bad_line(room: &mut [u8; LINE_ROOM], line: usize) -> usize
+    ensures few { result ≤ 30 }
+    ensures written { take result room.new ≡ status_line (Status.BadLine line) }
+{
+    let mut digits = Buffer::new();
+    let front = put(room, 0, b"bad line ");
+    let number = put(room, front, digits.format(line).as_bytes());
+    put(room, number, b"\n")
+}
+
 impl Status {
     /// The exit status.
     pub(crate) fn number(&self) -> u8
@@ -44,20 +67,20 @@ impl Status {
         }
     }
 
-    /// What is written, as a line.
-    pub(crate) fn line(&self, alloc: Global) -> Result<Bytes, NoMemory> {
+    /// Puts the line of the status at the front of the room, and answers how long it is. It takes no memory.
+    pub(crate) fn put_line(&self, room: &mut [u8; LINE_ROOM]) -> usize
+        ensures few { result ≤ 30 }
+        ensures written { take result room.new ≡ status_line self.now }
+    {
         match self {
-            Status::Usage => print_line(alloc, "usage"),
-            Status::BadLine { line } => match format!(in alloc; "bad line {line}") {
-                Ok(text) => print_line(alloc, text.as_str()),
-                Err(_) => Err(NoMemory),
-            },
-            Status::LinkFault => print_line(alloc, "link fault"),
-            Status::SourceFault => print_line(alloc, "source fault"),
-            Status::Strays => print_line(alloc, "strays"),
-            Status::NoSeeds => print_line(alloc, "no seeds"),
-            Status::NoMemory => print_line(alloc, "no memory"),
-            Status::TooLong => print_line(alloc, "too long"),
+            Status::Usage => put(room, 0, b"usage\n"),
+            Status::BadLine { line } => put_bad_line(room, *line),
+            Status::LinkFault => put(room, 0, b"link fault\n"),
+            Status::SourceFault => put(room, 0, b"source fault\n"),
+            Status::Strays => put(room, 0, b"strays\n"),
+            Status::NoSeeds => put(room, 0, b"no seeds\n"),
+            Status::NoMemory => put(room, 0, b"no memory\n"),
+            Status::TooLong => put(room, 0, b"too long\n"),
         }
     }
 }

@@ -17,6 +17,6 @@ pub returns-in-Ok-look_up_alone-clause-ok : goal.returns-in-Ok-look_up_alone-cla
 returns-in-Ok-look_up_alone-clause-ok g c =
     ok_then c.text_of.result _ _ c.text_of.ensures.ok
     (λ text is. looks_at c.args.words.now c.args.random.now c.setting_for-setting.result c.new-drawn.result c.look_up_alone.new.words _ _ _ _ c.in-Ok.contacts c.as_slice-2.result.now c.in-Ok-look_up_alone.outcome text
-    c.setting_for-setting.ensures c.new-drawn.ensures c.in-Ok.ensures.ok
+    c.setting_for-setting.ensures c.new-drawn.ensures c.in-Ok.ensures.ok c.in-Ok.ensures.some_one
     (c.as_slice-2.ensures ∙ c.in-Ok-k_least.ensures ∙ ap (k_closest c.setting_for-setting.result.target c.setting_for-setting.result.k) c.as_slice.ensures)
     c.in-Ok-look_up_alone.ensures.ok is)
