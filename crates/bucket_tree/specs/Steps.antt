@@ -83,9 +83,9 @@ pub data SeenStep (own : Id) (k b : ℕ) (c : Contact) : List RowState → Seen 
 abbrev pub failures_of : RowState → Contact → Option ℕ
 failures_of row c = option_map (λ e. e.failures) (find (λ e. same c e.contact) row.live)
 
--- the entry of the contact has failed once more
+-- the entry of the contact has now failed once
 abbrev pub mark : Contact → Entry → Entry
-mark c e = cond (same c e.contact) (record { contact = e.contact; failures = e.failures + 1 }) e
+mark c e = cond (same c e.contact) (record { contact = e.contact; failures = 1 }) e
 
 abbrev pub marked : Contact → RowState → RowState
 marked c row = record { prefix = row.prefix; live = map (mark c) row.live; spares = row.spares }
@@ -100,7 +100,7 @@ pub record IsReplaced (c : Contact) (row after : RowState) : Type 0 where
   pub spares : row.spares ≡ older ++ newest ∷ []
   pub after_is : after ≡ record { prefix = row.prefix; live = without c row.live ++ fresh newest ∷ []; spares = older }
 
--- what a failure does to the row of the contact: the first is kept, the second removes it
+-- what a failure does to the row of the contact: the first is counted, the second removes it
 abbrev pub RowFailed : Contact → RowState → Gone → RowState → Type 0
 RowFailed c row Kept after = (failures_of row c ≡ Some 0) × (after ≡ marked c row)
 RowFailed c row Removed after = (failures_of row c ≡ Some 1) × (row.spares ≡ []) × (after ≡ removed c row)

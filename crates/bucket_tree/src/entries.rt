@@ -1,5 +1,5 @@
 //! The entries of a bucket: which contacts they have, and which of them stay.
-ghost use Rattle.std.specs.Prelude.{◌≡◌, ◌≤◌, List, length, map, filter, find, not, option_map, slice_get, MatchOption, ◌<◌, None, IsTrue};
+ghost use Rattle.std.specs.Prelude.{◌≢◌, false, ◌≡◌, ◌≤◌, List, length, map, filter, find, not, option_map, slice_get, MatchOption, ◌<◌, None, IsTrue};
 ghost use Rattle.std.specs.List.{All, list_any};
 ghost use Rattle.kad_base.specs.Contacts.{same, among};
 ghost use Rattle.bucket_tree.specs.Partition.{id_bits, begins};
@@ -32,18 +32,33 @@ pub(crate) fn is_same_id(a: &Id, b: &Id) -> bool
     a.cmp(b).is_eq()
 }
 
+/// The two are one identifier: the same 160 bits.
+fn has_same_bits(a: &Id, b: &Id) -> bool
+    ensures same { result ≡ same_id a.now b.now }
+    ensures bits { id_bits a.now ≡ id_bits b.now → IsTrue result }
+{
+    let _first = a.0[0];
+    let _other = b.0[0];
+    is_same_id(a, b)
+}
+
 pub(crate) fn has(entries: &[Entry], contact: &Contact) -> bool
     ensures { result ≡ among (map contact_of entries.now) contact.now }
 {
     entries.iter().any(|entry| is_same(contact, &entry.contact))
 }
 
+/// Whether an entry has the identifier. Where none has it, none has the same bits.
 pub(crate) fn has_id(entries: &[Entry], id: &Id) -> bool
-    ensures { result ≡ list_any (λ e. same_id e.contact.id id.now) entries.now }
+    ensures known { result ≡ list_any (λ e. same_id e.contact.id id.now) entries.now }
+    ensures apart { result ≡ false → All (λ e. id_bits e.contact.id ≢ id_bits id.now) entries.now }
 {
-    entries
-        .iter()
-        .any(|entry| is_same_id(&entry.contact.id, id))
+    for entry in entries {
+        if has_same_bits(&entry.contact.id, id) {
+            return true;
+        }
+    }
+    false
 }
 
 /// How often the contact failed, where it is live.
@@ -100,24 +115,22 @@ pub(crate) fn other_ids(entries: &[Entry], id: &Id) -> Entries
     kept
 }
 
-/// The entry, which has failed once more where it is the contact's.
+/// The entry, which has now failed once where it is the contact's.
 fn mark_one(entry: &Entry, contact: &Contact) -> Entry
-    requires { entry.now.failures ≤ 1 }
     ensures { result ≡ mark contact.now entry.now }
 {
     if is_same(contact, &entry.contact) {
         return Entry {
             contact: entry.contact,
-            failures: entry.failures + 1,
+            failures: 1,
         };
     }
     *entry
 }
 
-/// The entries, of which that of the contact has failed once more.
+/// The entries, of which that of the contact has now failed once.
 pub(crate) fn marked(entries: &[Entry], contact: &Contact) -> Entries
-    requires room { length entries.now ≤ 20 }
-    requires failures { All (λ e. e.failures ≤ 1) entries.now }
+    requires { length entries.now ≤ 20 }
     ensures { result.items ≡ map (mark contact.now) entries.now }
 {
     let mut all = Entries::new();

@@ -1,5 +1,5 @@
 //! Prefixes of identifiers.
-ghost use Rattle.std.specs.Prelude.{◌≡◌, ◌↔◌, IsTrue, ◌-◌, ◌<◌, ◌≤◌, List, [], ◌∷◌, ◌++◌, length, replicate, false};
+ghost use Rattle.std.specs.Prelude.{◌≡◌, ◌-◌, ◌<◌, ◌≤◌, List, [], ◌∷◌, ◌++◌, length, replicate, false};
 ghost use Rattle.bucket_tree.specs.Partition.{id_bits, begins};
 
 use crate::bits::{bit, with_bit};
@@ -36,12 +36,6 @@ impl Prefix {
         ensures within { result ≤ 160 }
     {
         self.len
-    }
-
-    pub fn is_empty(&self) -> bool
-        ensures { IsTrue result ↔ (self.now ≡ []) }
-    {
-        self.len == 0
     }
 
     /// Its bits, the highest first, and zeros past its length.

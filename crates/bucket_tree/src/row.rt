@@ -140,10 +140,15 @@ impl Row {
         self.prefix.begins(&setting.own) || self.prefix.len() % setting.b != 0
     }
 
-    /// Whether it has no room for that identifier, which is new to it, and may split.
+    /// Whether it has no room for that identifier, which is new to it, and may split. Then its prefix has fewer than 160
+    /// bits, since it covers two identifiers.
     pub(crate) fn needs_split(&self, setting: &Setting, id: &Id) -> bool
-        requires { 0 < setting.now.b }
-        ensures { IsTrue result ↔ NeedsSplit setting.now.own setting.now.k setting.now.b id.now self.now }
+        requires some_live { 0 < setting.now.k }
+        requires some_bits { 0 < setting.now.b }
+        requires covered { All (λ c. begins self.now.prefix (id_bits c.id) ≡ true) (live_in self.now) }
+        requires covers { begins self.now.prefix (id_bits id.now) ≡ true }
+        ensures needs { IsTrue result ↔ NeedsSplit setting.now.own setting.now.k setting.now.b id.now self.now }
+        ensures two { IsTrue result → length self.now.prefix < 160 }
     {
         if has_id(self.live.as_slice(), id) {
             return false;
@@ -194,7 +199,7 @@ impl Row {
     /// Counts a failure of a contact. The second removes it, and the newest spare takes its place. Takes no memory.
     pub(crate) fn fail(&mut self, contact: &Contact) -> Gone
         requires few { length self.old.live ≤ 20 }
-        requires failures { All (λ e. e.failures ≤ 1) self.old.live }
+        requires failed_once { All (λ e. e.failures ≤ 1) self.old.live }
         ensures { RowFailed contact.now self.old result self.new }
     {
         match failures(self.live.as_slice(), contact) {
