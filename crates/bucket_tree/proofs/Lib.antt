@@ -6,3 +6,5 @@ pub mod Every
 pub mod Places
 pub mod Ids
 pub mod RowKept
+pub mod RowSteps
+pub mod RowsKept

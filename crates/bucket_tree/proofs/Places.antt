@@ -76,6 +76,7 @@ unknown-there own k b c row is other = go (live_in row) (all-left (λ (x : Conta
         tell : (t : Bool) → same c x ≡ t → same c x ≡ false
         tell true s = let f : c ≡ x = same_exact c x s in let g = sym other ∙ ap (λ (y : Contact). covers y.id row) f ∙ e in absurd cc
         tell false s = s
+
     go : (cs : List Contact) → All (λ x. covers x.id row ≡ true) cs → among cs c ≡ false
     go [] a = refl
     go (x ∷ cs) a =

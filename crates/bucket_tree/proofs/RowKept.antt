@@ -34,23 +34,23 @@ pub two-ids : (prefix : List Bool) (live : List Entry) (id : Id) → 0 < length 
     → All (λ e. id_bits e.contact.id ≢ id_bits id) live → length prefix < 160
 two-ids prefix [] id some all here apart = absurd (omega arith)
 two-ids prefix (e ∷ live) id some all here apart = elim (cases_lt (length prefix) 160) [
-    | inl lt ↦ lt
-    | inr le ↦
-        let first = All-head (λ (c : Contact). begins prefix (id_bits c.id) ≡ true) e.contact (map contact_of live) all in
-        let a : prefix ≡ id_bits e.contact.id = begins-whole prefix (id_bits e.contact.id) first (omega (arith, id_bits-length e.contact.id)) in
-        let b : prefix ≡ id_bits id = begins-whole prefix (id_bits id) here (omega (arith, id_bits-length id)) in
-        absurd (All-head (λ (x : Entry). id_bits x.contact.id ≢ id_bits id) e live apart (sym a ∙ b))
-  ]
+  | inl lt ↦ lt
+  | inr le ↦
+      let first = All-head (λ (c : Contact). begins prefix (id_bits c.id) ≡ true) e.contact (map contact_of live) all in
+      let a : prefix ≡ id_bits e.contact.id = begins-whole prefix (id_bits e.contact.id) first (omega (arith, id_bits-length e.contact.id)) in
+      let b : prefix ≡ id_bits id = begins-whole prefix (id_bits id) here (omega (arith, id_bits-length id)) in
+      absurd (All-head (λ (x : Entry). id_bits x.contact.id ≢ id_bits id) e live apart (sym a ∙ b))
+]
 
 -- one entry fewer, and a contact at the end
 module _ (P : Contact → Type 0) where
-  all-without : (c : Contact) (live : List Entry) → All P (map contact_of live) → All P (map contact_of (without c live))
+  pub all-without : (c : Contact) (live : List Entry) → All P (map contact_of live) → All P (map contact_of (without c live))
   all-without c live a = subst (All P) (filter-map contact_of (λ x. not (same c x)) live) (All-filter (λ x. not (same c x)) P (map contact_of live) a)
 
-  all-ended : (live : List Entry) (c : Contact) → All P (map contact_of live) → P c → All P (map contact_of (live ++ fresh c ∷ []))
+  pub all-ended : (live : List Entry) (c : Contact) → All P (map contact_of live) → P c → All P (map contact_of (live ++ fresh c ∷ []))
   all-ended live c a p = subst (All P) (sym (map-append contact_of live (fresh c ∷ []))) (All-append P (map contact_of live) (c ∷ []) a (all-one P c p))
 
-  all-room : (k : ℕ) (cs : List Contact) → All P cs → All P (with_room k cs)
+  pub all-room : (k : ℕ) (cs : List Contact) → All P cs → All P (with_room k cs)
   all-room k cs a = go (nat_le k (length cs))
     where
       go : (t : Bool) → All P (cond t (drop 1 cs) cs)
@@ -58,17 +58,17 @@ module _ (P : Contact → Type 0) where
       go false = a
 
 module _ (q : Contact → Bool) where
-  count-ended : (live : List Entry) (c : Contact) → length (filter q (map contact_of (live ++ fresh c ∷ []))) ≡ length (filter q (map contact_of live)) + cond (q c) 1 0
+  pub count-ended : (live : List Entry) (c : Contact) → length (filter q (map contact_of (live ++ fresh c ∷ []))) ≡ length (filter q (map contact_of live)) + cond (q c) 1 0
   count-ended live c =
       let one = count-one q c in
       let parts = count-append q (map contact_of live) (c ∷ []) in
       ap (λ (l : List Contact). length (filter q l)) (map-append contact_of live (fresh c ∷ [])) ∙ parts ∙ ap (λ (n : ℕ). length (filter q (map contact_of live)) + n) one
 
-  count-without : (c : Contact) (live : List Entry) → length (filter q (map contact_of (without c live))) ≤ length (filter q (map contact_of live))
+  pub count-without : (c : Contact) (live : List Entry) → length (filter q (map contact_of (without c live))) ≤ length (filter q (map contact_of live))
   count-without c live = subst (λ (l : List Contact). length (filter q l) ≤ length (filter q (map contact_of live))) (filter-map contact_of (λ x. not (same c x)) live) (count-filter q (λ x. not (same c x)) (map contact_of live))
 
   -- the entry of the contact itself is gone
-  count-gone : (c : Contact) (live : List Entry) → list_any (λ e. same c e.contact) live ≡ true → length (filter q (map contact_of (without c live))) + cond (q c) 1 0 ≤ length (filter q (map contact_of live))
+  pub count-gone : (c : Contact) (live : List Entry) → list_any (λ e. same c e.contact) live ≡ true → length (filter q (map contact_of (without c live))) + cond (q c) 1 0 ≤ length (filter q (map contact_of live))
   count-gone c [] known = absurd cc
   count-gone c (e ∷ live) known = go (same c e.contact) refl known (count-gone c live) (count-without c live)
     where
@@ -88,7 +88,7 @@ module _ (q : Contact → Bool) where
           there true g = omega arith
           there false g = g
 
-  count-room : (k : ℕ) (cs : List Contact) → length (filter q (with_room k cs)) ≤ length (filter q cs)
+  pub count-room : (k : ℕ) (cs : List Contact) → length (filter q (with_room k cs)) ≤ length (filter q cs)
   count-room k cs = go (nat_le k (length cs))
     where
       go : (t : Bool) → length (filter q (cond t (drop 1 cs) cs)) ≤ length (filter q cs)
@@ -157,13 +157,15 @@ refilled c row n spares live' spares' Removed f ne a s r =
     (f ∙ ap Some second, none, rw (r.1, r.2, none) refl)
 refilled c row n spares live' spares' Replaced f ne a s r =
     let le = find-all (λ x. same c x.contact) row.live n f a in
-    let second : n ≡ 1 = omega arith in
-    (f ∙ ap Some second, record {
-      older = map contact_of spares';
-      newest = r.newest.contact;
-      spares = sym s ∙ ap (map contact_of) r.spares_are ∙ map-append contact_of spares' (r.newest ∷ []);
-      after_is = ap (λ (l : List Entry). row_of row.prefix l (map contact_of spares')) r.live_are;
-    })
+    let second : n ≡ 1 = omega arith in (
+      f ∙ ap Some second,
+      record {
+        older = map contact_of spares';
+        newest = r.newest.contact;
+        spares = sym s ∙ ap (map contact_of) r.spares_are ∙ map-append contact_of spares' (r.newest ∷ []);
+        after_is = ap (λ (l : List Entry). row_of row.prefix l (map contact_of spares')) r.live_are;
+      },
+    )
 
 -- a half of a row
 pub half-kept : (own : Id) (k b : ℕ) (bit : Bool) (row : RowState) → IsRow own k b row → IsRow own k b (half bit row)
@@ -180,13 +182,13 @@ half-kept own k b bit row is =
       others = subst (All (λ (c : Contact). same_id c.id own ≡ false)) (back ∙ sym all)
           (All-filter (λ (c : Contact). begins (row.prefix ++ bit ∷ []) (id_bits c.id)) (λ (c : Contact). same_id c.id own ≡ false) (live_in row) (all-left (λ (c : Contact). same_id c.id own ≡ false) (live_in row) row.spares is.others));
       once = λ id. (
-        let q = λ (c : Contact). same_id c.id id in
-        let le = count-filter q (λ (c : Contact). begins (row.prefix ++ bit ∷ []) (id_bits c.id)) (live_in row) in
-        let same_count = ap (λ (l : List Contact). length (filter q l)) (back ∙ sym all) in
-        let parts = count-append q (live_in row) row.spares in
-        let whole = is.once id in
-        omega (arith, le, same_count, parts, whole)
-      );
+          let q = λ (c : Contact). same_id c.id id in
+          let le = count-filter q (λ (c : Contact). begins (row.prefix ++ bit ∷ []) (id_bits c.id)) (live_in row) in
+          let same_count = ap (λ (l : List Contact). length (filter q l)) (back ∙ sym all) in
+          let parts = count-append q (live_in row) row.spares in
+          let whole = is.once id in
+          omega (arith, le, same_count, parts, whole)
+          );
       spares_full = λ lt. absurd (omega arith);
       spares_stay = λ lt. absurd (omega arith);
     }
@@ -204,14 +206,14 @@ without-len own k b c row is known =
     omega (arith, both, some, le, mapped, parts, once)
 
 -- the identifier is at no live contact
-none-live : (row : RowState) (c : Contact) (id : Id) → knows_id row c.id ≡ false → same_id c.id id ≡ true → length (filter (λ x. same_id x.id id) (live_in row)) ≡ 0
+pub none-live : (row : RowState) (c : Contact) (id : Id) → knows_id row c.id ≡ false → same_id c.id id ≡ true → length (filter (λ x. same_id x.id id) (live_in row)) ≡ 0
 none-live row c id new e =
     let f : c.id ≡ id = same_id-exact c.id id e in
     let none = any-map contact_of (λ (x : Contact). same_id x.id c.id) row.live ∙ new in
     subst (λ (i : Id). length (filter (λ (x : Contact). same_id x.id i) (live_in row)) ≡ 0) f (count-none (λ (x : Contact). same_id x.id c.id) (live_in row) none)
 
 -- a contact that takes the place of one that was live, with these spares
-ended-kept : (own : Id) (k b : ℕ) (c d : Contact) (row : RowState) (spares : List Contact) → IsRow own k b row → list_any (λ e. same c e.contact) row.live ≡ true
+pub ended-kept : (own : Id) (k b : ℕ) (c d : Contact) (row : RowState) (spares : List Contact) → IsRow own k b row → list_any (λ e. same c e.contact) row.live ≡ true
     → begins row.prefix (id_bits d.id) ≡ true → same_id d.id own ≡ false → length spares ≤ length row.spares → ((P : Contact → Type 0) → All P row.spares → All P spares)
     → ((q : Contact → Bool) → length (filter q (map contact_of (without c row.live))) + cond (q d) 1 0 + length (filter q spares) ≤ length (filter q (live_in row)) + length (filter q row.spares))
     → IsRow own k b (row_of row.prefix (without c row.live ++ fresh d ∷ []) spares)
@@ -219,7 +221,7 @@ ended-kept own k b c d row spares is known here other le stay count =
     let len : length (without c row.live) + 1 ≡ length row.live = without-len own k b c row is known in
     let grown : length (without c row.live ++ fresh d ∷ []) ≡ length (without c row.live) + 1 = length-append (without c row.live) (fresh d ∷ []) in
     let every = λ (P : Contact → Type 0) (a : All P (live_in row ++ row.spares)) (p : P d). (
-      All-append P (map contact_of (without c row.live ++ fresh d ∷ [])) spares (all-ended P (without c row.live) d (all-without P c row.live (all-left P (live_in row) row.spares a)) p) (stay P (all-right P (live_in row) row.spares a))
+    All-append P (map contact_of (without c row.live ++ fresh d ∷ [])) spares (all-ended P (without c row.live) d (all-without P c row.live (all-left P (live_in row) row.spares a)) p) (stay P (all-right P (live_in row) row.spares a))
     ) in
     record {
       few = omega (arith, len, grown, is.few);
@@ -228,14 +230,14 @@ ended-kept own k b c d row spares is known here other le stay count =
       covered = every (λ (x : Contact). begins row.prefix (id_bits x.id) ≡ true) is.covered here;
       others = every (λ (x : Contact). same_id x.id own ≡ false) is.others other;
       once = λ id. (
-        let q = λ (x : Contact). same_id x.id id in
-        let now = count-append q (map contact_of (without c row.live ++ fresh d ∷ [])) spares in
-        let live = count-ended q (without c row.live) d in
-        let parts = count-append q (live_in row) row.spares in
-        let whole = is.once id in
-        let all = count q in
-        omega (arith, now, live, parts, whole, all)
-      );
+          let q = λ (x : Contact). same_id x.id id in
+          let now = count-append q (map contact_of (without c row.live ++ fresh d ∷ [])) spares in
+          let live = count-ended q (without c row.live) d in
+          let parts = count-append q (live_in row) row.spares in
+          let whole = is.once id in
+          let all = count q in
+          omega (arith, now, live, parts, whole, all)
+          );
       spares_full = λ lt. (let full = is.spares_full (omega (arith, lt, le)) in omega (arith, full, len, grown));
       spares_stay = λ lt. is.spares_stay (omega (arith, lt, le));
     }

@@ -19,17 +19,6 @@ pub record IsRowAt (id : Id) (rows : List RowState) (at : ℕ) : Type 0 where
   pub place : at ≡ length front
   pub covers : begins row.prefix (id_bits id) ≡ true
 
--- the rows after a change of the row at that place
-pub record Changes (P : RowState → RowState → Type 0) (rows : List RowState) (at : ℕ) (after : List RowState) : Type 0 where
-  pub front : List RowState
-  pub row : RowState
-  pub row' : RowState
-  pub back : List RowState
-  pub rows_are : rows ≡ front ++ row ∷ back
-  pub place : at ≡ length front
-  pub step : P row row'
-  pub after_are : after ≡ front ++ row' ∷ back
-
 -- rows that were split for a contact: what it does to them it does to those before
 pub record Splitting (own : Id) (k b : ℕ) (c : Contact) (old new : List RowState) : Type 0 where
   pub sound : SoundRows own k b new
@@ -39,6 +28,12 @@ pub record Splitting (own : Id) (k b : ℕ) (c : Contact) (old new : List RowSta
 pub record RoomAt (id : Id) (rows : List RowState) (at room : ℕ) : Type 0 where
   pub here : IsRowAt id rows at
   pub fits : length rows + (160 - length here.row.prefix) ≤ room
+
+-- the row at that place has no room for the contact, may split, and has a bit left
+pub record NeedsAt (own : Id) (k b : ℕ) (c : Contact) (rows : List RowState) (at : ℕ) : Type 0 where
+  pub here : IsRowAt c.id rows at
+  pub needs : NeedsSplit own k b c.id here.row
+  pub two : length here.row.prefix < 160
 
 -- the row at that place takes the contact without a split
 pub record TakesAt (own : Id) (k b : ℕ) (c : Contact) (rows : List RowState) (at : ℕ) : Type 0 where

@@ -4,8 +4,8 @@ ghost use Rattle.std.specs.List.{All};
 ghost use Rattle.kad_distance.specs.KClosest.{k_closest};
 ghost use Rattle.bucket_tree.specs.Partition.{Partition};
 ghost use Rattle.bucket_tree.specs.Rows.{RowState, BucketsState, SoundRows, Sound, live_of, prefixes_of, same_id};
-ghost use Rattle.bucket_tree.specs.Steps.{SeenStep, FailedStep, RowSeen, RowFailed, half, NeedsSplit};
-ghost use Rattle.bucket_tree.specs.Places.{IsRowAt, Changes, Splitting, RoomAt, TakesAt};
+ghost use Rattle.bucket_tree.specs.Steps.{SeenStep, FailedStep};
+ghost use Rattle.bucket_tree.specs.Places.{IsRowAt, NeedsAt, Splitting, RoomAt, TakesAt};
 
 use crate::entries::is_same_id;
 use crate::plain::{Gone, Seen, Setting};
@@ -192,10 +192,11 @@ fn split_row(rows: &mut Vec<Row>, setting: &Setting, contact: &Contact, at: usiz
     requires some_live { 0 < setting.now.k }
     requires sound { SoundRows setting.now.own setting.now.k setting.now.b rows.old.items }
     requires room { RoomAt contact.now.id rows.old.items at (vec_capacity rows.old) }
-    requires needs { (here : IsRowAt contact.now.id rows.old.items at) → NeedsSplit setting.now.own setting.now.k setting.now.b contact.now.id here.row }
+    requires needs { NeedsAt setting.now.own setting.now.k setting.now.b contact.now rows.old.items at }
     requires others { same_id contact.now.id setting.now.own ≡ false }
     ensures splits { Splitting setting.now.own setting.now.k setting.now.b contact.now rows.old.items rows.new.items }
     ensures room { RoomAt contact.now.id rows.new.items result (vec_capacity rows.new) }
+    ensures deeper { (old : IsRowAt contact.now.id rows.old.items at) (new : IsRowAt contact.now.id rows.new.items result) → length new.row.prefix ≡ length old.row.prefix + 1 }
 {
     let low = rows[at].half(false);
     let high = rows[at].half(true);

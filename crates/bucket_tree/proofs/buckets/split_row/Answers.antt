@@ -1,0 +1,67 @@
+use Rattle.std.proofs.Common.{◌+◌, ◌≡◌, ◌≤◌, List, [], ◌∷◌, ◌++◌, length, true, false, sym, ◌∙◌, arith}
+use Rattle.bucket_tree.proofs.RowsKept.{split-made, split-covers, split-splits, split-high, split-low, split-room, split-deeper}
+use Rattle.bucket_tree.proofs.buckets.split_row.Goals as goal
+
+pub returns-then-is_high-clause-splits : goal.returns-then-is_high-clause-splits
+returns-then-is_high-clause-splits c =
+    let s = c.args.setting.now in
+    let x = c.args.contact.now in
+    let rows = c.args.rows.now.items in
+    let new = c.insert.new.self.items in
+    let n = c.requires.needs in
+    let made = split-made x.id rows new c.args.at n.here c.index.result.now c.index-2.result.now c.half-low.result c.half-high.result c.index.ensures c.half-low.ensures c.index-2.ensures c.half-high.ensures c.in-Ok.ensures.items in
+    split-splits s.own s.k s.b x rows new c.args.at n c.requires.sound c.requires.others made
+
+pub returns-then-is_high-clause-room : goal.returns-then-is_high-clause-room
+returns-then-is_high-clause-room c =
+    let s = c.args.setting.now in
+    let x = c.args.contact.now in
+    let rows = c.args.rows.now.items in
+    let new = c.insert.new.self.items in
+    let n = c.requires.needs in
+    let made = split-made x.id rows new c.args.at n.here c.index.result.now c.index-2.result.now c.half-low.result c.half-high.result c.index.ensures c.half-low.ensures c.index-2.ensures c.half-high.ensures c.in-Ok.ensures.items in
+    let there = split-high s.own s.k s.b x rows new c.args.at n made (split-covers x.id rows c.args.at n.here c.index-2.result.now c.half-high.result true c.index-2.ensures c.half-high.ensures (sym c.covers-is_high.ensures ∙ c.if-is_high.true)) in
+    split-room s.own s.k s.b x rows new c.args.at (c.args.at + 1) _ _ n c.requires.room c.in-Ok.ensures.capacity made there.0 there.1
+
+pub returns-then-is_high-clause-deeper : goal.returns-then-is_high-clause-deeper
+returns-then-is_high-clause-deeper c =
+    let s = c.args.setting.now in
+    let x = c.args.contact.now in
+    let rows = c.args.rows.now.items in
+    let new = c.insert.new.self.items in
+    let n = c.requires.needs in
+    let made = split-made x.id rows new c.args.at n.here c.index.result.now c.index-2.result.now c.half-low.result c.half-high.result c.index.ensures c.half-low.ensures c.index-2.ensures c.half-high.ensures c.in-Ok.ensures.items in
+    let there = split-high s.own s.k s.b x rows new c.args.at n made (split-covers x.id rows c.args.at n.here c.index-2.result.now c.half-high.result true c.index-2.ensures c.half-high.ensures (sym c.covers-is_high.ensures ∙ c.if-is_high.true)) in
+    λ old now. split-deeper x.id rows new c.args.at (c.args.at + 1) n.here old there.0 now there.1
+
+pub returns-else-is_high-clause-splits : goal.returns-else-is_high-clause-splits
+returns-else-is_high-clause-splits c =
+    let s = c.args.setting.now in
+    let x = c.args.contact.now in
+    let rows = c.args.rows.now.items in
+    let new = c.insert.new.self.items in
+    let n = c.requires.needs in
+    let made = split-made x.id rows new c.args.at n.here c.index.result.now c.index-2.result.now c.half-low.result c.half-high.result c.index.ensures c.half-low.ensures c.index-2.ensures c.half-high.ensures c.in-Ok.ensures.items in
+    split-splits s.own s.k s.b x rows new c.args.at n c.requires.sound c.requires.others made
+
+pub returns-else-is_high-clause-room : goal.returns-else-is_high-clause-room
+returns-else-is_high-clause-room c =
+    let s = c.args.setting.now in
+    let x = c.args.contact.now in
+    let rows = c.args.rows.now.items in
+    let new = c.insert.new.self.items in
+    let n = c.requires.needs in
+    let made = split-made x.id rows new c.args.at n.here c.index.result.now c.index-2.result.now c.half-low.result c.half-high.result c.index.ensures c.half-low.ensures c.index-2.ensures c.half-high.ensures c.in-Ok.ensures.items in
+    let there = split-low s.own s.k s.b x rows new c.args.at n made (split-covers x.id rows c.args.at n.here c.index-2.result.now c.half-high.result false c.index-2.ensures c.half-high.ensures (sym c.covers-is_high.ensures ∙ c.if-is_high.false)) in
+    split-room s.own s.k s.b x rows new c.args.at (c.args.at) _ _ n c.requires.room c.in-Ok.ensures.capacity made there.0 there.1
+
+pub returns-else-is_high-clause-deeper : goal.returns-else-is_high-clause-deeper
+returns-else-is_high-clause-deeper c =
+    let s = c.args.setting.now in
+    let x = c.args.contact.now in
+    let rows = c.args.rows.now.items in
+    let new = c.insert.new.self.items in
+    let n = c.requires.needs in
+    let made = split-made x.id rows new c.args.at n.here c.index.result.now c.index-2.result.now c.half-low.result c.half-high.result c.index.ensures c.half-low.ensures c.index-2.ensures c.half-high.ensures c.in-Ok.ensures.items in
+    let there = split-low s.own s.k s.b x rows new c.args.at n made (split-covers x.id rows c.args.at n.here c.index-2.result.now c.half-high.result false c.index-2.ensures c.half-high.ensures (sym c.covers-is_high.ensures ∙ c.if-is_high.false)) in
+    λ old now. split-deeper x.id rows new c.args.at (c.args.at) n.here old there.0 now there.1
