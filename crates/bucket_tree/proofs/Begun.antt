@@ -1,5 +1,5 @@
 -- Prefixes that begin bits.
-use Rattle.std.proofs.Common.{◌≡◌, ℕ, zero, suc, ◌+◌, ◌<◌, ◌≤◌, ◌&&◌, List, [], ◌∷◌, ◌++◌, length, Bool, true, false, not, refl, sym, ap, ◌∙◌, arith}
+use Rattle.std.proofs.Common.{◌≡◌, ◌<◌, ◌≤◌, ◌&&◌, List, [], ◌∷◌, ◌++◌, length, Bool, true, false, not, refl, sym, ap, ◌∙◌, arith}
 use Rattle.bucket_tree.specs.Partition.{begins, same_bit, is_before}
 
 pub same_bit-same : (x y : Bool) → same_bit x y ≡ true → x ≡ y

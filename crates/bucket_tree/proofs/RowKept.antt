@@ -1,29 +1,27 @@
 -- What a row keeps, it keeps when a contact is seen or fails, and its halves keep it.
-use Rattle.std.proofs.Common.{◌≡◌, ◌≢◌, ℕ, zero, suc, ◌+◌, ◌<◌, ◌≤◌, ◌||◌, List, [], ◌∷◌, ◌++◌, length, drop, Bool, true, false, cond, not, map, Option, Some, None, refl, sym, ap, subst, ◌∙◌, inl, inr, arith, leb-true}
+use Rattle.std.proofs.Common.{◌≡◌, ◌≢◌, ℕ, ◌+◌, ◌<◌, ◌≤◌, ◌||◌, List, [], ◌∷◌, ◌++◌, length, drop, Bool, true, false, cond, not, map, Some, None, refl, sym, ap, subst, ◌∙◌, inl, inr, arith}
 use Rattle.std.specs.Prelude.{filter, find, nat_le, option_map}
 use Rattle.std.specs.List.{All, list_any}
 use Rattle.std.proofs.lemmas.Bool.{cases_lt}
-use Rattle.std.proofs.lemmas.List.{length-append, append_assoc, append-nil, map-append, length-map}
+use Rattle.std.proofs.lemmas.List.{length-append, append-nil, map-append, length-map}
 use Rattle.std.proofs.lemmas.List.Filters.{length-filter_both}
-use Rattle.std.proofs.lemmas.List.Elements.{All-append, All-cons, All-nil, All-filter, All-drop, All-map, All-head, All-tail, All-push, filter_passes}
+use Rattle.std.proofs.lemmas.List.Elements.{All-append, All-filter, All-drop, All-head, All-tail, All-push, filter_passes}
 use Rattle.kad_base.specs.declared.plain.Id.{Id}
 use Rattle.kad_base.specs.declared.plain.Contact.{Contact}
 use Rattle.kad_base.specs.Contacts.{same, among}
 use Rattle.kad_base.proofs.Contacts.{same_exact}
 use Rattle.bucket_tree.specs.declared.plain.Entry.{Entry}
-use Rattle.bucket_tree.specs.declared.plain.Seen.{Seen}
-use Rattle.bucket_tree.specs.declared.plain.Seen.TheVariants.{Added, Moved, Spared, Conflict, Own}
 use Rattle.bucket_tree.specs.declared.plain.Gone.{Gone}
 use Rattle.bucket_tree.specs.declared.plain.Gone.TheVariants.{Kept, Removed, Replaced, Unknown}
 use Rattle.bucket_tree.specs.Partition.{id_bits, begins}
-use Rattle.bucket_tree.specs.Rows.{RowState, IsRow, IsOnce, contact_of, live_in, same_id, may_split}
-use Rattle.bucket_tree.specs.Steps.{knows, knows_id, fresh, without, moved, added, with_room, spared, half, NeedsSplit, RowSeen, failures_of, mark, marked, removed, IsReplaced, RowFailed}
+use Rattle.bucket_tree.specs.Rows.{RowState, IsRow, contact_of, live_in, same_id}
+use Rattle.bucket_tree.specs.Steps.{knows_id, fresh, without, with_room, half, failures_of, RowFailed}
 use Rattle.bucket_tree.specs.Places.{Refilled}
 use Rattle.bucket_tree.proofs.Begun.{begins-whole}
 use Rattle.bucket_tree.proofs.OneBit.{id_bits-length}
 use Rattle.bucket_tree.proofs.Counted.{filter-few, filter-fewer, filter-map, any-map}
-use Rattle.bucket_tree.proofs.Ids.{same_id-exact, same_id-itself, same_id-contact}
-use Rattle.bucket_tree.proofs.Every.{all-left, all-right, all-one, count-append, count-one, count-filter, count-drop, count-none, count-not, any-count, count-implies}
+use Rattle.bucket_tree.proofs.Ids.{same_id-exact, same_id-contact}
+use Rattle.bucket_tree.proofs.Every.{all-left, all-right, all-one, count-append, count-one, count-filter, count-drop, count-none, any-count, count-implies}
 
 -- a row from its parts
 abbrev pub row_of : List Bool → List Entry → List Contact → RowState

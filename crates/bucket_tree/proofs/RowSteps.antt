@@ -1,13 +1,13 @@
 -- A row keeps what it keeps when a contact is seen and when one fails.
-use Rattle.std.proofs.Common.{◌≡◌, ◌≢◌, ℕ, zero, suc, ◌+◌, ◌<◌, ◌≤◌, ◌||◌, List, [], ◌∷◌, ◌++◌, length, drop, Bool, true, false, cond, not, map, Option, Some, None, refl, sym, ap, subst, ◌∙◌, inl, inr, arith, leb-true}
-use Rattle.std.specs.Prelude.{filter, find, nat_le, option_map}
+use Rattle.std.proofs.Common.{◌≡◌, ℕ, zero, suc, ◌+◌, ◌<◌, ◌≤◌, List, [], ◌∷◌, ◌++◌, length, drop, Bool, true, false, cond, not, map, refl, sym, ap, subst, ◌∙◌, inl, inr, arith, leb-true}
+use Rattle.std.specs.Prelude.{filter, nat_le}
 use Rattle.std.specs.List.{All, list_any}
 use Rattle.std.proofs.lemmas.Bool.{le-leb, cases_lt}
 use Rattle.std.proofs.lemmas.List.{length-append, length-map, length-drop}
 use Rattle.std.proofs.lemmas.List.Elements.{All-append, All-filter, All-push, All-map, All-nil, All-cons, All-head, All-tail}
 use Rattle.kad_base.specs.declared.plain.Id.{Id}
 use Rattle.kad_base.specs.declared.plain.Contact.{Contact}
-use Rattle.kad_base.specs.Contacts.{same, among}
+use Rattle.kad_base.specs.Contacts.{same}
 use Rattle.bucket_tree.specs.declared.plain.Entry.{Entry}
 use Rattle.bucket_tree.specs.declared.plain.Seen.{Seen}
 use Rattle.bucket_tree.specs.declared.plain.Seen.TheVariants.{Added, Moved, Spared, Conflict, Own}
@@ -15,11 +15,11 @@ use Rattle.bucket_tree.specs.declared.plain.Gone.{Gone}
 use Rattle.bucket_tree.specs.declared.plain.Gone.TheVariants.{Kept, Removed, Replaced, Unknown}
 use Rattle.bucket_tree.specs.Partition.{id_bits, begins}
 use Rattle.bucket_tree.specs.Rows.{RowState, IsRow, contact_of, live_in, same_id, may_split}
-use Rattle.bucket_tree.specs.Steps.{knows, knows_id, fresh, without, moved, added, with_room, spared, NeedsSplit, RowSeen, failures_of, mark, marked, removed, IsReplaced, RowFailed}
+use Rattle.bucket_tree.specs.Steps.{knows_id, fresh, without, added, with_room, spared, NeedsSplit, RowSeen, mark, marked, removed, IsReplaced, RowFailed}
 use Rattle.bucket_tree.proofs.Counted.{filter-few, any-map}
-use Rattle.bucket_tree.proofs.Every.{all-left, all-right, all-one, all-here, count-append, count-one, count-filter, count-not}
+use Rattle.bucket_tree.proofs.Every.{all-left, all-right, all-here, count-append, count-one, count-filter, count-not}
 use Rattle.bucket_tree.proofs.Ids.{same_id-exact}
-use Rattle.bucket_tree.proofs.RowKept.{row_of, all-ended, all-without, all-room, count-ended, count-gone, count-without, count-room, none-live, ended-kept, failed-known}
+use Rattle.bucket_tree.proofs.RowKept.{all-ended, all-without, all-room, count-ended, count-gone, count-without, count-room, none-live, ended-kept, failed-known}
 
 added-kept : (own : Id) (k b : ℕ) (c : Contact) (row : RowState) → IsRow own k b row → begins row.prefix (id_bits c.id) ≡ true → same_id c.id own ≡ false
     → knows_id row c.id ≡ false → length row.live < k → IsRow own k b (added c row)

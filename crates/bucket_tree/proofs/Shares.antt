@@ -1,9 +1,9 @@
 -- A partition shares out all identifiers, and goes on doing so when a prefix is replaced by its halves.
-use Rattle.std.proofs.Common.{◌≡◌, ℕ, zero, suc, ◌+◌, ◌<◌, ◌≤◌, ◌&&◌, List, [], ◌∷◌, ◌++◌, length, Bool, true, false, cond, not, refl, sym, ap, subst, ◌∙◌, arith}
+use Rattle.std.proofs.Common.{◌≡◌, ℕ, suc, ◌≤◌, ◌&&◌, List, [], ◌∷◌, ◌++◌, length, Bool, true, false, cond, refl, sym, ap, subst, ◌∙◌, arith}
 use Rattle.std.specs.Prelude.{filter}
 use Rattle.std.specs.List.{All, AllByRecursion}
 use Rattle.std.proofs.lemmas.List.Elements.{recursion_from_All}
-use Rattle.bucket_tree.specs.Partition.{begins, same_bit, after_bit, NoneEmpty, Partition, whole, halves, is_before, BeforeAll, Ascending}
+use Rattle.bucket_tree.specs.Partition.{begins, same_bit, after_bit, NoneEmpty, Partition, whole, halves, BeforeAll, Ascending}
 use Rattle.bucket_tree.proofs.Begun.{before-more_right, before-more_left, before-halves}
 
 abbrev Short : ℕ → List (List Bool) → Type 0

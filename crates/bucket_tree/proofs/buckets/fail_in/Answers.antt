@@ -1,4 +1,4 @@
-use Rattle.std.proofs.Common.{◌≤◌, ◌<◌, length, arith, ap, sym, subst, ◌∙◌}
+use Rattle.std.proofs.Common.{◌≤◌, ◌<◌, length, arith, sym, subst, ◌∙◌}
 use Rattle.std.specs.List.{All}
 use Rattle.bucket_tree.specs.declared.plain.Entry.{Entry}
 use Rattle.bucket_tree.specs.Rows.{RowState}

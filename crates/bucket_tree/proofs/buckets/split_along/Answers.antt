@@ -1,4 +1,4 @@
-use Rattle.std.proofs.Common.{◌≡◌, ◌+◌, ◌-◌, ◌≤◌, List, length, vec_len, vec_capacity, refl, sym, ap, subst, arith}
+use Rattle.std.proofs.Common.{◌≡◌, ◌+◌, ◌-◌, ◌≤◌, List, length, vec_len, vec_capacity, sym, subst, arith}
 use Rattle.bucket_tree.specs.Rows.{RowState}
 use Rattle.bucket_tree.specs.Places.{RoomAt}
 use Rattle.bucket_tree.proofs.RowsKept.{read-takes, read-room}

@@ -1,4 +1,4 @@
-use Rattle.std.proofs.Common.{◌+◌, ◌≡◌, ◌≤◌, List, [], ◌∷◌, ◌++◌, length, true, false, sym, ◌∙◌, arith}
+use Rattle.std.proofs.Common.{◌+◌, true, false, sym, ◌∙◌}
 use Rattle.bucket_tree.proofs.RowsKept.{split-made, split-covers, split-splits, split-high, split-low, split-room, split-deeper}
 use Rattle.bucket_tree.proofs.buckets.split_row.Goals as goal
 

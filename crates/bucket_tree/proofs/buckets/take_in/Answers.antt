@@ -1,4 +1,4 @@
-use Rattle.std.proofs.Common.{◌≤◌, ◌<◌, length, arith, ap, sym, subst, ◌∙◌}
+use Rattle.std.proofs.Common.{◌≤◌, ◌<◌, length, arith, sym, subst, ◌∙◌}
 use Rattle.bucket_tree.specs.Rows.{RowState}
 use Rattle.bucket_tree.proofs.RowsKept.{place-get, place-within, sound-row, taken, taken-sound}
 use Rattle.bucket_tree.proofs.buckets.take_in.Goals as goal

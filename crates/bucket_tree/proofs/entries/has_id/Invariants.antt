@@ -1,4 +1,4 @@
-use Rattle.std.proofs.Common.{◌≡◌, ◌≢◌, take, drop, false}
+use Rattle.std.proofs.Common.{◌≡◌, ◌≢◌, take, drop}
 use Rattle.std.specs.List.{All, list_any}
 use Rattle.bucket_tree.specs.Partition.{id_bits}
 use Rattle.bucket_tree.specs.Rows.{same_id}

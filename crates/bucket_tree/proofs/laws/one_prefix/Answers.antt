@@ -1,6 +1,6 @@
-use Rattle.std.proofs.Common.{◌≡◌, ℕ, ◌≤◌, List, Bool, length, sym, subst, ◌∙◌}
+use Rattle.std.proofs.Common.{ℕ, ◌≤◌, List, Bool, length, sym, subst}
 use Rattle.std.specs.List.{All}
-use Rattle.bucket_tree.specs.Partition.{bits_from, id_bits}
+use Rattle.bucket_tree.specs.Partition.{id_bits}
 use Rattle.bucket_tree.proofs.OneBit.{id_bits-length}
 use Rattle.bucket_tree.proofs.Shares.{one_begins}
 use Rattle.bucket_tree.proofs.laws.one_prefix.Goals as goal

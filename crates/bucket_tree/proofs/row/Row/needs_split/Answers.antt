@@ -1,4 +1,4 @@
-use Rattle.std.proofs.Common.{◌≡◌, ◌≢◌, ◌<◌, List, length, ap, ◌∙◌, subst, arith}
+use Rattle.std.proofs.Common.{◌≡◌, ◌≢◌, List, length, ap, ◌∙◌, subst, arith}
 use Rattle.std.specs.List.{All}
 use Rattle.bucket_tree.specs.declared.plain.Entry.{Entry}
 use Rattle.bucket_tree.specs.Partition.{id_bits}
