@@ -7,4 +7,5 @@ pub mod Places
 pub mod Ids
 pub mod RowKept
 pub mod RowSteps
+pub mod Splits
 pub mod RowsKept

@@ -1,7 +1,7 @@
 -- What the rows keep when one of them changes or splits, and how a step of one row is a step of all.
-use Rattle.std.proofs.Common.{◌≡◌, ℕ, ◌+◌, ◌-◌, ◌<◌, ◌≤◌, List, [], ◌∷◌, ◌++◌, length, get_or, set, Bool, true, false, not, refl, sym, ap, subst, ◌∙◌, arith}
-use Rattle.std.specs.Prelude.{insert}
-use Rattle.std.specs.List.{All}
+use Rattle.std.proofs.Common.{◌≡◌, ◌≢◌, ℕ, zero, suc, ◌+◌, ◌-◌, ◌<◌, ◌≤◌, List, [], ◌∷◌, ◌++◌, length, get_or, set, take, drop, Bool, true, false, not, map, Option, Some, None, refl, sym, ap, subst, ◌∙◌, inl, inr, arith}
+use Rattle.std.specs.Prelude.{filter, find, insert, option_map}
+use Rattle.std.specs.List.{All, list_any}
 use Rattle.std.proofs.lemmas.List.{set_at, get_or_at, map-append, length-append, set-get_or, append_assoc}
 use Rattle.std.proofs.lemmas.List.Edits.{insert-append_right}
 use Rattle.std.proofs.lemmas.List.Elements.{All-append, All-cons, All-nil}
@@ -14,9 +14,9 @@ use Rattle.bucket_tree.specs.declared.plain.Gone.{Gone}
 use Rattle.bucket_tree.specs.declared.plain.Gone.TheVariants.{Kept, Removed, Replaced, Unknown}
 use Rattle.bucket_tree.specs.Partition.{id_bits, begins, Partition, Ascending, whole}
 use Rattle.bucket_tree.specs.Rows.{RowState, IsRow, SoundRows, Sound, contact_of, live_in, live_of, prefix_of, prefixes_of, same_id}
-use Rattle.bucket_tree.specs.Steps.{half, NeedsSplit, RowSeen, SeenStep, in_row, split, RowFailed, FailedStep, InItsRow, failures_of}
-use Rattle.bucket_tree.specs.Places.{IsRowAt, Splitting, RoomAt, NeedsAt, TakesAt}
-use Rattle.bucket_tree.proofs.Begun.{begins-halves}
+use Rattle.bucket_tree.specs.Steps.{half, NeedsSplit, RowSeen, SeenStep, is_own, in_row, split, RowFailed, FailedStep, InItsRow, failures_of}
+use Rattle.bucket_tree.specs.Places.{IsRowAt, Splitting, SplitsTimes, RoomAt, NeedsAt, TakesAt}
+use Rattle.bucket_tree.proofs.Begun.{begins-front, begins-halves}
 use Rattle.bucket_tree.proofs.OneBit.{id_bits-length}
 use Rattle.bucket_tree.proofs.Shares.{partition-split, ascending-split}
 use Rattle.bucket_tree.proofs.Counted.{any-map}
@@ -140,7 +140,7 @@ module _ (own : Id) (k b : ℕ) where
 
   -- the half that covers the contact
   pub split-high : (c : Contact) (rows new : List RowState) (at : ℕ) (n : NeedsAt own k b c rows at) → new ≡ n.here.front ++ half false n.here.row ∷ half true n.here.row ∷ n.here.back
-      → begins (half true n.here.row).prefix (id_bits c.id) ≡ true → (there : IsRowAt c.id new (at + 1)) × (length there.row.prefix ≡ length n.here.row.prefix + 1)
+      → begins (half true n.here.row).prefix (id_bits c.id) ≡ true → (there : IsRowAt c.id new (at + 1)) × (there.row ≡ half true n.here.row)
   split-high c rows new at n e covers =
       let here = n.here in
       let p = here.place in
@@ -153,11 +153,11 @@ module _ (own : Id) (k b : ℕ) where
           place = omega (arith, p, len);
           covers = covers;
         },
-        half-deeper here.row true,
+        refl,
       )
 
   pub split-low : (c : Contact) (rows new : List RowState) (at : ℕ) (n : NeedsAt own k b c rows at) → new ≡ n.here.front ++ half false n.here.row ∷ half true n.here.row ∷ n.here.back
-      → begins (half true n.here.row).prefix (id_bits c.id) ≡ false → (there : IsRowAt c.id new at) × (length there.row.prefix ≡ length n.here.row.prefix + 1)
+      → begins (half true n.here.row).prefix (id_bits c.id) ≡ false → (there : IsRowAt c.id new at) × (there.row ≡ half false n.here.row)
   split-low c rows new at n e covers =
       let here = n.here in
       let two = n.two in
@@ -171,23 +171,36 @@ module _ (own : Id) (k b : ℕ) where
           place = here.place;
           covers = zero_covers (begins (here.row.prefix ++ false ∷ []) (id_bits c.id)) (sym other ∙ covers);
         },
-        half-deeper here.row false,
+        refl,
       )
     where
       zero_covers : (t : Bool) → not t ≡ false → t ≡ true
       zero_covers true f = refl
       zero_covers false f = absurd cc
 
-  pub split-room : (c : Contact) (rows new : List RowState) (at to room room' : ℕ) (n : NeedsAt own k b c rows at) → RoomAt c.id rows at room → room ≤ room' → new ≡ n.here.front ++ half false n.here.row ∷ half true n.here.row ∷ n.here.back
-      → (there : IsRowAt c.id new to) → length there.row.prefix ≡ length n.here.row.prefix + 1 → RoomAt c.id new to room'
-  split-room c rows new at to room room' n r le e there deeper =
-      let here = n.here in
-      let same = ap (λ (x : RowState). length x.prefix) (same-row c.id rows at r.here here) in
-      let old_len = ap length here.rows_are ∙ length-append here.front (here.row ∷ here.back) in
-      let new_len = ap length e ∙ length-append here.front (half false here.row ∷ half true here.row ∷ here.back) in
-      let fits = r.fits in
-      let two = n.two in
-      record { here = there; fits = omega (arith, same, old_len, new_len, fits, two, deeper, le) }
+  pub room-some : (c : Contact) (rows : List RowState) (at room : ℕ) → NeedsAt own k b c rows at → RoomAt own k b c.id rows at room → length rows < room
+  room-some c rows at room n r = go r.splits refl r.times r.fits
+    where
+      go : (m : ℕ) → r.splits ≡ m → SplitsTimes own k b c.id m r.here.row → length rows + m ≤ room → length rows < room
+      go zero e t le = absurd (t (subst (NeedsSplit own k b c.id) (same-row c.id rows at n.here r.here) n.needs))
+      go (suc m) e t le = omega arith
+
+  pub split-room : (c : Contact) (rows new : List RowState) (at to room room' : ℕ) (bit : Bool) (n : NeedsAt own k b c rows at) → RoomAt own k b c.id rows at room → room ≤ room' → new ≡ n.here.front ++ half false n.here.row ∷ half true n.here.row ∷ n.here.back
+      → (there : IsRowAt c.id new to) → there.row ≡ half bit n.here.row → RoomAt own k b c.id new to room'
+  split-room c rows new at to room room' bit n r le e there is = go r.splits (subst (SplitsTimes own k b c.id r.splits) (same-row c.id rows at r.here n.here) r.times) r.fits
+    where
+      go : (m : ℕ) → SplitsTimes own k b c.id m n.here.row → length rows + m ≤ room → RoomAt own k b c.id new to room'
+      go zero t fits = absurd (t n.needs)
+      go (suc m) t fits =
+          let here = n.here in
+          let old_len = ap length here.rows_are ∙ length-append here.front (here.row ∷ here.back) in
+          let new_len = ap length e ∙ length-append here.front (half false here.row ∷ half true here.row ∷ here.back) in
+          record {
+            here = there;
+            splits = m;
+            times = subst (SplitsTimes own k b c.id m) (sym is) (t.1 bit (subst (λ (x : RowState). begins x.prefix (id_bits c.id) ≡ true) is there.covers));
+            fits = omega (arith, old_len, new_len, fits, le);
+          }
 
 pub splitting-none : (own : Id) (k b : ℕ) (c : Contact) (rows : List RowState) → SoundRows own k b rows → Splitting own k b c rows rows
 splitting-none own k b c rows s = record { sound = s; leads = λ seen after step. step }
@@ -216,9 +229,9 @@ split-covers id rows at here two high t b h e =
     let highs : high ≡ half true here.row = h ∙ ap (half true) (b ∙ place-get id rows at here two) in
     ap (λ (r : RowState). begins r.prefix (id_bits id)) (sym highs) ∙ e
 
-pub split-deeper : (id : Id) (rows new : List RowState) (at to : ℕ) (here old : IsRowAt id rows at) (there now : IsRowAt id new to) → length there.row.prefix ≡ length here.row.prefix + 1 → length now.row.prefix ≡ length old.row.prefix + 1
-split-deeper id rows new at to here old there now e =
-    ap (λ (r : RowState). length r.prefix) (same-row id new to now there) ∙ e ∙ ap (λ (r : RowState). length r.prefix + 1) (same-row id rows at here old)
+pub split-deeper : (id : Id) (rows new : List RowState) (at to : ℕ) (bit : Bool) (here old : IsRowAt id rows at) (there now : IsRowAt id new to) → there.row ≡ half bit here.row → length now.row.prefix ≡ length old.row.prefix + 1
+split-deeper id rows new at to bit here old there now e =
+    ap (λ (r : RowState). length r.prefix) (same-row id new to now there ∙ e) ∙ half-deeper here.row bit ∙ ap (λ (r : RowState). length r.prefix + 1) (same-row id rows at here old)
 
 -- the row as it was read
 module _ (own : Id) (k b : ℕ) (c : Contact) (rows : List RowState) (at : ℕ) (row : RowState) (is : row ≡ get_or rows at row) (here : IsRowAt c.id rows at) where
@@ -242,10 +255,8 @@ module _ (own : Id) (k b : ℕ) (c : Contact) (rows : List RowState) (at : ℕ) 
   pub read-takes : (NeedsSplit own k b c.id row → ⊥) → TakesAt own k b c rows at
   read-takes n = record { here = here; takes = λ m. n (subst (NeedsSplit own k b c.id) (sym (is ∙ place-get c.id rows at here row)) m) }
 
-  pub read-room : (room : ℕ) → length rows + (160 - length row.prefix) ≤ room → RoomAt c.id rows at room
-  read-room room le =
-      let e = ap (λ (r : RowState). length r.prefix) (is ∙ place-get c.id rows at here row) in
-      record { here = here; fits = omega (arith, e, le) }
+  pub read-room : (splits room : ℕ) → SplitsTimes own k b c.id splits row → length rows + splits ≤ room → RoomAt own k b c.id rows at room
+  read-room splits room t le = record { here = here; splits = splits; times = subst (SplitsTimes own k b c.id splits) (is ∙ place-get c.id rows at here row) t; fits = le }
 
 -- what is left to split is less
 pub split-smaller : (id : Id) (rows new : List RowState) (at to : ℕ) (d row : RowState) (here : IsRowAt id rows at) (there : IsRowAt id new to) → row ≡ get_or rows at row → length row.prefix < 160

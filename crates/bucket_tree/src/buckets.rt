@@ -2,10 +2,10 @@
 ghost use Rattle.std.specs.Prelude.{◌≡◌, ◌+◌, ◌-◌, ◌<◌, ◌≤◌, ◌∷◌, [], ◌++◌, length, IfOk, OnErr, vec_len, vec_capacity, true, false};
 ghost use Rattle.std.specs.List.{All};
 ghost use Rattle.kad_distance.specs.KClosest.{k_closest};
-ghost use Rattle.bucket_tree.specs.Partition.{Partition};
-ghost use Rattle.bucket_tree.specs.Rows.{RowState, BucketsState, SoundRows, Sound, live_of, prefixes_of, same_id};
+ghost use Rattle.bucket_tree.specs.Partition.{Partition, begins, id_bits};
+ghost use Rattle.bucket_tree.specs.Rows.{RowState, BucketsState, SoundRows, Sound, live_in, live_of, prefixes_of, same_id};
 ghost use Rattle.bucket_tree.specs.Steps.{SeenStep, FailedStep};
-ghost use Rattle.bucket_tree.specs.Places.{IsRowAt, NeedsAt, Splitting, RoomAt, TakesAt};
+ghost use Rattle.bucket_tree.specs.Places.{IsRowAt, IsNearHalf, SplitsTimes, NeedsAt, Splitting, RoomAt, TakesAt};
 
 use crate::entries::is_same_id;
 use crate::plain::{Gone, Seen, Setting};
@@ -15,9 +15,6 @@ use kad_base::{Contact, Contacts, Id, List, NoMemory};
 use kad_distance::k_least;
 use std::alloc::Global;
 use std::marker::Model;
-
-/// How many bits an identifier has.
-const BITS: u8 = 160;
 
 /// The buckets of one node, seen as its identifier, k, b and the rows. Their prefixes are a partition of all identifiers,
 /// in ascending order; each contact stands in the row of its identifier, no identifier twice.
@@ -160,14 +157,45 @@ fn split_along(
     ensures takes { IfOk result (λ place. TakesAt setting.now.own setting.now.k setting.now.b contact.now rows.new.items place) }
     ensures err { OnErr result (rows.new.items ≡ rows.old.items) }
 {
-    if !rows[at].needs_split(setting, &contact.id) {
-        return Ok(at);
-    }
-    let more = BITS - rows[at].depth();
-    match rows.reserve(more as usize) {
+    let splits = count_splits(&rows[at], setting, &contact.id);
+    match rows.reserve(splits as usize) {
         Ok(()) => Ok(split_on(rows, setting, contact, at)),
         Err(_) => Err(NoMemory),
     }
+}
+
+/// The half of a row that covers the identifier.
+fn near_half(row: &Row, id: &Id) -> Row
+    requires two { length row.now.prefix < 160 }
+    requires covers { begins row.now.prefix (id_bits id.now) ≡ true }
+    ensures { IsNearHalf id.now row.now result }
+{
+    let high = row.half(true);
+    if high.covers(id) {
+        return high;
+    }
+    row.half(false)
+}
+
+/// How often a row splits before it takes the identifier in.
+fn count_splits(row: &Row, setting: &Setting, id: &Id) -> u8
+    requires some_live { 0 < setting.now.k }
+    requires some_bits { 0 < setting.now.b }
+    requires covered { All (λ c. begins row.now.prefix (id_bits c.id) ≡ true) (live_in row.now) }
+    requires covers { begins row.now.prefix (id_bits id.now) ≡ true }
+    requires short { length row.now.prefix ≤ 160 }
+    ensures { SplitsTimes setting.now.own setting.now.k setting.now.b id.now result row.now }
+{
+    if !row.needs_split(setting, id) {
+        return 0;
+    }
+    let mut near = near_half(row, id);
+    let mut splits = 1;
+    while near.needs_split(setting, id) {
+        near = near_half(&near, id);
+        splits += 1;
+    }
+    splits
 }
 
 /// Splits the row of the contact as often as it needs, in room that is there.
@@ -175,7 +203,7 @@ fn split_on(rows: &mut Vec<Row>, setting: &Setting, contact: &Contact, start: us
     requires some_live { 0 < setting.now.k }
     requires some_bits { 0 < setting.now.b }
     requires sound { SoundRows setting.now.own setting.now.k setting.now.b rows.old.items }
-    requires room { RoomAt contact.now.id rows.old.items start (vec_capacity rows.old) }
+    requires room { RoomAt setting.now.own setting.now.k setting.now.b contact.now.id rows.old.items start (vec_capacity rows.old) }
     requires others { same_id contact.now.id setting.now.own ≡ false }
     ensures splits { Splitting setting.now.own setting.now.k setting.now.b contact.now rows.old.items rows.new.items }
     ensures takes { TakesAt setting.now.own setting.now.k setting.now.b contact.now rows.new.items result }
@@ -191,11 +219,11 @@ fn split_on(rows: &mut Vec<Row>, setting: &Setting, contact: &Contact, start: us
 fn split_row(rows: &mut Vec<Row>, setting: &Setting, contact: &Contact, at: usize) -> usize
     requires some_live { 0 < setting.now.k }
     requires sound { SoundRows setting.now.own setting.now.k setting.now.b rows.old.items }
-    requires room { RoomAt contact.now.id rows.old.items at (vec_capacity rows.old) }
+    requires room { RoomAt setting.now.own setting.now.k setting.now.b contact.now.id rows.old.items at (vec_capacity rows.old) }
     requires needs { NeedsAt setting.now.own setting.now.k setting.now.b contact.now rows.old.items at }
     requires others { same_id contact.now.id setting.now.own ≡ false }
     ensures splits { Splitting setting.now.own setting.now.k setting.now.b contact.now rows.old.items rows.new.items }
-    ensures room { RoomAt contact.now.id rows.new.items result (vec_capacity rows.new) }
+    ensures room { RoomAt setting.now.own setting.now.k setting.now.b contact.now.id rows.new.items result (vec_capacity rows.new) }
     ensures deeper { (old : IsRowAt contact.now.id rows.old.items at) (new : IsRowAt contact.now.id rows.new.items result) → length new.row.prefix ≡ length old.row.prefix + 1 }
 {
     let low = rows[at].half(false);

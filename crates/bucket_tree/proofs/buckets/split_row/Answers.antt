@@ -1,5 +1,5 @@
-use Rattle.std.proofs.Common.{◌+◌, true, false, sym, ◌∙◌}
-use Rattle.bucket_tree.proofs.RowsKept.{split-made, split-covers, split-splits, split-high, split-low, split-room, split-deeper}
+use Rattle.std.proofs.Common.{◌+◌, ◌<◌, vec_capacity, ◌≡◌, ◌≤◌, List, [], ◌∷◌, ◌++◌, length, vec_len, true, false, sym, ◌∙◌, arith}
+use Rattle.bucket_tree.proofs.RowsKept.{split-made, split-covers, split-splits, split-high, split-low, split-room, split-deeper, room-some}
 use Rattle.bucket_tree.proofs.buckets.split_row.Goals as goal
 
 pub returns-then-is_high-clause-splits : goal.returns-then-is_high-clause-splits
@@ -21,7 +21,7 @@ returns-then-is_high-clause-room c =
     let n = c.requires.needs in
     let made = split-made x.id rows new c.args.at n.here c.index.result.now c.index-2.result.now c.half-low.result c.half-high.result c.index.ensures c.half-low.ensures c.index-2.ensures c.half-high.ensures c.in-Ok.ensures.items in
     let there = split-high s.own s.k s.b x rows new c.args.at n made (split-covers x.id rows c.args.at n.here c.index-2.result.now c.half-high.result true c.index-2.ensures c.half-high.ensures (sym c.covers-is_high.ensures ∙ c.if-is_high.true)) in
-    split-room s.own s.k s.b x rows new c.args.at (c.args.at + 1) _ _ n c.requires.room c.in-Ok.ensures.capacity made there.0 there.1
+    split-room s.own s.k s.b x rows new c.args.at (c.args.at + 1) _ _ true n c.requires.room c.in-Ok.ensures.capacity made there.0 there.1
 
 pub returns-then-is_high-clause-deeper : goal.returns-then-is_high-clause-deeper
 returns-then-is_high-clause-deeper c =
@@ -32,7 +32,7 @@ returns-then-is_high-clause-deeper c =
     let n = c.requires.needs in
     let made = split-made x.id rows new c.args.at n.here c.index.result.now c.index-2.result.now c.half-low.result c.half-high.result c.index.ensures c.half-low.ensures c.index-2.ensures c.half-high.ensures c.in-Ok.ensures.items in
     let there = split-high s.own s.k s.b x rows new c.args.at n made (split-covers x.id rows c.args.at n.here c.index-2.result.now c.half-high.result true c.index-2.ensures c.half-high.ensures (sym c.covers-is_high.ensures ∙ c.if-is_high.true)) in
-    λ old now. split-deeper x.id rows new c.args.at (c.args.at + 1) n.here old there.0 now there.1
+    λ old now. split-deeper x.id rows new c.args.at (c.args.at + 1) true n.here old there.0 now there.1
 
 pub returns-else-is_high-clause-splits : goal.returns-else-is_high-clause-splits
 returns-else-is_high-clause-splits c =
@@ -53,7 +53,7 @@ returns-else-is_high-clause-room c =
     let n = c.requires.needs in
     let made = split-made x.id rows new c.args.at n.here c.index.result.now c.index-2.result.now c.half-low.result c.half-high.result c.index.ensures c.half-low.ensures c.index-2.ensures c.half-high.ensures c.in-Ok.ensures.items in
     let there = split-low s.own s.k s.b x rows new c.args.at n made (split-covers x.id rows c.args.at n.here c.index-2.result.now c.half-high.result false c.index-2.ensures c.half-high.ensures (sym c.covers-is_high.ensures ∙ c.if-is_high.false)) in
-    split-room s.own s.k s.b x rows new c.args.at (c.args.at) _ _ n c.requires.room c.in-Ok.ensures.capacity made there.0 there.1
+    split-room s.own s.k s.b x rows new c.args.at (c.args.at) _ _ false n c.requires.room c.in-Ok.ensures.capacity made there.0 there.1
 
 pub returns-else-is_high-clause-deeper : goal.returns-else-is_high-clause-deeper
 returns-else-is_high-clause-deeper c =
@@ -64,4 +64,11 @@ returns-else-is_high-clause-deeper c =
     let n = c.requires.needs in
     let made = split-made x.id rows new c.args.at n.here c.index.result.now c.index-2.result.now c.half-low.result c.half-high.result c.index.ensures c.half-low.ensures c.index-2.ensures c.half-high.ensures c.in-Ok.ensures.items in
     let there = split-low s.own s.k s.b x rows new c.args.at n made (split-covers x.id rows c.args.at n.here c.index-2.result.now c.half-high.result false c.index-2.ensures c.half-high.ensures (sym c.covers-is_high.ensures ∙ c.if-is_high.false)) in
-    λ old now. split-deeper x.id rows new c.args.at (c.args.at) n.here old there.0 now there.1
+    λ old now. split-deeper x.id rows new c.args.at (c.args.at) false n.here old there.0 now there.1
+
+pub unreachable-requires : goal.unreachable-requires
+unreachable-requires c =
+    let s = c.args.setting.now in
+    let lt : length c.args.rows.now.items < vec_capacity c.args.rows.now = room-some s.own s.k s.b c.args.contact.now c.args.rows.now.items c.args.at (vec_capacity c.args.rows.now) c.requires.needs c.requires.room in
+    let full = c.in-Err.ensures.full in
+    grind arith
