@@ -1,0 +1,11 @@
+pub mod OneBit
+pub mod Begun
+pub mod Shares
+pub mod Counted
+pub mod Every
+pub mod Places
+pub mod Ids
+pub mod RowKept
+pub mod RowSteps
+pub mod Splits
+pub mod RowsKept

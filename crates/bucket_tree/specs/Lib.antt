@@ -1,0 +1,5 @@
+pub mod Stored
+pub mod Partition
+pub mod Rows
+pub mod Steps
+pub mod Places
