@@ -1,7 +1,7 @@
 -- What the rows keep when one of them changes or splits, and how a step of one row is a step of all.
-use Rattle.std.proofs.Common.{◌≡◌, ◌≢◌, ℕ, zero, suc, ◌+◌, ◌-◌, ◌<◌, ◌≤◌, List, [], ◌∷◌, ◌++◌, length, get_or, set, take, drop, Bool, true, false, not, map, Option, Some, None, refl, sym, ap, subst, ◌∙◌, inl, inr, arith}
-use Rattle.std.specs.Prelude.{filter, find, insert, option_map}
-use Rattle.std.specs.List.{All, list_any}
+use Rattle.std.proofs.Common.{◌≡◌, ℕ, zero, suc, ◌+◌, ◌-◌, ◌<◌, ◌≤◌, List, [], ◌∷◌, ◌++◌, length, get_or, set, Bool, true, false, not, refl, sym, ap, subst, ◌∙◌, arith}
+use Rattle.std.specs.Prelude.{insert}
+use Rattle.std.specs.List.{All}
 use Rattle.std.proofs.lemmas.List.{set_at, get_or_at, map-append, length-append, set-get_or, append_assoc}
 use Rattle.std.proofs.lemmas.List.Edits.{insert-append_right}
 use Rattle.std.proofs.lemmas.List.Elements.{All-append, All-cons, All-nil}
@@ -14,9 +14,9 @@ use Rattle.bucket_tree.specs.declared.plain.Gone.{Gone}
 use Rattle.bucket_tree.specs.declared.plain.Gone.TheVariants.{Kept, Removed, Replaced, Unknown}
 use Rattle.bucket_tree.specs.Partition.{id_bits, begins, Partition, Ascending, whole}
 use Rattle.bucket_tree.specs.Rows.{RowState, IsRow, SoundRows, Sound, contact_of, live_in, live_of, prefix_of, prefixes_of, same_id}
-use Rattle.bucket_tree.specs.Steps.{half, NeedsSplit, RowSeen, SeenStep, is_own, in_row, split, RowFailed, FailedStep, InItsRow, failures_of}
+use Rattle.bucket_tree.specs.Steps.{half, NeedsSplit, RowSeen, SeenStep, in_row, split, RowFailed, FailedStep, InItsRow, failures_of}
 use Rattle.bucket_tree.specs.Places.{IsRowAt, Splitting, SplitsTimes, RoomAt, NeedsAt, TakesAt}
-use Rattle.bucket_tree.proofs.Begun.{begins-front, begins-halves}
+use Rattle.bucket_tree.proofs.Begun.{begins-halves}
 use Rattle.bucket_tree.proofs.OneBit.{id_bits-length}
 use Rattle.bucket_tree.proofs.Shares.{partition-split, ascending-split}
 use Rattle.bucket_tree.proofs.Counted.{any-map}

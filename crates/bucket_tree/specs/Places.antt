@@ -1,14 +1,14 @@
 -- Where a row stands in the list, and what a call owes that changes one row.
-use Rattle.std.specs.Prelude.{◌≡◌, ℕ, zero, suc, ◌+◌, ◌-◌, ◌<◌, ◌≤◌, Bool, true, false, List, [], ◌∷◌, ◌++◌, length}
+use Rattle.std.specs.Prelude.{◌≡◌, ℕ, zero, suc, ◌+◌, ◌<◌, ◌≤◌, Bool, true, List, [], ◌∷◌, ◌++◌, length}
 use Rattle.kad_base.specs.declared.plain.Id.{Id}
 use Rattle.kad_base.specs.declared.plain.Contact.{Contact}
 use Rattle.bucket_tree.specs.declared.plain.Seen.{Seen}
 use Rattle.bucket_tree.specs.declared.plain.Gone.{Gone}
-use Rattle.bucket_tree.specs.declared.plain.Gone.TheVariants.{Kept, Removed, Replaced, Unknown}
+use Rattle.bucket_tree.specs.declared.plain.Gone.TheVariants.{Removed, Replaced}
 use Rattle.bucket_tree.specs.declared.plain.Entry.{Entry}
 use Rattle.bucket_tree.specs.Partition.{id_bits, begins}
 use Rattle.bucket_tree.specs.Rows.{RowState, SoundRows}
-use Rattle.bucket_tree.specs.Steps.{half, NeedsSplit, RowSeen, RowFailed, SeenStep, fresh}
+use Rattle.bucket_tree.specs.Steps.{half, NeedsSplit, SeenStep, fresh}
 
 -- the row at that place is the one whose prefix begins the identifier
 pub record IsRowAt (id : Id) (rows : List RowState) (at : ℕ) : Type 0 where

@@ -1,7 +1,7 @@
 use Rattle.std.proofs.Common.{◌≡◌, ◌+◌, ◌≤◌, List, length, vec_len, vec_capacity, sym, subst, arith}
 use Rattle.bucket_tree.specs.Rows.{RowState}
 use Rattle.bucket_tree.specs.Places.{RoomAt}
-use Rattle.bucket_tree.proofs.RowsKept.{read-covered, read-covers, read-room}
+use Rattle.bucket_tree.proofs.RowsKept.{read-room}
 use Rattle.bucket_tree.proofs.buckets.split_along.Goals as goal
 
 pub split_on-requires-clause-room : goal.split_on-requires-clause-room

@@ -1,4 +1,4 @@
-use Rattle.std.proofs.Common.{◌+◌, ◌<◌, vec_capacity, ◌≡◌, ◌≤◌, List, [], ◌∷◌, ◌++◌, length, vec_len, true, false, sym, ◌∙◌, arith}
+use Rattle.std.proofs.Common.{◌+◌, ◌<◌, vec_capacity, length, true, false, sym, ◌∙◌, arith}
 use Rattle.bucket_tree.proofs.RowsKept.{split-made, split-covers, split-splits, split-high, split-low, split-room, split-deeper, room-some}
 use Rattle.bucket_tree.proofs.buckets.split_row.Goals as goal
 
