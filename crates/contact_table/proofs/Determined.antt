@@ -1,5 +1,5 @@
 -- The rows that a call leaves are determined by those before it.
-use Rattle.std.proofs.Common.{◌≡◌, ℕ, zero, suc, ◌+◌, ◌-◌, ◌<◌, ◌≤◌, ◌||◌, ◌&&◌, List, [], ◌∷◌, ◌++◌, length, take, drop, Bool, true, false, cond, not, map, refl, sym, ap, subst, ◌∙◌, arith, leb-true}
+use Rattle.std.proofs.Common.{◌≡◌, ℕ, zero, suc, ◌+◌, ◌-◌, ◌<◌, ◌≤◌, ◌||◌, ◌&&◌, List, [], ◌∷◌, ◌++◌, length, take, drop, Bool, true, false, cond, not, refl, sym, ap, subst, ◌∙◌, arith, leb-true}
 use Rattle.std.specs.Prelude.{filter, nat_le}
 use Rattle.std.specs.List.{All, list_any}
 use Rattle.std.proofs.lemmas.Bool.{le-leb}
@@ -7,21 +7,21 @@ use Rattle.std.proofs.lemmas.List.{append_assoc, append-nil, length-append, take
 use Rattle.std.proofs.lemmas.List.Elements.{All-append, All-cons}
 use Rattle.kad_base.specs.declared.plain.Id.{Id}
 use Rattle.kad_base.specs.declared.plain.Contact.{Contact}
-use Rattle.kad_base.specs.Contacts.{same, among}
+use Rattle.kad_base.specs.Contacts.{same}
 use Rattle.bucket_tree.specs.declared.plain.Entry.{Entry}
 use Rattle.bucket_tree.specs.declared.plain.Seen.{Seen}
 use Rattle.bucket_tree.specs.declared.plain.Seen.TheVariants.{Added, Moved, Spared, Conflict, Own}
 use Rattle.bucket_tree.specs.declared.plain.Gone.{Gone}
 use Rattle.bucket_tree.specs.declared.plain.Gone.TheVariants.{Kept, Removed, Replaced, Unknown}
 use Rattle.bucket_tree.specs.Partition.{id_bits, begins}
-use Rattle.bucket_tree.specs.Rows.{RowState, BucketsState, SoundRows, contact_of, live_in, same_id, may_split}
-use Rattle.bucket_tree.specs.Steps.{knows, knows_id, fresh, half, NeedsSplit, RowSeen, SeenStep, is_own, in_row, split, RowFailed, FailedStep, InItsRow, IsReplaced}
+use Rattle.bucket_tree.specs.Rows.{RowState, BucketsState, SoundRows, contact_of, same_id, may_split}
+use Rattle.bucket_tree.specs.Steps.{knows, knows_id, half, NeedsSplit, RowSeen, SeenStep, is_own, in_row, split, RowFailed, FailedStep, InItsRow, IsReplaced}
 use Rattle.bucket_tree.proofs.Begun.{begins-halves, and_right}
 use Rattle.bucket_tree.proofs.OneBit.{id_bits-length}
 use Rattle.bucket_tree.proofs.Counted.{any-map}
-use Rattle.bucket_tree.proofs.Every.{all-left, all-here, all-after, count-append}
+use Rattle.bucket_tree.proofs.Every.{all-here, count-append}
 use Rattle.bucket_tree.proofs.Ids.{same_id-contact}
-use Rattle.bucket_tree.proofs.Places.{covers, one-covers, alone}
+use Rattle.bucket_tree.proofs.Places.{covers, one-covers}
 use Rattle.sibling_list.specs.Siblings.{SiblingList}
 use Rattle.contact_table.specs.TableState.{TableState}
 use Rattle.contact_table.specs.TableStep.{with_rows, siblings_of, seen_siblings, failed_siblings}

@@ -1,7 +1,6 @@
 -- The routing table as an object whose calls are steps: who may make which call, when each reply comes, and what it
 -- leaves (the buckets are Kademlia's, 2002, section 2.4; the siblings are S/Kademlia's, 2007, section 4.2).
 use Rattle.std.specs.Prelude.{◌≡◌, ℕ, List, ◌++◌}
-use Rattle.kad_base.specs.declared.plain.Id.{Id}
 use Rattle.kad_base.specs.declared.plain.Contact.{Contact}
 use Rattle.kad_distance.specs.KClosest.{k_closest}
 use Rattle.bucket_tree.specs.declared.plain.Seen.{Seen}

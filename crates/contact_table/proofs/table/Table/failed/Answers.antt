@@ -1,4 +1,4 @@
-use Rattle.std.proofs.Common.{◌≡◌, List, sym, ap, subst, ◌∙◌}
+use Rattle.std.proofs.Common.{subst}
 use Rattle.bucket_tree.specs.Steps.{FailedStep}
 use Rattle.contact_table.specs.RowsAfter.{failed_rows}
 use Rattle.contact_table.specs.TableState.{TableState}

@@ -1,11 +1,7 @@
-use Rattle.std.proofs.Common.{◌≡◌, List, sym, ap, subst, ◌∙◌}
-use Rattle.kad_base.specs.declared.plain.Id.{Id}
-use Rattle.kad_base.specs.declared.plain.Contact.{Contact}
-use Rattle.bucket_tree.specs.Rows.{RowState, BucketsState}
+use Rattle.std.proofs.Common.{subst}
 use Rattle.bucket_tree.specs.Steps.{SeenStep}
 use Rattle.contact_table.specs.RowsAfter.{seen_rows}
 use Rattle.contact_table.specs.TableState.{TableState}
-use Rattle.contact_table.specs.TableStep.{table_after, with_rows, siblings_of, seen_siblings}
 use Rattle.contact_table.proofs.Determined.{seen-is, table-seen}
 use Rattle.contact_table.proofs.table.Table.seen.Goals as goal
 
