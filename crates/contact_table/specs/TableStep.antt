@@ -1,0 +1,64 @@
+-- The routing table as an object whose calls are steps: who may make which call, when each reply comes, and what it
+-- leaves (the buckets are Kademlia's, 2002, section 2.4; the siblings are S/Kademlia's, 2007, section 4.2).
+use Rattle.std.specs.Prelude.{◌≡◌, ℕ, List, ◌++◌}
+use Rattle.kad_base.specs.declared.plain.Contact.{Contact}
+use Rattle.kad_distance.specs.KClosest.{k_closest}
+use Rattle.bucket_tree.specs.declared.plain.Seen.{Seen}
+use Rattle.bucket_tree.specs.declared.plain.Seen.TheVariants.{Added, Moved, Spared, Conflict, Own}
+use Rattle.bucket_tree.specs.declared.plain.Gone.{Gone}
+use Rattle.bucket_tree.specs.declared.plain.Gone.TheVariants.{Kept, Removed, Replaced, Unknown}
+use Rattle.bucket_tree.specs.Rows.{RowState, live_of}
+use Rattle.bucket_tree.specs.Steps.{SeenStep, FailedStep}
+use Rattle.sibling_list.specs.Siblings.{SiblingList, with_one, without_one}
+use Rattle.contact_table.specs.declared.calls.TableCall.{TableCall}
+use Rattle.contact_table.specs.declared.calls.TableCall.TheVariants.{Seen as Seen_call, Failed, Closest}
+use Rattle.contact_table.specs.declared.calls.TableReply.{TableReply}
+use Rattle.contact_table.specs.declared.calls.TableReply.TheVariants.{Seen as Seen_reply, Gone as Gone_reply, List as List_reply, NoMemory}
+use Rattle.contact_table.specs.RowsAfter.{seen_rows, failed_rows}
+use Rattle.contact_table.specs.TableState.{TableState}
+
+-- role 0 may make every call, the others Seen and Closest
+abbrev pub TableMay : ℕ → TableCall → Type 0
+TableMay role (Seen_call c) = Unit {0}
+TableMay role (Failed c) = role ≡ 0
+TableMay role (Closest target n) = Unit {0}
+
+abbrev pub siblings_of : TableState → SiblingList
+siblings_of s = record { own = s.own; list = s.siblings }
+
+-- a contact that a bucket takes in or keeps as a spare is put among the siblings
+abbrev pub seen_siblings : SiblingList → Contact → Seen → List Contact
+seen_siblings s c Added = with_one s c
+seen_siblings s c Moved = with_one s c
+seen_siblings s c Spared = with_one s c
+seen_siblings s c Conflict = s.list
+seen_siblings s c Own = s.list
+
+-- one that failed and isn't kept leaves them
+abbrev pub failed_siblings : SiblingList → Contact → Gone → List Contact
+failed_siblings s c Kept = s.list
+failed_siblings s c Removed = without_one s c
+failed_siblings s c Replaced = without_one s c
+failed_siblings s c Unknown = without_one s c
+
+-- the live contacts, followed by the siblings
+abbrev pub contacts_of : TableState → List Contact
+contacts_of s = live_of s.rows ++ s.siblings
+
+abbrev pub TableStep : TableState → ℕ → TableCall → TableReply → Type 0
+TableStep s role (Seen_call c) (Seen_reply seen) = SeenStep s.own s.k s.b c s.rows seen (seen_rows s.own s.k s.b c s.rows)
+TableStep s role (Seen_call c) NoMemory = Unit {0}
+TableStep s role (Seen_call c) other = ⊥
+TableStep s role (Failed c) (Gone_reply gone) = FailedStep c s.rows gone (failed_rows gone c s.rows)
+TableStep s role (Failed c) other = ⊥
+TableStep s role (Closest target n) (List_reply list) = list ≡ k_closest target n (contacts_of s)
+TableStep s role (Closest target n) NoMemory = Unit {0}
+TableStep s role (Closest target n) other = ⊥
+
+abbrev pub with_rows : TableState → List RowState → List Contact → TableState
+with_rows s rows siblings = record { own = s.own; k = s.k; b = s.b; rows = rows; siblings = siblings }
+
+abbrev pub table_after : TableState → ℕ → TableCall → TableReply → TableState
+table_after s role (Seen_call c) (Seen_reply seen) = with_rows s (seen_rows s.own s.k s.b c s.rows) (seen_siblings (siblings_of s) c seen)
+table_after s role (Failed c) (Gone_reply gone) = with_rows s (failed_rows gone c s.rows) (failed_siblings (siblings_of s) c gone)
+table_after s role call reply = s

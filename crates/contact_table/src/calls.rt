@@ -1,0 +1,27 @@
+//! The calls of a routing table and its replies.
+use bucket_tree::{Gone, Seen};
+use kad_base::{Contact, Contacts, Id};
+
+/// A call of a routing table. Role 0 may make each, the other roles Seen and Closest.
+#[derive(Clone, Copy, Debug, PartialEq, Eq)]
+pub enum TableCall {
+    /// The contact answered.
+    Seen { contact: Contact },
+    /// The contact didn't answer.
+    Failed { contact: Contact },
+    /// Asks for the n contacts that are closest to the target.
+    Closest { target: Id, n: u8 },
+}
+
+/// The reply to a call.
+#[derive(Debug, Drop, PartialEq, Eq)]
+pub enum TableReply {
+    /// What became of a contact that was seen.
+    Seen { seen: Seen },
+    /// What became of a contact that failed.
+    Gone { gone: Gone },
+    /// The closest contacts, nearest first.
+    List { list: Contacts },
+    /// The allocator gave no memory; the table is as it was.
+    NoMemory,
+}

@@ -1,0 +1,149 @@
+//! The table, and what its calls do.
+ghost use Rattle.std.specs.Prelude.{◌≡◌, ◌<◌, ◌≤◌, [], ◌∷◌, IfOk, OnErr};
+ghost use Rattle.kad_distance.specs.KClosest.{k_closest};
+ghost use Rattle.bucket_tree.specs.Steps.{SeenStep, FailedStep};
+ghost use Rattle.contact_table.specs.RowsAfter.{seen_rows, failed_rows};
+ghost use Rattle.contact_table.specs.TableStep.{TableMay, TableStep, table_after, contacts_of, seen_siblings, failed_siblings};
+ghost use Rattle.contact_table.specs.declared.calls.TableCall.{TableCall};
+
+use crate::calls::{TableCall, TableReply};
+use bucket_tree::{Buckets, Gone, Seen};
+use kad_base::{Contact, Contacts, Id, NoMemory, Serial};
+use kad_distance::k_least;
+use sibling_list::Siblings;
+use std::alloc::Global;
+use std::marker::Model;
+
+/// The routing table of a node, seen as its identifier, k, b, the rows of its buckets, and its siblings.
+#[derive(Drop)]
+pub struct Table {
+    buckets: Buckets,
+    siblings: Siblings,
+    alloc: Global,
+}
+
+impl Model for Table {
+    ghost use Rattle.std.specs.Prelude.{◌≡◌};
+    ghost use Rattle.contact_table.specs.TableState.{TableState};
+
+    ghost Value = { TableState };
+
+    ghost view = { λ t. record { own = t.buckets.own; k = t.buckets.k; b = t.buckets.b; rows = t.buckets.rows; siblings = t.siblings.list } };
+
+    ghost invariant = { λ t. t.siblings.own ≡ t.buckets.own };
+}
+
+impl Table {
+    /// A table with no contacts. `own` is the node's identifier, `k` how many contacts a bucket holds, and a bucket
+    /// without `own` splits only up to a whole number of `b` bits. It takes the memory for all siblings.
+    pub fn new(alloc: Global, own: Id, k: u8, b: u8) -> Result<Table, NoMemory>
+        requires some_live { 0 < k }
+        requires few_live { k ≤ 20 }
+        requires some_bits { 0 < b }
+        requires few_bits { b ≤ 5 }
+        ensures { IfOk result (λ table. table ≡ record { own = own; k = k; b = b; rows = record { prefix = []; live = []; spares = [] } ∷ []; siblings = [] }) }
+    {
+        let buckets = Buckets::new(alloc, own, k, b)?;
+        let siblings = Siblings::new(alloc, own)?;
+        Ok(Table {
+            buckets,
+            siblings,
+            alloc,
+        })
+    }
+
+    /// Tells the table that a contact was seen.
+    fn seen(&mut self, contact: Contact) -> TableReply
+        ensures step { TableStep self.old 0 (TableCall.Seen contact) result }
+        ensures after { self.new ≡ table_after self.old 0 (TableCall.Seen contact) result }
+    {
+        self.buckets.sound();
+        match self.buckets.seen(contact) {
+            Ok(seen) => {
+                note_seen(&mut self.siblings, seen, contact);
+                TableReply::Seen { seen }
+            }
+            Err(NoMemory) => TableReply::NoMemory,
+        }
+    }
+
+    /// Tells the table that a contact didn't answer. Takes no memory.
+    fn failed(&mut self, contact: &Contact) -> TableReply
+        ensures step { TableStep self.old 0 (TableCall.Failed contact.now) result }
+        ensures after { self.new ≡ table_after self.old 0 (TableCall.Failed contact.now) result }
+    {
+        self.buckets.sound();
+        let gone = self.buckets.failed(contact);
+        note_failed(&mut self.siblings, gone, contact);
+        TableReply::Gone { gone }
+    }
+
+    /// All live contacts and siblings.
+    fn contacts(&self) -> Result<Contacts, NoMemory>
+        ensures { IfOk result (λ all. all ≡ contacts_of self.now) }
+    {
+        let mut all = self.buckets.live()?;
+        all.extend(self.siblings.list())?;
+        Ok(all)
+    }
+
+    /// The n closest of all live contacts and siblings.
+    fn closest(&self, target: &Id, n: u8) -> Result<Contacts, NoMemory>
+        ensures { IfOk result (λ list. list ≡ k_closest target.now n (contacts_of self.now)) }
+    {
+        let all = self.contacts()?;
+        k_least(self.alloc, target, n, all.as_slice())
+    }
+
+    /// Answers with the n closest of all live contacts and siblings.
+    fn list_closest(&self, target: &Id, n: u8) -> TableReply
+        ensures { TableStep self.now 0 (TableCall.Closest target.now n) result }
+    {
+        match self.closest(target, n) {
+            Ok(list) => TableReply::List { list },
+            Err(NoMemory) => TableReply::NoMemory,
+        }
+    }
+}
+
+/// Puts a contact that a bucket took in, or keeps as a spare, among the siblings.
+fn note_seen(siblings: &mut Siblings, seen: Seen, contact: Contact)
+    ensures own { siblings.new.own ≡ siblings.old.own }
+    ensures list { siblings.new.list ≡ seen_siblings siblings.old contact seen }
+{
+    match seen {
+        Seen::Added | Seen::Moved | Seen::Spared => siblings.insert(contact),
+        Seen::Conflict | Seen::Own => {}
+    }
+}
+
+/// Takes a contact that failed out of the siblings, where it isn't kept.
+fn note_failed(siblings: &mut Siblings, gone: Gone, contact: &Contact)
+    ensures own { siblings.new.own ≡ siblings.old.own }
+    ensures list { siblings.new.list ≡ failed_siblings siblings.old contact.now gone }
+{
+    match gone {
+        Gone::Kept => {}
+        Gone::Removed | Gone::Replaced | Gone::Unknown => siblings.remove(contact),
+    }
+}
+
+impl Serial for Table {
+    type Call = TableCall;
+
+    type Reply = TableReply;
+
+    ghost may = { TableMay };
+
+    ghost step = { TableStep };
+
+    ghost after = { table_after };
+
+    fn apply(&mut self, role: u8, call: TableCall) -> TableReply {
+        match call {
+            TableCall::Seen { contact } => self.seen(contact),
+            TableCall::Failed { contact } => self.failed(&contact),
+            TableCall::Closest { target, n } => self.list_closest(&target, n),
+        }
+    }
+}

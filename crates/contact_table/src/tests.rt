@@ -1,0 +1,93 @@
+//! Examples worked by hand: `number(n)` is 19 zero bytes and n, and `contact(n)` stands at 127.0.0.1, port 6000 + n. The
+//! node's own identifier is `number(0)`, and k and b are 1.
+use crate::{Table, TableCall, TableReply};
+use bucket_tree::{Gone, Seen};
+use kad_base::{Addr, Contact, Id, Ip, Serial};
+use std::alloc::Global;
+use std::test::Fail;
+
+fn number(n: u8) -> Id {
+    let mut bytes = [0; 20];
+    bytes[19] = n;
+    Id(bytes)
+}
+
+fn at(n: u8, port: u16) -> Contact {
+    let addr = Addr {
+        ip: Ip::V4([127, 0, 0, 1]),
+        port,
+    };
+    Contact {
+        id: number(n),
+        addr,
+    }
+}
+
+fn contact(n: u8) -> Contact {
+    at(n, 6000 + u16::from(n))
+}
+
+/// A table that was told these contacts by role 1.
+fn told(alloc: Global, contacts: &[Contact]) -> Result<Table, Fail> {
+    let mut table = Table::new(alloc, number(0), 1, 1)?;
+    for contact in contacts {
+        let _reply = table.apply(1, TableCall::Seen { contact: *contact });
+    }
+    Ok(table)
+}
+
+#[test]
+fn tells_what_became_of_a_contact(rt: HostRuntime) -> Result<(), Fail> {
+    let mut table = told(rt.alloc(), &[contact(2), contact(1)])?;
+    for (contact, seen) in [
+        (contact(3), Seen::Spared),
+        (at(2, 7000), Seen::Conflict),
+        (at(0, 6000), Seen::Own),
+        (contact(1), Seen::Moved),
+    ] {
+        let reply = table.apply(0, TableCall::Seen { contact });
+        assert_eq!(rt; reply, TableReply::Seen { seen }, "{contact:?}");
+    }
+    Ok(())
+}
+
+#[test]
+fn forgets_a_contact_that_failed_twice(rt: HostRuntime) -> Result<(), Fail> {
+    let mut table = told(rt.alloc(), &[contact(2), contact(1), contact(3)])?;
+    for (n, gone) in [
+        (2, Gone::Kept),
+        (2, Gone::Replaced),
+        (3, Gone::Kept),
+        (3, Gone::Removed),
+        (9, Gone::Unknown),
+    ] {
+        let reply = table.apply(
+            0,
+            TableCall::Failed {
+                contact: contact(n),
+            },
+        );
+        assert_eq!(rt; reply, TableReply::Gone { gone }, "{n}");
+    }
+    Ok(())
+}
+
+/// The closest contacts, where the table has the memory to list them.
+fn closest(table: &mut Table, target: u8, n: u8) -> Option<Vec<Contact>> {
+    let target = number(target);
+    match table.apply(1, TableCall::Closest { target, n }) {
+        TableReply::List { list } => Some(list.into_vec()),
+        _ => None,
+    }
+}
+
+#[test]
+fn finds_spares_among_the_siblings(rt: HostRuntime) -> Result<(), Fail> {
+    let mut table = told(rt.alloc(), &[contact(2), contact(1), contact(3)])?;
+    let near = closest(&mut table, 3, 2).map(|found| found.as_slice()
+        == [contact(3), contact(2)].as_slice());
+    assert_eq!(rt; near, Some(true));
+    let all = closest(&mut table, 0, 9).map(|found| found.len());
+    assert_eq!(rt; all, Some(3));
+    Ok(())
+}
