@@ -1,4 +1,4 @@
--- The siblings of a node: the contacts closest to its own identifier (S/Kademlia, 2007, section 4.3; the number is this
+-- The siblings of a node: the contacts closest to its own identifier (S/Kademlia, 2007, section 4.2; the number is this
 -- project's own).
 use Rattle.std.specs.Prelude.{◌≢◌, ◌≤◌, List, ◌∷◌, [], ◌++◌, filter, length, not, cond}
 use Rattle.std.specs.List.{All}

@@ -1,4 +1,4 @@
-//! The siblings of a node: the 16 contacts closest to its own identifier, which answer for it (S/Kademlia, section 4.3).
+//! The siblings of a node: the 16 contacts closest to its own identifier, which answer for it (S/Kademlia, section 4.2).
 //! After `new` it takes no memory, and it knows no bucket and no socket.
 #![tactic(auto)]
 
@@ -13,13 +13,11 @@ ghost use Rattle.kad_distance.specs.Order.{closeness};
 ghost use Rattle.kad_distance.specs.KClosest.{new_at, place_in, put};
 ghost use Rattle.sibling_list.specs.Siblings.{IsSiblings, with_one, without_one};
 
+use kad_base::limits::MAX_SIBLINGS;
 use kad_base::{Contact, Id, NoMemory};
 use kad_distance::{compare, place};
 use std::alloc::Global;
 use std::marker::Model;
-
-/// How many siblings a node has at most (this project's own).
-pub const MAX_SIBLINGS: usize = 16;
 
 /// The contacts closest to a node's own identifier, nearest first.
 #[derive(Debug, Drop)]
