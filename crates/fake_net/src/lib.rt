@@ -1,0 +1,6 @@
+//! Networks in memory: a link that plays a script, and tells what it did. It opens no socket and reads no clock.
+#![tactic(auto)]
+
+mod script;
+
+pub use script::{Asked, Script, ScriptEvent};
