@@ -1,6 +1,6 @@
 -- A link in memory that plays a script. Its rules are this project's own; what a datagram says and how a message is
 -- written are KRPC's (BEP 5).
-use Rattle.std.specs.Prelude.{◌≡◌, ◌≢◌, ℕ, ◌+◌, ◌-◌, ◌^◌, ◌<◌, ◌≤◌, min, max, Bool, List, [], ◌∷◌, ◌++◌, length, take, drop, All, Any, Option, Some, slice_get, MatchOption}
+use Rattle.std.specs.Prelude.{◌≡◌, ◌≢◌, ℕ, ◌+◌, ◌-◌, ◌^◌, ◌<◌, ◌≤◌, min, max, Bool, List, [], ◌∷◌, ◌++◌, length, take, drop, All, Any, Option, Some, None, slice_get, MatchOption}
 use Rattle.std.specs.List.{AllWithin}
 use Rattle.kad_base.specs.declared.plain.Addr.{Addr}
 use Rattle.kad_base.specs.declared.plain.Came.{Came}
@@ -33,6 +33,20 @@ pub record Play : Type 0 where
 abbrev pub one_more : ℕ → ℕ
 one_more n = min (n + 1) (2 ^ 64 - 1)
 
+-- what sends change is as before
+pub record SameSends (old new : Play) : Type 0 where
+  pub asked : new.asked ≡ old.asked
+  pub sends : new.sends ≡ old.sends
+  pub failing : new.failing_sends ≡ old.failing_sends
+  pub faults : new.send_faults ≡ old.send_faults
+
+-- what receives change, the moment and the transcript apart, is as before
+pub record SameReceives (old new : Play) : Type 0 where
+  pub script : new.script ≡ old.script
+  pub receives : new.receives ≡ old.receives
+  pub failing : new.failing_receives ≡ old.failing_receives
+  pub faults : new.recv_faults ≡ old.recv_faults
+
 -- ---- queries
 
 -- the bytes say a query under the transaction id
@@ -40,6 +54,12 @@ pub record SaysQuery (bytes tx : List ℕ) : Type 0 where
   pub read_only : Bool
   pub ask : Ask
   pub says : Says bytes (message.Query tx read_only ask)
+
+-- the transaction id of a query
+abbrev pub query_tx : Message → Option (List ℕ)
+query_tx (message.Query tx read_only ask) = Some tx
+query_tx (message.Answer tx answer) = None
+query_tx (message.Fault tx code text) = None
 
 -- where the bytes say a query it is the last one sent; else none was added
 pub record Asks (to : Addr) (bytes : List ℕ) (old new : List Asked) : Type 0 where
@@ -139,21 +159,27 @@ pub record Puts (asked : List Asked) (event : ScriptEvent) (room : ℕ) (buf : L
   pub cut : take len buf ≡ take len bytes
 
 -- a datagram came: that of the next event; the moment is the later of the event's and the last one
-pub record Delivers (old : Play) (until room : ℕ) (buf : List ℕ) (after : List ScriptEvent) (from : Addr) (len at : ℕ) : Type 0 where
+pub record Delivers (asked : List Asked) (script : List ScriptEvent) (moment until room : ℕ) (buf : List ℕ) (after : List ScriptEvent) (from : Addr) (len at : ℕ) : Type 0 where
   pub place : ℕ
   pub event : ScriptEvent
-  pub next : IsNext old.asked until old.script place event
-  pub puts : Puts old.asked event room buf from len
-  pub at_is : at ≡ max (moment_of event) old.moment
-  pub left : after ≡ spent old.script place event
+  pub next : IsNext asked until script place event
+  pub puts : Puts asked event room buf from len
+  pub at_is : at ≡ max (moment_of event) moment
+  pub left : after ≡ spent script place event
 
 -- none came: no event is ready by then, and the moment is the later of `until` and the last one
-pub record Waits (old : Play) (until : ℕ) (after : List ScriptEvent) (at : ℕ) : Type 0 where
-  pub nothing : NoneNext old.asked until old.script
-  pub at_is : at ≡ max until old.moment
-  pub left : after ≡ old.script
+pub record Waits (asked : List Asked) (script : List ScriptEvent) (moment until : ℕ) (after : List ScriptEvent) (at : ℕ) : Type 0 where
+  pub nothing : NoneNext asked until script
+  pub at_is : at ≡ max until moment
+  pub left : after ≡ script
 
--- what a receive gives, and the script after it
-abbrev pub ReceiveStep : Play → ℕ → ℕ → List ℕ → List ScriptEvent → Came → Type 0
-ReceiveStep old until room buf after (Packet from len at) = Delivers old until room buf after from len at
-ReceiveStep old until room buf after (Quiet at) = Waits old until after at
+-- what a receive gives, given the queries that were sent, the script, the last moment, the moment to wait until and the
+-- length of the buffer; and the buffer and the script after it
+abbrev pub Receives : List Asked → List ScriptEvent → ℕ → ℕ → ℕ → List ℕ → List ScriptEvent → Came → Type 0
+Receives asked script moment until room buf after (Packet from len at) = Delivers asked script moment until room buf after from len at
+Receives asked script moment until room buf after (Quiet at) = Waits asked script moment until after at
+
+-- a datagram fits into the room
+abbrev pub IsWithin : Came → ℕ → Type 0
+IsWithin (Packet from len at) room = len ≤ room
+IsWithin (Quiet at) room = Unit {0}

@@ -1,6 +1,8 @@
 //! Networks in memory: a link that plays a script, and tells what it did. It opens no socket and reads no clock.
 #![tactic(auto)]
 
+mod link;
 mod script;
 
+pub use link::ScriptLink;
 pub use script::{Asked, Script, ScriptEvent};

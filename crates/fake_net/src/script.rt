@@ -1,11 +1,12 @@
 //! A script: what comes and when, and what of it comes next.
-ghost use Rattle.std.specs.Prelude.{◌≡◌, ◌≢◌, ◌<◌, ◌≤◌, ◌++◌, ◌↔◌, ◌∷◌, [], min, max, length, take, All, Any, IfSome, IsNone, IsTrue, IsFalse, IfOk, OnOk, OnErr, slice_get, ◌+◌};
+ghost use Rattle.std.specs.Prelude.{◌≡◌, ◌≢◌, ◌<◌, ◌≤◌, ◌++◌, ◌↔◌, ◌∷◌, [], min, max, length, take, All, Any, IfSome, IsNone, IsTrue, IsFalse, IfOk, OnOk, OnErr, ◌+◌, List, ℕ, Some, None};
 ghost use Rattle.std.specs.List.{HoldsAt};
+ghost use Rattle.kad_krpc.specs.declared.message.KrpcFault.TheVariants as fault_of;
 ghost use Rattle.kad_krpc.specs.Form.{IsWritable, form};
-ghost use Rattle.fake_net.specs.Scripts.{one_more, SaysQuery, Asks, IsFirstTo, IsFirstAt, IsWritableEvent, moment_of, IsReady, IsNext, NoneNext, FindsOf, under, Answers, Carries, Puts, left_of, spent};
+ghost use Rattle.fake_net.specs.Scripts.{one_more, SaysQuery, query_tx, Asks, IsFirstTo, IsFirstAt, IsWritableEvent, moment_of, IsReady, IsNext, NoneNext, FindsOf, under, Answers, Carries, Puts, Receives, left_of, spent};
 
-use kad_base::{Addr, Bytes, Contact, List, NoMemory, Report};
-use kad_krpc::{Answer, Ask, Message, encode};
+use kad_base::{Addr, Bytes, Came, List, NoMemory};
+use kad_krpc::{Answer, Ask, KrpcFault, Message, decode, encode};
 use std::alloc::Global;
 
 /// What comes at a moment, in milliseconds, or at the first receive after it.
@@ -106,7 +107,7 @@ fn better(
 }
 
 /// The place of what comes next at or before `until`.
-pub(crate) fn next(script: &[ScriptEvent], asked: &[Asked], until: u64) -> Option<usize>
+fn next(script: &[ScriptEvent], asked: &[Asked], until: u64) -> Option<usize>
     ensures { FindsOf asked.now until script.now (length script.now) result }
 {
     let mut best = None;
@@ -227,7 +228,7 @@ fn fill(buf: &mut [u8], bytes: &[u8]) -> usize
 }
 
 /// Writes the datagram of what is ready into the buffer, and answers who it is from and how much of it there is.
-pub(crate) fn deliver(
+fn deliver(
     alloc: Global,
     event: &ScriptEvent,
     asked: &[Asked],
@@ -275,5 +276,81 @@ fn spend(script: &mut Vec<ScriptEvent>, place: usize)
     let stays = count_down(&mut script[place]);
     if !stays {
         script.remove(place);
+    }
+}
+
+/// What comes at or before `until`, after a moment.
+pub(crate) fn come(
+    alloc: Global,
+    script: &mut Vec<ScriptEvent>,
+    asked: &[Asked],
+    moment_before: u64,
+    buf: &mut [u8],
+    until: u64,
+) -> Result<Came, NoMemory>
+    requires { All IsWritableEvent script.old.items }
+    ensures ok { IfOk result (Receives asked.now script.old.items moment_before until (length buf.old) buf.new script.new.items) }
+    ensures err { OnErr result (script.new.items ≡ script.old.items) }
+    ensures kept { OnErr result (buf.new ≡ buf.old) }
+    ensures writable { All IsWritableEvent script.new.items }
+{
+    let Some(place) = next(script.as_slice(), asked, until) else {
+        return Ok(Came::Quiet {
+            at: until.max(moment_before),
+        });
+    };
+    let (from, len) = deliver(alloc, &script[place], asked, buf)?;
+    let at = moment(&script[place]).max(moment_before);
+    spend(script, place);
+    Ok(Came::Packet { from, len, at })
+}
+
+/// The transaction id of a query.
+fn query_tx(message: Message) -> Option<Bytes>
+    ensures { result ≡ query_tx message }
+{
+    match message {
+        Message::Query { tx, .. } => Some(tx),
+        Message::Answer { .. } => None,
+        Message::Fault { .. } => None,
+    }
+}
+
+/// Bytes that say no message say no query.
+fn unread(fault: KrpcFault) -> Result<Option<Bytes>, NoMemory>
+    ensures ok { IfOk result (λ query. query ≡ None) }
+    ensures err { OnOk result (fault ≢ fault_of.NoMemory) }
+{
+    match fault {
+        KrpcFault::NoMemory => Err(NoMemory),
+        _ => Ok(None),
+    }
+}
+
+/// The transaction id of the query that the bytes say, if they say one.
+#[tactic(auto, using(crate::proofs::Asking::read_some))]
+fn query_in(alloc: Global, bytes: &[u8]) -> Result<Option<Bytes>, NoMemory>
+    ensures some { IfOk result (λ query. IfSome query (SaysQuery bytes.now)) }
+    ensures only { IfOk result (λ query. (tx : List ℕ) → SaysQuery bytes.now tx → query ≡ Some tx) }
+{
+    match decode(alloc, bytes) {
+        Ok(message) => Ok(query_tx(message)),
+        Err(fault) => unread(fault),
+    }
+}
+
+/// Keeps the query that the bytes say, if they say one.
+pub(crate) fn ask(
+    alloc: Global,
+    asked: &mut List<Asked>,
+    to: Addr,
+    bytes: &[u8],
+) -> Result<(), NoMemory>
+    ensures ok { OnOk result (Asks to bytes.now asked.old asked.new) }
+    ensures err { OnErr result (asked.new ≡ asked.old) }
+{
+    match query_in(alloc, bytes)? {
+        Some(tx) => asked.push(Asked { to, tx }),
+        None => Ok(()),
     }
 }
