@@ -6,3 +6,6 @@ mod script;
 
 pub use link::ScriptLink;
 pub use script::{Asked, Script, ScriptEvent};
+
+#[cfg(test)]
+mod tests;
