@@ -92,35 +92,26 @@ abbrev pub IsReady : List Asked → ScriptEvent → Type 0
 IsReady asked (Deliver at from bytes times) = 0 < times
 IsReady asked (ToQuery to at from m) = Any (λ q. q.to ≡ to) asked
 
--- the event at the place is ready by then; of the first n events no ready one is sooner, and each ready one before it is
--- later
-pub record IsNextOf (asked : List Asked) (until : ℕ) (script : List ScriptEvent) (n place : ℕ) (event : ScriptEvent) : Type 0 where
+-- the event at the place is ready by then; each ready one before it is later, and no ready one is sooner
+pub record IsNext (asked : List Asked) (until : ℕ) (script : List ScriptEvent) (place : ℕ) (event : ScriptEvent) : Type 0 where
   pub here : slice_get script place ≡ Some event
   pub ready : IsReady asked event
   pub soon : moment_of event ≤ until
   pub first : AllWithin (λ e. IsReady asked e → moment_of event < moment_of e) script 0 place
-  pub earliest : AllWithin (λ e. IsReady asked e → moment_of event ≤ moment_of e) script 0 n
-
--- the event at the place is the next by then: the earliest ready one of the script, and the first of those
-abbrev pub IsNext : List Asked → ℕ → List ScriptEvent → ℕ → ScriptEvent → Type 0
-IsNext asked until script place event = IsNextOf asked until script (length script) place event
-
--- of the first n events none is ready by then
-abbrev pub NoneOf : List Asked → ℕ → List ScriptEvent → ℕ → Type 0
-NoneOf asked until script n = AllWithin (λ e. IsReady asked e → until < moment_of e) script 0 n
+  pub earliest : All (λ e. IsReady asked e → moment_of event ≤ moment_of e) script
 
 -- none is ready by then
 abbrev pub NoneNext : List Asked → ℕ → List ScriptEvent → Type 0
-NoneNext asked until script = NoneOf asked until script (length script)
+NoneNext asked until script = All (λ e. IsReady asked e → until < moment_of e) script
 
--- some event is at the place, and is the next of the first n
-pub record IsNextAt (asked : List Asked) (until : ℕ) (script : List ScriptEvent) (n place : ℕ) : Type 0 where
+-- some event is at the place, and is the next by then
+pub record IsNextAt (asked : List Asked) (until : ℕ) (script : List ScriptEvent) (place : ℕ) : Type 0 where
   pub event : ScriptEvent
-  pub next : IsNextOf asked until script n place event
+  pub next : IsNext asked until script place event
 
--- the place of the next of the first n events, if there is one
-abbrev pub FindsOf : List Asked → ℕ → List ScriptEvent → ℕ → Option ℕ → Type 0
-FindsOf asked until script n best = MatchOption best (NoneOf asked until script n) (IsNextAt asked until script n)
+-- the place of the next by then, if there is one
+abbrev pub Finds : List Asked → ℕ → List ScriptEvent → Option ℕ → Type 0
+Finds asked until script found = MatchOption found (NoneNext asked until script) (IsNextAt asked until script)
 
 -- the message under another transaction id
 abbrev pub under : List ℕ → Message → Message

@@ -294,7 +294,13 @@ impl Link for ScriptLink {
 
     ghost recv_faults = { λ s. s.recv_faults };
 
-    fn now(&mut self) -> u64 {
+    fn now(&mut self) -> u64
+        ensures told { Grows self.old.told self.new.told (λ t. t ≡ Event.Now result ∷ []) }
+        ensures moment { result ≡ self.old.moment }
+        ensures same_moment { self.new.moment ≡ self.old.moment }
+        ensures same_sends { SameSends self.old self.new }
+        ensures same_receives { SameReceives self.old self.new }
+    {
         self.clock()
     }
 

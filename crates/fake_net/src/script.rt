@@ -3,7 +3,8 @@ ghost use Rattle.std.specs.Prelude.{◌≡◌, ◌≢◌, ◌<◌, ◌≤◌, �
 ghost use Rattle.std.specs.List.{HoldsAt};
 ghost use Rattle.kad_krpc.specs.declared.message.KrpcFault.TheVariants as fault_of;
 ghost use Rattle.kad_krpc.specs.Form.{IsWritable, form};
-ghost use Rattle.fake_net.specs.Scripts.{one_more, SaysQuery, query_tx, Asks, IsFirstTo, IsFirstAt, IsWritableEvent, moment_of, IsReady, IsNext, NoneNext, FindsOf, under, Answers, Carries, Puts, Receives, left_of, spent};
+ghost use Rattle.fake_net.specs.Searching.{FindsOf};
+ghost use Rattle.fake_net.specs.Scripts.{one_more, SaysQuery, query_tx, Asks, IsFirstTo, IsFirstAt, IsWritableEvent, moment_of, IsReady, IsNext, NoneNext, Finds, under, Answers, Carries, Puts, Receives, left_of, spent};
 
 use kad_base::{Addr, Bytes, Came, List, NoMemory};
 use kad_krpc::{Answer, Ask, KrpcFault, Message, decode, encode};
@@ -108,7 +109,7 @@ fn better(
 
 /// The place of what comes next at or before `until`.
 fn next(script: &[ScriptEvent], asked: &[Asked], until: u64) -> Option<usize>
-    ensures { FindsOf asked.now until script.now (length script.now) result }
+    ensures { Finds asked.now until script.now result }
 {
     let mut best = None;
     for place in 0..script.len() {

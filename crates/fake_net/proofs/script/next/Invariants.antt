@@ -1,4 +1,4 @@
-use Rattle.fake_net.specs.Scripts.{FindsOf}
+use Rattle.fake_net.specs.Searching.{FindsOf}
 use Rattle.fake_net.proofs.script.next.Given as goal
 
 abbrev pub invariant-loop-place : goal.invariant-loop-place
