@@ -1,7 +1,7 @@
 //! The link that plays a script.
 ghost use Rattle.std.specs.Prelude.{◌≡◌, ◌≤◌, ◌++◌, ◌∷◌, [], ◌↔◌, length, All, Contains, Some, None, IfOk, OnOk, OnErr, IsErr, IsTrue, MatchOption};
 ghost use Rattle.kad_base.specs.declared.plain.Event.{Event};
-ghost use Rattle.kad_base.specs.Outside.{Grows, EventOf, came_at};
+ghost use Rattle.kad_base.specs.Outside.{Grows, EventOf, Arrives, came_at};
 ghost use Rattle.fake_net.specs.Scripts.{one_more, SameSends, SameReceives, Asks, IsWithin, IsWritableEvent, Receives};
 
 use crate::script::{Asked, Script, ScriptEvent, ask, come};
@@ -192,11 +192,21 @@ impl ScriptLink {
             None => None,
         }
     }
+}
 
-    /// The moment.
-    pub fn clock(&mut self) -> u64
+impl Link for ScriptLink {
+    ghost told = { λ s. s.told };
+
+    ghost moment = { λ s. s.moment };
+
+    ghost send_faults = { λ s. s.send_faults };
+
+    ghost recv_faults = { λ s. s.recv_faults };
+
+    /// The last moment that was told.
+    fn now(&mut self) -> u64
         ensures moment { result ≡ self.old.moment }
-        ensures told { Grows self.old.told self.new.told (λ t. t ≡ Event.Now self.old.moment ∷ []) }
+        ensures told { Grows self.old.told self.new.told (λ t. t ≡ Event.Now result ∷ []) }
         ensures same_moment { self.new.moment ≡ self.old.moment }
         ensures same_sends { SameSends self.old self.new }
         ensures same_receives { SameReceives self.old self.new }
@@ -206,8 +216,8 @@ impl ScriptLink {
         at
     }
 
-    /// A send.
-    pub fn put(&mut self, to: Addr, bytes: &[u8]) -> Result<(), Failed>
+    /// Fails where its number is listed or memory runs out.
+    fn send(&mut self, to: Addr, bytes: &[u8]) -> Result<(), Failed>
         ensures fails { Contains self.old.failing_sends self.old.sends → IsErr result }
         ensures sent { OnOk result (Grows self.old.told self.new.told (λ t. t ≡ Event.Sent to bytes.now ∷ [])) }
         ensures unsent { OnErr result (Grows self.old.told self.new.told (λ t. t ≡ Event.Unsent to bytes.now ∷ [])) }
@@ -241,10 +251,11 @@ impl ScriptLink {
         }
     }
 
-    /// A receive.
-    pub fn receive(&mut self, buf: &mut [u8], until: u64) -> Result<Came, Failed>
+    /// Fails where its number is listed, or where memory runs out for an answer.
+    fn recv(&mut self, buf: &mut [u8], until: u64) -> Result<Came, Failed>
         ensures fails { Contains self.old.failing_receives self.old.receives → IsErr result }
         ensures came { IfOk result (Receives self.old.asked self.old.script self.old.moment until (length buf.old) buf.new self.new.script) }
+        ensures arrives { IfOk result (λ came. Arrives came until self.old.moment (length buf.old)) }
         ensures unchanged { OnErr result (self.new.script ≡ self.old.script) }
         ensures untouched { OnErr result (buf.new ≡ buf.old) }
         ensures told { IfOk result (λ came. Grows self.old.told self.new.told (λ t. t ≡ EventOf came until buf.new ∷ [])) }
@@ -282,33 +293,5 @@ impl ScriptLink {
                 Err(Failed)
             }
         }
-    }
-}
-
-impl Link for ScriptLink {
-    ghost told = { λ s. s.told };
-
-    ghost moment = { λ s. s.moment };
-
-    ghost send_faults = { λ s. s.send_faults };
-
-    ghost recv_faults = { λ s. s.recv_faults };
-
-    fn now(&mut self) -> u64
-        ensures told { Grows self.old.told self.new.told (λ t. t ≡ Event.Now result ∷ []) }
-        ensures moment { result ≡ self.old.moment }
-        ensures same_moment { self.new.moment ≡ self.old.moment }
-        ensures same_sends { SameSends self.old self.new }
-        ensures same_receives { SameReceives self.old self.new }
-    {
-        self.clock()
-    }
-
-    fn send(&mut self, to: Addr, bytes: &[u8]) -> Result<(), Failed> {
-        self.put(to, bytes)
-    }
-
-    fn recv(&mut self, buf: &mut [u8], until: u64) -> Result<Came, Failed> {
-        self.receive(buf, until)
     }
 }
