@@ -158,6 +158,18 @@ pub record Delivers (asked : List Asked) (script : List ScriptEvent) (moment unt
   pub at_is : at ≡ max (moment_of event) moment
   pub left : after ≡ spent script place event
 
+-- an event that has to be written first
+abbrev pub IsAnswer : ScriptEvent → Type 0
+IsAnswer (Deliver at from bytes times) = ⊥
+IsAnswer (ToQuery to at from m) = Unit {0}
+
+-- the next event has to be written first
+pub record AnswerNext (asked : List Asked) (script : List ScriptEvent) (until : ℕ) : Type 0 where
+  pub place : ℕ
+  pub event : ScriptEvent
+  pub next : IsNext asked until script place event
+  pub is_answer : IsAnswer event
+
 -- none came: no event is ready by then, and the moment is the later of `until` and the last one
 pub record Waits (asked : List Asked) (script : List ScriptEvent) (moment until : ℕ) (after : List ScriptEvent) (at : ℕ) : Type 0 where
   pub nothing : NoneNext asked until script

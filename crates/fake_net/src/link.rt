@@ -1,8 +1,8 @@
 //! The link that plays a script.
-ghost use Rattle.std.specs.Prelude.{◌≡◌, ◌≤◌, ◌++◌, ◌∷◌, [], ◌↔◌, length, All, Contains, Some, None, IfOk, OnOk, OnErr, IsErr, IsTrue, MatchOption};
+ghost use Rattle.std.specs.Prelude.{◌≡◌, ◌≤◌, ◌⊎◌, ◌++◌, ◌∷◌, [], ◌↔◌, length, All, Contains, Some, None, IfOk, OnOk, OnErr, IsErr, IsTrue, MatchOption};
 ghost use Rattle.kad_base.specs.declared.plain.Event.{Event};
 ghost use Rattle.kad_base.specs.Outside.{Grows, EventOf, Arrives, came_at};
-ghost use Rattle.fake_net.specs.Scripts.{one_more, SameSends, SameReceives, Asks, IsWithin, IsWritableEvent, Receives};
+ghost use Rattle.fake_net.specs.Scripts.{one_more, SameSends, SameReceives, Asks, IsWithin, IsWritableEvent, AnswerNext, Receives};
 
 use crate::script::{Asked, Script, ScriptEvent, ask, come};
 use kad_base::{Addr, Came, Event, Failed, Link, List, NoMemory, Numbers};
@@ -254,6 +254,7 @@ impl Link for ScriptLink {
     /// Fails where its number is listed, or where memory runs out for an answer.
     fn recv(&mut self, buf: &mut [u8], until: u64) -> Result<Came, Failed>
         ensures fails { Contains self.old.failing_receives self.old.receives → IsErr result }
+        ensures only { OnErr result (Contains self.old.failing_receives self.old.receives ⊎ AnswerNext self.old.asked self.old.script until) }
         ensures came { IfOk result (Receives self.old.asked self.old.script self.old.moment until (length buf.old) buf.new self.new.script) }
         ensures arrives { IfOk result (λ came. Arrives came until self.old.moment (length buf.old)) }
         ensures unchanged { OnErr result (self.new.script ≡ self.old.script) }

@@ -4,7 +4,7 @@ ghost use Rattle.std.specs.List.{HoldsAt};
 ghost use Rattle.kad_krpc.specs.declared.message.KrpcFault.TheVariants as fault_of;
 ghost use Rattle.kad_krpc.specs.Form.{IsWritable, form};
 ghost use Rattle.fake_net.specs.Searching.{FindsOf};
-ghost use Rattle.fake_net.specs.Scripts.{one_more, SaysQuery, query_tx, Asks, IsFirstTo, IsFirstAt, IsWritableEvent, moment_of, IsReady, IsNext, NoneNext, Finds, under, Answers, Carries, Puts, Receives, left_of, spent};
+ghost use Rattle.fake_net.specs.Scripts.{one_more, SaysQuery, query_tx, Asks, IsFirstTo, IsFirstAt, IsWritableEvent, moment_of, IsReady, IsNext, NoneNext, Finds, under, Answers, Carries, Puts, IsAnswer, AnswerNext, Receives, left_of, spent};
 
 use kad_base::{Addr, Bytes, Came, List, NoMemory};
 use kad_krpc::{Answer, Ask, KrpcFault, Message, decode, encode};
@@ -239,6 +239,7 @@ fn deliver(
     requires writable { IsWritableEvent event.now }
     ensures ok { IfOk result (λ given. Puts asked.now event.now (length buf.old) buf.new given.0 given.1) }
     ensures err { OnErr result (buf.new ≡ buf.old) }
+    ensures only { OnErr result (IsAnswer event.now) }
     ensures room { length buf.new ≡ length buf.old }
 {
     match event {
@@ -293,6 +294,7 @@ pub(crate) fn come(
     ensures ok { IfOk result (Receives asked.now script.old.items moment_before until (length buf.old) buf.new script.new.items) }
     ensures err { OnErr result (script.new.items ≡ script.old.items) }
     ensures kept { OnErr result (buf.new ≡ buf.old) }
+    ensures only { OnErr result (AnswerNext asked.now script.old.items until) }
     ensures writable { All IsWritableEvent script.new.items }
 {
     let Some(place) = next(script.as_slice(), asked, until) else {

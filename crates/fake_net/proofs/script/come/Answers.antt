@@ -1,4 +1,4 @@
-use Rattle.std.proofs.Common.{◌≡◌, ◌<◌, length, subst}
+use Rattle.std.proofs.Common.{◌<◌, length, subst}
 use Rattle.std.proofs.lemmas.Option.{slice_get_within}
 use Rattle.fake_net.specs.declared.script.ScriptEvent.{ScriptEvent}
 use Rattle.std.proofs.Common.{List}
