@@ -1,7 +1,6 @@
-use Rattle.std.proofs.Common.{◌<◌, length, subst}
+use Rattle.std.proofs.Common.{◌<◌, List, length, subst}
 use Rattle.std.proofs.lemmas.Option.{slice_get_within}
 use Rattle.fake_net.specs.declared.script.ScriptEvent.{ScriptEvent}
-use Rattle.std.proofs.Common.{List}
 use Rattle.fake_net.proofs.Spending.{spent_kept}
 use Rattle.fake_net.proofs.script.come.Goals as goal
 
