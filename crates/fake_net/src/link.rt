@@ -163,10 +163,13 @@ impl ScriptLink {
         ensures script { result.script ≡ script }
         ensures asked { result.asked ≡ [] }
         ensures moment { result.moment ≡ start }
-        ensures calls { (result.sends ≡ 0) × (result.receives ≡ 0) }
-        ensures failing { (result.failing_sends ≡ failing_sends) × (result.failing_receives ≡ failing_receives) }
+        ensures sends { result.sends ≡ 0 }
+        ensures receives { result.receives ≡ 0 }
+        ensures failing_sends { result.failing_sends ≡ failing_sends }
+        ensures failing_receives { result.failing_receives ≡ failing_receives }
         ensures told { result.told ≡ Some [] }
-        ensures faults { (result.send_faults ≡ 0) × (result.recv_faults ≡ 0) }
+        ensures send_faults { result.send_faults ≡ 0 }
+        ensures recv_faults { result.recv_faults ≡ 0 }
     {
         ScriptLink {
             alloc,
@@ -216,7 +219,7 @@ impl Link for ScriptLink {
         at
     }
 
-    /// Fails where its number is listed or memory runs out.
+    /// Keeps the query that the bytes say, if they say one. Reading them takes memory in proportion to them.
     fn send(&mut self, to: Addr, bytes: &[u8]) -> Result<(), Failed>
         ensures fails { Contains self.old.failing_sends self.old.sends → IsErr result }
         ensures sent { OnOk result (Grows self.old.told self.new.told (λ t. t ≡ Event.Sent to bytes.now ∷ [])) }
@@ -251,9 +254,11 @@ impl Link for ScriptLink {
         }
     }
 
-    /// Fails where its number is listed, or where memory runs out for an answer.
+    /// Gives what is next in the script at or before `until`, cut to the buffer, or waits. Memory is taken for an
+    /// answer's written form and for the transcript alone.
     fn recv(&mut self, buf: &mut [u8], until: u64) -> Result<Came, Failed>
         ensures fails { Contains self.old.failing_receives self.old.receives → IsErr result }
+        // It fails by its number, or where the next event is an answer, whose form needs memory.
         ensures only { OnErr result (Contains self.old.failing_receives self.old.receives ⊎ AnswerNext self.old.asked self.old.script until) }
         ensures came { IfOk result (Receives self.old.asked self.old.script self.old.moment until (length buf.old) buf.new self.new.script) }
         ensures arrives { IfOk result (λ came. Arrives came until self.old.moment (length buf.old)) }
