@@ -1,0 +1,303 @@
+//! The link that plays a script.
+ghost use Rattle.std.specs.Prelude.{◌≡◌, ◌≤◌, ◌⊎◌, ◌++◌, ◌∷◌, [], ◌↔◌, length, All, Contains, Some, None, IfOk, OnOk, OnErr, IsErr, IsTrue, MatchOption};
+ghost use Rattle.kad_base.specs.declared.plain.Event.{Event};
+ghost use Rattle.kad_base.specs.Outside.{Grows, EventOf, Arrives, came_at};
+ghost use Rattle.fake_net.specs.Scripts.{one_more, SameSends, SameReceives, Asks, IsWithin, IsWritableEvent, AnswerNext, Receives};
+
+use crate::script::{Asked, Script, ScriptEvent, ask, come};
+use kad_base::{Addr, Came, Event, Failed, Link, List, NoMemory, Numbers};
+use std::alloc::Global;
+use std::marker::Model;
+
+/// A link in memory. What comes is what its script says. The sends and receives whose numbers, from 0, are listed fail.
+/// A call that finds no memory for its own work fails too; one that finds none to record itself ends the transcript.
+#[derive(Drop)]
+pub struct ScriptLink {
+    alloc: Global,
+    script: Vec<ScriptEvent>,
+    asked: List<Asked>,
+    moment: u64,
+    sends: u64,
+    receives: u64,
+    failing_sends: Numbers,
+    failing_receives: Numbers,
+    told: Option<List<Event>>,
+    send_faults: u64,
+    recv_faults: u64,
+}
+
+impl Model for ScriptLink {
+    ghost use Rattle.std.specs.Prelude.{All};
+    ghost use Rattle.fake_net.specs.Scripts.{Play, IsWritableEvent};
+
+    ghost Value = { Play };
+
+    ghost view = { λ s. record {
+      script = s.script.items;
+      asked = s.asked;
+      moment = s.moment;
+      sends = s.sends;
+      receives = s.receives;
+      failing_sends = s.failing_sends;
+      failing_receives = s.failing_receives;
+      told = s.told;
+      send_faults = s.send_faults;
+      recv_faults = s.recv_faults;
+    } };
+
+    ghost invariant = { λ s. All IsWritableEvent s.script.items };
+}
+
+fn one_more(count: u64) -> u64
+    ensures { result ≡ one_more count }
+{
+    count.saturating_add(1)
+}
+
+fn is_in(numbers: &[u64], number: u64) -> bool
+    ensures { IsTrue result ↔ Contains numbers.now number }
+{
+    numbers.contains(&number)
+}
+
+/// The transcript and one event more, while there is memory for it.
+fn telling(told: Option<List<Event>>, event: Event) -> Option<List<Event>>
+    ensures { Grows told result (λ t. t ≡ event ∷ []) }
+{
+    let mut events = told?;
+    match events.push(event) {
+        Ok(()) => Some(events),
+        Err(_) => None,
+    }
+}
+
+fn telling_sent(
+    alloc: Global,
+    told: Option<List<Event>>,
+    to: Addr,
+    bytes: &[u8],
+) -> Option<List<Event>>
+    ensures { Grows told result (λ t. t ≡ Event.Sent to bytes.now ∷ []) }
+{
+    let Ok(bytes) = List::from_slice(alloc, bytes) else {
+        return None;
+    };
+    telling(told, Event::Sent { to, bytes })
+}
+
+fn telling_unsent(
+    alloc: Global,
+    told: Option<List<Event>>,
+    to: Addr,
+    bytes: &[u8],
+) -> Option<List<Event>>
+    ensures { Grows told result (λ t. t ≡ Event.Unsent to bytes.now ∷ []) }
+{
+    let Ok(bytes) = List::from_slice(alloc, bytes) else {
+        return None;
+    };
+    telling(told, Event::Unsent { to, bytes })
+}
+
+fn telling_got(
+    alloc: Global,
+    told: Option<List<Event>>,
+    from: Addr,
+    bytes: &[u8],
+    until: u64,
+    at: u64,
+) -> Option<List<Event>>
+    ensures { Grows told result (λ t. t ≡ Event.Got from bytes.now until at ∷ []) }
+{
+    let Ok(bytes) = List::from_slice(alloc, bytes) else {
+        return None;
+    };
+    telling(
+        told,
+        Event::Got {
+            from,
+            bytes,
+            until,
+            at,
+        },
+    )
+}
+
+/// The transcript after a receive that answered.
+fn telling_came(
+    alloc: Global,
+    told: Option<List<Event>>,
+    came: &Came,
+    buf: &[u8],
+    until: u64,
+) -> Option<List<Event>>
+    requires { IsWithin came.now (length buf.now) }
+    ensures { Grows told result (λ t. t ≡ EventOf came.now until buf.now ∷ []) }
+{
+    match *came {
+        Came::Packet { from, len, at } => telling_got(alloc, told, from, &buf[..len], until, at),
+        Came::Quiet { at } => telling(told, Event::Quiet { until, at }),
+    }
+}
+
+/// The moment that a receive tells.
+fn came_at(came: &Came) -> u64
+    ensures { result ≡ came_at came.now }
+{
+    match *came {
+        Came::Packet { at, .. } => at,
+        Came::Quiet { at } => at,
+    }
+}
+
+impl ScriptLink {
+    /// `start` is the first moment.
+    pub fn new(
+        alloc: Global,
+        start: u64,
+        script: Script,
+        failing_sends: Numbers,
+        failing_receives: Numbers,
+    ) -> ScriptLink
+        requires { All IsWritableEvent script }
+        ensures script { result.script ≡ script }
+        ensures asked { result.asked ≡ [] }
+        ensures moment { result.moment ≡ start }
+        ensures sends { result.sends ≡ 0 }
+        ensures receives { result.receives ≡ 0 }
+        ensures failing_sends { result.failing_sends ≡ failing_sends }
+        ensures failing_receives { result.failing_receives ≡ failing_receives }
+        ensures told { result.told ≡ Some [] }
+        ensures send_faults { result.send_faults ≡ 0 }
+        ensures recv_faults { result.recv_faults ≡ 0 }
+    {
+        ScriptLink {
+            alloc,
+            script: script.into_vec(),
+            asked: List::new(alloc),
+            moment: start,
+            sends: 0,
+            receives: 0,
+            failing_sends,
+            failing_receives,
+            told: Some(List::new(alloc)),
+            send_faults: 0,
+            recv_faults: 0,
+        }
+    }
+
+    /// The transcript, and `None` where it isn't told. Takes no memory.
+    pub fn events(&self) -> Option<&[Event]>
+        ensures { MatchOption result (self.now.told ≡ None) (λ events. self.now.told ≡ Some events.now) }
+    {
+        match &self.told {
+            Some(events) => Some(events.as_slice()),
+            None => None,
+        }
+    }
+}
+
+impl Link for ScriptLink {
+    ghost told = { λ s. s.told };
+
+    ghost moment = { λ s. s.moment };
+
+    ghost send_faults = { λ s. s.send_faults };
+
+    ghost recv_faults = { λ s. s.recv_faults };
+
+    /// The last moment that was told.
+    fn now(&mut self) -> u64
+        ensures moment { result ≡ self.old.moment }
+        ensures told { Grows self.old.told self.new.told (λ t. t ≡ Event.Now result ∷ []) }
+        ensures same_moment { self.new.moment ≡ self.old.moment }
+        ensures same_sends { SameSends self.old self.new }
+        ensures same_receives { SameReceives self.old self.new }
+    {
+        let at = self.moment;
+        self.told = telling(self.told.take(), Event::Now { at });
+        at
+    }
+
+    /// Keeps the query that the bytes say, if they say one. Reading them takes memory in proportion to them.
+    fn send(&mut self, to: Addr, bytes: &[u8]) -> Result<(), Failed>
+        ensures fails { Contains self.old.failing_sends self.old.sends → IsErr result }
+        ensures sent { OnOk result (Grows self.old.told self.new.told (λ t. t ≡ Event.Sent to bytes.now ∷ [])) }
+        ensures unsent { OnErr result (Grows self.old.told self.new.told (λ t. t ≡ Event.Unsent to bytes.now ∷ [])) }
+        ensures asked { OnOk result (Asks to bytes.now self.old.asked self.new.asked) }
+        ensures unasked { OnErr result (self.new.asked ≡ self.old.asked) }
+        ensures sends { self.new.sends ≡ one_more self.old.sends }
+        ensures no_fault { OnOk result (self.new.send_faults ≡ self.old.send_faults) }
+        ensures fault { OnErr result (self.new.send_faults ≡ one_more self.old.send_faults) }
+        ensures no_less { self.old.send_faults ≤ self.new.send_faults }
+        ensures same_failing { self.new.failing_sends ≡ self.old.failing_sends }
+        ensures same_moment { self.new.moment ≡ self.old.moment }
+        ensures same_receives { SameReceives self.old self.new }
+    {
+        let number = self.sends;
+        self.sends = one_more(number);
+        if is_in(self.failing_sends.as_slice(), number) {
+            self.told = telling_unsent(self.alloc, self.told.take(), to, bytes);
+            self.send_faults = one_more(self.send_faults);
+            return Err(Failed);
+        }
+        match ask(self.alloc, &mut self.asked, to, bytes) {
+            Ok(()) => {
+                self.told = telling_sent(self.alloc, self.told.take(), to, bytes);
+                Ok(())
+            }
+            Err(_) => {
+                self.told = telling_unsent(self.alloc, self.told.take(), to, bytes);
+                self.send_faults = one_more(self.send_faults);
+                Err(Failed)
+            }
+        }
+    }
+
+    /// Gives what is next in the script at or before `until`, cut to the buffer, or waits. Memory is taken for an
+    /// answer's written form and for the transcript alone.
+    fn recv(&mut self, buf: &mut [u8], until: u64) -> Result<Came, Failed>
+        ensures fails { Contains self.old.failing_receives self.old.receives → IsErr result }
+        // It fails by its number, or where the next event is an answer, whose form needs memory.
+        ensures only { OnErr result (Contains self.old.failing_receives self.old.receives ⊎ AnswerNext self.old.asked self.old.script until) }
+        ensures came { IfOk result (Receives self.old.asked self.old.script self.old.moment until (length buf.old) buf.new self.new.script) }
+        ensures arrives { IfOk result (λ came. Arrives came until self.old.moment (length buf.old)) }
+        ensures unchanged { OnErr result (self.new.script ≡ self.old.script) }
+        ensures untouched { OnErr result (buf.new ≡ buf.old) }
+        ensures told { IfOk result (λ came. Grows self.old.told self.new.told (λ t. t ≡ EventOf came until buf.new ∷ [])) }
+        ensures untold { OnErr result (self.new.told ≡ self.old.told) }
+        ensures moment { IfOk result (λ came. self.new.moment ≡ came_at came) }
+        ensures same_moment { OnErr result (self.new.moment ≡ self.old.moment) }
+        ensures receives { self.new.receives ≡ one_more self.old.receives }
+        ensures no_fault { OnOk result (self.new.recv_faults ≡ self.old.recv_faults) }
+        ensures fault { OnErr result (self.new.recv_faults ≡ one_more self.old.recv_faults) }
+        ensures no_less { self.old.recv_faults ≤ self.new.recv_faults }
+        ensures same_failing { self.new.failing_receives ≡ self.old.failing_receives }
+        ensures same_sends { SameSends self.old self.new }
+    {
+        let number = self.receives;
+        self.receives = one_more(number);
+        if is_in(self.failing_receives.as_slice(), number) {
+            self.recv_faults = one_more(self.recv_faults);
+            return Err(Failed);
+        }
+        match come(
+            self.alloc,
+            &mut self.script,
+            self.asked.as_slice(),
+            self.moment,
+            buf,
+            until,
+        ) {
+            Ok(came) => {
+                self.moment = came_at(&came);
+                self.told = telling_came(self.alloc, self.told.take(), &came, buf, until);
+                Ok(came)
+            }
+            Err(_) => {
+                self.recv_faults = one_more(self.recv_faults);
+                Err(Failed)
+            }
+        }
+    }
+}
