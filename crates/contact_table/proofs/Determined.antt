@@ -23,8 +23,8 @@ use Rattle.bucket_tree.proofs.Every.{all-here, count-append}
 use Rattle.bucket_tree.proofs.Ids.{same_id-contact}
 use Rattle.bucket_tree.proofs.Places.{covers, one-covers}
 use Rattle.sibling_list.specs.Siblings.{SiblingList}
-use Rattle.contact_table.specs.TableState.{TableState}
-use Rattle.contact_table.specs.TableStep.{with_rows, siblings_of, seen_siblings, failed_siblings}
+use Rattle.contact_table.specs.TableState.{TableState, siblings_of}
+use Rattle.contact_table.specs.TableStep.{with_rows, seen_siblings, failed_siblings}
 use Rattle.contact_table.specs.RowsAfter.{put_rows, needs_split, taken, seen_row, seen_rows, failed_row, failed_rows}
 
 put-past : (f : RowState → List RowState) (id : Id) (front rest : List RowState) → length (filter (covers id) front) ≡ 0 → put_rows f id (front ++ rest) ≡ front ++ put_rows f id rest

@@ -2,7 +2,8 @@
 use Rattle.std.specs.Prelude.{ℕ, List}
 use Rattle.kad_base.specs.declared.plain.Id.{Id}
 use Rattle.kad_base.specs.declared.plain.Contact.{Contact}
-use Rattle.bucket_tree.specs.Rows.{RowState}
+use Rattle.bucket_tree.specs.Rows.{RowState, BucketsState, Sound}
+use Rattle.sibling_list.specs.Siblings.{SiblingList, IsSiblings}
 
 pub record TableState : Type 0 where
   pub own : Id
@@ -10,3 +11,14 @@ pub record TableState : Type 0 where
   pub b : ℕ
   pub rows : List RowState
   pub siblings : List Contact
+
+abbrev pub buckets_of : TableState → BucketsState
+buckets_of s = record { own = s.own; k = s.k; b = s.b; rows = s.rows }
+
+abbrev pub siblings_of : TableState → SiblingList
+siblings_of s = record { own = s.own; list = s.siblings }
+
+-- the buckets are sound, and so are the siblings
+pub record SoundTable (s : TableState) : Type 0 where
+  pub buckets : Sound (buckets_of s)
+  pub siblings : IsSiblings (siblings_of s)

@@ -15,16 +15,13 @@ use Rattle.contact_table.specs.declared.calls.TableCall.TheVariants.{Seen as See
 use Rattle.contact_table.specs.declared.calls.TableReply.{TableReply}
 use Rattle.contact_table.specs.declared.calls.TableReply.TheVariants.{Seen as Seen_reply, Gone as Gone_reply, List as List_reply, NoMemory}
 use Rattle.contact_table.specs.RowsAfter.{seen_rows, failed_rows}
-use Rattle.contact_table.specs.TableState.{TableState}
+use Rattle.contact_table.specs.TableState.{TableState, siblings_of}
 
 -- role 0 may make every call, the others Seen and Closest
 abbrev pub TableMay : ℕ → TableCall → Type 0
 TableMay role (Seen_call c) = Unit {0}
 TableMay role (Failed c) = role ≡ 0
 TableMay role (Closest target n) = Unit {0}
-
-abbrev pub siblings_of : TableState → SiblingList
-siblings_of s = record { own = s.own; list = s.siblings }
 
 -- a contact that a bucket takes in or keeps as a spare is put among the siblings
 abbrev pub seen_siblings : SiblingList → Contact → Seen → List Contact

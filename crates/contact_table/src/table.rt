@@ -4,6 +4,7 @@ ghost use Rattle.kad_distance.specs.KClosest.{k_closest};
 ghost use Rattle.bucket_tree.specs.Steps.{SeenStep, FailedStep};
 ghost use Rattle.contact_table.specs.RowsAfter.{seen_rows, failed_rows};
 ghost use Rattle.contact_table.specs.TableStep.{TableMay, TableStep, table_after, contacts_of, seen_siblings, failed_siblings};
+ghost use Rattle.contact_table.specs.TableState.{SoundTable};
 ghost use Rattle.contact_table.specs.declared.calls.TableCall.{TableCall};
 
 use crate::calls::{TableCall, TableReply};
@@ -50,6 +51,15 @@ impl Table {
             siblings,
             alloc,
         })
+    }
+
+    /// The law of the table: its buckets and its siblings are sound, whoever made which calls. It does nothing, and is
+    /// called where a proof needs the law.
+    pub fn sound(&self)
+        ensures { SoundTable self.now }
+    {
+        self.buckets.sound();
+        let _ = self.siblings.list();
     }
 
     /// Tells the table that a contact was seen.
