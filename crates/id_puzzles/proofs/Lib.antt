@@ -1,4 +1,2 @@
 pub mod Drawing
 pub mod Seeds
-pub mod Xors
-pub mod Zeros

@@ -3,10 +3,10 @@ ghost use Rattle.std.specs.Prelude.{◌≡◌, ◌↔◌, IfOk, IfSome, IsNone};
 ghost use Rattle.kad_base.specs.Puzzles.{hash, Solves};
 ghost use Rattle.id_puzzles.specs.Minting.{IsFirstKey, IsFirstValue, HasNoKey, HasNoValue, value_at, HasNoFirstValue};
 
-use crate::bits::{digest, xor};
+use crate::bits::digest;
 use crate::puzzles::{solves_dynamic, solves_static};
 use crate::words::Words;
-use kad_base::{Id, Proof};
+use kad_base::{Id, Proof, xor};
 
 /// An identifier that was made and not chosen, with what shows it.
 #[derive(Clone, Copy, Debug, PartialEq, Eq, Hash)]

@@ -3,8 +3,8 @@ ghost use Rattle.std.specs.Prelude.{◌↔◌, IsTrue};
 ghost use Rattle.kad_base.specs.Bits.{xor_bytes, BeginsWithZeros};
 ghost use Rattle.kad_base.specs.Puzzles.{hash, Passes, Solves};
 
-use crate::bits::{begins_with_zeros, digest, xor};
-use kad_base::{Check, Policy, Proof, Report};
+use crate::bits::{begins_with_zeros, digest};
+use kad_base::{Check, Policy, Proof, Report, xor};
 
 /// Whether the report passes under the policy. One without a proof passes under `Plain` alone.
 pub fn passes(policy: Policy, report: &Report) -> bool

@@ -2,3 +2,5 @@ pub mod Grown
 pub mod Copied
 pub mod Runs
 pub mod Contacts
+pub mod Xors
+pub mod Zeros

@@ -3,6 +3,7 @@
 //! are steps. It opens no file and no socket, and knows no message.
 #![tactic(auto)]
 
+pub mod bits;
 pub mod limits;
 pub mod list;
 pub mod memory;
@@ -13,6 +14,7 @@ pub mod steady;
 #[cfg(test)]
 mod tests;
 
+pub use bits::{leading_zeros, xor};
 pub use list::{Addrs, Bytes, Contacts, List, Numbers, Reports};
 pub use memory::{BytesSink, BytesSource};
 pub use outside::{Check, Link, Sink, Source};

@@ -1,7 +1,7 @@
 // The objects in memory, whose limits no clause says.
 use crate::{
     Addr, Bytes, BytesSink, BytesSource, Contact, Id, Ip, List, Numbers, Sink, Source, SteadySink,
-    SteadySource, is_usable,
+    SteadySource, is_usable, leading_zeros, xor,
 };
 use std::alloc::Global;
 use std::test::Fail;
@@ -57,4 +57,19 @@ fn the_node_itself_and_port_zero_are_not_usable(rt: HostRuntime) -> Result<(), F
     assert!(rt; !is_usable(&own, &contact(1, 0)));
     assert!(rt; !is_usable(&own, &contact(0xff, 6881)));
     Ok(())
+}
+
+#[test]
+fn zero_bits_are_counted_from_the_first_byte(rt: HostRuntime) {
+    let mut low = [0; 20];
+    low[19] = 0b0000_1100;
+    let mut high = [0; 20];
+    high[0] = 0b0001_0000;
+    let mut both = low;
+    both[0] = 0b0001_0000;
+    assert_eq!(rt; xor(&low, &high), both);
+    assert_eq!(rt; xor(&[0b1100; 20], &[0b1010; 20]), [0b0110; 20]);
+    for (bytes, zeros) in [([0; 20], 160), (low, 156), (high, 3), ([0xff; 20], 0)] {
+        assert_eq!(rt; leading_zeros(&bytes), zeros, "{bytes:?}");
+    }
 }

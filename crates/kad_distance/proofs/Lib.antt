@@ -2,4 +2,3 @@ pub mod Orders
 pub mod Least
 pub mod Members
 pub mod Chosen
-pub mod Zeros

@@ -11,7 +11,7 @@ mod laws;
 mod tests;
 
 pub use closest::{k_least, place};
-use kad_base::{Contact, Id};
+use kad_base::{Contact, Id, leading_zeros, xor};
 pub use laws::{closest_laws, order_is_strict};
 use std::cmp::Ordering;
 
@@ -20,11 +20,7 @@ use std::cmp::Ordering;
 pub fn distance(x: &Id, y: &Id) -> Id
     ensures { result.0 ≡ xor_bytes x.now.0 y.now.0 }
 {
-    let mut bytes = [0u8; 20];
-    for i in 0..20 {
-        bytes[i] = x.0[i] ^ y.0[i];
-    }
-    Id(bytes)
+    Id(xor(&x.0, &y.0))
 }
 
 /// How many leading bits of the two agree, of 160. Takes no memory.
@@ -34,22 +30,6 @@ pub fn shared_bits(a: &Id, b: &Id) -> u8
     ensures differ { result < 160 → BeginsWithZeros (result + 1) (xor_bytes a.now.0 b.now.0) → ⊥ }
 {
     leading_zeros(&distance(a, b).0)
-}
-
-/// How many zero bits the bytes begin with.
-fn leading_zeros(bytes: &[u8; 20]) -> u8
-    ensures within { result ≤ 160 }
-    ensures zeros { BeginsWithZeros result bytes.now }
-    ensures no_more { result < 160 → BeginsWithZeros (result + 1) bytes.now → ⊥ }
-{
-    let mut bits = 0;
-    for byte in bytes {
-        if *byte != 0 {
-            return bits + byte.leading_zeros() as u8;
-        }
-        bits += 8;
-    }
-    bits
 }
 
 /// Which of two contacts is closer to the target: by distance, then by address, IPv4 before IPv6, then by port.

@@ -1,26 +1,23 @@
-use Rattle.std.proofs.Common.{leb-true, ◌≤◌, length, refl, arith}
-use Rattle.std.proofs.lemmas.Bool.{le-leb}
-use Rattle.std.proofs.lemmas.List.{drop_all}
-use Rattle.id_puzzles.proofs.Zeros.{zeros_none, zeros_here, zeros_next, zeros_not}
+use Rattle.std.proofs.Common.{◌≡◌, ◌↔◌, ℕ, ◌+◌, ◌<◌, ◌≤◌, min, List, length, leb-true, inl, inr, arith}
+use Rattle.std.proofs.lemmas.Bool.{le-leb, cases_lt}
+use Rattle.kad_base.specs.Bits.{BeginsWithZeros}
+use Rattle.kad_base.proofs.Zeros.{zeros_fewer}
 use Rattle.id_puzzles.proofs.bits.begins_with_zeros.Goals as goal
 
-pub loop-byte-init : goal.loop-byte-init
-loop-byte-init c = rw c.from-left.ensures (λ h. h, λ h. h)
-
-pub returns-then-left-le8 : goal.returns-then-left-le8
-returns-then-left-le8 c =
-    let h = zeros_here c.args.digest.now c.loop-byte.byte-index c.loop-byte.left (omega arith) c.fits-digest c.if-left-le8.true in
-    (λ e. c.loop-byte.invariant.0 (h.0 (leb-true _ _ e)), λ z. le-leb _ _ (h.1 (c.loop-byte.invariant.1 z)))
-
-pub returns-then-byte-ne0 : goal.returns-then-byte-ne0
-returns-then-byte-ne0 c = (λ e. absurd cc, λ h. absurd (zeros_not c.args.digest.now c.loop-byte.byte-index c.loop-byte.left (omega arith) (omega arith) c.if-byte-ne0.true (c.loop-byte.invariant.1 h)))
-
-pub loop-byte-preserved : goal.loop-byte-preserved
-loop-byte-preserved c =
-    let h = zeros_next c.args.digest.now c.loop-byte.byte-index c.loop-byte.left (omega arith) (omega arith) c.if-byte-ne0.false in
-    (λ z. c.loop-byte.invariant.0 (h.0 z), λ z. h.1 (c.loop-byte.invariant.1 z))
+-- 20 bytes that begin with n zero bits and no more begin with as many as are asked for where n is no fewer
+zeros_asked : (bytes : List ℕ) (n bits most : ℕ) → length bytes ≡ 20 → n ≤ 160 → BeginsWithZeros n bytes → (n < 160 → BeginsWithZeros (n + 1) bytes → ⊥)
+    → most ≡ min bits 160 → (most ≤ n) ↔ BeginsWithZeros bits bytes
+zeros_asked bytes n bits most long within zeros no_more is = (
+  λ le. zeros_fewer bytes bits n (omega arith) zeros,
+  λ asked.
+      elim (cases_lt n most) [
+        | inl lt ↦ absurd (no_more (omega arith) (zeros_fewer bytes (n + 1) bits (omega arith) asked))
+        | inr le ↦ le
+      ],
+)
 
 pub returns : goal.returns
 returns c =
-    let past : length c.args.digest.now ≤ c.loop-byte.byte-index = omega arith in
-    (λ e. c.loop-byte.invariant.0 (rw (drop_all c.loop-byte.byte-index c.args.digest.now past) (zeros_none c.loop-byte.left)), λ z. refl)
+    let zeros = c.leading_zeros.ensures in
+    let h = zeros_asked c.args.digest.now c.leading_zeros.result c.args.bits c.min.result c.told-digest zeros.within zeros.zeros zeros.no_more c.min.ensures in
+    (λ e. h.0 (leb-true _ _ e), λ z. le-leb _ _ (h.1 z))

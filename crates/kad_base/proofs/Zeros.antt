@@ -32,7 +32,14 @@ power_less n left few =
     let e : 8 * suc n - left ≡ 8 - left + 8 * n = omega arith in
     ap (λ (x : ℕ). 2 ^ x) e ∙ pow-add 2 (8 - left) (8 * n) ∙ ap (λ (x : ℕ). 2 ^ (8 - left) * x) (sym (byte_power n))
 
-pub zeros_none : (left : ℕ) → BeginsWithZeros left []
+-- what begins with zero bits begins with fewer; past the end of the bytes more bits ask for no more
+pub zeros_fewer : (bytes : List ℕ) (few many : ℕ) → 8 * length bytes - many ≤ 8 * length bytes - few → BeginsWithZeros many bytes → BeginsWithZeros few bytes
+unfolding BeginsWithZeros
+zeros_fewer bytes few many le below =
+    let bound : 2 ^ (8 * length bytes - many) ≤ 2 ^ (8 * length bytes - few) = pow-le-pow_right (omega arith) le in
+    omega arith
+
+zeros_none : (left : ℕ) → BeginsWithZeros left []
 unfolding BeginsWithZeros
 zeros_none left = pow_pos (8 * 0 - left)
 
@@ -75,39 +82,24 @@ zeros_more left b bytes many none =
     let z : b * 256 ^ length bytes + number_of bytes ≡ number_of bytes = rw none (omega arith) in
     (λ h. rw (z, e) h, λ h. rw (z, e) at h)
 
-zeros_over : (left b : ℕ) (bytes : List ℕ) → 8 ≤ left → b ≢ 0 → BeginsWithZeros left (b ∷ bytes) → ⊥
-unfolding BeginsWithZeros
-zeros_over left b bytes many some h =
-    let K = 256 ^ length bytes in
-    let le : 8 * suc (length bytes) - left ≤ 8 * length bytes = omega arith in
-    let bound : 2 ^ (8 * suc (length bytes) - left) ≤ 2 ^ (8 * length bytes) = pow-le-pow_right (omega arith) le in
-    let first : 1 ≤ b = omega arith in
-    let whole : 1 * K ≤ b * K = mul-le-mul_right K first in
-    let k_is : K ≡ 2 ^ (8 * length bytes) = byte_power (length bytes) in
-    omega arith
-
 -- the same of what is left of a list from place i on
 AllBytes-drop : (s : List ℕ) (i : ℕ) → AllBytes s → AllBytes (drop i s)
 AllBytes-drop s i small j = rw (get_or-drop i s j 0) (small (i + j))
 
-pub zeros_here : (s : List ℕ) (i left : ℕ) → i < length s → AllBytes s → left ≤ 8
+zeros_here : (s : List ℕ) (i left : ℕ) → i < length s → AllBytes s → left ≤ 8
     → (left ≤ count_leading_zeros 8 (get_or s i 0)) ↔ BeginsWithZeros left (drop i s)
 zeros_here s i left lt small few =
     let e = drop_more s i 0 lt in
     let all = subst AllBytes e (AllBytes-drop s i small) in
     rw e (zeros_last left (get_or s i 0) (drop (i + 1) s) few all)
 
-pub zeros_next : (s : List ℕ) (i left : ℕ) → i < length s → 8 ≤ left → get_or s i 0 ≡ 0
+zeros_next : (s : List ℕ) (i left : ℕ) → i < length s → 8 ≤ left → get_or s i 0 ≡ 0
     → BeginsWithZeros (left - 8) (drop (i + 1) s) ↔ BeginsWithZeros left (drop i s)
 zeros_next s i left lt many none =
     rw (drop_more s i 0 lt) (zeros_more left (get_or s i 0) (drop (i + 1) s) many none)
 
-pub zeros_not : (s : List ℕ) (i left : ℕ) → i < length s → 8 ≤ left → get_or s i 0 ≢ 0 → BeginsWithZeros left (drop i s) → ⊥
-zeros_not s i left lt many some h =
-    zeros_over left (get_or s i 0) (drop (i + 1) s) many some (subst (BeginsWithZeros left) (drop_more s i 0 lt) h)
-
 -- a byte that isn't 0 has fewer than 8
-pub zeros_few : (b : ℕ) → b < 256 → b ≢ 0 → count_leading_zeros 8 b < 8
+zeros_few : (b : ℕ) → b < 256 → b ≢ 0 → count_leading_zeros 8 b < 8
 zeros_few b small some =
     let top = leading_length 8 b small in
     let m = top.0 in

@@ -1,6 +1,6 @@
 use Rattle.std.proofs.Common.{◌≤◌, length, arith, rules}
-use Rattle.kad_distance.proofs.Zeros.{zeros_step, zeros_upto, zeros_end, zeros_whole}
-use Rattle.kad_distance.proofs.leading_zeros.Goals as goal
+use Rattle.kad_base.proofs.Zeros.{zeros_step, zeros_upto, zeros_end, zeros_whole}
+use Rattle.kad_base.proofs.bits.leading_zeros.Goals as goal
 
 pub returns-then-byte-ne0-clause-zeros : goal.returns-then-byte-ne0-clause-zeros
 returns-then-byte-ne0-clause-zeros c =

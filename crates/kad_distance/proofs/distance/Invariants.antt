@@ -1,9 +1,0 @@
-use Rattle.std.proofs.Common.{◌≡◌, ℕ, ◌<◌, length, get_or}
-use Rattle.std.specs.Prelude.{bit_xor}
-use Rattle.kad_distance.proofs.distance.Given as goal
-
-abbrev pub invariant-loop-i : goal.invariant-loop-i
-invariant-loop-i l = record {
-  long : length l.bytes ≡ 20;
-  each : (k : ℕ) → k < l.i → get_or l.bytes k 0 ≡ bit_xor (get_or l.x.0 k 0) (get_or l.y.0 k 0);
-}
