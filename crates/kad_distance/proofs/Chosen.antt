@@ -1,12 +1,12 @@
 -- What the k closest of a list are, and how they follow from those of other lists.
-use Rattle.std.proofs.Common.{◌≡◌, ℕ, zero, suc, ◌<◌, ◌≤◌, ◌↔◌, inl, inr, List, [], ◌∷◌, ◌++◌, length, take, refl, sym, ap, subst, ◌∙◌, arith}
+use Rattle.std.proofs.Common.{◌≡◌, ℕ, zero, suc, ◌+◌, ◌<◌, ◌≤◌, ◌↔◌, inl, inr, List, [], ◌∷◌, ◌++◌, length, take, get_or, refl, sym, ap, subst, ◌∙◌, arith}
 use Rattle.std.specs.Prelude.{fold}
 use Rattle.std.specs.List.{All, AllByRecursion, Contains}
 use Rattle.std.specs.List.Sorted.{IsStrictlySortedBy}
 use Rattle.std.specs.Cmp.{IsTotalOrder}
 use Rattle.std.specs.declared.cmp.Ordering.{Ordering}
 use Rattle.std.specs.declared.cmp.Ordering.TheVariants.{Less, Equal, Greater}
-use Rattle.std.proofs.lemmas.List.{length-take}
+use Rattle.std.proofs.lemmas.List.{length-take, take_all, take_more}
 use Rattle.std.proofs.lemmas.List.Elements.{All-filter, All-from_recursion, All-contains, All-contains_itself, Contains-append_cases, Contains-append_left, Contains-append_right}
 use Rattle.std.proofs.lemmas.List.Sums.{fold-append}
 use Rattle.std.proofs.lemmas.List.Kept.{IsStrictlySortedBy-filter}
@@ -86,6 +86,13 @@ least_joined {K} {R} o t k S T =
     ∙ least_after o t k T (least R k S)
     ∙ least_swap o t k (least R k T) (least R k S)
 
+-- of a list in strict order with one more, the first k after that is put in its place
+least_put : {K : Type 0} {R : K → K → Ordering} → IsTotalOrder R → TiesAreEqual R → (k : ℕ) (S : List K) (x : K) → IsStrictlySortedBy R S → least R k (S ++ x ∷ []) ≡ take k (put R S x)
+least_put {K} {R} o t k S x h =
+    least_take o k (S ++ x ∷ [])
+    ∙ ap (take k) (fold-append (put R) [] S (x ∷ []))
+    ∙ ap (λ (l : List K). take k (put R l x)) (once_of_sorted o t S h)
+
 -- one more that isn't among the first k changes none of them
 put_beyond : {K : Type 0} (R : K → K → Ordering) (k : ℕ) (ys : List K) (x : K) → (Contains (take k (put R ys x)) x → ⊥) → take k (put R ys x) ≡ take k ys
 put_beyond R zero ys x out = refl
@@ -127,9 +134,6 @@ least_below {K} {R} o t k S x in_ out =
 pub closest_rises : (target : Id) (k : ℕ) (S : List Contact) → IsStrictlySortedBy (closeness target) (k_closest target k S)
 closest_rises target k S = least_rises (closeness_total target) k S
 
-pub once_front : (target : Id) (k : ℕ) (S : List Contact) → IsStrictlySortedBy (closeness target) (take k (each_once (closeness target) S))
-once_front target k S = subst (IsStrictlySortedBy (closeness target)) (least_take (closeness_total target) k S) (closest_rises target k S)
-
 -- at most k
 pub closest_few : (target : Id) (k : ℕ) (S : List Contact) → length (k_closest target k S) ≤ k
 closest_few target k S = least_few (closeness_total target) k S
@@ -149,6 +153,30 @@ closest_none target k S e some = least_none (closeness_total target) k S e some
 -- of a list in strict order they are its first k
 pub closest_front : (target : Id) (k : ℕ) (S : List Contact) → IsStrictlySortedBy (closeness target) S → k_closest target k S ≡ take k S
 closest_front target k S h = least_front (closeness_total target) (closeness_exact target) k S h
+
+-- of at most k in strict order they are all
+pub closest_kept : (target : Id) (k : ℕ) (S : List Contact) → IsStrictlySortedBy (closeness target) S → length S ≤ k → k_closest target k S ≡ S
+closest_kept target k S h few = closest_front target k S h ∙ take_all k S few
+
+pub closest_nil : (target : Id) (k : ℕ) → k_closest target k [] ≡ []
+unfolding least
+closest_nil target k = refl
+
+-- of a list in strict order with one more, the first k after that is put in its place
+pub closest_put : (target : Id) (k : ℕ) (S : List Contact) (c : Contact) → IsStrictlySortedBy (closeness target) S → k_closest target k (S ++ c ∷ []) ≡ take k (put (closeness target) S c)
+closest_put target k S c h = least_put (closeness_total target) (closeness_exact target) k S c h
+
+-- of a list with more, from those of the list
+pub closest_after : (target : Id) (k : ℕ) (S T : List Contact) → k_closest target k (S ++ T) ≡ k_closest target k (k_closest target k S ++ T)
+closest_after target k S T = least_after (closeness_total target) (closeness_exact target) k S T
+
+-- a step of a loop that puts in one after the other
+pub closest_on : (target : Id) (k : ℕ) (S : List Contact) (i : ℕ) (d : Contact) (old new : List Contact) → i < length S → old ≡ k_closest target k (take i S) → new ≡ k_closest target k (old ++ get_or S i d ∷ []) → new ≡ k_closest target k (take (i + 1) S)
+closest_on target k S i d old new lt was is =
+    is
+    ∙ ap (λ (l : List Contact). k_closest target k (l ++ get_or S i d ∷ [])) was
+    ∙ sym (closest_after target k (take i S) (get_or S i d ∷ []))
+    ∙ ap (k_closest target k) (sym (take_more S i d lt))
 
 -- lists with the same members have the same, whatever their order and repeats
 pub closest_same : (target : Id) (k : ℕ) (S T : List Contact) → ((c : Contact) → Contains S c ↔ Contains T c) → k_closest target k S ≡ k_closest target k T

@@ -9,7 +9,6 @@ use Rattle.std.specs.declared.cmp.Ordering.TheVariants.{Less, Equal, Greater}
 use Rattle.std.proofs.lemmas.Cmp.{tied_itself}
 use Rattle.std.proofs.lemmas.List.Elements.{All-from_recursion, recursion_from_All, All-get_or}
 use Rattle.std.proofs.Math.Seq.{take-nil, take-length, take-append_seam}
-use Rattle.std.proofs.lemmas.List.Sums.{fold_more}
 use Rattle.std.proofs.lemmas.Bool.Decides.{nat_tests}
 use Rattle.kad_distance.specs.KClosest.{by_ordering, put, each_once, least, place_in, new_at}
 
@@ -232,9 +231,14 @@ put_old {K} R k ys x le old = sym (ap (take k) (put_place R ys x ∙ ap (λ b. c
 pub put_new : {K : Type 0} (R : K → K → Ordering) (ys : List K) (x : K) → new_at R ys (place_in R ys x) x ≡ true → insert ys (place_in R ys x) x ≡ put R ys x
 put_new R ys x e = sym (put_place R ys x ∙ ap (λ b. cond b (insert ys (place_in R ys x) x) ys) e)
 
--- one more of the list
-pub once_more : {K : Type 0} (R : K → K → Ordering) (k : ℕ) (S : List K) (i : ℕ) (d : K) → i < length S → take k (put R (take k (each_once R (take i S))) (get_or S i d)) ≡ take k (each_once R (take (i + 1) S))
-once_more R k S i d lt = sym (take_put R k (each_once R (take i S)) (get_or S i d)) ∙ ap (take k) (sym (fold_more (put R) [] S i d lt))
+insert_take : {K : Type 0} (i n : ℕ) (xs : List K) (x : K) → i ≤ n → i ≤ length xs → take (suc n) (insert xs i x) ≡ insert (take n xs) i x
+insert_take zero n xs x a b = refl
+insert_take (suc i) n [] x a b = absurd (omega (arith, b))
+insert_take (suc i) zero (y ∷ ys) x a b = absurd (omega (arith, a))
+insert_take (suc i) (suc n) (y ∷ ys) x a b = ap (λ l. y ∷ l) (insert_take i n ys x (omega (arith, a)) (omega (arith, b)))
 
-pub once_on : {K : Type 0} (R : K → K → Ordering) (k : ℕ) (S : List K) (i : ℕ) (d : K) (old new : List K) → i < length S → old ≡ take k (each_once R (take i S)) → new ≡ take k (put R old (get_or S i d)) → new ≡ take k (each_once R (take (i + 1) S))
-once_on {K} R k S i d old new lt is more = more ∙ ap (λ (l : List K). take k (put R l (get_or S i d))) is ∙ once_more R k S i d lt
+-- the first k after one more at one of the first k places, in room for k
+pub take_insert : {K : Type 0} (i k : ℕ) (xs : List K) (x : K) → i < k → i ≤ length xs → take k (insert xs i x) ≡ insert (take (k - 1) xs) i x
+take_insert i k xs x lt le =
+    let more : k ≡ suc (k - 1) = omega arith in
+    ap (λ (n : ℕ). take n (insert xs i x)) more ∙ insert_take i (k - 1) xs x (omega arith) le

@@ -1,9 +1,9 @@
 //! The k closest contacts of a list, as a sorted list that each contact is put into.
-ghost use Rattle.std.specs.Prelude.{◌≡◌, ◌≤◌, length, take, filter, IfOk, OnOk};
+ghost use Rattle.std.specs.Prelude.{◌≡◌, ◌≤◌, ◌<◌, [], ◌∷◌, ◌++◌, length, take, insert, filter, IfOk, vec_len, vec_capacity};
 ghost use Rattle.std.specs.List.Sorted.{IsStrictlySortedBy};
 ghost use Rattle.std.specs.Ordering.{is_lt};
 ghost use Rattle.kad_distance.specs.Order.{closeness};
-ghost use Rattle.kad_distance.specs.KClosest.{put, new_at, k_closest};
+ghost use Rattle.kad_distance.specs.KClosest.{new_at, k_closest};
 
 use crate::compare;
 use kad_base::{Contact, Contacts, Id, List, NoMemory};
@@ -19,6 +19,41 @@ pub fn place(target: &Id, list: &[Contact], contact: &Contact) -> usize
     list.partition_point(|other| compare(target, other, contact).is_lt())
 }
 
+/// Puts a contact in its place among the k closest, where it isn't there, and drops what is then past the first k.
+/// Takes no memory: there is room for k.
+pub fn put_closest(near: &mut Vec<Contact>, target: &Id, k: usize, contact: &Contact)
+    requires sorted { IsStrictlySortedBy (closeness target.now) near.old.items }
+    requires few { vec_len near.old ≤ k }
+    requires room { k ≤ vec_capacity near.old }
+    ensures items { near.new.items ≡ k_closest target.now k (near.old.items ++ contact.now ∷ []) }
+    ensures sorted { IsStrictlySortedBy (closeness target.now) near.new.items }
+    ensures few { vec_len near.new ≤ k }
+    ensures room { k ≤ vec_capacity near.new }
+{
+    let at = place(target, near.as_slice(), contact);
+    if at >= k {
+        return;
+    }
+    if is_new(target, near.as_slice(), at, contact) {
+        insert_at(near, k, at, contact);
+    }
+}
+
+/// The contacts of the list that have fewer than k others of the list closer to the target, each once, nearest first
+/// (Kademlia, section 2.3). Takes memory for k contacts, at once.
+pub fn k_least(alloc: Global, target: &Id, k: u8, list: &[Contact]) -> Result<Contacts, NoMemory>
+    ensures { IfOk result (λ found. found ≡ k_closest target.now k list.now) }
+{
+    let mut found = match Vec::with_capacity(alloc, k as usize) {
+        Ok(found) => found,
+        Err(_) => return Err(NoMemory),
+    };
+    for contact in list {
+        put_closest(&mut found, target, k as usize, contact);
+    }
+    Ok(List::from_vec(found))
+}
+
 /// The contact isn't the one at that place.
 fn is_new(target: &Id, list: &[Contact], at: usize, contact: &Contact) -> bool
     requires { at ≤ length list.now }
@@ -27,32 +62,18 @@ fn is_new(target: &Id, list: &[Contact], at: usize, contact: &Contact) -> bool
     at == list.len() || !compare(target, &list[at], contact).is_eq()
 }
 
-/// Puts a contact in its place, and keeps the first k.
-fn put_in(target: &Id, k: usize, found: &mut Contacts, contact: &Contact) -> Result<(), NoMemory>
-    requires sorted { IsStrictlySortedBy (closeness target.now) found.old }
-    requires few { length found.old ≤ k }
-    ensures { OnOk result (found.new ≡ take k (put (closeness target.now) found.old contact.now)) }
+/// Puts a contact at one of the first k places and keeps the first k, in room for k.
+fn insert_at(near: &mut Vec<Contact>, k: usize, at: usize, contact: &Contact)
+    requires at { at ≤ vec_len near.old }
+    requires within { at < k }
+    requires room { k ≤ vec_capacity near.old }
+    ensures items { near.new.items ≡ take k (insert near.old.items at contact.now) }
+    ensures few { vec_len near.new ≤ k }
+    ensures room { k ≤ vec_capacity near.new }
 {
-    let at = place(target, found.as_slice(), contact);
-    if at >= k {
-        return Ok(());
+    near.truncate(k - 1);
+    match near.insert(at, *contact) {
+        Ok(()) => {}
+        Err(_) => unreachable!(),
     }
-    if is_new(target, found.as_slice(), at, contact) {
-        found.insert(at, *contact)?;
-        found.truncate(k);
-        return Ok(());
-    }
-    Ok(())
-}
-
-/// The contacts of the list that have fewer than k others of the list closer to the target, each once, nearest first
-/// (Kademlia, section 2.3). Takes memory for at most k + 1 contacts.
-pub fn k_least(alloc: Global, target: &Id, k: u8, list: &[Contact]) -> Result<Contacts, NoMemory>
-    ensures { IfOk result (λ found. found ≡ k_closest target.now k list.now) }
-{
-    let mut found = List::new(alloc);
-    for contact in list {
-        put_in(target, k as usize, &mut found, contact)?;
-    }
-    Ok(found)
 }

@@ -10,7 +10,7 @@ mod laws;
 #[cfg(test)]
 mod tests;
 
-pub use closest::{k_least, place};
+pub use closest::{k_least, place, put_closest};
 use kad_base::{Contact, Id, leading_zeros, xor};
 pub use laws::{closest_laws, order_is_strict};
 use std::cmp::Ordering;

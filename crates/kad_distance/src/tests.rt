@@ -1,5 +1,5 @@
 //! Examples worked by hand: `number(n)` is 19 zero bytes and n, and `contact(n)` stands at 127.0.0.1, port 6000 + n.
-use crate::{closer, compare, distance, k_least, place, shared_bits};
+use crate::{closer, compare, distance, k_least, place, put_closest, shared_bits};
 use kad_base::{Addr, Contact, Id, Ip};
 use std::alloc::Global;
 use std::cmp::Ordering;
@@ -92,5 +92,21 @@ fn chooses_and_finds_places(rt: HostRuntime) -> Result<(), Fail> {
     assert_eq!(rt; place_among(alloc, &two, &contact(2))?, 1);
     assert_eq!(rt; place_among(alloc, &two, &contact(1))?, 0);
     assert_eq!(rt; place_among(alloc, &two, &contact(9))?, 2);
+    Ok(())
+}
+
+#[test]
+fn puts_contacts_among_the_two_closest(rt: HostRuntime) -> Result<(), Fail> {
+    let target = number(0);
+    let mut near = Vec::with_capacity(rt.alloc(), 2)?;
+    put_closest(&mut near, &target, 2, &contact(5));
+    put_closest(&mut near, &target, 2, &contact(5));
+    assert_eq!(rt; near.as_slice(), [contact(5)].as_slice());
+    put_closest(&mut near, &target, 2, &contact(7));
+    assert_eq!(rt; near.as_slice(), [contact(5), contact(7)].as_slice());
+    put_closest(&mut near, &target, 2, &contact(3));
+    assert_eq!(rt; near.as_slice(), [contact(3), contact(5)].as_slice());
+    put_closest(&mut near, &target, 2, &contact(9));
+    assert_eq!(rt; near.as_slice(), [contact(3), contact(5)].as_slice());
     Ok(())
 }
