@@ -1,5 +1,5 @@
 //! The list type that contracts see as a list, and its instances.
-ghost use Rattle.std.specs.Prelude.{◌≡◌, ◌≤◌, [], ◌∷◌, ◌++◌, List, length, take, insert, OnOk, OnErr, IfOk, IfSome, IsOk, IsNone, slice_get};
+ghost use Rattle.std.specs.Prelude.{◌≡◌, [], ◌∷◌, ◌++◌, List, length, OnOk, OnErr, IfOk, IfSome, IsOk, IsNone, slice_get};
 
 use crate::plain::{Addr, Contact, NoMemory, Report};
 use std::alloc::{AllocError, Global};
@@ -66,27 +66,6 @@ impl<T: Drop> List<T> {
             Ok(()) => Ok(()),
             Err(_) => Err(NoMemory),
         }
-    }
-}
-
-impl<T: Drop> List<T> {
-    /// Puts an item at a place, or leaves the list.
-    pub fn insert(&mut self, at: usize, item: T) -> Result<(), NoMemory>
-        requires { at ≤ length self.old }
-        ensures ok { OnOk result (self.new ≡ insert self.old at item) }
-        ensures err { OnErr result (self.new ≡ self.old) }
-    {
-        match self.items.insert(at, item) {
-            Ok(()) => Ok(()),
-            Err(_) => Err(NoMemory),
-        }
-    }
-
-    /// Keeps at most that many items.
-    pub fn truncate(&mut self, len: usize)
-        ensures { self.new ≡ take len self.old }
-    {
-        self.items.truncate(len);
     }
 }
 
