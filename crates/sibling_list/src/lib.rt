@@ -5,17 +5,14 @@
 #[cfg(test)]
 mod tests;
 
-ghost use Rattle.std.specs.Prelude.{◌≡◌, ◌≤◌, ◌<◌, [], ◌∷◌, ◌++◌, length, take, insert, filter, not, IfOk, vec_len, vec_capacity};
+ghost use Rattle.std.specs.Prelude.{◌≡◌, [], not, IfOk};
 ghost use Rattle.std.specs.Str.{bytes_eq};
-ghost use Rattle.std.specs.List.Sorted.{IsStrictlySortedBy};
 ghost use Rattle.kad_base.specs.Contacts.{same};
-ghost use Rattle.kad_distance.specs.Order.{closeness};
-ghost use Rattle.kad_distance.specs.KClosest.{new_at, place_in, put};
 ghost use Rattle.sibling_list.specs.Siblings.{IsSiblings, with_one, without_one};
 
 use kad_base::limits::MAX_SIBLINGS;
 use kad_base::{Contact, Id, NoMemory};
-use kad_distance::{compare, place};
+use kad_distance::put_closest;
 use std::alloc::Global;
 use std::marker::Model;
 
@@ -65,7 +62,7 @@ impl Siblings {
         if is_own(&contact.id, &self.own) {
             return;
         }
-        put_in(&mut self.contacts, &self.own, &contact);
+        put_closest(&mut self.contacts, &self.own, MAX_SIBLINGS, &contact);
     }
 
     /// Takes the contact out, where it is there. Takes no memory.
@@ -89,45 +86,4 @@ fn is_another(a: &Contact, b: &Contact) -> bool
     ensures { result ≡ not (same a.now b.now) }
 {
     !a.cmp(b).is_eq()
-}
-
-/// The contact isn't the one at that place.
-fn is_new(own: &Id, list: &[Contact], at: usize, contact: &Contact) -> bool
-    requires { at ≤ length list.now }
-    ensures { result ≡ new_at (closeness own.now) list.now at contact.now }
-{
-    at == list.len() || !compare(own, &list[at], contact).is_eq()
-}
-
-/// Puts a contact at a place among at most 16 and drops the 17th, in room for 16.
-fn insert_at(contacts: &mut Vec<Contact>, at: usize, contact: &Contact)
-    requires at { at ≤ vec_len contacts.old }
-    requires within { at < 16 }
-    requires few { vec_len contacts.old ≤ 16 }
-    requires room { 16 ≤ vec_capacity contacts.old }
-    ensures items { contacts.new.items ≡ take 16 (insert contacts.old.items at contact.now) }
-    ensures room { 16 ≤ vec_capacity contacts.new }
-{
-    contacts.truncate(MAX_SIBLINGS - 1);
-    match contacts.insert(at, *contact) {
-        Ok(()) => {}
-        Err(_) => unreachable!(),
-    }
-}
-
-/// Puts a contact in its place among the siblings, and keeps the first 16.
-fn put_in(contacts: &mut Vec<Contact>, own: &Id, contact: &Contact)
-    requires sorted { IsStrictlySortedBy (closeness own.now) contacts.old.items }
-    requires few { vec_len contacts.old ≤ 16 }
-    requires room { 16 ≤ vec_capacity contacts.old }
-    ensures items { contacts.new.items ≡ take 16 (put (closeness own.now) contacts.old.items contact.now) }
-    ensures room { 16 ≤ vec_capacity contacts.new }
-{
-    let at = place(own, contacts.as_slice(), contact);
-    if at >= MAX_SIBLINGS {
-        return;
-    }
-    if is_new(own, contacts.as_slice(), at, contact) {
-        insert_at(contacts, at, contact);
-    }
 }
