@@ -169,7 +169,7 @@ room_heard s J q c reports z l f =
     omega (arith, fresh_kept J (Heard q c reports) refl refl, opens_heard s J q c (Heard q c reports) l f.0 refl refl refl, rooms_heard s J q c reports s.paths l below)
 
 -- a book after one of the entries that are owed
-pub book_put : (s : Setting) (J K : List Entry) (e : Entry) (owed owed' room room' near near' : ℕ) → IsBook s J owed room near → Fits s J e → IsOwed e → K ≡ J ++ e ∷ [] → owed' + 1 ≡ owed → length K + owed' ≤ room' → s.k < near' → IsBook s K owed' room' near'
+pub book_put : (s : Setting) (J K : List Entry) (e : Entry) (owed owed' room room' near near' : ℕ) → IsBook s J owed room near → Fits s J e → IsOwed e → K ≡ J ++ e ∷ [] → owed' + 1 ≡ owed → length K + owed' ≤ room' → s.k ≤ near' → IsBook s K owed' room' near'
 book_put s J K e owed owed' room room' near near' b f o is less fits sort =
     let z : 0 < s.paths = (let one = b.one_path in omega arith) in
     let falls = room_falls s J e z b.legal f o in
@@ -192,7 +192,7 @@ some_owed s J e owed room near b f o =
     omega arith
 
 -- a book after an answer
-pub book_heard : (s : Setting) (J K : List Entry) (q : ℕ) (c : Contact) (reports : List Report) (owed owed' room room' near near' : ℕ) → IsBook s J owed room near → Fits s J (Heard q c reports) → K ≡ J ++ Heard q c reports ∷ [] → owed' + 1 ≡ owed + (3 * length reports + 1) → length K + owed' ≤ room' → s.k < near' → IsBook s K owed' room' near'
+pub book_heard : (s : Setting) (J K : List Entry) (q : ℕ) (c : Contact) (reports : List Report) (owed owed' room room' near near' : ℕ) → IsBook s J owed room near → Fits s J (Heard q c reports) → K ≡ J ++ Heard q c reports ∷ [] → owed' + 1 ≡ owed + (3 * length reports + 1) → length K + owed' ≤ room' → s.k ≤ near' → IsBook s K owed' room' near'
 book_heard s J K q c reports owed owed' room room' near near' b f is more fits sort =
     let z : 0 < s.paths = (let one = b.one_path in omega arith) in
     let grows = room_heard s J q c reports z b.legal f in

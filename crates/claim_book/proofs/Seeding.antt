@@ -121,7 +121,7 @@ seeded_room d n cs =
     let opens : length (without (asked J) (answered J ++ failed J)) ≡ 0 = ap (λ l. length (without l (answered J ++ failed J))) (seeded_asked d 0 cs) in
     omega (arith, seeded_rooms d cs n)
 
-pub book_new : (s : Setting) (cs : List Contact) (J : List Entry) (owed room near : ℕ) → J ≡ seeded s.paths cs → s.paths ≡ 1 → s.alpha ≡ 1 → s.k < 256 → length cs ≤ s.k → IsStrictlySortedBy (closeness s.target) cs → All (IsUsable s.own) cs → owed ≡ 2 * length cs → length cs + owed ≤ room → s.k < near → IsBook s J owed room near
+pub book_new : (s : Setting) (cs : List Contact) (J : List Entry) (owed room near : ℕ) → J ≡ seeded s.paths cs → s.paths ≡ 1 → s.alpha ≡ 1 → s.k < 256 → length cs ≤ s.k → IsStrictlySortedBy (closeness s.target) cs → All (IsUsable s.own) cs → owed ≡ 2 * length cs → length cs + owed ≤ room → s.k ≤ near → IsBook s J owed room near
 book_new s cs J owed room near is one_path one_query small few sorted usable enough fits sort =
     record {
       legal = subst (Legal s) (sym is) (legal_seeded s cs few sorted usable);

@@ -32,7 +32,7 @@ pub record IsBook (s : Setting) (J : List Entry) (owed room near_room : ℕ) : T
   pub small : s.k < 256
   pub all_owed : room_for s.paths J ≤ owed
   pub fits : length J + owed ≤ room
-  pub can_sort : s.k < near_room
+  pub can_sort : s.k ≤ near_room
 
 -- what the k closest are sorted from: the contacts of one path, or of all
 abbrev pub chosen : Option ℕ → Entry → List Contact

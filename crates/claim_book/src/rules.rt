@@ -1,5 +1,5 @@
 //! What a path may do by its journal: whom it may ask, whether it has run out, who is open.
-ghost use Rattle.std.specs.Prelude.{◌≡◌, ◌↔◌, ◌<◌, ℕ, IsTrue, MatchOption, true, false, vec_capacity, find, not};
+ghost use Rattle.std.specs.Prelude.{◌≡◌, ◌↔◌, ◌<◌, ◌≤◌, ℕ, IsTrue, MatchOption, true, false, vec_capacity, find, not};
 ghost use Rattle.std.specs.List.{All};
 ghost use Rattle.kad_base.specs.Contacts.{among};
 ghost use Rattle.claim_book.specs.Journal.{asked, answered, open_any, may_ask};
@@ -40,9 +40,9 @@ pub(crate) fn may_ask(
     journal: &[Entry],
     path: u8,
 ) -> Option<Contact>
-    requires { setting.now.k < vec_capacity near.old }
+    requires { setting.now.k ≤ vec_capacity near.old }
     ensures contact { result ≡ may_ask setting.now path journal.now }
-    ensures room { setting.now.k < vec_capacity near.new }
+    ensures room { setting.now.k ≤ vec_capacity near.new }
 {
     if count_open(journal, path) >= setting.alpha as usize {
         return None;
@@ -58,9 +58,9 @@ pub(crate) fn has_run_out(
     journal: &[Entry],
     path: u8,
 ) -> bool
-    requires { setting.now.k < vec_capacity near.old }
+    requires { setting.now.k ≤ vec_capacity near.old }
     ensures run_out { IsTrue result ↔ RunOut setting.now path journal.now }
-    ensures room { setting.now.k < vec_capacity near.new }
+    ensures room { setting.now.k ≤ vec_capacity near.new }
 {
     if count_open(journal, path) > 0 {
         return false;
@@ -78,9 +78,9 @@ pub(crate) fn first_running(
     setting: &Setting,
     journal: &[Entry],
 ) -> Option<u8>
-    requires { setting.now.k < vec_capacity near.old }
+    requires { setting.now.k ≤ vec_capacity near.old }
     ensures first { MatchOption result ((p : ℕ) → p < setting.now.paths → RunOut setting.now p journal.now) (λ p. IsNotYet setting.now journal.now p) }
-    ensures room { setting.now.k < vec_capacity near.new }
+    ensures room { setting.now.k ≤ vec_capacity near.new }
 {
     for path in 0..setting.paths {
         if !has_run_out(near, setting, journal, path) {

@@ -60,7 +60,7 @@ impl Book {
         ensures journal { IfOk result (λ book. book.journal ≡ seeded setting.paths seeds.now) }
         ensures legal { IfOk result (λ book. Legal book.setting book.journal) }
     {
-        let near = match Vec::with_capacity(alloc, setting.k as usize + 1) {
+        let near = match Vec::with_capacity(alloc, setting.k as usize) {
             Ok(near) => near,
             Err(_) => return Err(NoMemory),
         };
