@@ -6,4 +6,5 @@ pub mod Filed
 pub mod Shallow
 pub mod Cut
 pub mod Spelled
+pub mod Queries
 pub mod ReadBack

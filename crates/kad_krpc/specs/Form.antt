@@ -8,6 +8,7 @@ use Rattle.kad_base.specs.declared.plain.Addr.{Addr}
 use Rattle.kad_base.specs.declared.plain.Contact.{Contact}
 use Rattle.kad_base.specs.declared.plain.Proof.{Proof}
 use Rattle.kad_base.specs.declared.plain.Report.{Report}
+use Rattle.kad_base.specs.Words.{word_bytes}
 use Rattle.kad_bencode.specs.Spelling.{text_of}
 use Rattle.kad_bencode.specs.declared.entries.Pair.{Pair}
 use Rattle.kad_bencode.specs.declared.value.Value.{Value}
@@ -153,14 +154,12 @@ IsWritable (message.Query tx read_only ask) = IsWritableAsk ask
 IsWritable (message.Answer tx answer) = IsWritableAnswer answer
 IsWritable (message.Fault tx code text) = Unit {0}
 
--- ---- the query of a lookup
+-- ---- the queries of a lookup
 
--- the read-only find_node query (`ro` is BEP 43's) under a transaction id
-unfoldable pub find_node_form : List ℕ → List ℕ → List ℕ → List ℕ
-find_node_form own target tx =
-    codes "d1:ad2:id20:" ++ own ++ codes "6:target20:" ++ target ++ codes "e1:q9:find_node2:roi1e1:t4:" ++ tx ++ codes "1:y1:qe"
+-- the read-only find_node query (`ro` is BEP 43's), whose transaction id is the bytes of a word
+abbrev pub find_node_query : Id → Id → ℕ → Message
+find_node_query own target tx = message.Query (word_bytes tx) true (FindNode own target)
 
--- the read-only get_peers query under a transaction id
-unfoldable pub get_peers_form : List ℕ → List ℕ → List ℕ → List ℕ
-get_peers_form own info_hash tx =
-    codes "d1:ad2:id20:" ++ own ++ codes "9:info_hash20:" ++ info_hash ++ codes "e1:q9:get_peers2:roi1e1:t4:" ++ tx ++ codes "1:y1:qe"
+-- the read-only get_peers query, whose transaction id is the bytes of a word
+abbrev pub get_peers_query : Id → Id → ℕ → Message
+get_peers_query own info_hash tx = message.Query (word_bytes tx) true (GetPeers own info_hash)

@@ -1,7 +1,6 @@
 //! The queries of a lookup, written without memory.
 ghost use Rattle.std.specs.Prelude.{◌≡◌, ◌+◌, ◌≤◌, ◌++◌, length, take};
-ghost use Rattle.kad_base.specs.Words.{word_bytes};
-ghost use Rattle.kad_krpc.specs.Form.{find_node_form, get_peers_form};
+ghost use Rattle.kad_krpc.specs.Form.{form, find_node_query, get_peers_query};
 
 use kad_base::Id;
 
@@ -20,7 +19,7 @@ fn put(buf: &mut [u8], at: usize, part: &[u8]) -> usize
 /// bytes. The transaction id is the four bytes of `tx`, the lowest first.
 pub fn find_node_into(buf: &mut [u8; 160], own: &Id, target: &Id, tx: u32) -> usize
     ensures length { result ≡ 101 }
-    ensures form { take result buf.new ≡ find_node_form own.now.0 target.now.0 (word_bytes tx) }
+    ensures form { take result buf.new ≡ form (find_node_query own.now target.now tx) }
 {
     let at = put(buf, 0, b"d1:ad2:id20:");
     let at = put(buf, at, &own.0);
@@ -35,7 +34,7 @@ pub fn find_node_into(buf: &mut [u8; 160], own: &Id, target: &Id, tx: u32) -> us
 /// bytes. The transaction id is the four bytes of `tx`, the lowest first.
 pub fn get_peers_into(buf: &mut [u8; 160], own: &Id, info_hash: &Id, tx: u32) -> usize
     ensures length { result ≡ 104 }
-    ensures form { take result buf.new ≡ get_peers_form own.now.0 info_hash.now.0 (word_bytes tx) }
+    ensures form { take result buf.new ≡ form (get_peers_query own.now info_hash.now tx) }
 {
     let at = put(buf, 0, b"d1:ad2:id20:");
     let at = put(buf, at, &own.0);

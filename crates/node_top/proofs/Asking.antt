@@ -5,8 +5,8 @@ use Rattle.kad_base.specs.declared.plain.Contact.{Contact}
 use Rattle.kad_base.specs.declared.plain.Event.{Event}
 use Rattle.kad_base.specs.declared.plain.Event.TheVariants.{Sent, Unsent}
 use Rattle.kad_base.specs.Outside.{Grows}
-use Rattle.kad_base.specs.Words.{word, word_bytes}
-use Rattle.kad_krpc.specs.Form.{find_node_form}
+use Rattle.kad_base.specs.Words.{word}
+use Rattle.kad_krpc.specs.Form.{form, find_node_query}
 use Rattle.id_puzzles.specs.Drawn.{Drawn}
 use Rattle.claim_book.specs.declared.plain.Setting.{Setting}
 use Rattle.claim_book.specs.declared.plain.Cause.TheVariants.{SendFault}
@@ -44,9 +44,9 @@ sent_tells : (look : LookSetting) (stand : Stand) (words words' : Drawn) (old ne
 sent_tells look stand words words' old new c q told told' a book sent g began is h =
     let tx = word words.seed words.place in
     let J = old.journal ++ Ask 0 c ∷ [] in
-    let grows = subst (λ (s : Setting). Grows told told' (λ es. es ≡ Sent c.addr (find_node_form s.own.0 s.target.0 (word_bytes tx)) ∷ [])) (sym is.setting) sent.0 in
+    let grows = subst (λ (s : Setting). Grows told told' (λ es. es ≡ Sent c.addr (form (find_node_query s.own s.target tx)) ∷ [])) (sym is.setting) sent.0 in
     let query : q ≡ record { contact = c; tx = tx; deadline = deadline_of stand.moment g.timeout } = sent.1 ∙ ap (λ t. record { contact = c; tx = tx; deadline = deadline_of stand.moment t }) (sym is.timeout) in
-    let one = telling_next g stand (record stand { query = Some (record { contact = c; tx = tx; deadline = deadline_of stand.moment g.timeout }) }) words.place (words.place + 1) old.journal J (Sent c.addr (find_node_form g.setting.own.0 g.setting.target.0 (word_bytes tx))) began told told'
+    let one = telling_next g stand (record stand { query = Some (record { contact = c; tx = tx; deadline = deadline_of stand.moment g.timeout }) }) words.place (words.place + 1) old.journal J (Sent c.addr (form (find_node_query g.setting.own g.setting.target tx))) began told told'
     (sent_goes g stand c old.journal words.place tx a.idle (ap (λ s. word s words.place) (sym is.seed)) a.small) h grows in
     let two = subst (λ (x : Query). Telling g (record stand { query = Some x }) (words.place + 1) J began told') (sym query) one in
     subst (λ p. Telling g (record stand { query = Some q }) p new.journal began told') (sym (ap (λ (d : Drawn). d.place) a.drawn))
@@ -69,8 +69,8 @@ unsent_tells : (look : LookSetting) (stand : Stand) (words words' : Drawn) (old 
 unsent_tells look stand words words' old new c told told' a book sent g began is h =
     let tx = word words.seed words.place in
     let J = (old.journal ++ Ask 0 c ∷ []) ++ Lost 0 c SendFault ∷ [] in
-    let grows = subst (λ (s : Setting). Grows told told' (λ es. es ≡ Unsent c.addr (find_node_form s.own.0 s.target.0 (word_bytes tx)) ∷ [])) (sym is.setting) sent in
-    let one = telling_next g stand stand words.place (words.place + 1) old.journal J (Unsent c.addr (find_node_form g.setting.own.0 g.setting.target.0 (word_bytes tx))) began told told'
+    let grows = subst (λ (s : Setting). Grows told told' (λ es. es ≡ Unsent c.addr (form (find_node_query s.own s.target tx)) ∷ [])) (sym is.setting) sent in
+    let one = telling_next g stand stand words.place (words.place + 1) old.journal J (Unsent c.addr (form (find_node_query g.setting.own g.setting.target tx))) began told told'
     (unsent_goes g stand c old.journal words.place tx a.idle (ap (λ s. word s words.place) (sym is.seed)) a.small) h grows in
     subst (λ p. Telling g stand p new.journal began told') (sym (ap (λ (d : Drawn). d.place) a.drawn))
     (subst (λ K. Telling g stand (words.place + 1) K began told') (sym (ap (λ (b : BookState). b.journal) book)) one)

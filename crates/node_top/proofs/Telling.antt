@@ -6,9 +6,9 @@ use Rattle.kad_base.specs.declared.plain.Contact.{Contact}
 use Rattle.kad_base.specs.declared.plain.Event.{Event}
 use Rattle.kad_base.specs.declared.plain.Event.TheVariants.{Now, Sent, Unsent, Got, Quiet}
 use Rattle.kad_base.specs.Outside.{Grows}
-use Rattle.kad_base.specs.Words.{word, word_bytes}
+use Rattle.kad_base.specs.Words.{word}
 use Rattle.kad_base.proofs.Grown.{grows_then, grows_weaker}
-use Rattle.kad_krpc.specs.Form.{find_node_form}
+use Rattle.kad_krpc.specs.Form.{form, find_node_query}
 use Rattle.claim_book.specs.declared.plain.Cause.TheVariants.{SendFault}
 use Rattle.claim_book.specs.declared.plain.Entry.{Entry}
 use Rattle.claim_book.specs.declared.plain.Entry.TheVariants.{Ask, Lost}
@@ -115,7 +115,7 @@ small_rem w lt = omega arith
 first_free : (w : ℕ) → w < 2 ^ 32 → IsFirstFree w [] w
 first_free w lt = record { steps = 0; is = small_rem w lt; free = λ h. (let lt = h.1 in absurd (omega (arith, lt))); before = λ i h. absurd (omega arith) }
 
-is_query_of : (g : Given) (stand : Stand) (c : Contact) (J : List Entry) (place tx : ℕ) (s : Seen) → Stands g stand place J s → s.queries ≡ [] → tx ≡ word g.seed place → tx < 2 ^ 32 → IsQuery g s c.addr (find_node_form g.setting.own.0 g.setting.target.0 (word_bytes tx)) c tx
+is_query_of : (g : Given) (stand : Stand) (c : Contact) (J : List Entry) (place tx : ℕ) (s : Seen) → Stands g stand place J s → s.queries ≡ [] → tx ≡ word g.seed place → tx < 2 ^ 32 → IsQuery g s c.addr (form (find_node_query g.setting.own g.setting.target tx)) c tx
 is_query_of g stand c J place tx s st none is lt =
     let drawn : tx ≡ word g.seed (g.place + s.sends) = is ∙ ap (word g.seed) (sym st.sends) in
     let used : map (λ (q : OpenQuery). q.tx) s.queries ≡ [] = ap (map (λ (q : OpenQuery). q.tx)) none in
@@ -127,7 +127,7 @@ is_query_of g stand c J place tx s st none is lt =
 
 -- the query was sent
 pub sent_goes : (g : Given) (stand : Stand) (c : Contact) (J : List Entry) (place tx : ℕ) → stand.query ≡ None → tx ≡ word g.seed place → tx < 2 ^ 32
-    → GoesOn g stand (record stand { query = Some (record { contact = c; tx = tx; deadline = deadline_of stand.moment g.timeout }) }) place (place + 1) J (J ++ Ask 0 c ∷ []) (Sent c.addr (find_node_form g.setting.own.0 g.setting.target.0 (word_bytes tx)))
+    → GoesOn g stand (record stand { query = Some (record { contact = c; tx = tx; deadline = deadline_of stand.moment g.timeout }) }) place (place + 1) J (J ++ Ask 0 c ∷ []) (Sent c.addr (form (find_node_query g.setting.own g.setting.target tx)))
 sent_goes g stand c J place tx idle is lt = record {
   more = Ask 0 c ∷ [];
   journal = refl;
@@ -150,7 +150,7 @@ sent_goes g stand c J place tx idle is lt = record {
 
 -- it could not be sent
 pub unsent_goes : (g : Given) (stand : Stand) (c : Contact) (J : List Entry) (place tx : ℕ) → stand.query ≡ None → tx ≡ word g.seed place → tx < 2 ^ 32
-    → GoesOn g stand stand place (place + 1) J ((J ++ Ask 0 c ∷ []) ++ Lost 0 c SendFault ∷ []) (Unsent c.addr (find_node_form g.setting.own.0 g.setting.target.0 (word_bytes tx)))
+    → GoesOn g stand stand place (place + 1) J ((J ++ Ask 0 c ∷ []) ++ Lost 0 c SendFault ∷ []) (Unsent c.addr (form (find_node_query g.setting.own g.setting.target tx)))
 unsent_goes g stand c J place tx idle is lt = record {
   more = Ask 0 c ∷ Lost 0 c SendFault ∷ [];
   journal = append_assoc J (Ask 0 c ∷ []) (Lost 0 c SendFault ∷ []);

@@ -5,8 +5,8 @@ use Rattle.kad_base.specs.declared.plain.Policy.{Policy}
 use Rattle.kad_base.specs.declared.plain.Event.{Event}
 use Rattle.kad_base.specs.Outside.{Grows}
 use Rattle.kad_base.specs.declared.plain.Event.TheVariants.{Sent, Unsent}
-use Rattle.kad_base.specs.Words.{word, word_bytes}
-use Rattle.kad_krpc.specs.Form.{find_node_form}
+use Rattle.kad_base.specs.Words.{word}
+use Rattle.kad_krpc.specs.Form.{form, find_node_query}
 use Rattle.id_puzzles.specs.Drawn.{Drawn}
 use Rattle.claim_book.specs.declared.plain.Setting.{Setting}
 use Rattle.claim_book.specs.declared.plain.Entry.{Entry}
@@ -84,9 +84,9 @@ asked_more book (Some c) = added book (Ask 0 c)
 -- the query of the lookup went to the contact under the next drawn word, or could not be sent
 abbrev pub HasSent : Setting → ℕ → ℕ → Contact → Drawn → Option (List Event) → Option (List Event) → Option Query → Type 0
 HasSent setting timeout now c words old new None =
-    Grows old new (λ es. es ≡ Unsent c.addr (find_node_form setting.own.0 setting.target.0 (word_bytes (word words.seed words.place))) ∷ [])
+    Grows old new (λ es. es ≡ Unsent c.addr (form (find_node_query setting.own setting.target (word words.seed words.place))) ∷ [])
 HasSent setting timeout now c words old new (Some q) =
-    Grows old new (λ es. es ≡ Sent c.addr (find_node_form setting.own.0 setting.target.0 (word_bytes (word words.seed words.place))) ∷ [])
+    Grows old new (λ es. es ≡ Sent c.addr (form (find_node_query setting.own setting.target (word words.seed words.place))) ∷ [])
     × (q ≡ record { contact = c; tx = word words.seed words.place; deadline = deadline_of now timeout })
 
 -- the events are told of a lookup with this setting and these words

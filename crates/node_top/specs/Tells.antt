@@ -14,7 +14,7 @@ use Rattle.kad_base.specs.Words.{word, word_bytes}
 use Rattle.kad_krpc.specs.declared.message.Answer.{Answer}
 use Rattle.kad_krpc.specs.declared.message.Message.{Message}
 use Rattle.kad_krpc.specs.declared.message.Message.TheVariants as message
-use Rattle.kad_krpc.specs.Form.{find_node_form}
+use Rattle.kad_krpc.specs.Form.{form, find_node_query}
 use Rattle.kad_krpc.specs.Reading.{Says}
 use Rattle.claim_book.specs.declared.plain.Setting.{Setting}
 use Rattle.claim_book.specs.declared.plain.Cause.TheVariants.{SendFault, Timeout, WrongId, Error}
@@ -76,11 +76,12 @@ pub record IsFirstFree (w : ℕ) (used : List ℕ) (tx : ℕ) : Type 0 where
   pub free : ¬ Contains used tx
   pub before : (i : ℕ) → i < steps → Contains used ((w + i) % 2 ^ 32)
 
--- the datagram is the query of a lookup to the contact, under the next drawn transaction id that is free
+-- the datagram is the written form of the lookup's query, to the contact and under the next drawn transaction id that is
+-- free
 pub record IsQuery (g : Given) (s : Seen) (to : Addr) (bytes : List ℕ) (c : Contact) (tx : ℕ) : Type 0 where
   pub address : to ≡ c.addr
   pub id : IsFirstFree (word g.seed (g.place + s.sends)) (map (λ q. q.tx) s.queries) tx
-  pub form : bytes ≡ find_node_form g.setting.own.0 g.setting.target.0 (word_bytes tx)
+  pub form : bytes ≡ form (find_node_query g.setting.own g.setting.target tx)
 
 -- events that give these entries, at no receive
 abbrev pub gives : Seen → List Entry → Seen

@@ -3,8 +3,7 @@ ghost use Rattle.std.specs.Prelude.{◌≡◌, ◌≤◌, ◌<◌, ◌+◌, ◌^
 ghost use Rattle.kad_base.specs.declared.plain.Event.{Event};
 ghost use Rattle.kad_base.specs.declared.plain.Event.TheVariants.{Sent, Unsent};
 ghost use Rattle.kad_base.specs.Outside.{Grows};
-ghost use Rattle.kad_base.specs.Words.{word, word_bytes};
-ghost use Rattle.kad_krpc.specs.Form.{find_node_form};
+ghost use Rattle.kad_base.specs.Words.{word};
 ghost use Rattle.claim_book.specs.declared.plain.Entry.TheVariants.{Ask, Lost};
 ghost use Rattle.claim_book.specs.declared.plain.Cause.TheVariants.{SendFault};
 ghost use Rattle.claim_book.specs.Journal.{asked, open_on, unsettled, may_ask};
