@@ -4,6 +4,7 @@
 #![tactic(auto)]
 
 pub mod bits;
+pub mod bytes;
 pub mod limits;
 pub mod list;
 pub mod memory;
@@ -15,6 +16,7 @@ pub mod steady;
 mod tests;
 
 pub use bits::{leading_zeros, xor};
+pub use bytes::put_bytes;
 pub use list::{Addrs, Bytes, Contacts, List, Numbers, Reports};
 pub use memory::{BytesSink, BytesSource};
 pub use outside::{Check, Link, Sink, Source};

@@ -1,8 +1,9 @@
 //! Why a command ends with no output, with the number and the line of each.
-ghost use Rattle.std.specs.Prelude.{◌≡◌, ◌≢◌, ◌<◌, ◌≤◌, ◌+◌, ◌++◌, length, take};
+ghost use Rattle.std.specs.Prelude.{◌≡◌, ◌≢◌, ◌<◌, ◌≤◌, take};
 ghost use Rattle.node_top.specs.Endings.{number_of, status_line};
 
 use itoa::Buffer;
+use kad_base::put_bytes;
 
 /// The room that the longest line takes: `bad line `, 20 digits and the line feed.
 pub(crate) const LINE_ROOM: usize = 30;
@@ -27,26 +28,15 @@ pub(crate) enum Status {
     TooLong,
 }
 
-/// Puts bytes at a place, and answers the place behind them.
-fn put(room: &mut [u8], at: usize, bytes: &[u8]) -> usize
-    requires { at + length bytes.now ≤ length room.old }
-    ensures behind { result ≡ at + length bytes.now }
-    ensures written { take result room.new ≡ take at room.old ++ bytes.now }
-{
-    let behind = at + bytes.len();
-    room[at..behind].copy_from_slice(bytes);
-    behind
-}
-
 /// Puts the line that names a bad line of the input.
 fn put_bad_line(room: &mut [u8; LINE_ROOM], line: usize) -> usize
     ensures few { result ≤ 30 }
     ensures written { take result room.new ≡ status_line (Status.BadLine line) }
 {
     let mut digits = Buffer::new();
-    let front = put(room, 0, b"bad line ");
-    let number = put(room, front, digits.format(line).as_bytes());
-    put(room, number, b"\n")
+    let front = put_bytes(room, 0, b"bad line ");
+    let number = put_bytes(room, front, digits.format(line).as_bytes());
+    put_bytes(room, number, b"\n")
 }
 
 impl Status {
@@ -73,14 +63,14 @@ impl Status {
         ensures written { take result room.new ≡ status_line self.now }
     {
         match self {
-            Status::Usage => put(room, 0, b"usage\n"),
+            Status::Usage => put_bytes(room, 0, b"usage\n"),
             Status::BadLine { line } => put_bad_line(room, *line),
-            Status::LinkFault => put(room, 0, b"link fault\n"),
-            Status::SourceFault => put(room, 0, b"source fault\n"),
-            Status::Strays => put(room, 0, b"strays\n"),
-            Status::NoSeeds => put(room, 0, b"no seeds\n"),
-            Status::NoMemory => put(room, 0, b"no memory\n"),
-            Status::TooLong => put(room, 0, b"too long\n"),
+            Status::LinkFault => put_bytes(room, 0, b"link fault\n"),
+            Status::SourceFault => put_bytes(room, 0, b"source fault\n"),
+            Status::Strays => put_bytes(room, 0, b"strays\n"),
+            Status::NoSeeds => put_bytes(room, 0, b"no seeds\n"),
+            Status::NoMemory => put_bytes(room, 0, b"no memory\n"),
+            Status::TooLong => put_bytes(room, 0, b"too long\n"),
         }
     }
 }
