@@ -1,6 +1,6 @@
 //! What a datagram may say.
-use kad_base::{Addrs, Bytes, Contacts, Id, NoMemory, Reports};
-use kad_bencode::{Bad, BenFault};
+use kad_base::{Addrs, Bytes, Contacts, Id, Reports};
+use kad_bencode::Bad;
 
 /// A message of KRPC (BEP 5): one dictionary of bencode with its keys in ascending order. `tx` is the transaction id,
 /// which an answer repeats.

@@ -2,7 +2,9 @@
 ghost use Rattle.std.specs.Prelude.{◌≡◌, ◌≢◌, ◌≤◌, ◌↔◌, IsTrue, ◌∷◌, [], length, take, map, Some, None, MatchOption, IfOk, OnOk, OnErr};
 ghost use Rattle.kad_base.specs.declared.plain.Contact.{Contact};
 ghost use Rattle.kad_base.specs.Words.{word_bytes};
+ghost use Rattle.claim_book.specs.declared.plain.Entry.TheVariants.{Lost};
 ghost use Rattle.claim_book.specs.Journal.{open_on};
+ghost use Rattle.claim_book.specs.State.{added};
 ghost use Rattle.node_top.specs.declared.driver.plain.Reply.{Reply};
 ghost use Rattle.node_top.specs.Tells.{SaysTo, Replies, bare, reports_of};
 ghost use Rattle.node_top.specs.Standing.{as_open, Hears, Expires};
@@ -159,14 +161,15 @@ fn hear_answer(
 }
 
 /// Tells the book that the contact of the open query sent an error message with this code, which loses it.
-fn hear_error(book: &mut Book, policy: Policy, query: &Query, code: i64)
+fn hear_error(book: &mut Book, query: &Query, code: i64)
     requires { open_on 0 book.old.journal ≡ query.now.contact ∷ [] }
-    ensures { Hears policy query.now (Reply.Error code) book.old book.new }
+    ensures { book.new ≡ added book.old (Lost 0 query.now.contact (Cause.Error code)) }
 {
     lose(book, query.contact, Cause::Error { code });
 }
 
 /// Tells the book the reply of the contact of the open query. Without memory the book is as it was.
+#[tactic(auto, using(crate::proofs::Ending::lost_by_error))]
 pub(crate) fn hear(
     alloc: Global,
     book: &mut Book,
@@ -181,7 +184,7 @@ pub(crate) fn hear(
     match reply {
         Reply::Answer(answer) => hear_answer(alloc, book, policy, query, answer),
         Reply::Error { code } => {
-            hear_error(book, policy, query, *code);
+            hear_error(book, query, *code);
             Ok(())
         }
     }

@@ -4,11 +4,9 @@ use Rattle.std.proofs.lemmas.Int.{to_z-of_z}
 use Rattle.claim_book.specs.declared.plain.Cause.TheVariants.{Error}
 use Rattle.claim_book.specs.declared.plain.Entry.TheVariants.{Lost}
 use Rattle.claim_book.specs.State.{added}
-use Rattle.node_top.proofs.Ending.{lost_by_error}
 use Rattle.node_top.proofs.driver.answer.hear_error.Goals as goal
 
 pub returns : goal.returns
 returns c =
     let code : to_z w64 (of_z w64 c.args.code) ≡ c.args.code = to_z-of_z w64 c.args.code c.ranges.code in
-    lost_by_error c.args.policy c.args.query.now c.args.code c.args.book.now c.lose.new.book c.requires
-    (c.lose.ensures ∙ ap (λ (n : ℤ). added c.args.book.now (Lost 0 c.args.query.now.contact (Error n))) code)
+    c.lose.ensures ∙ ap (λ (n : ℤ). added c.args.book.now (Lost 0 c.args.query.now.contact (Error n))) code
