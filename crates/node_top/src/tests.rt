@@ -1,11 +1,14 @@
 //! Whole lookups over a scripted link.
-mod link;
 mod replies;
+mod script;
 
 use crate::run;
+use fake_net::ScriptLink;
 use id_puzzles::Sha1Check;
-use kad_base::{BytesSink, BytesSource, List, Numbers, Sink, Source, SteadySink, SteadySource};
-use link::{Answer, NEVER, ScriptLink};
+use kad_base::{
+    BytesSink, BytesSource, Event, List, Numbers, Sink, Source, SteadySink, SteadySource,
+};
+use script::{Reply, contact, failing_link, link};
 use std::alloc::Global;
 use std::test::Fail;
 
@@ -18,12 +21,16 @@ const FOUND_1: &str =
 const FOUND_2: &str =
     "0000000000000000000000000000000000000002 127.0.0.1:6002\nfound 1 asked 2 failed 1 turned 0\n";
 
-/// What a lookup of zeros by the node of ones wrote, its status, and the datagrams that it sent.
+/// The answer of contact 1 that names nobody, to the first query.
+const ANSWER_1: &[u8] =
+    b"d1:rd2:id20:\0\0\0\0\0\0\0\0\0\0\0\0\0\0\0\0\0\0\0\x01e1:t4:\xa0\x8d\xed\x1a1:y1:re";
+
+/// What a lookup of zeros by the node of ones wrote, its status, and its link.
 #[derive(Drop)]
 struct Played {
     status: u8,
     text: String,
-    sent: Vec<Vec<u8>>,
+    link: ScriptLink,
 }
 
 fn none(alloc: Global) -> Numbers {
@@ -62,180 +69,36 @@ fn play(rt: &HostRuntime, input: &str, link: ScriptLink) -> Result<Played, Fail>
         &Sha1Check,
     );
     let text = String::from_str(alloc, std::str::from_utf8(sink.written())?)?;
-    Ok(Played {
-        status,
-        text,
-        sent: link.into_sent(),
-    })
+    Ok(Played { status, text, link })
 }
 
-static ONE: [Answer; 1] = [Answer {
-    to: 1,
-    at: 10,
-    port: 6001,
-    id: 1,
-    nodes: &[],
-}];
+/// The datagrams that were sent, as the transcript has them.
+fn sent(alloc: Global, link: &ScriptLink) -> Result<Vec<Vec<u8>>, Fail> {
+    let Some(events) = link.events() else {
+        return Err(Fail::new("not told"));
+    };
+    let mut sent = Vec::new(alloc);
+    for event in events {
+        if let Event::Sent { bytes, .. } = event {
+            sent.push(bytes.as_slice().to_vec(alloc)?)?;
+        }
+    }
+    Ok(sent)
+}
 
-static ONE_FROM_ANOTHER_PORT_FIRST: [Answer; 2] = [
-    Answer {
-        to: 1,
-        at: 5,
-        port: 6999,
-        id: 1,
-        nodes: &[],
-    },
-    Answer {
-        to: 1,
-        at: 10,
-        port: 6001,
-        id: 1,
-        nodes: &[],
-    },
-];
-
-static ONE_AS_ANOTHER: [Answer; 1] = [Answer {
-    to: 1,
-    at: 10,
-    port: 6001,
-    id: 7,
-    nodes: &[],
-}];
-
-static TWO: [Answer; 1] = [Answer {
-    to: 2,
-    at: 10,
-    port: 6002,
-    id: 2,
-    nodes: &[],
-}];
-
-/// Eight contacts and a ninth, which the second names.
-static NINE: [Answer; 9] = [
-    Answer {
-        to: 1,
-        at: 10,
-        port: 6001,
-        id: 1,
-        nodes: &[],
-    },
-    Answer {
-        to: 2,
-        at: 10,
-        port: 6002,
-        id: 2,
-        nodes: &[9],
-    },
-    Answer {
-        to: 3,
-        at: 10,
-        port: 6003,
-        id: 3,
-        nodes: &[],
-    },
-    Answer {
-        to: 4,
-        at: 10,
-        port: 6004,
-        id: 4,
-        nodes: &[],
-    },
-    Answer {
-        to: 5,
-        at: 10,
-        port: 6005,
-        id: 5,
-        nodes: &[],
-    },
-    Answer {
-        to: 6,
-        at: 10,
-        port: 6006,
-        id: 6,
-        nodes: &[],
-    },
-    Answer {
-        to: 7,
-        at: 10,
-        port: 6007,
-        id: 7,
-        nodes: &[],
-    },
-    Answer {
-        to: 8,
-        at: 10,
-        port: 6008,
-        id: 8,
-        nodes: &[],
-    },
-    Answer {
-        to: 9,
-        at: 2010,
-        port: 6009,
-        id: 9,
-        nodes: &[],
-    },
-];
-
-/// The same, where the first never answers.
-static EIGHT: [Answer; 8] = [
-    Answer {
-        to: 2,
-        at: 2010,
-        port: 6002,
-        id: 2,
-        nodes: &[9],
-    },
-    Answer {
-        to: 3,
-        at: 2010,
-        port: 6003,
-        id: 3,
-        nodes: &[],
-    },
-    Answer {
-        to: 4,
-        at: 2010,
-        port: 6004,
-        id: 4,
-        nodes: &[],
-    },
-    Answer {
-        to: 5,
-        at: 2010,
-        port: 6005,
-        id: 5,
-        nodes: &[],
-    },
-    Answer {
-        to: 6,
-        at: 2010,
-        port: 6006,
-        id: 6,
-        nodes: &[],
-    },
-    Answer {
-        to: 7,
-        at: 2010,
-        port: 6007,
-        id: 7,
-        nodes: &[],
-    },
-    Answer {
-        to: 8,
-        at: 2010,
-        port: 6008,
-        id: 8,
-        nodes: &[],
-    },
-    Answer {
-        to: 9,
-        at: 2010,
-        port: 6009,
-        id: 9,
-        nodes: &[],
-    },
-];
+/// The contacts from this one to the eighth answer at this moment. The second names the ninth, who answers at 2010.
+fn naming_the_ninth(alloc: Global, first: u8, at: u64) -> Result<Vec<Reply>, Fail> {
+    let mut replies = Vec::new(alloc);
+    for n in first..=8 {
+        let node = if n == 2 { Some(9) } else { None };
+        replies.push(Reply {
+            node,
+            ..Reply::of(n, at)
+        })?;
+    }
+    replies.push(Reply::of(9, 2010))?;
+    Ok(replies)
+}
 
 /// The lines of the contacts from one number to another.
 fn lines(alloc: Global, from: u8, to: u8) -> Result<String, Fail> {
@@ -266,28 +129,58 @@ fn query(alloc: Global) -> Result<Vec<u8>, Fail> {
 fn a_contact_that_answers_is_found(rt: HostRuntime) -> Result<(), Fail> {
     let alloc = rt.alloc();
     let query = query(alloc)?;
-    let played = play(&rt, LINE_1, ScriptLink::new(alloc, &ONE, NEVER, NEVER))?;
+    let played = play(&rt, LINE_1, link(alloc, &[Reply::of(1, 10)])?)?;
+    let sent = sent(alloc, &played.link)?;
     assert_eq!(rt; played.status, 0);
     assert_eq!(rt; played.text.as_str(), FOUND_1);
     assert_eq!(rt; query.len(), 101);
-    assert_eq!(rt; played.sent.len(), 1);
-    assert_eq!(rt; played.sent[0].as_slice(), query.as_slice());
+    assert_eq!(rt; sent.len(), 1);
+    assert_eq!(rt; sent[0].as_slice(), query.as_slice());
+    Ok(())
+}
+
+/// It asks for the moment, sends the query, and waits for the answer until the query's deadline, 2000 milliseconds later
+/// where no word says otherwise. The answer is BEP 5's with the identifier alone.
+#[test]
+fn a_lookup_tells_what_it_did(rt: HostRuntime) -> Result<(), Fail> {
+    let alloc = rt.alloc();
+    let played = play(&rt, LINE_1, link(alloc, &[Reply::of(1, 10)])?)?;
+    let addr = contact(1).addr;
+    let events = [
+        Event::Now { at: 0 },
+        Event::Sent {
+            to: addr,
+            bytes: List::from_vec(query(alloc)?),
+        },
+        Event::Got {
+            from: addr,
+            bytes: List::from_slice(alloc, ANSWER_1)?,
+            until: 2000,
+            at: 10,
+        },
+    ];
+    assert!(rt; played.link.events() == Some(events.as_slice()));
     Ok(())
 }
 
 #[test]
 fn nothing_to_begin_with_sends_nothing(rt: HostRuntime) -> Result<(), Fail> {
-    let link = ScriptLink::new(rt.alloc(), &ONE, NEVER, NEVER);
-    let played = play(&rt, "", link)?;
+    let alloc = rt.alloc();
+    let played = play(&rt, "", link(alloc, &[Reply::of(1, 10)])?)?;
+    let sent = sent(alloc, &played.link)?;
     assert_eq!(rt; played.status, 8);
     assert_eq!(rt; played.text.as_str(), "no seeds\n");
-    assert_eq!(rt; played.sent.len(), 0);
+    assert_eq!(rt; sent.len(), 0);
     Ok(())
 }
 
 #[test]
 fn an_answer_from_another_port_is_a_stray(rt: HostRuntime) -> Result<(), Fail> {
-    let link = ScriptLink::new(rt.alloc(), &ONE_FROM_ANOTHER_PORT_FIRST, NEVER, NEVER);
+    let from_another_port = Reply {
+        port: 6999,
+        ..Reply::of(1, 5)
+    };
+    let link = link(rt.alloc(), &[from_another_port, Reply::of(1, 10)])?;
     let played = play(&rt, LINE_1, link)?;
     assert_eq!(rt; played.status, 0);
     assert_eq!(rt; played.text.as_str(), FOUND_1);
@@ -296,8 +189,11 @@ fn an_answer_from_another_port_is_a_stray(rt: HostRuntime) -> Result<(), Fail> {
 
 #[test]
 fn an_answer_in_another_name_loses_the_contact(rt: HostRuntime) -> Result<(), Fail> {
-    let link = ScriptLink::new(rt.alloc(), &ONE_AS_ANOTHER, NEVER, NEVER);
-    let played = play(&rt, LINE_1, link)?;
+    let in_another_name = Reply {
+        id: 7,
+        ..Reply::of(1, 10)
+    };
+    let played = play(&rt, LINE_1, link(rt.alloc(), &[in_another_name])?)?;
     assert_eq!(rt; played.status, 0);
     assert_eq!(rt; played.text.as_str(), "found 0 asked 1 failed 1 turned 0\n");
     Ok(())
@@ -306,7 +202,7 @@ fn an_answer_in_another_name_loses_the_contact(rt: HostRuntime) -> Result<(), Fa
 #[test]
 fn a_refused_send_loses_the_contact(rt: HostRuntime) -> Result<(), Fail> {
     let two = lines(rt.alloc(), 1, 2)?;
-    let link = ScriptLink::new(rt.alloc(), &TWO, 0, NEVER);
+    let link = failing_link(rt.alloc(), &[Reply::of(2, 10)], &[0], &[])?;
     let played = play(&rt, two.as_str(), link)?;
     assert_eq!(rt; played.status, 0);
     assert_eq!(rt; played.text.as_str(), FOUND_2);
@@ -315,7 +211,7 @@ fn a_refused_send_loses_the_contact(rt: HostRuntime) -> Result<(), Fail> {
 
 #[test]
 fn a_failed_receive_ends_the_lookup(rt: HostRuntime) -> Result<(), Fail> {
-    let link = ScriptLink::new(rt.alloc(), &ONE, NEVER, 0);
+    let link = failing_link(rt.alloc(), &[Reply::of(1, 10)], &[], &[0])?;
     let played = play(&rt, LINE_1, link)?;
     assert_eq!(rt; played.status, 4);
     assert_eq!(rt; played.text.as_str(), "link fault\n");
@@ -324,10 +220,12 @@ fn a_failed_receive_ends_the_lookup(rt: HostRuntime) -> Result<(), Fail> {
 
 #[test]
 fn a_ninth_is_not_asked_while_eight_closer_ones_answer(rt: HostRuntime) -> Result<(), Fail> {
-    let input = lines(rt.alloc(), 1, 8)?;
-    let mut text = lines(rt.alloc(), 1, 8)?;
+    let alloc = rt.alloc();
+    let input = lines(alloc, 1, 8)?;
+    let mut text = lines(alloc, 1, 8)?;
     text.push_str("found 8 asked 8 failed 0 turned 0\n")?;
-    let link = ScriptLink::new(rt.alloc(), &NINE, NEVER, NEVER);
+    let replies = naming_the_ninth(alloc, 1, 10)?;
+    let link = link(alloc, replies.as_slice())?;
     let played = play(&rt, input.as_str(), link)?;
     assert_eq!(rt; played.status, 0);
     assert_eq!(rt; played.text.as_str(), text.as_str());
@@ -336,10 +234,12 @@ fn a_ninth_is_not_asked_while_eight_closer_ones_answer(rt: HostRuntime) -> Resul
 
 #[test]
 fn a_ninth_is_asked_where_one_of_eight_is_silent(rt: HostRuntime) -> Result<(), Fail> {
-    let input = lines(rt.alloc(), 1, 8)?;
-    let mut text = lines(rt.alloc(), 2, 9)?;
+    let alloc = rt.alloc();
+    let input = lines(alloc, 1, 8)?;
+    let mut text = lines(alloc, 2, 9)?;
     text.push_str("found 8 asked 9 failed 1 turned 0\n")?;
-    let link = ScriptLink::new(rt.alloc(), &EIGHT, NEVER, NEVER);
+    let replies = naming_the_ninth(alloc, 2, 2010)?;
+    let link = link(alloc, replies.as_slice())?;
     let played = play(&rt, input.as_str(), link)?;
     assert_eq!(rt; played.status, 0);
     assert_eq!(rt; played.text.as_str(), text.as_str());
@@ -349,8 +249,7 @@ fn a_ninth_is_asked_where_one_of_eight_is_silent(rt: HostRuntime) -> Result<(), 
 #[test]
 fn a_bad_line_is_named(rt: HostRuntime) -> Result<(), Fail> {
     let input = "0000000000000000000000000000000000000001 127.0.0.1:6001\nxyz\n";
-    let link = ScriptLink::new(rt.alloc(), &ONE, NEVER, NEVER);
-    let played = play(&rt, input, link)?;
+    let played = play(&rt, input, link(rt.alloc(), &[Reply::of(1, 10)])?)?;
     assert_eq!(rt; played.status, 3);
     assert_eq!(rt; played.text.as_str(), "bad line 2\n");
     Ok(())
@@ -362,9 +261,9 @@ fn status_of<S: Source, K: Sink>(
     words: &[String],
     source: &mut S,
     sink: &mut K,
-) -> u8 {
-    let mut link = ScriptLink::new(rt.alloc(), &ONE, NEVER, NEVER);
-    run(
+) -> Result<u8, Fail> {
+    let mut link = link(rt.alloc(), &[Reply::of(1, 10)])?;
+    Ok(run(
         rt,
         rt.alloc(),
         words,
@@ -373,7 +272,7 @@ fn status_of<S: Source, K: Sink>(
         sink,
         &[0; 32],
         &Sha1Check,
-    )
+    ))
 }
 
 #[test]
@@ -383,7 +282,8 @@ fn a_failed_read_ends_the_command(rt: HostRuntime) -> Result<(), Fail> {
     let input = List::from_slice(alloc, LINE_1.as_bytes())?;
     let mut source = BytesSource::new(input, 100, List::from_slice(alloc, &[0])?);
     let mut sink = SteadySink::new(alloc, 1000)?;
-    assert_eq!(rt; status_of(&rt, &words, &mut source, &mut sink), 6);
+    let status = status_of(&rt, &words, &mut source, &mut sink)?;
+    assert_eq!(rt; status, 6);
     assert_eq!(rt; sink.written(), b"source fault\n".as_slice());
     Ok(())
 }
@@ -395,7 +295,8 @@ fn a_failed_write_leaves_a_front(rt: HostRuntime) -> Result<(), Fail> {
     let mut source = SteadySource::new(List::from_slice(alloc, LINE_1.as_bytes())?);
     // A byte a call, and the fourth call fails.
     let mut sink = BytesSink::new(1, List::from_slice(alloc, &[3])?, List::new(alloc));
-    assert_eq!(rt; status_of(&rt, &words, &mut source, &mut sink), 5);
+    let status = status_of(&rt, &words, &mut source, &mut sink)?;
+    assert_eq!(rt; status, 5);
     assert_eq!(rt; sink.written(), b"000".as_slice());
     Ok(())
 }
@@ -406,7 +307,8 @@ fn too_long_an_input_is_named(rt: HostRuntime) -> Result<(), Fail> {
     let words = words(alloc)?;
     let mut source = SteadySource::new(List::from_vec(vec![in alloc; b'#'; 1_048_577]?));
     let mut sink = SteadySink::new(alloc, 1000)?;
-    assert_eq!(rt; status_of(&rt, &words, &mut source, &mut sink), 11);
+    let status = status_of(&rt, &words, &mut source, &mut sink)?;
+    assert_eq!(rt; status, 11);
     assert_eq!(rt; sink.written(), b"too long\n".as_slice());
     Ok(())
 }
@@ -415,7 +317,8 @@ fn too_long_an_input_is_named(rt: HostRuntime) -> Result<(), Fail> {
 fn no_words_ask_for_nothing(rt: HostRuntime) -> Result<(), Fail> {
     let mut source = SteadySource::new(List::new(rt.alloc()));
     let mut sink = SteadySink::new(rt.alloc(), 1000)?;
-    assert_eq!(rt; status_of(&rt, &[], &mut source, &mut sink), 2);
+    let status = status_of(&rt, &[], &mut source, &mut sink)?;
+    assert_eq!(rt; status, 2);
     assert_eq!(rt; sink.written(), b"usage\n".as_slice());
     Ok(())
 }
