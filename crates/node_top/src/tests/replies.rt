@@ -1,6 +1,6 @@
 //! Replies as other nodes send them, by their bytes. Their transaction id is that of the first query, as `query` has it.
 use crate::tests::script::{Reply, link_with};
-use crate::tests::{LINE_1, lines, play};
+use crate::tests::{FOUND_1, LINE_1, lines, play};
 use std::test::Fail;
 
 /// The error message of BEP 5's own example.
@@ -24,12 +24,13 @@ fn an_error_message_loses_the_contact(rt: HostRuntime) -> Result<(), Fail> {
     Ok(())
 }
 
+/// Contact 1 is found by its later answer, which a message that loses it would prevent.
 #[test]
 fn an_answer_with_a_broken_record_is_a_stray(rt: HostRuntime) -> Result<(), Fail> {
-    let link = link_with(rt.alloc(), NODES_OF_27_BYTES, &[])?;
+    let link = link_with(rt.alloc(), NODES_OF_27_BYTES, &[Reply::of(1, 20)])?;
     let played = play(&rt, LINE_1, link)?;
     assert_eq!(rt; played.status, 0);
-    assert_eq!(rt; played.text.as_str(), "found 0 asked 1 failed 1 turned 0\n");
+    assert_eq!(rt; played.text.as_str(), FOUND_1);
     Ok(())
 }
 
