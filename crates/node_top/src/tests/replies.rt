@@ -24,6 +24,15 @@ fn an_error_message_loses_the_contact(rt: HostRuntime) -> Result<(), Fail> {
     Ok(())
 }
 
+#[test]
+fn an_answer_with_a_broken_record_is_no_answer(rt: HostRuntime) -> Result<(), Fail> {
+    let link = link_with(rt.alloc(), NODES_OF_27_BYTES, &[])?;
+    let played = play(&rt, LINE_1, link)?;
+    assert_eq!(rt; played.status, 0);
+    assert_eq!(rt; played.text.as_str(), "found 0 asked 1 failed 1 turned 0\n");
+    Ok(())
+}
+
 /// Contact 1 is found by its later answer, which a message that loses it would prevent.
 #[test]
 fn an_answer_with_a_broken_record_is_a_stray(rt: HostRuntime) -> Result<(), Fail> {
