@@ -141,10 +141,11 @@ IsOwed (Seed q c) = ⊥
 IsOwed (Heard q c reports) = ⊥
 IsOwed other = Unit {0}
 
-settle_owed : (s : Setting) (J : List Entry) (e : Entry) (q : ℕ) (t : Thing) → 0 < s.paths → Legal s J → Fits s J e → settles_on q e ≡ true → ((p : ℕ) → (p ≡ q → ⊥) → settles_on p e ≡ false) → ((p : ℕ) → things_of p e ≡ []) → first_unsettled q J ≡ Some t → unsettled_room s.paths (J ++ e ∷ []) + thing_room t ≡ unsettled_room s.paths J
+-- what settles leaves as much less room to need
+pub settle_owed : (s : Setting) (J : List Entry) (e : Entry) (q : ℕ) (t : Thing) → 0 < s.paths → Legal s J → Fits s J e → settles_on q e ≡ true → ((p : ℕ) → (p ≡ q → ⊥) → settles_on p e ≡ false) → ((p : ℕ) → things_of p e ≡ []) → first_unsettled q J ≡ Some t → unsettled_room s.paths (J ++ e ∷ []) + thing_room t ≡ unsettled_room s.paths J
 settle_owed s J e q t z l f h off no_things first = rooms_settle s J e q t s.paths l f h off no_things first (first_below s J q t z l first)
 
-off_this : (q p : ℕ) → (p ≡ q → ⊥) → eqb q p ≡ false
+pub off_this : (q p : ℕ) → (p ≡ q → ⊥) → eqb q p ≡ false
 off_this q p ne = ne_eqb q p (λ e. ne (sym e))
 
 -- the room for what may still come falls by the entry that came
@@ -171,12 +172,11 @@ room_heard s J q c reports z l f =
 -- a book after one of the entries that are owed
 pub book_put : (s : Setting) (J K : List Entry) (e : Entry) (owed owed' room room' near near' : ℕ) → IsBook s J owed room near → Fits s J e → IsOwed e → K ≡ J ++ e ∷ [] → owed' + 1 ≡ owed → length K + owed' ≤ room' → s.k ≤ near' → IsBook s K owed' room' near'
 book_put s J K e owed owed' room room' near near' b f o is less fits sort =
-    let z : 0 < s.paths = (let one = b.one_path in omega arith) in
-    let falls = room_falls s J e z b.legal f o in
+    let falls = room_falls s J e b.some_path b.legal f o in
     record {
       legal = subst (Legal s) (sym is) (legal_more s J e b.legal f);
-      one_path = b.one_path;
-      one_query = b.one_query;
+      some_path = b.some_path;
+      few_paths = b.few_paths;
       small = b.small;
       all_owed = (let old = b.all_owed in let same = ap (room_for s.paths) is in omega arith);
       fits = fits;
@@ -186,20 +186,18 @@ book_put s J K e owed owed' room room' near near' b f o is less fits sort =
 -- something is owed where such an entry may come
 pub some_owed : (s : Setting) (J : List Entry) (e : Entry) (owed room near : ℕ) → IsBook s J owed room near → Fits s J e → IsOwed e → 0 < owed
 some_owed s J e owed room near b f o =
-    let z : 0 < s.paths = (let one = b.one_path in omega arith) in
-    let falls = room_falls s J e z b.legal f o in
+    let falls = room_falls s J e b.some_path b.legal f o in
     let old = b.all_owed in
     omega arith
 
 -- a book after an answer
 pub book_heard : (s : Setting) (J K : List Entry) (q : ℕ) (c : Contact) (reports : List Report) (owed owed' room room' near near' : ℕ) → IsBook s J owed room near → Fits s J (Heard q c reports) → K ≡ J ++ Heard q c reports ∷ [] → owed' + 1 ≡ owed + (3 * length reports + 1) → length K + owed' ≤ room' → s.k ≤ near' → IsBook s K owed' room' near'
 book_heard s J K q c reports owed owed' room room' near near' b f is more fits sort =
-    let z : 0 < s.paths = (let one = b.one_path in omega arith) in
-    let grows = room_heard s J q c reports z b.legal f in
+    let grows = room_heard s J q c reports b.some_path b.legal f in
     record {
       legal = subst (Legal s) (sym is) (legal_more s J (Heard q c reports) b.legal f);
-      one_path = b.one_path;
-      one_query = b.one_query;
+      some_path = b.some_path;
+      few_paths = b.few_paths;
       small = b.small;
       all_owed = (let old = b.all_owed in let same = ap (room_for s.paths) is in omega arith);
       fits = fits;

@@ -105,7 +105,7 @@ none_out : (cs : List Contact) → without cs [] ≡ cs
 none_out [] = refl
 none_out (c ∷ cs) = ap (λ l. c ∷ l) (none_out cs)
 
-seeded_rooms : (d : ℕ) (cs : List Contact) (n : ℕ) → unsettled_room n (seeded d cs) ≡ 0
+pub seeded_rooms : (d : ℕ) (cs : List Contact) (n : ℕ) → unsettled_room n (seeded d cs) ≡ 0
 unfolding unsettled
 seeded_rooms d cs zero = refl
 seeded_rooms d cs (suc n) =
@@ -121,12 +121,12 @@ seeded_room d n cs =
     let opens : length (without (asked J) (answered J ++ failed J)) ≡ 0 = ap (λ l. length (without l (answered J ++ failed J))) (seeded_asked d 0 cs) in
     omega (arith, seeded_rooms d cs n)
 
-pub book_new : (s : Setting) (cs : List Contact) (J : List Entry) (owed room near : ℕ) → J ≡ seeded s.paths cs → s.paths ≡ 1 → s.alpha ≡ 1 → s.k < 256 → length cs ≤ s.k → IsStrictlySortedBy (closeness s.target) cs → All (IsUsable s.own) cs → owed ≡ 2 * length cs → length cs + owed ≤ room → s.k ≤ near → IsBook s J owed room near
-book_new s cs J owed room near is one_path one_query small few sorted usable enough fits sort =
+pub book_new : (s : Setting) (cs : List Contact) (J : List Entry) (owed room near : ℕ) → J ≡ seeded s.paths cs → 0 < s.paths → s.paths < 256 → s.k < 256 → length cs ≤ s.k → IsStrictlySortedBy (closeness s.target) cs → All (IsUsable s.own) cs → owed ≡ 2 * length cs → length cs + owed ≤ room → s.k ≤ near → IsBook s J owed room near
+book_new s cs J owed room near is some_path few_paths small few sorted usable enough fits sort =
     record {
       legal = subst (Legal s) (sym is) (legal_seeded s cs few sorted usable);
-      one_path = one_path;
-      one_query = one_query;
+      some_path = some_path;
+      few_paths = few_paths;
       small = small;
       all_owed = omega (arith, ap (room_for s.paths) is, seeded_room s.paths s.paths cs);
       fits = omega (arith, ap length is, seeded_length s.paths 0 cs);

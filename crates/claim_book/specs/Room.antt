@@ -1,5 +1,5 @@
 -- The room that a book keeps, so that no later call on the contacts that it knows takes memory.
-use Rattle.std.specs.Prelude.{◌≡◌, ℕ, zero, suc, ◌+◌, ◌*◌, ◌<◌, ◌≤◌, List, length, Option, Some, None, [], ◌∷◌, Bool, true, false}
+use Rattle.std.specs.Prelude.{ℕ, zero, suc, ◌+◌, ◌*◌, ◌<◌, ◌≤◌, List, length, Option, Some, None, [], ◌∷◌, Bool, true, false}
 use Rattle.std.specs.List.{sum_by, flat_map}
 use Rattle.kad_base.specs.declared.plain.Contact.{Contact}
 use Rattle.kad_base.specs.Contacts.{without}
@@ -27,8 +27,8 @@ room_for paths J = 2 * length (without (took J) (asked J)) + length (open_any J)
 -- what a book keeps: its journal is legal, has room for what may still come, and there is room to sort the k closest
 pub record IsBook (s : Setting) (J : List Entry) (owed room near_room : ℕ) : Type 0 where
   pub legal : Legal s J
-  pub one_path : s.paths ≡ 1
-  pub one_query : s.alpha ≡ 1
+  pub some_path : 0 < s.paths
+  pub few_paths : s.paths < 256
   pub small : s.k < 256
   pub all_owed : room_for s.paths J ≤ owed
   pub fits : length J + owed ≤ room

@@ -49,10 +49,10 @@ impl Book {
     ghost use Rattle.claim_book.specs.Calls.{NextStep, EndStep, HeardStep, FinishStep, PullStep, NoteStep, SettleStep, after_next, after_kept, after_settle, asker};
 
     /// A book of a lookup that starts with these contacts, the closest that the routing table has. It takes the memory
-    /// for all later calls on them. So far a lookup has one path and one query in flight.
+    /// for all later calls on them. The seeds are dealt to the paths in turn (S/Kademlia, section 4.4), so there has to
+    /// be a path.
     pub fn new(alloc: Global, setting: Setting, seeds: &[Contact]) -> Result<Book, NoMemory>
-        requires one_path { setting.paths ≡ 1 }
-        requires one_query { setting.alpha ≡ 1 }
+        requires some_path { 0 < setting.paths }
         requires few { length seeds.now ≤ setting.k }
         requires in_order { IsStrictlySortedBy (closeness setting.target) seeds.now }
         requires usable { All (IsUsable setting.own) seeds.now }

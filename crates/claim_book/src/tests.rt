@@ -1,4 +1,4 @@
-ghost use Rattle.std.specs.Prelude.{IfOk};
+ghost use Rattle.std.specs.Prelude.{◌<◌, IfOk};
 ghost use Rattle.claim_book.specs.Calls.{BookMay};
 
 use super::*;
@@ -57,7 +57,8 @@ fn answer(alloc: Global, n: u8, named: Option<u8>) -> Result<BookCall, NoMemory>
 }
 
 fn settle(rt: &impl Abort, n: u8) -> BookCall
-    ensures { BookMay 1 result }
+    ensures first { BookMay 1 result }
+    ensures second { BookMay 2 result }
 {
     let check = Trusting { rt };
     BookCall::Settle {
@@ -67,12 +68,14 @@ fn settle(rt: &impl Abort, n: u8) -> BookCall
 
 /// A book with two seeds, of which the first was asked.
 #[tactic(auto, using(crate::proofs::Closest::sorted_two))]
-fn begun(rt: &impl Abort, alloc: Global) -> Result<Book, Fail> {
+fn begun(rt: &impl Abort, alloc: Global, paths: u8) -> Result<Book, Fail>
+    requires { 0 < paths }
+{
     let setting = Setting {
         own: Id([0xff; 20]),
         target: Id([0; 20]),
         k: 8,
-        paths: 1,
+        paths,
         alpha: 1,
         policy: Policy::Plain,
     };
@@ -92,8 +95,10 @@ fn begun(rt: &impl Abort, alloc: Global) -> Result<Book, Fail> {
 }
 
 /// The first contact answers and names the third, which the path takes.
-fn answered_once(rt: &impl Abort, alloc: Global) -> Result<Book, Fail> {
-    let mut book = begun(rt, alloc)?;
+fn answered_once(rt: &impl Abort, alloc: Global, paths: u8) -> Result<Book, Fail>
+    requires { 0 < paths }
+{
+    let mut book = begun(rt, alloc, paths)?;
     assert_eq!(rt; book.apply(0, answer(alloc, 1, Some(3))?), BookReply::Kept);
     assert_eq!(rt;
         book.apply(
@@ -110,7 +115,7 @@ fn answered_once(rt: &impl Abort, alloc: Global) -> Result<Book, Fail> {
 
 #[test]
 fn a_query_is_open_until_it_is_heard(rt: HostRuntime) -> Result<(), Fail> {
-    let mut book = begun(&rt, rt.alloc())?;
+    let mut book = begun(&rt, rt.alloc(), 1)?;
     assert_eq!(rt; book.apply(0, BookCall::Next { path: 0 }), BookReply::Later);
     assert_eq!(rt;
         book.apply(0, BookCall::Next { path: 5 }),
@@ -137,7 +142,7 @@ fn a_query_is_open_until_it_is_heard(rt: HostRuntime) -> Result<(), Fail> {
 
 #[test]
 fn an_answer_is_settled_in_order(rt: HostRuntime) -> Result<(), Fail> {
-    let mut book = begun(&rt, rt.alloc())?;
+    let mut book = begun(&rt, rt.alloc(), 1)?;
     assert_eq!(rt;
         book.apply(0, answer(rt.alloc(), 1, Some(3))?),
         BookReply::Kept
@@ -184,7 +189,7 @@ fn an_answer_is_settled_in_order(rt: HostRuntime) -> Result<(), Fail> {
 
 #[test]
 fn a_lookup_finds_those_that_answered(rt: HostRuntime) -> Result<(), Fail> {
-    let mut book = answered_once(&rt, rt.alloc())?;
+    let mut book = answered_once(&rt, rt.alloc(), 1)?;
     let lost = BookCall::Lost {
         contact: contact(2),
         cause: Cause::Timeout,
@@ -231,5 +236,157 @@ fn a_lookup_finds_those_that_answered(rt: HostRuntime) -> Result<(), Fail> {
         BookReply::Found { found, counts }
     );
     assert_eq!(rt; book.into_journal().len(), 12);
+    Ok(())
+}
+
+#[test]
+fn each_path_asks_its_own_seed(rt: HostRuntime) -> Result<(), Fail> {
+    let mut book = begun(&rt, rt.alloc(), 2)?;
+    assert_eq!(rt; book.apply(0, BookCall::Next { path: 0 }), BookReply::Later);
+    assert_eq!(rt;
+        book.apply(0, BookCall::Next { path: 1 }),
+        BookReply::Ask {
+            contact: contact(2)
+        }
+    );
+    assert_eq!(rt;
+        book.apply(0, BookCall::Next { path: 5 }),
+        BookReply::RunOut
+    );
+    assert_eq!(rt;
+        book.apply(0, BookCall::Finish),
+        BookReply::NotYet { path: 0 }
+    );
+    assert_eq!(rt;
+        book.apply(0, answer(rt.alloc(), 3, None)?),
+        BookReply::NotOpen
+    );
+    assert_eq!(rt;
+        book.apply(0, answer(rt.alloc(), 1, Some(3))?),
+        BookReply::Kept
+    );
+    assert_eq!(rt;
+        book.apply(0, answer(rt.alloc(), 1, Some(3))?),
+        BookReply::NotOpen
+    );
+    Ok(())
+}
+
+#[test]
+fn a_path_settles_what_its_own_query_gave(rt: HostRuntime) -> Result<(), Fail> {
+    let mut book = begun(&rt, rt.alloc(), 2)?;
+    assert_eq!(rt;
+        book.apply(0, answer(rt.alloc(), 1, Some(3))?),
+        BookReply::Kept
+    );
+    assert_eq!(rt; book.apply(2, BookCall::Pull), BookReply::Idle);
+    assert_eq!(rt;
+        book.apply(1, BookCall::Pull),
+        BookReply::Alive {
+            contact: contact(1)
+        }
+    );
+    assert_eq!(rt; book.apply(1, settle(&rt, 3)), BookReply::NotFront);
+    assert_eq!(rt;
+        book.apply(
+            1,
+            BookCall::Note {
+                contact: contact(1)
+            }
+        ),
+        BookReply::Kept
+    );
+    assert_eq!(rt;
+        book.apply(1, BookCall::Pull),
+        BookReply::Report { report: report(3) }
+    );
+    assert_eq!(rt; book.apply(1, settle(&rt, 3)), BookReply::Taken);
+    Ok(())
+}
+
+#[test]
+fn a_path_asks_what_it_took(rt: HostRuntime) -> Result<(), Fail> {
+    let mut book = answered_once(&rt, rt.alloc(), 2)?;
+    assert_eq!(rt; book.apply(1, BookCall::Pull), BookReply::Idle);
+    assert_eq!(rt;
+        book.apply(0, BookCall::Next { path: 0 }),
+        BookReply::Ask {
+            contact: contact(3)
+        }
+    );
+    assert_eq!(rt;
+        book.apply(
+            1,
+            BookCall::Note {
+                contact: contact(1)
+            }
+        ),
+        BookReply::NotFront
+    );
+    Ok(())
+}
+
+#[test]
+fn a_contact_is_on_one_path(rt: HostRuntime) -> Result<(), Fail> {
+    let mut book = answered_once(&rt, rt.alloc(), 2)?;
+    assert_eq!(rt;
+        book.apply(0, BookCall::Next { path: 1 }),
+        BookReply::Ask {
+            contact: contact(2)
+        }
+    );
+    assert_eq!(rt;
+        book.apply(0, answer(rt.alloc(), 2, Some(3))?),
+        BookReply::Kept
+    );
+    assert_eq!(rt;
+        book.apply(
+            2,
+            BookCall::Note {
+                contact: contact(2)
+            }
+        ),
+        BookReply::Kept
+    );
+    assert_eq!(rt; book.apply(2, settle(&rt, 3)), BookReply::Held { path: 0 });
+    Ok(())
+}
+
+#[test]
+fn a_lookup_ends_with_its_last_path(rt: HostRuntime) -> Result<(), Fail> {
+    let mut book = begun(&rt, rt.alloc(), 2)?;
+    let note = BookCall::Note {
+        contact: contact(1),
+    };
+    let lost = BookCall::Lost {
+        contact: contact(2),
+        cause: Cause::Timeout,
+    };
+    assert_eq!(rt;
+        book.apply(0, BookCall::Next { path: 1 }),
+        BookReply::Ask {
+            contact: contact(2)
+        }
+    );
+    assert_eq!(rt;
+        book.apply(0, answer(rt.alloc(), 1, None)?),
+        BookReply::Kept
+    );
+    assert_eq!(rt; book.apply(1, note), BookReply::Kept);
+    assert_eq!(rt;
+        book.apply(0, BookCall::Finish),
+        BookReply::NotYet { path: 1 }
+    );
+    assert_eq!(rt; book.apply(0, lost), BookReply::Kept);
+    let found = List::from_slice(rt.alloc(), &[contact(1)])?;
+    let counts = Counts {
+        asked: 2,
+        failed: 1,
+        turned: 0,
+    };
+    assert_eq!(rt;
+        book.apply(0, BookCall::Finish),
+        BookReply::Found { found, counts }
+    );
     Ok(())
 }

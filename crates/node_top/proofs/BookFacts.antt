@@ -1,5 +1,5 @@
 -- What a legal journal of one path says of its open query.
-use Rattle.std.proofs.Common.{◌≡◌, ◌≢◌, ℕ, ◌<◌, ◌≤◌, List, [], ◌∷◌, ◌++◌, length, get_or, Some, Bool, true, false, not, ◌&&◌, ◌||◌, cond, inl, inr, refl, sym, ap, subst, ◌∙◌}
+use Rattle.std.proofs.Common.{◌≡◌, ◌≢◌, ℕ, ◌<◌, ◌≤◌, List, [], ◌∷◌, ◌++◌, length, get_or, Some, Bool, true, false, not, ◌&&◌, ◌||◌, cond, inl, inr, refl, sym, ap, subst, ◌∙◌, arith}
 use Rattle.std.specs.Prelude.{filter, slice_get, IsSome}
 use Rattle.std.specs.List.{flat_map}
 use Rattle.std.proofs.lemmas.List.{append-nil}
@@ -170,4 +170,7 @@ open_by_driven p J K e =
 
 -- a path asks few contacts
 pub few_asked : (old new : BookState) → new.setting ≡ old.setting → old.setting.paths ≡ 1 → old.setting.k < 256 → Legal new.setting new.journal → length (asked new.journal) ≤ 256
-few_asked old new same path k legal = asked_few new.setting new.journal (ap (λ (s : Setting). s.paths) same ∙ path) (subst (λ (s : Setting). s.k < 256) (sym same) k) legal
+few_asked old new same path k legal =
+    let one : new.setting.paths ≡ 1 = ap (λ (s : Setting). s.paths) same ∙ path in
+    let few = asked_few new.setting new.journal (omega arith) (subst (λ (s : Setting). s.k < 256) (sym same) k) legal in
+    omega arith
