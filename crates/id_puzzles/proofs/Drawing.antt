@@ -7,7 +7,7 @@ use borrow.Rule.Slice.PartMut.{put_mid}
 use Rattle.kad_base.specs.Bits.{BeginsWithZeros}
 use Rattle.kad_base.specs.Puzzles.{hash}
 use Rattle.kad_base.specs.Words.{word, word_bytes, drawn_bytes}
-use Rattle.id_puzzles.specs.Drawn.{Drawn}
+use Rattle.id_puzzles.specs.Drawn.{WordsState}
 use Rattle.id_puzzles.specs.Minting.{key_at, KeySolves}
 
 pub drawn_bytes-none : (seed : List ℕ) (place : ℕ) → drawn_bytes seed place 0 ≡ []
@@ -43,11 +43,11 @@ drawn_bytes-written seed place i k w bytes part before le w_is part_is =
     ∙ sym (drawn_bytes-push seed place i)
 
 -- a key that is drawn at its place
-pub key_drawn : (seed : List ℕ) (i : ℕ) (at : Drawn) (old new : List ℕ) → at ≡ record { seed = seed; place = 8 * i } → length old ≡ 32
+pub key_drawn : (seed : List ℕ) (i : ℕ) (at : WordsState) (old new : List ℕ) → at ≡ record { seed = seed; place = 8 * i } → length old ≡ 32
     → new ≡ drawn_bytes at.seed at.place (length old / 4) → new ≡ key_at seed i
 unfolding key_at
 key_drawn seed i at old new at_is len new_is =
-    new_is ∙ ap (λ (n : ℕ). drawn_bytes at.seed at.place (n / 4)) len ∙ ap (λ (d : Drawn). drawn_bytes d.seed d.place 8) at_is
+    new_is ∙ ap (λ (n : ℕ). drawn_bytes at.seed at.place (n / 4)) len ∙ ap (λ (d : WordsState). drawn_bytes d.seed d.place 8) at_is
 
 -- the test of its identifier
 pub key_tested : (seed : List ℕ) (bits i : ℕ) (key id : List ℕ) → key ≡ key_at seed i → id ≡ hash key → BeginsWithZeros bits (hash id) ↔ KeySolves seed bits i

@@ -6,7 +6,7 @@ use Rattle.std.proofs.Math.ListN.{drop_of_length-le}
 use Rattle.rand_core.specs.Steps.{u32_at}
 use Rattle.rand_chacha.specs.ChaCha.{ChaCha, key_of, seed_of, of_seed, next_word, word_at}
 use Rattle.kad_base.specs.Words.{word}
-use Rattle.id_puzzles.specs.Drawn.{Drawn, drawn_by, IsSeeded}
+use Rattle.id_puzzles.specs.Drawn.{WordsState, drawn_by, IsSeeded}
 
 four : (a b c d : ℕ) → a < 256 → b < 256 → c < 256 → d < 256
     → to_le_bytes w32 (a + b * 2 ^ 8 + c * 2 ^ 16 + d * 2 ^ 24) ≡ a ∷ b ∷ c ∷ d ∷ []
@@ -71,19 +71,19 @@ drawn_here : (g : ChaCha) → (drawn_by g).place < 2 ^ 60 → drawn_by (next_wor
 unfolding drawn_by
 drawn_here g low =
     let f : (g.word_pos + 1) % 2 ^ 68 ≡ g.word_pos + 1 = omega arith in
-    let D : ℕ → Drawn = λ n. record { seed = seed_of g.key; place = n } in
+    let D : ℕ → WordsState = λ n. record { seed = seed_of g.key; place = n } in
     ap D f
 
 -- the word that a generator draws, and the generator after it
-pub next_value : (g after : ChaCha) (w : ℕ) (d : Drawn) → ◌≡◌ {A = ℕ × ChaCha} (w, after) (next_word 10 g) → IsSeeded g → drawn_by g ≡ d
+pub next_value : (g after : ChaCha) (w : ℕ) (d : WordsState) → ◌≡◌ {A = ℕ × ChaCha} (w, after) (next_word 10 g) → IsSeeded g → drawn_by g ≡ d
     → w ≡ word d.seed d.place
 next_value g after w d e h is =
-    ap (λ (p : ℕ × ChaCha). p.0) e ∙ value_here g h ∙ ap (λ (x : Drawn). word x.seed x.place) is
+    ap (λ (p : ℕ × ChaCha). p.0) e ∙ value_here g h ∙ ap (λ (x : WordsState). word x.seed x.place) is
 
-pub next_drawn : (g after : ChaCha) (w : ℕ) (d : Drawn) → ◌≡◌ {A = ℕ × ChaCha} (w, after) (next_word 10 g) → drawn_by g ≡ d → d.place < 2 ^ 60
+pub next_drawn : (g after : ChaCha) (w : ℕ) (d : WordsState) → ◌≡◌ {A = ℕ × ChaCha} (w, after) (next_word 10 g) → drawn_by g ≡ d → d.place < 2 ^ 60
     → drawn_by after ≡ record d { place = d.place + 1 }
 next_drawn g after w d e is low =
-    let p : (drawn_by g).place ≡ d.place = ap (λ (x : Drawn). x.place) is in
+    let p : (drawn_by g).place ≡ d.place = ap (λ (x : WordsState). x.place) is in
     let l : (drawn_by g).place < 2 ^ 60 = omega arith in
     ap (λ (q : ℕ × ChaCha). drawn_by q.1) e ∙ drawn_here g l
-    ∙ ap (λ (x : Drawn). record x { place = x.place + 1 }) is
+    ∙ ap (λ (x : WordsState). record x { place = x.place + 1 }) is

@@ -3,12 +3,12 @@ use Rattle.std.specs.Prelude.{◌≡◌, ℕ, List}
 use Rattle.rand_chacha.specs.ChaCha.{ChaCha, key_of, seed_of}
 
 -- the seed, and the place of the word that comes next
-pub record Drawn : Type 0 where
+pub record WordsState : Type 0 where
   pub seed : List ℕ
   pub place : ℕ
 
 -- as a generator keeps them
-unfoldable pub drawn_by : ChaCha → Drawn
+unfoldable pub drawn_by : ChaCha → WordsState
 drawn_by g = record { seed = seed_of g.key; place = g.word_pos }
 
 -- the generator was made from a seed, and is on stream 0

@@ -1,7 +1,7 @@
 //! Words drawn from a seed.
 ghost use Rattle.std.specs.Prelude.{◌≡◌, ◌+◌, ◌/◌, ◌%◌, ◌^◌, ◌<◌, ◌≤◌, length};
 ghost use Rattle.kad_base.specs.Words.{word, drawn_bytes};
-ghost use Rattle.id_puzzles.specs.Drawn.{Drawn, IsSeeded, drawn_by};
+ghost use Rattle.id_puzzles.specs.Drawn.{WordsState, IsSeeded, drawn_by};
 
 use rand_chacha::ChaCha20Rng;
 use rand_core::SeedableRng;
@@ -15,7 +15,7 @@ pub struct Words {
 }
 
 impl Model for Words {
-    ghost Value = { Drawn };
+    ghost Value = { WordsState };
 
     ghost view = { λ w. drawn_by w.rng };
 

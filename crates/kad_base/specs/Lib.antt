@@ -6,3 +6,4 @@ pub mod Puzzles
 pub mod Serial
 pub mod Memory
 pub mod formers
+pub mod Limits

@@ -5,6 +5,7 @@
 
 pub mod bits;
 pub mod bytes;
+pub mod laws;
 pub mod limits;
 pub mod list;
 pub mod memory;

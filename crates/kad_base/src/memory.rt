@@ -19,9 +19,9 @@ pub struct BytesSource {
 
 impl Model for BytesSource {
     ghost use Rattle.std.specs.Prelude.{◌<◌, ◌≤◌, length, drop};
-    ghost use Rattle.kad_base.specs.Memory.{Supply};
+    ghost use Rattle.kad_base.specs.Memory.{SourceState};
 
-    ghost Value = { Supply };
+    ghost Value = { SourceState };
 
     ghost view = { λ s. record { rest = drop s.at s.bytes; failures = s.faults } };
 
@@ -78,9 +78,9 @@ pub struct BytesSink {
 
 impl Model for BytesSink {
     ghost use Rattle.std.specs.Prelude.{◌<◌};
-    ghost use Rattle.kad_base.specs.Memory.{Store};
+    ghost use Rattle.kad_base.specs.Memory.{SinkState};
 
-    ghost Value = { Store };
+    ghost Value = { SinkState };
 
     ghost view = { λ s. record { taken = s.room; failures = s.faults } };
 

@@ -1,6 +1,7 @@
 //! A source and a sink in memory that never fail.
-ghost use Rattle.std.specs.Prelude.{◌≡◌, ◌≤◌, ◌+◌, ◌++◌, [], true, length, take, drop, Some, None, IfOk, if◌then◌else◌};
+ghost use Rattle.std.specs.Prelude.{◌≡◌, ◌≤◌, [], true, length, take, drop, Some, None, IfOk, if◌then◌else◌};
 
+use crate::bytes::put_bytes;
 use crate::list::Bytes;
 use crate::outside::{Sink, Source};
 use crate::plain::{Failed, NoMemory};
@@ -14,14 +15,6 @@ fn copy_front(from: &[u8], to: &mut [u8], n: usize)
     ensures { take n to.new ≡ take n from.now }
 {
     to[..n].copy_from_slice(&from[..n]);
-}
-
-/// Puts bytes at a place.
-fn put_at(room: &mut [u8], at: usize, bytes: &[u8])
-    requires { at + length bytes.now ≤ length room.old }
-    ensures { take (at + length bytes.now) room.new ≡ take at room.old ++ bytes.now }
-{
-    room[at..at + bytes.len()].copy_from_slice(bytes);
 }
 
 /// Gives its bytes, as many a call as there is room for.
@@ -73,9 +66,9 @@ pub struct SteadySink {
 
 impl Model for SteadySink {
     ghost use Rattle.std.specs.Prelude.{◌≤◌, length, take};
-    ghost use Rattle.kad_base.specs.Memory.{Shelf};
+    ghost use Rattle.kad_base.specs.Memory.{SteadySinkState};
 
-    ghost Value = { Shelf };
+    ghost Value = { SteadySinkState };
 
     ghost view = { λ s. record { kept = take s.kept s.room.items; whole = s.whole; room = length s.room.items } };
 
@@ -115,8 +108,7 @@ impl Sink for SteadySink {
     fn give(&mut self, bytes: &[u8]) -> Result<usize, Failed> {
         let n = bytes.len();
         if n <= self.room.len() - self.kept {
-            put_at(&mut self.room, self.kept, bytes);
-            self.kept += n;
+            self.kept = put_bytes(&mut self.room, self.kept, bytes);
         } else {
             self.whole = false;
         }

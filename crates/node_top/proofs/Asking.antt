@@ -7,7 +7,7 @@ use Rattle.kad_base.specs.declared.plain.Event.TheVariants.{Sent, Unsent}
 use Rattle.kad_base.specs.Outside.{Grows}
 use Rattle.kad_base.specs.Words.{word}
 use Rattle.kad_krpc.specs.Form.{form, find_node_query}
-use Rattle.id_puzzles.specs.Drawn.{Drawn}
+use Rattle.id_puzzles.specs.Drawn.{WordsState}
 use Rattle.claim_book.specs.declared.plain.Setting.{Setting}
 use Rattle.claim_book.specs.declared.plain.Cause.TheVariants.{SendFault}
 use Rattle.claim_book.specs.declared.plain.Entry.{Entry}
@@ -32,7 +32,7 @@ asks_lost : (J : List Entry) (c : Contact) → length (asked ((J ++ Ask 0 c ∷ 
 asks_lost J c = ap length (asked_more (J ++ Ask 0 c ∷ []) (Lost 0 c SendFault) ∙ append-nil (asked (J ++ Ask 0 c ∷ []))) ∙ asks_one J c
 
 -- what an ask depends on
-pub record Asking (look : LookSetting) (stand : Stand) (words words' : Drawn) (old : BookState) (c : Contact) : Type 0 where
+pub record Asking (look : LookSetting) (stand : Stand) (words words' : WordsState) (old : BookState) (c : Contact) : Type 0 where
   pub legal : Legal old.setting old.journal
   pub may : may_ask old.setting 0 old.journal ≡ Some c
   pub none_open : open_on 0 old.journal ≡ []
@@ -40,7 +40,7 @@ pub record Asking (look : LookSetting) (stand : Stand) (words words' : Drawn) (o
   pub small : word words.seed words.place < 2 ^ 32
   pub drawn : words' ≡ record words { place = words.place + 1 }
 
-sent_tells : (look : LookSetting) (stand : Stand) (words words' : Drawn) (old new : BookState) (c : Contact) (q : Query) (told told' : Option (List Event)) → Asking look stand words words' old c → new ≡ added old (Ask 0 c) → HasSent look.setting look.timeout stand.moment c words told told' (Some q) → TellsOn look stand (record stand { query = Some q }) words words' old new told told'
+sent_tells : (look : LookSetting) (stand : Stand) (words words' : WordsState) (old new : BookState) (c : Contact) (q : Query) (told told' : Option (List Event)) → Asking look stand words words' old c → new ≡ added old (Ask 0 c) → HasSent look.setting look.timeout stand.moment c words told told' (Some q) → TellsOn look stand (record stand { query = Some q }) words words' old new told told'
 sent_tells look stand words words' old new c q told told' a book sent g began is h =
     let tx = word words.seed words.place in
     let J = old.journal ++ Ask 0 c ∷ [] in
@@ -49,10 +49,10 @@ sent_tells look stand words words' old new c q told told' a book sent g began is
     let one = telling_next g stand (record stand { query = Some (record { contact = c; tx = tx; deadline = deadline_of stand.moment g.timeout }) }) words.place (words.place + 1) old.journal J (Sent c.addr (form (find_node_query g.setting.own g.setting.target tx))) began told told'
     (sent_goes g stand c old.journal words.place tx a.idle (ap (λ s. word s words.place) (sym is.seed)) a.small) h grows in
     let two = subst (λ (x : Query). Telling g (record stand { query = Some x }) (words.place + 1) J began told') (sym query) one in
-    subst (λ p. Telling g (record stand { query = Some q }) p new.journal began told') (sym (ap (λ (d : Drawn). d.place) a.drawn))
+    subst (λ p. Telling g (record stand { query = Some q }) p new.journal began told') (sym (ap (λ (d : WordsState). d.place) a.drawn))
     (subst (λ K. Telling g (record stand { query = Some q }) (words.place + 1) K began told') (sym (ap (λ (b : BookState). b.journal) book)) two)
 
-pub sent_asks : (look : LookSetting) (stand : Stand) (words words' : Drawn) (old new : BookState) (c : Contact) (q : Query) (told told' : Option (List Event)) → Asking look stand words words' old c → new ≡ added old (Ask 0 c) → HasSent look.setting look.timeout stand.moment c words told told' (Some q) → length (asked new.journal) ≤ 256 → AsksOne look stand (record stand { query = Some q }) words words' old new told told'
+pub sent_asks : (look : LookSetting) (stand : Stand) (words words' : WordsState) (old new : BookState) (c : Contact) (q : Query) (told told' : Option (List Event)) → Asking look stand words words' old c → new ≡ added old (Ask 0 c) → HasSent look.setting look.timeout stand.moment c words told told' (Some q) → length (asked new.journal) ≤ 256 → AsksOne look stand (record stand { query = Some q }) words words' old new told told'
 sent_asks look stand words words' old new c q told told' a book sent few = record {
   drawn = a.drawn;
   setting = ap (λ (b : BookState). b.setting) book;
@@ -65,17 +65,17 @@ sent_asks look stand words words' old new c q told told' a book sent few = recor
   tells = sent_tells look stand words words' old new c q told told' a book sent;
 }
 
-unsent_tells : (look : LookSetting) (stand : Stand) (words words' : Drawn) (old new : BookState) (c : Contact) (told told' : Option (List Event)) → Asking look stand words words' old c → new ≡ added (added old (Ask 0 c)) (Lost 0 c SendFault) → HasSent look.setting look.timeout stand.moment c words told told' None → TellsOn look stand stand words words' old new told told'
+unsent_tells : (look : LookSetting) (stand : Stand) (words words' : WordsState) (old new : BookState) (c : Contact) (told told' : Option (List Event)) → Asking look stand words words' old c → new ≡ added (added old (Ask 0 c)) (Lost 0 c SendFault) → HasSent look.setting look.timeout stand.moment c words told told' None → TellsOn look stand stand words words' old new told told'
 unsent_tells look stand words words' old new c told told' a book sent g began is h =
     let tx = word words.seed words.place in
     let J = (old.journal ++ Ask 0 c ∷ []) ++ Lost 0 c SendFault ∷ [] in
     let grows = subst (λ (s : Setting). Grows told told' (λ es. es ≡ Unsent c.addr (form (find_node_query s.own s.target tx)) ∷ [])) (sym is.setting) sent in
     let one = telling_next g stand stand words.place (words.place + 1) old.journal J (Unsent c.addr (form (find_node_query g.setting.own g.setting.target tx))) began told told'
     (unsent_goes g stand c old.journal words.place tx a.idle (ap (λ s. word s words.place) (sym is.seed)) a.small) h grows in
-    subst (λ p. Telling g stand p new.journal began told') (sym (ap (λ (d : Drawn). d.place) a.drawn))
+    subst (λ p. Telling g stand p new.journal began told') (sym (ap (λ (d : WordsState). d.place) a.drawn))
     (subst (λ K. Telling g stand (words.place + 1) K began told') (sym (ap (λ (b : BookState). b.journal) book)) one)
 
-pub unsent_asks : (look : LookSetting) (stand : Stand) (words words' : Drawn) (old new : BookState) (c : Contact) (told told' : Option (List Event)) → Asking look stand words words' old c → new ≡ added (added old (Ask 0 c)) (Lost 0 c SendFault) → HasSent look.setting look.timeout stand.moment c words told told' None → length (asked new.journal) ≤ 256 → AsksOne look stand stand words words' old new told told'
+pub unsent_asks : (look : LookSetting) (stand : Stand) (words words' : WordsState) (old new : BookState) (c : Contact) (told told' : Option (List Event)) → Asking look stand words words' old c → new ≡ added (added old (Ask 0 c)) (Lost 0 c SendFault) → HasSent look.setting look.timeout stand.moment c words told told' None → length (asked new.journal) ≤ 256 → AsksOne look stand stand words words' old new told told'
 unsent_asks look stand words words' old new c told told' a book sent few = record {
   drawn = a.drawn;
   setting = ap (λ (b : BookState). b.setting) book;

@@ -12,7 +12,7 @@ use Rattle.kad_base.specs.Outside.{Grows}
 use Rattle.kad_distance.specs.Order.{closeness}
 use Rattle.kad_distance.specs.KClosest.{k_closest}
 use Rattle.kad_distance.proofs.Chosen.{closest_rises, closest_few, closest_all}
-use Rattle.id_puzzles.specs.Drawn.{Drawn}
+use Rattle.id_puzzles.specs.Drawn.{WordsState}
 use Rattle.claim_book.specs.declared.plain.Setting.{Setting}
 use Rattle.claim_book.specs.Journal.{asked, failed, turned}
 use Rattle.claim_book.specs.Legal.{Legal}
@@ -57,10 +57,10 @@ pub seeds_usable : (setting : Setting) (left left' : Option (List ℕ)) (contact
 seeds_usable setting left left' contacts xs reads is =
     subst (All (IsUsable setting.own)) (sym is) (closest_all setting.target setting.k contacts (IsUsable setting.own) (admits_usable setting.own setting.policy reads.reports contacts reads.admits))
 
-given_is : (look : LookWords) (random : List ℕ) (s : Setting) (words : Drawn) → s ≡ setting_of look random → words ≡ record { seed = random; place = 5 } → given_of (record { setting = s; timeout = look.timeout }) words ≡ lookup_of look random
+given_is : (look : LookWords) (random : List ℕ) (s : Setting) (words : WordsState) → s ≡ setting_of look random → words ≡ record { seed = random; place = 5 } → given_of (record { setting = s; timeout = look.timeout }) words ≡ lookup_of look random
 given_is look random s words e f =
     ap (λ (x : Setting). given_of (record { setting = x; timeout = look.timeout }) words) e
-    ∙ ap (λ (d : Drawn). given_of (record { setting = setting_of look random; timeout = look.timeout }) d) f
+    ∙ ap (λ (d : WordsState). given_of (record { setting = setting_of look random; timeout = look.timeout }) d) f
 
 text_is : (s : Setting) (o : Outcome) (text : List ℕ) → o.found ≡ result_of s o.journal → o.counts.asked ≡ length (asked o.journal) → o.counts.failed ≡ length (failed o.journal) → o.counts.turned ≡ length (turned o.journal) → text ≡ printed o.found o.counts.asked o.counts.failed o.counts.turned → text ≡ printed_of s o.journal
 text_is s o text a b c d is =
@@ -69,7 +69,7 @@ text_is s o text a b c d is =
     ∙ ap (λ n. printed (result_of s o.journal) (length (asked o.journal)) n o.counts.turned) c
     ∙ ap (λ n. printed (result_of s o.journal) (length (asked o.journal)) (length (failed o.journal)) n) d
 
-pub looks_at : (look : LookWords) (random : List ℕ) (s : Setting) (words words' : Drawn) (left left' : Option (List ℕ)) (told told' : Option (List Event)) (contacts starts : List Contact) (o : Outcome) (text : List ℕ) → s ≡ setting_of look random → words ≡ record { seed = random; place = 5 } → Reads s left left' contacts → contacts ≢ [] → starts ≡ k_closest s.target s.k contacts
+pub looks_at : (look : LookWords) (random : List ℕ) (s : Setting) (words words' : WordsState) (left left' : Option (List ℕ)) (told told' : Option (List Event)) (contacts starts : List Contact) (o : Outcome) (text : List ℕ) → s ≡ setting_of look random → words ≡ record { seed = random; place = 5 } → Reads s left left' contacts → contacts ≢ [] → starts ≡ k_closest s.target s.k contacts
     → LooksUp (record { setting = s; timeout = look.timeout }) starts words words' told told' o → text ≡ printed o.found o.counts.asked o.counts.failed o.counts.turned → LooksAt look random left left' told told' text
 looks_at look random s words words' left left' told told' contacts starts o text e f reads some_one closest up is =
     let now = setting_of look random in
@@ -91,7 +91,7 @@ looks_at look random s words words' left left' told told' contacts starts o text
       text_is = text_is now o text found up.counted.asked up.counted.failed up.counted.turned is;
     }
 
-pub strays_at : (look : LookWords) (random : List ℕ) (s : Setting) (words : Drawn) (told told' : Option (List Event)) → s ≡ setting_of look random → words ≡ record { seed = random; place = 5 } → Grows told told' (λ events. EndsAtStray (given_of (record { setting = s; timeout = look.timeout }) words) events 1000000) → Grows told told' (λ events. EndsAtStray (lookup_of look random) events 1000000)
+pub strays_at : (look : LookWords) (random : List ℕ) (s : Setting) (words : WordsState) (told told' : Option (List Event)) → s ≡ setting_of look random → words ≡ record { seed = random; place = 5 } → Grows told told' (λ events. EndsAtStray (given_of (record { setting = s; timeout = look.timeout }) words) events 1000000) → Grows told told' (λ events. EndsAtStray (lookup_of look random) events 1000000)
 strays_at look random s words told told' e f ends = subst (λ (g : Given). Grows told told' (λ events. EndsAtStray g events 1000000)) (given_is look random s words e f) ends
 
 -- the cause of a lookup is that of its command

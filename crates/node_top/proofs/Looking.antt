@@ -5,7 +5,7 @@ use Rattle.kad_base.specs.declared.plain.Contact.{Contact}
 use Rattle.kad_base.specs.declared.plain.Event.{Event}
 use Rattle.kad_base.specs.Outside.{Grows}
 use Rattle.kad_base.proofs.Grown.{grows_weaker}
-use Rattle.id_puzzles.specs.Drawn.{Drawn}
+use Rattle.id_puzzles.specs.Drawn.{WordsState}
 use Rattle.claim_book.specs.declared.plain.Setting.{Setting}
 use Rattle.claim_book.specs.declared.plain.Entry.{Entry}
 use Rattle.claim_book.specs.Journal.{seeds, asked, asked_on, open_on}
@@ -78,7 +78,7 @@ settled_telling : (g : Given) (stand : Stand) (place : ℕ) (old new : BookState
 settled_telling g stand place old new a b s h = subst (λ J. Telling g stand place J a b) (sym s.journal) (telling_settled g stand place old.journal s.more a b s.quiet h)
 
 -- where a round stands
-pub record InRound (look : LookSetting) (start words : Drawn) (stand : Stand) (book : BookState) (cs : List Contact) (began told : Option (List Event)) : Type 0 where
+pub record InRound (look : LookSetting) (start words : WordsState) (stand : Stand) (book : BookState) (cs : List Contact) (began told : Option (List Event)) : Type 0 where
   pub setting : book.setting ≡ look.setting
   pub is_open : open_on 0 book.journal ≡ contacts_of stand.query
   pub telling : Telling (given_of look start) stand words.place book.journal began told
@@ -88,26 +88,26 @@ pub record InRound (look : LookSetting) (start words : Drawn) (stand : Stand) (b
   pub few_strays : stand.strays < 1000000
   pub few_receives : stand.receives < 32
 
-is_of : (look : LookSetting) (start words : Drawn) (n : ℕ) → words ≡ record start { place = n } → IsOf (given_of look start) look words
-is_of look start words n drawn = record { setting = refl; timeout = refl; seed = sym (ap (λ (d : Drawn). d.seed) drawn) }
+is_of : (look : LookSetting) (start words : WordsState) (n : ℕ) → words ≡ record start { place = n } → IsOf (given_of look start) look words
+is_of look start words n drawn = record { setting = refl; timeout = refl; seed = sym (ap (λ (d : WordsState). d.seed) drawn) }
 
-pub round_asked : (look : LookSetting) (start words words' : Drawn) (from to : Stand) (book old new : BookState) (cs : List Contact) (began told told' : Option (List Event)) → InRound look start words from book cs began told → Settled book old → AsksOne look from to words words' old new told told' → InRound look start words' to new cs began told'
+pub round_asked : (look : LookSetting) (start words words' : WordsState) (from to : Stand) (book old new : BookState) (cs : List Contact) (began told told' : Option (List Event)) → InRound look start words from book cs began told → Settled book old → AsksOne look from to words words' old new told told' → InRound look start words' to new cs began told'
 round_asked look start words words' from to book old new cs began told told' r s a =
     let same = ap length (settled_asked book old s) in
     let more : start.place + length (asked new.journal) ≡ words.place + 1 =
-    (let p : words.place ≡ start.place + length (asked book.journal) = ap (λ (d : Drawn). d.place) r.drawn in let one = a.one_more in omega (arith, p, one, same)) in
+    (let p : words.place ≡ start.place + length (asked book.journal) = ap (λ (d : WordsState). d.place) r.drawn in let one = a.one_more in omega (arith, p, one, same)) in
     record {
       setting = a.setting ∙ s.setting ∙ r.setting;
       is_open = a.is_open;
       telling = a.tells (given_of look start) began (is_of look start words _ r.drawn) (settled_telling (given_of look start) from words.place book old began told s r.telling);
-      drawn = a.drawn ∙ ap (λ (d : Drawn). record d { place = words.place + 1 }) r.drawn ∙ ap (λ n. record start { place = n }) (sym more);
+      drawn = a.drawn ∙ ap (λ (d : WordsState). record d { place = words.place + 1 }) r.drawn ∙ ap (λ n. record start { place = n }) (sym more);
       same_seeds = a.same_seeds ∙ settled_seeds book old s ∙ r.same_seeds;
       few = a.few;
       few_strays = (let x = r.few_strays in let y = a.strays in omega (arith, x, y));
       few_receives = (let x = r.few_receives in let y = a.receives in omega (arith, x, y));
     }
 
-pub asked_less : (look : LookSetting) (words words' : Drawn) (from to : Stand) (book old new : BookState) (told told' : Option (List Event)) → from.query ≡ None → Settled book old → AsksOne look from to words words' old new told told' → 3 * (256 - length (asked new.journal)) + weight_of to < 3 * (256 - length (asked book.journal)) + weight_of from
+pub asked_less : (look : LookSetting) (words words' : WordsState) (from to : Stand) (book old new : BookState) (told told' : Option (List Event)) → from.query ≡ None → Settled book old → AsksOne look from to words words' old new told told' → 3 * (256 - length (asked new.journal)) + weight_of to < 3 * (256 - length (asked book.journal)) + weight_of from
 asked_less look words words' from to book old new told told' idle s a =
     let same = ap length (settled_asked book old s) in
     let one = a.one_more in
@@ -122,7 +122,7 @@ done_tells g stand place J K a b c idle same is h =
     subst (λ o. Grows a o (λ es. Tells g K es)) (sym is)
     (grows_weaker a b _ _ (subst (λ L. Telling g stand place L a b) (sym same) h) (λ es p. record { end = p.end; so_far = p.so_far; none_open = p.stands.queries ∙ ap queries_of idle }))
 
-pub looked_up : (look : LookSetting) (start words words' : Drawn) (stand : Stand) (book old new : BookState) (cs : List Contact) (began told told' : Option (List Event)) (o : Outcome) → InRound look start words stand book cs began told → stand.query ≡ None → Settled book old → HasRunOut words words' old new told told' → IsDone new o → LooksUp look cs start words' began told' o
+pub looked_up : (look : LookSetting) (start words words' : WordsState) (stand : Stand) (book old new : BookState) (cs : List Contact) (began told told' : Option (List Event)) (o : Outcome) → InRound look start words stand book cs began told → stand.query ≡ None → Settled book old → HasRunOut words words' old new told told' → IsDone new o → LooksUp look cs start words' began told' o
 looked_up look start words words' stand book old new cs began told told' o r idle s over done =
     let setting : new.setting ≡ look.setting = ap (λ (b : BookState). b.setting) over.book ∙ s.setting ∙ r.setting in
     let journal : o.journal ≡ old.journal = done.journal ∙ ap (λ (b : BookState). b.journal) over.book in

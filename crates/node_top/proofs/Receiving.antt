@@ -11,7 +11,7 @@ use Rattle.kad_base.specs.Outside.{Grows}
 use Rattle.kad_base.proofs.Grown.{grows_then}
 use Rattle.kad_base.specs.Contacts.{among}
 use Rattle.kad_distance.specs.KClosest.{k_closest}
-use Rattle.id_puzzles.specs.Drawn.{Drawn}
+use Rattle.id_puzzles.specs.Drawn.{WordsState}
 use Rattle.claim_book.specs.declared.plain.Setting.{Setting}
 use Rattle.claim_book.specs.declared.plain.Entry.{Entry}
 use Rattle.claim_book.specs.Journal.{asked, alive, open_on, may_ask}
@@ -170,7 +170,7 @@ weight_most stand =
     let b = one_at_most (is_some stand.query && nat_lt 0 stand.receives) in
     omega (arith, a, b)
 
-waiting_of : (look : LookSetting) (g : Given) (words : Drawn) (from : Stand) (q : Query) (old : BookState) (until : ℕ) → IsOf g look words → from.query ≡ Some q → open_on 0 old.journal ≡ q.contact ∷ [] → look.setting.paths ≡ 1 → look.setting.alpha ≡ 1 → until ≡ waits_until from.receives q.deadline from.moment → Waiting g from q old.journal until
+waiting_of : (look : LookSetting) (g : Given) (words : WordsState) (from : Stand) (q : Query) (old : BookState) (until : ℕ) → IsOf g look words → from.query ≡ Some q → open_on 0 old.journal ≡ q.contact ∷ [] → look.setting.paths ≡ 1 → look.setting.alpha ≡ 1 → until ≡ waits_until from.receives q.deadline from.moment → Waiting g from q old.journal until
 waiting_of look g words from q old until is query open_one path one until_is = record {
   query = query;
   one_path = ap (λ (s : Setting). s.paths) is.setting ∙ path;

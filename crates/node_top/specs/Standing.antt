@@ -7,7 +7,7 @@ use Rattle.kad_base.specs.Outside.{Grows}
 use Rattle.kad_base.specs.declared.plain.Event.TheVariants.{Sent, Unsent}
 use Rattle.kad_base.specs.Words.{word}
 use Rattle.kad_krpc.specs.Form.{form, find_node_query}
-use Rattle.id_puzzles.specs.Drawn.{Drawn}
+use Rattle.id_puzzles.specs.Drawn.{WordsState}
 use Rattle.claim_book.specs.declared.plain.Setting.{Setting}
 use Rattle.claim_book.specs.declared.plain.Entry.{Entry}
 use Rattle.claim_book.specs.declared.plain.Entry.TheVariants.{Ask}
@@ -82,7 +82,7 @@ asked_more book None = book
 asked_more book (Some c) = added book (Ask 0 c)
 
 -- the query of the lookup went to the contact under the next drawn word, or could not be sent
-abbrev pub HasSent : Setting → ℕ → ℕ → Contact → Drawn → Option (List Event) → Option (List Event) → Option Query → Type 0
+abbrev pub HasSent : Setting → ℕ → ℕ → Contact → WordsState → Option (List Event) → Option (List Event) → Option Query → Type 0
 HasSent setting timeout now c words old new None =
     Grows old new (λ es. es ≡ Unsent c.addr (form (find_node_query setting.own setting.target (word words.seed words.place))) ∷ [])
 HasSent setting timeout now c words old new (Some q) =
@@ -90,18 +90,18 @@ HasSent setting timeout now c words old new (Some q) =
     × (q ≡ record { contact = c; tx = word words.seed words.place; deadline = deadline_of now timeout })
 
 -- the events are told of a lookup with this setting and these words
-pub record IsOf (g : Given) (look : LookSetting) (words : Drawn) : Type 0 where
+pub record IsOf (g : Given) (look : LookSetting) (words : WordsState) : Type 0 where
   pub setting : g.setting ≡ look.setting
   pub timeout : g.timeout ≡ look.timeout
   pub seed : g.seed ≡ words.seed
 
 -- from one stand to the next: what was told goes on being told
-abbrev pub TellsOn : LookSetting → Stand → Stand → Drawn → Drawn → BookState → BookState → Option (List Event) → Option (List Event) → Type 0
+abbrev pub TellsOn : LookSetting → Stand → Stand → WordsState → WordsState → BookState → BookState → Option (List Event) → Option (List Event) → Type 0
 TellsOn look from to words words' old new told told' =
     (g : Given) (began : Option (List Event)) → IsOf g look words → Telling g from words.place old.journal began told → Telling g to words'.place new.journal began told'
 
 -- one contact more was asked
-pub record AsksOne (look : LookSetting) (from to : Stand) (words words' : Drawn) (old new : BookState) (told told' : Option (List Event)) : Type 0 where
+pub record AsksOne (look : LookSetting) (from to : Stand) (words words' : WordsState) (old new : BookState) (told told' : Option (List Event)) : Type 0 where
   pub drawn : words' ≡ record words { place = words.place + 1 }
   pub setting : new.setting ≡ old.setting
   pub is_open : open_on 0 new.journal ≡ contacts_of to.query
@@ -113,7 +113,7 @@ pub record AsksOne (look : LookSetting) (from to : Stand) (words words' : Drawn)
   pub tells : TellsOn look from to words words' old new told told'
 
 -- the path has run out, and nothing changed
-pub record HasRunOut (words words' : Drawn) (old new : BookState) (told told' : Option (List Event)) : Type 0 where
+pub record HasRunOut (words words' : WordsState) (old new : BookState) (told told' : Option (List Event)) : Type 0 where
   pub over : RunOut old.setting 0 old.journal
   pub drawn : words' ≡ words
   pub book : new ≡ old
@@ -160,7 +160,7 @@ pub record ReceivesOne (look : LookSetting) (from to : Stand) (old new : BookSta
   pub less : weight_of to < weight_of from
   pub few_strays : to.strays < 1000000
   pub few_receives : to.receives < 32
-  pub tells : (words : Drawn) → TellsOn look from to words words old new told told'
+  pub tells : (words : WordsState) → TellsOn look from to words words old new told told'
 
 -- after a stray: where the lookup stands, and what its book has
 pub record TakesStray (q : Query) (at : ℕ) (from to : Stand) (old new : BookState) : Type 0 where
@@ -173,10 +173,10 @@ pub record TakesStray (q : Query) (at : ℕ) (from to : Stand) (old new : BookSt
 -- the events end with the last stray that a lookup takes
 abbrev pub EndsByStray : LookSetting → Stand → BookState → Option (List Event) → Option (List Event) → Type 0
 EndsByStray look from old told told' =
-    (g : Given) (words : Drawn) (began : Option (List Event)) → IsOf g look words → Telling g from words.place old.journal began told → Grows began told' (λ events. EndsAtStray g events 1000000)
+    (g : Given) (words : WordsState) (began : Option (List Event)) → IsOf g look words → Telling g from words.place old.journal began told → Grows began told' (λ events. EndsAtStray g events 1000000)
 
 -- the events of a lookup that starts here
-abbrev pub given_of : LookSetting → Drawn → Given
+abbrev pub given_of : LookSetting → WordsState → Given
 given_of look words = record { setting = look.setting; timeout = look.timeout; seed = words.seed; place = words.place }
 
 -- what the book that has run out found
@@ -189,7 +189,7 @@ pub record IsDone (book : BookState) (outcome : Outcome) : Type 0 where
 
 -- a whole lookup: its journal is legal, starts with the seeds, is what the link's events tell, and has run out; what
 -- was found is its result, and each word that was drawn went to one contact
-pub record LooksUp (look : LookSetting) (starts : List Contact) (words words' : Drawn) (told told' : Option (List Event)) (outcome : Outcome) : Type 0 where
+pub record LooksUp (look : LookSetting) (starts : List Contact) (words words' : WordsState) (told told' : Option (List Event)) (outcome : Outcome) : Type 0 where
   pub legal : Legal look.setting outcome.journal
   pub seeds_are : seeds outcome.journal ≡ starts
   pub tells : Grows told told' (λ events. Tells (given_of look words) outcome.journal events)

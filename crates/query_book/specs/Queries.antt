@@ -2,11 +2,12 @@
 use Rattle.std.specs.Prelude.{◌≡◌, ◌≢◌, ℕ, ◌+◌, ◌%◌, ◌^◌, ◌<◌, ◌≤◌, List, ◌∷◌, length, Any, AllPairs, Some, slice_get, remove}
 use Rattle.kad_base.specs.declared.plain.Addr.{Addr}
 use Rattle.kad_base.specs.declared.plain.Contact.{Contact}
+use Rattle.kad_base.specs.Limits.{max_open}
 use Rattle.query_book.specs.declared.Query.{Query}
 
 -- there are at most 32, no two have one transaction id, and none is due before an older one
 pub record IsQueries (queries : List Query) : Type 0 where
-  pub few : length queries ≤ 32
+  pub few : length queries ≤ max_open
   pub ids : AllPairs (λ a b. a.tx ≢ b.tx) queries
   pub deadlines : AllPairs (λ a b. a.deadline ≤ b.deadline) queries
 

@@ -8,6 +8,7 @@ mod tests;
 
 ghost use Rattle.std.specs.Prelude.{◌≡◌, ◌<◌, ◌≤◌, ◌↔◌, [], ◌∷◌, ◌++◌, length, All, Any, IfOk, OnErr, IsErr, IsTrue, IfSome, IfNone, IsNone, slice_get};
 ghost use Rattle.std.specs.Option.{option_map};
+ghost use Rattle.kad_base.specs.Limits.{max_open};
 
 use arrayvec::ArrayVec;
 use kad_base::limits::MAX_OPEN;
@@ -94,7 +95,7 @@ impl Queries {
         requires { All (λ q. q.deadline ≤ deadline) self.old }
         ensures opened { IfOk result (λ tx. self.new ≡ self.old ++ record { tx = tx; contact = contact; deadline = deadline } ∷ []) }
         ensures id { IfOk result (IsFirstFree self.old word) }
-        ensures full { IsErr result ↔ (length self.old ≡ 32) }
+        ensures full { IsErr result ↔ (length self.old ≡ max_open) }
         ensures err { OnErr result (self.new ≡ self.old) }
     {
         if self.queries.is_full() {

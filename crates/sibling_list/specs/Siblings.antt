@@ -4,6 +4,7 @@ use Rattle.std.specs.Prelude.{◌≢◌, ◌≤◌, List, ◌∷◌, [], ◌++�
 use Rattle.std.specs.List.{All}
 use Rattle.std.specs.List.Sorted.{IsStrictlySortedBy}
 use Rattle.std.specs.Str.{bytes_eq}
+use Rattle.kad_base.specs.Limits.{max_siblings}
 use Rattle.kad_base.specs.declared.plain.Id.{Id}
 use Rattle.kad_base.specs.declared.plain.Contact.{Contact}
 use Rattle.kad_base.specs.Contacts.{same}
@@ -18,13 +19,13 @@ pub record SiblingList : Type 0 where
 -- none has the own identifier, at most 16 are there, and each is closer to it than those behind it
 pub record IsSiblings (s : SiblingList) : Type 0 where
   pub sorted : IsStrictlySortedBy (closeness s.own) s.list
-  pub few : length s.list ≤ 16
+  pub few : length s.list ≤ max_siblings
   pub others : All (λ (c : Contact). c.id ≢ s.own) s.list
 
 -- a contact more: of those that are there and this one the 16 closest to the own identifier, which itself is never
 -- among them
 abbrev pub with_one : SiblingList → Contact → List Contact
-with_one s c = cond (bytes_eq c.id.0 s.own.0) s.list (k_closest s.own 16 (s.list ++ c ∷ []))
+with_one s c = cond (bytes_eq c.id.0 s.own.0) s.list (k_closest s.own max_siblings (s.list ++ c ∷ []))
 
 -- all but this contact
 abbrev pub without_one : SiblingList → Contact → List Contact

@@ -7,7 +7,7 @@ use Rattle.std.specs.List.Sorted.{IsPermutation}
 use Rattle.std.proofs.lemmas.List.Sorted.{IsPermutation-refl, IsPermutation-trans, IsPermutation-append_right, IsPermutation-filter_both}
 use Rattle.kad_base.specs.declared.serial.Made.{Made}
 use Rattle.kad_base.specs.Serial.{calls_of}
-use Rattle.turn_book.specs.Turns.{Holder, mine}
+use Rattle.turn_book.specs.Turns.{PassState, mine}
 use Rattle.turn_book.specs.Rule.{Each, total, either_of}
 
 module _ {C R : Type 0} where
@@ -15,7 +15,7 @@ module _ {C R : Type 0} where
   others_of r run = filter (λ e. not (eqb e.role r)) run
 
   -- how many of the passes have the role
-  abbrev pub holders : ℕ → List (Holder C R) → ℕ
+  abbrev pub holders : ℕ → List (PassState C R) → ℕ
   holders r ps = total (λ p. either_of (eqb p.role r)) ps
 
   -- the calls of one role stand among those of all roles but another
@@ -33,7 +33,7 @@ module _ {C R : Type 0} where
       (λ here. subst (λ (b : Bool). Each Q (cond (not b) (e ∷ others_of r run) (others_of r run))) (sym (eq-eqb e.role r here)) rest)
       (λ other. subst (λ (b : Bool). Each Q (cond (not b) (e ∷ others_of r run) (others_of r run))) (sym (ne_eqb e.role r other)) (f e other a.0, rest))
 
-  same_shares : (r : ℕ) (run : List (Made C R)) (ps : List (Holder C R)) → holders r ps ≡ 0 → flat_map (λ (p : Holder C R). calls_of p.role (others_of r run)) ps ≡ flat_map (λ (p : Holder C R). calls_of p.role run) ps
+  same_shares : (r : ℕ) (run : List (Made C R)) (ps : List (PassState C R)) → holders r ps ≡ 0 → flat_map (λ (p : PassState C R). calls_of p.role (others_of r run)) ps ≡ flat_map (λ (p : PassState C R). calls_of p.role run) ps
   same_shares r run [] none_has = refl
   same_shares r run (p ∷ ps) none_has =
       let other : p.role ≢ r = λ here. (let on = ap either_of (eq-eqb p.role r here) in absurd (omega arith)) in
@@ -42,7 +42,7 @@ module _ {C R : Type 0} where
       λ i. one i ++ rest i
 
   -- where no two passes have one role, and each call is of a pass's role
-  pub shares : (ps : List (Holder C R)) (run : List (Made C R)) → ((r : ℕ) → holders r ps ≤ 1) → Each (λ e. 1 ≤ holders e.role ps) run → IsPermutation run (flat_map (λ (p : Holder C R). calls_of p.role run) ps)
+  pub shares : (ps : List (PassState C R)) (run : List (Made C R)) → ((r : ℕ) → holders r ps ≤ 1) → Each (λ e. 1 ≤ holders e.role ps) run → IsPermutation run (flat_map (λ (p : PassState C R). calls_of p.role run) ps)
   shares [] [] one known = IsPermutation-refl []
   shares [] (e ∷ run) one known = absurd (let k = known.0 in omega arith)
   shares (p ∷ ps) run one known =
@@ -54,6 +54,6 @@ module _ {C R : Type 0} where
       IsPermutation-trans _ _ _ (IsPermutation-filter_both (λ (e : Made C R). eqb e.role p.role) (λ (e : Made C R). not (eqb e.role p.role)) (λ e. refl) run)
       (IsPermutation-append_right (calls_of p.role run) _ _ (subst (IsPermutation (others_of p.role run)) (same_shares p.role run ps none_has) rest))
 
-  pub all_mine : (run : List (Made C R)) (ps : List (Holder C R)) → Each (λ p. mine p ≡ calls_of p.role run) ps → flat_map (λ (p : Holder C R). calls_of p.role run) ps ≡ flat_map mine ps
+  pub all_mine : (run : List (Made C R)) (ps : List (PassState C R)) → Each (λ p. mine p ≡ calls_of p.role run) ps → flat_map (λ (p : PassState C R). calls_of p.role run) ps ≡ flat_map mine ps
   all_mine run [] a = refl
   all_mine run (p ∷ ps) a = let rest = all_mine run ps a.1 in λ i. sym a.0 i ++ rest i

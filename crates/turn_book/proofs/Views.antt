@@ -9,7 +9,7 @@ use Rattle.atomic_table.specs.Table.{State, Me, Final, Seen}
 use Rattle.kad_base.specs.Serial.{left_by}
 use Rattle.turn_book.specs.declared.board.Part.{Part}
 use Rattle.turn_book.specs.declared.board.View.{View}
-use Rattle.turn_book.specs.Turns.{Origin, Holder, fresh, all_fresh, AreAll, Closed}
+use Rattle.turn_book.specs.Turns.{TurnState, PassState, fresh, all_fresh, AreAll, Closed}
 use Rattle.std.proofs.lemmas.List.FromFn.{length-map-range_with_len}
 use Rattle.std.proofs.lemmas.List.Elements.{All-map}
 use Rattle.turn_book.specs.Rule.{either_of, has, part, view, roles_from, without_first, only_first, part_of, Kept}
@@ -34,28 +34,28 @@ module _ {S C R : Type 0} where
       (ap (λ (z : Stood S C R). z.0.marked) e, ap (λ (z : Stood S C R). (without_first z.0, z.1)) e, ap (λ (z : Stood S C R). only_first z.0) e)
 
   -- the parts of one view go before those of another
-  pub gathered : (p : Holder C R) (done : List (Holder C R)) (m w : Stood S C R) → m ≡ (view (part_of p ∷ []) false, []) → w ≡ (view (map part_of done) false, [])
+  pub gathered : (p : PassState C R) (done : List (PassState C R)) (m w : Stood S C R) → m ≡ (view (part_of p ∷ []) false, []) → w ≡ (view (map part_of done) false, [])
       → ◌≡◌ {A = Stood S C R} (view (m.0.parts ++ w.0.parts) false, m.1) (view (map part_of (p ∷ done)) false, [])
   gathered p done m w is all = λ i. (view ((is i).0.parts ++ (all i).0.parts) false, (is i).1)
 
 module _ {C R : Type 0} where
-  parts_long : (ps : List (Holder C R)) → length (map part_of ps) ≡ length ps
+  parts_long : (ps : List (PassState C R)) → length (map part_of ps) ≡ length ps
   parts_long [] = refl
   parts_long (p ∷ ps) = ap suc (parts_long ps)
 
   -- the passes that are dealt out are all
-  pub all_are : {S : Type 0} (t : Origin S) → AreAll {C = C} {R = R} t (all_fresh t)
+  pub all_are : {S : Type 0} (t : TurnState S) → AreAll {C = C} {R = R} t (all_fresh t)
   all_are t = record {
     count = length-map-range_with_len (fresh t.id) 0 t.roles;
-    own = All-map (λ (p : Holder C R). p.turn ≡ t.id) (fresh t.id) (range_with_len 0 t.roles) (λ k d lt. refl);
+    own = All-map (λ (p : PassState C R). p.turn ≡ t.id) (fresh t.id) (range_with_len 0 t.roles) (λ k d lt. refl);
   }
 
-module _ {S C R : Type 0} (may : ℕ → C → Type 0) (move : S → ℕ → C → R → Type 0) (after : S → ℕ → C → R → S) (t : Origin S) where
+module _ {S C R : Type 0} (may : ℕ → C → Type 0) (move : S → ℕ → C → R → Type 0) (after : S → ℕ → C → R → S) (t : TurnState S) where
   abbrev Rule : State S (View C R) → Type 0
   Rule = Kept may move after t.start t.roles
 
   -- as many parts as there are roles are one of each
-  all_roles : (id : ℕ) (ps : List (Holder C R)) (s : State S (View C R)) → Rule s → get_elem? s.views id ≡ some (view (map part_of ps) false) → length ps ≡ t.roles → (role : ℕ) → role < t.roles → 1 ≤ has role (view (map part_of ps) false)
+  all_roles : (id : ℕ) (ps : List (PassState C R)) (s : State S (View C R)) → Rule s → get_elem? s.views id ≡ some (view (map part_of ps) false) → length ps ≡ t.roles → (role : ℕ) → role < t.roles → 1 ≤ has role (view (map part_of ps) false)
   all_roles id ps s r at long role below =
       let v : View C R = view (map part_of ps) false in
       holds_every (λ (p : Part C R). p.role) t.roles (map part_of ps) (parts_long ps ∙ long)
@@ -64,7 +64,7 @@ module _ {S C R : Type 0} (may : ℕ → C → Type 0) (move : S → ℕ → C �
       role below
 
   -- while one seat has all roles and is not marked, the slot is at home
-  at_rest : (id : ℕ) (ps : List (Holder C R)) (s : State S (View C R)) (r : Rule s) → get_elem? s.views id ≡ some (view (map part_of ps) false) → length ps ≡ t.roles → r.busy ≡ 0
+  at_rest : (id : ℕ) (ps : List (PassState C R)) (s : State S (View C R)) (r : Rule s) → get_elem? s.views id ≡ some (view (map part_of ps) false) → length ps ≡ t.roles → r.busy ≡ 0
   at_rest id ps s r at long = dite (ℕ_discrete r.busy 1)
       (λ busy.
       let o = r.owner busy in
@@ -78,7 +78,7 @@ module _ {S C R : Type 0} (may : ℕ → C → Type 0) (move : S → ℕ → C �
       absurd (omega arith))
       (λ free. let b = r.bit in omega arith)
 
-  pub ends : (id : ℕ) (ps : List (Holder C R)) (me : Stood S C R) (words : List ℕ) (slots : List S) (word : ℕ) (state : S) → me ≡ (view (map part_of ps) false, []) → AreAll t ps
+  pub ends : (id : ℕ) (ps : List (PassState C R)) (me : Stood S C R) (words : List ℕ) (slots : List S) (word : ℕ) (state : S) → me ≡ (view (map part_of ps) false, []) → AreAll t ps
       → Final (Seen Rule id me.0) words slots → get_elem? words 0 ≡ some word → get_elem? slots 0 ≡ some state → Closed may move after t ps state (word / 2)
   ends id ps me words slots word state me_is all f at_word at_slot =
       let s = f.0 in

@@ -7,7 +7,7 @@ use Rattle.atomic_table.specs.Table.{State, Me, Step}
 use Rattle.kad_base.specs.declared.serial.Made.{Made}
 use Rattle.kad_base.specs.Serial.{made, calls_of, left_by, IsRun}
 use Rattle.atomic_table.specs.Seated.{TableId}
-use Rattle.turn_book.specs.Turns.{Origin, Holder, IsPrefix}
+use Rattle.turn_book.specs.Turns.{TurnState, PassState, IsPrefix}
 use Rattle.turn_book.specs.declared.board.Opening.{Opening}
 use Rattle.turn_book.specs.declared.board.Part.{Part}
 use Rattle.turn_book.specs.declared.board.View.{View}
@@ -160,11 +160,11 @@ module _ {S C R : Type 0} (may : ℕ → C → Type 0) (step : S → ℕ → C �
 
 module _ {C R : Type 0} where
   -- the part of a pass
-  abbrev pub part_of : Holder C R → Part C R
+  abbrev pub part_of : PassState C R → Part C R
   part_of p = part p.role p.seen
 
 -- what contracts see of a turn, by its table and what that was told when it was made
-abbrev pub origin_of : {S : Type 0} → TableId → Opening S → Origin S
+abbrev pub origin_of : {S : Type 0} → TableId → Opening S → TurnState S
 origin_of id about = record { id = id; start = about.state.value; roles = about.roles }
 
 -- the table of a turn

@@ -7,20 +7,20 @@ use Rattle.kad_base.specs.declared.serial.Made.{Made}
 use Rattle.kad_base.specs.Serial.{calls_of, left_by, IsRun}
 
 -- a turn: which one it is, the state that it opened with, and how many roles it has
-pub record Origin (S : Type 0) : Type 0 where
+pub record TurnState (S : Type 0) : Type 0 where
   pub id : TableId
   pub start : S
   pub roles : ℕ
 
 -- a pass: of which turn, in which role, and the beginning of the run that its holder has seen
-pub record Holder (C R : Type 0) : Type 0 where
+pub record PassState (C R : Type 0) : Type 0 where
   pub turn : TableId
   pub role : ℕ
   pub seen : List (Made C R)
 
 -- passes in a row, and how many have room
 pub record Row (C R : Type 0) : Type 0 where
-  pub passes : List (Holder C R)
+  pub passes : List (PassState C R)
   pub room : ℕ
 
 -- the longer list begins with the shorter
@@ -33,26 +33,26 @@ GoesOnTo {A} x xs ys = (between : List A) × (ys ≡ (xs ++ between) ++ x ∷ []
 
 module _ {C R : Type 0} where
   -- a pass that has seen nothing yet
-  abbrev pub fresh : TableId → ℕ → Holder C R
+  abbrev pub fresh : TableId → ℕ → PassState C R
   fresh turn role = record { turn = turn; role = role; seen = [] }
 
   -- one for each role, in order
-  abbrev pub all_fresh : {S : Type 0} → Origin S → List (Holder C R)
+  abbrev pub all_fresh : {S : Type 0} → TurnState S → List (PassState C R)
   all_fresh turn = map (fresh turn.id) (range_with_len 0 turn.roles)
 
   -- the calls of the pass's own role among those that it has seen
-  abbrev pub mine : Holder C R → List (Made C R)
+  abbrev pub mine : PassState C R → List (Made C R)
   mine p = calls_of p.role p.seen
 
   -- as many passes of the turn as it has roles: a pass can't be copied, so these are all
-  pub record AreAll {S : Type 0} (turn : Origin S) (passes : List (Holder C R)) : Type 0 where
+  pub record AreAll {S : Type 0} (turn : TurnState S) (passes : List (PassState C R)) : Type 0 where
     pub count : length passes ≡ turn.roles
     pub own : All (λ p. p.turn ≡ turn.id) passes
 
 module _ {S C R : Type 0} (may : ℕ → C → Type 0) (step : S → ℕ → C → R → Type 0) (after : S → ℕ → C → R → S) where
   -- Herlihy and Wing (1990): one sequential run explains all calls. It leads from the opening state to the one handed
   -- back, each pass has seen a beginning of it, and it has the passes' own calls, each once and each pass's in order
-  pub record Closed (turn : Origin S) (passes : List (Holder C R)) (state : S) (calls : ℕ) : Type 0 where
+  pub record Closed (turn : TurnState S) (passes : List (PassState C R)) (state : S) (calls : ℕ) : Type 0 where
     pub run : List (Made C R)
     pub legal : IsRun may step after turn.start run
     pub left : state ≡ left_by after turn.start run

@@ -20,10 +20,10 @@ pub struct Turn<S: Serial> {
 }
 
 impl<S: Serial> Model for Turn<S> {
-    ghost use Rattle.turn_book.specs.Turns.{Origin};
+    ghost use Rattle.turn_book.specs.Turns.{TurnState};
     ghost use Rattle.turn_book.specs.Rule.{origin_of, IsBoard};
 
-    ghost Value = { Origin S };
+    ghost Value = { TurnState S };
 
     ghost view = { λ t. origin_of t.board.shared.table_id t.board.shared.key };
 

@@ -17,9 +17,9 @@ pub struct Pass<S: Serial> {
 
 impl<S: Serial> Model for Pass<S> {
     ghost use Rattle.turn_book.specs.Rule.{IsIdle, seen_by};
-    ghost use Rattle.turn_book.specs.Turns.{Holder};
+    ghost use Rattle.turn_book.specs.Turns.{PassState};
 
-    ghost Value = { Holder S.Call S.Reply };
+    ghost Value = { PassState S.Call S.Reply };
 
     ghost view = { λ p. record { turn = p.seat.table_id; role = p.role; seen = seen_by p.seat.me } };
 

@@ -1,6 +1,6 @@
 use Rattle.std.proofs.Common.{ℕ, ◌≡◌, ◌*◌, ◌/◌, ◌+◌, ap, ◌∙◌, arith, below_more}
 use Rattle.std.proofs.lemmas.Grind.{common_steps}
-use Rattle.id_puzzles.specs.Drawn.{Drawn}
+use Rattle.id_puzzles.specs.Drawn.{WordsState}
 use Rattle.id_puzzles.proofs.Drawing.{key_drawn, key_tested}
 use Rattle.id_puzzles.proofs.minting.first_key.Goals as goal
 
@@ -30,7 +30,7 @@ loop-preserved c =
     let next : 8 * c.loop.counter + 32 / 4 ≡ 8 * (c.loop.counter + 1) = omega arith in
     record {
       words = c.fill.ensures.place ∙ ap (λ (n : ℕ). record c.loop.words { place = c.loop.words.place + n / 4 }) c.loop.invariant.len
-          ∙ ap (λ (d : Drawn). record d { place = d.place + 32 / 4 }) c.loop.invariant.words ∙ ap (λ (n : ℕ). record { seed = seed; place = n }) next;
+          ∙ ap (λ (d : WordsState). record d { place = d.place + 32 / 4 }) c.loop.invariant.words ∙ ap (λ (n : ℕ). record { seed = seed; place = n }) next;
       len = grind (arith, common_steps);
       none_before = below_more _ _ c.loop.invariant.none_before (λ here. let found = c.solves_static.ensures.1 (test.1 here) in absurd cc);
     }

@@ -1,6 +1,6 @@
 use Rattle.std.proofs.Common.{rules, ◌≡◌, ◌∷◌, [], ◌++◌, ◌∙◌, sym, ap, length, arith, length-append}
 use Rattle.std.proofs.lemmas.List.FromFn.{map-range_with_len_more}
-use Rattle.turn_book.specs.Turns.{Holder, fresh}
+use Rattle.turn_book.specs.Turns.{PassState, fresh}
 use Rattle.turn_book.proofs.Steps.{deals}
 use Rattle.turn_book.proofs.Views.{dealt}
 use Rattle.turn_book.proofs.seats.deal.Goals as goal
@@ -20,7 +20,7 @@ loop-role-preserved g c =
     let was = c.loop-role.invariant in
     let given = c.split_seat-given.ensures in
     let d = dealt c.loop-role.role c.args.roles c.loop-role.seat.me (search rules) was.rest in
-    let p : Holder g.row.S-Call.Denot g.row.S-Reply.Denot = c.new.result in
+    let p : PassState g.row.S-Call.Denot g.row.S-Reply.Denot = c.new.result in
     let same : p ≡ fresh t c.loop-role.role = c.new.ensures ∙ (λ i. fresh ((given.3 ∙ was.own) i) c.loop-role.role) in
     let pushed = c.push_reserved.ensures.items in
     let passes = pushed ∙ ((λ i. was.passes i ++ same i ∷ []) ∙ sym (map-range_with_len_more (fresh t) 0 c.loop-role.role c.loop-role.role (omega arith))) in

@@ -1,5 +1,5 @@
 use Rattle.std.proofs.Common.{◌∙◌, map, false, []}
-use Rattle.turn_book.specs.Turns.{Origin, AreAll}
+use Rattle.turn_book.specs.Turns.{TurnState, AreAll}
 use Rattle.turn_book.specs.Rule.{view, part_of, origin_of}
 use Rattle.turn_book.proofs.Views.{ends}
 use Rattle.turn_book.proofs.lock.Turn.close.Goals as goal
@@ -7,7 +7,7 @@ use Rattle.turn_book.proofs.lock.Turn.close.Goals as goal
 pub returns : goal.returns
 returns g c =
     let shared = c.self.inside.board.shared in
-    let t : Origin g.row.S.Denot = origin_of shared.table_id shared.key in
+    let t : TurnState g.row.S.Denot = origin_of shared.table_id shared.key in
     let ps = c.args.passes.passes in
     let listed = c.into_list.ensures in
     let all : AreAll t ps = rw c.self.view_is c.requires in

@@ -1,6 +1,6 @@
 use Rattle.std.proofs.Common.{rules, ◌≡◌, List, [], ◌∷◌, ◌++◌, ◌∙◌, sym, ap, subst}
 use Rattle.atomic_table.specs.Table.{opening}
-use Rattle.turn_book.specs.Turns.{Origin, all_fresh, AreAll}
+use Rattle.turn_book.specs.Turns.{TurnState, all_fresh, AreAll}
 use Rattle.turn_book.specs.Rule.{Kept, newcomer, origin_of}
 use Rattle.turn_book.proofs.Views.{all_are}
 use Rattle.turn_book.proofs.Steps.{starts}
@@ -16,6 +16,6 @@ new-requires g c =
 pub returns-in-Ok-new-clause-all : goal.returns-in-Ok-new-clause-all
 returns-in-Ok-new-clause-all g c =
     let shared = c.in-Ok-new.board.shared in
-    let t : Origin g.row.S.Denot = origin_of shared.table_id shared.key in
+    let t : TurnState g.row.S.Denot = origin_of shared.table_id shared.key in
     let passes : c.with_room.result.passes ≡ all_fresh t = search rules in
     subst (AreAll t) (sym passes) (all_are t)
