@@ -140,7 +140,7 @@ seen-kept own k b c row Spared after some is here other whole s =
     rw (s.2) (spared-kept own k b c row some is here other s.0 s.1 (stays-whole own k b c.id row whole s.0 s.1), refl)
 seen-kept own k b c row Own after some is here other whole s = absurd s
 
-mark-contacts : (c : Contact) (live : List Entry) → map contact_of (map (mark c) live) ≡ map contact_of live
+pub mark-contacts : (c : Contact) (live : List Entry) → map contact_of (map (mark c) live) ≡ map contact_of live
 mark-contacts c [] = refl
 mark-contacts c (e ∷ live) = go (same c e.contact) (mark-contacts c live)
   where

@@ -64,7 +64,7 @@ module _ (own : Id) (k b : ℕ) where
   pub sound-row : (id : Id) (rows : List RowState) (at : ℕ) (here : IsRowAt id rows at) → SoundRows own k b rows → IsRow own k b here.row
   sound-row id rows at here s = all-here (IsRow own k b) here.front here.row here.back (subst (All (IsRow own k b)) here.rows_are s.each)
 
-  sound-put : (front : List RowState) (row row' : RowState) (back : List RowState) → SoundRows own k b (front ++ row ∷ back) → IsRow own k b row' → row'.prefix ≡ row.prefix → SoundRows own k b (front ++ row' ∷ back)
+  pub sound-put : (front : List RowState) (row row' : RowState) (back : List RowState) → SoundRows own k b (front ++ row ∷ back) → IsRow own k b row' → row'.prefix ≡ row.prefix → SoundRows own k b (front ++ row' ∷ back)
   sound-put front row row' back s is e =
       let prefixes : prefixes_of (front ++ row ∷ back) ≡ prefixes_of (front ++ row' ∷ back) =
       prefixes-at front row back ∙ ap (λ (p : List Bool). prefixes_of front ++ p ∷ prefixes_of back) (sym e) ∙ sym (prefixes-at front row' back) in

@@ -64,7 +64,7 @@ not-leb a b lt = go (nat_le a b) refl
     go true e = let le = leb-true a b e in absurd (omega (arith, le, lt))
     go false e = e
 
-unknown : (row : RowState) (c : Contact) → knows_id row c.id ≡ false → knows row c ≡ false
+pub unknown : (row : RowState) (c : Contact) → knows_id row c.id ≡ false → knows row c ≡ false
 unknown row c e = any-map contact_of (same c) row.live ∙ any-less (λ (x : Entry). same c x.contact) (λ (x : Entry). same_id x.contact.id c.id) (λ x s. same_id-contact c x.contact s) row.live e
 
 taken-is : (k : ℕ) (c : Contact) (row row' : RowState) (seen : Seen) → RowSeen k c row seen row' → row' ≡ taken k c row
@@ -92,7 +92,7 @@ module _ (own : Id) (k b : ℕ) where
   whole-row (suc n) c row w = ap (λ (t : Bool). cond t (put_rows (seen_row n own k b c) c.id (half false row ∷ half true row ∷ [])) (taken k c row ∷ [])) (needs-false c.id row w)
 
   -- some row covers the contact that is seen by a row
-  some-covers : (c : Contact) (rows after : List RowState) (seen : Seen) → SeenStep own k b c rows seen after → same_id c.id own ≡ false → 1 ≤ length (filter (covers c.id) rows)
+  pub some-covers : (c : Contact) (rows after : List RowState) (seen : Seen) → SeenStep own k b c rows seen after → same_id c.id own ≡ false → 1 ≤ length (filter (covers c.id) rows)
   some-covers c rows after seen (is_own e) other = absurd cc
   some-covers c rows after seen (in_row front back row row' o e here w s f) other = there front back row e here
     where
@@ -138,23 +138,23 @@ failed-row-is c row row' Replaced s = replaced-is c row row' s.1
 failed-row-is c row row' Unknown s = s.1
 
 -- the covering row alone decides, so no other does
-one-row : (id : Id) (front : List RowState) (row : RowState) (back : List RowState) → length (filter (covers id) (front ++ row ∷ back)) ≤ 1 → covers id row ≡ true → (length (filter (covers id) front) ≡ 0) × (length (filter (covers id) back) ≡ 0)
+pub one-row : (id : Id) (front : List RowState) (row : RowState) (back : List RowState) → length (filter (covers id) (front ++ row ∷ back)) ≤ 1 → covers id row ≡ true → (length (filter (covers id) front) ≡ 0) × (length (filter (covers id) back) ≡ 0)
 one-row id front row back le e =
     let parts = count-append (covers id) front (row ∷ back) in
     let here = ap (λ (t : Bool). length (cond t (row ∷ filter (covers id) back) (filter (covers id) back))) e in
     (omega (arith, le, parts, here), omega (arith, le, parts, here))
 
 -- what a split leaves: one half covers, and its prefix still fits
-record Halves (id : Id) (row : RowState) : Type 0 where
-  fits : length row.prefix < 160
-  some : (covers id (half false row) || covers id (half true row)) ≡ true
-  count : length (filter (covers id) (half false row ∷ half true row ∷ [])) ≤ 1
+pub record Halves (id : Id) (row : RowState) : Type 0 where
+  pub fits : length row.prefix < 160
+  pub some : (covers id (half false row) || covers id (half true row)) ≡ true
+  pub count : length (filter (covers id) (half false row ∷ half true row ∷ [])) ≤ 1
 
 two-count : (id : Id) (low high : RowState) (s t : Bool) → covers id low ≡ s → covers id high ≡ t → length (filter (covers id) (low ∷ high ∷ [])) ≡ length (cond s (low ∷ cond t (high ∷ []) []) (cond t (high ∷ []) []))
 two-count id low high s t e f =
     ap (λ (x : Bool). length (cond x (low ∷ filter (covers id) (high ∷ [])) (filter (covers id) (high ∷ [])))) e ∙ ap (λ (y : Bool). length (cond s (low ∷ cond y (high ∷ []) []) (cond y (high ∷ []) []))) f
 
-halves-of : (id : Id) (row : RowState) → covers id row ≡ true → 1 ≤ length (filter (covers id) (half false row ∷ half true row ∷ [])) → Halves id row
+pub halves-of : (id : Id) (row : RowState) → covers id row ≡ true → 1 ≤ length (filter (covers id) (half false row ∷ half true row ∷ [])) → Halves id row
 halves-of id row here le = go (covers id (half false row)) (covers id (half true row)) refl refl le
   where
     fit : (bit : Bool) → covers id (half bit row) ≡ true → length row.prefix < 160

@@ -1,1 +1,4 @@
 pub mod Determined
+pub mod StaysSound
+pub mod Outcome
+pub mod Holding

@@ -1,3 +1,4 @@
 pub mod RowsAfter
 pub mod TableState
 pub mod TableStep
+pub mod Told

@@ -3,9 +3,11 @@
 #![tactic(auto)]
 
 mod calls;
+mod laws;
 mod table;
 #[cfg(test)]
 mod tests;
 
 pub use calls::{TableCall, TableReply};
+pub use laws::{holds_what_it_was_told, one_outcome, stays_sound};
 pub use table::Table;

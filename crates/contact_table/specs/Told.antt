@@ -1,0 +1,45 @@
+-- What a run tells a table, and which contacts a table has.
+use Rattle.std.specs.Prelude.{◌≡◌, ℕ, List, [], ◌∷◌, ◌++◌, map}
+use Rattle.std.specs.List.{flat_map}
+use Rattle.kad_base.specs.declared.plain.Id.{Id}
+use Rattle.kad_base.specs.declared.plain.Contact.{Contact}
+use Rattle.kad_base.specs.declared.serial.Made.{Made}
+use Rattle.bucket_tree.specs.Rows.{RowState, live_in}
+use Rattle.contact_table.specs.declared.calls.TableCall.{TableCall}
+use Rattle.contact_table.specs.declared.calls.TableCall.TheVariants.{Seen, Failed, Closest}
+use Rattle.contact_table.specs.declared.calls.TableReply.{TableReply}
+use Rattle.contact_table.specs.declared.calls.TableReply.TheVariants.{Seen as Seen_reply, Gone, List as List_reply, NoMemory}
+use Rattle.contact_table.specs.TableState.{TableState}
+
+-- the table that has no contact yet
+abbrev pub new_table : Id → ℕ → ℕ → TableState
+new_table own k b = record { own = own; k = k; b = b; rows = record { prefix = []; live = []; spares = [] } ∷ []; siblings = [] }
+
+-- the contact that a call says was seen
+abbrev pub told_in : TableCall → List Contact
+told_in (Seen c) = c ∷ []
+told_in (Failed c) = []
+told_in (Closest target n) = []
+
+abbrev pub told_by : List (Made TableCall TableReply) → List Contact
+told_by run = flat_map (λ e. told_in e.call) run
+
+-- the live contacts and the spares of a row
+abbrev pub kept_in : RowState → List Contact
+kept_in row = live_in row ++ row.spares
+
+-- those of a table, followed by its siblings
+abbrev pub held_in : TableState → List Contact
+held_in s = flat_map kept_in s.rows ++ s.siblings
+
+-- the calls of a run, and its replies
+abbrev pub calls_in : List (Made TableCall TableReply) → List TableCall
+calls_in run = map (λ e. e.call) run
+
+abbrev pub replies_in : List (Made TableCall TableReply) → List TableReply
+replies_in run = map (λ e. e.reply) run
+
+-- the reply isn't want of memory
+abbrev pub HasMemory : TableReply → Type 0
+HasMemory NoMemory = ⊥
+HasMemory other = Unit {0}
