@@ -217,7 +217,7 @@ none_left_first p q J t is e f =
     let g : slice_get {X = Thing} [] 0 ≡ Some t = sym (ap (λ l. slice_get l 0) e) ∙ ap (λ n. slice_get (unsettled n J) 0) (sym is) ∙ f in
     absurd cc
 
-stays_out : (s : Setting) (J : List Entry) (e : Entry) (p : ℕ) → Legal s J → Fits s J e → RunOut s p J → is_of p e ≡ true → IsSeed e
+pub stays_out : (s : Setting) (J : List Entry) (e : Entry) (p : ℕ) → Legal s J → Fits s J e → RunOut s p J → is_of p e ≡ true → IsSeed e
 stays_out s J (Seed q c) p l f o h = tt
 stays_out s J (Ask q c) p l f o h = absurd (over_asks_none s p J c l o (ap (λ n. may_ask s n J) (sym (eqb-true q p h)) ∙ f))
 stays_out s J (Heard q c reports) p l f o h = (let a = among_none (open_on p J) o.none_open c in let b = ap (λ n. among (open_on n J) c) (eqb-true q p h) in let g = f.0 in absurd cc)

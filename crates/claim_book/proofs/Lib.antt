@@ -11,3 +11,4 @@ pub mod Sorting
 pub mod Deciding
 pub mod Progress
 pub mod Seeding
+pub mod Forever

@@ -11,7 +11,7 @@ use Rattle.claim_book.specs.declared.calls.BookCall.{BookCall}
 use Rattle.claim_book.specs.declared.calls.BookCall.TheVariants.{Next, Heard, Lost, Finish, Pull, Note, Settle}
 use Rattle.claim_book.specs.declared.calls.BookReply.{BookReply}
 use Rattle.claim_book.specs.declared.calls.BookReply.TheVariants.{Ask, Kept, Taken, Held, Turned, Rejected, Skipped}
-use Rattle.claim_book.specs.Judged.{Judged}
+use Rattle.claim_book.specs.CheckedState.{CheckedState}
 use Rattle.claim_book.specs.Journal.{settles_on, open_any, unsettled}
 use Rattle.claim_book.specs.Legal.{Believed, Fits, Legal}
 use Rattle.claim_book.specs.State.{BookState, added}
@@ -27,10 +27,10 @@ pub record Settling (s : Setting) (J : List Entry) (p : ℕ) (e : Entry) : Type 
   pub owed : IsOwed e
   pub settles : settles_on p e ≡ true
 
-believed : (s : Setting) (J : List Entry) (p : ℕ) (checked : Judged) → IsSound s J p checked → Believed s J p checked.report.contact
+believed : (s : Setting) (J : List Entry) (p : ℕ) (checked : CheckedState) → IsSound s J p checked → Believed s J p checked.report.contact
 believed s J p checked h = record { report = checked.report; contact = refl; first = h.front.first; usable = h.usable; passes = h.passes }
 
-pub settling : (s : Setting) (J : List Entry) (p : ℕ) (checked : Judged) (reply : BookReply) (e : Entry) → SettleStep s J p checked reply → settle_entry p checked.report reply ≡ Some e → Settling s J p e
+pub settling : (s : Setting) (J : List Entry) (p : ℕ) (checked : CheckedState) (reply : BookReply) (e : Entry) → SettleStep s J p checked reply → settle_entry p checked.report reply ≡ Some e → Settling s J p e
 settling s J p checked Skipped e h is = subst (Settling s J p) (let q : Skipped_entry p checked.report ≡ e = cc in q) (record { fits = (h.0.first, h.1); owed = tt; settles = eq-eqb p p refl })
 settling s J p checked Rejected e h is = subst (Settling s J p) (let q : Rejected_entry p checked.report ≡ e = cc in q) (record { fits = (h.0.first, h.1, h.2); owed = tt; settles = eq-eqb p p refl })
 settling s J p checked (Held n) e h is = subst (Settling s J p) (let q : Held_entry p checked.report.contact n ≡ e = cc in q) (record { fits = (believed s J p checked h.0, h.1); owed = tt; settles = eq-eqb p p refl })
@@ -39,7 +39,7 @@ settling s J p checked Taken e h is = subst (Settling s J p) (let q : Taken_entr
 settling s J p checked other e h is = absurd cc
 
 -- a settled report leaves one thing less
-pub settled_less : (s : Setting) (J : List Entry) (p : ℕ) (checked : Judged) (reply : BookReply) (e : Entry) → SettleStep s J p checked reply → settle_entry p checked.report reply ≡ Some e → length (unsettled p (J ++ e ∷ [])) + 1 ≡ length (unsettled p J)
+pub settled_less : (s : Setting) (J : List Entry) (p : ℕ) (checked : CheckedState) (reply : BookReply) (e : Entry) → SettleStep s J p checked reply → settle_entry p checked.report reply ≡ Some e → length (unsettled p (J ++ e ∷ [])) + 1 ≡ length (unsettled p J)
 settled_less s J p checked reply e h is = (let w = settling s J p checked reply e h is in unsettled_less s J e p w.fits w.settles)
 
 -- and so does a noted one
@@ -52,7 +52,7 @@ LegalBook b = Legal b.setting b.journal
 heard_legal : (b : BookState) (c : Contact) (reports : List Report) → length reports ≤ 16 → LegalBook b → among (open_any b.journal) c ≡ true → LegalBook (added b (Heard_entry (asker c b.journal) c reports))
 heard_legal b c reports few l h = legal_more b.setting b.journal (Heard_entry (asker c b.journal) c reports) l (open_on_asker b.journal c h, few)
 
-settle_legal : (b : BookState) (p : ℕ) (checked : Judged) (reply : BookReply) (o : Option Entry) → LegalBook b → SettleStep b.setting b.journal p checked reply → settle_entry p checked.report reply ≡ o → LegalBook (with_entry b o)
+settle_legal : (b : BookState) (p : ℕ) (checked : CheckedState) (reply : BookReply) (o : Option Entry) → LegalBook b → SettleStep b.setting b.journal p checked reply → settle_entry p checked.report reply ≡ o → LegalBook (with_entry b o)
 settle_legal b p checked reply None l h is = l
 settle_legal b p checked reply (Some e) l h is = legal_more b.setting b.journal e l (settling b.setting b.journal p checked reply e h is).fits
 

@@ -101,7 +101,7 @@ legal_seeded s [] few sorted usable = tt
 legal_seeded s (c ∷ cs) few sorted usable =
     subst (λ l. Legal s (seeded s.paths l)) (take_all (length (c ∷ cs)) (c ∷ cs) (omega arith)) (legal_front s (c ∷ cs) c few sorted usable (length (c ∷ cs)) (omega arith))
 
-none_out : (cs : List Contact) → without cs [] ≡ cs
+pub none_out : (cs : List Contact) → without cs [] ≡ cs
 none_out [] = refl
 none_out (c ∷ cs) = ap (λ l. c ∷ l) (none_out cs)
 

@@ -13,7 +13,7 @@ use Rattle.claim_book.specs.declared.calls.BookCall.{BookCall}
 use Rattle.claim_book.specs.declared.calls.BookCall.TheVariants.{Next, Heard, Lost, Finish, Pull, Note, Settle}
 use Rattle.claim_book.specs.declared.calls.BookReply.{BookReply}
 use Rattle.claim_book.specs.declared.calls.BookReply.TheVariants.{Ask, RunOut as RunOut_reply, Later, Kept, NotOpen, Found, NotYet, Alive, Report as Report_reply, Idle, NotFront, Taken, Held, Turned, Rejected, Skipped, NoMemory}
-use Rattle.claim_book.specs.Judged.{Judged}
+use Rattle.claim_book.specs.CheckedState.{CheckedState}
 use Rattle.claim_book.specs.Journal.{took, path, asked, askers, failed, turned, open_any, unsettled, first_unsettled, may_ask}
 use Rattle.claim_book.specs.RunOut.{RunOut}
 use Rattle.claim_book.specs.Result.{result_of}
@@ -89,18 +89,18 @@ NoteStep J p c NotFront = ¬ (first_unsettled p J ≡ Some (Responder c))
 NoteStep J p c other = ⊥
 
 -- the report is the first unsettled thing of the path, and was checked under the policy of the book
-pub record IsFront (s : Setting) (J : List Entry) (p : ℕ) (checked : Judged) : Type 0 where
+pub record IsFront (s : Setting) (J : List Entry) (p : ℕ) (checked : CheckedState) : Type 0 where
   pub first : first_unsettled p J ≡ Some (Told checked.report)
   pub policy : checked.policy ≡ s.policy
 
 -- it is, and may be believed
-pub record IsSound (s : Setting) (J : List Entry) (p : ℕ) (checked : Judged) : Type 0 where
+pub record IsSound (s : Setting) (J : List Entry) (p : ℕ) (checked : CheckedState) : Type 0 where
   pub front : IsFront s J p checked
   pub usable : IsUsable s.own checked.report.contact
   pub passes : Passes s.policy checked.report
 
 -- the first rule that fits
-abbrev pub SettleStep : Setting → List Entry → ℕ → Judged → BookReply → Type 0
+abbrev pub SettleStep : Setting → List Entry → ℕ → CheckedState → BookReply → Type 0
 SettleStep s J p checked Skipped = IsFront s J p checked × ¬ IsUsable s.own checked.report.contact
 SettleStep s J p checked Rejected = IsFront s J p checked × IsUsable s.own checked.report.contact × ¬ Passes s.policy checked.report
 SettleStep s J p checked (Held q) = IsSound s J p checked × (among (path q J) checked.report.contact ≡ true)
@@ -141,7 +141,7 @@ abbrev pub with_entry : BookState → Option Entry → BookState
 with_entry book None = book
 with_entry book (Some e) = added book e
 
-abbrev pub after_settle : BookState → ℕ → Judged → BookReply → BookState
+abbrev pub after_settle : BookState → ℕ → CheckedState → BookReply → BookState
 after_settle book p checked reply = with_entry book (settle_entry p checked.report reply)
 
 -- the book after a reply: one entry more for a reply that changes it, and else as before

@@ -1,14 +1,15 @@
 // Laws of legal journals.
-ghost use Rattle.std.specs.Prelude.{◌≡◌, ◌<◌, ◌≤◌, ◌⊎◌, ◌++◌, ◌∷◌, [], List, ℕ, true, IsSome};
+ghost use Rattle.std.specs.Prelude.{◌≡◌, ◌<◌, ◌≤◌, ◌*◌, ◌⊎◌, ◌++◌, ◌∷◌, [], List, ℕ, length, filter, true, IsSome};
 ghost use Rattle.std.specs.List.{IsDistinct};
 ghost use Rattle.kad_base.specs.declared.plain.Contact.{Contact};
 ghost use Rattle.kad_base.specs.Contacts.{same, among};
 ghost use Rattle.claim_book.specs.declared.plain.Setting.{Setting};
 ghost use Rattle.claim_book.specs.declared.plain.Entry.{Entry};
-ghost use Rattle.claim_book.specs.Journal.{took, path, asked, asked_on, answered, open_on, unsettled, may_ask};
+ghost use Rattle.claim_book.specs.Journal.{seeds, took, path, asked, asked_on, answered, open_any, open_on, unsettled, may_ask};
 ghost use Rattle.claim_book.specs.Legal.{Legal, is_of, IsSeed};
 ghost use Rattle.claim_book.specs.RunOut.{RunOut};
 ghost use Rattle.claim_book.specs.Result.{result_of};
+ghost use Rattle.claim_book.specs.Calls.{asker};
 
 /// No contact is taken twice, on whatever paths, and none is asked twice; each is asked by the path that has it.
 pub fn disjoint()
@@ -17,9 +18,24 @@ pub fn disjoint()
     ensures on_path { (s : Setting) (J : List Entry) (p : ℕ) (c : Contact) → Legal s J → among (asked_on p J) c ≡ true → among (path p J) c ≡ true }
 {}
 
-/// A path that has run out stays so: no entry of it but a seed can follow.
+/// A contact is on one path.
+pub fn one_path()
+    ensures { (s : Setting) (J : List Entry) (p q : ℕ) (c : Contact) → Legal s J → among (path p J) c ≡ true → among (path q J) c ≡ true → p ≡ q }
+{}
+
+/// A path has at most 256 contacts, so it asks at most 256, and all paths ask at most 256 each.
+pub fn bounded()
+    ensures path { (s : Setting) (J : List Entry) (p : ℕ) → s.k < 256 → Legal s J → length (path p J) ≤ 256 }
+    ensures asked_on { (s : Setting) (J : List Entry) (p : ℕ) → s.k < 256 → Legal s J → length (asked_on p J) ≤ 256 }
+    ensures asked { (s : Setting) (J : List Entry) → 0 < s.paths → s.k < 256 → Legal s J → length (asked J) ≤ 256 * s.paths }
+{}
+
+/// A path that has run out stays so, whatever other paths do: the next entry of it can only be a seed, and where no
+/// more seeds come, none of it follows and it has still run out.
 pub fn stable()
-    ensures { (s : Setting) (J : List Entry) (e : Entry) (p : ℕ) → Legal s (J ++ e ∷ []) → RunOut s p J → is_of p e ≡ true → IsSeed e }
+    ensures next { (s : Setting) (J : List Entry) (e : Entry) (p : ℕ) → Legal s (J ++ e ∷ []) → RunOut s p J → is_of p e ≡ true → IsSeed e }
+    ensures silent { (s : Setting) (J K : List Entry) (p : ℕ) → Legal s (J ++ K) → seeds K ≡ [] → RunOut s p J → filter (is_of p) K ≡ [] }
+    ensures stays { (s : Setting) (J K : List Entry) (p : ℕ) → Legal s (J ++ K) → seeds K ≡ [] → RunOut s p J → RunOut s p (J ++ K) }
 {}
 
 /// A path that waits for nothing has run out or can ask.
@@ -30,4 +46,18 @@ pub fn lively()
 /// Where all paths have run out, each contact that the lookup found has answered.
 pub fn answered()
     ensures { (s : Setting) (J : List Entry) (c : Contact) → 0 < s.paths → Legal s J → ((p : ℕ) → p < s.paths → RunOut s p J) → among (result_of s J) c ≡ true → among (answered J) c ≡ true }
+{}
+
+/// A path past the last has no contacts and nothing to settle, and has run out.
+pub fn past_the_last()
+    ensures no_contacts { (s : Setting) (J : List Entry) (p : ℕ) → 0 < s.paths → Legal s J → s.paths ≤ p → path p J ≡ [] }
+    ensures settled { (s : Setting) (J : List Entry) (p : ℕ) → 0 < s.paths → Legal s J → s.paths ≤ p → unsettled p J ≡ [] }
+    ensures run_out { (s : Setting) (J : List Entry) (p : ℕ) → 0 < s.paths → Legal s J → s.paths ≤ p → RunOut s p J }
+{}
+
+/// An open contact is open on the path that asked it, and on no other.
+pub fn open_on_asker()
+    ensures there { (s : Setting) (J : List Entry) (c : Contact) → Legal s J → among (open_any J) c ≡ true → among (open_on (asker c J) J) c ≡ true }
+    ensures any { (s : Setting) (J : List Entry) (p : ℕ) (c : Contact) → Legal s J → among (open_on p J) c ≡ true → among (open_any J) c ≡ true }
+    ensures only { (s : Setting) (J : List Entry) (p : ℕ) (c : Contact) → Legal s J → among (open_on p J) c ≡ true → p ≡ asker c J }
 {}

@@ -18,7 +18,9 @@ mod tests;
 mod verdict;
 
 pub use calls::{BookCall, BookReply};
-pub use laws::{answered, disjoint, lively, stable};
+pub use laws::{
+    answered, bounded, disjoint, lively, one_path, open_on_asker, past_the_last, stable,
+};
 pub use plain::{Cause, Counts, Entry, Journal, Setting, Thing};
 pub use state::Book;
 pub use verdict::Checked;

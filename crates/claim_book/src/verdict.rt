@@ -16,9 +16,9 @@ pub struct Checked {
 impl Model for Checked {
     ghost use Rattle.std.specs.Prelude.{◌↔◌, IsTrue};
     ghost use Rattle.kad_base.specs.Puzzles.{Passes};
-    ghost use Rattle.claim_book.specs.Judged.{Judged};
+    ghost use Rattle.claim_book.specs.CheckedState.{CheckedState};
 
-    ghost Value = { Judged };
+    ghost Value = { CheckedState };
 
     ghost view = { λ c. record { policy = c.policy; report = c.report } };
 

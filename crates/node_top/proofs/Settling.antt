@@ -12,7 +12,7 @@ use Rattle.claim_book.specs.declared.plain.Entry.{Entry}
 use Rattle.claim_book.specs.declared.plain.Entry.TheVariants.{Note as Note_entry, Taken as Taken_entry, Held as Held_entry, Turned as Turned_entry, Rejected as Rejected_entry, Skipped as Skipped_entry}
 use Rattle.claim_book.specs.declared.calls.BookReply.{BookReply}
 use Rattle.claim_book.specs.declared.calls.BookReply.TheVariants.{Kept, Alive, Report as Report_reply, Idle, NotFront, Taken, Held, Turned, Rejected, Skipped}
-use Rattle.claim_book.specs.Judged.{Judged}
+use Rattle.claim_book.specs.CheckedState.{CheckedState}
 use Rattle.claim_book.specs.Journal.{seed_of, seeds, things_of, settles_on, things, settled, unsettled, first_unsettled}
 use Rattle.claim_book.specs.State.{BookState}
 use Rattle.claim_book.specs.Calls.{PullStep, NoteStep, SettleStep, IsFront, after_kept, after_settle}
@@ -25,7 +25,7 @@ note_settles old c Kept first step = record { entry = Note_entry 0 c; after = re
 note_settles old c NotFront first step = absurd (step first)
 note_settles old c other first step = absurd step
 
-pub settle_settles : (old : BookState) (checked : Judged) (reply : BookReply) → IsFront old.setting old.journal 0 checked → SettleStep old.setting old.journal 0 checked reply → SettlesOne old (after_settle old 0 checked reply)
+pub settle_settles : (old : BookState) (checked : CheckedState) (reply : BookReply) → IsFront old.setting old.journal 0 checked → SettleStep old.setting old.journal 0 checked reply → SettlesOne old (after_settle old 0 checked reply)
 settle_settles old checked Skipped front step = record { entry = Skipped_entry 0 checked.report; after = refl; settles = refl; quiet = refl; tells_nothing = refl; no_seed = refl }
 settle_settles old checked Rejected front step = record { entry = Rejected_entry 0 checked.report; after = refl; settles = refl; quiet = refl; tells_nothing = refl; no_seed = refl }
 settle_settles old checked (Held q) front step = record { entry = Held_entry 0 checked.report.contact q; after = refl; settles = refl; quiet = refl; tells_nothing = refl; no_seed = refl }

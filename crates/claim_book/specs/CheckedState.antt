@@ -2,6 +2,6 @@
 use Rattle.kad_base.specs.declared.plain.Policy.{Policy}
 use Rattle.kad_base.specs.declared.plain.Report.{Report}
 
-pub record Judged : Type 0 where
+pub record CheckedState : Type 0 where
   pub policy : Policy
   pub report : Report
