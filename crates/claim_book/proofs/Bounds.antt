@@ -162,5 +162,9 @@ turned_few s J z k l =
     let c = turned_within s J z l in
     omega arith
 
+-- what is left to settle has its room
+pub room_within : (s : Setting) (J : List Entry) → 0 < s.paths → Legal s J → unsettled_room s.paths J ≤ 49 * length (answered J)
+room_within s J z l = (let all = turned_within s J z l in omega arith)
+
 pub failed_few : (s : Setting) (J : List Entry) → 0 < s.paths → s.k < 256 → Legal s J → length (failed J) ≤ 256 * s.paths
 failed_few s J z k l = (let a = asked_few s J z k l in let b = failed_within s J l in omega arith)

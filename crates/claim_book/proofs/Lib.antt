@@ -7,6 +7,7 @@ pub mod Ends
 pub mod Unsettled
 pub mod Kept
 pub mod Bounds
+pub mod Few
 pub mod Sorting
 pub mod Deciding
 pub mod Progress

@@ -1,11 +1,11 @@
 //! The book: its journal, and what its calls do.
-ghost use Rattle.std.specs.Prelude.{◌≡◌, ◌≤◌, ◌<◌, ◌+◌, ◌^◌, ◌++◌, ◌∷◌, [], length, IfOk, OnOk, OnErr, vec_len, vec_capacity};
+ghost use Rattle.std.specs.Prelude.{◌≡◌, ℕ, ◌≤◌, ◌<◌, ◌+◌, ◌^◌, ◌++◌, ◌∷◌, [], length, IfOk, OnOk, OnErr, vec_len, vec_capacity};
 ghost use Rattle.std.specs.List.{All};
 ghost use Rattle.std.specs.List.Sorted.{IsStrictlySortedBy};
 ghost use Rattle.kad_base.specs.Contacts.{IsUsable};
 ghost use Rattle.kad_distance.specs.Order.{closeness};
 ghost use Rattle.claim_book.specs.declared.plain.Entry.TheVariants.{Heard, Lost, Note};
-ghost use Rattle.claim_book.specs.Journal.{asked, failed, turned};
+ghost use Rattle.claim_book.specs.Journal.{asked, failed, turned, unsettled};
 ghost use Rattle.claim_book.specs.Legal.{seeded};
 ghost use Rattle.claim_book.specs.Calls.{Counted};
 
@@ -82,6 +82,14 @@ impl Book {
     /// needs the law.
     pub fn legal(&self)
         ensures { Legal self.now.setting self.now.journal }
+    {
+        let _ = &self.owed;
+    }
+
+    /// The law of the book: what each path has to settle can be counted. It does nothing, and is called where a proof
+    /// needs the law.
+    pub fn few_unsettled(&self)
+        ensures { (p : ℕ) → length (unsettled p self.now.journal) < 2 ^ 32 }
     {
         let _ = &self.owed;
     }
