@@ -2,7 +2,7 @@
 use Rattle.std.specs.Prelude.{◌≡◌, ◌≢◌, ℕ, ◌+◌, List, [], ◌∷◌, length, Some, true}
 use Rattle.kad_base.specs.declared.plain.Contact.{Contact}
 use Rattle.kad_base.specs.declared.serial.Made.{Made}
-use Rattle.kad_base.specs.Serial.{made, left_by, IsRun}
+use Rattle.kad_base.specs.Serial.{left_by, IsRun}
 use Rattle.contact_table.specs.declared.calls.TableCall.{TableCall}
 use Rattle.contact_table.specs.declared.calls.TableCall.TheVariants.{Seen}
 use Rattle.contact_table.specs.declared.calls.TableReply.{TableReply}

@@ -25,6 +25,7 @@ pub fn settle_alone<C: Check>(
     ensures ok { IfOk result (SettlesAll path book.old book.new table.old table.new) }
     ensures err { OnErr result (StopsAtResponder path book.old book.new table.old table.new) }
 {
+    book.few_unsettled();
     let mut count = 0;
     'settling: while settle_first(path, book, table, policy, check)? {
         count += 1;
@@ -84,13 +85,7 @@ fn tell_seen(path: u8, table: &mut Table, contact: Contact) -> Result<(), NoMemo
 }
 
 /// Checks the report, and settles it.
-fn settle_report<C: Check>(
-    path: u8,
-    book: &mut Book,
-    policy: Policy,
-    report: Report,
-    check: &C,
-)
+fn settle_report<C: Check>(path: u8, book: &mut Book, policy: Policy, report: Report, check: &C)
     requires path { path < max_paths }
     requires policy { policy ≡ book.old.setting.policy }
     requires first { first_unsettled path book.old.journal ≡ Some (Told report) }
