@@ -15,7 +15,7 @@ use Rattle.claim_book.specs.declared.plain.Entry.TheVariants.{Note as Note_entry
 use Rattle.claim_book.specs.declared.plain.Entry.{Entry}
 use Rattle.claim_book.specs.declared.calls.BookReply.{BookReply}
 use Rattle.claim_book.specs.declared.calls.BookReply.TheVariants.{Kept, Alive, Report as Report_reply, Idle, NotFront, Taken, Held, Turned, Rejected, Skipped}
-use Rattle.claim_book.specs.Judged.{Judged}
+use Rattle.claim_book.specs.CheckedState.{CheckedState}
 use Rattle.claim_book.specs.Journal.{settles_on, unsettled, first_unsettled}
 use Rattle.claim_book.specs.State.{BookState, added}
 use Rattle.claim_book.specs.Calls.{PullStep, NoteStep, SettleStep, IsFront, settle_entry, after_kept, after_settle, path_of_role}
@@ -48,10 +48,10 @@ note_one path q old c reply before after is first step told = subst (λ q. Settl
     here NotFront step = absurd (step first)
     here other step = absurd step
 
-abbrev one_entry : (path : ℕ) (old : BookState) (checked : Judged) (reply : BookReply) (e : Entry) → SettleStep old.setting old.journal path checked reply → settle_entry path checked.report reply ≡ Some e → settles_on path e ≡ true → SettlesEntry path old (added old e)
+abbrev one_entry : (path : ℕ) (old : BookState) (checked : CheckedState) (reply : BookReply) (e : Entry) → SettleStep old.setting old.journal path checked reply → settle_entry path checked.report reply ≡ Some e → settles_on path e ≡ true → SettlesEntry path old (added old e)
 one_entry path old checked reply e step is settles = record { entry = e; after = refl; settles = settles; less = settled_less old.setting old.journal path checked reply e step is }
 
-pub settle_one : (path q : ℕ) (old : BookState) (checked : Judged) (reply : BookReply) → q ≡ path → IsFront old.setting old.journal path checked → SettleStep old.setting old.journal q checked reply → SettlesReport path old (after_settle old q checked reply)
+pub settle_one : (path q : ℕ) (old : BookState) (checked : CheckedState) (reply : BookReply) → q ≡ path → IsFront old.setting old.journal path checked → SettleStep old.setting old.journal q checked reply → SettlesReport path old (after_settle old q checked reply)
 settle_one path q old checked reply is front step = subst (λ q. SettlesReport path old (after_settle old q checked reply)) (sym is) (here reply (subst (λ q. SettleStep old.setting old.journal q checked reply) is step))
   where
     here : (reply : BookReply) → SettleStep old.setting old.journal path checked reply → SettlesReport path old (after_settle old path checked reply)
