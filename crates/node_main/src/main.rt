@@ -7,9 +7,6 @@ ghost use Rattle.node_main.specs.declared.Refusal.{Refusal};
 
 mod stdin;
 mod stdout;
-#[cfg(test)]
-mod tests;
-mod udp;
 
 use id_puzzles::Sha1Check;
 use kad_base::{Addr, Ip};
@@ -22,7 +19,7 @@ use std::rt::{Clock, Env, Net};
 use std::{env, io};
 use stdin::StandardInput;
 use stdout::StandardOutput;
-use udp::UdpLink;
+use udp_link::UdpLink;
 
 /// Any IPv4 address of this machine, and a port that the system picks.
 const ANY: Addr = Addr {

@@ -1,0 +1,202 @@
+//! Books worked by hand. `contact(n)` is 19 zero bytes and n at 127.0.0.1, port 6000 + n; the target is 20 zero bytes, and
+//! the node's own identifier 20 bytes of 255. So seed n is dealt to path n - 1.
+ghost use Rattle.std.specs.Prelude.{◌≡◌, ◌<◌, ◌≤◌, IfOk};
+ghost use Rattle.claim_book.specs.State.{BookState};
+
+use super::settle_alone;
+use claim_book::{Book, BookCall, BookReply, Entry, Setting};
+use contact_table::{Table, TableCall, TableReply};
+use kad_base::{Addr, Check, Contact, Contacts, Id, Ip, List, Policy, Report, Serial, is_usable};
+use kad_distance::k_least;
+use std::alloc::Global;
+use std::process::Abort;
+use std::test::Fail;
+
+const OWN: Id = Id([255; 20]);
+
+/// Knows that a report without a proof passes the plain policy alone.
+#[derive(Drop)]
+struct Unproved<'a, R: Abort> {
+    rt: &'a R,
+}
+
+impl<R: Abort> Check for Unproved<'_, R> {
+    fn check(&self, policy: Policy, report: &Report) -> bool {
+        if report.proof.is_some() {
+            panic!(self.rt; "a proof");
+        }
+        matches!(policy, Policy::Plain)
+    }
+}
+
+fn contact(n: u8) -> Contact {
+    let mut id = [0u8; 20];
+    id[19] = n;
+    Contact {
+        id: Id(id),
+        addr: Addr {
+            ip: Ip::V4([127, 0, 0, 1]),
+            port: 6000 + n as u16,
+        },
+    }
+}
+
+fn report(contact: Contact) -> Report {
+    Report {
+        contact,
+        proof: None,
+    }
+}
+
+/// A contact with the node's own identifier.
+fn own() -> Contact {
+    Contact {
+        id: OWN,
+        ..contact(0)
+    }
+}
+
+fn setting(paths: u8, policy: Policy) -> Setting
+    ensures paths { result.paths ≡ paths }
+    ensures policy { result.policy ≡ policy }
+{
+    Setting {
+        own: OWN,
+        target: Id([0; 20]),
+        k: 8,
+        paths,
+        alpha: 1,
+        policy,
+    }
+}
+
+/// A book with a seed for each path.
+fn begun(rt: &impl Abort, alloc: Global, setting: Setting) -> Result<Book, Fail>
+    requires { 0 < setting.paths }
+    ensures { IfOk result (λ book. book.setting ≡ setting) }
+{
+    let mut contacts = List::new(alloc);
+    for path in 0..setting.paths {
+        contacts.push(contact(path.wrapping_add(1)))?;
+    }
+    let seeds = k_least(alloc, &setting.target, setting.k, contacts.as_slice())?;
+    assert!(rt;
+        seeds
+            .as_slice()
+            .iter()
+            .all(|seed| is_usable(&setting.own, seed))
+    );
+    Ok(Book::new(alloc, setting, seeds.as_slice())?)
+}
+
+/// Tells the book that the contact of the path was asked, and named these.
+fn answer(
+    rt: &impl Abort,
+    alloc: Global,
+    book: &mut Book,
+    path: u8,
+    reports: &[Report],
+) -> Result<(), Fail>
+    ensures { book.new.setting ≡ book.old.setting }
+{
+    let contact = contact(path.wrapping_add(1));
+    let reports = List::from_slice(alloc, reports)?;
+    assert!(rt; reports.len() <= 16);
+    let asked = book.apply(0, BookCall::Next { path });
+    assert_eq!(rt; asked, BookReply::Ask { contact });
+    let heard = book.apply(0, BookCall::Heard { contact, reports });
+    assert_eq!(rt; heard, BookReply::Kept);
+    Ok(())
+}
+
+fn table(alloc: Global) -> Result<Table, Fail> {
+    Ok(Table::new(alloc, OWN, 8, 1)?)
+}
+
+/// What the table has, nearest to the target first.
+fn known(table: &mut Table) -> Option<Contacts> {
+    let target = Id([0; 20]);
+    match table.apply(0, TableCall::Closest { target, n: 20 }) {
+        TableReply::List { list } => Some(list),
+        _ => None,
+    }
+}
+
+#[test]
+fn the_only_path_settles_in_order_and_tells_the_table_who_answered(
+    rt: HostRuntime,
+) -> Result<(), Fail> {
+    let alloc = rt.alloc();
+    let mut book = begun(&rt, alloc, setting(1, Policy::Plain))?;
+    let mut table = table(alloc)?;
+    let named = [report(contact(9)), report(contact(1)), report(own())];
+    answer(&rt, alloc, &mut book, 0, &named)?;
+    let settled = settle_alone(
+        0,
+        &mut book,
+        &mut table,
+        Policy::Plain,
+        &Unproved { rt: &rt },
+    );
+    assert_eq!(rt; settled, Ok(4));
+    let list = List::from_slice(alloc, &[contact(1)])?;
+    assert_eq!(rt; known(&mut table), Some(list));
+    let wanted = [
+        Entry::Note {
+            path: 0,
+            contact: contact(1),
+        },
+        Entry::Taken {
+            path: 0,
+            contact: contact(9),
+        },
+        Entry::Held {
+            path: 0,
+            contact: contact(1),
+            by: 0,
+        },
+        Entry::Skipped {
+            path: 0,
+            report: report(own()),
+        },
+    ];
+    let journal = book.into_journal();
+    assert_eq!(rt; journal.as_slice().get(3..), Some(wanted.as_slice()));
+    Ok(())
+}
+
+#[test]
+fn the_eighth_of_eight_paths_settles_its_own(rt: HostRuntime) -> Result<(), Fail> {
+    let alloc = rt.alloc();
+    let mut book = begun(&rt, alloc, setting(8, Policy::Plain))?;
+    let mut table = table(alloc)?;
+    answer(&rt, alloc, &mut book, 7, &[report(contact(9))])?;
+    let check = Unproved { rt: &rt };
+    let sixth = settle_alone(6, &mut book, &mut table, Policy::Plain, &check);
+    assert_eq!(rt; sixth, Ok(0));
+    let seventh = settle_alone(7, &mut book, &mut table, Policy::Plain, &check);
+    assert_eq!(rt; seventh, Ok(2));
+    let list = List::from_slice(alloc, &[contact(8)])?;
+    assert_eq!(rt; known(&mut table), Some(list));
+    Ok(())
+}
+
+#[test]
+fn a_report_without_a_proof_is_rejected_where_puzzles_are_asked_for(
+    rt: HostRuntime,
+) -> Result<(), Fail> {
+    let alloc = rt.alloc();
+    let policy = Policy::Puzzled { c1: 1, c2: 1 };
+    let mut book = begun(&rt, alloc, setting(1, policy))?;
+    let mut table = table(alloc)?;
+    answer(&rt, alloc, &mut book, 0, &[report(contact(9))])?;
+    let settled = settle_alone(0, &mut book, &mut table, policy, &Unproved { rt: &rt });
+    assert_eq!(rt; settled, Ok(2));
+    let wanted = [Entry::Rejected {
+        path: 0,
+        report: report(contact(9)),
+    }];
+    let journal = book.into_journal();
+    assert_eq!(rt; journal.as_slice().get(4..), Some(wanted.as_slice()));
+    Ok(())
+}

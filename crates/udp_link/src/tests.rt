@@ -1,5 +1,6 @@
-//! What no clause says: datagrams cross between the link and another socket of this machine, and a longer one is cut.
-use crate::udp::UdpLink;
+//! What no clause says: datagrams cross between the link and another socket of this machine, a longer one is cut, and a
+//! receive to a moment that has passed takes what is there and doesn't wait.
+use crate::UdpLink;
 use kad_base::{Addr, Came, Ip, Link};
 use std::net::UdpSocket;
 use std::time::Duration;
@@ -36,6 +37,32 @@ fn datagrams_cross_the_loopback(rt: HostRuntime) {
         }
         other => panic!(rt; "{other:?}"),
     }
+
+    let began = link.now();
+    for _ in 0..1_000 {
+        let came = link.recv(&mut buf, 0);
+        assert!(rt; matches!(came, Ok(Came::Quiet { at: _ })), "{came:?}");
+    }
+    let took = link.now().saturating_sub(began);
+    assert!(rt;
+        took < 1_000,
+        "1,000 receives that wait for nothing took {took} ms"
+    );
+
+    let sent = peer.send_to(&[9u8; 3], from).expect(&rt, "an answer");
+    assert_eq!(rt; sent, 3);
+    let came = link.recv(&mut buf, 0);
+    assert!(rt;
+        matches!(
+            came,
+            Ok(Came::Packet {
+                from: _,
+                len: 3,
+                at: _
+            })
+        ),
+        "{came:?}"
+    );
 
     let until = link.now().saturating_add(20);
     let came = link.recv(&mut buf, until);

@@ -1,0 +1,10 @@
+//! A datagram link over a UDP socket and the system's clock. It tells no transcript, and knows no message.
+#![tactic(auto)]
+
+mod addresses;
+mod link;
+mod paced;
+#[cfg(test)]
+mod tests;
+
+pub use link::UdpLink;
