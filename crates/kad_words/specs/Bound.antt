@@ -1,0 +1,26 @@
+-- What is known of the words before a command is read: where to bind, and whether there is anything to bind.
+use Rattle.std.specs.Prelude.{◌≡◌, ℕ, List, [], ◌∷◌, ◌⊎◌, Option, Some, None, Contains}
+use Rattle.kad_base.specs.declared.plain.Addr.{Addr}
+use Rattle.kad_base.specs.declared.plain.Ip.TheVariants.{V4}
+use Rattle.kad_words.specs.Text.{SpellsAddr}
+use Rattle.kad_words.specs.Table.{Word, bind_option, links, option_word}
+use Rattle.kad_words.specs.Plain.{pairs_of, value_of}
+
+-- the address 0.0.0.0:0, by which the system chooses
+abbrev pub any_address : Addr
+any_address = record { ip = V4 (0 ∷ 0 ∷ 0 ∷ 0 ∷ []); port = 0 }
+
+-- the value of the first option `--bind` among the words two by two after the first, where it spells an address
+abbrev pub bound_by : List Word → Option Word
+bound_by [] = None
+bound_by (command ∷ rest) = value_of (option_word bind_option.entry.name) (pairs_of rest)
+
+-- the value spells this address; or there is no value, or one that spells none, and this is the default
+abbrev pub IsBind : Option Word → Addr → Type 0
+IsBind None addr = addr ≡ any_address
+IsBind (Some text) addr = SpellsAddr text addr ⊎ (((a : Addr) → SpellsAddr text a → ⊥) × (addr ≡ any_address))
+
+-- the first word is a command that asks over a link
+abbrev pub TakesLink : List Word → Type 0
+TakesLink [] = ⊥
+TakesLink (command ∷ rest) = Contains links command

@@ -1,0 +1,5 @@
+pub mod Text
+pub mod Table
+pub mod Plain
+pub mod Bound
+pub mod Listed

@@ -1,0 +1,52 @@
+-- How identifiers, numbers and addresses are spelled: in the words of a command, in an input and in an output.
+use Rattle.std.specs.Prelude.{◌≡◌, ℕ, ◌^◌, ◌<◌, ◌≤◌, List, [], ◌∷◌, ◌++◌, length, codes, decimal}
+use Rattle.std.specs.Str.{str_to_ascii_lowercase}
+use Rattle.std.specs.Net.Text.{ipv4_text}
+use Rattle.hex.specs.Hex.{encode_lower, IsBytes}
+use Rattle.kad_base.specs.declared.plain.Id.{Id}
+use Rattle.kad_base.specs.declared.plain.Ip.{Ip}
+use Rattle.kad_base.specs.declared.plain.Ip.TheVariants.{V4, V6}
+use Rattle.kad_base.specs.declared.plain.Addr.{Addr}
+
+-- the text is that many bytes in hex (base 16 of RFC 4648, section 8): two digits a byte, each of either case
+pub record SpellsHex (size : ℕ) (text bytes : List ℕ) : Type 0 where
+  pub long : length bytes ≡ size
+  pub fit : IsBytes bytes
+  pub digits : str_to_ascii_lowercase text ≡ encode_lower bytes
+
+-- the text is the identifier in hex, 40 digits
+abbrev pub SpellsId : List ℕ → Id → Type 0
+SpellsId text id = SpellsHex 20 text id.0
+
+-- the text is the number in decimal digits without leading zeros, and the number is within the two bounds
+pub record SpellsNumber (least most : ℕ) (text : List ℕ) (n : ℕ) : Type 0 where
+  pub digits : text ≡ decimal n
+  pub above : least ≤ n
+  pub below : n ≤ most
+
+-- groups of two bytes, each as four lower-case hex digits, the first after `lead` and each other after a colon
+abbrev pub groups_after : List ℕ → List ℕ → List ℕ
+groups_after lead [] = []
+groups_after lead (a ∷ []) = []
+groups_after lead (a ∷ b ∷ rest) = lead ++ encode_lower (a ∷ b ∷ []) ++ groups_after (codes ":") rest
+
+-- an IP address as it is printed: the dotted decimal of IPv4, or all eight groups of IPv6 in brackets (RFC 3986, section
+-- 3.2.2)
+abbrev pub ip_text : Ip → List ℕ
+ip_text (V4 bytes) = ipv4_text bytes
+ip_text (V6 bytes) = groups_after (codes "[") bytes ++ codes "]"
+
+-- a UDP address as it is printed
+abbrev pub addr_text : Addr → List ℕ
+addr_text addr = ip_text addr.ip ++ codes ":" ++ decimal addr.port
+
+-- an address of IPv4
+abbrev pub IsV4 : Ip → Type 0
+IsV4 (V4 bytes) = (length bytes ≡ 4) × IsBytes bytes
+IsV4 (V6 bytes) = ⊥
+
+-- the text is the address as it is printed, a.b.c.d:port, and the address is one of IPv4
+pub record SpellsAddr (text : List ℕ) (addr : Addr) : Type 0 where
+  pub printed : text ≡ addr_text addr
+  pub v4 : IsV4 addr.ip
+  pub port : addr.port < 2 ^ 16

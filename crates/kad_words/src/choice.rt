@@ -1,0 +1,87 @@
+//! An option: its name, what its value is, and what holds where it doesn't stand.
+ghost use Rattle.std.specs.Prelude.{◌≡◌, ◌↔◌, IsTrue, option_map};
+ghost use Rattle.kad_words.specs.Table.{option_word};
+ghost use Rattle.kad_words.specs.Plain.{IsOfKind, IsThere, IsValue};
+
+use crate::text::{read_addr, read_hex, read_id, read_number};
+
+/// What the value of an option is.
+#[derive(Clone, Copy, Debug, PartialEq, Eq)]
+pub(crate) enum Kind {
+    /// 20 bytes in hex.
+    Identifier,
+    /// 32 bytes in hex.
+    Seed,
+    /// A decimal number without leading zeros, within these bounds.
+    Number { least: u32, most: u32 },
+    /// An IPv4 address with its port.
+    Address,
+}
+
+/// What holds where an option doesn't stand.
+#[derive(Clone, Copy, Debug, PartialEq, Eq)]
+pub(crate) enum Need {
+    /// The words are not of the plain form.
+    Required,
+    /// It has no value.
+    Optional,
+    /// Its number is this.
+    OrElse(u32),
+}
+
+/// An option of a command. Its word is its name after two dashes.
+#[derive(Clone, Copy, Debug, PartialEq, Eq)]
+pub(crate) struct Choice {
+    pub name: &'static str,
+    pub kind: Kind,
+    pub need: Need,
+}
+
+/// Whether a word is that of an option.
+pub(crate) fn is_option(word: &str, name: &str) -> bool
+    ensures { IsTrue result ↔ (word.now ≡ option_word name.now) }
+{
+    match word.as_bytes() {
+        [b'-', b'-', rest @ ..] => is_same(rest, name.as_bytes()),
+        _ => false,
+    }
+}
+
+/// Whether two texts are one.
+fn is_same(a: &[u8], b: &[u8]) -> bool
+    ensures { IsTrue result ↔ (a.now ≡ b.now) }
+{
+    a == b
+}
+
+/// Whether a word may be a value: it isn't empty, and doesn't begin with a dash.
+pub(crate) fn is_value(word: &str) -> bool
+    ensures { IsTrue result ↔ IsValue word.now }
+{
+    match word.as_bytes() {
+        [] => false,
+        [first, ..] => *first != b'-',
+    }
+}
+
+/// Whether a text is a value of a kind.
+pub(crate) fn is_of_kind(kind: Kind, text: &str) -> bool
+    ensures { IsTrue result ↔ IsOfKind kind text.now }
+{
+    match kind {
+        Kind::Identifier => read_id(text).is_some(),
+        Kind::Seed => read_hex::<32>(text).is_some(),
+        Kind::Number { least, most } => read_number(text, least, most).is_some(),
+        Kind::Address => read_addr(text).is_some(),
+    }
+}
+
+/// Whether what is needed of an option is there.
+pub(crate) fn is_there(need: Need, value: Option<&str>) -> bool
+    ensures { IsTrue result ↔ IsThere need (option_map (λ v. v.now) value.entry) }
+{
+    match need {
+        Need::Required => value.is_some(),
+        Need::Optional | Need::OrElse(_) => true,
+    }
+}

@@ -1,0 +1,18 @@
+//! The words of a command line: from the words after the program's name to a command and its options. The plain form is
+//! this project's own: one command, and then pairs of an option and its value. It opens nothing, and knows no lookup.
+#![tactic(auto)]
+
+mod bind;
+mod choice;
+pub mod command;
+//mod matched;
+mod options;
+mod plain;
+//mod reading;
+pub mod text;
+//cfg
+//mod tests;
+
+pub use bind::{bind_of, takes_link};
+pub use command::{Command, LookWords, WordsFault};
+//pub use reading::read;
