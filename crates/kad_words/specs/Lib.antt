@@ -3,3 +3,5 @@ pub mod Table
 pub mod Plain
 pub mod Bound
 pub mod Listed
+pub mod Taken
+pub mod Fitting

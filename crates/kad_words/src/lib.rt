@@ -5,11 +5,12 @@
 mod bind;
 mod choice;
 pub mod command;
-//mod matched;
+mod matched;
 mod options;
 mod plain;
 //mod reading;
 pub mod text;
+mod values;
 //cfg
 //mod tests;
 

@@ -1,0 +1,96 @@
+//! The values of options, read from what clap found. Each of them fits its option: see `plain`.
+ghost use Rattle.std.specs.Prelude.{◌≡◌, IsTrue};
+ghost use Rattle.kad_words.specs.Text.{SpellsHex, SpellsId};
+ghost use Rattle.kad_words.specs.Listed.{entry_of};
+ghost use Rattle.kad_words.specs.Plain.{IsGiven, MayBeGiven, MayNumberBy, NumberBy, PolicyOf};
+ghost use Rattle.kad_words.specs.Table.{c1_option, c2_option};
+ghost use Rattle.kad_words.specs.Taken.{taken_of};
+ghost use Rattle.kad_words.specs.Fitting.{Fits, ends_below, has_default, is_below};
+
+use crate::choice::{Choice, Kind, Need};
+use crate::options::{C1, C2};
+use crate::text::{read_hex, read_id, read_number};
+use clap::ArgMatches;
+use kad_base::{Id, Policy};
+
+/// The identifier of an option that has to stand.
+pub(crate) fn needed_id(matches: &ArgMatches, choice: &Choice) -> Id
+    requires fits { Fits (entry_of choice.now) (taken_of matches.now choice.now.name.now) }
+    requires kind { choice.now.kind ≡ Kind.Identifier }
+    requires need { choice.now.need ≡ Need.Required }
+    ensures { IsGiven SpellsId (taken_of matches.now choice.now.name.now) result }
+{
+    read_id(matches.get_str(choice.name).unwrap()).unwrap()
+}
+
+/// The identifier of an option that may be left out.
+pub(crate) fn id(matches: &ArgMatches, choice: &Choice) -> Option<Id>
+    requires fits { Fits (entry_of choice.now) (taken_of matches.now choice.now.name.now) }
+    requires kind { choice.now.kind ≡ Kind.Identifier }
+    ensures { MayBeGiven SpellsId (taken_of matches.now choice.now.name.now) result }
+{
+    read_id(matches.get_str(choice.name)?)
+}
+
+/// The 32 bytes of an option that may be left out.
+pub(crate) fn seed(matches: &ArgMatches, choice: &Choice) -> Option<[u8; 32]>
+    requires fits { Fits (entry_of choice.now) (taken_of matches.now choice.now.name.now) }
+    requires kind { choice.now.kind ≡ Kind.Seed }
+    ensures { MayBeGiven (SpellsHex 32) (taken_of matches.now choice.now.name.now) result }
+{
+    read_hex(matches.get_str(choice.name)?)
+}
+
+/// The number of an option, or its default.
+pub(crate) fn number(matches: &ArgMatches, choice: &Choice) -> u32
+    requires fits { Fits (entry_of choice.now) (taken_of matches.now choice.now.name.now) }
+    requires kind { IsTrue (has_default choice.now.kind choice.now.need) }
+    ensures { NumberBy choice.now.kind choice.now.need (taken_of matches.now choice.now.name.now) result }
+{
+    let Kind::Number { least, most } = choice.kind else {
+        unreachable!()
+    };
+    let Need::OrElse(default) = choice.need else {
+        unreachable!()
+    };
+    match matches.get_str(choice.name) {
+        Some(text) => read_number(text, least, most).unwrap(),
+        None => default,
+    }
+}
+
+/// The same of an option whose numbers are below 256.
+pub(crate) fn small(matches: &ArgMatches, choice: &Choice) -> u8
+    requires fits { Fits (entry_of choice.now) (taken_of matches.now choice.now.name.now) }
+    requires kind { IsTrue (is_below 256 choice.now.kind choice.now.need) }
+    ensures { NumberBy choice.now.kind choice.now.need (taken_of matches.now choice.now.name.now) result }
+{
+    number(matches, choice) as u8
+}
+
+/// The port of an option that may be left out.
+pub(crate) fn port(matches: &ArgMatches, choice: &Choice) -> Option<u16>
+    requires fits { Fits (entry_of choice.now) (taken_of matches.now choice.now.name.now) }
+    requires kind { IsTrue (ends_below 65536 choice.now.kind) }
+    ensures { MayNumberBy choice.now.kind (taken_of matches.now choice.now.name.now) result }
+{
+    let Kind::Number { least, most } = choice.kind else {
+        unreachable!()
+    };
+    Some(read_number(matches.get_str(choice.name)?, least, most)? as u16)
+}
+
+/// Which contacts pass: all, where neither number of bits stands. Where one stands, the other is its default.
+pub(crate) fn policy(matches: &ArgMatches) -> Policy
+    requires first { Fits c1_option.entry (taken_of matches.now c1_option.entry.name) }
+    requires second { Fits c2_option.entry (taken_of matches.now c2_option.entry.name) }
+    ensures { PolicyOf (taken_of matches.now) result }
+{
+    if matches.get_str(C1.name).is_none() && matches.get_str(C2.name).is_none() {
+        return Policy::Plain;
+    }
+    Policy::Puzzled {
+        c1: small(matches, &C1),
+        c2: small(matches, &C2),
+    }
+}
