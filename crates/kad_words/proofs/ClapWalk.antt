@@ -1,22 +1,19 @@
 -- What clap makes of pairs of an option and its value: it takes them, and finds each value under its option's name.
-use Rattle.std.proofs.Common.{◌≡◌, ◌≢◌, ℕ, zero, suc, ◌+◌, ◌<◌, Bool, true, false, cond, not, ◌&&◌, ◌||◌, ◌==◌, List, [], ◌∷◌, ◌++◌, map, length, take, Option, Some, None, refl, sym, ap, ap₂, ◌∙◌, subst, arith, codes, append-nil, append_assoc, is_some}
+use Rattle.std.proofs.Common.{◌≡◌, ◌≢◌, ℕ, suc, ◌+◌, Bool, true, false, cond, not, ◌&&◌, ◌||◌, ◌==◌, List, [], ◌∷◌, ◌++◌, map, take, Option, Some, None, refl, sym, ap, ap₂, ◌∙◌, subst, arith, append-nil, append_assoc, is_some}
 use Rattle.std.proofs.lemmas.Bool.{eqb-true}
 use Rattle.std.specs.Prelude.{bytes_eq, count_by, find, option_map, flat_map, nat_eq}
 use Rattle.std.specs.List.{AllByRecursion, before_first, fold, list_all, list_any, position_or_len}
 use Rattle.std.proofs.lemmas.Cmp.{nat_list_eq_equiv}
 use Rattle.std.proofs.lemmas.Slice.Eq.{bytes_eq-Decides}
-use Rattle.clap.specs.Lexer.{has_byte, long_of, short_of, name_and_value}
-use Rattle.clap.specs.Walk.{Held, Rule, Row, Walk, Text, action_of, arg_by_id, arg_by_long, at_row, first_of, finished, has_row, is_early_multiple, nothing_held, reading_by, settled, settled_rows, takes_values, used, walk, walk_from, walked, with_default, without, with_values, more_values, idle, option, word_met}
-use Rattle.clap.specs.Simple.{App, Shape, app_of, built, filled, filled_from, is_simple, matches_of, with_rule}
+use Rattle.clap.specs.Lexer.{has_byte, long_of, short_of}
+use Rattle.clap.specs.Walk.{Held, Rule, Row, Walk, arg_by_id, arg_by_long, first_of, finished, has_row, is_early_multiple, nothing_held, settled, settled_rows, used, walk, walk_from, walked, with_default, without, with_values, more_values, option}
+use Rattle.clap.specs.Simple.{Shape, built, filled, filled_from, is_simple, matches_of}
 use Rattle.clap.specs.Takes.{default_passes, settle_passes, takes, use_passes, walk_passes, turn_passes}
-use Rattle.clap.specs.declared.builder.action.ArgAction.TheVariants.{Set}
-use Rattle.clap.specs.declared.builder.value_parser.ValueParser.TheVariants as vp
 use Rattle.clap.specs.declared.builder.value_parser.Reading.TheVariants as reading
 use Rattle.clap.specs.declared.parser.matches.ValueSource.TheVariants.{CommandLine}
 use Rattle.kad_words.specs.Table.{Word, option_word}
 use Rattle.kad_words.specs.Plain.{IsValue}
-use Rattle.kad_words.specs.Taken.{app, are_names, is_name, rule}
-use Rattle.kad_words.proofs.Listing.{one_word, two_words_apart}
+use Rattle.kad_words.specs.Taken.{app, is_name, rule}
 
 -- ---- the arguments, as clap fills them in
 
@@ -237,7 +234,7 @@ module _ (s : Shape) (names : List Word) (never : s.args_override_self ≡ false
         ap (λ (w : Walk). fold (walked s.rules []) w (pair_words pairs)) both ∙ rest.1,
         subst (λ (l : List Row). Stands l rest.0) (append_assoc rs (row p.0 p.1 ∷ []) (rows pairs)) rest.2,
         ap₂ (λ (x y : Bool). x && y) first
-        (ap₂ (λ (x y : Bool). x && y) (ap (λ (w : Walk). turn_passes s [] w p.1) one ∙ second) (ap (λ (w : Walk). walk_passes s [] w (pair_words pairs)) both ∙ rest.3)),
+            (ap₂ (λ (x y : Bool). x && y) (ap (λ (w : Walk). turn_passes s [] w p.1) one ∙ second) (ap (λ (w : Walk). walk_passes s [] w (pair_words pairs)) both ∙ rest.3)),
       )
 
 -- ---- the whole parse
@@ -298,7 +295,7 @@ module _ (names : List Word) (pairs : List (Word × Word)) (fine : Fine names pa
       let held : (walk (all_full names) [] nothing_held (pair_words pairs)).held ≡ w.0 = ap (λ (x : Walk). x.held) w.1 in
       let rules = rules_are in
       let are : matches_of (app names) (first ∷ pair_words pairs) ≡ rows pairs =
-          ap (λ (rs : List Rule). finished rs (walk rs [] nothing_held (pair_words pairs)).held) rules ∙ ap (finished (all_full names)) held ∙ no_defaults names (settled (all_full names) w.0).rows ∙ w.2 in
+      ap (λ (rs : List Rule). finished rs (walk rs [] nothing_held (pair_words pairs)).held) rules ∙ ap (finished (all_full names)) held ∙ no_defaults names (settled (all_full names) w.0).rows ∙ w.2 in
       ap (first_of name) are ∙ first_is name pairs
 
   pub clap_takes : takes (app names) (first ∷ pair_words pairs) ≡ true

@@ -6,3 +6,4 @@ pub mod Listing
 pub mod ClapWalk
 pub mod Stripped
 pub mod Parsing
+pub mod Checks

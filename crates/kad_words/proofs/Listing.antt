@@ -1,6 +1,6 @@
 -- The options of a command, one after the other.
-use Rattle.std.proofs.Common.{◌≡◌, ℕ, suc, ◌+◌, ◌<◌, Bool, true, false, List, [], ◌∷◌, length, get_or, drop, Option, Some, None, refl, sym, ap, ◌∙◌, subst, drop-cons, add-one, map}
-use Rattle.std.specs.Prelude.{◌↔◌, bytes_eq, All, find, option_map, cond}
+use Rattle.std.proofs.Common.{◌≡◌, ℕ, ◌+◌, ◌<◌, Bool, true, false, List, ◌∷◌, length, get_or, drop, Some, refl, sym, ap, ◌∙◌, subst, drop-cons, add-one}
+use Rattle.std.specs.Prelude.{◌↔◌, bytes_eq, All}
 use Rattle.std.proofs.lemmas.Cmp.{nat_list_eq_equiv}
 use Rattle.std.proofs.lemmas.Slice.Eq.{bytes_eq-Decides}
 use Rattle.std.proofs.lemmas.List.Elements.{All-cons, All-head, All-tail}
@@ -8,7 +8,6 @@ use Rattle.kad_words.specs.Table.{Entry, Word, kind_named, option_word}
 use Rattle.kad_words.specs.Listed.{entries_of, entry_of}
 use Rattle.kad_words.specs.Plain.{AreThere, IsThere, pairs_of, value_of}
 use Rattle.kad_words.specs.declared.choice.Choice.{Choice}
-use Rattle.kad_words.specs.declared.choice.Kind.{Kind}
 
 -- ---- words that are one, or not
 

@@ -1,14 +1,14 @@
 -- What clap answers at words of the plain form.
-use Rattle.std.proofs.Common.{◌≡◌, ℕ, ◌+◌, ◌<◌, Bool, true, List, [], ◌∷◌, ◌++◌, map, length, drop, take, get_or, Option, refl, sym, ap, ap₂, ◌∙◌, subst, arith}
+use Rattle.std.proofs.Common.{◌≡◌, ℕ, ◌+◌, ◌<◌, true, List, [], ◌∷◌, ◌++◌, map, length, drop, take, get_or, refl, sym, ap, ap₂, ◌∙◌, subst, arith}
 use Rattle.std.proofs.lemmas.List.{map-append, take_more}
 use Rattle.clap.specs.Walk.{Rule, first_of}
-use Rattle.clap.specs.Simple.{App, app_of, is_simple, matches_of, with_rule}
+use Rattle.clap.specs.Simple.{App, matches_of, with_rule}
 use Rattle.clap.specs.Simple.{HasMatchesOf}
 use Rattle.clap.specs.Takes.{takes}
 use Rattle.clap.specs.Matches.{found_of}
 use Rattle.clap.proofs.WalkLemmas.{first_value-rows}
 use Rattle.clap.specs.declared.parser.matches.ArgMatches.{ArgMatches}
-use Rattle.kad_words.specs.Table.{Entry, Word}
+use Rattle.kad_words.specs.Table.{Word}
 use Rattle.kad_words.specs.Listed.{entries_of}
 use Rattle.kad_words.specs.Plain.{InPairs, pairs_of, values_of}
 use Rattle.kad_words.specs.Taken.{app, are_names, names_of, rule, taken_of}

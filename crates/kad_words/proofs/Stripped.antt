@@ -1,7 +1,7 @@
 -- From pairs that the plain form has to the pairs that clap reads.
-use Rattle.std.proofs.Common.{◌≡◌, ℕ, Bool, true, false, cond, ◌&&◌, ◌||◌, List, [], ◌∷◌, ◌++◌, map, drop, Option, Some, None, refl, sym, ap, ap₂, ◌∙◌, subst}
+use Rattle.std.proofs.Common.{◌≡◌, Bool, true, false, cond, ◌||◌, List, [], ◌∷◌, map, drop, Option, Some, None, refl, sym, ap, ap₂, ◌∙◌, subst}
 use Rattle.std.specs.Prelude.{All, bytes_eq, find, option_map}
-use Rattle.std.specs.List.{AllByRecursion, IsDistinct, list_all}
+use Rattle.std.specs.List.{AllByRecursion, IsDistinct}
 use Rattle.std.specs.Option.{IsSomeAnd}
 use Rattle.std.proofs.lemmas.Bool.{and_parts}
 use Rattle.std.proofs.lemmas.List.Elements.{All-head, All-tail}
@@ -9,8 +9,8 @@ use Rattle.std.proofs.lemmas.Map.Keys.{IsDistinct-head, IsDistinct-tail}
 use Rattle.std.proofs.lemmas.Slice.Eq.{bytes_eq-Decides}
 use Rattle.kad_words.specs.Table.{Entry, Word, kind_named, option_word}
 use Rattle.kad_words.specs.Listed.{entries_of}
-use Rattle.kad_words.specs.Plain.{Belongs, InPairs, IsOfKind, IsValue, value_of, values_of, words_of}
-use Rattle.kad_words.specs.Taken.{app, are_names, is_name, names_of}
+use Rattle.kad_words.specs.Plain.{Belongs, IsOfKind, IsValue, values_of, words_of}
+use Rattle.kad_words.specs.Taken.{are_names, is_name, names_of}
 use Rattle.kad_words.specs.declared.choice.Choice.{Choice}
 use Rattle.kad_words.specs.declared.choice.Kind.{Kind}
 use Rattle.kad_words.proofs.ClapWalk.{Fine, has, pair_words}

@@ -1,6 +1,6 @@
 -- The plain form of a command line, which is this project's own: a command, and then pairs of an option and its value.
 -- What such words ask for.
-use Rattle.std.specs.Prelude.{◌≡◌, ◌≢◌, ℕ, List, [], ◌∷◌, map, flat_map, codes, bytes_eq, find, option_map, Option, Some, None, All, Contains, IsSome}
+use Rattle.std.specs.Prelude.{◌≡◌, ◌≢◌, ℕ, List, [], ◌∷◌, map, flat_map, bytes_eq, find, option_map, Option, Some, None, All, Contains, IsSome}
 use Rattle.std.specs.List.{IsDistinct}
 use Rattle.std.specs.Option.{IsSomeAnd}
 use Rattle.kad_base.specs.declared.plain.Id.{Id}
@@ -109,9 +109,6 @@ MayNumberBy _ value n = ⊥
 abbrev pub Values : Type 0
 Values = Word → Option Word
 
-abbrev pub IdOf : Choice → Values → Id → Type 0
-IdOf c value id = IsGiven SpellsId (value c.entry.name) id
-
 abbrev pub MayIdOf : Choice → Values → Option Id → Type 0
 MayIdOf c value id = MayBeGiven SpellsId (value c.entry.name) id
 
@@ -137,9 +134,9 @@ PolicyOf value p = PolicyBy (value c1_option.entry.name) (value c2_option.entry.
 
 -- ---- what the words of each command ask for
 
--- the options of a lookup; its target is that of the option `goal`
-pub record IsLook (goal : Choice) (value : Values) (look : LookWords) : Type 0 where
-  pub target : IdOf goal value look.target
+-- the options of a lookup, whose target is the value of `goal`
+pub record IsLook (goal : Entry) (value : Values) (look : LookWords) : Type 0 where
+  pub target : IsGiven SpellsId (value goal.name) look.target
   pub own : MayIdOf own_option value look.own
   pub k : NumberOf k_option value look.k
   pub paths : NumberOf paths_option value look.paths
@@ -149,8 +146,8 @@ pub record IsLook (goal : Choice) (value : Values) (look : LookWords) : Type 0 w
   pub policy : PolicyOf value look.policy
 
 abbrev pub Says : Values → Command → Type 0
-Says value (Lookup look) = IsLook target_option value look
-Says value (Peers look announce) = IsLook key_option value look × MayNumberOf announce_option value announce
+Says value (Lookup look) = IsLook target_option.entry value look
+Says value (Peers look announce) = IsLook key_option.entry value look × MayNumberOf announce_option value announce
 Says value (Serve own k bits policy receives) =
     MayIdOf own_option value own × NumberOf k_option value k × NumberOf bits_option value bits × PolicyOf value policy × NumberOf receives_option value receives
 Says value (Check policy) = PolicyOf value policy

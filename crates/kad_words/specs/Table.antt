@@ -1,6 +1,6 @@
 -- The commands and their options, which are this project's own: one line an option, with what its value is, whether it
 -- has to stand or what stands for it, and the commands that have it.
-use Rattle.std.specs.Prelude.{ℕ, Bool, List, [], ◌∷◌, ◌++◌, map, filter, codes, bytes_eq, find, option_map, Option}
+use Rattle.std.specs.Prelude.{ℕ, List, [], ◌∷◌, ◌++◌, map, filter, codes, bytes_eq, find, option_map, Option}
 use Rattle.std.specs.List.{list_any}
 use Rattle.kad_words.specs.declared.choice.Kind.{Kind}
 use Rattle.kad_words.specs.declared.choice.Kind.TheVariants.{Identifier, Seed, Number, Address}

@@ -1,6 +1,6 @@
 -- What clap is given: one command without subcommands, with an argument for each option, which takes one value and has
 -- no rule of its own. The words are clap's own definitions, in `Rattle.clap.specs`.
-use Rattle.std.specs.Prelude.{ℕ, Bool, true, false, not, ◌&&◌, List, [], ◌∷◌, map, codes, Some, Option}
+use Rattle.std.specs.Prelude.{Bool, true, false, not, List, [], ◌∷◌, map, codes, Some, Option}
 use Rattle.std.specs.List.{list_all}
 use Rattle.clap.specs.Lexer.{has_byte}
 use Rattle.clap.specs.Matches.{first_value, found_of}

@@ -8,7 +8,9 @@ use thiserror::Error;
 #[derive(Clone, Copy, Debug, PartialEq, Eq)]
 pub enum Command {
     /// Look for the nodes closest to an identifier.
-    Lookup { look: LookWords },
+    Lookup {
+        look: LookWords,
+    },
     /// Look for peers; the target is the value of `--key`. `announce` is the port to announce, 0 for an implied one.
     Peers {
         look: LookWords,
@@ -23,7 +25,9 @@ pub enum Command {
         receives: u32,
     },
     /// Say which contact lines pass a policy.
-    Check { policy: Policy },
+    Check {
+        policy: Policy,
+    },
     /// Find an identifier that solves both puzzles, from a seed, in that many tries.
     Mint {
         seed: Option<[u8; 32]>,

@@ -8,7 +8,7 @@ pub mod command;
 mod matched;
 mod options;
 mod plain;
-//mod reading;
+mod reading;
 pub mod text;
 mod values;
 //cfg
@@ -16,4 +16,4 @@ mod values;
 
 pub use bind::{bind_of, takes_link};
 pub use command::{Command, LookWords, WordsFault};
-//pub use reading::read;
+pub use reading::read;

@@ -1,6 +1,6 @@
 //! The values of the options, taken by clap: one command without subcommands, whose arguments all take one value. Of
 //! words of the plain form clap finds each value under its option's name, and its one refusal is want of memory.
-ghost use Rattle.std.specs.Prelude.{◌≡◌, ◌<◌, List, ℕ, length, drop, map, string_bytes, IfErr, IfOk, IsTrue};
+ghost use Rattle.std.specs.Prelude.{◌≡◌, ◌<◌, List, ℕ, length, drop, map, string_bytes, IfOk, IsTrue};
 ghost use Rattle.clap.specs.Words.{app_of};
 ghost use Rattle.kad_words.specs.Table.{Word};
 ghost use Rattle.kad_words.specs.Listed.{entries_of};
@@ -8,9 +8,9 @@ ghost use Rattle.kad_words.specs.Plain.{InPairs, pairs_of, values_of};
 ghost use Rattle.kad_words.specs.Taken.{app, are_names, names_of, taken_of};
 
 use crate::choice::Choice;
-use crate::command::WordsFault;
 use clap::error::ErrorKind;
 use clap::{Arg, ArgMatches, Command};
+use kad_base::NoMemory;
 use std::alloc::Global;
 
 /// The values of the options, by their names. The first word is passed over.
@@ -18,36 +18,34 @@ pub(crate) fn matched<'a>(
     alloc: Global,
     words: &'a [String],
     choices: &'a [Choice],
-) -> Result<ArgMatches<'a>, WordsFault>
+) -> Result<ArgMatches<'a>, NoMemory>
     requires some { 0 < length words.now }
     requires names { IsTrue (are_names (names_of choices.now)) }
     requires plain { let rest = drop 1 (map (λ w. string_bytes w) words.now) in
         InPairs (entries_of choices.now) rest (pairs_of rest) }
-    ensures found { let pairs = pairs_of (drop 1 (map (λ w. string_bytes w) words.entry.now)) in
+    ensures { let pairs = pairs_of (drop 1 (map (λ w. string_bytes w) words.entry.now)) in
         IfOk result (λ m. (name : Word) → taken_of m name ≡ values_of pairs name) }
-    ensures memory { IfErr result (λ fault. fault ≡ WordsFault.NoMemory) }
 {
     let command = command_of(alloc, choices)?;
     match command.try_get_matches_from(words) {
         Ok(matches) => Ok(matches),
         Err(error) => match error.kind() {
-            ErrorKind::OutOfMemory => Err(WordsFault::NoMemory),
+            ErrorKind::OutOfMemory => Err(NoMemory),
             _ => unreachable!(),
         },
     }
 }
 
 /// The command that has these options.
-fn command_of<'a>(alloc: Global, choices: &'a [Choice]) -> Result<Command<'a>, WordsFault>
-    ensures made { IfOk result (λ c. app_of c ≡ app (names_of choices.entry.now)) }
-    ensures memory { IfErr result (λ fault. fault ≡ WordsFault.NoMemory) }
+fn command_of<'a>(alloc: Global, choices: &'a [Choice]) -> Result<Command<'a>, NoMemory>
+    ensures { IfOk result (λ c. app_of c ≡ app (names_of choices.entry.now)) }
 {
     let mut command = Command::new(alloc, "nolzavirt").disable_help_flag(true);
     for choice in choices {
         let arg = Arg::new(alloc, choice.name).long(choice.name);
         command = match command.arg(arg) {
             Ok(command) => command,
-            Err(_) => return Err(WordsFault::NoMemory),
+            Err(_) => return Err(NoMemory),
         };
     }
     Ok(command)

@@ -7,8 +7,17 @@ ghost use Rattle.kad_words.specs.Plain.{AreThere, Belongs, InPairs, pairs_of, va
 
 use crate::choice::{Choice, Kind, is_of_kind, is_option, is_there, is_value};
 
+/// Whether words are of the plain form, for a command with these options.
+pub(crate) fn is_plain(words: &[String], choices: &[Choice]) -> bool
+    ensures { let texts = map (λ w. string_bytes w) words.now in
+        IsTrue result ↔ (InPairs (entries_of choices.now) texts (pairs_of texts)
+        × AreThere (entries_of choices.now) (pairs_of texts)) }
+{
+    are_pairs(words, choices) && are_there(words, choices)
+}
+
 /// Whether the words are pairs of one of these options and a value of it, and none of them stands twice.
-pub(crate) fn are_pairs(words: &[String], choices: &[Choice]) -> bool
+fn are_pairs(words: &[String], choices: &[Choice]) -> bool
     ensures { let texts = map (λ w. string_bytes w) words.now in
         IsTrue result ↔ InPairs (entries_of choices.now) texts (pairs_of texts) }
 {
@@ -74,7 +83,7 @@ fn value_named<'a>(words: &'a [String], name: &str) -> Option<&'a str>
 }
 
 /// Whether each option that has to stand has a value.
-pub(crate) fn are_there(words: &[String], choices: &[Choice]) -> bool
+fn are_there(words: &[String], choices: &[Choice]) -> bool
     ensures { IsTrue result ↔ AreThere (entries_of choices.now) (pairs_of (map (λ w. string_bytes w) words.now)) }
 {
     for choice in choices {

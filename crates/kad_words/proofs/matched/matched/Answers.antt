@@ -7,9 +7,9 @@ use Rattle.kad_words.proofs.matched.matched.Goals as goal
 pub unreachable-requires : goal.unreachable-requires
 unreachable-requires c =
     let texts = map (λ w. string_bytes w) c.args.words.now in
-    let passes = ap (λ a. takes a texts) c.in_ok-command.ensures.made ∙ parse_passes c.args.choices.now c.requires.names texts (rw length-map c.requires.some) c.requires.plain in
+    let passes = ap (λ a. takes a texts) c.in_ok-command.ensures ∙ parse_passes c.args.choices.now c.requires.names texts (rw length-map c.requires.some) c.requires.plain in
     c.in_default.not-OutOfMemory (c.kind.ensures ∙ c.in-Err.ensures.passes passes)
 
-pub returns-in-Ok-clause-found : goal.returns-in-Ok-clause-found
-returns-in-Ok-clause-found c =
-    taken_is c.args.choices.now c.requires.names (map (λ w. string_bytes w) c.args.words.now) (rw length-map c.requires.some) c.requires.plain _ c.in-Ok.matches c.in_ok-command.ensures.made c.in-Ok.ensures.matches
+pub returns-in-Ok : goal.returns-in-Ok
+returns-in-Ok c =
+    taken_is c.args.choices.now c.requires.names (map (λ w. string_bytes w) c.args.words.now) (rw length-map c.requires.some) c.requires.plain _ c.in-Ok.matches c.in_ok-command.ensures c.in-Ok.ensures.matches

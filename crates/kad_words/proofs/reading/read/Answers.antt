@@ -1,0 +1,18 @@
+use Rattle.std.proofs.Common.{map, refl, string_bytes}
+use Rattle.kad_words.proofs.Checks.{all_fit, command_is, fit_too, is_plain_then, names_good, not_usage}
+use Rattle.kad_words.proofs.reading.read.Goals as goal
+
+pub matched-requires-clause-names : goal.matched-requires-clause-names
+matched-requires-clause-names c = names_good c.in-Some.name c.options.result.now c.options.ensures
+
+pub returns-in-Err-clause-fault : goal.returns-in-Err-clause-fault
+returns-in-Err-clause-fault c = not_usage (map (λ w. string_bytes w) c.args.words.now) _ (is_plain_then c.in-Some.name _ c.in-Some.ensures) refl
+
+pub command-requires : goal.command-requires
+command-requires c =
+    let plain = c.in-Some.ensures in
+    fit_too _ _ _ c.in-Ok.ensures (all_fit _ _ _ plain.plain plain.there)
+
+pub returns-in-Ok-clause-command : goal.returns-in-Ok-clause-command
+returns-in-Ok-clause-command c =
+    command_is c.in-Some.name (map (λ w. string_bytes w) c.args.words.now) _ c.command.result c.in-Some.ensures c.in-Ok.ensures c.command.ensures.says c.command.ensures.word
