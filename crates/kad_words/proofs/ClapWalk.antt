@@ -62,7 +62,7 @@ whole_front p (x ∷ xs) h = go (p x) h (whole_front p xs)
         rw next (ap (λ (l : List ℕ). x ∷ l) (more h))
 
 no_equals : (name : Word) → is_name name ≡ true → has_byte 61 name ≡ false
-no_equals [] h = cc h
+no_equals [] h = refl
 no_equals (x ∷ xs) h = go (has_byte 61 (x ∷ xs)) h
   where
     go : (b : Bool) → not b ≡ true → b ≡ false

@@ -1,9 +1,11 @@
 pub mod HexSpelling
 pub mod NumberSpelling
 pub mod AddrSpelling
+pub mod OneSpelling
 pub mod WordForm
 pub mod Listing
 pub mod ClapWalk
 pub mod Stripped
 pub mod Parsing
 pub mod Checks
+pub mod OneCommand

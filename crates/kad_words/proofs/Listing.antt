@@ -8,6 +8,8 @@ use Rattle.kad_words.specs.Table.{Entry, Word, kind_named, option_word}
 use Rattle.kad_words.specs.Listed.{entries_of, entry_of}
 use Rattle.kad_words.specs.Plain.{AreThere, IsThere, pairs_of, value_of}
 use Rattle.kad_words.specs.declared.choice.Choice.{Choice}
+use Rattle.kad_words.specs.declared.choice.Kind.TheVariants.{Identifier}
+use Rattle.kad_words.specs.declared.choice.Need.TheVariants.{Required}
 
 -- ---- words that are one, or not
 
@@ -22,6 +24,10 @@ two_words_apart a b apart = go (bytes_eq a b) refl
     go false e = e
 
 -- ---- the options from one on
+
+-- what stands past the end of a list of options
+abbrev pub past : Choice
+past = record { name = record { ref_ptr = (0, 0); now = [] }; kind = Identifier; need = Required }
 
 from_here : (xs : List Choice) (i : ℕ) (d : Choice) → i < length xs → entries_of (drop i xs) ≡ entry_of (get_or xs i d) ∷ entries_of (drop (i + 1) xs)
 from_here xs i d lt = ap entries_of (drop-cons xs i d lt) ∙ rw add-one refl

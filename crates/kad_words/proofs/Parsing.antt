@@ -13,16 +13,10 @@ use Rattle.kad_words.specs.Listed.{entries_of}
 use Rattle.kad_words.specs.Plain.{InPairs, pairs_of, values_of}
 use Rattle.kad_words.specs.Taken.{app, are_names, names_of, rule, taken_of}
 use Rattle.kad_words.specs.declared.choice.Choice.{Choice}
-use Rattle.kad_words.specs.declared.choice.Kind.TheVariants.{Identifier}
-use Rattle.kad_words.specs.declared.choice.Need.TheVariants.{Required}
 use Rattle.kad_words.proofs.ClapWalk.{Fine, clap_finds, clap_simple, clap_takes, pair_words}
 use Rattle.kad_words.proofs.Stripped.{fine, names_are, names_in, same_values, same_words, stripped}
 
 -- ---- the command, one option more
-
--- what stands past the end of a list of options
-abbrev pub past : Choice
-past = record { name = record { ref_ptr = (0, 0); now = [] }; kind = Identifier; need = Required }
 
 pub rule_more : (a : App) (xs : List Choice) (i : ℕ) (d : Choice) → i < length xs → a ≡ app (names_of (take i xs)) → with_rule a (rule (get_or xs i d).name.now) ≡ app (names_of (take (i + 1) xs))
 rule_more a xs i d lt is =

@@ -9,11 +9,11 @@ mod matched;
 mod options;
 mod plain;
 mod reading;
+#[cfg(test)]
+mod tests;
 pub mod text;
 mod values;
-//cfg
-//mod tests;
 
 pub use bind::{bind_of, takes_link};
 pub use command::{Command, LookWords, WordsFault};
-pub use reading::read;
+pub use reading::{one_command, read};

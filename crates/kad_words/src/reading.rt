@@ -1,9 +1,10 @@
 //! From the words of a command line to a command.
-ghost use Rattle.std.specs.Prelude.{◌≡◌, ◌↔◌, IfErr, IfOk, MatchOption, map, string_bytes};
-ghost use Rattle.kad_words.specs.Table.{check, lookup, mint, options_of, peers, serve, sim};
+ghost use Rattle.std.specs.Prelude.{◌≡◌, ◌↔◌, List, IfErr, IfOk, MatchOption, map, string_bytes};
+ghost use Rattle.kad_words.specs.Table.{Word, check, lookup, mint, options_of, peers, serve, sim};
 ghost use Rattle.kad_words.specs.Listed.{entry_of, name_word};
 ghost use Rattle.kad_words.specs.Plain.{CommandOf, IsLook, IsPlain, Says, word_of};
 ghost use Rattle.kad_words.specs.Taken.{taken_of};
+ghost use Rattle.kad_words.specs.declared.command.Command.{Command};
 ghost use Rattle.kad_words.specs.Fitting.{AllFit, IsPlainBy, LookFits};
 
 use crate::choice::{Choice, Kind, Need};
@@ -153,3 +154,8 @@ fn sim(matches: &ArgMatches) -> Command
         timeout: number(matches, &TIMEOUT),
     }
 }
+
+/// Words ask for one command.
+pub fn one_command()
+    ensures { (words : List Word) (a b : Command) → CommandOf words a → CommandOf words b → a ≡ b }
+{}

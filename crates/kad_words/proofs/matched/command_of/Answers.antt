@@ -3,7 +3,8 @@ use Rattle.clap.specs.Walk.{rule_of}
 use Rattle.clap.specs.Simple.{with_rule}
 use Rattle.clap.specs.Words.{app_of}
 use Rattle.kad_words.specs.Taken.{rule}
-use Rattle.kad_words.proofs.Parsing.{past, rule_more}
+use Rattle.kad_words.proofs.Parsing.{rule_more}
+use Rattle.kad_words.proofs.Listing.{past}
 use Rattle.kad_words.proofs.matched.command_of.Goals as goal
 
 pub loop-choice-preserved : goal.loop-choice-preserved
