@@ -1,6 +1,6 @@
 //! The plain form: the words after a command are pairs of one of its options and a value, none stands twice, and those
 //! that have to stand are there. It takes no memory.
-ghost use Rattle.std.specs.Prelude.{◌≡◌, ◌↔◌, map, string_bytes, IsTrue, option_map};
+ghost use Rattle.std.specs.Prelude.{◌≡◌, ◌↔◌, ◌==◌, length, map, string_bytes, IsTrue, option_map};
 ghost use Rattle.kad_words.specs.Table.{kind_named, option_word};
 ghost use Rattle.kad_words.specs.Listed.{entries_of};
 ghost use Rattle.kad_words.specs.Plain.{AreThere, Belongs, InPairs, pairs_of, value_of};
@@ -29,7 +29,14 @@ fn are_pairs(words: &[String], choices: &[Choice]) -> bool
         }
         rest = more;
     }
-    rest.is_empty()
+    are_none(rest)
+}
+
+/// Whether no word is left.
+fn are_none(words: &[String]) -> bool
+    ensures { result ≡ (length words.now == 0) }
+{
+    words.is_empty()
 }
 
 /// Whether a word is one of these options, and the next a value of it.

@@ -28,5 +28,5 @@ pub returns : goal.returns
 returns c =
     let rest = map (λ w. string_bytes w) c.loop-rest.rest.now in
     let e = length-map c.loop-rest.rest.now (λ w. string_bytes w) in
-    let end = ends_in_pairs _ rest c.is_empty.result (rw e c.in_default.len_below) (rw e c.is_empty.ensures) in
+    let end = ends_in_pairs _ rest c.are_none.result (rw e c.in_default.len_below) (rw e c.are_none.ensures) in
     (λ t. c.loop-rest.invariant.0 (end.0 t), λ h. end.1 (c.loop-rest.invariant.1 h))
