@@ -13,8 +13,6 @@ use Rattle.kad_words.specs.Taken.{are_names, names_of}
 use Rattle.kad_words.specs.declared.choice.Choice.{Choice}
 use Rattle.kad_words.specs.declared.choice.Kind.{Kind}
 use Rattle.kad_words.specs.declared.command.Command.{Command}
-use Rattle.kad_words.specs.declared.command.WordsFault.{WordsFault}
-use Rattle.kad_words.specs.declared.command.WordsFault.TheVariants.{Usage, NoMemory}
 use Rattle.kad_words.specs.declared.options.Name.{Name}
 use Rattle.kad_words.specs.declared.options.Name.TheVariants as name
 use Rattle.kad_words.proofs.Stripped.{names_are, names_in}
@@ -182,7 +180,3 @@ plain_cases n texts rest first entries true cut is same h =
 plain_cases n texts rest first entries false cut is same h = λ plain.
     let both = by_name n texts rest first cut is plain in
     cc (h.1 (subst (λ (es : List Entry). InPairs es rest (pairs_of rest)) (sym same) both.0, subst (λ (es : List Entry). AreThere es (pairs_of rest)) (sym same) both.1))
-
--- a fault that is not wrong words, where the words are plain
-pub not_usage : (texts : List Word) (f : WordsFault) → IsPlain texts → f ≡ NoMemory → (f ≡ Usage) ↔ (IsPlain texts → ⊥)
-not_usage texts f plain e = (λ u. cc (u, e), λ no. absurd (no plain))

@@ -1,13 +1,11 @@
 -- Words ask for one command.
-use Rattle.std.proofs.Common.{◌≡◌, ℕ, ◌^◌, ◌<◌, true, false, true≢false, List, [], ◌∷◌, Option, Some, None, refl, sym, ap, ◌∙◌, subst, lit<}
-use Rattle.std.specs.Prelude.{bytes_eq}
-use Rattle.kad_base.specs.declared.plain.Id.{Id}
+use Rattle.std.proofs.Common.{◌≡◌, ℕ, ◌^◌, ◌<◌, true, true≢false, List, Option, Some, None, refl, sym, ap, ◌∙◌, subst, lit<}
+use Rattle.std.specs.Prelude.{Contains, bytes_eq}
 use Rattle.kad_base.specs.declared.plain.Policy.{Policy}
 use Rattle.kad_base.specs.declared.plain.Policy.TheVariants as policy
 use Rattle.kad_words.specs.Text.{SpellsHex, SpellsId, SpellsNumber}
-use Rattle.kad_words.specs.Table.{Entry, Word, options_of}
-use Rattle.kad_words.specs.Table.{alpha_option, bits_option, c1_option, c2_option, k_option, own_option, paths_option, timeout_option}
-use Rattle.kad_words.specs.Plain.{CommandOf, IsGiven, IsGivenOr, IsLook, MayBeGiven, PolicyBy, PolicyOf, Says, Values, pairs_of, values_of, word_of}
+use Rattle.kad_words.specs.Table.{commands, Entry, Word}
+use Rattle.kad_words.specs.Plain.{CommandOf, IsGiven, IsGivenOr, IsLook, IsPlain, MayBeGiven, PolicyBy, Says, Values, pairs_of, values_of, word_of}
 use Rattle.kad_words.specs.declared.command.Command.{Command}
 use Rattle.kad_words.specs.declared.command.Command.TheVariants.{Lookup, Peers, Serve, Check, Mint, Sim}
 use Rattle.kad_words.specs.declared.command.LookWords.{LookWords}
@@ -98,3 +96,23 @@ command_once words a b s t =
     let rest : s.rest ≡ t.rest = (let e = s.begins in let f = t.begins in cc) in
     let pairs : s.pairs ≡ t.pairs = pairs_are _ s.rest s.pairs s.plain ∙ ap pairs_of rest ∙ sym (pairs_are _ t.rest t.pairs t.plain) in
     says_once (values_of t.pairs) a b (one_word (word_of a) (word_of b) first) (subst (λ (ps : List (Word × Word)). Says (values_of ps) a) pairs s.says) t.says
+
+-- the command is one of the table's
+known : (c : Command) → Contains commands (word_of c)
+known (Lookup look) = (0, lit< tt, refl)
+known (Peers look x) = (1, lit< tt, refl)
+known (Serve o k b p r) = (2, lit< tt, refl)
+known (Check p) = (3, lit< tt, refl)
+known (Mint d a b n) = (4, lit< tt, refl)
+known (Sim d n h k p a m) = (5, lit< tt, refl)
+
+pub command_plain : (words : List Word) (c : Command) → CommandOf words c → IsPlain words
+command_plain words c h = record {
+  command = word_of c;
+  rest = h.rest;
+  pairs = h.pairs;
+  begins = h.begins;
+  known = known c;
+  plain = h.plain;
+  there = h.there;
+}

@@ -1,5 +1,5 @@
 //! From the words of a command line to a command.
-ghost use Rattle.std.specs.Prelude.{◌≡◌, ◌↔◌, List, IfErr, IfOk, MatchOption, map, string_bytes};
+ghost use Rattle.std.specs.Prelude.{◌≡◌, List, IfErr, IfOk, MatchOption, map, string_bytes};
 ghost use Rattle.kad_words.specs.Table.{Word, check, lookup, mint, options_of, peers, serve, sim};
 ghost use Rattle.kad_words.specs.Listed.{entry_of, name_word};
 ghost use Rattle.kad_words.specs.Plain.{CommandOf, IsLook, IsPlain, Says, word_of};
@@ -24,8 +24,10 @@ use std::alloc::Global;
 /// plain form, whatever memory there is.
 pub fn read(alloc: Global, words: &[String]) -> Result<Command, WordsFault>
     ensures command { IfOk result (λ c. CommandOf (map (λ w. string_bytes w) words.now) c) }
-    ensures fault { let texts = map (λ w. string_bytes w) words.now in
-        IfErr result (λ f. (f ≡ WordsFault.Usage) ↔ ¬ IsPlain texts) }
+    ensures usage { let texts = map (λ w. string_bytes w) words.now in
+        IfErr result (λ fault. fault ≡ WordsFault.Usage → ¬ IsPlain texts) }
+    ensures memory { let texts = map (λ w. string_bytes w) words.now in
+        IfErr result (λ fault. fault ≡ WordsFault.NoMemory → IsPlain texts) }
 {
     let Some(name) = plain_name(words) else {
         return Err(WordsFault::Usage);
@@ -155,7 +157,8 @@ fn sim(matches: &ArgMatches) -> Command
     }
 }
 
-/// Words ask for one command.
+/// Words ask for one command, and then they are of the plain form.
 pub fn one_command()
-    ensures { (words : List Word) (a b : Command) → CommandOf words a → CommandOf words b → a ≡ b }
+    ensures one { (words : List Word) (a b : Command) → CommandOf words a → CommandOf words b → a ≡ b }
+    ensures plain { (words : List Word) (c : Command) → CommandOf words c → IsPlain words }
 {}

@@ -1,12 +1,12 @@
-use Rattle.std.proofs.Common.{map, refl, string_bytes}
-use Rattle.kad_words.proofs.Checks.{all_fit, command_is, fit_too, is_plain_then, names_good, not_usage}
+use Rattle.std.proofs.Common.{map, string_bytes}
+use Rattle.kad_words.proofs.Checks.{all_fit, command_is, fit_too, is_plain_then, names_good}
 use Rattle.kad_words.proofs.reading.read.Goals as goal
 
 pub matched-requires-clause-names : goal.matched-requires-clause-names
 matched-requires-clause-names c = names_good c.in-Some.name c.options.result.now c.options.ensures
 
-pub returns-in-Err-clause-fault : goal.returns-in-Err-clause-fault
-returns-in-Err-clause-fault c = not_usage (map (λ w. string_bytes w) c.args.words.now) _ (is_plain_then c.in-Some.name _ c.in-Some.ensures) refl
+pub returns-in-Err-clause-memory : goal.returns-in-Err-clause-memory
+returns-in-Err-clause-memory c = λ e. is_plain_then c.in-Some.name _ c.in-Some.ensures
 
 pub command-requires : goal.command-requires
 command-requires c =
