@@ -176,6 +176,22 @@ fn words_of_the_other_commands(rt: HostRuntime) {
                 announce: Some(65535),
             },
         ),
+        (
+            "peers --key ID --own ID --k 20 --paths 8 --alpha 4 --timeout 60000 --bits 5 --c1 32 --c2 32 --bind 1.2.3.4:5 --announce 1",
+            Command::Peers {
+                look: LookWords {
+                    target: id(),
+                    own: Some(id()),
+                    k: 20,
+                    paths: 8,
+                    alpha: 4,
+                    timeout: 60000,
+                    bits: 5,
+                    policy: Policy::Puzzled { c1: 32, c2: 32 },
+                },
+                announce: Some(1),
+            },
+        ),
         ("serve", serve),
         (
             "serve --receives 1 --c1 8 --k 2 --bits 3 --own ID --bind 0.0.0.0:1",
