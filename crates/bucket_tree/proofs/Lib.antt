@@ -7,5 +7,13 @@ pub mod Places
 pub mod Ids
 pub mod RowKept
 pub mod RowSteps
-pub mod Splits
 pub mod RowsKept
+pub mod Bytes
+pub mod Nearer
+pub mod Ways
+pub mod Shape
+pub mod SeenRows
+pub mod FailedRows
+pub mod Stays
+pub mod Stops
+pub mod Gathered

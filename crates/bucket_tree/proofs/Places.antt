@@ -12,7 +12,6 @@ use Rattle.kad_base.specs.declared.plain.Contact.{Contact}
 use Rattle.kad_base.specs.Contacts.{same, among}
 use Rattle.kad_base.proofs.Contacts.{same_exact, among_more}
 use Rattle.bucket_tree.proofs.Every.{all-left, all-after, count-append, flat_map-append}
-use Rattle.bucket_tree.specs.Places.{IsRowAt}
 use Rattle.bucket_tree.proofs.OneBit.{id_bits-length}
 use Rattle.bucket_tree.proofs.Counted.{filter-map}
 use Rattle.bucket_tree.proofs.Shares.{one_begins}
@@ -20,18 +19,6 @@ use Rattle.bucket_tree.proofs.Shares.{one_begins}
 -- the row covers the identifier
 abbrev pub covers : Id → RowState → Bool
 covers id row = begins row.prefix (id_bits id)
-
-pub row-at : (id : Id) (rows : List RowState) (at : ℕ) (row : RowState) → at < length rows → row ≡ get_or rows at row → covers id row ≡ true → IsRowAt id rows at
-row-at id rows at row lt is c =
-    let more : drop at rows ≡ get_or rows at row ∷ drop (at + 1) rows = drop_more rows at row lt in
-    record {
-      front = take at rows;
-      row = row;
-      back = drop (at + 1) rows;
-      rows_are = sym (take-append-drop at rows) ∙ ap (λ (l : List RowState). take at rows ++ l) (more ∙ ap (λ (r : RowState). r ∷ drop (at + 1) rows) (sym is));
-      place = sym (length-take-le at rows (omega arith));
-      covers = c;
-    }
 
 -- one row of a partition covers it
 pub one-covers : (id : Id) (rows : List RowState) → Partition (prefixes_of rows) → All (λ row. length row.prefix ≤ 160) rows → length (filter (covers id) rows) ≡ 1
@@ -44,19 +31,6 @@ abbrev one_if : Bool → ℕ
 one_if b = cond b 1 0
 
 -- those before the place don't
-pub none-more : (id : Id) (rows : List RowState) (i : ℕ) (row : RowState) → i < length rows → row ≡ get_or rows i row → covers id row ≡ false
-    → length (filter (covers id) (take i rows)) ≡ 0 → length (filter (covers id) (take (i + 1) rows)) ≡ 0
-none-more id rows i row lt is other none =
-    let e = length-filter_more (covers id) rows i row lt in
-    let f : ◌≡◌ {A = ℕ} (cond (covers id (get_or rows i row)) 1 0) 0 = ap (λ (r : RowState). one_if (covers id r)) (sym is) ∙ ap one_if other in
-    omega (arith, e, f, none)
-
-pub none-end : (id : Id) (rows : List RowState) (i : ℕ) → length rows ≤ i → length (filter (covers id) (take i rows)) ≡ 0 → Partition (prefixes_of rows) → All (λ row. length row.prefix ≤ 160) rows → ⊥
-none-end id rows i le none d short =
-    let one = one-covers id rows d short in
-    let all = ap (λ (l : List RowState). length (filter (covers id) l)) (take_all i rows le) in
-    omega (arith, one, all, none)
-
 -- another row doesn't cover it
 pub alone : (id : Id) (front back : List RowState) (row : RowState) → Partition (prefixes_of (front ++ row ∷ back)) → All (λ row. length row.prefix ≤ 160) (front ++ row ∷ back) → covers id row ≡ true
     → (length (filter (covers id) front) ≡ 0) × (length (filter (covers id) back) ≡ 0)

@@ -16,7 +16,7 @@ use Rattle.bucket_tree.specs.declared.plain.Gone.TheVariants.{Kept, Removed, Rep
 use Rattle.bucket_tree.specs.Partition.{id_bits, begins}
 use Rattle.bucket_tree.specs.Rows.{RowState, IsRow, contact_of, live_in, same_id}
 use Rattle.bucket_tree.specs.Steps.{knows_id, fresh, without, with_room, half, failures_of, RowFailed}
-use Rattle.bucket_tree.specs.Places.{Refilled}
+use Rattle.bucket_tree.specs.Refills.{Refilled}
 use Rattle.bucket_tree.proofs.Begun.{begins-whole}
 use Rattle.bucket_tree.proofs.OneBit.{id_bits-length}
 use Rattle.bucket_tree.proofs.Counted.{filter-few, filter-fewer, filter-map, any-map}
@@ -99,18 +99,6 @@ without-room c live kept n e known le =
     let fewer = filter-fewer (λ x. same c x.contact) live (sym (any-map contact_of (same c) live) ∙ known) in
     omega (arith, ap length e, fewer)
 
-pub with-spare : (k : ℕ) (c : Contact) (spares others kept : List Entry) → others ≡ filter (λ e. not (same_id e.contact.id c.id)) spares → kept ≡ cond (nat_le k (length others)) (drop 1 others) others
-    → map contact_of (kept ++ fresh c ∷ []) ≡ with_room k (filter (λ x. not (same_id x.id c.id)) (map contact_of spares)) ++ c ∷ []
-with-spare k c spares others kept e f =
-    let all : filter (λ x. not (same_id x.id c.id)) (map contact_of spares) ≡ map contact_of others = filter-map contact_of (λ x. not (same_id x.id c.id)) spares ∙ ap (map contact_of) (sym e) in
-    let room : map contact_of kept ≡ with_room k (map contact_of others) = ap (map contact_of) f ∙ dropped others (nat_le k (length others)) ∙ ap (λ (n : ℕ). cond (nat_le k n) (drop 1 (map contact_of others)) (map contact_of others)) (sym (length-map others contact_of)) in
-    map-append contact_of kept (fresh c ∷ []) ∙ ap (λ (l : List Contact). l ++ c ∷ []) (room ∙ ap (with_room k) (sym all))
-  where
-    dropped : (xs : List Entry) (t : Bool) → map contact_of (cond t (drop 1 xs) xs) ≡ cond t (drop 1 (map contact_of xs)) (map contact_of xs)
-    dropped [] true = refl
-    dropped (x ∷ xs) true = refl
-    dropped xs false = refl
-
 find-any : (p : Entry → Bool) (xs : List Entry) (n : ℕ) → option_map (λ e. e.failures) (find p xs) ≡ Some n → list_any p xs ≡ true
 find-any p [] n e = absurd cc
 find-any p (x ∷ xs) n e = go (p x) e (find-any p xs n)
@@ -144,26 +132,19 @@ failed-room c live kept n m e f le =
     omega (arith, ap length f, fewer)
 
 -- the second failure
-pub refilled : (c : Contact) (row : RowState) (n : ℕ) (spares live' spares' : List Entry) (gone : Gone) → failures_of row c ≡ Some n → n ≢ 0 → All (λ e. e.failures ≤ 1) row.live
-    → map contact_of spares ≡ row.spares → Refilled (without c row.live) spares gone live' spares' → RowFailed c row gone (record { prefix = row.prefix; live = live'; spares = map contact_of spares' })
-refilled c row n spares live' spares' Kept f ne a s r = absurd r
-refilled c row n spares live' spares' Unknown f ne a s r = absurd r
-refilled c row n spares live' spares' Removed f ne a s r =
+pub refilled : (c : Contact) (row : RowState) (n : ℕ) (live' : List Entry) (spares' : List Contact) (gone : Gone) → failures_of row c ≡ Some n → n ≢ 0 → All (λ e. e.failures ≤ 1) row.live
+    → Refilled (without c row.live) row.spares gone live' spares' → RowFailed c row gone (record { prefix = row.prefix; live = live'; spares = spares' })
+refilled c row n live' spares' Kept f ne a r = absurd r
+refilled c row n live' spares' Unknown f ne a r = absurd r
+refilled c row n live' spares' Removed f ne a r =
     let le = find-all (λ x. same c x.contact) row.live n f a in
     let second : n ≡ 1 = omega arith in
-    let none : row.spares ≡ [] = sym s ∙ ap (map contact_of) r.0 in
+    let none = r.0 in
     (f ∙ ap Some second, none, rw (r.1, r.2, none) refl)
-refilled c row n spares live' spares' Replaced f ne a s r =
+refilled c row n live' spares' Replaced f ne a r =
     let le = find-all (λ x. same c x.contact) row.live n f a in
-    let second : n ≡ 1 = omega arith in (
-      f ∙ ap Some second,
-      record {
-        older = map contact_of spares';
-        newest = r.newest.contact;
-        spares = sym s ∙ ap (map contact_of) r.spares_are ∙ map-append contact_of spares' (r.newest ∷ []);
-        after_is = ap (λ (l : List Entry). row_of row.prefix l (map contact_of spares')) r.live_are;
-      },
-    )
+    let second : n ≡ 1 = omega arith in
+    (f ∙ ap Some second, record { older = spares'; newest = r.newest; spares = r.spares_are; after_is = ap (λ (l : List Entry). row_of row.prefix l spares') r.live_are })
 
 -- a half of a row
 pub half-kept : (own : Id) (k b : ℕ) (bit : Bool) (row : RowState) → IsRow own k b row → IsRow own k b (half bit row)

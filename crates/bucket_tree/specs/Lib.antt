@@ -2,4 +2,5 @@ pub mod Stored
 pub mod Partition
 pub mod Rows
 pub mod Steps
-pub mod Places
+pub mod Refills
+pub mod Trees

@@ -1,22 +1,15 @@
 //! The entries of a bucket: which contacts they have, and which of them stay.
-ghost use Rattle.std.specs.Prelude.{◌≢◌, false, ◌≡◌, ◌≤◌, List, length, map, filter, find, not, option_map, slice_get, MatchOption, ◌<◌, None, IsTrue};
+ghost use Rattle.std.specs.Prelude.{◌≢◌, false, ◌≡◌, ◌≤◌, List, ◌++◌, ◌∷◌, [], length, map, filter, find, not, option_map, IsTrue, IfOk, OnErr, vec_capacity};
 ghost use Rattle.std.specs.List.{All, list_any};
 ghost use Rattle.kad_base.specs.Contacts.{same, among};
 ghost use Rattle.bucket_tree.specs.Partition.{id_bits, begins};
 ghost use Rattle.bucket_tree.specs.Rows.{contact_of, same_id};
-ghost use Rattle.bucket_tree.specs.Steps.{without, mark};
+ghost use Rattle.bucket_tree.specs.Steps.{without, mark as mark_of};
 
 use crate::plain::Entry;
 use crate::prefix::Prefix;
-use arrayvec::ArrayVec;
-use kad_base::limits::MAX_K;
-use kad_base::{Contact, Id};
-
-/// The most entries of a bucket.
-pub(crate) const ROOM: usize = MAX_K as usize;
-
-/// The entries of a bucket, of which there are at most 20.
-pub(crate) type Entries = ArrayVec<Entry, ROOM>;
+use kad_base::{Contact, Id, NoMemory};
+use std::alloc::Global;
 
 /// The two are one contact.
 fn is_same(a: &Contact, b: &Contact) -> bool
@@ -73,51 +66,71 @@ pub(crate) fn failures(entries: &[Entry], contact: &Contact) -> Option<u8>
     None
 }
 
-/// The entries whose identifiers begin with the prefix.
-pub(crate) fn covered(entries: &[Entry], prefix: &Prefix) -> Entries
-    requires { length entries.now ≤ 20 }
-    ensures { result.items ≡ filter (λ e. begins prefix.now (id_bits e.contact.id)) entries.now }
+/// The entries whose identifiers begin with the prefix, with room for k.
+pub(crate) fn covered(alloc: Global, k: u8, entries: &[Entry], prefix: &Prefix) -> Result<Vec<Entry>, NoMemory>
+    ensures items { IfOk result (λ kept. kept.items ≡ filter (λ e. begins prefix.now (id_bits e.contact.id)) entries.now) }
+    ensures room { IfOk result (λ kept. length kept.items ≤ vec_capacity kept) }
 {
-    let mut kept = Entries::new();
+    let mut kept = match Vec::with_capacity(alloc, k as usize) {
+        Ok(kept) => kept,
+        Err(_) => return Err(NoMemory),
+    };
     for entry in entries {
         if prefix.begins(&entry.contact.id) {
-            kept.push(*entry);
+            append(&mut kept, *entry)?;
         }
     }
-    kept
+    Ok(kept)
 }
 
-/// The entries of the other contacts.
-pub(crate) fn others(entries: &[Entry], contact: &Contact) -> Entries
-    requires { length entries.now ≤ 20 }
-    ensures { result.items ≡ without contact.now entries.now }
+/// Puts an entry at the end, or leaves the entries.
+pub(crate) fn append(entries: &mut Vec<Entry>, entry: Entry) -> Result<(), NoMemory>
+    ensures ok { IfOk result (λ done. entries.new.items ≡ entries.old.items ++ entry ∷ []) }
+    ensures err { OnErr result (entries.new.items ≡ entries.old.items) }
+    ensures room { length entries.old.items ≤ vec_capacity entries.old → length entries.new.items ≤ vec_capacity entries.new }
 {
-    let mut kept = Entries::new();
-    for entry in entries {
-        if !is_same(contact, &entry.contact) {
-            kept.push(*entry);
-        }
+    if entries.reserve(1).is_err() {
+        return Err(NoMemory);
     }
-    kept
+    match entries.push(entry) {
+        Ok(()) => Ok(()),
+        Err(_) => Err(NoMemory),
+    }
 }
 
-/// The entries with other identifiers.
-pub(crate) fn other_ids(entries: &[Entry], id: &Id) -> Entries
-    requires { length entries.now ≤ 20 }
-    ensures { result.items ≡ filter (λ e. not (same_id e.contact.id id.now)) entries.now }
+/// The entry isn't the contact's.
+fn is_another(entry: &Entry, contact: &Contact) -> bool
+    ensures { result ≡ not (same contact.now entry.now.contact) }
 {
-    let mut kept = Entries::new();
-    for entry in entries {
-        if !is_same_id(&entry.contact.id, id) {
-            kept.push(*entry);
-        }
-    }
-    kept
+    !is_same(contact, &entry.contact)
+}
+
+/// Takes the entry of the contact out.
+pub(crate) fn take_out(entries: &mut Vec<Entry>, contact: &Contact)
+    ensures items { entries.new.items ≡ without contact.now entries.old.items }
+    ensures capacity { vec_capacity entries.new ≡ vec_capacity entries.old }
+{
+    entries.retain(|entry| is_another(entry, contact));
+}
+
+/// The contact has another identifier.
+fn has_other_id(contact: &Contact, id: &Id) -> bool
+    ensures { result ≡ not (same_id contact.now.id id.now) }
+{
+    !is_same_id(&contact.id, id)
+}
+
+/// Takes the contacts with the identifier out.
+pub(crate) fn take_id_out(contacts: &mut Vec<Contact>, id: &Id)
+    ensures items { contacts.new.items ≡ filter (λ x. not (same_id x.id id.now)) contacts.old.items }
+    ensures capacity { vec_capacity contacts.new ≡ vec_capacity contacts.old }
+{
+    contacts.retain(|contact| has_other_id(contact, id));
 }
 
 /// The entry, which has now failed once where it is the contact's.
-fn mark_one(entry: &Entry, contact: &Contact) -> Entry
-    ensures { result ≡ mark contact.now entry.now }
+fn marked(entry: &Entry, contact: &Contact) -> Entry
+    ensures { result ≡ mark_of contact.now entry.now }
 {
     if is_same(contact, &entry.contact) {
         return Entry {
@@ -128,14 +141,12 @@ fn mark_one(entry: &Entry, contact: &Contact) -> Entry
     *entry
 }
 
-/// The entries, of which that of the contact has now failed once.
-pub(crate) fn marked(entries: &[Entry], contact: &Contact) -> Entries
-    requires { length entries.now ≤ 20 }
-    ensures { result.items ≡ map (mark contact.now) entries.now }
+/// The entry of the contact has now failed once.
+pub(crate) fn mark(entries: &mut Vec<Entry>, contact: &Contact)
+    ensures items { entries.new.items ≡ map (mark_of contact.now) entries.old.items }
+    ensures capacity { vec_capacity entries.new ≡ vec_capacity entries.old }
 {
-    let mut all = Entries::new();
-    for entry in entries {
-        all.push(mark_one(entry, contact));
+    for at in 0..entries.len() {
+        entries[at] = marked(&entries[at], contact);
     }
-    all
 }

@@ -6,10 +6,14 @@
 mod bits;
 mod buckets;
 mod entries;
+mod failing;
 mod laws;
+mod nearest;
+mod node;
 mod plain;
 mod prefix;
 mod row;
+mod taking;
 #[cfg(test)]
 mod tests;
 

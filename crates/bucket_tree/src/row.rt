@@ -1,34 +1,36 @@
 //! One bucket.
-ghost use Rattle.std.specs.Prelude.{OnOk, cond, nat_le, drop, filter, not, ◌≡◌, ◌≢◌, ◌↔◌, ◌<◌, ◌≤◌, IsTrue, [], ◌∷◌, ◌++◌, length, map, All, Option, Some, None, true, false};
+ghost use Rattle.std.specs.Prelude.{IfOk, OnOk, OnErr, cond, nat_le, drop, filter, not, ◌≡◌, ◌↔◌, ◌<◌, ◌≤◌, IsTrue, [], ◌∷◌, ◌++◌, length, map, All, false, true, vec_capacity};
 ghost use Rattle.kad_base.specs.Contacts.{among};
 ghost use Rattle.bucket_tree.specs.Partition.{id_bits, begins};
 ghost use Rattle.bucket_tree.specs.Rows.{RowState, contact_of, live_in, may_split, same_id};
-ghost use Rattle.bucket_tree.specs.Places.{Refilled};
+ghost use Rattle.bucket_tree.specs.Refills.{Refilled};
 ghost use Rattle.bucket_tree.specs.Steps.{NeedsSplit, RowSeen, RowFailed, half as half_of, fresh as fresh_of, without, with_room as with_room_of};
 
-use crate::bits::bit;
-use crate::entries::{Entries, ROOM, covered, failures, has, has_id, marked, other_ids, others};
+use crate::entries::{append, covered, failures, has, has_id, mark, take_id_out, take_out};
 use crate::plain::{Entry, Gone, Seen, Setting};
 use crate::prefix::Prefix;
 use kad_base::{Contact, Id, List, NoMemory};
+use std::alloc::Global;
 use std::marker::Model;
 
 /// A bucket: its prefix, its live entries, the least recently seen first, and its replacement cache, the newest last. A
-/// spare is an entry that didn't fail. It has room for the most entries that a bucket may have.
+/// spare is a contact that didn't fail. It takes room for k entries when it is made, and for k spares with the first.
 #[derive(Drop)]
 pub(crate) struct Row {
     prefix: Prefix,
-    live: Entries,
-    spares: Entries,
+    live: Vec<Entry>,
+    spares: Vec<Contact>,
 }
 
 impl Model for Row {
-    ghost use Rattle.std.specs.Prelude.{OnOk, cond, nat_le, drop, filter, not, map};
-    ghost use Rattle.bucket_tree.specs.Rows.{RowState, contact_of};
+    ghost use Rattle.std.specs.Prelude.{◌≤◌, length, vec_capacity};
+    ghost use Rattle.bucket_tree.specs.Rows.{RowState};
 
     ghost Value = { RowState };
 
-    ghost view = { λ r. record { prefix = r.prefix; live = r.live.items; spares = map contact_of r.spares.items } };
+    ghost view = { λ r. record { prefix = r.prefix; live = r.live.items; spares = r.spares.items } };
+
+    ghost invariant = { λ r. length r.live.items ≤ vec_capacity r.live };
 }
 
 /// An entry that was just seen.
@@ -41,50 +43,64 @@ fn fresh(contact: Contact) -> Entry
     }
 }
 
-/// The live entries, of which the contact's is now the last.
-fn renewed(live: &[Entry], contact: Contact) -> Entries
-    requires room { length live.now ≤ 20 }
-    requires known { among (map contact_of live.now) contact ≡ true }
-    ensures { result.items ≡ without contact live.now ++ fresh_of contact ∷ [] }
+/// Puts the contact's entry at the end, where it has one. Takes no memory.
+fn renew(live: &mut Vec<Entry>, contact: Contact)
+    requires room { length live.old.items ≤ vec_capacity live.old }
+    requires known { among (map contact_of live.old.items) contact ≡ true }
+    ensures items { live.new.items ≡ without contact live.old.items ++ fresh_of contact ∷ [] }
+    ensures room { length live.new.items ≤ vec_capacity live.new }
 {
-    let mut entries = others(live, &contact);
-    entries.push(fresh(contact));
-    entries
+    take_out(live, &contact);
+    match live.push(fresh(contact)) {
+        Ok(()) => {}
+        Err(_) => unreachable!(),
+    }
 }
 
-/// The spares where there are fewer than k, and else without the oldest.
-fn with_room(mut spares: Entries, k: u8) -> Entries
-    requires { 0 < k }
-    ensures { result.items ≡ cond (nat_le k (length spares.items)) (drop 1 spares.items) spares.items }
+/// Takes the oldest out where there are k, so that there is room for one more.
+fn make_room(spares: &mut Vec<Contact>, k: u8)
+    requires some { 0 < k }
+    requires few { length spares.old.items ≤ k }
+    ensures items { spares.new.items ≡ with_room_of k spares.old.items }
+    ensures fewer { length spares.new.items < k }
+    ensures capacity { vec_capacity spares.new ≡ vec_capacity spares.old }
 {
     if spares.len() >= k as usize {
         let _oldest = spares.remove(0);
-        return spares;
     }
-    spares
 }
 
-/// The spares with a contact as the newest, and the only one with its identifier, of which there are at most k.
-fn with_spare(spares: &[Entry], k: u8, contact: Contact) -> Entries
+/// Makes a contact the newest spare, and the only one with its identifier, of at most k; or leaves the spares.
+fn spare(spares: &mut Vec<Contact>, k: u8, contact: Contact) -> Result<(), NoMemory>
     requires some { 0 < k }
-    requires few { k ≤ 20 }
-    requires spares { length spares.now ≤ k }
-    ensures { map contact_of result.items ≡ with_room_of k (filter (λ x. not (same_id x.id contact.id)) (map contact_of spares.now)) ++ contact ∷ [] }
+    requires few { length spares.old.items ≤ k }
+    ensures ok { IfOk result (λ done. spares.new.items ≡ with_room_of k (filter (λ x. not (same_id x.id contact.id)) spares.old.items) ++ contact ∷ []) }
+    ensures err { OnErr result (spares.new.items ≡ spares.old.items) }
 {
-    let mut kept = with_room(other_ids(spares, &contact.id), k);
-    kept.push(fresh(contact));
-    kept
+    if spares.reserve_exact(k as usize - spares.len()).is_err() {
+        return Err(NoMemory);
+    }
+    take_id_out(spares, &contact.id);
+    make_room(spares, k);
+    match spares.push(contact) {
+        Ok(()) => Ok(()),
+        Err(_) => unreachable!(),
+    }
 }
 
 /// Puts the newest spare at the end of the live entries, where there is one.
-fn refill(live: &mut Entries, spares: &mut Entries) -> Gone
-    requires { length live.old.items < 20 }
-    ensures { Refilled live.old.items spares.old.items result live.new.items spares.new.items }
+fn refill(live: &mut Vec<Entry>, spares: &mut Vec<Contact>) -> Gone
+    requires { length live.old.items < vec_capacity live.old }
+    ensures refilled { Refilled live.old.items spares.old.items result live.new.items spares.new.items }
+    ensures room { length live.new.items ≤ vec_capacity live.new }
 {
     match spares.pop() {
         None => Gone::Removed,
-        Some(spare) => {
-            live.push(fresh(spare.contact));
+        Some(contact) => {
+            match live.push(fresh(contact)) {
+                Ok(()) => {}
+                Err(_) => unreachable!(),
+            }
             Gone::Replaced
         }
     }
@@ -92,13 +108,16 @@ fn refill(live: &mut Entries, spares: &mut Entries) -> Gone
 
 impl Row {
     /// The bucket of all identifiers, which is empty.
-    pub(crate) fn whole() -> Row
-        ensures { result ≡ record { prefix = []; live = []; spares = [] } }
+    pub(crate) fn whole(alloc: Global, k: u8) -> Result<Row, NoMemory>
+        ensures { IfOk result (λ row. row ≡ record { prefix = []; live = []; spares = [] }) }
     {
-        Row {
-            prefix: Prefix::empty(),
-            live: Entries::new(),
-            spares: Entries::new(),
+        match Vec::with_capacity(alloc, k as usize) {
+            Ok(live) => Ok(Row {
+                prefix: Prefix::empty(),
+                live,
+                spares: Vec::new(alloc),
+            }),
+            Err(_) => Err(NoMemory),
         }
     }
 
@@ -108,18 +127,17 @@ impl Row {
         self.prefix.begins(id)
     }
 
-    /// How many bits its prefix has.
-    pub(crate) fn depth(&self) -> u8
-        ensures count { result ≡ length self.now.prefix }
-        ensures within { result ≤ 160 }
-    {
-        self.prefix.len()
-    }
-
     pub(crate) fn prefix(&self) -> Prefix
         ensures { result ≡ self.now.prefix }
     {
         self.prefix.copied()
+    }
+
+    /// Its live entries, the least recently seen first.
+    pub(crate) fn live(&self) -> &[Entry]
+        ensures { result.now ≡ self.now.live }
+    {
+        self.live.as_slice()
     }
 
     /// Appends its live contacts to a list, or leaves the list.
@@ -159,57 +177,55 @@ impl Row {
         self.splits(setting)
     }
 
-    /// Half of a bucket that splits: one bit more, and the live entries that it covers.
-    pub(crate) fn half(&self, one: bool) -> Row
+    /// Half of a bucket that splits: one bit more, and the live entries that it covers, with room for k.
+    pub(crate) fn half(&self, alloc: Global, k: u8, one: bool) -> Result<Row, NoMemory>
         requires { length self.now.prefix < 160 }
-        ensures { result ≡ half_of one self.now }
+        ensures { IfOk result (λ row. row ≡ half_of one self.now) }
     {
         let prefix = self.prefix.child(one);
-        let live = covered(self.live.as_slice(), &prefix);
-        Row {
+        let live = covered(alloc, k, self.live.as_slice(), &prefix)?;
+        Ok(Row {
             prefix,
             live,
-            spares: Entries::new(),
-        }
+            spares: Vec::new(alloc),
+        })
     }
 
     /// Takes in a contact that was seen, where the bucket needn't split for it.
-    pub(crate) fn take(&mut self, k: u8, contact: Contact) -> Seen
+    pub(crate) fn take(&mut self, k: u8, contact: Contact) -> Result<Seen, NoMemory>
         requires some { 0 < k }
-        requires few { k ≤ 20 }
-        requires live { length self.old.live ≤ k }
         requires spares { length self.old.spares ≤ k }
-        ensures { RowSeen k contact self.old result self.new }
+        ensures ok { IfOk result (λ seen. RowSeen k contact self.old seen self.new) }
+        ensures err { OnErr result (self.new ≡ self.old) }
     {
         if has(self.live.as_slice(), &contact) {
-            self.live = renewed(self.live.as_slice(), contact);
-            return Seen::Moved;
+            renew(&mut self.live, contact);
+            return Ok(Seen::Moved);
         }
         if has_id(self.live.as_slice(), &contact.id) {
-            return Seen::Conflict;
+            return Ok(Seen::Conflict);
         }
         if self.live.len() < k as usize {
-            self.live.push(fresh(contact));
-            return Seen::Added;
+            append(&mut self.live, fresh(contact))?;
+            return Ok(Seen::Added);
         }
-        self.spares = with_spare(self.spares.as_slice(), k, contact);
-        Seen::Spared
+        spare(&mut self.spares, k, contact)?;
+        Ok(Seen::Spared)
     }
 
     /// Counts a failure of a contact. The second removes it, and the newest spare takes its place. Takes no memory.
     pub(crate) fn fail(&mut self, contact: &Contact) -> Gone
-        requires few { length self.old.live ≤ 20 }
-        requires failed_once { All (λ e. e.failures ≤ 1) self.old.live }
+        requires { All (λ e. e.failures ≤ 1) self.old.live }
         ensures { RowFailed contact.now self.old result self.new }
     {
         match failures(self.live.as_slice(), contact) {
             None => Gone::Unknown,
             Some(0) => {
-                self.live = marked(self.live.as_slice(), contact);
+                mark(&mut self.live, contact);
                 Gone::Kept
             }
             Some(_) => {
-                self.live = others(self.live.as_slice(), contact);
+                take_out(&mut self.live, contact);
                 refill(&mut self.live, &mut self.spares)
             }
         }

@@ -5,7 +5,7 @@ use Rattle.std.specs.List.{All, Contains, flat_map}
 use Rattle.std.specs.Str.{bytes_eq}
 use Rattle.std.proofs.lemmas.List.{map-append}
 use Rattle.std.proofs.lemmas.List.Concat.{flat_map-cons}
-use Rattle.std.proofs.lemmas.List.Elements.{All-head, All-tail, All-append, All-cons, All-nil, All-filter, All-take, All-drop, All-same, All-contains_itself, Contains-append_left, Contains-append_right}
+use Rattle.std.proofs.lemmas.List.Elements.{All-head, All-tail, All-append, All-cons, All-nil, All-filter, All-take, All-drop, All-contains_itself, Contains-append_left, Contains-append_right}
 use Rattle.kad_base.specs.declared.plain.Id.{Id}
 use Rattle.kad_base.specs.declared.plain.Contact.{Contact}
 use Rattle.kad_base.specs.declared.serial.Made.{Made}
@@ -24,7 +24,7 @@ use Rattle.bucket_tree.proofs.Counted.{filter-map}
 use Rattle.bucket_tree.proofs.Every.{all-left, all-right, all-one}
 use Rattle.bucket_tree.proofs.RowKept.{all-without, all-ended, all-room}
 use Rattle.bucket_tree.proofs.RowSteps.{mark-contacts}
-use Rattle.sibling_list.specs.Siblings.{SiblingList, with_one, without_one}
+use Rattle.sibling_list.specs.Siblings.{with_one, without_one}
 use Rattle.contact_table.specs.declared.calls.TableCall.{TableCall}
 use Rattle.contact_table.specs.declared.calls.TableCall.TheVariants.{Seen as Seen_call, Failed, Closest}
 use Rattle.contact_table.specs.declared.calls.TableReply.{TableReply}

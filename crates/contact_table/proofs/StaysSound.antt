@@ -1,7 +1,5 @@
 -- A sound table stays sound.
-use Rattle.std.proofs.Common.{◌≡◌, ℕ, ◌<◌, ◌≤◌, List, [], ◌∷◌, ◌++◌, length, Bool, true, false, cond, refl, sym, ap, subst, ◌∙◌, arith}
-use Rattle.std.specs.Prelude.{filter}
-use Rattle.std.specs.List.{All}
+use Rattle.std.proofs.Common.{◌≡◌, ℕ, ◌<◌, ◌≤◌, List, [], ◌∷◌, ◌++◌, Bool, true, false, cond, refl, sym, subst, arith}
 use Rattle.std.specs.Str.{bytes_eq}
 use Rattle.kad_base.specs.declared.plain.Id.{Id}
 use Rattle.kad_base.specs.declared.plain.Contact.{Contact}
@@ -12,7 +10,7 @@ use Rattle.bucket_tree.specs.declared.plain.Seen.{Seen}
 use Rattle.bucket_tree.specs.declared.plain.Seen.TheVariants.{Added, Moved, Spared, Conflict, Own}
 use Rattle.bucket_tree.specs.declared.plain.Gone.{Gone}
 use Rattle.bucket_tree.specs.declared.plain.Gone.TheVariants.{Kept, Removed, Replaced, Unknown}
-use Rattle.bucket_tree.specs.Rows.{RowState, IsRow, SoundRows, Sound, same_id}
+use Rattle.bucket_tree.specs.Rows.{RowState, IsRow, SoundRows, Sound}
 use Rattle.bucket_tree.specs.Steps.{half, SeenStep, is_own, in_row, split, FailedStep, InItsRow}
 use Rattle.bucket_tree.proofs.Every.{all-here, count-append}
 use Rattle.bucket_tree.proofs.Places.{covers, one-covers}
@@ -24,7 +22,7 @@ use Rattle.contact_table.specs.declared.calls.TableCall.{TableCall}
 use Rattle.contact_table.specs.declared.calls.TableCall.TheVariants.{Seen as Seen_call, Failed, Closest}
 use Rattle.contact_table.specs.declared.calls.TableReply.{TableReply}
 use Rattle.contact_table.specs.declared.calls.TableReply.TheVariants.{Seen as Seen_reply, Gone as Gone_reply, List as List_reply, NoMemory}
-use Rattle.contact_table.specs.TableState.{TableState, SoundTable, siblings_of}
+use Rattle.contact_table.specs.TableState.{TableState, SoundTable}
 use Rattle.contact_table.specs.TableStep.{TableMay, TableStep, table_after, seen_siblings, failed_siblings}
 use Rattle.contact_table.specs.RowsAfter.{seen_rows, failed_rows}
 use Rattle.contact_table.specs.Told.{new_table}

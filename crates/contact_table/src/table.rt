@@ -10,7 +10,6 @@ ghost use Rattle.contact_table.specs.declared.calls.TableCall.{TableCall};
 use crate::calls::{TableCall, TableReply};
 use bucket_tree::{Buckets, Gone, Seen};
 use kad_base::{Contact, Contacts, Id, NoMemory, Serial};
-use kad_distance::k_least;
 use sibling_list::Siblings;
 use std::alloc::Global;
 use std::marker::Model;
@@ -20,7 +19,6 @@ use std::marker::Model;
 pub struct Table {
     buckets: Buckets,
     siblings: Siblings,
-    alloc: Global,
 }
 
 impl Model for Table {
@@ -46,11 +44,7 @@ impl Table {
     {
         let buckets = Buckets::new(alloc, own, k, b)?;
         let siblings = Siblings::new(alloc, own)?;
-        Ok(Table {
-            buckets,
-            siblings,
-            alloc,
-        })
+        Ok(Table { buckets, siblings })
     }
 
     /// The law of the table: its buckets and its siblings are sound, whoever made which calls. It does nothing, and is
@@ -88,21 +82,11 @@ impl Table {
         TableReply::Gone { gone }
     }
 
-    /// All live contacts and siblings.
-    fn contacts(&self) -> Result<Contacts, NoMemory>
-        ensures { IfOk result (λ all. all ≡ contacts_of self.now) }
-    {
-        let mut all = self.buckets.live()?;
-        all.extend(self.siblings.list())?;
-        Ok(all)
-    }
-
     /// The n closest of all live contacts and siblings.
     fn closest(&self, target: &Id, n: u8) -> Result<Contacts, NoMemory>
         ensures { IfOk result (λ list. list ≡ k_closest target.now n (contacts_of self.now)) }
     {
-        let all = self.contacts()?;
-        k_least(self.alloc, target, n, all.as_slice())
+        self.buckets.closest_with(target, n, self.siblings.list())
     }
 
     /// Answers with the n closest of all live contacts and siblings.

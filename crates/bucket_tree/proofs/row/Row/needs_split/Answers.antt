@@ -11,4 +11,4 @@ returns-clause-two c =
     λ it_does.
     let live : c.self.inside.live.items ≡ c.args.self.now.live = ap (λ (r : RowState). r.live) c.self.view_is in
     let apart = subst (λ (l : List Entry). All (λ (e : Entry). id_bits e.contact.id ≢ id_bits c.args.id.now) l) (c.as_slice.ensures.value ∙ live) (c.has_id.ensures.apart c.if-has_id.false) in
-    two-ids c.args.self.now.prefix c.args.self.now.live c.args.id.now (omega (arith, c.len.ensures.value, ap length live, c.requires.some_live)) c.requires.covered c.requires.covers apart
+    two-ids c.args.self.now.prefix c.args.self.now.live c.args.id.now (omega (arith, c.len.ensures, ap length live, c.requires.some_live)) c.requires.covered c.requires.covers apart

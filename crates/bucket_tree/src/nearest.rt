@@ -1,0 +1,92 @@
+//! The live contacts that are closest to a target, nearest subtree first.
+ghost use Rattle.std.specs.Prelude.{◌≡◌, ◌≤◌, ◌++◌, ◌∷◌, [], IfOk, vec_len, vec_capacity};
+ghost use Rattle.std.specs.List.{All};
+ghost use Rattle.std.specs.List.Sorted.{IsStrictlySortedBy};
+ghost use Rattle.kad_distance.specs.Order.{closeness};
+ghost use Rattle.kad_distance.specs.KClosest.{k_closest};
+ghost use Rattle.bucket_tree.specs.Rows.{live_of};
+ghost use Rattle.bucket_tree.specs.Trees.{rows_of, IsUnder, IsShort, IsTidy, HangsAt, AllCloser};
+
+use crate::bits::bit;
+use crate::node::Node;
+use crate::row::Row;
+use kad_base::{Contact, Contacts, Id, List, NoMemory};
+use kad_distance::put_closest;
+use std::alloc::Global;
+
+/// Puts the live contacts of a row among the k closest.
+fn put_row(near: &mut Vec<Contact>, target: &Id, k: usize, row: &Row)
+    requires sorted { IsStrictlySortedBy (closeness target.now) near.old.items }
+    requires few { vec_len near.old ≤ k }
+    requires room { k ≤ vec_capacity near.old }
+    ensures items { near.new.items ≡ k_closest target.now k (near.old.items ++ live_of (row.now ∷ [])) }
+    ensures room { k ≤ vec_capacity near.new }
+{
+    for entry in row.live() {
+        put_closest(near, target, k, &entry.contact);
+    }
+}
+
+/// Puts the live contacts of a tree among the k closest, the nearer side of each fork first, until there are k: what is
+/// still to come is farther.
+fn gather(near: &mut Vec<Contact>, target: &Id, k: usize, node: &Node, at: u8)
+    requires hangs { HangsAt at node.now }
+    requires short { All IsShort (rows_of node.now) }
+    requires tidy { All IsTidy (rows_of node.now) }
+    requires closer { AllCloser target.now near.old.items (live_of (rows_of node.now)) }
+    requires sorted { IsStrictlySortedBy (closeness target.now) near.old.items }
+    requires few { vec_len near.old ≤ k }
+    requires room { k ≤ vec_capacity near.old }
+    ensures items { near.new.items ≡ k_closest target.now k (near.old.items ++ live_of (rows_of node.now)) }
+    ensures room { k ≤ vec_capacity near.new }
+{
+    if near.len() == k {
+        return;
+    }
+    match node {
+        Node::Leaf(row) => put_row(near, target, k, row),
+        Node::Fork(low, high) => {
+            if bit(target, at) {
+                gather(near, target, k, high, at + 1);
+                gather(near, target, k, low, at + 1);
+            } else {
+                gather(near, target, k, low, at + 1);
+                gather(near, target, k, high, at + 1);
+            }
+        }
+    }
+}
+
+/// Puts the contacts of a slice among the k closest.
+fn put_all(near: &mut Vec<Contact>, target: &Id, k: usize, others: &[Contact])
+    requires sorted { IsStrictlySortedBy (closeness target.now) near.old.items }
+    requires few { vec_len near.old ≤ k }
+    requires room { k ≤ vec_capacity near.old }
+    ensures { near.new.items ≡ k_closest target.now k (near.old.items ++ others.now) }
+{
+    for contact in others {
+        put_closest(near, target, k, contact);
+    }
+}
+
+/// The k contacts that are closest to the target, nearest first, of all live ones of the tree and the others. Takes memory
+/// for k contacts, at once.
+pub(crate) fn closest(
+    root: &Node,
+    alloc: Global,
+    target: &Id,
+    k: u8,
+    others: &[Contact],
+) -> Result<Contacts, NoMemory>
+    requires under { IsUnder [] root.now }
+    requires short { All IsShort (rows_of root.now) }
+    requires tidy { All IsTidy (rows_of root.now) }
+    ensures { IfOk result (λ found. found ≡ k_closest target.now k (live_of (rows_of root.now) ++ others.now)) }
+{
+    let Ok(mut near) = Vec::with_capacity(alloc, k as usize) else {
+        return Err(NoMemory);
+    };
+    gather(&mut near, target, k as usize, root, 0);
+    put_all(&mut near, target, k as usize, others);
+    Ok(List::from_vec(near))
+}

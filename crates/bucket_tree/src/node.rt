@@ -1,0 +1,68 @@
+//! A tree whose forks stand for a bit and whose leaves are buckets.
+ghost use Rattle.std.specs.Prelude.{◌≡◌, ◌≤◌, ◌++◌, ◌∷◌, [], IfOk, OnOk};
+ghost use Rattle.std.specs.List.{All};
+ghost use Rattle.bucket_tree.specs.Rows.{live_of, prefixes_of};
+ghost use Rattle.bucket_tree.specs.Trees.{rows_of, IsUnder, IsShort, HangsAt};
+
+use crate::prefix::Prefixes;
+use crate::row::Row;
+use kad_base::{Contacts, NoMemory};
+use std::alloc::Global;
+
+/// Rows as a tree: a fork has the rows whose next bit is 0, and those whose next bit is 1.
+#[derive(Drop)]
+pub(crate) enum Node {
+    Leaf(Box<Row>),
+    Fork(Box<Node>, Box<Node>),
+}
+
+/// A row as a tree.
+pub(crate) fn leaf(alloc: Global, row: Row) -> Result<Node, NoMemory>
+    ensures rows { IfOk result (λ node. rows_of node ≡ row ∷ []) }
+    ensures under { IfOk result (λ node. IsUnder row.prefix node) }
+{
+    match Box::new(alloc, row) {
+        Ok(row) => Ok(Node::Leaf(row)),
+        Err(_) => Err(NoMemory),
+    }
+}
+
+/// A tree on the heap.
+pub(crate) fn boxed(alloc: Global, node: Node) -> Result<Box<Node>, NoMemory>
+    ensures { IfOk result (λ whole. whole.value ≡ node) }
+{
+    match Box::new(alloc, node) {
+        Ok(node) => Ok(node),
+        Err(_) => Err(NoMemory),
+    }
+}
+
+/// Appends the live contacts of a tree to a list, row by row. On want of memory the list may have some of them.
+pub(crate) fn list_live(node: &Node, list: &mut Contacts, at: u8) -> Result<(), NoMemory>
+    requires hangs { HangsAt at node.now }
+    requires short { All IsShort (rows_of node.now) }
+    ensures { OnOk result (list.new ≡ list.old ++ live_of (rows_of node.now)) }
+{
+    match node {
+        Node::Leaf(row) => row.list_live(list),
+        Node::Fork(low, high) => {
+            list_live(low, list, at + 1)?;
+            list_live(high, list, at + 1)
+        }
+    }
+}
+
+/// Appends the prefixes of a tree to a list, in ascending order. On want of memory the list may have some of them.
+pub(crate) fn list_prefixes(node: &Node, list: &mut Prefixes, at: u8) -> Result<(), NoMemory>
+    requires hangs { HangsAt at node.now }
+    requires short { All IsShort (rows_of node.now) }
+    ensures { OnOk result (list.new ≡ list.old ++ prefixes_of (rows_of node.now)) }
+{
+    match node {
+        Node::Leaf(row) => list.push(row.prefix()),
+        Node::Fork(low, high) => {
+            list_prefixes(low, list, at + 1)?;
+            list_prefixes(high, list, at + 1)
+        }
+    }
+}

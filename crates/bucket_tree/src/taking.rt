@@ -1,0 +1,111 @@
+//! A contact that was seen: its bucket takes it in, split as often as it needs.
+ghost use Rattle.std.specs.Prelude.{◌≡◌, ◌<◌, ◌≤◌, ◌∷◌, [], length, IfOk, OnErr, false, true};
+ghost use Rattle.std.specs.List.{All};
+ghost use Rattle.bucket_tree.specs.Partition.{begins, id_bits};
+ghost use Rattle.bucket_tree.specs.Rows.{IsRow, same_id};
+ghost use Rattle.bucket_tree.specs.Steps.{SeenStep, NeedsSplit};
+ghost use Rattle.bucket_tree.specs.Trees.{rows_of, IsUnder, IsShort, path};
+
+use crate::bits::bit;
+use crate::node::{Node, boxed, leaf};
+use crate::plain::{Seen, Setting};
+use crate::row::Row;
+use kad_base::{Contact, NoMemory};
+use std::alloc::Global;
+
+/// The row as a tree that has taken the contact in, split as often as it needs.
+#[cycle(grown)]
+fn grown(
+    alloc: Global,
+    setting: &Setting,
+    mut row: Row,
+    contact: Contact,
+) -> Result<(Node, Seen), NoMemory>
+    requires some_live { 0 < setting.now.k }
+    requires few_live { setting.now.k ≤ 20 }
+    requires some_bits { 0 < setting.now.b }
+    requires others { same_id contact.id setting.now.own ≡ false }
+    requires short { length row.prefix ≤ 160 }
+    requires covers { begins row.prefix (id_bits contact.id) ≡ true }
+    requires each { IsRow setting.now.own setting.now.k setting.now.b row }
+    ensures step { IfOk result (λ r. SeenStep setting.now.own setting.now.k setting.now.b contact (row ∷ []) r.1 (rows_of r.0)) }
+    ensures under { IfOk result (λ r. IsUnder row.prefix r.0) }
+{
+    if row.needs_split(setting, &contact.id) {
+        return forked(alloc, setting, &row, contact);
+    }
+    let seen = row.take(setting.k, contact)?;
+    let node = leaf(alloc, row)?;
+    Ok((node, seen))
+}
+
+/// A row that needs a split as such a tree.
+#[cycle(grown)]
+fn forked(
+    alloc: Global,
+    setting: &Setting,
+    row: &Row,
+    contact: Contact,
+) -> Result<(Node, Seen), NoMemory>
+    requires some_live { 0 < setting.now.k }
+    requires few_live { setting.now.k ≤ 20 }
+    requires some_bits { 0 < setting.now.b }
+    requires others { same_id contact.id setting.now.own ≡ false }
+    requires short { length row.now.prefix < 160 }
+    requires covers { begins row.now.prefix (id_bits contact.id) ≡ true }
+    requires each { IsRow setting.now.own setting.now.k setting.now.b row.now }
+    requires needs { NeedsSplit setting.now.own setting.now.k setting.now.b contact.id row.now }
+    ensures step { IfOk result (λ r. SeenStep setting.now.own setting.now.k setting.now.b contact (row.now ∷ []) r.1 (rows_of r.0)) }
+    ensures under { IfOk result (λ r. IsUnder row.now.prefix r.0) }
+{
+    let low = row.half(alloc, setting.k, false)?;
+    let high = row.half(alloc, setting.k, true)?;
+    if high.covers(&contact.id) {
+        let low = leaf(alloc, low)?;
+        let (high, seen) = grown(alloc, setting, high, contact)?;
+        Ok((Node::Fork(boxed(alloc, low)?, boxed(alloc, high)?), seen))
+    } else {
+        let high = leaf(alloc, high)?;
+        let (low, seen) = grown(alloc, setting, low, contact)?;
+        Ok((Node::Fork(boxed(alloc, low)?, boxed(alloc, high)?), seen))
+    }
+}
+
+/// Tells the tree that a contact was seen. A row that splits is left until the whole tree that takes its place stands, so
+/// that without memory all is as before.
+pub(crate) fn see(
+    node: &mut Node,
+    alloc: Global,
+    setting: &Setting,
+    contact: Contact,
+    at: u8,
+) -> Result<Seen, NoMemory>
+    requires some_live { 0 < setting.now.k }
+    requires few_live { setting.now.k ≤ 20 }
+    requires some_bits { 0 < setting.now.b }
+    requires others { same_id contact.id setting.now.own ≡ false }
+    requires under { IsUnder (path at contact.id) node.old }
+    requires short { All IsShort (rows_of node.old) }
+    requires each { All (IsRow setting.now.own setting.now.k setting.now.b) (rows_of node.old) }
+    ensures ok { IfOk result (λ seen. SeenStep setting.now.own setting.now.k setting.now.b contact (rows_of node.old) seen (rows_of node.new)) }
+    ensures under { IsUnder (path at contact.id) node.new }
+    ensures err { OnErr result (rows_of node.new ≡ rows_of node.old) }
+{
+    match node {
+        Node::Leaf(row) => {
+            if !row.needs_split(setting, &contact.id) {
+                return row.take(setting.k, contact);
+            }
+            let (tree, seen) = forked(alloc, setting, row, contact)?;
+            *node = tree;
+            Ok(seen)
+        }
+        Node::Fork(low, high) => {
+            if bit(&contact.id, at) {
+                see(high, alloc, setting, contact, at + 1)
+            } else {
+                see(low, alloc, setting, contact, at + 1)
+            }
+        }
+    }
+}
