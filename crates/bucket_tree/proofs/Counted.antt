@@ -43,10 +43,3 @@ filter-map f p (x ∷ xs) = go (p (f x)) (filter-map f p xs)
 pub any-map : {A B : Type 0} (f : A → B) (p : B → Bool) (xs : List A) → list_any p (map f xs) ≡ list_any (λ x. p (f x)) xs
 any-map f p [] = refl
 any-map f p (x ∷ xs) = ap (λ (b : Bool). p (f x) || b) (any-map f p xs)
-
--- a filter of what was read so far has room for one more
-pub filter-room : {A : Type 0} (p : A → Bool) (xs kept : List A) (i n : ℕ) → kept ≡ filter p (take i xs) → i < length xs → length xs ≤ n → length kept < n
-filter-room p xs kept i n e lt le =
-    let few : length (filter p (take i xs)) ≤ length (take i xs) = filter-few p (take i xs) in
-    let len : length (take i xs) ≡ i = length-take-le i xs (omega arith) in
-    omega (arith, ap length e)

@@ -40,21 +40,6 @@ leaf_fails c at node row r r' gone e u s er f = record {
   after_are = refl;
 }
 
-pub leaf_stays : (c : Contact) (at : ℕ) (node : Node) (row : _) (r r' : RowState) (gone : Gone) → node ≡ Leaf row → IsUnder (path at c.id) node → r ≡ row.value → RowFailed c r gone r' → r'.prefix ≡ path at c.id
-leaf_stays c at node row r r' gone e u er f = prefix_stays c r gone r' f ∙ ap (λ (x : RowState). x.prefix) er ∙ subst (IsUnder (path at c.id)) e u
-
-pub low_fails : (c : Contact) (gone : Gone) (node : Node) (a : _) (low : Node) (b : _) (high : Node) (child : Node) (new : List RowState) → node ≡ Fork' a low b high → child ≡ low → InItsRow c gone (rows_of child) new → InItsRow c gone (rows_of node) (new ++ rows_of high)
-low_fails c gone node a low b high child new e f s = record {
-  front = s.front;
-  back = s.back ++ rows_of high;
-  row = s.row;
-  row' = s.row';
-  rows_are = ap rows_of e ∙ ap (λ (n : Node). rows_of n ++ rows_of high) (sym f) ∙ ap (λ (l : List RowState). l ++ rows_of high) s.rows_are ∙ append_assoc s.front (s.row ∷ s.back) (rows_of high);
-  covers = s.covers;
-  step = s.step;
-  after_are = ap (λ (l : List RowState). l ++ rows_of high) s.after_are ∙ append_assoc s.front (s.row' ∷ s.back) (rows_of high);
-}
-
 pub high_fails : (c : Contact) (gone : Gone) (node : Node) (a : _) (low : Node) (b : _) (high : Node) (child : Node) (new : List RowState) → node ≡ Fork' a low b high → child ≡ high → InItsRow c gone (rows_of child) new → InItsRow c gone (rows_of node) (rows_of low ++ new)
 high_fails c gone node a low b high child new e f s = record {
   front = rows_of low ++ s.front;
@@ -105,6 +90,3 @@ failed_tree own k b c gone old new t i u =
       each = subst (All (IsRow own k b)) (sym i.after_are) (all-put (IsRow own k b) i.front i.row i.row' i.back each kept.0);
       whole = subst (All IsWholeRow) (sym i.after_are) (all-put IsWholeRow i.front i.row i.row' i.back wholes (whole_failed c i.row gone i.row' i.step (all-here IsWholeRow i.front i.row i.back wholes)));
     }
-
-pub tree_failable : (own : Id) (k b : ℕ) (rows : List RowState) → All (IsRow own k b) rows → All IsFailable rows
-tree_failable own k b rows each i d lt = (each i d lt).failed_once

@@ -38,7 +38,7 @@ same_id-itself x = ap is_eq (tied_itself nat_list_cmp_total x.0)
 pub same_id-contact : (x y : Contact) → same x y ≡ true → same_id y.id x.id ≡ true
 same_id-contact x y e = let f : x ≡ y = same_exact x y e in ap (λ (z : Contact). same_id y.id z.id) f ∙ same_id-itself y.id
 
-get-bits : (n i j : ℕ) (bytes : List ℕ) → j < n → get_or (bits_from n i bytes) j false ≡ bit bytes (i + j)
+pub get-bits : (n i j : ℕ) (bytes : List ℕ) → j < n → get_or (bits_from n i bytes) j false ≡ bit bytes (i + j)
 unfolding bits_from
 get-bits zero i j bytes lt = absurd (omega arith)
 get-bits (suc n) i zero bytes lt = let e : i + zero ≡ i = omega arith in ap (bit bytes) (sym e)

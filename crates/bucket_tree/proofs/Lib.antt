@@ -17,3 +17,5 @@ pub mod FailedRows
 pub mod Stays
 pub mod Stops
 pub mod Gathered
+pub mod ByBytes
+pub mod Distances

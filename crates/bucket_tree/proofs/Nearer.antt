@@ -21,7 +21,7 @@ use Rattle.bucket_tree.specs.Trees.{IsWhole}
 use Rattle.bucket_tree.proofs.Bytes.{byte_less}
 
 -- the bit of a byte, as a number
-bit_same : (a b i j : ℕ) → nat_eq (bit_at a i) 1 ≡ nat_eq (bit_at b j) 1 → bit_at a i ≡ bit_at b j
+pub bit_same : (a b i j : ℕ) → nat_eq (bit_at a i) 1 ≡ nat_eq (bit_at b j) 1 → bit_at a i ≡ bit_at b j
 bit_same a b i j e = go (bit_at a i) (bit_at b j) (bit_at-lt a i) (bit_at-lt b j) e
   where
     go : (x y : ℕ) → x < 2 → y < 2 → nat_eq x 1 ≡ nat_eq y 1 → x ≡ y
@@ -49,7 +49,7 @@ later_bit a bytes i =
 later_none : (i : ℕ) → bit [] (i + 8) ≡ bit [] i
 later_none i = let f : (i + 8) % 8 ≡ i % 8 = omega arith in ap (λ (j : ℕ). nat_eq (bit_at 0 (7 - j)) 1) f
 
-cmp_first : (x y : ℕ) (xs ys : List ℕ) → x < y → slice_cmp nat_cmp (x ∷ xs) (y ∷ ys) ≡ Less
+pub cmp_first : (x y : ℕ) (xs ys : List ℕ) → x < y → slice_cmp nat_cmp (x ∷ xs) (y ∷ ys) ≡ Less
 cmp_first x y xs ys lt = grind (arith, lt)
 
 cmp_next : (x y : ℕ) (xs ys : List ℕ) → x ≡ y → slice_cmp nat_cmp xs ys ≡ Less → slice_cmp nat_cmp (x ∷ xs) (y ∷ ys) ≡ Less
@@ -112,7 +112,7 @@ bytes_less t (x ∷ a) (y ∷ c) n long lt sa sc agree same other =
         cmp_next x y a c (equal many) (sym (ap (λ (l : List ℕ). slice_cmp nat_cmp l (xor_bytes [] c)) (xor_none a) ∙ ap (slice_cmp nat_cmp a) (xor_none c)) ∙ rest [] many (e ∙ down_none many) (λ q. f (q ∙ sym (down_none many))))
 
 -- the bits that a prefix has
-begins_bit : (p : List Bool) (n s i : ℕ) (w : List ℕ) → begins p (bits_from n s w) ≡ true → i < length p → bit w (s + i) ≡ get_or p i false
+pub begins_bit : (p : List Bool) (n s i : ℕ) (w : List ℕ) → begins p (bits_from n s w) ≡ true → i < length p → bit w (s + i) ≡ get_or p i false
 unfolding bits_from
 begins_bit [] n s i w e lt = absurd (omega arith)
 begins_bit (x ∷ p) zero s i w e lt = absurd cc
@@ -160,11 +160,3 @@ half_nearer target p x y a c same other wa wc ea ec =
     (has_bit (p ++ x ∷ []) a.id ea n (omega (arith, long)) ∙ last_of p x ∙ same)
     (λ q. other (sym (last_of p y) ∙ sym (has_bit (p ++ y ∷ []) c.id ec n (omega (arith, long'))) ∙ q)) in
     ap (λ o. ordering_then o (ordering_then (slice_cmp nat_cmp (address_bytes a.addr.ip) (address_bytes c.addr.ip)) (nat_cmp a.addr.port c.addr.port))) less
-
--- a contact that agrees with the target in more bits is closer than one that agrees in fewer: where p is what the second has
--- in common with the target, and the first goes on with the target's next bit
-pub more_bits_nearer : (target : Id) (p q : List Bool) (y : Bool) (a c : Contact) → y ≢ bit target.0 (length p) → IsWhole a.id → IsWhole c.id
-    → begins (p ++ bit target.0 (length p) ∷ q) (id_bits a.id) ≡ true → begins (p ++ y ∷ []) (id_bits c.id) ≡ true → IsCloser target a c
-more_bits_nearer target p q y a c other wa wc ea ec =
-    let x = bit target.0 (length p) in
-    half_nearer target p x y a c refl other wa wc (begins-front (p ++ x ∷ []) q (id_bits a.id) (ap (λ (l : List Bool). begins l (id_bits a.id)) (append_assoc p (x ∷ []) q) ∙ ea)) ec

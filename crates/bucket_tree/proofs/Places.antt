@@ -27,9 +27,6 @@ one-covers id rows d short =
     let one = one_begins (prefixes_of rows) (id_bits id) d (subst (λ (n : ℕ). All (λ (p : List Bool). length p ≤ n) (prefixes_of rows)) (sym (id_bits-length id)) all) in
     sym (length-map (filter (covers id) rows) prefix_of) ∙ ap length (sym (filter-map prefix_of (λ p. begins p (id_bits id)) rows)) ∙ one
 
-abbrev one_if : Bool → ℕ
-one_if b = cond b 1 0
-
 -- those before the place don't
 -- another row doesn't cover it
 pub alone : (id : Id) (front back : List RowState) (row : RowState) → Partition (prefixes_of (front ++ row ∷ back)) → All (λ row. length row.prefix ≤ 160) (front ++ row ∷ back) → covers id row ≡ true

@@ -50,9 +50,6 @@ pub step_split : (own : Id) (k b : ℕ) (c : Contact) (row : RowState) (after : 
     → SeenStep own k b c (half false row ∷ half true row ∷ []) seen after → SeenStep own k b c (row ∷ []) seen after
 step_split own k b c row after seen others covers n s = split [] [] row others refl covers n s
 
-pub covered_live : (own : Id) (k b : ℕ) (row : RowState) → IsRow own k b row → All (λ c. begins row.prefix (id_bits c.id) ≡ true) (live_in row)
-covered_live own k b row is = all-left (λ (c : Contact). begins row.prefix (id_bits c.id) ≡ true) (live_in row) row.spares is.covered
-
 -- a row that was split, by its half that takes the contact
 module _ (own : Id) (k b : ℕ) (c : Contact) (row : RowState) (others : same_id c.id own ≡ false) (covers : begins row.prefix (id_bits c.id) ≡ true) (n : NeedsSplit own k b c.id row) where
   pub split_on_high : (l h : RowState) (seen : Seen) (low after : List RowState) → l ≡ half false row → h ≡ half true row → low ≡ l ∷ [] → SeenStep own k b c (h ∷ []) seen after → SeenStep own k b c (row ∷ []) seen (low ++ after)

@@ -134,12 +134,6 @@ tree_same own k b old new t e u = record {
   whole = subst (All IsWholeRow) (sym e) t.whole;
 }
 
-pub tree_tidy : (own : Id) (k b : ℕ) (rows : List RowState) → All (IsRow own k b) rows → All IsWholeRow rows → All IsTidy rows
-tree_tidy own k b rows each wholes i d lt = record {
-  covered = all-left (λ (c : Contact). begins (get_or rows i d).prefix (id_bits c.id) ≡ true) (live_in (get_or rows i d)) (get_or rows i d).spares (each i d lt).covered;
-  whole = all-left whole (live_in (get_or rows i d)) (get_or rows i d).spares (wholes i d lt);
-}
-
 -- after a call: it took the contact in, or left all
 pub tree_after : (own : Id) (k b : ℕ) (c : Contact) (old new : Node) (r : Result Seen NoMemory) → IsTree own k b old → IsWhole c.id → IfOk r (λ seen. SeenStep own k b c (rows_of old) seen (rows_of new)) → IsUnder [] new → OnErr r (rows_of new ≡ rows_of old) → IsTree own k b new
 tree_after own k b c old new (Ok seen) t w s u e = tree_keeps own k b c old new seen t w s u

@@ -6,7 +6,6 @@ use Rattle.kad_base.specs.declared.plain.Contact.{Contact}
 use Rattle.kad_distance.specs.Order.{IsCloser}
 use Rattle.bucket_tree.specs.Partition.{bits_from, id_bits, begins}
 use Rattle.bucket_tree.specs.Rows.{RowState, IsRow, live_in}
-use Rattle.bucket_tree.specs.Steps.{half}
 use Rattle.bucket_tree.specs.declared.node.Node.{Node}
 use Rattle.bucket_tree.specs.declared.node.Node.TheVariants.{Leaf, Fork'}
 
@@ -35,22 +34,6 @@ pub record IsTidy (row : RowState) : Type 0 where
 -- the first bits of an identifier
 abbrev pub path : ℕ → Id → List Bool
 path at id = bits_from at 0 id.0
-
--- the row is the one of the tree whose prefix begins the identifier
-pub record IsRowOf (id : Id) (rows : List RowState) (row : RowState) : Type 0 where
-  pub front : List RowState
-  pub back : List RowState
-  pub rows_are : rows ≡ front ++ row ∷ back
-  pub covers : begins row.prefix (id_bits id) ≡ true
-
--- the row of the identifier became its two halves
-pub record IsSplit (id : Id) (old new : List RowState) : Type 0 where
-  pub front : List RowState
-  pub row : RowState
-  pub back : List RowState
-  pub old_are : old ≡ front ++ row ∷ back
-  pub covers : begins row.prefix (id_bits id) ≡ true
-  pub new_are : new ≡ front ++ half false row ∷ half true row ∷ back
 
 -- a tree that hangs that deep, under some prefix
 pub record HangsAt (at : ℕ) (node : Node) : Type 0 where

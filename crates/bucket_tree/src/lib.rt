@@ -7,6 +7,8 @@ mod bits;
 mod buckets;
 mod entries;
 mod failing;
+#[cfg(test)]
+mod flat;
 mod laws;
 mod nearest;
 mod node;
@@ -16,6 +18,10 @@ mod row;
 mod taking;
 #[cfg(test)]
 mod tests;
+#[cfg(test)]
+mod tests_drawn;
+#[cfg(test)]
+mod tests_rows;
 
 pub use buckets::Buckets;
 pub use laws::one_prefix;

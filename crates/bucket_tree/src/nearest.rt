@@ -1,8 +1,12 @@
 //! The live contacts that are closest to a target, nearest subtree first.
-ghost use Rattle.std.specs.Prelude.{◌≡◌, ◌≤◌, ◌++◌, ◌∷◌, [], IfOk, vec_len, vec_capacity};
+ghost use Rattle.std.specs.Prelude.{◌≡◌, ◌≤◌, ◌++◌, ◌∷◌, [], length, IsTrue, IfOk, vec_len, vec_capacity};
+ghost use Rattle.std.specs.Ordering.{nat_cmp};
+ghost use Rattle.std.specs.Cmp.Lexicographic.{slice_cmp};
+ghost use Rattle.std.specs.declared.cmp.Ordering.TheVariants.{Less};
+ghost use Rattle.kad_base.specs.Bits.{xor_bytes};
 ghost use Rattle.std.specs.List.{All};
 ghost use Rattle.std.specs.List.Sorted.{IsStrictlySortedBy};
-ghost use Rattle.kad_distance.specs.Order.{closeness};
+ghost use Rattle.kad_distance.specs.Order.{closeness, IsCloser};
 ghost use Rattle.kad_distance.specs.KClosest.{k_closest};
 ghost use Rattle.bucket_tree.specs.Rows.{live_of};
 ghost use Rattle.bucket_tree.specs.Trees.{rows_of, IsUnder, IsShort, IsTidy, HangsAt, AllCloser};
@@ -14,6 +18,53 @@ use kad_base::{Contact, Contacts, Id, List, NoMemory};
 use kad_distance::put_closest;
 use std::alloc::Global;
 
+/// Whether one identifier is nearer to the target than another: by the first byte in which their distances differ.
+fn is_nearer(target: &Id, a: &Id, b: &Id) -> bool
+    ensures { IsTrue result → slice_cmp nat_cmp (xor_bytes target.now.0 a.now.0) (xor_bytes target.now.0 b.now.0) ≡ Less }
+{
+    for at in 0..20usize {
+        let one = target.0[at] ^ a.0[at];
+        let two = target.0[at] ^ b.0[at];
+        if one < two {
+            return true;
+        }
+        if one > two {
+            return false;
+        }
+    }
+    false
+}
+
+/// Whether there are k, of which the last is nearer than the contact.
+fn is_beyond(near: &[Contact], target: &Id, k: usize, contact: &Contact) -> bool
+    requires sorted { IsStrictlySortedBy (closeness target.now) near.now }
+    ensures full { IsTrue result → length near.now ≡ k }
+    ensures farther { IsTrue result → All (λ c. IsCloser target.now c contact.now) near.now }
+{
+    if k == 0 {
+        return false;
+    }
+    if near.len() != k {
+        return false;
+    }
+    let last = near[near.len() - 1];
+    is_nearer(target, &last.id, &contact.id)
+}
+
+/// Puts a contact among the k closest. One that is beyond them is passed over at once.
+fn offer(near: &mut Vec<Contact>, target: &Id, k: usize, contact: &Contact)
+    requires sorted { IsStrictlySortedBy (closeness target.now) near.old.items }
+    requires few { vec_len near.old ≤ k }
+    requires room { k ≤ vec_capacity near.old }
+    ensures items { near.new.items ≡ k_closest target.now k (near.old.items ++ contact.now ∷ []) }
+    ensures room { k ≤ vec_capacity near.new }
+{
+    if is_beyond(near.as_slice(), target, k, contact) {
+        return;
+    }
+    put_closest(near, target, k, contact);
+}
+
 /// Puts the live contacts of a row among the k closest.
 fn put_row(near: &mut Vec<Contact>, target: &Id, k: usize, row: &Row)
     requires sorted { IsStrictlySortedBy (closeness target.now) near.old.items }
@@ -23,7 +74,7 @@ fn put_row(near: &mut Vec<Contact>, target: &Id, k: usize, row: &Row)
     ensures room { k ≤ vec_capacity near.new }
 {
     for entry in row.live() {
-        put_closest(near, target, k, &entry.contact);
+        offer(near, target, k, &entry.contact);
     }
 }
 
@@ -65,7 +116,7 @@ fn put_all(near: &mut Vec<Contact>, target: &Id, k: usize, others: &[Contact])
     ensures { near.new.items ≡ k_closest target.now k (near.old.items ++ others.now) }
 {
     for contact in others {
-        put_closest(near, target, k, contact);
+        offer(near, target, k, contact);
     }
 }
 

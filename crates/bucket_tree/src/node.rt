@@ -1,5 +1,5 @@
 //! A tree whose forks stand for a bit and whose leaves are buckets.
-ghost use Rattle.std.specs.Prelude.{◌≡◌, ◌≤◌, ◌++◌, ◌∷◌, [], IfOk, OnOk};
+ghost use Rattle.std.specs.Prelude.{◌≡◌, ◌≤◌, ◌++◌, ◌∷◌, [], Bool, List, IfOk, OnOk, true, false};
 ghost use Rattle.std.specs.List.{All};
 ghost use Rattle.bucket_tree.specs.Rows.{live_of, prefixes_of};
 ghost use Rattle.bucket_tree.specs.Trees.{rows_of, IsUnder, IsShort, HangsAt};
@@ -28,13 +28,21 @@ pub(crate) fn leaf(alloc: Global, row: Row) -> Result<Node, NoMemory>
 }
 
 /// A tree on the heap.
-pub(crate) fn boxed(alloc: Global, node: Node) -> Result<Box<Node>, NoMemory>
+fn boxed(alloc: Global, node: Node) -> Result<Box<Node>, NoMemory>
     ensures { IfOk result (λ whole. whole.value ≡ node) }
 {
     match Box::new(alloc, node) {
         Ok(node) => Ok(node),
         Err(_) => Err(NoMemory),
     }
+}
+
+/// The tree of two halves.
+pub(crate) fn fork(alloc: Global, low: Node, high: Node) -> Result<Node, NoMemory>
+    ensures rows { IfOk result (λ node. rows_of node ≡ rows_of low ++ rows_of high) }
+    ensures under { (p : List Bool) → IsUnder (p ++ false ∷ []) low → IsUnder (p ++ true ∷ []) high → IfOk result (λ node. IsUnder p node) }
+{
+    Ok(Node::Fork(boxed(alloc, low)?, boxed(alloc, high)?))
 }
 
 /// Appends the live contacts of a tree to a list, row by row. On want of memory the list may have some of them.

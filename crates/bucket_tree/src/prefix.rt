@@ -49,7 +49,13 @@ impl Prefix {
     pub fn begins(&self, id: &Id) -> bool
         ensures { result ≡ begins self.now (id_bits id.now) }
     {
-        for at in 0..self.len {
+        let whole = self.len / 8;
+        for byte in 0..whole as usize {
+            if self.bits.0[byte] != id.0[byte] {
+                return false;
+            }
+        }
+        for at in whole * 8..self.len {
             if bit(&self.bits, at) != bit(id, at) {
                 return false;
             }

@@ -96,8 +96,8 @@ fn refill(live: &mut Vec<Entry>, spares: &mut Vec<Contact>) -> Gone
 {
     match spares.pop() {
         None => Gone::Removed,
-        Some(contact) => {
-            match live.push(fresh(contact)) {
+        Some(newest) => {
+            match live.push(fresh(newest)) {
                 Ok(()) => {}
                 Err(_) => unreachable!(),
             }

@@ -7,7 +7,7 @@ ghost use Rattle.bucket_tree.specs.Steps.{SeenStep, NeedsSplit};
 ghost use Rattle.bucket_tree.specs.Trees.{rows_of, IsUnder, IsShort, path};
 
 use crate::bits::bit;
-use crate::node::{Node, boxed, leaf};
+use crate::node::{Node, fork, leaf};
 use crate::plain::{Seen, Setting};
 use crate::row::Row;
 use kad_base::{Contact, NoMemory};
@@ -63,11 +63,11 @@ fn forked(
     if high.covers(&contact.id) {
         let low = leaf(alloc, low)?;
         let (high, seen) = grown(alloc, setting, high, contact)?;
-        Ok((Node::Fork(boxed(alloc, low)?, boxed(alloc, high)?), seen))
+        Ok((fork(alloc, low, high)?, seen))
     } else {
         let high = leaf(alloc, high)?;
         let (low, seen) = grown(alloc, setting, low, contact)?;
-        Ok((Node::Fork(boxed(alloc, low)?, boxed(alloc, high)?), seen))
+        Ok((fork(alloc, low, high)?, seen))
     }
 }
 

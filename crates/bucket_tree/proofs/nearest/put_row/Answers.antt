@@ -6,11 +6,11 @@ use Rattle.bucket_tree.proofs.Stops.{closest_entry}
 use Rattle.bucket_tree.proofs.Gathered.{gathered_sorted, gathered_few}
 use Rattle.bucket_tree.proofs.nearest.put_row.Goals as goal
 
-pub put_closest-requires-clause-sorted : goal.put_closest-requires-clause-sorted
-put_closest-requires-clause-sorted c = gathered_sorted c.args.target.now c.args.k _ _ c.loop-entry.invariant.items
+pub offer-requires-clause-sorted : goal.offer-requires-clause-sorted
+offer-requires-clause-sorted c = gathered_sorted c.args.target.now c.args.k _ _ c.loop-entry.invariant.items
 
-pub put_closest-requires-clause-few : goal.put_closest-requires-clause-few
-put_closest-requires-clause-few c = let few = gathered_few c.args.target.now c.args.k _ _ c.loop-entry.invariant.items in grind (arith, few)
+pub offer-requires-clause-few : goal.offer-requires-clause-few
+offer-requires-clause-few c = let few = gathered_few c.args.target.now c.args.k _ _ c.loop-entry.invariant.items in grind (arith, few)
 
 pub loop-entry-init : goal.loop-entry-init
 loop-entry-init c = record {
@@ -20,6 +20,6 @@ loop-entry-init c = record {
 
 pub loop-entry-preserved : goal.loop-entry-preserved
 loop-entry-preserved c = record {
-  items = closest_entry c.args.target.now c.args.k c.args.near.now.items c.live-entry-items.result.now c.loop-entry.entry-index _ _ _ c.loop-entry-test.true c.loop-entry.invariant.items c.put_closest.ensures.items;
-  room = c.put_closest.ensures.room;
+  items = closest_entry c.args.target.now c.args.k c.args.near.now.items c.live-entry-items.result.now c.loop-entry.entry-index _ _ _ c.loop-entry-test.true c.loop-entry.invariant.items c.offer.ensures.items;
+  room = c.offer.ensures.room;
 }

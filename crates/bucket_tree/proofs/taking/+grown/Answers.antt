@@ -46,19 +46,17 @@ forked-grown-requires-else-covers t c =
       ),
     )
 
-pub forked-returns-in_ok-boxed-2-clause-step : goal.forked-returns-in_ok-boxed-2-clause-step
-forked-returns-in_ok-boxed-2-clause-step t c =
+pub forked-returns-in_ok-fork-clause-step : goal.forked-returns-in_ok-fork-clause-step
+forked-returns-in_ok-fork-clause-step t c =
     let s = c.args.setting.now in
-    split_on_high s.own s.k s.b c.args.contact c.args.row.now c.requires.others c.requires.covers c.requires.needs _ _ _ _ _ c.in_ok-low.ensures c.in_ok-high.ensures
-    (ap rows_of c.in_ok-boxed.ensures ∙ c.in_ok-low-2.ensures.rows)
-    (subst (λ (n : Node). SeenStep s.own s.k s.b c.args.contact (c.in_ok-high.high ∷ []) c.in_ok-high-2.seen (rows_of n)) (sym c.in_ok-boxed-2.ensures) c.in_ok-high-2.ensures.step)
+    subst (SeenStep s.own s.k s.b c.args.contact (c.args.row.now ∷ []) c.in_ok-high-2.seen) (sym c.in_ok-fork.ensures.rows)
+    (split_on_high s.own s.k s.b c.args.contact c.args.row.now c.requires.others c.requires.covers c.requires.needs _ _ _ _ _ c.in_ok-low.ensures c.in_ok-high.ensures c.in_ok-low-2.ensures.rows c.in_ok-high-2.ensures.step)
 
-pub forked-returns-in_ok-boxed-4-clause-step : goal.forked-returns-in_ok-boxed-4-clause-step
-forked-returns-in_ok-boxed-4-clause-step t c =
+pub forked-returns-in_ok-fork-2-clause-step : goal.forked-returns-in_ok-fork-2-clause-step
+forked-returns-in_ok-fork-2-clause-step t c =
     let s = c.args.setting.now in
-    split_on_low s.own s.k s.b c.args.contact c.args.row.now c.requires.others c.requires.covers c.requires.needs _ _ _ _ _ c.in_ok-low.ensures c.in_ok-high.ensures
-    (ap rows_of c.in_ok-boxed-4.ensures ∙ c.in_ok-high-3.ensures.rows)
-    (subst (λ (n : Node). SeenStep s.own s.k s.b c.args.contact (c.in_ok-low.low ∷ []) c.in_ok-low-3.seen (rows_of n)) (sym c.in_ok-boxed-3.ensures) c.in_ok-low-3.ensures.step)
+    subst (SeenStep s.own s.k s.b c.args.contact (c.args.row.now ∷ []) c.in_ok-low-3.seen) (sym c.in_ok-fork-2.ensures.rows)
+    (split_on_low s.own s.k s.b c.args.contact c.args.row.now c.requires.others c.requires.covers c.requires.needs _ _ _ _ _ c.in_ok-low.ensures c.in_ok-high.ensures c.in_ok-high-3.ensures.rows c.in_ok-low-3.ensures.step)
 
 pub grown-returns-clause-step : goal.grown-returns-clause-step
 grown-returns-clause-step t c =

@@ -1,0 +1,13 @@
+use Rattle.std.proofs.Common.{◌≡◌, get_or, ◌∙◌, arith}
+use Rattle.std.specs.Prelude.{bit_xor}
+use Rattle.bucket_tree.proofs.Distances.{same_byte, less_byte}
+use Rattle.bucket_tree.proofs.nearest.is_nearer.Goals as goal
+
+pub loop-at-preserved : goal.loop-at-preserved
+loop-at-preserved c =
+    let t = c.args.target.now.0 in
+    let same : bit_xor (get_or t c.loop-at.at 0) (get_or c.args.a.now.0 c.loop-at.at 0) ≡ bit_xor (get_or t c.loop-at.at 0) (get_or c.args.b.now.0 c.loop-at.at 0) = omega arith in
+    c.loop-at.invariant ∙ same_byte t c.args.a.now.0 c.args.b.now.0 c.loop-at.at (omega arith) (omega arith) (omega arith) same
+
+pub returns-then-one-two : goal.returns-then-one-two
+returns-then-one-two c = λ it_is. c.loop-at.invariant ∙ less_byte c.args.target.now.0 c.args.a.now.0 c.args.b.now.0 c.loop-at.at (omega arith) (omega arith) (omega arith) c.if-one-two.true
