@@ -1,8 +1,7 @@
 -- How many pass a filter, and what it keeps.
-use Rattle.std.proofs.Common.{◌≡◌, ℕ, suc, ◌+◌, ◌<◌, ◌≤◌, ◌||◌, List, [], ◌∷◌, length, take, Bool, true, false, cond, not, map, refl, ap, arith}
+use Rattle.std.proofs.Common.{◌≡◌, suc, ◌+◌, ◌≤◌, ◌||◌, List, [], ◌∷◌, length, Bool, true, false, cond, not, map, refl, ap, arith}
 use Rattle.std.specs.Prelude.{filter}
 use Rattle.std.specs.List.{list_any}
-use Rattle.std.proofs.lemmas.List.{length-take-le}
 
 module _ {A : Type 0} (p : A → Bool) where
   pub filter-few : (xs : List A) → length (filter p xs) ≤ length xs

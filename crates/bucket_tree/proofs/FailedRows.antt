@@ -19,7 +19,7 @@ use Rattle.bucket_tree.proofs.RowSteps.{mark-contacts, failed-kept}
 use Rattle.bucket_tree.proofs.Stays.{whole}
 use Rattle.bucket_tree.specs.declared.node.Node.{Node}
 use Rattle.bucket_tree.specs.declared.node.Node.TheVariants.{Leaf, Fork'}
-use Rattle.bucket_tree.specs.Trees.{rows_of, IsUnder, IsShort, IsFailable, IsWholeRow, IsTree, path}
+use Rattle.bucket_tree.specs.Trees.{rows_of, IsUnder, IsShort, IsWholeRow, IsTree, path}
 use Rattle.bucket_tree.proofs.SeenRows.{leaf_covers}
 
 prefix_stays : (c : Contact) (row : RowState) (gone : Gone) (after : RowState) → RowFailed c row gone after → after.prefix ≡ row.prefix

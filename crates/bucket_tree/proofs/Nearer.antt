@@ -7,7 +7,7 @@ use Rattle.std.specs.Cmp.Lexicographic.{slice_cmp}
 use Rattle.std.specs.declared.cmp.Ordering.TheVariants.{Less}
 use Rattle.std.specs.Int.Bits.{xor_zero_l}
 use Rattle.std.proofs.lemmas.Bool.{cases_lt}
-use Rattle.std.proofs.lemmas.List.{append_assoc, length-append}
+use Rattle.std.proofs.lemmas.List.{length-append}
 use Rattle.std.proofs.lemmas.Nat.Bits.{bit_at-lt, same_from_bits_below}
 use Rattle.kad_base.specs.declared.plain.Id.{Id}
 use Rattle.kad_base.specs.declared.plain.Contact.{Contact}
@@ -15,7 +15,7 @@ use Rattle.kad_base.specs.Bits.{xor_bytes}
 use Rattle.kad_base.specs.Contacts.{address_bytes}
 use Rattle.kad_distance.specs.Order.{IsCloser}
 use Rattle.bucket_tree.specs.Partition.{bit, bits_from, id_bits, begins}
-use Rattle.bucket_tree.proofs.Begun.{begins-front, and_left, and_right, same_bit-same}
+use Rattle.bucket_tree.proofs.Begun.{and_left, and_right, same_bit-same}
 use Rattle.bucket_tree.proofs.OneBit.{id_bits-is, id_bits-length}
 use Rattle.bucket_tree.specs.Trees.{IsWhole}
 use Rattle.bucket_tree.proofs.Bytes.{byte_less}

@@ -1,28 +1,16 @@
 -- What the rows keep when one of them changes or splits.
-use Rattle.std.proofs.Common.{◌≡◌, ℕ, zero, suc, ◌+◌, ◌-◌, ◌<◌, ◌≤◌, List, [], ◌∷◌, ◌++◌, length, get_or, set, Bool, true, false, not, refl, sym, ap, subst, ◌∙◌, arith}
-use Rattle.std.specs.Prelude.{insert}
-use Rattle.std.specs.List.{All}
-use Rattle.std.proofs.lemmas.List.{set_at, get_or_at, map-append, length-append, set-get_or, append_assoc}
-use Rattle.std.proofs.lemmas.List.Edits.{insert-append_right}
+use Rattle.std.proofs.Common.{◌≡◌, ℕ, ◌<◌, ◌≤◌, List, [], ◌∷◌, ◌++◌, length, Bool, true, false, sym, ap, subst, ◌∙◌, arith}
+use Rattle.std.proofs.lemmas.List.{map-append, length-append}
 use Rattle.std.proofs.lemmas.List.Elements.{All-append, All-cons, All-nil}
 use Rattle.kad_base.specs.declared.plain.Id.{Id}
 use Rattle.kad_base.specs.declared.plain.Contact.{Contact}
-use Rattle.kad_base.specs.Contacts.{same, among}
 use Rattle.bucket_tree.specs.declared.plain.Entry.{Entry}
-use Rattle.bucket_tree.specs.declared.plain.Seen.{Seen}
-use Rattle.bucket_tree.specs.declared.plain.Gone.{Gone}
-use Rattle.bucket_tree.specs.declared.plain.Gone.TheVariants.{Kept, Removed, Replaced, Unknown}
 use Rattle.bucket_tree.specs.Partition.{id_bits, begins, Partition, Ascending, whole}
-use Rattle.bucket_tree.specs.Rows.{RowState, IsRow, SoundRows, Sound, contact_of, live_in, live_of, prefix_of, prefixes_of, same_id}
-use Rattle.bucket_tree.specs.Steps.{half, NeedsSplit, RowSeen, SeenStep, in_row, split, RowFailed, FailedStep, InItsRow, failures_of}
-use Rattle.bucket_tree.proofs.Begun.{begins-halves}
-use Rattle.bucket_tree.proofs.OneBit.{id_bits-length}
+use Rattle.bucket_tree.specs.Rows.{RowState, IsRow, SoundRows, Sound, prefix_of, prefixes_of, same_id}
+use Rattle.bucket_tree.specs.Steps.{half}
 use Rattle.bucket_tree.proofs.Shares.{partition-split, ascending-split}
-use Rattle.bucket_tree.proofs.Counted.{any-map}
 use Rattle.bucket_tree.proofs.Every.{all-left, all-after, all-here, all-put, all-one}
-use Rattle.bucket_tree.proofs.Places.{unknown-rows}
-use Rattle.bucket_tree.proofs.RowKept.{row_of, half-kept, find-none}
-use Rattle.bucket_tree.proofs.RowSteps.{seen-kept, failed-kept}
+use Rattle.bucket_tree.proofs.RowKept.{row_of, half-kept}
 
 prefixes-at : (front : List RowState) (row : RowState) (back : List RowState) → prefixes_of (front ++ row ∷ back) ≡ prefixes_of front ++ row.prefix ∷ prefixes_of back
 prefixes-at front row back = map-append prefix_of front (row ∷ back)

@@ -10,7 +10,7 @@ use Rattle.kad_base.specs.declared.plain.Contact.{Contact}
 use Rattle.kad_base.specs.declared.plain.NoMemory.{NoMemory}
 use Rattle.bucket_tree.specs.declared.plain.Seen.{Seen}
 use Rattle.bucket_tree.specs.Partition.{bit, id_bits, begins}
-use Rattle.bucket_tree.specs.Rows.{RowState, IsRow, live_in, same_id}
+use Rattle.bucket_tree.specs.Rows.{RowState, IsRow, same_id}
 use Rattle.bucket_tree.specs.Steps.{SeenStep, NeedsSplit, RowSeen, half, is_own, in_row, split}
 use Rattle.bucket_tree.proofs.Begun.{begins-halves}
 use Rattle.bucket_tree.proofs.Every.{all-left, all-right}

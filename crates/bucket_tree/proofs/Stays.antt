@@ -19,7 +19,7 @@ use Rattle.bucket_tree.proofs.Ids.{same_bits-id}
 use Rattle.bucket_tree.proofs.RowKept.{two-ids, half-kept, all-without, all-ended, all-room}
 use Rattle.bucket_tree.proofs.RowSteps.{seen-kept}
 use Rattle.bucket_tree.specs.declared.node.Node.{Node}
-use Rattle.bucket_tree.specs.Trees.{rows_of, IsUnder, IsShort, IsTidy, IsWhole, IsWholeRow, IsTree}
+use Rattle.bucket_tree.specs.Trees.{rows_of, IsUnder, IsShort, IsWhole, IsWholeRow, IsTree}
 
 abbrev pub whole : Contact → Type 0
 whole c = IsWhole c.id

@@ -1,14 +1,12 @@
 -- The way down a tree.
 use Rattle.std.proofs.Common.{◌≡◌, ℕ, ◌+◌, ◌-◌, ◌<◌, ◌≤◌, ◌&&◌, List, [], ◌∷◌, ◌++◌, length, Bool, true, false, refl, sym, ap, subst, ◌∙◌, arith}
-use Rattle.std.specs.List.{All, flat_map}
-use Rattle.std.proofs.lemmas.List.{append-nil, append_assoc, length-append}
+use Rattle.std.specs.List.{All}
+use Rattle.std.proofs.lemmas.List.{length-append}
 use Rattle.std.proofs.lemmas.List.Elements.{All-head}
 use Rattle.kad_base.specs.declared.plain.Id.{Id}
 use Rattle.bucket_tree.specs.Partition.{bit, bits_from, id_bits, begins}
-use Rattle.bucket_tree.specs.Rows.{RowState}
-use Rattle.bucket_tree.specs.Steps.{half}
 use Rattle.bucket_tree.proofs.Begun.{same_bit-itself}
-use Rattle.bucket_tree.proofs.Every.{all-left, all-right, flat_map-append}
+use Rattle.bucket_tree.proofs.Every.{all-left}
 use Rattle.bucket_tree.proofs.OneBit.{bits_from-length, bits_from-append, bits_from-more, id_bits-is}
 use Rattle.bucket_tree.specs.declared.node.Node.{Node}
 use Rattle.bucket_tree.specs.declared.node.Node.TheVariants.{Leaf, Fork'}

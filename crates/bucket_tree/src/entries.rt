@@ -67,7 +67,12 @@ pub(crate) fn failures(entries: &[Entry], contact: &Contact) -> Option<u8>
 }
 
 /// The entries whose identifiers begin with the prefix, with room for k.
-pub(crate) fn covered(alloc: Global, k: u8, entries: &[Entry], prefix: &Prefix) -> Result<Vec<Entry>, NoMemory>
+pub(crate) fn covered(
+    alloc: Global,
+    k: u8,
+    entries: &[Entry],
+    prefix: &Prefix,
+) -> Result<Vec<Entry>, NoMemory>
     ensures items { IfOk result (λ kept. kept.items ≡ filter (λ e. begins prefix.now (id_bits e.contact.id)) entries.now) }
     ensures room { IfOk result (λ kept. length kept.items ≤ vec_capacity kept) }
 {

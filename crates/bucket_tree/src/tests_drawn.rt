@@ -1,12 +1,12 @@
 //! Contacts that are drawn by xorshift from a fixed seed.
+ghost use Rattle.std.specs.Prelude.{◌<◌, ◌≤◌};
+
 use crate::flat::Flat;
 use crate::{Buckets, Seen};
 use kad_base::{Addr, Contact, Id, Ip};
 use kad_distance::k_least;
 use std::alloc::Global;
 use std::test::Fail;
-
-ghost use Rattle.std.specs.Prelude.{◌<◌, ◌≤◌};
 
 #[derive(Drop)]
 struct Draws {
@@ -157,7 +157,11 @@ fn finds_the_closest_of_20000_that_were_seen(rt: HostRuntime) -> Result<(), Fail
 
 /// How many prefixes begin an identifier.
 fn covering(prefixes: &crate::Prefixes, id: &Id) -> usize {
-    prefixes.as_slice().iter().filter(|prefix| prefix.begins(id)).count()
+    prefixes
+        .as_slice()
+        .iter()
+        .filter(|prefix| prefix.begins(id))
+        .count()
 }
 
 #[test]

@@ -1,10 +1,10 @@
 //! Buckets of 992 rows, and calls at both ends of each parameter.
+ghost use Rattle.std.specs.Prelude.{◌<◌, ◌≤◌};
+
 use crate::{Buckets, Gone, Seen};
 use kad_base::{Addr, Contact, Id, Ip};
 use std::alloc::Global;
 use std::test::Fail;
-
-ghost use Rattle.std.specs.Prelude.{◌<◌, ◌≤◌};
 
 /// The identifier `own` with its five bits from place 5j on combined by XOR with those of v.
 fn far(own: &Id, j: u8, v: u8) -> Contact {
@@ -54,7 +54,12 @@ fn grows_to_992_rows(rt: HostRuntime) -> Result<(), Fail> {
 }
 
 /// Tells the buckets of a contact so often, and answers how often they didn't move it.
-fn others_than_moved(buckets: &mut Buckets, one: Contact, two: Contact, times: u32) -> Result<u32, Fail> {
+fn others_than_moved(
+    buckets: &mut Buckets,
+    one: Contact,
+    two: Contact,
+    times: u32,
+) -> Result<u32, Fail> {
     let mut others = 0u32;
     for _i in 0..times {
         if buckets.seen(one)? != Seen::Moved || buckets.seen(two)? != Seen::Moved {
@@ -75,7 +80,7 @@ fn answers_100000000_calls_within_a_test(rt: HostRuntime) -> Result<(), Fail> {
 
 /// A contact of either family, with the identifier of 20 bytes n.
 fn uniform(n: u8, port: u16) -> Contact {
-    let ip = if n % 2 == 0 {
+    let ip = if n % 4 == 0 {
         Ip::V4([n; 4])
     } else {
         Ip::V6([n; 16])

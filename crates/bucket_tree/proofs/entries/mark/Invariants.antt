@@ -1,4 +1,4 @@
-use Rattle.std.proofs.Common.{◌≡◌, ◌++◌, take, drop, length, map, vec_capacity}
+use Rattle.std.proofs.Common.{◌≡◌, ◌++◌, take, drop, map, vec_capacity}
 use Rattle.bucket_tree.specs.Steps.{mark}
 use Rattle.bucket_tree.proofs.entries.mark.Given as goal
 

@@ -1,4 +1,4 @@
-use Rattle.std.proofs.Common.{◌<◌, ◌-◌, length, refl, arith}
+use Rattle.std.proofs.Common.{◌<◌, ◌-◌, length, arith}
 use Rattle.std.proofs.lemmas.List.{get_or_default}
 use Rattle.bucket_tree.proofs.Distances.{all_nearer_than}
 use Rattle.bucket_tree.proofs.nearest.is_beyond.Goals as goal

@@ -1,4 +1,4 @@
-use Rattle.std.proofs.Common.{◌≡◌, ◌∷◌, [], List, length, get_or, refl, sym, subst, ap, ◌∙◌, inl, inr, arith, ◌<◌, ℕ}
+use Rattle.std.proofs.Common.{◌≡◌, ◌∷◌, [], List, length, get_or, refl, sym, subst, ap, ◌∙◌}
 use Rattle.std.specs.List.{All}
 use Rattle.kad_base.specs.declared.plain.Contact.{Contact}
 use Rattle.kad_distance.specs.Order.{IsCloser}

@@ -1,5 +1,4 @@
-use Rattle.std.proofs.Common.{◌<◌, sym, refl, arith}
-use Rattle.bucket_tree.specs.Rows.{live_in}
+use Rattle.std.proofs.Common.{◌<◌, arith}
 use Rattle.bucket_tree.specs.Trees.{IsShort}
 use Rattle.bucket_tree.proofs.Ways.{hangs_short, low_hangs, high_hangs, falls}
 use Rattle.bucket_tree.proofs.SeenRows.{low_all, high_all}

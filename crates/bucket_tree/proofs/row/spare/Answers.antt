@@ -1,5 +1,4 @@
-use Rattle.std.proofs.Common.{◌≤◌, length, not, ap, arith}
-use Rattle.std.specs.Prelude.{filter}
+use Rattle.std.proofs.Common.{length, not, ap, arith}
 use Rattle.bucket_tree.specs.Rows.{same_id}
 use Rattle.bucket_tree.proofs.Counted.{filter-few}
 use Rattle.bucket_tree.proofs.row.spare.Goals as goal

@@ -1,4 +1,4 @@
-use Rattle.std.proofs.Common.{ap, sym, subst}
+use Rattle.std.proofs.Common.{sym, subst}
 use Rattle.std.specs.Prelude.{List, Bool}
 use Rattle.bucket_tree.specs.Rows.{BucketsState}
 use Rattle.bucket_tree.specs.Steps.{FailedStep}
