@@ -7,6 +7,7 @@ mod laws;
 mod table;
 #[cfg(test)]
 mod tests;
+mod threads;
 
 pub use calls::{TableCall, TableReply};
 pub use laws::{holds_what_it_was_told, one_outcome, stays_sound};

@@ -91,3 +91,45 @@ fn finds_spares_among_the_siblings(rt: HostRuntime) -> Result<(), Fail> {
     assert_eq!(rt; all, Some(3));
     Ok(())
 }
+
+/// A contact of either family, with the identifier of 20 bytes n.
+fn uniform(n: u8, port: u16) -> Contact {
+    let ip = if n % 4 == 0 {
+        Ip::V4([n; 4])
+    } else {
+        Ip::V6([n; 16])
+    };
+    Contact {
+        id: Id([n; 20]),
+        addr: Addr { ip, port },
+    }
+}
+
+/// How many of 40 contacts that a role tells of at that port are among the n closest, where there is memory throughout.
+fn found(alloc: Global, role: u8, port: u16, n: u8) -> Option<usize> {
+    let mut table = Table::new(alloc, number(0), 20, 5).ok()?;
+    for i in 1..=40u8 {
+        let contact = uniform(i.wrapping_mul(6), port);
+        if table.apply(role, TableCall::Seen { contact }) == TableReply::NoMemory {
+            return None;
+        }
+    }
+    let target = number(1);
+    match table.apply(role, TableCall::Closest { target, n }) {
+        TableReply::List { list } => Some(list.len()),
+        _ => None,
+    }
+}
+
+#[test]
+fn answers_at_both_ends_of_each_parameter(rt: HostRuntime) -> Result<(), Fail> {
+    for role in [0, 1, 9, 255u8] {
+        for port in [0, 7001, 65535] {
+            for (n, count) in [(1, 1), (8, 8), (9, 9), (20, 20), (255, 40)] {
+                let answer = found(rt.alloc(), role, port, n);
+                assert_eq!(rt; answer, Some(count), "role {role}, port {port}, n {n}");
+            }
+        }
+    }
+    Ok(())
+}
