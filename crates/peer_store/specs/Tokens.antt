@@ -1,0 +1,27 @@
+-- Tokens, by which whoever announces a peer shows that it was asked for from its address before (BEP 5). Their numbers are
+-- this project's own, but the five minutes of a secret, which are BEP 5's.
+use Rattle.std.specs.Prelude.{◌≡◌, ℕ, ◌+◌, ◌-◌, ◌*◌, ◌/◌, ◌^◌, ◌<◌, ◌⊎◌, List, ◌++◌, take}
+use Rattle.kad_base.specs.Puzzles.{hash}
+use Rattle.kad_base.specs.Words.{drawn_bytes}
+
+-- what contracts see of tokens: the seed of their secrets, and the moment that their epochs count from
+pub record TokensState : Type 0 where
+  pub seed : List ℕ
+  pub began : ℕ
+
+-- the epoch of a moment, in milliseconds: five minutes each, and 0 before they began
+abbrev pub epoch_at : TokensState → ℕ → ℕ
+epoch_at t at = (at - t.began) / 300000
+
+-- the secret of an epoch: the bytes of the five drawn words of its own, far behind those that a lookup draws
+unfoldable pub secret_of : List ℕ → ℕ → List ℕ
+secret_of seed epoch = drawn_bytes seed (2 ^ 40 + 5 * epoch) 5
+
+-- the token of an IPv4 address under the secret of an epoch: the first eight bytes of the hash of both
+unfoldable pub token_of : List ℕ → ℕ → List ℕ → List ℕ
+token_of seed epoch ip = take 8 (hash (ip ++ secret_of seed epoch))
+
+-- the token is that of the address in the epoch of the moment, or in the epoch before it, where there is one
+abbrev pub IsAccepted : TokensState → List ℕ → ℕ → List ℕ → Type 0
+IsAccepted t ip at token =
+    (token ≡ token_of t.seed (epoch_at t at) ip) ⊎ ((0 < epoch_at t at) × (token ≡ token_of t.seed (epoch_at t at - 1) ip))

@@ -1,0 +1,7 @@
+//! What a node keeps for others: the peers that announced themselves under a key, and the tokens that an announcement
+//! needs (BEP 5). It has no clock and no socket, and knows no message.
+#![tactic(auto)]
+
+mod tokens;
+
+pub use tokens::Tokens;
