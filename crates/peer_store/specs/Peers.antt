@@ -44,7 +44,7 @@ pub record IsPeers (held : List Held) : Type 0 where
 
 -- the pair is held
 abbrev pub Holds : List Held → Pair → Type 0
-Holds held pair = IsTrue (list_any (λ h. is_eq (pair_cmp pair h.0)) held)
+Holds held pair = IsTrue (list_any (λ p. is_eq (pair_cmp pair p)) (keys_of held))
 
 -- the last add is less than the greatest age before the moment. One after the moment counts as 0 before it.
 abbrev pub is_fresh : ℕ → Held → Bool
@@ -58,10 +58,14 @@ with_add held pair at = insert_entry pair_cmp held pair at
 abbrev pub purged : List Held → ℕ → List Held
 purged held at = filter (is_fresh at) held
 
--- the peers of the key that are fresh at the moment, in order
-abbrev pub fresh_peers : List Held → Id → ℕ → List Addr
-fresh_peers held key at = map (λ h. h.0.1) (filter (λ h. bytes_eq key.0 h.0.0.0 && is_fresh at h) held)
+-- the addresses
+abbrev pub peers_of : List Held → List Addr
+peers_of held = map (λ h. h.0.1) held
 
--- the first of them
+-- what is held under the key and is fresh at the moment
+abbrev pub fresh_of : List Held → Id → ℕ → List Held
+fresh_of held key at = filter (λ h. bytes_eq key.0 h.0.0.0 && is_fresh at h) held
+
+-- the peers that a list names: the first of those of the key that are fresh at the moment, in the order of addresses
 abbrev pub listed : List Held → Id → ℕ → List Addr
-listed held key at = take max_listed (fresh_peers held key at)
+listed held key at = take max_listed (peers_of (fresh_of held key at))

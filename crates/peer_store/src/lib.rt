@@ -2,6 +2,7 @@
 //! needs (BEP 5). It has no clock and no socket, and knows no message.
 #![tactic(auto)]
 
+mod adds;
 mod tokens;
 
 pub use tokens::Tokens;
