@@ -1,2 +1,4 @@
+pub mod Extremes
+pub mod Kept
 pub mod Listing
 pub mod Ordered

@@ -12,7 +12,7 @@ use Rattle.std.proofs.lemmas.List.Elements.{All-head, All-tail}
 use Rattle.std.proofs.lemmas.Map.Text.{is_eq-slice_cmp}
 use Rattle.kad_base.specs.declared.plain.Id.{Id}
 use Rattle.kad_base.specs.declared.plain.Addr.{Addr}
-use Rattle.peer_store.specs.declared.adds.TheConstants.{FIRST, LAST}
+use Rattle.peer_store.specs.declared.ends.TheConstants.{FIRST, LAST}
 use Rattle.peer_store.specs.Between.{IsBetween, AreBetween}
 use Rattle.std.proofs.lemmas.Bool.{lt-ltb}
 use Rattle.std.proofs.lemmas.Cmp.{nat_list_cmp_total, tied_itself}
@@ -56,9 +56,9 @@ pub ranged : (held range : List Held) (key : Id) (at : ℕ) (s e : Pair) → Are
 ranged held range key at s e all s_is e_is is =
     ap (λ l. purged l at)
     (is ∙ ap (λ (p : Pair). entries_between derived (Included p) (Included e) held) s_is
-      ∙ ap (λ (p : Pair). entries_between derived (Included (key, FIRST)) (Included p) held) e_is
-      ∙ ap (λ (R : Pair → Pair → Ordering). entries_between R (Included (key, FIRST)) (Included (key, LAST)) held) derived_is
-      ∙ filter_alike (λ h. range_contains pair_cmp (Included (key, FIRST)) (Included (key, LAST)) h.0) (λ h. bytes_eq key.0 h.0.0.0) (λ h. IsBetween h.0.1) (in_range key) held all)
+    ∙ ap (λ (p : Pair). entries_between derived (Included (key, FIRST)) (Included p) held) e_is
+    ∙ ap (λ (R : Pair → Pair → Ordering). entries_between R (Included (key, FIRST)) (Included (key, LAST)) held) derived_is
+    ∙ filter_alike (λ h. range_contains pair_cmp (Included (key, FIRST)) (Included (key, LAST)) h.0) (λ h. bytes_eq key.0 h.0.0.0) (λ h. IsBetween h.0.1) (in_range key) held all)
     ∙ filter_twice (λ h. bytes_eq key.0 h.0.0.0) (is_fresh at) held
 
 -- one peer more

@@ -1,32 +1,26 @@
 //! The last adds in order of their pairs.
-ghost use Rattle.std.specs.Prelude.{◌≡◌, ◌↔◌, ◌-◌, ◌<◌, ◌≤◌, IsTrue, OnOk, OnErr, IfOk, take};
+ghost use Rattle.std.specs.Prelude.{◌≡◌, ◌↔◌, ◌-◌, ◌<◌, ◌≤◌, ◌+◌, IsTrue, OnOk, OnErr, IfOk, length, take};
 ghost use Rattle.std.specs.List.{All};
+ghost use Rattle.std.specs.List.Sorted.{IsStrictlySortedBy};
 ghost use Rattle.std.specs.BTreeMap.{values};
+ghost use Rattle.std.specs.Map.{keys_of};
+ghost use Rattle.kad_base.specs.Limits.{max_peers};
 ghost use Rattle.peer_store.specs.Between.{AreBetween};
-ghost use Rattle.peer_store.specs.Peers.{Holds, with_add, purged, peers_of, listed, max_listed};
+ghost use Rattle.peer_store.specs.Peers.{Holds, pair_cmp, with_add, purged, peers_of, listed, max_listed};
 
-use kad_base::{Addr, Addrs, Id, Ip, List, NoMemory};
+use crate::ends::{FIRST, LAST};
+use crate::peers::Stored;
+use kad_base::limits::MAX_PEERS;
+use kad_base::{Addr, Addrs, Id, List, NoMemory};
 use std::alloc::Global;
 use std::collections::BTreeMap;
 use std::collections::btree_map::Range;
 
 /// How long a peer is kept and listed after its last add, in milliseconds.
-const MAX_AGE: u64 = 1_800_000;
+pub(crate) const MAX_AGE: u64 = 1_800_000;
 
 /// The most peers of one list.
 const MAX_LISTED: usize = 50;
-
-/// The first address in their order.
-const FIRST: Addr = Addr {
-    ip: Ip::V4([0; 4]),
-    port: 0,
-};
-
-/// The last address in their order.
-const LAST: Addr = Addr {
-    ip: Ip::V6([255; 16]),
-    port: 65_535,
-};
 
 /// The last add of each pair of a key and a peer of it, in order of the keys and then of the addresses.
 pub(crate) type Adds = BTreeMap<(Id, Addr), u64>;
@@ -39,27 +33,43 @@ pub(crate) fn is_fresh(last: u64, at: u64) -> bool
 }
 
 /// Whether the pair is held.
-pub(crate) fn is_held(adds: &Adds, key: Id, peer: Addr) -> bool
+fn is_held(adds: &Adds, key: Id, peer: Addr) -> bool
     ensures { IsTrue result ↔ Holds adds.now.entries (key, peer) }
 {
     adds.contains_key(&(key, peer))
 }
 
+/// Whether the pair has no place: it isn't held, and as many are as may be.
+pub(crate) fn has_no_place(adds: &Adds, key: Id, peer: Addr) -> bool
+    ensures { IsTrue result ↔ ((¬ Holds adds.now.entries (key, peer)) × (max_peers ≤ length adds.now.entries)) }
+{
+    if adds.len() < MAX_PEERS {
+        return false;
+    }
+    !is_held(adds, key, peer)
+}
+
 /// Puts the pair in its place with this last add, or leaves all as it is. Takes no memory where the pair is held.
-pub(crate) fn put(adds: &mut Adds, key: Id, peer: Addr, at: u64) -> Result<(), NoMemory>
+pub(crate) fn put(adds: &mut Adds, key: Id, peer: Addr, at: u64) -> Result<Stored, NoMemory>
     ensures ok { OnOk result (adds.new.entries ≡ with_add adds.old.entries (key, peer) at) }
     ensures err { OnErr result (adds.new.entries ≡ adds.old.entries) }
-    ensures absent { OnErr result (¬ Holds adds.old.entries (key, peer)) }
+    ensures renewed { (result ≡ Ok Stored.Renewed) ↔ Holds adds.old.entries (key, peer) }
+    ensures length { length adds.new.entries ≤ length adds.old.entries + 1 }
+    ensures same_length { result ≡ Ok Stored.Renewed → length adds.new.entries ≡ length adds.old.entries }
+    ensures sorted { IsStrictlySortedBy pair_cmp (keys_of adds.new.entries) }
 {
     match adds.insert((key, peer), at) {
-        Ok(_) => Ok(()),
+        Ok(Some(_)) => Ok(Stored::Renewed),
+        Ok(None) => Ok(Stored::New),
         Err(_) => Err(NoMemory),
     }
 }
 
 /// Drops what isn't fresh at the moment. Goes over all that is held.
 pub(crate) fn drop_old(adds: &mut Adds, at: u64)
-    ensures { adds.new.entries ≡ purged adds.old.entries at }
+    ensures kept { adds.new.entries ≡ purged adds.old.entries at }
+    ensures length { length adds.new.entries ≤ length adds.old.entries }
+    ensures sorted { IsStrictlySortedBy pair_cmp (keys_of adds.new.entries) }
 {
     adds.retain(|_, last| is_fresh(*last, at));
 }

@@ -3,6 +3,9 @@
 #![tactic(auto)]
 
 mod adds;
+mod ends;
+mod peers;
 mod tokens;
 
+pub use peers::{PeerFault, Peers, Stored};
 pub use tokens::Tokens;

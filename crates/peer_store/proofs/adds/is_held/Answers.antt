@@ -12,5 +12,5 @@ returns c =
     let pair : Pair = (c.args.key, c.args.peer) in
     let held = c.args.adds.now.entries in
     let e : c.contains_key.result ≡ list_any (λ p. is_eq (pair_cmp pair p)) (keys_of held) =
-      c.contains_key.ensures ∙ is_some-lookup (λ p. is_eq (derived pair p)) held ∙ held_by held pair in
+    c.contains_key.ensures ∙ is_some-lookup (λ p. is_eq (derived pair p)) held ∙ held_by held pair in
     (λ h. sym e ∙ h, λ h. e ∙ h)

@@ -14,7 +14,7 @@ loop-peer-preserved-in-Continue-1 c =
     let fewer : length peers < 50 = omega (arith, at_most, c.if-len-eq-MAX_LISTED.false, c.len.ensures) in
     let first = fresh_first e c.loop-peer.peer-iterator c.next.new.self c.args.at c.in-Some.ensures.steps (c.if-is_fresh.ensures.0 refl) in
     let with_first : peers ++ take (50 - length peers) (e.0.1 ∷ rest) ≡ all =
-      ap (λ l. peers ++ take (50 - length peers) l) (sym first) ∙ c.loop-peer.invariant.rest in
+    ap (λ l. peers ++ take (50 - length peers) l) (sym first) ∙ c.loop-peer.invariant.rest in
     let more : (peers ++ e.0.1 ∷ []) ++ take (50 - length (peers ++ e.0.1 ∷ [])) rest ≡ all = one_more peers rest all e.0.1 with_first fewer in
     let pushed : c.push.new.self ≡ peers ++ e.0.1 ∷ [] = c.in_ok-push.ensures.ok in
     record {
