@@ -1,3 +1,4 @@
+pub mod Ascending
 pub mod Extremes
 pub mod Kept
 pub mod Listing

@@ -89,6 +89,7 @@ impl Peers {
     /// addresses. A last add after the moment counts as 0 before it.
     pub fn list(&self, key: Id, at: u64) -> Result<Addrs, NoMemory>
         ensures listed { IfOk result (λ peers. peers ≡ listed self.now key at) }
+        ensures in_order { IfOk result (IsStrictlySortedBy address_cmp) }
         ensures peers { IsPeers self.now }
     {
         first_fresh(&self.adds, self.alloc, key, at)
