@@ -1,9 +1,8 @@
 -- What is kept stays so through an add and a purge.
-use Rattle.std.proofs.Common.{◌≡◌, ◌↔◌, ℕ, ◌+◌, ◌-◌, ◌<◌, ◌≤◌, min, Bool, true, false, cond, List, [], ◌∷◌, length, filter, map, Result, Ok, refl, sym, ap, ◌∙◌, subst, arith}
+use Rattle.std.proofs.Common.{◌≡◌, ◌↔◌, ℕ, ◌+◌, ◌-◌, ◌<◌, ◌≤◌, min, true, cond, List, [], ◌∷◌, length, Result, Ok, refl, sym, ap, ◌∙◌, subst, arith}
 use Rattle.std.specs.List.{All}
 use Rattle.std.specs.List.Sorted.{IsStrictlySortedBy}
 use Rattle.std.specs.Map.{keys_of, values_of}
-use Rattle.std.specs.BTreeMap.{insert_entry}
 use Rattle.std.specs.Ordering.{match_ordering}
 use Rattle.std.specs.declared.cmp.Ordering.{Ordering}
 use Rattle.std.specs.declared.cmp.Ordering.TheVariants.{Less, Equal, Greater}
@@ -13,7 +12,7 @@ use Rattle.kad_base.specs.declared.plain.NoMemory.{NoMemory}
 use Rattle.peer_store.specs.declared.peers.Stored.{Stored}
 use Rattle.peer_store.specs.declared.peers.Stored.TheVariants.{New, Renewed}
 use Rattle.peer_store.specs.Between.{IsBetween, AreBetween, IsKept}
-use Rattle.peer_store.specs.Peers.{Pair, Held, Holds, IsPeers, pair_cmp, is_fresh, with_add, purged}
+use Rattle.peer_store.specs.Peers.{Pair, Held, Holds, pair_cmp, is_fresh, with_add, purged}
 
 -- what holds of all, of the pair that is added, and whatever its last add is, holds after the add
 All-with_add : (P : Held → Type 0) (held : List Held) (pair : Pair) (at : ℕ) → ((h : Held) → P h → P (h.0, at)) → P (pair, at) → All P held → All P (with_add held pair at)

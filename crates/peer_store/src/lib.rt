@@ -5,6 +5,8 @@
 mod adds;
 mod ends;
 mod peers;
+#[cfg(test)]
+mod tests;
 mod tokens;
 
 pub use peers::{PeerFault, Peers, Stored};

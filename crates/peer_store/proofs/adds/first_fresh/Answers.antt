@@ -1,6 +1,5 @@
-use Rattle.std.proofs.Common.{◌≡◌, List, ap, ◌∙◌, take, refl}
+use Rattle.std.proofs.Common.{◌≡◌, List, ap, ◌∙◌, take}
 use Rattle.std.proofs.lemmas.Result.{IfOk-weaker}
-use Rattle.kad_base.specs.declared.plain.Addr.{Addr}
 use Rattle.peer_store.specs.Peers.{Held, purged, peers_of, max_listed, listed}
 use Rattle.peer_store.proofs.Listing.{forward, ranged}
 use Rattle.peer_store.proofs.adds.first_fresh.Goals as goal

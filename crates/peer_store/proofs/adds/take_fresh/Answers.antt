@@ -1,5 +1,4 @@
-use Rattle.std.proofs.Common.{◌≡◌, ◌<◌, ◌≤◌, ◌+◌, ◌-◌, ◌++◌, ◌∷◌, [], length, take, refl, sym, ap, ◌∙◌, subst, arith, length-append}
-use Rattle.kad_base.specs.declared.plain.Addr.{Addr}
+use Rattle.std.proofs.Common.{◌≡◌, ◌<◌, ◌≤◌, ◌-◌, ◌++◌, ◌∷◌, [], length, take, refl, sym, ap, ◌∙◌, subst, arith, length-append}
 use Rattle.peer_store.specs.Peers.{purged, peers_of, Held}
 use Rattle.peer_store.proofs.Listing.{fresh_first, one_more}
 use Rattle.peer_store.proofs.adds.take_fresh.Goals as goal

@@ -1,4 +1,4 @@
-use Rattle.std.proofs.Common.{◌≡◌, ◌-◌, ◌<◌, ap, ◌∙◌, sym, arith}
+use Rattle.std.proofs.Common.{◌-◌, ◌<◌, ap, ◌∙◌, sym, arith}
 use Rattle.peer_store.specs.Peers.{purged}
 use Rattle.peer_store.proofs.Kept.{nothing_old, kept_purge}
 use Rattle.peer_store.proofs.peers.Peers.purge.Goals as goal
