@@ -32,7 +32,9 @@ pub enum PeerFault {
     NoMemory,
 }
 
-/// The peers that announced themselves, each under the key that it named, with the moment of its last add.
+/// The peers that announced themselves, each under the key that it named, with the moment of its last add, in
+/// milliseconds. They stand in a B-tree in order of their keys and then of their addresses, so no choice of keys makes a
+/// search longer: it makes at most some 70 comparisons among 65,536 pairs.
 #[derive(Debug, Drop)]
 pub struct Peers {
     alloc: Global,
@@ -65,8 +67,9 @@ impl Peers {
         }
     }
 
-    /// Adds the peer under the key at the moment, in milliseconds, or sets its last add where it is held, be it earlier
-    /// or later than it was. A pair that is held takes no memory. On a fault all is as before.
+    /// Adds the peer under the key at the moment, or sets its last add where it is held, be it earlier or later than it
+    /// was. A pair that is held takes no memory. On a fault all is as before. Costs one search, and a second one where
+    /// no place is left.
     pub fn add(&mut self, key: Id, peer: Addr, at: u64) -> Result<Stored, PeerFault>
         ensures stored { OnOk result (self.new ≡ with_add self.old (key, peer) at) }
         ensures fault { OnErr result (self.new ≡ self.old) }
@@ -86,7 +89,8 @@ impl Peers {
     }
 
     /// The peers of the key whose last add is less than 30 minutes before the moment, the first 50 in the order of
-    /// addresses. A last add after the moment counts as 0 before it.
+    /// addresses. A last add after the moment counts as 0 before it. Costs a search and a step for each peer of the key
+    /// until 50 are fresh: so a key costs more only while old peers of it wait for a purge, at most 65,536.
     pub fn list(&self, key: Id, at: u64) -> Result<Addrs, NoMemory>
         ensures listed { IfOk result (λ peers. peers ≡ listed self.now key at) }
         ensures in_order { IfOk result (IsStrictlySortedBy address_cmp) }
@@ -96,7 +100,9 @@ impl Peers {
     }
 
     /// Drops the pairs whose last add is 30 minutes or more before the moment. A last add after the moment counts as 0
-    /// before it. Takes no memory.
+    /// before it. Takes no memory. Costs one comparison while no add is that old that was ever the earliest; else two
+    /// passes over all that is held. While moments don't fall, no two purges at one moment make a pass, and there are no
+    /// more passes than there were different moments of adds.
     pub fn purge(&mut self, at: u64)
         ensures { self.new ≡ purged self.old at }
     {

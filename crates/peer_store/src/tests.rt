@@ -40,9 +40,14 @@ fn a_peer_is_listed_for_half_an_hour_after_its_last_add(rt: HostRuntime) -> Resu
     Ok(())
 }
 
+/// What may go to another thread.
+fn sent<T: Send>(value: T) -> T {
+    value
+}
+
 #[test]
 fn an_earlier_add_counts_too(rt: HostRuntime) -> Result<(), Fail> {
-    let mut peers = Peers::new(rt.alloc());
+    let mut peers = sent(Peers::new(rt.alloc()));
     assert!(&rt; peers.add(key(1), peer(1), 10) == Ok(Stored::New));
     assert!(&rt; peers.add(key(1), peer(1), 0) == Ok(Stored::Renewed));
     assert_eq!(&rt; peers.list(key(1), HALF_AN_HOUR)?.len(), 0);
