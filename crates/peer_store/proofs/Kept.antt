@@ -1,5 +1,5 @@
 -- What is kept stays so through an add and a purge.
-use Rattle.std.proofs.Common.{◌≡◌, ◌↔◌, ℕ, ◌+◌, ◌-◌, ◌<◌, ◌≤◌, min, true, cond, List, [], ◌∷◌, length, Result, Ok, refl, sym, ap, ◌∙◌, subst, arith}
+use Rattle.std.proofs.Common.{◌≡◌, ◌≢◌, ◌↔◌, ℕ, ◌+◌, ◌-◌, ◌<◌, ◌≤◌, min, true, cond, List, [], ◌∷◌, length, Result, Ok, refl, sym, ap, ◌∙◌, subst, arith}
 use Rattle.std.specs.List.{All}
 use Rattle.std.specs.List.Sorted.{IsStrictlySortedBy}
 use Rattle.std.specs.Map.{keys_of, values_of}
@@ -12,7 +12,7 @@ use Rattle.kad_base.specs.declared.plain.NoMemory.{NoMemory}
 use Rattle.peer_store.specs.declared.peers.Stored.{Stored}
 use Rattle.peer_store.specs.declared.peers.Stored.TheVariants.{New, Renewed}
 use Rattle.peer_store.specs.Between.{IsBetween, AreBetween, IsKept}
-use Rattle.peer_store.specs.Peers.{Pair, Held, Holds, pair_cmp, is_fresh, with_add, purged}
+use Rattle.peer_store.specs.Peers.{Pair, Held, Holds, HasNoPlace, pair_cmp, is_fresh, with_add, purged}
 
 -- what holds of all, of the pair that is added, and whatever its last add is, holds after the add
 All-with_add : (P : Held → Type 0) (held : List Held) (pair : Pair) (at : ℕ) → ((h : Held) → P h → P (h.0, at)) → P (pair, at) → All P held → All P (with_add held pair at)
@@ -72,12 +72,12 @@ kept_purge held new at since next kept is fewer sorted first =
 
 -- an add leaves no more than may be
 pub few_after : (held : List Held) (pair : Pair) (n : ℕ) (stored : Stored) → n ≤ length held + 1 → length held ≤ 65536
-    → (((¬ (Holds held pair)) × (65536 ≤ length held)) → ⊥) → (◌≡◌ {A = Result Stored NoMemory} (Ok stored) (Ok Renewed) → n ≡ length held)
+    → ¬ (HasNoPlace held pair) → (◌≡◌ {A = Result Stored NoMemory} (Ok stored) (Ok Renewed) → n ≡ length held)
     → (◌≡◌ {A = Result Stored NoMemory} (Ok stored) (Ok Renewed)) ↔ Holds held pair → n ≤ 65536
 few_after held pair n Renewed le old place same holds = let e : n ≡ length held = same refl in omega arith
 few_after held pair n New le old place same holds =
     let absent : ¬ (Holds held pair) = λ h. absurd (apart (holds.1 h)) in
-    let room : ¬ (65536 ≤ length held) = λ g. place (absent, g) in
+    let room : length held ≢ 65536 = λ g. place (absent, g) in
     omega arith
   where
     apart : ◌≡◌ {A = Result Stored NoMemory} (Ok New) (Ok Renewed) → ⊥

@@ -1,5 +1,5 @@
 -- The peers that announced themselves (BEP 5), as a flat list. The numbers are this project's own.
-use Rattle.std.specs.Prelude.{ℕ, ◌-◌, ◌≤◌, Bool, ◌&&◌, nat_lt, List, length, filter, map, take, IsTrue}
+use Rattle.std.specs.Prelude.{◌≡◌, ℕ, ◌-◌, ◌≤◌, Bool, ◌&&◌, nat_lt, List, length, filter, map, take, IsTrue}
 use Rattle.std.specs.List.{list_any}
 use Rattle.std.specs.List.Sorted.{IsStrictlySortedBy}
 use Rattle.std.specs.Map.{keys_of}
@@ -45,6 +45,10 @@ pub record IsPeers (held : List Held) : Type 0 where
 -- the pair is held
 abbrev pub Holds : List Held → Pair → Type 0
 Holds held pair = IsTrue (list_any (λ p. is_eq (pair_cmp pair p)) (keys_of held))
+
+-- the pair has no place: it isn't held, and as many are as may be
+abbrev pub HasNoPlace : List Held → Pair → Type 0
+HasNoPlace held pair = (¬ (Holds held pair)) × (length held ≡ max_peers)
 
 -- the last add is less than the greatest age before the moment. One after the moment counts as 0 before it.
 abbrev pub is_fresh : ℕ → Held → Bool

@@ -6,7 +6,7 @@ ghost use Rattle.std.specs.BTreeMap.{values};
 ghost use Rattle.std.specs.Map.{keys_of};
 ghost use Rattle.kad_base.specs.Limits.{max_peers};
 ghost use Rattle.peer_store.specs.Between.{AreBetween};
-ghost use Rattle.peer_store.specs.Peers.{Holds, pair_cmp, with_add, purged, peers_of, listed, max_listed};
+ghost use Rattle.peer_store.specs.Peers.{Holds, HasNoPlace, pair_cmp, with_add, purged, peers_of, listed, max_listed};
 
 use crate::ends::{FIRST, LAST};
 use crate::peers::Stored;
@@ -41,7 +41,8 @@ fn is_held(adds: &Adds, key: Id, peer: Addr) -> bool
 
 /// Whether the pair has no place: it isn't held, and as many are as may be.
 pub(crate) fn has_no_place(adds: &Adds, key: Id, peer: Addr) -> bool
-    ensures { IsTrue result ↔ ((¬ Holds adds.now.entries (key, peer)) × (max_peers ≤ length adds.now.entries)) }
+    requires { length adds.now.entries ≤ max_peers }
+    ensures { IsTrue result ↔ HasNoPlace adds.now.entries (key, peer) }
 {
     if adds.len() < MAX_PEERS {
         return false;
@@ -55,7 +56,8 @@ pub(crate) fn put(adds: &mut Adds, key: Id, peer: Addr, at: u64) -> Result<Store
     ensures err { OnErr result (adds.new.entries ≡ adds.old.entries) }
     ensures renewed { (result ≡ Ok Stored.Renewed) ↔ Holds adds.old.entries (key, peer) }
     ensures length { length adds.new.entries ≤ length adds.old.entries + 1 }
-    ensures same_length { result ≡ Ok Stored.Renewed → length adds.new.entries ≡ length adds.old.entries }
+    ensures same_length { result ≡ Ok Stored.Renewed
+        → length adds.new.entries ≡ length adds.old.entries }
     ensures sorted { IsStrictlySortedBy pair_cmp (keys_of adds.new.entries) }
 {
     match adds.insert((key, peer), at) {

@@ -1,8 +1,7 @@
 //! The peers of each key.
-ghost use Rattle.std.specs.Prelude.{◌≡◌, ◌↔◌, [], length, OnOk, OnErr, IfOk};
+ghost use Rattle.std.specs.Prelude.{◌≡◌, ◌↔◌, [], OnOk, OnErr, IfOk};
 ghost use Rattle.std.specs.List.Sorted.{IsStrictlySortedBy};
-ghost use Rattle.kad_base.specs.Limits.{max_peers};
-ghost use Rattle.peer_store.specs.Peers.{IsPeers, Holds, address_cmp, with_add, purged, listed};
+ghost use Rattle.peer_store.specs.Peers.{IsPeers, Holds, HasNoPlace, address_cmp, with_add, purged, listed};
 
 use crate::adds::{Adds, MAX_AGE, drop_old, first_fresh, has_no_place, oldest, put};
 use crate::ends::is_between;
@@ -74,7 +73,7 @@ impl Peers {
         ensures stored { OnOk result (self.new ≡ with_add self.old (key, peer) at) }
         ensures fault { OnErr result (self.new ≡ self.old) }
         ensures renewed { (result ≡ Ok Stored.Renewed) ↔ Holds self.old (key, peer) }
-        ensures full { (result ≡ Err PeerFault.Full) ↔ ((¬ Holds self.old (key, peer)) × (length self.old ≡ max_peers)) }
+        ensures full { (result ≡ Err PeerFault.Full) ↔ HasNoPlace self.old (key, peer) }
     {
         if has_no_place(&self.adds, key, peer) {
             return Err(PeerFault::Full);
