@@ -28,7 +28,7 @@ path_one p (Seed q c) = elim (eqb q p) as (λ b. length (cond b (c ∷ []) []) �
 path_one p (Taken q c) = elim (eqb q p) as (λ b. length (cond b (c ∷ []) []) ≤ 1) [ true ↦ omega arith | false ↦ omega arith ]
 path_one p other = omega arith
 
-path_within : (p : ℕ) (J : List Entry) → length (path p J) ≤ length J
+pub path_within : (p : ℕ) (J : List Entry) → length (path p J) ≤ length J
 unfolding path
 path_within p [] = omega arith
 path_within p (e ∷ J) = omega (arith, length-append (path_of p e) (path p J), path_one p e, path_within p J)

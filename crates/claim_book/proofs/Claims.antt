@@ -216,7 +216,7 @@ path_entry s J (Seed n d) p q c h k = sym (on_path_in p n (d ∷ []) c h).0 ∙ 
 path_entry s J (Taken n d) p q c h k = sym (on_path_in p n (d ∷ []) c h).0 ∙ (on_path_in q n (d ∷ []) c k).0
 path_entry s J other p q c h k = absurd cc
 
-path_new : (s : Setting) (J : List Entry) (e : Entry) → Legal s (J ++ e ∷ []) → Fits s J e → (p : ℕ) (c : Contact) → among (path_of p e) c ≡ true → among (took J) c ≡ false
+pub path_new : (s : Setting) (J : List Entry) (e : Entry) → Legal s (J ++ e ∷ []) → Fits s J e → (p : ℕ) (c : Contact) → among (path_of p e) c ≡ true → among (took J) c ≡ false
 path_new s J (Seed n d) l f p c h = subst (λ x. among (took J) x ≡ false) (sym (among_one c d (on_path_in p n (d ∷ []) c h).1)) (apart_last (took J) d (distinct_sorted s.target (took J ++ d ∷ []) f.in_order))
 path_new s J (Taken n d) l f p c h = subst (λ x. among (took J) x ≡ false) (sym (among_one c d (on_path_in p n (d ∷ []) c h).1)) f.1
 path_new s J other l f p c h = absurd cc

@@ -77,7 +77,7 @@ not_this : (s : Setting) (J : List Entry) (p q : ℕ) (c : Contact) → Legal s 
 not_this s J p q c l h ne = no_true (among (path p J) c) (λ on. ne (one_path s J l q p c (asked_on_path s J l q c (open_says q J c h).0) on))
 
 -- what is alive on path p stays so
-alive_stays : (s : Setting) (J : List Entry) (e : Entry) (p : ℕ) → Legal s J → Fits s J e → is_of p e ≡ false → alive p (J ++ e ∷ []) ≡ alive p J
+pub alive_stays : (s : Setting) (J : List Entry) (e : Entry) (p : ℕ) → Legal s J → Fits s J e → is_of p e ≡ false → alive p (J ++ e ∷ []) ≡ alive p J
 unfolding alive
 alive_stays s J e p l f h =
     ap (λ x. without x (failed (J ++ e ∷ []))) (path_more p J e ∙ same_list (path p J) (path_of p e) (elsewhere p e h).no_path)

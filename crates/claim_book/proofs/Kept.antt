@@ -15,7 +15,7 @@ use Rattle.claim_book.specs.declared.plain.Entry.{Entry}
 use Rattle.claim_book.specs.declared.plain.Entry.TheVariants.{Seed, Ask, Heard, Lost, Note, Taken, Held, Turned, Rejected, Skipped}
 use Rattle.claim_book.specs.Journal.{took_of, ask_of, answer_of, fail_of, things_of, settles_on, took, asked, answered, failed, open_any, open_on, first_unsettled}
 use Rattle.claim_book.specs.Legal.{Fits, Legal}
-use Rattle.claim_book.specs.Room.{thing_room, unsettled_room, room_for, IsBook}
+use Rattle.claim_book.specs.Room.{thing_room, unsettled_room, room_for, frees, IsBook}
 use Rattle.claim_book.proofs.More.{took_more, asked_more, answered_more, failed_more, legal_more}
 use Rattle.claim_book.proofs.Among.{among_without, without_less}
 use Rattle.claim_book.proofs.Claims.{may_ask_says, may_ask_on_path, open_says, path_took, asked_on_asked, asked_on_path, took_distinct, asked_distinct}
@@ -148,8 +148,8 @@ settle_owed s J e q t z l f h off no_things first = rooms_settle s J e q t s.pat
 pub off_this : (q p : ℕ) → (p ≡ q → ⊥) → eqb q p ≡ false
 off_this q p ne = ne_eqb q p (λ e. ne (sym e))
 
--- the room for what may still come falls by the entry that came
-pub room_falls : (s : Setting) (J : List Entry) (e : Entry) → 0 < s.paths → Legal s J → Fits s J e → IsOwed e → room_for s.paths (J ++ e ∷ []) + 1 ≤ room_for s.paths J
+-- the room for what may still come falls by what the entry that came frees
+pub room_falls : (s : Setting) (J : List Entry) (e : Entry) → 0 < s.paths → Legal s J → Fits s J e → IsOwed e → room_for s.paths (J ++ e ∷ []) + frees e ≤ room_for s.paths J
 unfolding room_for
 room_falls s J (Seed q c) z l f o = absurd o
 room_falls s J (Ask q c) z l f o = omega (arith, fresh_ask s J q c l f, opens_ask J q c, rooms_kept s J (Ask q c) s.paths l (λ p. refl) (λ p. refl))
@@ -170,36 +170,34 @@ room_heard s J q c reports z l f =
     omega (arith, fresh_kept J (Heard q c reports) refl refl, opens_heard s J q c (Heard q c reports) l f.0 refl refl refl, rooms_heard s J q c reports s.paths l below)
 
 -- a book after one of the entries that are owed
-pub book_put : (s : Setting) (J K : List Entry) (e : Entry) (owed owed' room room' near near' : ℕ) → IsBook s J owed room near → Fits s J e → IsOwed e → K ≡ J ++ e ∷ [] → owed' + 1 ≡ owed → length K + owed' ≤ room' → s.k ≤ near' → IsBook s K owed' room' near'
-book_put s J K e owed owed' room room' near near' b f o is less fits sort =
+pub book_put : (s : Setting) (J : List Entry) (e : Entry) (owed owed' room room' : ℕ) → IsBook s J owed room → Fits s J e → IsOwed e → owed' + frees e ≡ owed → length (J ++ e ∷ []) + owed' ≤ room' → IsBook s (J ++ e ∷ []) owed' room'
+book_put s J e owed owed' room room' b f o less fits =
     let falls = room_falls s J e b.some_path b.legal f o in
     record {
-      legal = subst (Legal s) (sym is) (legal_more s J e b.legal f);
+      legal = legal_more s J e b.legal f;
       some_path = b.some_path;
       few_paths = b.few_paths;
       small = b.small;
-      all_owed = (let old = b.all_owed in let same = ap (room_for s.paths) is in omega arith);
+      all_owed = (let old = b.all_owed in omega arith);
       fits = fits;
-      can_sort = sort;
     }
 
--- something is owed where such an entry may come
-pub some_owed : (s : Setting) (J : List Entry) (e : Entry) (owed room near : ℕ) → IsBook s J owed room near → Fits s J e → IsOwed e → 0 < owed
-some_owed s J e owed room near b f o =
+-- as much is owed where such an entry may come
+pub some_owed : (s : Setting) (J : List Entry) (e : Entry) (owed room : ℕ) → IsBook s J owed room → Fits s J e → IsOwed e → frees e ≤ owed
+some_owed s J e owed room b f o =
     let falls = room_falls s J e b.some_path b.legal f o in
     let old = b.all_owed in
     omega arith
 
 -- a book after an answer
-pub book_heard : (s : Setting) (J K : List Entry) (q : ℕ) (c : Contact) (reports : List Report) (owed owed' room room' near near' : ℕ) → IsBook s J owed room near → Fits s J (Heard q c reports) → K ≡ J ++ Heard q c reports ∷ [] → owed' + 1 ≡ owed + (3 * length reports + 1) → length K + owed' ≤ room' → s.k ≤ near' → IsBook s K owed' room' near'
-book_heard s J K q c reports owed owed' room room' near near' b f is more fits sort =
+pub book_heard : (s : Setting) (J : List Entry) (q : ℕ) (c : Contact) (reports : List Report) (owed owed' room room' : ℕ) → IsBook s J owed room → Fits s J (Heard q c reports) → owed' + 1 ≡ owed + (3 * length reports + 1) → length (J ++ Heard q c reports ∷ []) + owed' ≤ room' → IsBook s (J ++ Heard q c reports ∷ []) owed' room'
+book_heard s J q c reports owed owed' room room' b f more fits =
     let grows = room_heard s J q c reports b.some_path b.legal f in
     record {
-      legal = subst (Legal s) (sym is) (legal_more s J (Heard q c reports) b.legal f);
+      legal = legal_more s J (Heard q c reports) b.legal f;
       some_path = b.some_path;
       few_paths = b.few_paths;
       small = b.small;
-      all_owed = (let old = b.all_owed in let same = ap (room_for s.paths) is in omega arith);
+      all_owed = (let old = b.all_owed in omega arith);
       fits = fits;
-      can_sort = sort;
     }

@@ -13,3 +13,13 @@ pub mod Deciding
 pub mod Progress
 pub mod Seeding
 pub mod Forever
+pub mod Lists
+pub mod Keys
+pub mod Fronts
+pub mod Filters
+pub mod Mapped
+pub mod Pathed
+pub mod Whole
+pub mod Reading
+pub mod Merging
+pub mod Dealt

@@ -41,12 +41,12 @@ unfolding seeds
 seeded_seeds d i [] = refl
 seeded_seeds d i (c ∷ cs) = ap (λ l. c ∷ l) (seeded_seeds d (i + 1) cs)
 
-seeded_took : (d i : ℕ) (cs : List Contact) → took (seeded_from d i cs) ≡ cs
+pub seeded_took : (d i : ℕ) (cs : List Contact) → took (seeded_from d i cs) ≡ cs
 unfolding took
 seeded_took d i [] = refl
 seeded_took d i (c ∷ cs) = ap (λ l. c ∷ l) (seeded_took d (i + 1) cs)
 
-seeded_asked : (d i : ℕ) (cs : List Contact) → asked (seeded_from d i cs) ≡ []
+pub seeded_asked : (d i : ℕ) (cs : List Contact) → asked (seeded_from d i cs) ≡ []
 unfolding asked
 seeded_asked d i [] = refl
 seeded_asked d i (c ∷ cs) = seeded_asked d (i + 1) cs
@@ -72,7 +72,7 @@ sorted_front R (suc n) (c ∷ cs) h = (all_front n cs h.0, sorted_front R n cs h
     all_front (suc n) [] a = tt
     all_front (suc n) (x ∷ xs) a = (a.0, all_front n xs a.1)
 
-seed_fits : (s : Setting) (cs : List Contact) (i : ℕ) (x : Contact) → i < length cs → length cs ≤ s.k → IsStrictlySortedBy (closeness s.target) cs → All (IsUsable s.own) cs → SeedFits s (seeded s.paths (take i cs)) (i % s.paths) (get_or cs i x)
+pub seed_fits : (s : Setting) (cs : List Contact) (i : ℕ) (x : Contact) → i < length cs → length cs ≤ s.k → IsStrictlySortedBy (closeness s.target) cs → All (IsUsable s.own) cs → SeedFits s (seeded s.paths (take i cs)) (i % s.paths) (get_or cs i x)
 seed_fits s cs i x lt few sorted usable =
     let J = seeded s.paths (take i cs) in
     let le : i ≤ length cs = omega arith in
@@ -85,7 +85,7 @@ seed_fits s cs i x lt few sorted usable =
       in_order = subst (IsStrictlySortedBy (closeness s.target)) (take_more cs i x lt ∙ ap (λ l. l ++ get_or cs i x ∷ []) (sym (seeded_took s.paths 0 (take i cs)))) (sorted_front (closeness s.target) (i + 1) cs sorted);
     }
 
-legal_front : (s : Setting) (cs : List Contact) (x : Contact) → length cs ≤ s.k → IsStrictlySortedBy (closeness s.target) cs → All (IsUsable s.own) cs → (i : ℕ) → i ≤ length cs → Legal s (seeded s.paths (take i cs))
+pub legal_front : (s : Setting) (cs : List Contact) (x : Contact) → length cs ≤ s.k → IsStrictlySortedBy (closeness s.target) cs → All (IsUsable s.own) cs → (i : ℕ) → i ≤ length cs → Legal s (seeded s.paths (take i cs))
 unfolding Legal
 legal_front s cs x few sorted usable zero le = tt
 legal_front s cs x few sorted usable (suc i) le =
@@ -121,8 +121,8 @@ seeded_room d n cs =
     let opens : length (without (asked J) (answered J ++ failed J)) ≡ 0 = ap (λ l. length (without l (answered J ++ failed J))) (seeded_asked d 0 cs) in
     omega (arith, seeded_rooms d cs n)
 
-pub book_new : (s : Setting) (cs : List Contact) (J : List Entry) (owed room near : ℕ) → J ≡ seeded s.paths cs → 0 < s.paths → s.paths < 256 → s.k < 256 → length cs ≤ s.k → IsStrictlySortedBy (closeness s.target) cs → All (IsUsable s.own) cs → owed ≡ 2 * length cs → length cs + owed ≤ room → s.k ≤ near → IsBook s J owed room near
-book_new s cs J owed room near is some_path few_paths small few sorted usable enough fits sort =
+pub book_new : (s : Setting) (cs : List Contact) (J : List Entry) (owed room : ℕ) → J ≡ seeded s.paths cs → 0 < s.paths → s.paths < 256 → s.k < 256 → length cs ≤ s.k → IsStrictlySortedBy (closeness s.target) cs → All (IsUsable s.own) cs → owed ≡ 2 * length cs → length cs + owed ≤ room → IsBook s J owed room
+book_new s cs J owed room is some_path few_paths small few sorted usable enough fits =
     record {
       legal = subst (Legal s) (sym is) (legal_seeded s cs few sorted usable);
       some_path = some_path;
@@ -130,5 +130,4 @@ book_new s cs J owed room near is some_path few_paths small few sorted usable en
       small = small;
       all_owed = omega (arith, ap (room_for s.paths) is, seeded_room s.paths s.paths cs);
       fits = omega (arith, ap length is, seeded_length s.paths 0 cs);
-      can_sort = sort;
     }

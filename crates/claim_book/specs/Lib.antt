@@ -6,3 +6,5 @@ pub mod CheckedState
 pub mod State
 pub mod Calls
 pub mod Room
+pub mod Claims
+pub mod Index

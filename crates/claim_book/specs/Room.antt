@@ -7,6 +7,7 @@ use Rattle.claim_book.specs.declared.plain.Setting.{Setting}
 use Rattle.claim_book.specs.declared.plain.Thing.{Thing}
 use Rattle.claim_book.specs.declared.plain.Thing.TheVariants.{Responder, Told}
 use Rattle.claim_book.specs.declared.plain.Entry.{Entry}
+use Rattle.claim_book.specs.declared.plain.Entry.TheVariants.{Held, Turned, Rejected, Skipped}
 use Rattle.claim_book.specs.Journal.{took_of, path_of, took, asked, open_any, unsettled}
 use Rattle.claim_book.specs.Legal.{Legal}
 
@@ -24,15 +25,22 @@ unsettled_room (suc n) J = unsettled_room n J + sum_by thing_room (unsettled n J
 unfoldable pub room_for : ℕ → List Entry → ℕ
 room_for paths J = 2 * length (without (took J) (asked J)) + length (open_any J) + unsettled_room paths J
 
--- what a book keeps: its journal is legal, has room for what may still come, and there is room to sort the k closest
-pub record IsBook (s : Setting) (J : List Entry) (owed room near_room : ℕ) : Type 0 where
+-- how many entries less may still come once this one stands: a report that no path takes leaves nothing to come
+abbrev pub frees : Entry → ℕ
+frees (Held q c by) = 3
+frees (Turned q c) = 3
+frees (Rejected q r) = 3
+frees (Skipped q r) = 3
+frees other = 1
+
+-- what a book keeps: its journal is legal, and has room for what may still come
+pub record IsBook (s : Setting) (J : List Entry) (owed room : ℕ) : Type 0 where
   pub legal : Legal s J
   pub some_path : 0 < s.paths
   pub few_paths : s.paths < 256
   pub small : s.k < 256
   pub all_owed : room_for s.paths J ≤ owed
   pub fits : length J + owed ≤ room
-  pub can_sort : s.k ≤ near_room
 
 -- what the k closest are sorted from: the contacts of one path, or of all
 abbrev pub chosen : Option ℕ → Entry → List Contact

@@ -5,13 +5,14 @@
 #![tactic(auto)]
 
 mod calls;
+mod changes;
+mod claim_map;
 mod laws;
-mod nearest;
+mod path;
 mod plain;
-mod rules;
+mod reads;
 mod serial;
-mod settling;
-mod shows;
+mod starting;
 mod state;
 #[cfg(test)]
 mod tests;

@@ -1,34 +1,35 @@
 //! The book: its journal, and what its calls do.
-ghost use Rattle.std.specs.Prelude.{◌≡◌, ℕ, ◌≤◌, ◌<◌, ◌+◌, ◌^◌, ◌++◌, ◌∷◌, [], length, IfOk, OnOk, OnErr, vec_len, vec_capacity};
+ghost use Rattle.std.specs.Prelude.{◌≡◌, ℕ, ◌≤◌, ◌<◌, ◌^◌, length, IfOk, OnOk};
 ghost use Rattle.std.specs.List.{All};
 ghost use Rattle.std.specs.List.Sorted.{IsStrictlySortedBy};
 ghost use Rattle.kad_base.specs.Contacts.{IsUsable};
 ghost use Rattle.kad_distance.specs.Order.{closeness};
 ghost use Rattle.claim_book.specs.declared.plain.Entry.TheVariants.{Heard, Lost, Note};
-ghost use Rattle.claim_book.specs.Journal.{asked, failed, turned, unsettled};
-ghost use Rattle.claim_book.specs.Legal.{seeded};
-ghost use Rattle.claim_book.specs.Calls.{Counted};
+ghost use Rattle.claim_book.specs.Journal.{unsettled};
 
 use crate::calls::BookReply;
-use crate::nearest::sort_result;
+use crate::claim_map::Claims;
+use crate::path::Path;
 use crate::plain::{Cause, Counts, Entry, Journal, Setting, Thing};
-use crate::rules::{first_running, has_run_out, may_ask, open_path};
-use crate::settling::{is_next, judge, settled};
-use crate::shows::{count_asked, count_failed, count_turned, front};
+use crate::starting::{new_paths, seed};
 use crate::verdict::Checked;
+use indexmap::IndexMap;
 use kad_base::{Contact, List, NoMemory, Reports};
 use std::alloc::Global;
+use std::hash::RandomState;
 use std::marker::Model;
 
-/// The book of one lookup.
+/// The book of one lookup: its journal, and an index of it by which each call is answered.
 #[derive(Drop)]
 pub struct Book {
-    setting: Setting,
-    journal: Vec<Entry>,
+    pub(crate) setting: Setting,
+    pub(crate) journal: Vec<Entry>,
     /// How many entries may still come, if no further contact answers: there is room for them.
-    owed: usize,
-    /// Room to sort the k closest.
-    near: Vec<Contact>,
+    pub(crate) owed: usize,
+    /// What came of each contact that a path has or a report named.
+    pub(crate) claims: Claims,
+    pub(crate) paths: Vec<Path>,
+    pub(crate) counts: Counts,
 }
 
 impl Model for Book {
@@ -37,21 +38,26 @@ impl Model for Book {
     ghost Value = { BookState };
 
     ghost use Rattle.std.specs.Prelude.{vec_capacity};
-    ghost use Rattle.claim_book.specs.Room.{IsBook};
+    ghost use Rattle.claim_book.specs.Index.{IsWhole};
 
     ghost view = { λ b. record { setting = b.setting; journal = b.journal.items } };
 
-    ghost invariant = { λ b. IsBook b.setting b.journal.items b.owed (vec_capacity b.journal) (vec_capacity b.near) };
+    ghost invariant = { λ b. IsWhole b.setting b.journal.items b.owed (vec_capacity b.journal) b.claims b.paths.items b.counts };
 }
 
 impl Book {
-    ghost use Rattle.claim_book.specs.Legal.{Legal};
+    ghost use Rattle.claim_book.specs.Legal.{Legal, seeded};
     ghost use Rattle.claim_book.specs.Calls.{NextStep, EndStep, HeardStep, FinishStep, PullStep, NoteStep, SettleStep, after_next, after_kept, after_settle, asker};
 
     /// A book of a lookup that starts with these contacts, the closest that the routing table has. It takes the memory
     /// for all later calls on them. The seeds are dealt to the paths in turn (S/Kademlia, section 4.4), so there has to
-    /// be a path.
-    pub fn new(alloc: Global, setting: Setting, seeds: &[Contact]) -> Result<Book, NoMemory>
+    /// be a path. Strangers choose the contacts, so the hasher is handed in.
+    pub fn new(
+        alloc: Global,
+        setting: Setting,
+        seeds: &[Contact],
+        hasher: RandomState,
+    ) -> Result<Book, NoMemory>
         requires some_path { 0 < setting.paths }
         requires few { length seeds.now ≤ setting.k }
         requires in_order { IsStrictlySortedBy (closeness setting.target) seeds.now }
@@ -60,21 +66,31 @@ impl Book {
         ensures journal { IfOk result (λ book. book.journal ≡ seeded setting.paths seeds.now) }
         ensures legal { IfOk result (λ book. Legal book.setting book.journal) }
     {
-        let near = match Vec::with_capacity(alloc, setting.k as usize) {
-            Ok(near) => near,
-            Err(_) => return Err(NoMemory),
-        };
         let owed = 2 * seeds.len();
-        let journal = match Vec::with_capacity(alloc, seeds.len() + owed) {
+        let mut journal = match Vec::with_capacity(alloc, seeds.len() + owed) {
             Ok(journal) => journal,
             Err(_) => return Err(NoMemory),
         };
-        let journal = seed(journal, setting.paths, seeds);
+        let mut claims = IndexMap::with_hasher(alloc, hasher);
+        let mut paths = match new_paths(alloc, setting.paths) {
+            Ok(paths) => paths,
+            Err(NoMemory) => return Err(NoMemory),
+        };
+        match seed(&mut journal, &mut claims, &mut paths, &setting, seeds) {
+            Ok(()) => {}
+            Err(NoMemory) => return Err(NoMemory),
+        }
         Ok(Book {
             setting,
             journal,
             owed,
-            near,
+            claims,
+            paths,
+            counts: Counts {
+                asked: 0,
+                failed: 0,
+                turned: 0,
+            },
         })
     }
 
@@ -107,20 +123,11 @@ impl Book {
         ensures step { NextStep self.old.setting self.old.journal path result }
         ensures after { self.new ≡ after_next self.old path result }
     {
-        if let Some(contact) = may_ask(
-            &mut self.near,
-            &self.setting,
-            self.journal.as_slice(),
-            path,
-        ) {
-            put(
-                &mut self.journal,
-                &mut self.owed,
-                Entry::Ask { path, contact },
-            );
+        if let Some(contact) = self.may_ask(path) {
+            self.ask(path, contact);
             return BookReply::Ask { contact };
         }
-        if has_run_out(&mut self.near, &self.setting, self.journal.as_slice(), path) {
+        if self.has_run_out(path) {
             return BookReply::RunOut;
         }
         BookReply::Later
@@ -132,23 +139,12 @@ impl Book {
         ensures step { HeardStep self.old.journal contact result }
         ensures after { self.new ≡ after_kept self.old (Heard (asker contact self.old.journal) contact reports) result }
     {
-        let path = match open_path(self.journal.as_slice(), &contact) {
+        let path = match self.open_path(&contact) {
             Some(path) => path,
             None => return BookReply::NotOpen,
         };
-        match reserve(&mut self.journal, &mut self.owed, 3 * reports.len() + 1) {
-            Ok(()) => {
-                put(
-                    &mut self.journal,
-                    &mut self.owed,
-                    Entry::Heard {
-                        path,
-                        contact,
-                        reports,
-                    },
-                );
-                BookReply::Kept
-            }
+        match self.hear(path, contact, reports) {
+            Ok(()) => BookReply::Kept,
             Err(NoMemory) => BookReply::NoMemory,
         }
     }
@@ -158,17 +154,9 @@ impl Book {
         ensures step { EndStep self.old.journal contact result }
         ensures after { self.new ≡ after_kept self.old (Lost (asker contact self.old.journal) contact cause) result }
     {
-        match open_path(self.journal.as_slice(), &contact) {
+        match self.open_path(&contact) {
             Some(path) => {
-                put(
-                    &mut self.journal,
-                    &mut self.owed,
-                    Entry::Lost {
-                        path,
-                        contact,
-                        cause,
-                    },
-                );
+                self.lose(path, contact, cause);
                 BookReply::Kept
             }
             None => BookReply::NotOpen,
@@ -180,15 +168,12 @@ impl Book {
         ensures step { FinishStep self.old.setting self.old.journal result }
         ensures after { self.new ≡ self.old }
     {
-        if let Some(path) = first_running(&mut self.near, &self.setting, self.journal.as_slice()) {
+        if let Some(path) = self.first_running() {
             return BookReply::NotYet { path };
         }
-        sort_result(&mut self.near, &self.setting, self.journal.as_slice());
-        match List::from_slice(*self.near.allocator(), self.near.as_slice()) {
-            Ok(found) => {
-                let counts = counts_of(self.journal.as_slice());
-                BookReply::Found { found, counts }
-            }
+        let counts = self.numbers();
+        match self.found() {
+            Ok(found) => BookReply::Found { found, counts },
             Err(NoMemory) => BookReply::NoMemory,
         }
     }
@@ -197,7 +182,7 @@ impl Book {
     pub(crate) fn pull(&self, path: u8) -> BookReply
         ensures { PullStep self.now.journal path result }
     {
-        match front(self.journal.as_slice(), path) {
+        match self.front(path) {
             Some(Thing::Responder { contact }) => BookReply::Alive { contact },
             Some(Thing::Told { report }) => BookReply::Report { report },
             None => BookReply::Idle,
@@ -209,14 +194,10 @@ impl Book {
         ensures step { NoteStep self.old.journal path contact result }
         ensures after { self.new ≡ after_kept self.old (Note path contact) result }
     {
-        if !is_next(self.journal.as_slice(), path, &contact) {
+        if !self.is_next(path, &contact) {
             return BookReply::NotFront;
         }
-        put(
-            &mut self.journal,
-            &mut self.owed,
-            Entry::Note { path, contact },
-        );
+        self.pass(path, Entry::Note { path, contact });
         BookReply::Kept
     }
 
@@ -225,94 +206,30 @@ impl Book {
         ensures step { SettleStep self.old.setting self.old.journal path checked result }
         ensures after { self.new ≡ after_settle self.old path checked result }
     {
-        let reply = judge(&self.setting, self.journal.as_slice(), path, &checked);
-        if let Some(entry) = settled(path, &checked.report(), &reply) {
-            put(&mut self.journal, &mut self.owed, entry);
-            return reply;
+        let report = checked.report();
+        let contact = report.contact;
+        match self.judge(path, &checked) {
+            BookReply::Taken => {
+                self.take(path, contact);
+                BookReply::Taken
+            }
+            BookReply::Turned => {
+                self.turn_away(path, contact);
+                BookReply::Turned
+            }
+            BookReply::Held { path: by } => {
+                self.pass(path, Entry::Held { path, contact, by });
+                BookReply::Held { path: by }
+            }
+            BookReply::Rejected => {
+                self.pass(path, Entry::Rejected { path, report });
+                BookReply::Rejected
+            }
+            BookReply::Skipped => {
+                self.pass(path, Entry::Skipped { path, report });
+                BookReply::Skipped
+            }
+            _ => BookReply::NotFront,
         }
-        reply
-    }
-}
-
-/// Appends one of the entries that are owed, for which there is room.
-fn put(journal: &mut Vec<Entry>, owed: &mut usize, entry: Entry)
-    requires some { 0 < owed.old }
-    requires room { vec_len journal.old + owed.old ≤ vec_capacity journal.old }
-    ensures items { journal.new.items ≡ journal.old.items ++ entry ∷ [] }
-    ensures owed { owed.new + 1 ≡ owed.old }
-    ensures room { length journal.new.items + owed.new ≤ vec_capacity journal.new }
-{
-    *owed -= 1;
-    match journal.push(entry) {
-        Ok(()) => {}
-        Err(_) => unreachable!(),
-    }
-}
-
-/// Makes room for more entries that are owed, or leaves both as they are.
-fn reserve(journal: &mut Vec<Entry>, owed: &mut usize, more: usize) -> Result<(), NoMemory>
-    requires { vec_len journal.old + owed.old ≤ vec_capacity journal.old }
-    ensures items { journal.new.items ≡ journal.old.items }
-    ensures ok { OnOk result (owed.new ≡ owed.old + more) }
-    ensures err { OnErr result (owed.new ≡ owed.old) }
-    ensures room { length journal.new.items + owed.new ≤ vec_capacity journal.new }
-{
-    let all = match owed.checked_add(more) {
-        Some(all) => all,
-        None => return Err(NoMemory),
-    };
-    match journal.reserve(all) {
-        Ok(()) => {
-            *owed = all;
-            Ok(())
-        }
-        Err(_) => Err(NoMemory),
-    }
-}
-
-/// Appends a seed where there is room.
-fn put_seed(journal: &mut Vec<Entry>, entry: Entry)
-    requires { vec_len journal.old < vec_capacity journal.old }
-    ensures items { journal.new.items ≡ journal.old.items ++ entry ∷ [] }
-    ensures room { vec_capacity journal.old ≤ vec_capacity journal.new }
-{
-    match journal.push(entry) {
-        Ok(()) => {}
-        Err(_) => unreachable!(),
-    }
-}
-
-/// The seeds, each dealt to a path in turn, in a list that has room for them.
-fn seed(mut journal: Vec<Entry>, paths: u8, seeds: &[Contact]) -> Vec<Entry>
-    requires empty { journal.items ≡ [] }
-    requires some { 0 < paths }
-    requires room { length seeds.now ≤ vec_capacity journal }
-    ensures items { result.items ≡ seeded paths seeds.now }
-    ensures room { vec_capacity journal ≤ vec_capacity result }
-{
-    for (i, contact) in seeds.iter().enumerate() {
-        let path = (i % paths as usize) as u8;
-        put_seed(
-            &mut journal,
-            Entry::Seed {
-                path,
-                contact: *contact,
-            },
-        );
-    }
-    journal
-}
-
-/// The numbers of the journal, each of which fits.
-fn counts_of(journal: &[Entry]) -> Counts
-    requires asked { length (asked journal.now) < 2 ^ 32 }
-    requires failed { length (failed journal.now) < 2 ^ 32 }
-    requires turned { length (turned journal.now) < 2 ^ 32 }
-    ensures { Counted journal.now result }
-{
-    Counts {
-        asked: count_asked(journal) as u32,
-        failed: count_failed(journal) as u32,
-        turned: count_turned(journal) as u32,
     }
 }

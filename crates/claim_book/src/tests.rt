@@ -5,6 +5,7 @@ use super::*;
 use kad_base::{Addr, Check, Contact, Id, Ip, List, NoMemory, Policy, Report, Serial, is_usable};
 use kad_distance::closer;
 use std::alloc::Global;
+use std::hash::RandomState;
 use std::process::Abort;
 use std::test::Fail;
 
@@ -68,7 +69,12 @@ fn settle(rt: &impl Abort, n: u8) -> BookCall
 
 /// A book with two seeds, of which the first was asked.
 #[tactic(auto, using(crate::proofs::Closest::sorted_two))]
-fn begun(rt: &impl Abort, alloc: Global, paths: u8) -> Result<Book, Fail>
+fn begun(
+    rt: &impl Abort,
+    alloc: Global,
+    hasher: RandomState,
+    paths: u8,
+) -> Result<Book, Fail>
     requires { 0 < paths }
 {
     let setting = Setting {
@@ -84,7 +90,7 @@ fn begun(rt: &impl Abort, alloc: Global, paths: u8) -> Result<Book, Fail>
     assert!(rt; closer(&setting.target, &first, &second));
     assert!(rt; is_usable(&setting.own, &first));
     assert!(rt; is_usable(&setting.own, &second));
-    let mut book = Book::new(alloc, setting, &[first, second])?;
+    let mut book = Book::new(alloc, setting, &[first, second], hasher)?;
     assert_eq!(rt;
         book.apply(0, BookCall::Next { path: 0 }),
         BookReply::Ask {
@@ -95,10 +101,15 @@ fn begun(rt: &impl Abort, alloc: Global, paths: u8) -> Result<Book, Fail>
 }
 
 /// The first contact answers and names the third, which the path takes.
-fn answered_once(rt: &impl Abort, alloc: Global, paths: u8) -> Result<Book, Fail>
+fn answered_once(
+    rt: &impl Abort,
+    alloc: Global,
+    hasher: RandomState,
+    paths: u8,
+) -> Result<Book, Fail>
     requires { 0 < paths }
 {
-    let mut book = begun(rt, alloc, paths)?;
+    let mut book = begun(rt, alloc, hasher, paths)?;
     assert_eq!(rt; book.apply(0, answer(alloc, 1, Some(3))?), BookReply::Kept);
     assert_eq!(rt;
         book.apply(
@@ -115,7 +126,7 @@ fn answered_once(rt: &impl Abort, alloc: Global, paths: u8) -> Result<Book, Fail
 
 #[test]
 fn a_query_is_open_until_it_is_heard(rt: HostRuntime) -> Result<(), Fail> {
-    let mut book = begun(&rt, rt.alloc(), 1)?;
+    let mut book = begun(&rt, rt.alloc(), RandomState::new(&rt)?, 1)?;
     assert_eq!(rt; book.apply(0, BookCall::Next { path: 0 }), BookReply::Later);
     assert_eq!(rt;
         book.apply(0, BookCall::Next { path: 5 }),
@@ -142,7 +153,7 @@ fn a_query_is_open_until_it_is_heard(rt: HostRuntime) -> Result<(), Fail> {
 
 #[test]
 fn an_answer_is_settled_in_order(rt: HostRuntime) -> Result<(), Fail> {
-    let mut book = begun(&rt, rt.alloc(), 1)?;
+    let mut book = begun(&rt, rt.alloc(), RandomState::new(&rt)?, 1)?;
     assert_eq!(rt;
         book.apply(0, answer(rt.alloc(), 1, Some(3))?),
         BookReply::Kept
@@ -189,7 +200,7 @@ fn an_answer_is_settled_in_order(rt: HostRuntime) -> Result<(), Fail> {
 
 #[test]
 fn a_lookup_finds_those_that_answered(rt: HostRuntime) -> Result<(), Fail> {
-    let mut book = answered_once(&rt, rt.alloc(), 1)?;
+    let mut book = answered_once(&rt, rt.alloc(), RandomState::new(&rt)?, 1)?;
     let lost = BookCall::Lost {
         contact: contact(2),
         cause: Cause::Timeout,
@@ -241,7 +252,7 @@ fn a_lookup_finds_those_that_answered(rt: HostRuntime) -> Result<(), Fail> {
 
 #[test]
 fn each_path_asks_its_own_seed(rt: HostRuntime) -> Result<(), Fail> {
-    let mut book = begun(&rt, rt.alloc(), 2)?;
+    let mut book = begun(&rt, rt.alloc(), RandomState::new(&rt)?, 2)?;
     assert_eq!(rt; book.apply(0, BookCall::Next { path: 0 }), BookReply::Later);
     assert_eq!(rt;
         book.apply(0, BookCall::Next { path: 1 }),
@@ -274,7 +285,7 @@ fn each_path_asks_its_own_seed(rt: HostRuntime) -> Result<(), Fail> {
 
 #[test]
 fn a_path_settles_what_its_own_query_gave(rt: HostRuntime) -> Result<(), Fail> {
-    let mut book = begun(&rt, rt.alloc(), 2)?;
+    let mut book = begun(&rt, rt.alloc(), RandomState::new(&rt)?, 2)?;
     assert_eq!(rt;
         book.apply(0, answer(rt.alloc(), 1, Some(3))?),
         BookReply::Kept
@@ -306,7 +317,7 @@ fn a_path_settles_what_its_own_query_gave(rt: HostRuntime) -> Result<(), Fail> {
 
 #[test]
 fn a_path_asks_what_it_took(rt: HostRuntime) -> Result<(), Fail> {
-    let mut book = answered_once(&rt, rt.alloc(), 2)?;
+    let mut book = answered_once(&rt, rt.alloc(), RandomState::new(&rt)?, 2)?;
     assert_eq!(rt; book.apply(1, BookCall::Pull), BookReply::Idle);
     assert_eq!(rt;
         book.apply(0, BookCall::Next { path: 0 }),
@@ -328,7 +339,7 @@ fn a_path_asks_what_it_took(rt: HostRuntime) -> Result<(), Fail> {
 
 #[test]
 fn a_contact_is_on_one_path(rt: HostRuntime) -> Result<(), Fail> {
-    let mut book = answered_once(&rt, rt.alloc(), 2)?;
+    let mut book = answered_once(&rt, rt.alloc(), RandomState::new(&rt)?, 2)?;
     assert_eq!(rt;
         book.apply(0, BookCall::Next { path: 1 }),
         BookReply::Ask {
@@ -354,7 +365,7 @@ fn a_contact_is_on_one_path(rt: HostRuntime) -> Result<(), Fail> {
 
 #[test]
 fn a_lookup_ends_with_its_last_path(rt: HostRuntime) -> Result<(), Fail> {
-    let mut book = begun(&rt, rt.alloc(), 2)?;
+    let mut book = begun(&rt, rt.alloc(), RandomState::new(&rt)?, 2)?;
     let note = BookCall::Note {
         contact: contact(1),
     };

@@ -1,9 +1,0 @@
-use Rattle.std.proofs.Common.{◌≡◌, ◌≤◌, take, vec_capacity}
-use Rattle.claim_book.specs.Legal.{seeded}
-use Rattle.claim_book.proofs.state.seed.Given as goal
-
-abbrev pub invariant-loop-i : goal.invariant-loop-i
-invariant-loop-i l = record {
-  items : l.journal.items ≡ seeded l.paths (take l.i l.seeds);
-  room : vec_capacity l.initial.journal ≤ vec_capacity l.journal;
-}

@@ -1,0 +1,53 @@
+-- What a book keeps to answer without its journal: each part is a filter of the journal.
+use Rattle.std.specs.Prelude.{◌≡◌, ℕ, ◌<◌, ◌≤◌, List, [], length, get_or, vec_capacity}
+use Rattle.kad_distance.specs.Order.{closeness}
+use Rattle.kad_distance.specs.KClosest.{each_once}
+use Rattle.kad_base.specs.Contacts.{without}
+use Rattle.claim_book.specs.declared.plain.Setting.{Setting}
+use Rattle.claim_book.specs.declared.plain.Counts.{Counts}
+use Rattle.claim_book.specs.declared.plain.Entry.{Entry}
+use Rattle.claim_book.specs.declared.plain.Entry.TheVariants.{Seed, Ask, Heard, Lost, Note, Taken, Held, Turned, Rejected, Skipped}
+use Rattle.claim_book.specs.declared.path.Path.{Path}
+use Rattle.claim_book.specs.Journal.{path, alive, asked, open_on, unsettled}
+use Rattle.claim_book.specs.Calls.{Counted}
+use Rattle.claim_book.specs.Claims.{Claims, IsMap}
+use Rattle.claim_book.specs.Room.{IsBook}
+
+-- what is kept of path p: its contacts that are not lost, and those that nobody asked, in order; how many it has, and
+-- how many are open; what is not settled
+pub record IsPath (s : Setting) (J : List Entry) (p : ℕ) (x : Path) : Type 0 where
+  pub sorted : x.near.items ≡ each_once (closeness s.target) (alive p J)
+  pub unasked : x.fresh.items ≡ each_once (closeness s.target) (without (alive p J) (asked J))
+  pub counted : x.count ≡ length (path p J)
+  pub opened : x.opens ≡ length (open_on p J)
+  pub queued : x.queue.items ≡ unsettled p J
+  pub near_room : 256 ≤ vec_capacity x.near
+  pub fresh_room : 256 ≤ vec_capacity x.fresh
+
+pub record IsPaths (s : Setting) (J : List Entry) (xs : List Path) : Type 0 where
+  pub enough : length xs ≡ s.paths
+  pub each : (p : ℕ) (d : Path) → p < length xs → IsPath s J p (get_or xs p d)
+
+pub record IsWhole (s : Setting) (J : List Entry) (owed room : ℕ) (m : Claims) (xs : List Path) (counts : Counts) : Type 0 where
+  pub book : IsBook s J owed room
+  pub map : IsMap s J m
+  pub paths : IsPaths s J xs
+  pub counted : Counted J counts
+
+-- the entry settles the first thing of path p, and no more comes of it
+abbrev pub IsSettledOnly : ℕ → Entry → Type 0
+IsSettledOnly p (Note q c) = q ≡ p
+IsSettledOnly p (Held q c by) = q ≡ p
+IsSettledOnly p (Rejected q r) = q ≡ p
+IsSettledOnly p (Skipped q r) = q ≡ p
+IsSettledOnly p other = ⊥
+
+-- a path that has nothing, with room for all contacts that it may have
+pub record IsEmptyPath (x : Path) : Type 0 where
+  pub none_near : x.near.items ≡ []
+  pub none_fresh : x.fresh.items ≡ []
+  pub no_count : x.count ≡ 0
+  pub no_opens : x.opens ≡ 0
+  pub no_queue : x.queue.items ≡ []
+  pub near_room : 256 ≤ vec_capacity x.near
+  pub fresh_room : 256 ≤ vec_capacity x.fresh
