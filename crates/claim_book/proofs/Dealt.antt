@@ -1,9 +1,9 @@
 -- The index of a journal that has seeds alone, one seed after the other.
-use Rattle.std.proofs.Common.{◌≡◌, ℕ, ◌+◌, ◌*◌, ◌%◌, ◌<◌, ◌≤◌, List, [], ◌∷◌, ◌++◌, length, take, get_or, set, false, true, cond, refl, sym, ap, subst, ◌∙◌, arith}
+use Rattle.std.proofs.Common.{◌≡◌, ℕ, ◌+◌, ◌%◌, ◌<◌, ◌≤◌, List, [], ◌∷◌, length, take, get_or, set, false, cond, refl, sym, ap, subst, ◌∙◌, arith}
 use Rattle.std.specs.List.{All}
 use Rattle.std.specs.List.Sorted.{IsStrictlySortedBy}
 use Rattle.std.specs.Prelude.{vec_capacity}
-use Rattle.std.proofs.lemmas.List.{length-append, length-take-le}
+use Rattle.std.proofs.lemmas.List.{length-take-le}
 use Rattle.std.proofs.lemmas.Bool.{eq-eqb}
 use Rattle.kad_base.specs.declared.plain.Contact.{Contact}
 use Rattle.kad_base.specs.Contacts.{among, IsUsable}
@@ -18,7 +18,7 @@ use Rattle.claim_book.specs.Journal.{took, path, asked, failed, turned}
 use Rattle.claim_book.specs.Legal.{SeedFits, Legal, seeded_from, seeded}
 use Rattle.claim_book.specs.Calls.{Counted}
 use Rattle.claim_book.specs.Claims.{Claims, shown, taken_claim, Sets, IsMap}
-use Rattle.claim_book.specs.Index.{IsPath, IsPaths}
+use Rattle.claim_book.specs.Index.{IsPaths}
 use Rattle.claim_book.proofs.More.{legal_more}
 use Rattle.claim_book.proofs.Among.{among_itself}
 use Rattle.claim_book.proofs.Claims.{path_new}

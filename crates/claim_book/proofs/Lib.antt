@@ -1,4 +1,3 @@
-pub mod Shown
 pub mod More
 pub mod Among
 pub mod Closest

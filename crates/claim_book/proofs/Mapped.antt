@@ -4,7 +4,6 @@ use Rattle.std.specs.Prelude.{IsSome, slice_get, drop, map}
 use Rattle.std.specs.List.{All}
 use Rattle.std.specs.Map.{lookup}
 use Rattle.std.proofs.lemmas.List.Elements.{All-weaker, All-head, All-drop, All-same, All-append, All-nil, All-cons, All-map}
-use Rattle.std.proofs.lemmas.Bool.{eqb-true}
 use Rattle.indexmap.specs.IndexMap.{get}
 use Rattle.kad_base.specs.declared.plain.Id.{Id}
 use Rattle.kad_base.specs.declared.plain.Contact.{Contact}
@@ -18,7 +17,7 @@ use Rattle.claim_book.specs.declared.plain.Thing.TheVariants.{Responder, Told}
 use Rattle.claim_book.specs.declared.plain.Entry.{Entry}
 use Rattle.claim_book.specs.declared.plain.Entry.TheVariants.{Seed, Ask, Heard, Lost, Taken}
 use Rattle.claim_book.specs.declared.claim_map.Claim.{Claim}
-use Rattle.claim_book.specs.Journal.{on_path, ask_of, answer_of, fail_of, holder_of, things_in, things_of, settles_on, took, path, asked, holders, answered, failed, open_on, things, settled, unsettled, may_ask}
+use Rattle.claim_book.specs.Journal.{ask_of, answer_of, fail_of, holder_of, things_in, things_of, settles_on, took, asked, holders, answered, failed, open_on, things, settled, unsettled, may_ask}
 use Rattle.claim_book.specs.Legal.{Fits, Legal}
 use Rattle.claim_book.specs.Claims.{Claims, key_eq, blank, shown, claim_of, IsKnown, asked_claim, ended_claim, taken_claim, Sets, Keeps, IsMap}
 use Rattle.claim_book.proofs.More.{asked_more, holders_more, answered_more, failed_more}

@@ -1,18 +1,15 @@
 -- The k closest of all paths are the k closest of those of each.
-use Rattle.std.proofs.Common.{◌≡◌, ℕ, zero, suc, ◌+◌, ◌<◌, ◌≤◌, List, [], ◌∷◌, ◌++◌, length, take, Bool, true, false, not, ◌||◌, cond, get_or, refl, sym, ap, subst, ◌∙◌, inl, inr, arith}
+use Rattle.std.proofs.Common.{◌≡◌, ℕ, zero, suc, ◌+◌, ◌<◌, List, [], ◌∷◌, ◌++◌, length, take, true, not, get_or, refl, sym, ap, subst, ◌∙◌, inl, inr, arith}
 use Rattle.std.specs.Prelude.{map}
 use Rattle.std.specs.List.{All, Contains, flat_map}
 use Rattle.std.specs.List.Sorted.{IsStrictlySortedBy}
 use Rattle.std.proofs.lemmas.List.Elements.{All-nil, All-cons}
 use Rattle.std.proofs.lemmas.Bool.{or_cases, or_left, or_right, and_parts, and_from}
-use Rattle.kad_base.specs.declared.plain.Id.{Id}
 use Rattle.kad_base.specs.declared.plain.Contact.{Contact}
 use Rattle.kad_base.specs.Contacts.{same, among, without}
 use Rattle.kad_base.proofs.Contacts.{same_exact, same_itself, among_more}
 use Rattle.kad_distance.specs.Order.{closeness}
-use Rattle.kad_distance.specs.KClosest.{each_once, k_closest}
-use Rattle.kad_distance.proofs.Orders.{closeness_total}
-use Rattle.kad_distance.proofs.Least.{least_take}
+use Rattle.kad_distance.specs.KClosest.{k_closest}
 use Rattle.kad_distance.proofs.Members.{first_in, later_in, in_cases}
 use Rattle.kad_distance.proofs.Chosen.{closest_rises, closest_after, closest_joined, closest_same}
 use Rattle.claim_book.specs.declared.plain.Setting.{Setting}
@@ -21,7 +18,7 @@ use Rattle.claim_book.specs.declared.path.Path.{Path}
 use Rattle.claim_book.specs.Journal.{took, path, failed, alive}
 use Rattle.claim_book.specs.Legal.{Legal}
 use Rattle.claim_book.specs.Result.{result_of}
-use Rattle.claim_book.specs.Index.{IsPath, IsPaths}
+use Rattle.claim_book.specs.Index.{IsPaths}
 use Rattle.claim_book.proofs.Among.{among_without}
 use Rattle.claim_book.proofs.Claims.{path_took, among_left, among_right}
 use Rattle.claim_book.proofs.Ends.{held_by_some, path_below}

@@ -1,5 +1,5 @@
 -- What a book keeps of each path, after one more entry.
-use Rattle.std.proofs.Common.{◌≡◌, ℕ, ◌+◌, ◌<◌, ◌≤◌, List, [], ◌∷◌, ◌++◌, length, true, false, not, Some, refl, sym, ap, subst, ◌∙◌, arith, eqb, set, get_or, inl, inr}
+use Rattle.std.proofs.Common.{◌≡◌, ℕ, ◌+◌, ◌<◌, ◌≤◌, List, [], ◌∷◌, ◌++◌, length, true, false, not, Some, refl, sym, ap, subst, ◌∙◌, arith, set, get_or, inl, inr}
 use Rattle.std.specs.Prelude.{drop, vec_capacity}
 use Rattle.std.specs.List.{All}
 use Rattle.std.specs.List.Sorted.{IsStrictlySortedBy}
@@ -17,7 +17,7 @@ use Rattle.claim_book.specs.declared.plain.Cause.{Cause}
 use Rattle.claim_book.specs.declared.plain.Entry.{Entry}
 use Rattle.claim_book.specs.declared.plain.Entry.TheVariants.{Seed, Ask, Heard, Lost, Note, Taken, Held, Turned, Rejected, Skipped}
 use Rattle.claim_book.specs.declared.path.Path.{Path}
-use Rattle.claim_book.specs.Journal.{on_path, path_of, ask_of, ask_on, answer_of, fail_of, holder_of, turned_of, things_in, things_of, settles_on, took, path, asked, asked_on, answered, failed, open_on, alive, things, settled, unsettled, may_ask}
+use Rattle.claim_book.specs.Journal.{path_of, ask_of, ask_on, answer_of, fail_of, holder_of, things_in, things_of, settles_on, took, path, asked, asked_on, answered, failed, open_on, alive, things, settled, unsettled, may_ask}
 use Rattle.claim_book.specs.Legal.{Fits, Legal, is_of}
 use Rattle.claim_book.specs.Index.{IsPath, IsPaths, IsEmptyPath, IsSettledOnly}
 use Rattle.claim_book.proofs.More.{path_more}

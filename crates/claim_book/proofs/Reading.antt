@@ -1,12 +1,11 @@
 -- What a book answers by its index.
-use Rattle.std.proofs.Common.{◌≡◌, ℕ, ◌<◌, ◌≤◌, List, [], ◌∷◌, ◌++◌, length, take, Bool, true, false, not, ◌||◌, ◌&&◌, cond, Option, Some, None, is_none, is_some, refl, sym, ap, subst, ◌∙◌, arith, get_or}
+use Rattle.std.proofs.Common.{◌≡◌, ℕ, ◌<◌, ◌≤◌, List, [], length, take, Bool, true, false, not, ◌||◌, ◌&&◌, Option, Some, None, is_none, is_some, refl, sym, ap, ◌∙◌, arith}
 use Rattle.std.specs.Prelude.{filter, find, slice_get, MatchOption}
 use Rattle.std.proofs.lemmas.List.{nil_from_length}
 use Rattle.std.proofs.lemmas.Option.{get_or_from_slice_get}
 use Rattle.kad_base.specs.declared.plain.Contact.{Contact}
 use Rattle.kad_base.specs.Contacts.{among}
 use Rattle.kad_base.proofs.Contacts.{among_more}
-use Rattle.kad_distance.specs.Order.{closeness}
 use Rattle.kad_distance.specs.KClosest.{k_closest}
 use Rattle.kad_distance.proofs.Orders.{closeness_total}
 use Rattle.kad_distance.proofs.Least.{least_take}
@@ -18,16 +17,15 @@ use Rattle.claim_book.specs.Journal.{path, asked, answered, failed, open_any, op
 use Rattle.claim_book.specs.Legal.{Legal}
 use Rattle.claim_book.specs.RunOut.{RunOut}
 use Rattle.claim_book.specs.Calls.{asker}
-use Rattle.claim_book.specs.Claims.{Claims, shown, claim_of, IsMap}
+use Rattle.claim_book.specs.Claims.{Claims, shown, IsMap}
 use Rattle.claim_book.specs.Index.{IsPath}
-use Rattle.claim_book.proofs.Among.{among_without, among_none, none_found, found_among, found_passes}
+use Rattle.claim_book.proofs.Among.{among_none, none_found, found_among, found_passes}
 use Rattle.claim_book.proofs.Closest.{closest_within}
-use Rattle.claim_book.proofs.Claims.{may_ask_on_path, open_any_says, answered_asked, one_path, asked_on_path, path_took}
+use Rattle.claim_book.proofs.Claims.{may_ask_on_path, answered_asked, one_path, asked_on_path, path_took}
 use Rattle.claim_book.proofs.Ends.{all_from_each, each_from_all, alive_asked_answered, asked_by_some, held_by_some, beyond}
 use Rattle.claim_book.proofs.Deciding.{open_any_is, some_holder, may_ask_near, may_ask_full}
 use Rattle.claim_book.proofs.Lists.{once_filter}
 use Rattle.claim_book.proofs.Fronts.{none_first}
-use Rattle.claim_book.proofs.Forever.{past_run_out}
 
 abbrev unasked : List Entry → Contact → Bool
 unasked J c = not (among (asked J) c)
@@ -138,8 +136,7 @@ is_open s J m c o l x e a b = by o (b ∙ ap (λ k. k.by) (x.claims c))
         let clash = held.1 in
         absurd cc
     by (Some p) f =
-        let ask = asked_by_some c J was in
-        (
+        let ask = asked_by_some c J was in (
           open_any_is J c ∙ ap (λ b. b && not (among (answered J) c || among (failed J) c)) was ∙ ap not still,
           one_path s J l p ask.0 c (some_holder J c p f) (asked_on_path s J l ask.0 c ask.2) ∙ sym (get_or_from_slice_get (askers c J) 0 ask.0 0 ask.1),
         )

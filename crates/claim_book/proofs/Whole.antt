@@ -1,6 +1,6 @@
 -- A whole book, after one more entry.
-use Rattle.std.proofs.Common.{◌≡◌, ℕ, ◌+◌, ◌*◌, ◌^◌, ◌<◌, ◌≤◌, List, [], ◌∷◌, ◌++◌, length, true, Some, refl, sym, ap, subst, ◌∙◌, arith, set, get_or}
-use Rattle.std.specs.Prelude.{drop, vec_capacity, IsSome}
+use Rattle.std.proofs.Common.{◌≡◌, ℕ, ◌+◌, ◌*◌, ◌^◌, ◌<◌, ◌≤◌, List, [], ◌∷◌, ◌++◌, length, true, Some, refl, sym, ap, subst, arith, set, get_or}
+use Rattle.std.specs.Prelude.{drop, vec_capacity}
 use Rattle.std.specs.List.{All}
 use Rattle.std.proofs.lemmas.List.{length-append}
 use Rattle.std.proofs.lemmas.Bool.{eq-eqb}
@@ -14,21 +14,20 @@ use Rattle.claim_book.specs.declared.plain.Cause.{Cause}
 use Rattle.claim_book.specs.declared.plain.Counts.{Counts}
 use Rattle.claim_book.specs.declared.plain.Thing.TheVariants.{Told}
 use Rattle.claim_book.specs.declared.plain.Entry.{Entry}
-use Rattle.claim_book.specs.declared.plain.Entry.TheVariants.{Ask, Heard, Lost, Note, Taken, Held, Turned, Rejected, Skipped}
+use Rattle.claim_book.specs.declared.plain.Entry.TheVariants.{Ask, Heard, Lost, Taken, Turned}
 use Rattle.claim_book.specs.declared.path.Path.{Path}
-use Rattle.claim_book.specs.Journal.{ask_of, fail_of, turned_of, things_in, settles_on, path, asked, failed, turned, open_on, may_ask}
-use Rattle.claim_book.specs.Legal.{Fits, Legal, is_of}
+use Rattle.claim_book.specs.Journal.{ask_of, fail_of, turned_of, things_in, settles_on, asked, failed, turned, open_on, may_ask}
+use Rattle.claim_book.specs.Legal.{Fits, is_of}
 use Rattle.claim_book.specs.Room.{frees, IsBook}
 use Rattle.claim_book.specs.Calls.{Counted}
 use Rattle.claim_book.specs.Claims.{Claims, shown, IsKnown, asked_claim, ended_claim, taken_claim, Sets, Keeps, IsMap}
-use Rattle.claim_book.specs.Index.{IsPath, IsPaths, IsWhole, IsSettledOnly}
+use Rattle.claim_book.specs.Index.{IsPath, IsWhole, IsSettledOnly}
 use Rattle.claim_book.proofs.More.{asked_more, failed_more, turned_more}
 use Rattle.claim_book.proofs.Claims.{may_ask_on_path, asked_on_path, open_says}
 use Rattle.claim_book.proofs.Ends.{path_below, first_below}
 use Rattle.claim_book.proofs.Bounds.{asked_few, failed_few, turned_few}
 use Rattle.claim_book.proofs.Unsettled.{settles}
-use Rattle.claim_book.proofs.Kept.{IsOwed, book_put, book_heard, some_owed}
-use Rattle.claim_book.proofs.Filters.{same_list}
+use Rattle.claim_book.proofs.Kept.{IsOwed, book_put, book_heard}
 use Rattle.claim_book.proofs.Mapped.{map_asked, map_heard, map_lost, map_taken, map_quiet, map_wider}
 use Rattle.claim_book.proofs.Pathed.{paths_put, paths_like, path_at, path_asked, path_heard, path_lost, path_passed, path_taken, path_wider, Quiet, quiet, quiet_turned}
 

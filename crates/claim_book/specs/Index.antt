@@ -6,7 +6,7 @@ use Rattle.kad_base.specs.Contacts.{without}
 use Rattle.claim_book.specs.declared.plain.Setting.{Setting}
 use Rattle.claim_book.specs.declared.plain.Counts.{Counts}
 use Rattle.claim_book.specs.declared.plain.Entry.{Entry}
-use Rattle.claim_book.specs.declared.plain.Entry.TheVariants.{Seed, Ask, Heard, Lost, Note, Taken, Held, Turned, Rejected, Skipped}
+use Rattle.claim_book.specs.declared.plain.Entry.TheVariants.{Note, Held, Rejected, Skipped}
 use Rattle.claim_book.specs.declared.path.Path.{Path}
 use Rattle.claim_book.specs.Journal.{path, alive, asked, open_on, unsettled}
 use Rattle.claim_book.specs.Calls.{Counted}

@@ -1,14 +1,13 @@
 -- The room that a book keeps, so that no later call on the contacts that it knows takes memory.
-use Rattle.std.specs.Prelude.{ℕ, zero, suc, ◌+◌, ◌*◌, ◌<◌, ◌≤◌, List, length, Option, Some, None, [], ◌∷◌, Bool, true, false}
-use Rattle.std.specs.List.{sum_by, flat_map}
-use Rattle.kad_base.specs.declared.plain.Contact.{Contact}
+use Rattle.std.specs.Prelude.{ℕ, zero, suc, ◌+◌, ◌*◌, ◌<◌, ◌≤◌, List, length}
+use Rattle.std.specs.List.{sum_by}
 use Rattle.kad_base.specs.Contacts.{without}
 use Rattle.claim_book.specs.declared.plain.Setting.{Setting}
 use Rattle.claim_book.specs.declared.plain.Thing.{Thing}
 use Rattle.claim_book.specs.declared.plain.Thing.TheVariants.{Responder, Told}
 use Rattle.claim_book.specs.declared.plain.Entry.{Entry}
 use Rattle.claim_book.specs.declared.plain.Entry.TheVariants.{Held, Turned, Rejected, Skipped}
-use Rattle.claim_book.specs.Journal.{took_of, path_of, took, asked, open_any, unsettled}
+use Rattle.claim_book.specs.Journal.{took, asked, open_any, unsettled}
 use Rattle.claim_book.specs.Legal.{Legal}
 
 -- a contact that answered is noted; a reported one is settled, and may then be asked and heard or lost
@@ -41,16 +40,3 @@ pub record IsBook (s : Setting) (J : List Entry) (owed room : ℕ) : Type 0 wher
   pub small : s.k < 256
   pub all_owed : room_for s.paths J ≤ owed
   pub fits : length J + owed ≤ room
-
--- what the k closest are sorted from: the contacts of one path, or of all
-abbrev pub chosen : Option ℕ → Entry → List Contact
-chosen None e = took_of e
-chosen (Some p) e = path_of p e
-
-abbrev pub all_chosen : Option ℕ → List Entry → List Contact
-all_chosen one J = flat_map (chosen one) J
-
--- the list has a member
-abbrev pub some : {A : Type 0} → List A → Bool
-some [] = false
-some (x ∷ xs) = true

@@ -59,11 +59,7 @@ impl Book {
             Err(NoMemory) => return Err(NoMemory),
         }
         mark_ended(&mut self.claims, &contact);
-        hear_one(
-            &mut self.paths[path as usize],
-            &contact,
-            reports.as_slice(),
-        );
+        hear_one(&mut self.paths[path as usize], &contact, reports.as_slice());
         self.owed += 3 * reports.len() + 1;
         put(
             &mut self.journal,
@@ -107,11 +103,7 @@ impl Book {
             Entry::Taken { path, contact },
         );
         mark_taken(&mut self.claims, path, &contact);
-        take_one(
-            &mut self.paths[path as usize],
-            &self.setting,
-            &contact,
-        );
+        take_one(&mut self.paths[path as usize], &self.setting, &contact);
     }
 
     /// The reported contact that stands first finds the path full. Takes no memory.

@@ -69,12 +69,7 @@ fn settle(rt: &impl Abort, n: u8) -> BookCall
 
 /// A book with two seeds, of which the first was asked.
 #[tactic(auto, using(crate::proofs::Closest::sorted_two))]
-fn begun(
-    rt: &impl Abort,
-    alloc: Global,
-    hasher: RandomState,
-    paths: u8,
-) -> Result<Book, Fail>
+fn begun(rt: &impl Abort, alloc: Global, hasher: RandomState, paths: u8) -> Result<Book, Fail>
     requires { 0 < paths }
 {
     let setting = Setting {

@@ -1,4 +1,4 @@
-use Rattle.std.proofs.Common.{◌≡◌, ◌≤◌, take, map}
+use Rattle.std.proofs.Common.{◌≡◌, take, map}
 use Rattle.claim_book.proofs.starting.nearest_lists.Given as goal
 
 abbrev pub invariant-loop-path : goal.invariant-loop-path

@@ -1,4 +1,4 @@
-use Rattle.std.proofs.Common.{◌≡◌, ℕ, ◌<◌, ◌≤◌, Bool, true, false, sym, subst, ap, ◌∙◌, below_more, arith}
+use Rattle.std.proofs.Common.{◌≡◌, Bool, true, false, ap, below_more, arith}
 use Rattle.claim_book.specs.State.{BookState}
 use Rattle.claim_book.specs.RunOut.{RunOut}
 use Rattle.claim_book.proofs.state.Book.first_running.Goals as goal

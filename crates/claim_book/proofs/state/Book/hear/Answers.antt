@@ -1,4 +1,4 @@
-use Rattle.std.proofs.Common.{◌≡◌, ◌+◌, ◌*◌, ◌++◌, ◌≤◌, ◌<◌, List, length, true, vec_capacity, set, get_or, refl, ap, sym, subst, ◌∙◌, arith}
+use Rattle.std.proofs.Common.{◌≡◌, ◌+◌, ◌*◌, ◌++◌, ◌≤◌, List, length, true, vec_capacity, ap, sym, subst, ◌∙◌, arith}
 use Rattle.std.specs.List.{All}
 use Rattle.std.specs.VecDeque.{deque_capacity}
 use Rattle.std.proofs.lemmas.List.{length-set, get_or-set_same}
@@ -9,7 +9,6 @@ use Rattle.claim_book.specs.declared.path.Path.{Path}
 use Rattle.claim_book.specs.State.{BookState}
 use Rattle.claim_book.specs.Journal.{open_on, things_in}
 use Rattle.claim_book.specs.Claims.{IsKnown}
-use Rattle.claim_book.specs.Index.{IsWhole}
 use Rattle.claim_book.proofs.Mapped.{knows_open}
 use Rattle.claim_book.proofs.Filters.{some_open}
 use Rattle.claim_book.proofs.Pathed.{path_at}

@@ -1,4 +1,4 @@
-use Rattle.std.proofs.Common.{◌≡◌, ◌<◌, ◌≤◌, length, sym, subst, ap, ◌∙◌, arith}
+use Rattle.std.proofs.Common.{◌<◌, length, sym, ap, ◌∙◌, arith}
 use Rattle.std.proofs.lemmas.Bool.{eqb-true, eq-eqb}
 use Rattle.claim_book.specs.State.{BookState}
 use Rattle.claim_book.specs.Journal.{path}
@@ -10,9 +10,9 @@ pub returns-then-path-self : goal.returns-then-path-self
 returns-then-path-self c = (
   λ h. absurd cc,
   λ full. (
-    let none = ap length (past_contacts c.self.inside.setting c.self.inside.journal.items c.args.path c.self.invariant.book.some_path c.self.invariant.book.legal c.if-path-self.true) in
-    let here = ap (λ (b : BookState). length (path c.args.path b.journal)) c.self.view_is in
-    absurd (omega arith)),
+      let none = ap length (past_contacts c.self.inside.setting c.self.inside.journal.items c.args.path c.self.invariant.book.some_path c.self.invariant.book.legal c.if-path-self.true) in
+      let here = ap (λ (b : BookState). length (path c.args.path b.journal)) c.self.view_is in
+      absurd (omega arith)),
 )
 
 pub returns : goal.returns
