@@ -12,6 +12,7 @@ use id_puzzles::Sha1Check;
 use kad_base::{Addr, Ip};
 use node_top::run;
 use std::alloc::AllocError;
+use std::hash::RandomState;
 use std::io::{ErrorKind, Input};
 use std::process::ExitCode;
 use std::random::RandomSource;
@@ -91,6 +92,7 @@ where
     let words = words(rt)?;
     let mut random = [0u8; 32];
     rt.fill_bytes(&mut random).map_err(|_| Refusal::Start)?;
+    let hasher = RandomState::new(rt).map_err(|_| Refusal::Start)?;
     let mut link = UdpLink::bind(rt, ANY).map_err(|_| Refusal::Socket)?;
     let mut source = StandardInput::new(rt.reader());
     let mut sink = StandardOutput::new(rt);
@@ -103,6 +105,7 @@ where
         &mut sink,
         &random,
         &Sha1Check,
+        hasher,
     ))
 }
 

@@ -17,6 +17,7 @@ use kad_base::limits::DEFAULT_K;
 use kad_base::{Bytes, Check, Contacts, Id, Link, Policy, Source};
 use kad_distance::k_least;
 use std::alloc::Global;
+use std::hash::RandomState;
 
 /// The place of the first drawn word that is a transaction id: those before it are the node's identifier.
 const FIRST_TX: u64 = 5;
@@ -117,6 +118,7 @@ pub(crate) fn lookup<S: Source, L: Link, C: Check>(
     link: &mut L,
     random: &[u8; 32],
     check: &C,
+    hasher: RandomState,
 ) -> Result<Bytes, Status>
     ensures ok { IfOk result (λ text. LooksAt words.now random.now (S.left source.old) (S.left source.new) (L.told link.old) (L.told link.new) text) }
     ensures cause { IfErr result (LookCause words.now random.now (outside_of (S.left source.old) (S.left source.new) (S.faults source.old) (S.faults source.new) (L.told link.old) (L.told link.new) (L.recv_faults link.old) (L.recv_faults link.new))) }
@@ -138,7 +140,15 @@ pub(crate) fn lookup<S: Source, L: Link, C: Check>(
         timeout: words.timeout,
     };
     let mut drawn = Words::new(random, FIRST_TX);
-    match look_up_alone(alloc, link, &mut drawn, &look, seeds.as_slice(), check) {
+    match look_up_alone(
+        alloc,
+        link,
+        &mut drawn,
+        &look,
+        seeds.as_slice(),
+        check,
+        hasher,
+    ) {
         Ok(outcome) => text_of(alloc, &outcome),
         Err(LookFault::Link) => Err(Status::LinkFault),
         Err(LookFault::Strays) => Err(Status::Strays),

@@ -10,6 +10,7 @@ use kad_base::{
 };
 use script::{Reply, contact, failing_link, link};
 use std::alloc::Global;
+use std::hash::RandomState;
 use std::test::Fail;
 
 /// `#n` is the identifier of nineteen zero bytes and n, and contact n has it at 127.0.0.1 and port 6000 + n.
@@ -67,6 +68,7 @@ fn play(rt: &HostRuntime, input: &str, link: ScriptLink) -> Result<Played, Fail>
         &mut sink,
         &[0; 32],
         &Sha1Check,
+        RandomState::new(rt)?,
     );
     let text = String::from_str(alloc, std::str::from_utf8(sink.written())?)?;
     Ok(Played { status, text, link })
@@ -272,6 +274,7 @@ fn status_of<S: Source, K: Sink>(
         sink,
         &[0; 32],
         &Sha1Check,
+        RandomState::new(rt)?,
     ))
 }
 

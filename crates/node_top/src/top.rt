@@ -10,6 +10,7 @@ use crate::status::{LINE_ROOM, Status};
 use crate::words::read_words;
 use kad_base::{Bytes, Check, Link, Sink, Source};
 use std::alloc::Global;
+use std::hash::RandomState;
 
 /// Does the command that the words ask for, and makes its output. Nothing is written yet.
 fn output_of<S: Source, L: Link, C: Check>(
@@ -19,6 +20,7 @@ fn output_of<S: Source, L: Link, C: Check>(
     link: &mut L,
     random: &[u8; 32],
     check: &C,
+    hasher: RandomState,
 ) -> Result<Bytes, Status>
     ensures ok { IfOk result (Looked (map (λ w. string_bytes w) words.now) random.now (S.left source.old) (S.left source.new) (L.told link.old) (L.told link.new)) }
     ensures unread { IfErr result (λ status. number_of status ≡ 2 → source.new ≡ source.old) }
@@ -31,7 +33,7 @@ fn output_of<S: Source, L: Link, C: Check>(
         None => return Err(Status::Usage),
     };
     let look = command.lookup();
-    lookup(alloc, &look, source, link, random, check)
+    lookup(alloc, &look, source, link, random, check, hasher)
 }
 
 /// Writes the one line of a command that has no output, or a front of it where the sink fails. The line is whole before
@@ -73,6 +75,7 @@ pub fn run<R, S: Source, K: Sink, L: Link, C: Check>(
     sink: &mut K,
     random: &[u8; 32],
     check: &C,
+    hasher: RandomState,
 ) -> u8
     // The text that was written is that of a legal journal which the link's events tell and whose paths have run out.
     ensures looked_up { result ≡ 0 → LookedUp (map (λ w. string_bytes w) words.now) random.now (S.left source.old) (S.left source.new) (L.told link.old) (L.told link.new) (K.written sink.old) (K.written sink.new) }
@@ -107,7 +110,7 @@ pub fn run<R, S: Source, K: Sink, L: Link, C: Check>(
     ensures unasked { EndsEarly result → link.new ≡ link.old }
     ensures statuses { (result ≤ 11) × (result ≢ 1) × (result ≢ 10) }
 {
-    match output_of(alloc, words, source, link, random, check) {
+    match output_of(alloc, words, source, link, random, check, hasher) {
         Ok(text) => match write_whole(sink, text.as_slice()) {
             Ok(()) => 0,
             Err(_) => 5,

@@ -19,6 +19,7 @@ use id_puzzles::Words;
 use kad_base::limits::RECEIVE_ROOM;
 use kad_base::{Check, Contact, Link, Serial};
 use std::alloc::Global;
+use std::hash::RandomState;
 
 /// What the lookup found, where its path has run out.
 fn finish(mut book: Book) -> Result<Outcome, LookFault>
@@ -48,6 +49,7 @@ pub(crate) fn look_up_alone<L: Link, C: Check>(
     look: &LookSetting,
     seeds: &[Contact],
     check: &C,
+    hasher: RandomState,
 ) -> Result<Outcome, LookFault>
     requires one_path { look.now.setting.paths ≡ 1 }
     requires one_query { look.now.setting.alpha ≡ 1 }
@@ -61,7 +63,7 @@ pub(crate) fn look_up_alone<L: Link, C: Check>(
     ensures link { IsErrOf result LookFault.Link → Rose (L.recv_faults link.old) (L.recv_faults link.new) }
     ensures recv_faults { L.recv_faults link.old ≤ L.recv_faults link.new }
 {
-    let Ok(mut book) = Book::new(alloc, look.setting, seeds) else {
+    let Ok(mut book) = Book::new(alloc, look.setting, seeds, hasher) else {
         return Err(LookFault::NoMemory);
     };
     let mut stand = Stand {
