@@ -7,7 +7,6 @@ pub mod Unsettled
 pub mod Kept
 pub mod Bounds
 pub mod Few
-pub mod Sorting
 pub mod Deciding
 pub mod Progress
 pub mod Seeding
