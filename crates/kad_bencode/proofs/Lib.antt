@@ -10,3 +10,10 @@ pub mod Nested
 pub mod Faults
 pub mod Writing
 pub mod Ordered
+pub mod Skipping
+pub mod Layers
+pub mod Looking
+pub mod Verifying
+pub mod Pieces
+pub mod Listing
+pub mod Putting

@@ -17,7 +17,7 @@ use Rattle.kad_bencode.proofs.Folds.{text_of-list, text_of-dict, depth_of-list, 
 use Rattle.kad_bencode.proofs.Numerals.{numeral_digit, numeral_step}
 use Rattle.kad_bencode.proofs.Said.{texts_push, pairs_push}
 
-one_digit : (n : ℕ) → n < 10 → (48 + n) ∷ [] ≡ numeral n
+pub one_digit : (n : ℕ) → n < 10 → (48 + n) ∷ [] ≡ numeral n
 one_digit zero h = refl
 one_digit (suc n) h = sym (numeral_digit (suc n) (omega arith) h)
 

@@ -4,4 +4,7 @@ pub mod Faults
 pub mod Machine
 pub mod Written
 pub mod Parts
+pub mod Scanning
+pub mod Finding
+pub mod Naming
 pub mod formers

@@ -1,6 +1,7 @@
 -- The parts of a value, by its kind.
 use Rattle.std.specs.Prelude.{ℕ, List, Option, Some, None, ℤ}
 use Rattle.kad_bencode.specs.Keys.{value_of}
+use Rattle.kad_bencode.specs.declared.entries.Pair.{Pair}
 use Rattle.kad_bencode.specs.declared.value.Value.{Value}
 use Rattle.kad_bencode.specs.declared.value.Value.TheOpen as layer
 use Rattle.kad_bencode.specs.declared.value.Value.TheOpen.{Value-F}
@@ -45,3 +46,13 @@ list_in (layer.Dict pairs) = None
 -- a list's values
 abbrev pub list_of : Value → Option (List Value)
 list_of value = list_in (out-Value value)
+
+abbrev pub dict_in : Value-F Value → Option (List (Pair Value))
+dict_in (layer.Int n) = None
+dict_in (layer.Text bytes) = None
+dict_in (layer.List values) = None
+dict_in (layer.Dict pairs) = Some pairs
+
+-- a dictionary's pairs
+abbrev pub dict_of : Value → Option (List (Pair Value))
+dict_of value = dict_in (out-Value value)

@@ -3,15 +3,23 @@
 #![tactic(auto)]
 
 pub mod entries;
+mod find;
+pub mod into;
 pub mod laws;
 pub mod parts;
+pub mod piece;
 pub mod reader;
+mod scan;
 pub mod value;
+pub mod verify;
 pub mod writer;
 
 pub use entries::{Dictionary, Pair};
+pub use into::{put_integer, put_length, put_part, put_string};
+pub use piece::{Items, Piece};
 pub use reader::{MAX_DEPTH, read};
 pub use value::{Bad, BenFault, Entries, Value, Values};
+pub use verify::check;
 pub use writer::write;
 
 #[cfg(test)]

@@ -1,12 +1,13 @@
 //! Reads bencode (BEP 3): one cursor goes over the input, once. Lists and dictionaries that are open nest by a recursion
 //! that stops at the limit.
-ghost use Rattle.std.specs.Prelude.{◌≡◌, ℕ, suc, ◌+◌, ◌<◌, ◌≤◌, List, [], ◌∷◌, length, IsTrue, IfOk, IsErrOf, get_or};
+ghost use Rattle.std.specs.Prelude.{◌≡◌, ℕ, suc, ◌+◌, ◌<◌, ◌≤◌, List, [], ◌∷◌, length, IfOk, IsErrOf, get_or};
 ghost use Rattle.kad_bencode.specs.Spelling.{Spells, Fits, in_order};
 ghost use Rattle.kad_bencode.specs.Faults.{Open, InList, IsFirstFault, Answers};
 ghost use Rattle.kad_bencode.specs.declared.value.Bad.{Bad};
 ghost use Rattle.kad_bencode.specs.declared.value.Value.{Value};
-ghost use Rattle.kad_bencode.specs.Machine.{HasByte, HasNumber, ReadsDigits, is_nonzero, Awaits, Outcome, ReadsInteger, ReadsString, AwaitsString, Place, AwaitsNumber, AwaitsInteger, IsSigned, ReadsValue, Reached, Ready, Keyless, FitsOpen};
+ghost use Rattle.kad_bencode.specs.Machine.{Awaits, Outcome, ReadsInteger, ReadsString, AwaitsString, Place, AwaitsInteger, ReadsValue, Reached, Ready, Keyless, FitsOpen};
 
+use crate::scan::{self, has_byte};
 use crate::value::{Bad, BenFault, Entries, Value, Values};
 use kad_base::Bytes;
 use std::alloc::Global;
@@ -134,25 +135,10 @@ fn string_at(bytes: &[u8], at: usize) -> Result<(&[u8], usize), BenFault>
     ensures reads { (p : Place) → AwaitsString bytes.now at p
         → Outcome bytes.now result (λ x. ReadsString bytes.now at p x.0.now x.1) }
 {
-    if has_byte(bytes, at, b'0') {
-        if !has_byte(bytes, at + 1, b':') {
-            return Err(BenFault::Bad(Bad::NotBencode { at: at + 1 }));
-        }
-        return Ok((&bytes[at..at], at + 2));
+    match scan::string_at(bytes, at) {
+        Ok((text, next)) => Ok((text, next)),
+        Err(bad) => Err(BenFault::Bad(bad)),
     }
-    if !has_number(bytes, at) {
-        return Err(BenFault::Bad(Bad::NotBencode { at }));
-    }
-    let (length, end) = digits_from(bytes, at);
-    if !has_byte(bytes, end, b':') {
-        return Err(BenFault::Bad(Bad::NotBencode { at: end }));
-    }
-    let rest = bytes.len() - (end + 1);
-    if length > rest as u64 {
-        return Err(BenFault::Bad(Bad::NotBencode { at: bytes.len() }));
-    }
-    let next = end + 1 + length as usize;
-    Ok((&bytes[end + 1..next], next))
 }
 
 /// The integer at a place, where its `i` stands, and where it ends.
@@ -163,88 +149,8 @@ fn integer_at(bytes: &[u8], at: usize) -> Result<(i64, usize), BenFault>
     ensures reads { (os : List Open) → AwaitsInteger bytes.now at os
         → Outcome bytes.now result (λ x. ReadsInteger bytes.now at os x.0 x.1) }
 {
-    if has_byte(bytes, at + 1, b'0') {
-        if !has_byte(bytes, at + 2, b'e') {
-            return Err(BenFault::Bad(Bad::NotBencode { at: at + 2 }));
-        }
-        return Ok((0, at + 3));
+    match scan::integer_at(bytes, at) {
+        Ok((number, next)) => Ok((number, next)),
+        Err(bad) => Err(BenFault::Bad(bad)),
     }
-    if has_byte(bytes, at + 1, b'-') {
-        return number_at(bytes, at, at + 2, true);
-    }
-    number_at(bytes, at, at + 1, false)
-}
-
-/// The rest of the integer at `at`, whose number, not 0, begins at `first`.
-fn number_at(
-    bytes: &[u8],
-    at: usize,
-    first: usize,
-    negative: bool,
-) -> Result<(i64, usize), BenFault>
-    requires { first ≤ length bytes.now }
-    ensures moves { IfOk result (λ x. (first < x.1) × (x.1 ≤ length bytes.now)) }
-    ensures reads { (os : List Open) → AwaitsNumber bytes.now at first negative os
-        → Outcome bytes.now result (λ x. ReadsInteger bytes.now at os x.0 x.1) }
-{
-    if !has_number(bytes, first) {
-        return Err(BenFault::Bad(Bad::NotBencode { at: first }));
-    }
-    let (number, end) = digits_from(bytes, first);
-    if !has_byte(bytes, end, b'e') {
-        return Err(BenFault::Bad(Bad::NotBencode { at: end }));
-    }
-    match signed_of(negative, number) {
-        Some(value) => Ok((value, end + 1)),
-        None => Err(BenFault::Bad(Bad::NumberTooBig { at })),
-    }
-}
-
-/// A number that isn't 0 as a signed one, where it is one of 64 bits.
-fn signed_of(negative: bool, number: u64) -> Option<i64>
-    requires { 0 < number }
-    ensures { IsSigned negative number result }
-{
-    if negative {
-        if number <= 1 << 63 {
-            Some(-((number - 1) as i64) - 1)
-        } else {
-            None
-        }
-    } else if number < 1 << 63 {
-        Some(number as i64)
-    } else {
-        None
-    }
-}
-
-/// The number whose digits begin at a place, the first of them not 0, and where they end. A number beyond u64 is held up
-/// at its end.
-fn digits_from(bytes: &[u8], first: usize) -> (u64, usize)
-    requires within { first < length bytes.now }
-    requires nonzero { IsTrue (is_nonzero (get_or bytes.now first 0)) }
-    ensures { ReadsDigits bytes.now first result.0 result.1 }
-{
-    let mut number = (bytes[first] - b'0') as u64;
-    let mut next = first + 1;
-    while next < bytes.len() && bytes[next] >= b'0' && bytes[next] <= b'9' {
-        let digit = (bytes[next] - b'0') as u64;
-        number = number.saturating_mul(10).saturating_add(digit);
-        next += 1;
-    }
-    (number, next)
-}
-
-/// Whether a digit that isn't 0 stands at a place.
-fn has_number(bytes: &[u8], at: usize) -> bool
-    ensures { HasNumber bytes.now at result }
-{
-    at < bytes.len() && bytes[at] >= b'1' && bytes[at] <= b'9'
-}
-
-/// Whether a byte stands at a place.
-fn has_byte(bytes: &[u8], at: usize, byte: u8) -> bool
-    ensures { HasByte bytes.now at byte result }
-{
-    at < bytes.len() && bytes[at] == byte
 }

@@ -1,6 +1,6 @@
 use Rattle.std.proofs.Common.{◌≡◌, ◌+◌, ◌-◌, ◌<◌, ◌^◌, take, drop, length, ap, arith}
 use Rattle.kad_bencode.proofs.Reading.{no_length_unended, empty_read, no_string, length_unended, body_short, string_read}
-use Rattle.kad_bencode.proofs.reader.string_at.Goals as goal
+use Rattle.kad_bencode.proofs.scan.string_at.Goals as goal
 
 pub returns-then-not-has_byte-clause-reads : goal.returns-then-not-has_byte-clause-reads
 returns-then-not-has_byte-clause-reads c p a = no_length_unended c.args.bytes.now c.args.at p a c.if-has_byte.ensures c.if-not-has_byte.ensures

@@ -1,5 +1,5 @@
 use Rattle.kad_bencode.proofs.Reading.{no_number, number_unended, number_read, number_big}
-use Rattle.kad_bencode.proofs.reader.number_at.Goals as goal
+use Rattle.kad_bencode.proofs.scan.number_at.Goals as goal
 
 pub returns-then-not-has_number-clause-reads : goal.returns-then-not-has_number-clause-reads
 returns-then-not-has_number-clause-reads c os a = no_number c.args.bytes.now c.args.at c.args.first c.args.negative os a c.requires c.if-not-has_number.ensures

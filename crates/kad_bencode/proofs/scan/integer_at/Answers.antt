@@ -1,5 +1,5 @@
 use Rattle.kad_bencode.proofs.Reading.{zero_unended, zero_read, awaits_minus, awaits_plus}
-use Rattle.kad_bencode.proofs.reader.integer_at.Goals as goal
+use Rattle.kad_bencode.proofs.scan.integer_at.Goals as goal
 
 pub returns-then-not-has_byte-clause-reads : goal.returns-then-not-has_byte-clause-reads
 returns-then-not-has_byte-clause-reads c os a = zero_unended c.args.bytes.now c.args.at os a c.requires.within c.requires.begins c.if-has_byte.ensures c.if-not-has_byte.ensures

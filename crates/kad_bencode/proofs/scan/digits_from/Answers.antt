@@ -1,6 +1,6 @@
 use Rattle.std.proofs.Common.{◌+◌, ◌-◌, ◌^◌, min, get_or, ap, ◌∙◌}
 use Rattle.kad_bencode.proofs.Reading.{digits_begin, digits_step}
-use Rattle.kad_bencode.proofs.reader.digits_from.Goals as goal
+use Rattle.kad_bencode.proofs.scan.digits_from.Goals as goal
 
 pub loop-next-init : goal.loop-next-init
 loop-next-init c = digits_begin _ _ c.requires.within c.requires.nonzero

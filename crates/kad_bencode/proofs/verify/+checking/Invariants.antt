@@ -1,0 +1,39 @@
+use Rattle.std.proofs.Common.{◌≡◌, suc, ◌+◌, ◌-◌, ◌*◌, ◌≤◌, List, [], ◌∷◌, length}
+use Rattle.kad_bencode.specs.Faults.{Open, InList}
+use Rattle.kad_bencode.specs.Machine.{Reached, Ready, Keyless, FitsOpen}
+use Rattle.kad_bencode.proofs.Nested.{ListSoFar, PairsSoFar}
+use Rattle.kad_bencode.specs.declared.entries.Pair.{Pair}
+use Rattle.kad_bencode.specs.declared.value.Value.{Value}
+use Rattle.kad_bencode.specs.Keys.{keys_of}
+use Rattle.kad_bencode.specs.Finding.{IsUpTo}
+use Rattle.kad_bencode.proofs.verify.+checking.Given as goal
+
+-- the lists and dictionaries that may still be opened
+abbrev pub decreases-value_at : goal.decreases-value_at
+decreases-value_at l = 2 * (16 - l.depth) + 1
+
+abbrev pub decreases-list_at : goal.decreases-list_at
+decreases-list_at l = 2 * (16 - l.depth) + 2
+
+abbrev pub decreases-dictionary_at : goal.decreases-dictionary_at
+decreases-dictionary_at l = 2 * (16 - l.depth) + 2
+
+abbrev pub invariant-list_at-values : goal.invariant-list_at-values
+invariant-list_at-values l = record {
+  after : l.from ≤ l.at;
+  within : l.at ≤ length l.bytes;
+  so_far : (os : List Open) → suc (length os) ≡ l.depth → Reached l.bytes l.from (Ready (InList [] ∷ os)) → FitsOpen os → (values : List Value) × ListSoFar l.bytes l.at os values;
+}
+
+abbrev pub decreases-list_at-values : goal.decreases-list_at-values
+decreases-list_at-values l = length l.bytes - l.at
+
+abbrev pub invariant-dictionary_at-pairs : goal.invariant-dictionary_at-pairs
+invariant-dictionary_at-pairs l = record {
+  after : l.from ≤ l.at;
+  within : l.at ≤ length l.bytes;
+  so_far : (os : List Open) → suc (length os) ≡ l.depth → Reached l.bytes l.from (Keyless os []) → FitsOpen os → (entries : List (Pair Value)) × (so : PairsSoFar l.bytes l.at os entries) × IsUpTo l.greatest (keys_of so.pairs);
+}
+
+abbrev pub decreases-dictionary_at-pairs : goal.decreases-dictionary_at-pairs
+decreases-dictionary_at-pairs l = length l.bytes - l.at

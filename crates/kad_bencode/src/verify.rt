@@ -1,0 +1,137 @@
+//! Whether bytes spell a value (BEP 3), without memory.
+ghost use Rattle.std.specs.Prelude.{◌≡◌, ℕ, suc, ◌+◌, ◌<◌, ◌≤◌, not, List, [], ◌∷◌, length, IsOk, IfOk, IfErr, OnOk, get_or, Err, MatchOption, true};
+ghost use Rattle.kad_bencode.specs.Keys.{key_cmp, keys_of};
+ghost use Rattle.kad_bencode.specs.Spelling.{Spells, has_key};
+ghost use Rattle.kad_bencode.specs.Faults.{Open, InList, IsFirstFault};
+ghost use Rattle.kad_bencode.specs.Machine.{Awaits, ReadsValue, Reached, Ready, Keyless, FitsOpen};
+ghost use Rattle.kad_bencode.specs.declared.entries.Pair.{Pair};
+ghost use Rattle.kad_bencode.specs.declared.value.Value.{Value};
+ghost use Rattle.kad_bencode.specs.declared.value.Bad.{Bad};
+ghost use Rattle.kad_bencode.specs.Scanning.{Scans};
+ghost use Rattle.kad_bencode.specs.Finding.{ArePairs, IsUpTo, IsNew, IsAbove};
+
+use crate::find::find;
+use crate::reader::MAX_DEPTH;
+use crate::scan::{has_byte, integer_at, string_at};
+use crate::value::Bad;
+use std::cmp::Ordering;
+
+/// Whether the bytes spell a value, all of them, or the fault that is seen first.
+pub fn check(bytes: &[u8]) -> Result<(), Bad>
+    ensures spells { OnOk result ((v : Value) × Spells bytes.now v) }
+    ensures fault { IfErr result (IsFirstFault bytes.now) }
+    ensures only { (v : Value) → Spells bytes.now v → IsOk result }
+    ensures refused { (bad : Bad) → IsFirstFault bytes.now bad → result ≡ Err bad }
+{
+    whole(bytes)
+}
+
+/// A value, and nothing behind it.
+fn whole(bytes: &[u8]) -> Result<(), Bad>
+    ensures { Scans bytes.now result (λ _. (v : Value) × Spells bytes.now v) }
+{
+    let next = value_at(bytes, 0, 0)?;
+    if next < bytes.len() {
+        return Err(Bad::Trailing { at: next });
+    }
+    Ok(())
+}
+
+/// Where the value at a place ends, where that many lists and dictionaries are open.
+#[cycle(checking)]
+fn value_at(bytes: &[u8], at: usize, depth: usize) -> Result<usize, Bad>
+    requires within { at ≤ length bytes.now }
+    requires depth { depth ≤ 16 }
+    ensures moves { IfOk result (λ next. (at < next) × (next ≤ length bytes.now)) }
+    ensures reads { (os : List Open) → length os ≡ depth → Awaits bytes.now at os
+        → Scans bytes.now result (λ next. (v : Value) × ReadsValue bytes.now at os v next) }
+{
+    if has_byte(bytes, at, b'i') {
+        let (_, next) = integer_at(bytes, at)?;
+        return Ok(next);
+    }
+    if has_byte(bytes, at, b'l') {
+        if depth == MAX_DEPTH {
+            return Err(Bad::Deep { at });
+        }
+        return list_at(bytes, at + 1, depth + 1);
+    }
+    if has_byte(bytes, at, b'd') {
+        if depth == MAX_DEPTH {
+            return Err(Bad::Deep { at });
+        }
+        return dictionary_at(bytes, at + 1, depth + 1);
+    }
+    let (_, next) = string_at(bytes, at)?;
+    Ok(next)
+}
+
+/// Where a list ends whose first value comes next, if it has one.
+#[cycle(checking)]
+fn list_at(bytes: &[u8], from: usize, depth: usize) -> Result<usize, Bad>
+    requires within { from ≤ length bytes.now }
+    requires depth { depth ≤ 16 }
+    ensures moves { IfOk result (λ next. (from < next) × (next ≤ length bytes.now)) }
+    ensures reads { (os : List Open) → suc (length os) ≡ depth → Reached bytes.now from (Ready (InList [] ∷ os)) → FitsOpen os
+        → Scans bytes.now result (λ next. (v : Value) × ReadsValue bytes.now from os v next) }
+{
+    let mut at = from;
+    'values: while !has_byte(bytes, at, b'e') {
+        at = value_at(bytes, at, depth)?;
+    }
+    Ok(at + 1)
+}
+
+/// Where a dictionary ends whose first key comes next, if it has one.
+#[cycle(checking)]
+fn dictionary_at(bytes: &[u8], from: usize, depth: usize) -> Result<usize, Bad>
+    requires within { from ≤ length bytes.now }
+    requires depth { depth ≤ 16 }
+    ensures moves { IfOk result (λ next. (from < next) × (next ≤ length bytes.now)) }
+    ensures reads { (os : List Open) → suc (length os) ≡ depth → Reached bytes.now from (Keyless os []) → FitsOpen os
+        → Scans bytes.now result (λ next. (v : Value) × ReadsValue bytes.now from os v next) }
+{
+    let mut at = from;
+    let mut greatest = &bytes[from..from];
+    'pairs: while !has_byte(bytes, at, b'e') {
+        let (key, behind) = string_at(bytes, at)?;
+        match greatest_with(&bytes[from..at], greatest, key) {
+            Some(key) => greatest = key,
+            None => return Err(Bad::KeyTwice { at }),
+        }
+        at = value_at(bytes, behind, depth)?;
+    }
+    Ok(at + 1)
+}
+
+/// The greatest of the pairs' keys and a new one, or none where the key is among them. It looks through the pairs only where
+/// the key isn't above all of theirs.
+fn greatest_with<'a>(pairs: &[u8], greatest: &'a [u8], key: &'a [u8]) -> Option<&'a [u8]>
+    ensures { (ps : List (Pair Value)) → ArePairs pairs.now ps → IsUpTo greatest.now (keys_of ps) → MatchOption result (has_key (keys_of ps) key.now ≡ true) (λ g. IsNew g.now (keys_of ps) key.now) }
+{
+    if is_above(key, greatest) {
+        return Some(key);
+    }
+    if has_key(pairs, key) {
+        return None;
+    }
+    Some(greatest)
+}
+
+/// Whether a key comes after another.
+fn is_above(a: &[u8], b: &[u8]) -> bool
+    ensures { IsAbove (key_cmp a.now b.now) result }
+{
+    match a.cmp(b) {
+        Ordering::Greater => true,
+        Ordering::Equal => false,
+        Ordering::Less => false,
+    }
+}
+
+/// Whether a key is among pairs.
+fn has_key(pairs: &[u8], key: &[u8]) -> bool
+    ensures { (ps : List (Pair Value)) → ArePairs pairs.now ps → result ≡ has_key (keys_of ps) key.now }
+{
+    find(pairs, key).is_some()
+}
