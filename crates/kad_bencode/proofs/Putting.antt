@@ -1,12 +1,20 @@
 -- Texts that are put one behind another.
-use Rattle.std.proofs.Common.{◌≡◌, ℕ, ◌+◌, ◌<◌, ◌≤◌, ◌^◌, min, List, [], ◌∷◌, ◌++◌, length, take, decimal, sym, ap, ◌∙◌, arith, length-append, append_assoc}
-use Rattle.kad_bencode.specs.Spelling.{numeral}
-use Rattle.kad_bencode.specs.Written.{Puts}
+use Rattle.std.proofs.Common.{◌≡◌, ℕ, ◌+◌, ◌<◌, ◌≤◌, ◌^◌, min, List, [], ◌∷◌, ◌++◌, length, take, decimal, refl, sym, ap, ◌∙◌, arith, length-append, append_assoc, append-nil}
+use Rattle.std.proofs.lemmas.Grind.{flat_map-append}
+use Rattle.std.proofs.lemmas.List.{map-append}
+use Rattle.kad_bencode.specs.Spelling.{numeral, string_text, pairs_text, text_of}
+use Rattle.kad_bencode.specs.Faults.{pairs_of}
+use Rattle.kad_bencode.specs.Written.{Puts, PutsPairs, PutsOpen}
+use Rattle.kad_bencode.specs.declared.entries.Pair.{Pair}
+use Rattle.kad_bencode.specs.declared.value.Value.{Value}
+use Rattle.kad_bencode.specs.declared.value.Value.TheVariants.{Dict}
+use Rattle.kad_bencode.proofs.Folds.{text_of-dict}
 use Rattle.kad_bencode.proofs.Writing.{decimal_numeral}
 
 -- one text behind another
-pub puts_then : (old mid new : List ℕ) (at n next : ℕ) (front text all : List ℕ) → length mid ≡ length old → all ≡ front ++ text → Puts old mid at front n → Puts mid new n text next → Puts old new at all next
-puts_then old mid new at n next front text all l e f g =
+pub puts_then : {old mid new : List ℕ} {at n next : ℕ} {front text all : List ℕ} → all ≡ front ++ text → Puts old mid at front n → Puts mid new n text next → Puts old new at all next
+puts_then {old} {mid} {new} {at} {n} {next} {front} {text} {all} e f g =
+    let l = f.room in
     let lf = length-append front text in
     let la : length all ≡ length front + length text = ap length e ∙ lf in
     let p = f.place in
@@ -16,14 +24,58 @@ puts_then old mid new at n next front text all l e f g =
           let small : n ≤ length old = omega (arith, l, p, q, h) in
           let fits : next ≤ length mid = omega (arith, l, h) in
           g.text_is fits ∙ ap (λ xs. xs ++ text) (f.text_is small) ∙ append_assoc (take at old) front text ∙ ap (λ xs. take at old ++ xs) (sym e);
+      room = g.room ∙ l;
     }
 
 -- a text that is the same
-pub puts_same : (old new : List ℕ) (at next : ℕ) (text other : List ℕ) → other ≡ text → Puts old new at text next → Puts old new at other next
-puts_same old new at next text other e p = record {
+pub puts_same : {old new : List ℕ} {at next : ℕ} {text other : List ℕ} → other ≡ text → Puts old new at text next → Puts old new at other next
+puts_same {old} {new} {at} {next} {text} {other} e p = record {
   place = p.place ∙ ap (λ xs. min (at + length xs) (length old + 1)) (sym e);
   text_is = λ h. p.text_is h ∙ ap (λ xs. take at old ++ xs) (sym e);
+  room = p.room;
 }
+
+-- nothing
+pub puts_none : (old : List ℕ) (at : ℕ) → at ≤ length old + 1 → Puts old old at [] at
+puts_none old at h = record {
+  place = omega (arith, h);
+  text_is = λ k. sym (append-nil (take at old));
+  room = refl;
+}
+
+-- where a text ends
+pub put_ends : {old new : List ℕ} {at next : ℕ} {text : List ℕ} → Puts old new at text next → next ≤ length new + 1
+put_ends p = let e = p.place in let r = p.room in omega (arith, e, r)
 
 pub length_written : (n : ℕ) (mid : List ℕ) → n < 2 ^ 64 → mid ≡ decimal n → numeral n ++ 58 ∷ [] ≡ mid ++ 58 ∷ []
 length_written n mid f h = ap (λ l. l ++ 58 ∷ []) (sym (decimal_numeral n f) ∙ sym h)
+
+-- ---- dictionaries
+
+pairs_behind : (ps qs : List (Pair Value)) → pairs_text (pairs_of (ps ++ qs)) ≡ pairs_text (pairs_of ps) ++ pairs_text (pairs_of qs)
+pairs_behind ps qs =
+    ap pairs_text (map-append (λ (p : Pair Value). record { key = p.key; value = text_of p.value }) ps qs)
+    ∙ flat_map-append (λ (p : Pair (List ℕ)). string_text p.key ++ p.value) (pairs_of ps) (pairs_of qs)
+
+-- a key and its value
+pub puts_pair : {old mid new : List ℕ} {at n next : ℕ} (key : List ℕ) (v : Value) → Puts old mid at (string_text key) n → Puts mid new n (text_of v) next → PutsPairs old new at (record { key = key; value = v } ∷ []) next
+puts_pair key v f g = puts_then (append-nil (string_text key ++ text_of v)) f g
+
+-- pairs behind pairs
+pub puts_pairs : {old mid new : List ℕ} {at n next : ℕ} (ps qs : List (Pair Value)) → PutsPairs old mid at ps n → PutsPairs mid new n qs next → PutsPairs old new at (ps ++ qs) next
+puts_pairs ps qs f g = puts_then (pairs_behind ps qs) f g
+
+pub puts_more : {old mid new : List ℕ} {at n next : ℕ} (ps qs : List (Pair Value)) → PutsOpen old mid at ps n → PutsPairs mid new n qs next → PutsOpen old new at (ps ++ qs) next
+puts_more ps qs f g = puts_then (ap (λ l. 100 ∷ l) (pairs_behind ps qs)) f g
+
+pub puts_closed : {old mid new : List ℕ} {at n next : ℕ} (ps : List (Pair Value)) → PutsOpen old mid at ps n → Puts mid new n (101 ∷ []) next → Puts old new at (text_of (Dict ps)) next
+puts_closed ps f g = puts_then (text_of-dict ps) f g
+
+-- a dictionary was opened with its first key, and that key's value was put
+pub puts_first : {old mid new : List ℕ} {at n next : ℕ} (key : List ℕ) (v : Value) → Puts old mid at (100 ∷ string_text key) n → Puts mid new n (text_of v) next → PutsOpen old new at (record { key = key; value = v } ∷ []) next
+puts_first key v f g = puts_then (ap (λ l. 100 ∷ l) (append-nil (string_text key ++ text_of v))) f g
+
+-- the last pairs of a dictionary were put with its end
+pub puts_last : {old mid new : List ℕ} {at n next : ℕ} (ps qs : List (Pair Value)) (text : List ℕ) → pairs_text (pairs_of qs) ≡ text → PutsOpen old mid at ps n → Puts mid new n (text ++ 101 ∷ []) next → Puts old new at (text_of (Dict (ps ++ qs))) next
+puts_last ps qs text e f g =
+    puts_then (text_of-dict (ps ++ qs) ∙ ap (λ l. 100 ∷ l ++ 101 ∷ []) (pairs_behind ps qs ∙ ap (λ l. pairs_text (pairs_of ps) ++ l) e) ∙ append_assoc (100 ∷ pairs_text (pairs_of ps)) text (101 ∷ [])) f g

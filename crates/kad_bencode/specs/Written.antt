@@ -1,5 +1,9 @@
 -- What writing leaves.
-use Rattle.std.specs.Prelude.{◌≡◌, ℕ, ◌+◌, ◌≤◌, min, List, ◌++◌, length, take, Result, MatchResult}
+use Rattle.std.specs.Prelude.{◌≡◌, ℕ, ◌+◌, ◌≤◌, min, List, ◌∷◌, ◌++◌, length, take, Result, MatchResult}
+use Rattle.kad_bencode.specs.Spelling.{pairs_text}
+use Rattle.kad_bencode.specs.Faults.{pairs_of}
+use Rattle.kad_bencode.specs.declared.entries.Pair.{Pair}
+use Rattle.kad_bencode.specs.declared.value.Value.{Value}
 
 -- what was there stays in front
 abbrev pub Keeps : List ℕ → List ℕ → Type 0
@@ -14,3 +18,12 @@ Appends result old new text = MatchResult result (λ _. new ≡ old ++ text) (λ
 pub record Puts (old new : List ℕ) (at : ℕ) (text : List ℕ) (next : ℕ) : Type 0 where
   pub place : next ≡ min (at + length text) (length old + 1)
   pub text_is : next ≤ length old → take next new ≡ take at old ++ text
+  pub room : length new ≡ length old
+
+-- the texts of pairs were put
+abbrev pub PutsPairs : List ℕ → List ℕ → ℕ → List (Pair Value) → ℕ → Type 0
+PutsPairs old new at pairs next = Puts old new at (pairs_text (pairs_of pairs)) next
+
+-- a dictionary was opened, and the texts of its pairs were put
+abbrev pub PutsOpen : List ℕ → List ℕ → ℕ → List (Pair Value) → ℕ → Type 0
+PutsOpen old new at pairs next = Puts old new at (100 ∷ pairs_text (pairs_of pairs)) next

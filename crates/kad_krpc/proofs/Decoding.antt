@@ -3,7 +3,7 @@ use Rattle.std.proofs.Common.{◌≡◌, ℕ, ◌%◌, Bool, true, false, cond, 
 use Rattle.std.specs.Prelude.{codes}
 use Rattle.kad_base.specs.declared.plain.Id.{Id}
 use Rattle.kad_bencode.specs.Keys.{value_of}
-use Rattle.kad_bencode.specs.Parts.{bytes_of, integer_of, list_of}
+use Rattle.kad_bencode.specs.Parts.{bytes_of, integer_of, list_of, dict_of}
 use Rattle.kad_bencode.specs.Spelling.{Spells}
 use Rattle.kad_bencode.specs.Faults.{IsFirstFault, Answers}
 use Rattle.kad_bencode.specs.declared.value.BenFault.{BenFault}
@@ -21,7 +21,7 @@ use Rattle.kad_krpc.specs.declared.message.Key.TheVariants as key
 use Rattle.kad_krpc.specs.declared.message.KrpcFault.{KrpcFault}
 use Rattle.kad_krpc.specs.declared.message.KrpcFault.TheVariants.{Bad, Missing, Shape, Records, NoMemory}
 use Rattle.kad_krpc.specs.Records.{node_in, proved_in, records_in}
-use Rattle.kad_krpc.specs.Reading.{Step, then, of_kind, needed, optional, as_some, records, dict_of, id_of, port_of, kind_of, code_text_of, is_implied, port_by, rest_at, ask_by, ask_of, method_in, nodes_by, snodes_by, values_by, answer_by, answer_at, body_at, said, Says, Refuses, Gives, IfRefused, unspelled}
+use Rattle.kad_krpc.specs.Reading.{Step, then, of_kind, needed, optional, as_some, records, id_of, port_of, kind_of, code_text_of, is_implied, port_by, rest_at, ask_by, ask_of, method_in, nodes_by, snodes_by, values_by, answer_by, answer_at, body_at, said, Says, Refuses, Gives, IfRefused, unspelled}
 
 -- ---- no step fails as bencode does
 

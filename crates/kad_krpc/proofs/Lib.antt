@@ -8,3 +8,4 @@ pub mod Cut
 pub mod Spelled
 pub mod Queries
 pub mod ReadBack
+pub mod Put

@@ -24,7 +24,7 @@ whole_joined a k b e m t z = simp append_assoc
 -- ---- texts
 
 -- a string of this many bytes
-text_long : (s : List ℕ) (n : ℕ) → length s ≡ n → text_of (Text s) ≡ numeral n ++ 58 ∷ s
+pub text_long : (s : List ℕ) (n : ℕ) → length s ≡ n → text_of (Text s) ≡ numeral n ++ 58 ∷ s
 text_long s n e = text_of-text s ∙ ap (λ k. numeral k ++ 58 ∷ s) e
 
 -- the arguments that are two identifiers

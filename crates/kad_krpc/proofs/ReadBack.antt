@@ -11,7 +11,7 @@ use Rattle.kad_base.specs.declared.plain.Addr.{Addr}
 use Rattle.kad_base.specs.declared.plain.Contact.{Contact}
 use Rattle.kad_base.specs.declared.plain.Report.{Report}
 use Rattle.kad_bencode.specs.Keys.{key_cmp, value_of}
-use Rattle.kad_bencode.specs.Parts.{bytes_of, bytes_in, integer_of, integer_in, list_of, list_in}
+use Rattle.kad_bencode.specs.Parts.{bytes_of, bytes_in, integer_of, integer_in, list_of, list_in, dict_of, dict_in}
 use Rattle.kad_bencode.specs.declared.entries.Pair.{Pair}
 use Rattle.kad_bencode.specs.declared.value.Value.{Value}
 use Rattle.kad_bencode.specs.declared.value.Value.TheOpen as layer
@@ -30,7 +30,7 @@ use Rattle.kad_krpc.specs.declared.message.Key.{Key}
 use Rattle.kad_krpc.specs.declared.message.Key.TheVariants as key
 use Rattle.kad_krpc.specs.declared.message.KrpcFault.TheVariants.{Records}
 use Rattle.kad_krpc.specs.Records.{addr_bytes, node_bytes, proved_bytes, nodes_bytes, snodes_bytes, node_in, proved_in, addr_at, records_in}
-use Rattle.kad_krpc.specs.Reading.{Step, then, dict_of, dict_in, id_of, id_in, port_of, port_in, kind_of, kind_in, code_text_of, code_text_in, code_text, of_kind, needed, optional, as_some, records, peer_in, port_by, is_implied, ask_by, ask_of, method_in, query_by, is_read_only, is_one, nodes_by, snodes_by, values_by, answer_at, body_at, said, Says}
+use Rattle.kad_krpc.specs.Reading.{Step, then, id_of, id_in, port_of, port_in, kind_of, kind_in, code_text_of, code_text_in, code_text, of_kind, needed, optional, as_some, records, peer_in, port_by, is_implied, ask_by, ask_of, method_in, query_by, is_read_only, is_one, nodes_by, snodes_by, values_by, answer_at, body_at, said, Says}
 use Rattle.kad_krpc.specs.Form.{IsNode, IsProved, IsV4, Each, IsWritable, IsWritableAsk, IsWritableAnswer, IsUnknown, maybe, nodes_value, snodes_value, peers_value, answer_pairs, arguments_of, name_of, message_pairs}
 use Rattle.kad_krpc.specs.Well.{IsWell, IsWellAsk, IsWellAnswer, IsWellContact, IsWellReport, IsWellAddr}
 use Rattle.kad_bencode.proofs.Faults.{one_value}

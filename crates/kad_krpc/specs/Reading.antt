@@ -8,15 +8,12 @@ use Rattle.kad_base.specs.declared.plain.Contact.{Contact}
 use Rattle.kad_base.specs.declared.plain.Report.{Report}
 use Rattle.kad_bencode.specs.Keys.{value_of}
 use Rattle.kad_bencode.specs.Faults.{IsFirstFault}
-use Rattle.kad_bencode.specs.Parts.{bytes_of, integer_of, list_of}
+use Rattle.kad_bencode.specs.Parts.{bytes_of, integer_of, list_of, dict_of}
 use Rattle.kad_bencode.specs.Spelling.{Spells}
 use Rattle.kad_bencode.specs.declared.entries.Pair.{Pair}
 use Rattle.kad_bencode.specs.declared.value.Value.{Value}
 use Rattle.kad_bencode.specs.declared.value.BenFault.{BenFault}
 use Rattle.kad_bencode.specs.declared.value.BenFault.TheVariants as ben
-use Rattle.kad_bencode.specs.declared.value.Value.TheOpen as layer
-use Rattle.kad_bencode.specs.declared.value.Value.TheOpen.{Value-F}
-use Rattle.kad_bencode.specs.declared.value.Value.TheViews.{out-Value}
 use Rattle.kad_krpc.specs.declared.message.Message.{Message}
 use Rattle.kad_krpc.specs.declared.message.Message.TheVariants as message
 use Rattle.kad_krpc.specs.declared.message.Ask.{Ask}
@@ -44,16 +41,6 @@ then (Ok x) f = f x
 then (Err fault) f = Err fault
 
 -- ---- the kinds of a value
-
--- a dictionary
-abbrev pub dict_in : Value-F Value → Option (List (Pair Value))
-dict_in (layer.Int n) = None
-dict_in (layer.Text bytes) = None
-dict_in (layer.List values) = None
-dict_in (layer.Dict pairs) = Some pairs
-
-abbrev pub dict_of : Value → Option (List (Pair Value))
-dict_of v = dict_in (out-Value v)
 
 -- a string of 20 bytes
 abbrev pub id_in : Option (List ℕ) → Option Id

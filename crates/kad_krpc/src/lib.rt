@@ -4,6 +4,7 @@
 
 mod answer;
 mod ask;
+mod into;
 mod laws;
 mod message;
 mod query;
@@ -12,6 +13,7 @@ mod record;
 mod step;
 mod writer;
 
+pub use into::encode_into;
 pub use laws::{form_says, one_message};
 pub use message::{Answer, Ask, Key, KrpcFault, Message, Port};
 pub use query::{find_node_into, get_peers_into};

@@ -2,8 +2,8 @@
 ghost use Rattle.std.specs.Prelude.{◌≡◌, ℕ, List, false, option_copied};
 ghost use Rattle.std.specs.Ordering.{is_eq};
 ghost use Rattle.kad_bencode.specs.Keys.{key_cmp, value_of};
-ghost use Rattle.kad_bencode.specs.Parts.{bytes_of, integer_of, list_of};
-ghost use Rattle.kad_krpc.specs.Reading.{needed, optional, of_kind, dict_of, id_of, port_of, kind_of, code_text_of};
+ghost use Rattle.kad_bencode.specs.Parts.{bytes_of, integer_of, list_of, dict_of};
+ghost use Rattle.kad_krpc.specs.Reading.{needed, optional, of_kind, id_of, port_of, kind_of, code_text_of};
 
 use crate::message::{Key, Kind, KrpcFault};
 use kad_base::{Bytes, Id};

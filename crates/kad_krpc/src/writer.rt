@@ -227,7 +227,7 @@ fn arguments(alloc: Global, ask: &Ask) -> Result<Entries, NoMemory>
 }
 
 /// The name of a method.
-fn name(ask: &Ask) -> &[u8]
+pub(crate) fn name(ask: &Ask) -> &[u8]
     ensures { result.now ≡ name_of ask.now }
 {
     match ask {

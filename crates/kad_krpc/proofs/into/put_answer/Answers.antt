@@ -1,0 +1,22 @@
+use Rattle.std.proofs.Common.{ℕ, List, [], ◌∷◌, ◌++◌, refl, subst, sym, ap, ◌∙◌, arith, pos, true, false, w64}
+use Rattle.std.specs.Prelude.{codes}
+use Rattle.kad_bencode.specs.declared.value.Value.TheVariants.{Int, Text, List as Values, Dict}
+use Rattle.kad_bencode.specs.Written.{Puts, PutsPairs, PutsOpen}
+use Rattle.kad_bencode.proofs.Putting.{puts_then, puts_same, puts_pair, puts_more, puts_closed, puts_first, puts_last}
+use Rattle.kad_krpc.specs.Form.{pair, maybe, nodes_value, snodes_value, peers_value, answer_pairs, announced, arguments_of, name_of, read_only_pair, message_pairs, form}
+use Rattle.kad_krpc.proofs.Put.{one_text, string_pair, id_text, error_text}
+use Rattle.kad_krpc.proofs.Filed.{one, two, three, four}
+use Rattle.kad_krpc.proofs.into.put_answer.Goals as goal
+
+pub returns : goal.returns
+returns c =
+    let a = c.args.answer.now in
+    puts_closed (answer_pairs a)
+    (puts_more (four a) (maybe (codes "values") peers_value a.values)
+    (puts_more (three a) (maybe (codes "token") Text a.token)
+    (puts_more (two a) (maybe (codes "snodes") snodes_value a.snodes)
+    (puts_more (one a) (maybe (codes "nodes") nodes_value a.nodes) c.put_id-at.ensures c.put_maybe_nodes-at.ensures)
+    c.put_maybe_snodes-at.ensures)
+    c.put_maybe_token-at.ensures)
+    c.put_maybe_values-at.ensures)
+    c.put_part.ensures
