@@ -17,3 +17,4 @@ pub mod Verifying
 pub mod Pieces
 pub mod Listing
 pub mod Putting
+pub mod Paired

@@ -192,7 +192,7 @@ module _ {V : Type 0} where
       joined true v o f h = ap (λ x. either x (Some v)) (h refl)
       joined false v o f h = refl
 
-value_ordered : (ps : List (Pair Value)) (key : List ℕ) → value_of (ordered_pairs ps) key ≡ option_map in_order (value_of ps key)
+pub value_ordered : (ps : List (Pair Value)) (key : List ℕ) → value_of (ordered_pairs ps) key ≡ option_map in_order (value_of ps key)
 value_ordered [] key = refl
 value_ordered (p ∷ ps) key = ap (cond (is_eq (key_cmp key p.key)) (Some (in_order p.value))) (value_ordered ps key) ∙ inside (is_eq (key_cmp key p.key)) p.value (value_of ps key)
   where
@@ -236,7 +236,7 @@ shown (p ∷ ps) key a =
     ]
 
 module _ (bytes : List ℕ) (pairs : List (Pair Value)) (s : Spells bytes (value.Dict pairs)) where
-  abbrev of_tree : (ps : List (Pair Value)) × (s.tree ≡ value.Dict ps) × (pairs ≡ put_all [] (ordered_pairs ps))
+  abbrev pub of_tree : (ps : List (Pair Value)) × (s.tree ≡ value.Dict ps) × (pairs ≡ put_all [] (ordered_pairs ps))
   of_tree = tree_pairs s.tree pairs s.names
 
   dict_text : bytes ≡ 100 ∷ pairs_text (pairs_of of_tree.0) ++ 101 ∷ []

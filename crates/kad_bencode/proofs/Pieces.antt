@@ -164,7 +164,7 @@ module _ (bytes : List ℕ) (v : Value) (s : Spells bytes v) where
       (⊎_elim (λ (x : (vs : List Value) × (s.tree ≡ value.List vs) × (first_byte s.tree ≡ 108)). absurd (other bytes v s 108 (omega arith) h x.2))
       (λ (x : (ps : List (Pair Value)) × (s.tree ≡ value.Dict ps) × (first_byte s.tree ≡ 100)). let w = by_dict bytes v s x.0 x.1 in sym (ap list_of w.1 ∙ dict_is list_in w.0)))) (starts s.tree)
 
-  no_dict : HasByte bytes 0 100 false → None ≡ dict_of v
+  pub no_dict : HasByte bytes 0 100 false → None ≡ dict_of v
   no_dict h =
       ⊎_elim (λ (x : (z : ℤ) × (s.tree ≡ value.Int z) × (first_byte s.tree ≡ 105)). sym (ap dict_of (by_int bytes v s x.0 x.1) ∙ int_is dict_in x.0))
       (⊎_elim (λ (x : (t : List ℕ) × (s.tree ≡ value.Text t) × (is_digit (first_byte s.tree) ≡ true)). sym (ap dict_of (by_text bytes v s x.0 x.1) ∙ text_is dict_in x.0))

@@ -23,7 +23,7 @@ fn string_in(bytes: &[u8]) -> Option<(&[u8], usize)>
 }
 
 /// The first pair: its key, the text of its value, and the pairs behind it.
-fn first_pair(pairs: &[u8]) -> Option<(&[u8], &[u8], &[u8])>
+pub(crate) fn first_pair(pairs: &[u8]) -> Option<(&[u8], &[u8], &[u8])>
     ensures shorter { IfSome result (λ x. length x.2.now < length pairs.now) }
     ensures reads { (p : Pair Value) (ps : List (Pair Value)) → ArePairs pairs.now (p ∷ ps)
         → MatchOption result ⊥ (λ x. (x.0.now ≡ p.key) × (x.1.now ≡ text_of p.value) × ArePairs x.2.now ps) }

@@ -6,6 +6,7 @@ pub mod entries;
 mod find;
 pub mod into;
 pub mod laws;
+pub mod pairs;
 pub mod parts;
 pub mod piece;
 pub mod reader;
@@ -16,6 +17,7 @@ pub mod writer;
 
 pub use entries::{Dictionary, Pair};
 pub use into::{put_integer, put_length, put_part, put_string};
+pub use pairs::Pairs;
 pub use piece::{Items, Piece};
 pub use reader::{MAX_DEPTH, read};
 pub use value::{Bad, BenFault, Entries, Value, Values};

@@ -17,7 +17,7 @@ use std::marker::Model;
 /// A value in its text; contracts see the value.
 #[derive(Drop)]
 pub struct Piece<'a> {
-    bytes: &'a [u8],
+    pub(crate) bytes: &'a [u8],
 }
 
 impl<'a> Model for Piece<'a> {

@@ -1,6 +1,9 @@
 //! Rows from outside: refusals with their places, and the examples of BEP 3 and BEP 5.
+use crate::into::{put_integer, put_string};
+use crate::piece::Piece;
 use crate::reader::read;
 use crate::value::{Bad, BenFault, Entries, Value};
+use crate::verify::check;
 use crate::writer::write;
 use kad_base::Bytes;
 use std::alloc::Global;
@@ -12,9 +15,14 @@ fn refused(rt: &impl Abort, alloc: Global, bytes: &[u8], bad: Bad) {
         Ok(_) => assert!(rt; false, "read"),
         Err(fault) => assert_eq!(rt; fault, BenFault::Bad(bad)),
     }
+    match check(bytes) {
+        Ok(()) => assert!(rt; false, "taken"),
+        Err(found) => assert_eq!(rt; found, bad),
+    }
 }
 
 fn written(rt: &impl Abort, alloc: Global, bytes: &[u8], form: &[u8]) {
+    assert!(rt; check(bytes).is_ok());
     match read(alloc, bytes) {
         Ok(value) => {
             let mut out = Vec::new(alloc);
@@ -67,6 +75,8 @@ fn examples_are_read_and_written(rt: HostRuntime) {
     same(&rt, alloc, b"i3e");
     same(&rt, alloc, b"i-3e");
     same(&rt, alloc, b"i-9223372036854775808e");
+    same(&rt, alloc, b"i9223372036854775807e");
+    same(&rt, alloc, b"lllllllllllllllleeeeeeeeeeeeeeee");
     same(&rt, alloc, b"l4:spam4:eggse");
     same(&rt, alloc, b"d3:cow3:moo4:spam4:eggse");
     same(&rt, alloc, b"d4:spaml1:a1:bee");
@@ -130,4 +140,66 @@ fn a_dictionary_keeps_its_keys(rt: HostRuntime) -> Result<(), Fail> {
     assert!(rt; value.as_bytes().is_none());
     assert_eq!(rt; value.as_int(), None);
     Ok(())
+}
+
+/// Memory is ample, so all of it is read, and written again.
+#[test]
+fn a_text_of_4096_bytes_is_read_and_written(rt: HostRuntime) -> Result<(), Fail> {
+    let alloc = rt.alloc();
+    let mut text = Vec::new(alloc);
+    text.extend_from_slice(b"4091:")?;
+    for _ in 0..4091 {
+        text.push(b'x')?;
+    }
+    assert_eq!(rt; text.len(), 4096);
+    same(&rt, alloc, text.as_slice());
+    Ok(())
+}
+
+#[test]
+fn a_text_is_written_behind_bytes_that_are_there(rt: HostRuntime) -> Result<(), Fail> {
+    let alloc = rt.alloc();
+    let mut out = Vec::new(alloc);
+    out.extend_from_slice(b"abc")?;
+    match read(alloc, b"d1:a1:be") {
+        Ok(value) => {
+            assert!(rt; write(&value, &mut out).is_ok());
+            assert_eq!(rt; out.as_slice(), b"abcd1:a1:be".as_slice());
+        }
+        Err(_) => assert!(rt; false, "refused"),
+    }
+    Ok(())
+}
+
+/// Each key has its value where it stands, whatever the order of the keys.
+#[test]
+fn a_value_is_found_where_it_stands(rt: HostRuntime) {
+    match Piece::parse(b"d1:bd2:idi2ee2:idi1e1:al1:x0:ee") {
+        Ok(top) => {
+            assert!(rt; top.is_dict());
+            assert!(rt; top.get(b"c").is_none());
+            match top.get(b"id") {
+                Some(id) => assert_eq!(rt; id.as_int(), Some(1)),
+                None => assert!(rt; false, "no id"),
+            }
+            match top.get(b"a") {
+                Some(list) => assert!(rt; list.is_list()),
+                None => assert!(rt; false, "no list"),
+            }
+        }
+        Err(_) => assert!(rt; false, "refused"),
+    }
+}
+
+/// A text of 8 bytes fits into 8, and not into 7.
+#[test]
+fn a_put_finds_room_or_ends_past_the_end(rt: HostRuntime) {
+    let mut room = [b'-'; 8];
+    assert_eq!(rt; put_string(&mut room, 0, b"abcdef"), 8);
+    assert_eq!(rt; room.as_slice(), b"6:abcdef".as_slice());
+    let mut less = [b'-'; 7];
+    assert_eq!(rt; put_string(&mut less, 0, b"abcdef"), 8);
+    let mut ends = [b'-'; 22];
+    assert_eq!(rt; put_integer(&mut ends, 0, i64::MIN), 22);
+    assert_eq!(rt; ends.as_slice(), b"i-9223372036854775808e".as_slice());
 }

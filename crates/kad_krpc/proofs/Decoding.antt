@@ -1,13 +1,12 @@
 -- What decoding answers, from what bencode's reading answers and what its value says.
-use Rattle.std.proofs.Common.{◌≡◌, ℕ, ◌%◌, Bool, true, false, cond, List, length, nat_eq, Option, Some, None, Result, Ok, Err, IsErrOf, refl, sym, ap, ◌∙◌, subst}
+use Rattle.std.proofs.Common.{◌≡◌, ℕ, ◌%◌, Bool, true, false, cond, List, length, nat_eq, Option, Some, None, Result, Ok, Err, IfOk, IfErr, sym, ap, ◌∙◌, subst}
 use Rattle.std.specs.Prelude.{codes}
 use Rattle.kad_base.specs.declared.plain.Id.{Id}
 use Rattle.kad_bencode.specs.Keys.{value_of}
 use Rattle.kad_bencode.specs.Parts.{bytes_of, integer_of, list_of, dict_of}
 use Rattle.kad_bencode.specs.Spelling.{Spells}
-use Rattle.kad_bencode.specs.Faults.{IsFirstFault, Answers}
-use Rattle.kad_bencode.specs.declared.value.BenFault.{BenFault}
-use Rattle.kad_bencode.specs.declared.value.BenFault.TheVariants as ben
+use Rattle.kad_bencode.specs.Faults.{IsFirstFault}
+use Rattle.kad_bencode.proofs.Faults.{one_value, no_fault}
 use Rattle.kad_bencode.specs.declared.entries.Pair.{Pair}
 use Rattle.kad_bencode.specs.declared.value.Value.{Value}
 use Rattle.kad_bencode.specs.declared.value.Bad.{Bad as BadValue}
@@ -21,9 +20,13 @@ use Rattle.kad_krpc.specs.declared.message.Key.TheVariants as key
 use Rattle.kad_krpc.specs.declared.message.KrpcFault.{KrpcFault}
 use Rattle.kad_krpc.specs.declared.message.KrpcFault.TheVariants.{Bad, Missing, Shape, Records, NoMemory}
 use Rattle.kad_krpc.specs.Records.{node_in, proved_in, records_in}
-use Rattle.kad_krpc.specs.Reading.{Step, then, of_kind, needed, optional, as_some, records, id_of, port_of, kind_of, code_text_of, is_implied, port_by, rest_at, ask_by, ask_of, method_in, nodes_by, snodes_by, values_by, answer_by, answer_at, body_at, said, Says, Refuses, Gives, IfRefused, unspelled}
+use Rattle.kad_krpc.specs.Reading.{Step, then, of_kind, needed, optional, as_some, records, id_of, port_of, kind_of, code_text_of, is_implied, port_by, rest_at, ask_by, ask_of, method_in, nodes_by, snodes_by, values_by, answer_by, answer_at, body_at, said, Says, Fails, Refuses, Gives, IfRefused}
+use Rattle.kad_krpc.specs.declared.borrowed.View.{View}
+use Rattle.kad_krpc.specs.Telling.{told}
+use Rattle.kad_krpc.specs.Views.{message_seen, viewed}
+use Rattle.kad_krpc.proofs.Told.{told_said}
 
--- ---- no step fails as bencode does
+-- ---- no step fails as bencode does, or by want of memory
 
 abbrev NotBad : {A : Type 0} → Step A → Type 0
 NotBad (Ok x) = Unit {0}
@@ -31,7 +34,7 @@ NotBad (Err (Bad bad)) = ⊥
 NotBad (Err (Missing key)) = Unit {0}
 NotBad (Err (Shape key)) = Unit {0}
 NotBad (Err (Records key len)) = Unit {0}
-NotBad (Err NoMemory) = Unit {0}
+NotBad (Err NoMemory) = ⊥
 
 both : {A B : Type 0} (s : Step A) (f : A → Step B) → NotBad s → ((x : A) → NotBad (f x)) → NotBad (then s f)
 both (Ok x) f s k = k x
@@ -39,7 +42,7 @@ both (Err (Bad bad)) f s k = s
 both (Err (Missing key)) f s k = tt
 both (Err (Shape key)) f s k = tt
 both (Err (Records key len)) f s k = tt
-both (Err NoMemory) f s k = tt
+both (Err NoMemory) f s k = s
 
 either : {A : Type 0} (b : Bool) (s t : Step A) → NotBad s → NotBad t → NotBad (cond b s t)
 either true s t p q = p
@@ -59,7 +62,7 @@ some (Err (Bad bad)) n = n
 some (Err (Missing key)) n = tt
 some (Err (Shape key)) n = tt
 some (Err (Records key len)) n = tt
-some (Err NoMemory) n = tt
+some (Err NoMemory) n = n
 
 options : {A : Type 0} (kind : Value → Option A) (key : Key) (v : Option Value) → NotBad (optional kind key v)
 options kind key None = tt
@@ -111,56 +114,84 @@ not_bad v =
 never_bad : (v : Value) (bad : BadValue) → said v ≡ Err (Bad bad) → ⊥
 never_bad v bad e = subst NotBad e (not_bad v)
 
--- ---- where a value was read
+never_without : (v : Value) → said v ≡ Err NoMemory → ⊥
+never_without v e = subst NotBad e (not_bad v)
+
+-- ---- a view, where a value was read
 
 ok_is : {A E : Type 0} {x y : A} → ◌≡◌ {A = Result A E} (Ok x) (Ok y) → x ≡ y
 ok_is e = cc
 
-pub refuses : (bytes : List ℕ) (v : Value) (r : Step Message) → Spells bytes v → Gives (said v) r → IfRefused r (Refuses bytes)
-refuses bytes v (Ok m) s g = tt
-refuses bytes v (Err (Bad bad)) s g = absurd (never_bad v bad g)
-refuses bytes v (Err (Missing key)) s g = record { value = v; spelled = s; fails = g }
-refuses bytes v (Err (Shape key)) s g = record { value = v; spelled = s; fails = g }
-refuses bytes v (Err (Records key len)) s g = record { value = v; spelled = s; fails = g }
-refuses bytes v (Err NoMemory) s g = tt
+no_value : {A E : Type 0} {x : A} {e : E} → ◌≡◌ {A = Result A E} (Err e) (Ok x) → ⊥
+no_value e = cc
 
--- the one value that the bytes spell says this
-says_so : (bytes : List ℕ) (v w : Value) (t : Step Message) (r : Step Message) → ◌≡◌ {A = Result Value BadValue} (Ok w) (Ok v) → said w ≡ t → Gives (said v) r → Gives t r
-says_so bytes v w t r same s g = subst (λ x. Gives x r) (ap said (sym (ok_is same)) ∙ s) g
+no_error : {A E : Type 0} {x : A} {e : E} → ◌≡◌ {A = Result A E} (Ok x) (Err e) → ⊥
+no_error e = cc
 
-pub only : (bytes : List ℕ) (v : Value) (r : Step Message) → ((w : Value) → Spells bytes w → ◌≡◌ {A = Result Value BadValue} (Ok w) (Ok v)) → Gives (said v) r → (m : Message) → Says bytes m → Gives (Ok m) r
-only bytes v r one g m s = says_so bytes v s.value (Ok m) r (one s.value s.spelled) s.says g
+same_error : {A B E : Type 0} {x y : E} → ◌≡◌ {A = Result A E} (Err x) (Err y) → ◌≡◌ {A = Result B E} (Err x) (Err y)
+same_error e = cc
 
-no_value : {A E : Type 0} {x : A} {e : E} {P : Type 0} → ◌≡◌ {A = Result A E} (Err e) (Ok x) → P
-no_value e = absurd cc
+module _ (bytes : List ℕ) (top : Value) (s : Spells bytes top) (r : Result View KrpcFault) (e : viewed r ≡ told top) where
+  said_is : viewed r ≡ said top
+  said_is = e ∙ told_said top
 
-no_fault : {A E : Type 0} {x : A} {e : E} {P : Type 0} → ◌≡◌ {A = Result A E} (Ok x) (Err e) → P
-no_fault e = absurd cc
+  of_value : (v : Value) → Spells bytes v → viewed r ≡ said v
+  of_value v t = said_is ∙ ap said (one_value bytes top v s t)
 
-pub refused : (bytes : List ℕ) (v : Value) (r : Step Message) → ((w : Value) → Spells bytes w → ◌≡◌ {A = Result Value BadValue} (Ok w) (Ok v)) → ((bad : BadValue) → IsFirstFault bytes bad → ◌≡◌ {A = Result Value BadValue} (Err bad) (Ok v)) → Gives (said v) r → (fault : KrpcFault) → Refuses bytes fault → Gives (Err fault) r
-refused bytes v r one none g (Bad bad) f = no_value (none bad f)
-refused bytes v r one none g (Missing key) f = says_so bytes v f.value (Err (Missing key)) r (one f.value f.spelled) f.fails g
-refused bytes v r one none g (Shape key) f = says_so bytes v f.value (Err (Shape key)) r (one f.value f.spelled) f.fails g
-refused bytes v r one none g (Records key len) f = says_so bytes v f.value (Err (Records key len)) r (one f.value f.spelled) f.fails g
-refused bytes v r one none g NoMemory f = absurd f
+  pub says : IfOk r (λ v. Says bytes (message_seen v))
+  says = so r said_is
+    where
+      so : (r : Result View KrpcFault) → viewed r ≡ said top → IfOk r (λ v. Says bytes (message_seen v))
+      so (Ok v) h = record { value = top; spelled = s; says = sym h }
+      so (Err fault) h = tt
 
--- ---- where bencode had a fault
+  pub refuses : IfErr r (Refuses bytes)
+  refuses = so r said_is
+    where
+      so : (r : Result View KrpcFault) → viewed r ≡ said top → IfErr r (Refuses bytes)
+      so (Ok v) h = tt
+      so (Err (Bad bad)) h = absurd (never_bad top bad (sym h))
+      so (Err (Missing key)) h = record { value = top; spelled = s; fails = sym h }
+      so (Err (Shape key)) h = record { value = top; spelled = s; fails = sym h }
+      so (Err (Records key len)) h = record { value = top; spelled = s; fails = sym h }
+      so (Err NoMemory) h = absurd (never_without top (sym h))
 
-pub fault_refuses : (bytes : List ℕ) (f : BenFault) → ((bad : BadValue) → IsErrOf {T = Value} (Err f) (ben.Bad bad) → IsFirstFault bytes bad) → IfRefused {A = Message} (Err (unspelled f)) (Refuses bytes)
-fault_refuses bytes (ben.Bad bad) h = h bad refl
-fault_refuses bytes ben.NoMemory h = tt
+  pub only : (m : Message) → Says bytes m → viewed r ≡ Ok m
+  only m h = of_value h.value h.spelled ∙ h.says
 
-pub fault_only : (bytes : List ℕ) (f : BenFault) → ((w : Value) → Spells bytes w → Answers (Err f) (Ok w)) → (m : Message) → Says bytes m → Gives {A = Message} (Ok m) (Err (unspelled f))
-fault_only bytes (ben.Bad bad) one m s = no_fault (one s.value s.spelled)
-fault_only bytes ben.NoMemory one m s = tt
+  fails : (fault : KrpcFault) → Fails bytes fault → r ≡ Err fault
+  fails fault f = so r (of_value f.value f.spelled ∙ f.fails)
+    where
+      so : (r : Result View KrpcFault) → viewed r ≡ Err fault → r ≡ Err fault
+      so (Ok v) h = absurd (no_error h)
+      so (Err other) h = same_error h
 
-pub fault_refused : (bytes : List ℕ) (f : BenFault) → ((w : Value) → Spells bytes w → Answers (Err f) (Ok w)) → ((other : BadValue) → IsFirstFault bytes other → Answers (Err f) (Err other)) → (fault : KrpcFault) → Refuses bytes fault → Gives {A = Message} (Err fault) (Err (unspelled f))
-fault_refused bytes ben.NoMemory one first fault f = tt
-fault_refused bytes (ben.Bad bad) one first (Bad other) f = same (first other f)
+  pub refused : (fault : KrpcFault) → Refuses bytes fault → r ≡ Err fault
+  refused (Bad bad) f = absurd (no_fault bytes top bad f.seen s f.here)
+  refused (Missing key) f = fails (Missing key) f
+  refused (Shape key) f = fails (Shape key) f
+  refused (Records key len) f = fails (Records key len) f
+  refused NoMemory f = absurd f
+
+-- ---- a view, where bencode had a fault
+
+pub bad_only : (bytes : List ℕ) (bad : BadValue) → ((v : Value) → Spells bytes v → ◌≡◌ {A = Result Value BadValue} (Err bad) (Ok v)) → (m : Message) → Says bytes m → ◌≡◌ {A = Step Message} (Err (Bad bad)) (Ok m)
+bad_only bytes bad one m s = absurd (no_value (one s.value s.spelled))
+
+pub bad_refused : {A : Type 0} (bytes : List ℕ) (bad : BadValue) → ((v : Value) → Spells bytes v → ◌≡◌ {A = Result Value BadValue} (Err bad) (Ok v)) → ((other : BadValue) → IsFirstFault bytes other → ◌≡◌ {A = Result Value BadValue} (Err bad) (Err other)) → (fault : KrpcFault) → Refuses bytes fault → ◌≡◌ {A = Step A} (Err (Bad bad)) (Err fault)
+bad_refused {A} bytes bad one first (Bad other) f = same (first other f)
   where
-    same : {x y : BadValue} → ◌≡◌ {A = Result Value BadValue} (Err x) (Err y) → ◌≡◌ {A = Step Message} (Err (Bad x)) (Err (Bad y))
+    same : {x y : BadValue} → ◌≡◌ {A = Result Value BadValue} (Err x) (Err y) → ◌≡◌ {A = Step A} (Err (Bad x)) (Err (Bad y))
     same e = cc
-fault_refused bytes (ben.Bad bad) one first (Missing key) f = no_fault (one f.value f.spelled)
-fault_refused bytes (ben.Bad bad) one first (Shape key) f = no_fault (one f.value f.spelled)
-fault_refused bytes (ben.Bad bad) one first (Records key len) f = no_fault (one f.value f.spelled)
-fault_refused bytes (ben.Bad bad) one first NoMemory f = absurd f
+bad_refused bytes bad one first (Missing key) f = absurd (no_value (one f.value f.spelled))
+bad_refused bytes bad one first (Shape key) f = absurd (no_value (one f.value f.spelled))
+bad_refused bytes bad one first (Records key len) f = absurd (no_value (one f.value f.spelled))
+bad_refused bytes bad one first NoMemory f = absurd f
+
+-- ---- a message in memory of its own
+
+pub owned_only : (v : View) (m n : Message) → n ≡ message_seen v → viewed (Ok v) ≡ Ok m → Gives (Ok m) (Ok n)
+owned_only v m n e h = ap Ok (sym (ok_is h) ∙ sym e)
+
+pub fault_only : (fault : KrpcFault) (m : Message) → ◌≡◌ {A = Step Message} (Err fault) (Ok m) → Gives {A = Message} (Ok m) (Err fault)
+fault_only fault m h = absurd (no_value h)

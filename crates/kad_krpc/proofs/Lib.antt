@@ -1,6 +1,4 @@
-pub mod Dictionaries
 pub mod Lists
-pub mod Steps
 pub mod Decoding
 pub mod Filed
 pub mod Shallow
@@ -9,3 +7,5 @@ pub mod Spelled
 pub mod Queries
 pub mod ReadBack
 pub mod Put
+pub mod Contacts
+pub mod Told

@@ -3,3 +3,5 @@ pub mod Reading
 pub mod Form
 pub mod Filing
 pub mod Well
+pub mod Views
+pub mod Telling

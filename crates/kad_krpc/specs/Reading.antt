@@ -12,8 +12,6 @@ use Rattle.kad_bencode.specs.Parts.{bytes_of, integer_of, list_of, dict_of}
 use Rattle.kad_bencode.specs.Spelling.{Spells}
 use Rattle.kad_bencode.specs.declared.entries.Pair.{Pair}
 use Rattle.kad_bencode.specs.declared.value.Value.{Value}
-use Rattle.kad_bencode.specs.declared.value.BenFault.{BenFault}
-use Rattle.kad_bencode.specs.declared.value.BenFault.TheVariants as ben
 use Rattle.kad_krpc.specs.declared.message.Message.{Message}
 use Rattle.kad_krpc.specs.declared.message.Message.TheVariants as message
 use Rattle.kad_krpc.specs.declared.message.Ask.{Ask}
@@ -262,11 +260,6 @@ Refuses bytes (Missing key) = Fails bytes (Missing key)
 Refuses bytes (Shape key) = Fails bytes (Shape key)
 Refuses bytes (Records key len) = Fails bytes (Records key len)
 Refuses bytes NoMemory = ⊥
-
--- the refusal of bytes that spell no value
-abbrev pub unspelled : BenFault → KrpcFault
-unspelled (ben.Bad bad) = Bad bad
-unspelled ben.NoMemory = NoMemory
 
 -- what is answered is what was to be, unless memory ran out
 abbrev pub Gives : {A : Type 0} → Step A → Result A KrpcFault → Type 0

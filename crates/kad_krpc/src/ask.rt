@@ -1,15 +1,18 @@
 //! Reads what a query asks.
-ghost use Rattle.std.specs.Prelude.{◌≡◌, option_copied};
-ghost use Rattle.kad_krpc.specs.Reading.{port_by, find_node_at, get_peers_at, announced_by, announce_peer_at, method_in, arguments_at, ask_of, is_read_only, is_implied};
+ghost use Rattle.std.specs.Prelude.{◌≡◌};
+ghost use Rattle.kad_krpc.specs.Reading.{port_by, announced_by, method_in, is_read_only, is_implied};
+ghost use Rattle.kad_krpc.specs.Telling.{find_node_from, get_peers_from, announce_peer_from, rest_from, arguments_from, ask_from};
+ghost use Rattle.kad_krpc.specs.Views.{asked};
 
-use crate::message::{Ask, Key, KrpcFault, Method, Port};
-use crate::step::{needed_dict, needed_id, needed_port, needed_text, optional_int, take};
-use kad_base::{Bytes, Id};
-use kad_bencode::{Entries, Value};
+use crate::borrowed::AskView;
+use crate::message::{Key, KrpcFault, Method, Port};
+use crate::step::{needed_dict, needed_id, needed_port, needed_text, optional_int};
+use kad_base::Id;
+use kad_bencode::Piece;
 
 /// Whether the query's node says that it answers none (BEP 43).
-pub(crate) fn read_only(value: Option<&Value>) -> bool
-    ensures { result ≡ is_read_only (option_copied value.entry) }
+pub(crate) fn read_only(value: Option<Piece>) -> bool
+    ensures { result ≡ is_read_only value.entry }
 {
     match value {
         None => false,
@@ -28,8 +31,8 @@ fn is_implied(number: Option<i64>) -> bool
 }
 
 /// The port that is announced. `port` is read only where it isn't implied.
-fn read_port(implied_port: Option<&Value>, port: Option<&Value>) -> Result<Port, KrpcFault>
-    ensures { result ≡ port_by (option_copied implied_port.entry) (option_copied port.entry) }
+fn read_port(implied_port: Option<Piece>, port: Option<Piece>) -> Result<Port, KrpcFault>
+    ensures { result ≡ port_by implied_port.entry port.entry }
 {
     if is_implied(optional_int(implied_port, Key::ImpliedPort)?) {
         return Ok(Port::Implied);
@@ -38,33 +41,33 @@ fn read_port(implied_port: Option<&Value>, port: Option<&Value>) -> Result<Port,
     Ok(Port::Given(number))
 }
 
-fn read_find_node(a: &Entries, id: Id) -> Result<Ask, KrpcFault>
-    ensures { result ≡ find_node_at a.now id }
+fn read_find_node<'a>(a: &Piece<'a>, id: Id) -> Result<AskView<'a>, KrpcFault>
+    ensures { asked result ≡ find_node_from a.now id }
 {
     let target = needed_id(a.get(b"target"), Key::Target)?;
-    Ok(Ask::FindNode { id, target })
+    Ok(AskView::FindNode { id, target })
 }
 
-fn read_get_peers(a: &Entries, id: Id) -> Result<Ask, KrpcFault>
-    ensures { result ≡ get_peers_at a.now id }
+fn read_get_peers<'a>(a: &Piece<'a>, id: Id) -> Result<AskView<'a>, KrpcFault>
+    ensures { asked result ≡ get_peers_from a.now id }
 {
     let info_hash = needed_id(a.get(b"info_hash"), Key::InfoHash)?;
-    Ok(Ask::GetPeers { id, info_hash })
+    Ok(AskView::GetPeers { id, info_hash })
 }
 
-fn read_announced(
+fn read_announced<'a>(
     id: Id,
-    info_hash: Option<&Value>,
-    token: Option<Value>,
-    implied_port: Option<&Value>,
-    port: Option<&Value>,
-) -> Result<Ask, KrpcFault>
-    ensures { result ≡ announced_by id (option_copied info_hash.entry) token (option_copied implied_port.entry) (option_copied port.entry) }
+    info_hash: Option<Piece<'a>>,
+    token: Option<Piece<'a>>,
+    implied_port: Option<Piece<'a>>,
+    port: Option<Piece<'a>>,
+) -> Result<AskView<'a>, KrpcFault>
+    ensures { asked result ≡ announced_by id info_hash.entry token.entry implied_port.entry port.entry }
 {
     let info_hash = needed_id(info_hash, Key::InfoHash)?;
     let token = needed_text(token, Key::Token)?;
     let port = read_port(implied_port, port)?;
-    Ok(Ask::AnnouncePeer {
+    Ok(AskView::AnnouncePeer {
         id,
         info_hash,
         port,
@@ -72,14 +75,13 @@ fn read_announced(
     })
 }
 
-fn read_announce_peer(mut a: Entries, id: Id) -> Result<Ask, KrpcFault>
-    ensures { result ≡ announce_peer_at a id }
+fn read_announce_peer<'a>(a: &Piece<'a>, id: Id) -> Result<AskView<'a>, KrpcFault>
+    ensures { asked result ≡ announce_peer_from a.now id }
 {
-    let token = take(&mut a, b"token");
     read_announced(
         id,
         a.get(b"info_hash"),
-        token,
+        a.get(b"token"),
         a.get(b"implied_port"),
         a.get(b"port"),
     )
@@ -104,26 +106,39 @@ fn method_of(name: &[u8]) -> Option<Method>
     None
 }
 
-/// The arguments of a method.
-fn read_arguments(method: Method, arguments: Option<Value>) -> Result<Ask, KrpcFault>
-    ensures { result ≡ arguments_at method arguments }
+/// What a method asks behind who asks it.
+fn read_rest<'a>(method: Method, a: &Piece<'a>, id: Id) -> Result<AskView<'a>, KrpcFault>
+    ensures { asked result ≡ rest_from method a.now id }
 {
-    let a = needed_dict(arguments, Key::A)?;
-    let id = needed_id(a.get(b"id"), Key::Id)?;
     match method {
-        Method::Ping => Ok(Ask::Ping { id }),
-        Method::FindNode => read_find_node(&a, id),
-        Method::GetPeers => read_get_peers(&a, id),
+        Method::Ping => Ok(AskView::Ping { id }),
+        Method::FindNode => read_find_node(a, id),
+        Method::GetPeers => read_get_peers(a, id),
         Method::AnnouncePeer => read_announce_peer(a, id),
     }
 }
 
-/// What a query asks. The arguments of a method that isn't known are not read.
-pub(crate) fn read_ask(name: Bytes, arguments: Option<Value>) -> Result<Ask, KrpcFault>
-    ensures { result ≡ ask_of name arguments }
+/// The arguments of a method.
+fn read_arguments<'a>(
+    method: Method,
+    arguments: Option<Piece<'a>>,
+) -> Result<AskView<'a>, KrpcFault>
+    ensures { asked result ≡ arguments_from method arguments.entry }
 {
-    match method_of(name.as_slice()) {
+    let a = needed_dict(arguments, Key::A)?;
+    let id = needed_id(a.get(b"id"), Key::Id)?;
+    read_rest(method, &a, id)
+}
+
+/// What a query asks. The arguments of a method that isn't known are not read.
+pub(crate) fn read_ask<'a>(
+    name: &'a [u8],
+    arguments: Option<Piece<'a>>,
+) -> Result<AskView<'a>, KrpcFault>
+    ensures { asked result ≡ ask_from name.now arguments.entry }
+{
+    match method_of(name) {
         Some(method) => read_arguments(method, arguments),
-        None => Ok(Ask::Other { method: name }),
+        None => Ok(AskView::Other { method: name }),
     }
 }

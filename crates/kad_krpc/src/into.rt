@@ -27,11 +27,7 @@ fn put_addr(buf: &mut [u8], at: usize, addr: &Addr) -> usize
     ensures { Puts buf.old buf.new at (addr_bytes addr.now) result }
 {
     let at = put_ip(buf, at, &addr.ip);
-    put_part(
-        buf,
-        at,
-        &[(addr.port / 256) as u8, (addr.port % 256) as u8],
-    )
+    put_part(buf, at, &[(addr.port / 256) as u8, (addr.port % 256) as u8])
 }
 
 fn array_length<const N: usize>(array: &[u8; N]) -> usize
@@ -135,7 +131,9 @@ fn proved_length(report: &Report) -> usize
     ensures length { result ≡ length (proved_bytes report.now) }
     ensures most { result ≤ 90 }
 {
-    array_length(&report.contact.id.0) + proof_length(&report.proof) + addr_length(&report.contact.addr)
+    array_length(&report.contact.id.0)
+        + proof_length(&report.proof)
+        + addr_length(&report.contact.addr)
 }
 
 /// How many bytes nodes with their proofs take.

@@ -4,21 +4,26 @@
 
 mod answer;
 mod ask;
+mod borrowed;
 mod into;
 mod laws;
 mod message;
+mod owned;
 mod query;
 mod reader;
 mod record;
+mod records;
 mod step;
 mod writer;
 
+pub use borrowed::{AnswerView, AskView, View};
 pub use into::encode_into;
 pub use laws::{form_says, one_message};
 pub use message::{Answer, Ask, Key, KrpcFault, Message, Port};
 pub use query::{find_node_into, get_peers_into};
-pub use reader::decode;
+pub use reader::{decode, decode_view};
 pub use record::split_record;
+pub use records::{Nodes, ProvedNodes};
 pub use writer::encode;
 
 #[cfg(test)]

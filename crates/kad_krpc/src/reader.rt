@@ -1,76 +1,85 @@
 //! Reads a message, step by step: the first step that fails is the refusal.
-ghost use Rattle.std.specs.Prelude.{◌≡◌, option_copied, IfOk, Ok, Err};
+ghost use Rattle.std.specs.Prelude.{◌≡◌, IfOk, IfErr, Ok, Err};
 ghost use Rattle.kad_krpc.specs.declared.message.Message.{Message};
 ghost use Rattle.kad_krpc.specs.declared.message.KrpcFault.{KrpcFault};
-ghost use Rattle.kad_krpc.specs.Reading.{Says, Refuses, Gives, IfRefused, unspelled, said, query_by, query_at, answer_message_at, fault_at};
+ghost use Rattle.kad_krpc.specs.Reading.{Says, Refuses, Gives, IfRefused};
+ghost use Rattle.kad_krpc.specs.Telling.{query_told, answer_told, fault_told, body_from, told};
+ghost use Rattle.kad_krpc.specs.Views.{viewed, message_seen};
 
 use crate::answer::read_answer;
 use crate::ask::{read_ask, read_only};
+use crate::borrowed::View;
 use crate::message::{Key, Kind, KrpcFault, Message};
-use crate::step::{dict, needed_code_text, needed_dict, needed_kind, needed_text, take};
-use kad_base::Bytes;
-use kad_bencode::{BenFault, Entries, Value, read};
+use crate::owned::message_of;
+use crate::step::{needed_code_text, needed_dict, needed_kind, needed_text};
+use kad_bencode::Piece;
 use std::alloc::Global;
 
-fn read_asked(
-    tx: Bytes,
-    q: Option<Value>,
-    a: Option<Value>,
-    ro: Option<&Value>,
-) -> Result<Message, KrpcFault>
-    ensures { result ≡ query_by tx q a (option_copied ro.entry) }
+fn read_query<'a>(
+    tx: &'a [u8],
+    q: Option<Piece<'a>>,
+    a: Option<Piece<'a>>,
+    ro: Option<Piece<'a>>,
+) -> Result<View<'a>, KrpcFault>
+    ensures { viewed result ≡ query_told tx.now q.entry a.entry ro.entry }
 {
     let method = needed_text(q, Key::Q)?;
     let ask = read_ask(method, a)?;
     let read_only = read_only(ro);
-    Ok(Message::Query { tx, read_only, ask })
+    Ok(View::Query { tx, read_only, ask })
 }
 
-fn read_query(tx: Bytes, mut top: Entries) -> Result<Message, KrpcFault>
-    ensures { result ≡ query_at tx top }
+fn read_answer_message<'a>(tx: &'a [u8], r: Option<Piece<'a>>) -> Result<View<'a>, KrpcFault>
+    ensures { viewed result ≡ answer_told tx.now r.entry }
 {
-    let q = take(&mut top, b"q");
-    let a = take(&mut top, b"a");
-    read_asked(tx, q, a, top.get(b"ro"))
+    let r = needed_dict(r, Key::R)?;
+    let answer = read_answer(&r)?;
+    Ok(View::Answer { tx, answer })
 }
 
-fn read_answer_message(alloc: Global, tx: Bytes, mut top: Entries) -> Result<Message, KrpcFault>
-    ensures { Gives (answer_message_at tx top) result }
+fn read_fault<'a>(tx: &'a [u8], e: Option<Piece<'a>>) -> Result<View<'a>, KrpcFault>
+    ensures { viewed result ≡ fault_told tx.now e.entry }
 {
-    let r = needed_dict(take(&mut top, b"r"), Key::R)?;
-    let answer = read_answer(alloc, r)?;
-    Ok(Message::Answer { tx, answer })
+    let (code, text) = needed_code_text(e, Key::E)?;
+    Ok(View::Fault { tx, code, text })
 }
 
-fn read_fault(tx: Bytes, mut top: Entries) -> Result<Message, KrpcFault>
-    ensures { result ≡ fault_at tx top }
+/// What a message of this kind says.
+fn read_body<'a>(kind: Kind, tx: &'a [u8], top: &Piece<'a>) -> Result<View<'a>, KrpcFault>
+    ensures { viewed result ≡ body_from kind tx.now top.now }
 {
-    let (code, text) = needed_code_text(take(&mut top, b"e"), Key::E)?;
-    Ok(Message::Fault { tx, code, text })
-}
-
-/// What a value says.
-fn read_value(alloc: Global, value: Value) -> Result<Message, KrpcFault>
-    ensures { Gives (said value) result }
-{
-    let Some(mut top) = dict(value) else {
-        return Err(KrpcFault::Shape { key: Key::Top });
-    };
-    let tx = needed_text(take(&mut top, b"t"), Key::T)?;
-    match needed_kind(top.get(b"y"), Key::Y)? {
-        Kind::Query => read_query(tx, top),
-        Kind::Answer => read_answer_message(alloc, tx, top),
-        Kind::Fault => read_fault(tx, top),
+    match kind {
+        Kind::Query => read_query(tx, top.get(b"q"), top.get(b"a"), top.get(b"ro")),
+        Kind::Answer => read_answer_message(tx, top.get(b"r")),
+        Kind::Fault => read_fault(tx, top.get(b"e")),
     }
 }
 
-/// The refusal of a datagram that is not one value of bencode.
-fn unspelled(fault: BenFault) -> KrpcFault
-    ensures { result ≡ unspelled fault }
+/// What a value says.
+fn read_value<'a>(top: &Piece<'a>) -> Result<View<'a>, KrpcFault>
+    ensures { viewed result ≡ told top.now }
 {
-    match fault {
-        BenFault::Bad(bad) => KrpcFault::Bad(bad),
-        BenFault::NoMemory => KrpcFault::NoMemory,
+    if !top.is_dict() {
+        return Err(KrpcFault::Shape { key: Key::Top });
+    }
+    let tx = needed_text(top.get(b"t"), Key::T)?;
+    let kind = needed_kind(top.get(b"y"), Key::Y)?;
+    read_body(kind, tx, top)
+}
+
+/// Reads a datagram of any length where it stands: what it says, or the first step of the reading that fails. Keys that
+/// BEP 5 and BEP 43 don't name are passed over. Takes no memory.
+pub fn decode_view(bytes: &[u8]) -> Result<View<'_>, KrpcFault>
+    // What is read is said so, and what is refused fails so.
+    ensures says { IfOk result (λ v. Says bytes.now (message_seen v)) }
+    ensures refuses { IfErr result (Refuses bytes.now) }
+    // What says a message is read, and what fails is refused.
+    ensures only { (m : Message) → Says bytes.now m → viewed result ≡ Ok m }
+    ensures refused { (fault : KrpcFault) → Refuses bytes.now fault → result ≡ Err fault }
+{
+    match Piece::parse(bytes) {
+        Ok(top) => read_value(&top),
+        Err(bad) => Err(KrpcFault::Bad(bad)),
     }
 }
 
@@ -84,8 +93,11 @@ pub fn decode(alloc: Global, bytes: &[u8]) -> Result<Message, KrpcFault>
     ensures only { (m : Message) → Says bytes.now m → Gives (Ok m) result }
     ensures refused { (fault : KrpcFault) → Refuses bytes.now fault → Gives (Err fault) result }
 {
-    match read(alloc, bytes) {
-        Ok(value) => read_value(alloc, value),
-        Err(fault) => Err(unspelled(fault)),
+    match decode_view(bytes) {
+        Ok(view) => match message_of(alloc, view) {
+            Ok(message) => Ok(message),
+            Err(_) => Err(KrpcFault::NoMemory),
+        },
+        Err(fault) => Err(fault),
     }
 }

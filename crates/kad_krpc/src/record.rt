@@ -1,15 +1,14 @@
 //! Compact records (BEP 5): nodes of 26 bytes and peers of 6, and this project's nodes with their proofs, of 78.
-ghost use Rattle.std.specs.Prelude.{◌≡◌, ◌+◌, ◌<◌, ◌≤◌, ◌↔◌, length, IfOk, IfSome, IsNone};
-ghost use Rattle.kad_krpc.specs.Records.{part, port_at, addr_at, node_in, proved_in, records_in, record_at};
+ghost use Rattle.std.specs.Prelude.{◌≡◌, ◌+◌, ◌<◌, ◌≤◌, ◌↔◌, length, IfSome, IsNone};
+ghost use Rattle.kad_krpc.specs.Records.{part, port_at, addr_at, node_in, proved_in, record_at};
 
-use kad_base::{Addr, Contact, Contacts, Id, Ip, List, NoMemory, Proof, Report, Reports};
-use std::alloc::Global;
+use kad_base::{Addr, Contact, Id, Ip, Proof, Report};
 
 /// The length of a compact node.
-const NODE: usize = 26;
+pub(crate) const NODE: usize = 26;
 
 /// The length of a node with its proof.
-const PROVED: usize = 78;
+pub(crate) const PROVED: usize = 78;
 
 /// The bytes from a place on.
 fn array_at<const N: usize>(bytes: &[u8], at: usize) -> [u8; N]
@@ -57,7 +56,7 @@ pub fn split_record<const A: usize>(bytes: &[u8], at: usize) -> Option<([u8; 20]
 }
 
 /// The contact of a compact node.
-fn read_node(bytes: &[u8]) -> Contact
+pub(crate) fn read_node(bytes: &[u8]) -> Contact
     requires { length bytes.now ≡ 26 }
     ensures { result ≡ node_in bytes.now }
 {
@@ -68,7 +67,7 @@ fn read_node(bytes: &[u8]) -> Contact
 }
 
 /// The report of a node with its proof.
-fn read_proved(bytes: &[u8]) -> Report
+pub(crate) fn read_proved(bytes: &[u8]) -> Report
     requires { length bytes.now ≡ 78 }
     ensures { result ≡ proved_in bytes.now }
 {
@@ -82,30 +81,4 @@ fn read_proved(bytes: &[u8]) -> Report
             x: array_at(bytes, 52),
         }),
     }
-}
-
-/// The nodes of a string, in order.
-#[tactic(auto, using(crate::proofs::Lists::one_more))]
-pub(crate) fn read_nodes(alloc: Global, bytes: &[u8]) -> Result<Contacts, NoMemory>
-    ensures { IfOk result (λ nodes. nodes ≡ records_in 26 node_in bytes.now) }
-{
-    let mut nodes = List::new(alloc);
-    for i in 0..bytes.len() / NODE {
-        let at = i * NODE;
-        nodes.push(read_node(&bytes[at..at + NODE]))?;
-    }
-    Ok(nodes)
-}
-
-/// The nodes with their proofs of a string, in order.
-#[tactic(auto, using(crate::proofs::Lists::one_more))]
-pub(crate) fn read_snodes(alloc: Global, bytes: &[u8]) -> Result<Reports, NoMemory>
-    ensures { IfOk result (λ snodes. snodes ≡ records_in 78 proved_in bytes.now) }
-{
-    let mut snodes = List::new(alloc);
-    for i in 0..bytes.len() / PROVED {
-        let at = i * PROVED;
-        snodes.push(read_proved(&bytes[at..at + PROVED]))?;
-    }
-    Ok(snodes)
 }

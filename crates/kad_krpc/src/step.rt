@@ -1,71 +1,22 @@
-//! The steps of a reading: the value of a key, by its kind. Each takes the value and gives its part without a copy.
-ghost use Rattle.std.specs.Prelude.{◌≡◌, ℕ, List, false, option_copied};
-ghost use Rattle.std.specs.Ordering.{is_eq};
-ghost use Rattle.kad_bencode.specs.Keys.{key_cmp, value_of};
-ghost use Rattle.kad_bencode.specs.Parts.{bytes_of, integer_of, list_of, dict_of};
-ghost use Rattle.kad_krpc.specs.Reading.{needed, optional, of_kind, id_of, port_of, kind_of, code_text_of};
+//! The steps of a reading: the value of a key, by its kind. A value stays in its datagram, and no call takes memory.
+ghost use Rattle.std.specs.Prelude.{◌≡◌, option_copied};
+ghost use Rattle.kad_bencode.specs.Parts.{bytes_of, integer_of, list_of};
+ghost use Rattle.kad_krpc.specs.Reading.{needed, optional, id_in, id_of, port_in, port_of, kind_in, kind_of, code_text_of, records};
+ghost use Rattle.kad_krpc.specs.Records.{node_in, proved_in};
+ghost use Rattle.kad_krpc.specs.declared.message.Key.TheVariants as key;
+ghost use Rattle.kad_krpc.specs.Telling.{as_dict};
+ghost use Rattle.kad_krpc.specs.Views.{lent, lent_some, lent_code, lent_error};
 
 use crate::message::{Key, Kind, KrpcFault};
-use kad_base::{Bytes, Id};
-use kad_bencode::{Entries, Value, Values};
-
-/// Takes the value of a key out of a dictionary.
-#[tactic(auto, using(crate::proofs::Dictionaries::others))]
-pub(crate) fn take(pairs: &mut Entries, key: &[u8]) -> Option<Value>
-    ensures value { result ≡ value_of pairs.old key.now }
-    ensures others { (other : List ℕ) → is_eq (key_cmp other key.now) ≡ false → value_of pairs.new other ≡ value_of pairs.old other }
-{
-    pairs.remove(key)
-}
-
-/// What is of the kind that was wanted.
-fn of_kind<T>(found: Option<T>, key: Key) -> Result<T, KrpcFault>
-    ensures { result ≡ of_kind key found }
-{
-    found.ok_or(KrpcFault::Shape { key })
-}
-
-/// A byte string.
-fn text(value: Value) -> Option<Bytes>
-    ensures { result ≡ bytes_of value }
-{
-    match value {
-        Value::Text(bytes) => Some(bytes),
-        Value::Int(_) => None,
-        Value::List(_) => None,
-        Value::Dict(_) => None,
-    }
-}
-
-/// The values of a list.
-fn list(value: Value) -> Option<Values>
-    ensures { result ≡ list_of value }
-{
-    match value {
-        Value::List(values) => Some(values),
-        Value::Int(_) => None,
-        Value::Text(_) => None,
-        Value::Dict(_) => None,
-    }
-}
-
-/// The pairs of a dictionary.
-pub(crate) fn dict(value: Value) -> Option<Entries>
-    ensures { result ≡ dict_of value }
-{
-    match value {
-        Value::Dict(entries) => Some(entries),
-        Value::Int(_) => None,
-        Value::Text(_) => None,
-        Value::List(_) => None,
-    }
-}
+use crate::records::{Nodes, ProvedNodes};
+use kad_base::Id;
+use kad_bencode::{Items, Piece};
 
 /// A string of 20 bytes.
-fn id(value: &Value) -> Option<Id>
-    ensures { result ≡ id_of value.now }
+fn id(string: Option<&[u8]>) -> Option<Id>
+    ensures { result ≡ id_in (option_copied string.entry) }
 {
-    let bytes = value.as_bytes()?;
+    let bytes = string?;
     if bytes.len() != 20 {
         return None;
     }
@@ -75,10 +26,10 @@ fn id(value: &Value) -> Option<Id>
 }
 
 /// An integer of 1 to 65535.
-fn port(value: &Value) -> Option<u16>
-    ensures { result ≡ port_of value.now }
+fn port(number: Option<i64>) -> Option<u16>
+    ensures { result ≡ port_in number }
 {
-    let number = value.as_int()?;
+    let number = number?;
     if number < 1 || number > 65535 {
         return None;
     }
@@ -86,10 +37,10 @@ fn port(value: &Value) -> Option<u16>
 }
 
 /// `q`, `r` or `e`.
-fn kind(value: &Value) -> Option<Kind>
-    ensures { result ≡ kind_of value.now }
+fn kind(name: Option<&[u8]>) -> Option<Kind>
+    ensures { result ≡ kind_in (option_copied name.entry) }
 {
-    let name = value.as_bytes()?;
+    let name = name?;
     if name == b"q".as_slice() {
         return Some(Kind::Query);
     }
@@ -102,95 +53,165 @@ fn kind(value: &Value) -> Option<Kind>
     None
 }
 
-/// The code and the text of an error message, at the front of its list.
-fn code_text(value: Value) -> Option<(i64, Bytes)>
-    ensures { result ≡ code_text_of value }
+pub(crate) fn needed_text<'a>(value: Option<Piece<'a>>, key: Key) -> Result<&'a [u8], KrpcFault>
+    ensures { lent result ≡ needed bytes_of key value.entry }
 {
-    let mut values = list(value)?.into_vec();
-    values.truncate(2);
-    let text_value = values.pop()?;
-    let code = values.pop()?.as_int()?;
-    let text = text(text_value)?;
+    match value {
+        None => Err(KrpcFault::Missing { key }),
+        Some(value) => match value.as_bytes() {
+            None => Err(KrpcFault::Shape { key }),
+            Some(bytes) => Ok(bytes),
+        },
+    }
+}
+
+pub(crate) fn needed_dict<'a>(value: Option<Piece<'a>>, key: Key) -> Result<Piece<'a>, KrpcFault>
+    ensures { result ≡ needed as_dict key value.entry }
+{
+    match value {
+        None => Err(KrpcFault::Missing { key }),
+        Some(value) => {
+            if value.is_dict() {
+                return Ok(value);
+            }
+            Err(KrpcFault::Shape { key })
+        }
+    }
+}
+
+pub(crate) fn needed_id(value: Option<Piece>, key: Key) -> Result<Id, KrpcFault>
+    ensures { result ≡ needed id_of key value.entry }
+{
+    match value {
+        None => Err(KrpcFault::Missing { key }),
+        Some(value) => match id(value.as_bytes()) {
+            None => Err(KrpcFault::Shape { key }),
+            Some(id) => Ok(id),
+        },
+    }
+}
+
+pub(crate) fn needed_port(value: Option<Piece>, key: Key) -> Result<u16, KrpcFault>
+    ensures { result ≡ needed port_of key value.entry }
+{
+    match value {
+        None => Err(KrpcFault::Missing { key }),
+        Some(value) => match port(value.as_int()) {
+            None => Err(KrpcFault::Shape { key }),
+            Some(port) => Ok(port),
+        },
+    }
+}
+
+pub(crate) fn needed_kind(value: Option<Piece>, key: Key) -> Result<Kind, KrpcFault>
+    ensures { result ≡ needed kind_of key value.entry }
+{
+    match value {
+        None => Err(KrpcFault::Missing { key }),
+        Some(value) => match kind(value.as_bytes()) {
+            None => Err(KrpcFault::Shape { key }),
+            Some(kind) => Ok(kind),
+        },
+    }
+}
+
+/// The code and the text of an error message, at the front of its list.
+fn code_text<'a>(value: &Piece<'a>) -> Option<(i64, &'a [u8])>
+    ensures { lent_code result ≡ code_text_of value.now }
+{
+    let mut values = value.items()?;
+    let code = values.next()?;
+    let text = values.next()?;
+    let code = code.as_int()?;
+    let text = text.as_bytes()?;
     Some((code, text))
 }
 
-pub(crate) fn needed_text(value: Option<Value>, key: Key) -> Result<Bytes, KrpcFault>
-    ensures { result ≡ needed bytes_of key value }
+pub(crate) fn needed_code_text<'a>(
+    value: Option<Piece<'a>>,
+    key: Key,
+) -> Result<(i64, &'a [u8]), KrpcFault>
+    ensures { lent_error result ≡ needed code_text_of key value.entry }
 {
     match value {
         None => Err(KrpcFault::Missing { key }),
-        Some(value) => of_kind(text(value), key),
+        Some(value) => match code_text(&value) {
+            None => Err(KrpcFault::Shape { key }),
+            Some((code, text)) => Ok((code, text)),
+        },
     }
 }
 
-pub(crate) fn needed_dict(value: Option<Value>, key: Key) -> Result<Entries, KrpcFault>
-    ensures { result ≡ needed dict_of key value }
-{
-    match value {
-        None => Err(KrpcFault::Missing { key }),
-        Some(value) => of_kind(dict(value), key),
-    }
-}
-
-pub(crate) fn needed_id(value: Option<&Value>, key: Key) -> Result<Id, KrpcFault>
-    ensures { result ≡ needed id_of key (option_copied value.entry) }
-{
-    match value {
-        None => Err(KrpcFault::Missing { key }),
-        Some(value) => of_kind(id(value), key),
-    }
-}
-
-pub(crate) fn needed_port(value: Option<&Value>, key: Key) -> Result<u16, KrpcFault>
-    ensures { result ≡ needed port_of key (option_copied value.entry) }
-{
-    match value {
-        None => Err(KrpcFault::Missing { key }),
-        Some(value) => of_kind(port(value), key),
-    }
-}
-
-pub(crate) fn needed_kind(value: Option<&Value>, key: Key) -> Result<Kind, KrpcFault>
-    ensures { result ≡ needed kind_of key (option_copied value.entry) }
-{
-    match value {
-        None => Err(KrpcFault::Missing { key }),
-        Some(value) => of_kind(kind(value), key),
-    }
-}
-
-pub(crate) fn needed_code_text(value: Option<Value>, key: Key) -> Result<(i64, Bytes), KrpcFault>
-    ensures { result ≡ needed code_text_of key value }
-{
-    match value {
-        None => Err(KrpcFault::Missing { key }),
-        Some(value) => of_kind(code_text(value), key),
-    }
-}
-
-pub(crate) fn optional_text(value: Option<Value>, key: Key) -> Result<Option<Bytes>, KrpcFault>
-    ensures { result ≡ optional bytes_of key value }
+pub(crate) fn optional_text<'a>(
+    value: Option<Piece<'a>>,
+    key: Key,
+) -> Result<Option<&'a [u8]>, KrpcFault>
+    ensures { lent_some result ≡ optional bytes_of key value.entry }
 {
     match value {
         None => Ok(None),
-        Some(value) => of_kind(text(value), key).map(Some),
+        Some(value) => match value.as_bytes() {
+            None => Err(KrpcFault::Shape { key }),
+            Some(bytes) => Ok(Some(bytes)),
+        },
     }
 }
 
-pub(crate) fn optional_list(value: Option<Value>, key: Key) -> Result<Option<Values>, KrpcFault>
-    ensures { result ≡ optional list_of key value }
+pub(crate) fn optional_list<'a>(
+    value: Option<Piece<'a>>,
+    key: Key,
+) -> Result<Option<Items<'a>>, KrpcFault>
+    ensures { result ≡ optional list_of key value.entry }
 {
     match value {
         None => Ok(None),
-        Some(value) => of_kind(list(value), key).map(Some),
+        Some(value) => match value.items() {
+            None => Err(KrpcFault::Shape { key }),
+            Some(items) => Ok(Some(items)),
+        },
     }
 }
 
-pub(crate) fn optional_int(value: Option<&Value>, key: Key) -> Result<Option<i64>, KrpcFault>
-    ensures { result ≡ optional integer_of key (option_copied value.entry) }
+pub(crate) fn optional_int(value: Option<Piece>, key: Key) -> Result<Option<i64>, KrpcFault>
+    ensures { result ≡ optional integer_of key value.entry }
 {
     match value {
         None => Ok(None),
-        Some(value) => of_kind(value.as_int(), key).map(Some),
+        Some(value) => match value.as_int() {
+            None => Err(KrpcFault::Shape { key }),
+            Some(number) => Ok(Some(number)),
+        },
+    }
+}
+
+/// The nodes of a string, where it is there.
+pub(crate) fn nodes_of<'a>(string: Option<&'a [u8]>) -> Result<Option<Nodes<'a>>, KrpcFault>
+    ensures { result ≡ records 26 node_in key.Nodes (option_copied string.entry) }
+{
+    match string {
+        None => Ok(None),
+        Some(bytes) => match Nodes::new(bytes) {
+            Some(nodes) => Ok(Some(nodes)),
+            None => Err(KrpcFault::Records {
+                key: Key::Nodes,
+                len: bytes.len(),
+            }),
+        },
+    }
+}
+
+/// The nodes with their proofs of a string, where it is there.
+pub(crate) fn snodes_of<'a>(string: Option<&'a [u8]>) -> Result<Option<ProvedNodes<'a>>, KrpcFault>
+    ensures { result ≡ records 78 proved_in key.Snodes (option_copied string.entry) }
+{
+    match string {
+        None => Ok(None),
+        Some(bytes) => match ProvedNodes::new(bytes) {
+            Some(snodes) => Ok(Some(snodes)),
+            None => Err(KrpcFault::Records {
+                key: Key::Snodes,
+                len: bytes.len(),
+            }),
+        },
     }
 }

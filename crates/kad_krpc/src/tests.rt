@@ -4,7 +4,9 @@ ghost use Rattle.std.specs.List.{AllByRecursion};
 ghost use Rattle.kad_krpc.specs.Form.{IsV4, IsProved, IsWritable};
 
 use crate::message::{Answer, Ask, Key, KrpcFault, Message, Port};
-use crate::{decode, encode, find_node_into, get_peers_into, split_record};
+use crate::{
+    decode, decode_view, encode, encode_into, find_node_into, get_peers_into, split_record,
+};
 use kad_base::{Addr, Addrs, Bytes, Contact, Id, Ip, List, Proof, Report, Reports};
 use kad_bencode::Bad;
 use std::alloc::Global;
@@ -30,15 +32,33 @@ fn here() -> Addr
 }
 
 fn reads(rt: &impl Abort, alloc: Global, text: &[u8], message: &Message) {
+    assert!(rt; decode_view(text).is_ok());
     match decode(alloc, text) {
         Ok(read) => assert!(rt; read == *message),
         Err(_) => assert!(rt; false, "refused"),
     }
 }
 
+/// That a message is put so into bytes that are there.
+fn puts(rt: &impl Abort, message: &Message, text: &[u8]) {
+    let mut room = [0u8; 4096];
+    match encode_into(message, &mut room) {
+        Some(length) => {
+            assert_eq!(rt; length, text.len());
+            for i in 0..text.len() {
+                if i < 4096 {
+                    assert_eq!(rt; room[i], text[i]);
+                }
+            }
+        }
+        None => assert!(rt; false, "no room"),
+    }
+}
+
 fn writes(rt: &impl Abort, alloc: Global, message: &Message, text: &[u8])
     requires { IsWritable message.now }
 {
+    puts(rt, message, text);
     match encode(alloc, message) {
         Ok(written) => assert_eq!(rt; written.as_slice(), text),
         Err(_) => assert!(rt; false, "no memory"),
@@ -48,6 +68,10 @@ fn writes(rt: &impl Abort, alloc: Global, message: &Message, text: &[u8])
 fn refuses(rt: &impl Abort, alloc: Global, text: &[u8], fault: KrpcFault) {
     match decode(alloc, text) {
         Ok(_) => assert!(rt; false, "read"),
+        Err(found) => assert_eq!(rt; found, fault),
+    }
+    match decode_view(text) {
+        Ok(_) => assert!(rt; false, "seen"),
         Err(found) => assert_eq!(rt; found, fault),
     }
 }
@@ -395,4 +419,113 @@ fn queries_are_written(rt: HostRuntime) {
         &buf[..len],
         b"d1:ad2:id20:abcdefghij01234567899:info_hash20:mnopqrstuvwxyz123456e1:q9:get_peers2:roi1e1:t4:\xa0\x8d\xed\x1a1:y1:qe".as_slice()
     );
+}
+
+/// The datagram of an answer with one more key: its text, so many records, and what ends its value.
+fn answer_text(
+    alloc: Global,
+    key: &[u8],
+    record: &[u8],
+    count: usize,
+    end: &[u8],
+) -> Result<Vec<u8>, Fail> {
+    let mut text = Vec::new(alloc);
+    text.extend_from_slice(b"d1:rd2:id20:abcdefghij0123456789")?;
+    text.extend_from_slice(key)?;
+    for _ in 0..count {
+        text.extend_from_slice(record)?;
+    }
+    text.extend_from_slice(end)?;
+    text.extend_from_slice(b"e1:t2:aa1:y1:re")?;
+    Ok(text)
+}
+
+fn given(alloc: Global, answer: Answer) -> Result<Message, Fail> {
+    let tx = bytes(alloc, b"aa")?;
+    Ok(Message::Answer { tx, answer })
+}
+
+fn nodes_are_read(rt: &impl Abort, alloc: Global, key: &[u8], count: usize) -> Result<(), Fail> {
+    let record = b"mnopqrstuvwxyz123456\x7f\x00\x00\x01\x1a\xe1";
+    let text = answer_text(alloc, key, record, count, b"")?;
+    let mut nodes = List::new(alloc);
+    for _ in 0..count {
+        nodes.push(Contact {
+            id: MNO,
+            addr: here(),
+        })?;
+    }
+    let mut answer = bare(ABC);
+    answer.nodes = Some(nodes);
+    let message = given(alloc, answer)?;
+    reads(rt, alloc, text.as_slice(), &message);
+    puts(rt, &message, text.as_slice());
+    Ok(())
+}
+
+/// Memory is ample, so each of them is kept.
+#[test]
+fn sixteen_and_fifty_two_nodes_are_read(rt: HostRuntime) -> Result<(), Fail> {
+    let alloc = rt.alloc();
+    nodes_are_read(&rt, alloc, b"5:nodes416:", 16)?;
+    nodes_are_read(&rt, alloc, b"5:nodes1352:", 52)
+}
+
+#[test]
+fn sixteen_nodes_with_proofs_are_read(rt: HostRuntime) -> Result<(), Fail> {
+    let alloc = rt.alloc();
+    let record =
+        b"mnopqrstuvwxyz123456kkkkkkkkkkkkkkkkkkkkkkkkkkkkkkkkxxxxxxxxxxxxxxxxxxxx\x7f\x00\x00\x01\x1a\xe1";
+    let text = answer_text(alloc, b"6:snodes1248:", record, 16, b"")?;
+    match decode(alloc, text.as_slice()) {
+        Ok(message) => puts(&rt, &message, text.as_slice()),
+        Err(_) => assert!(rt; false, "refused"),
+    }
+    Ok(())
+}
+
+#[test]
+fn fifty_peers_are_read(rt: HostRuntime) -> Result<(), Fail> {
+    let alloc = rt.alloc();
+    let record = b"6:\x7f\x00\x00\x01\x1a\xe1";
+    let text = answer_text(alloc, b"6:valuesl", record, 50, b"e")?;
+    match decode(alloc, text.as_slice()) {
+        Ok(message) => puts(&rt, &message, text.as_slice()),
+        Err(_) => assert!(rt; false, "refused"),
+    }
+    Ok(())
+}
+
+/// A token of 4,037 bytes makes the datagram 4,096 long, which is all that fits.
+#[test]
+fn a_datagram_of_4096_bytes_fits(rt: HostRuntime) -> Result<(), Fail> {
+    let alloc = rt.alloc();
+    let text = answer_text(alloc, b"5:token4037:", b"x", 4037, b"")?;
+    assert_eq!(rt; text.len(), 4096);
+    match decode(alloc, text.as_slice()) {
+        Ok(message) => puts(&rt, &message, text.as_slice()),
+        Err(_) => assert!(rt; false, "refused"),
+    }
+    let more = answer_text(alloc, b"5:token4038:", b"x", 4038, b"")?;
+    match decode(alloc, more.as_slice()) {
+        Ok(message) => assert!(rt; encode_into(&message, &mut [0u8; 4096]).is_none()),
+        Err(_) => assert!(rt; false, "refused"),
+    }
+    Ok(())
+}
+
+#[test]
+fn an_error_text_of_1000_bytes_is_read_and_written(rt: HostRuntime) -> Result<(), Fail> {
+    let alloc = rt.alloc();
+    let mut text = Vec::new(alloc);
+    text.extend_from_slice(b"d1:eli-9223372036854775808e1000:")?;
+    for _ in 0..1000 {
+        text.push(b'x')?;
+    }
+    text.extend_from_slice(b"e1:t2:aa1:y1:ee")?;
+    match decode(alloc, text.as_slice()) {
+        Ok(message) => puts(&rt, &message, text.as_slice()),
+        Err(_) => assert!(rt; false, "refused"),
+    }
+    Ok(())
 }

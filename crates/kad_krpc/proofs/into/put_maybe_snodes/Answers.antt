@@ -1,4 +1,4 @@
-use Rattle.std.proofs.Common.{refl, subst, sym, ap, ◌∙◌, Some}
+use Rattle.std.proofs.Common.{subst, sym, ap, ◌∙◌}
 use Rattle.std.specs.Prelude.{codes}
 use Rattle.kad_bencode.specs.Spelling.{string_text}
 use Rattle.kad_bencode.specs.Written.{PutsPairs}
