@@ -10,3 +10,4 @@ pub mod Put
 pub mod Contacts
 pub mod Told
 pub mod Gathered
+pub mod Writable

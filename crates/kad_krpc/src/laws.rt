@@ -15,3 +15,8 @@ pub fn form_says()
 pub fn one_message()
     ensures { (bytes : List ℕ) (m n : Message) → Says bytes m → Says bytes n → m ≡ n }
 {}
+
+/// A message that was said has a written form, so `encode` takes what `decode` gives.
+pub fn said_is_writable()
+    ensures { (bytes : List ℕ) (m : Message) → Says bytes m → IsWritable m }
+{}

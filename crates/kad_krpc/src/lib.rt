@@ -19,7 +19,7 @@ mod writer;
 
 pub use borrowed::{AnswerView, AskView, View};
 pub use into::encode_into;
-pub use laws::{form_says, one_message};
+pub use laws::{form_says, one_message, said_is_writable};
 pub use message::{Answer, Ask, Key, KrpcFault, Message, Port};
 pub use query::{find_node_into, get_peers_into};
 pub use reader::{decode, decode_view};

@@ -421,11 +421,11 @@ fn queries_are_written(rt: HostRuntime) {
     );
 }
 
-/// The datagram of an answer with one more key: its text, so many records, and what ends its value.
+/// The datagram of an answer with one more key: its text, a part so many times, and what ends its value.
 fn answer_text(
     alloc: Global,
     key: &[u8],
-    record: &[u8],
+    part: &[u8],
     count: usize,
     end: &[u8],
 ) -> Result<Vec<u8>, Fail> {
@@ -433,7 +433,7 @@ fn answer_text(
     text.extend_from_slice(b"d1:rd2:id20:abcdefghij0123456789")?;
     text.extend_from_slice(key)?;
     for _ in 0..count {
-        text.extend_from_slice(record)?;
+        text.extend_from_slice(part)?;
     }
     text.extend_from_slice(end)?;
     text.extend_from_slice(b"e1:t2:aa1:y1:re")?;
