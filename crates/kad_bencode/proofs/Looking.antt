@@ -101,7 +101,7 @@ other_key a b n =
       | Greater ↦ λ e. refl
     ] refl
 
-equal_keys : (a b : List ℕ) → is_eq (key_cmp a b) ≡ true → a ≡ b
+pub equal_keys : (a b : List ℕ) → is_eq (key_cmp a b) ≡ true → a ≡ b
 equal_keys a b =
     elim (key_cmp a b) as (λ o. key_cmp a b ≡ o → is_eq o ≡ true → a ≡ b) [
       | Less ↦ λ e h. absurd (let f : false ≡ true = h in cc)

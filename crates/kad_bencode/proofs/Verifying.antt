@@ -1,7 +1,8 @@
 -- What is kept while bytes are checked.
-use Rattle.std.proofs.Common.{◌≡◌, ◌≢◌, ℕ, suc, ◌+◌, ◌-◌, ◌≤◌, Bool, true, false, cond, ◌||◌, List, [], ◌∷◌, ◌++◌, length, take, drop, Option, Some, option_map, is_some, Result, Ok, Err, IsOk, refl, sym, ap, ◌∙◌, subst, arith, append_assoc}
+use Rattle.std.proofs.Common.{◌≡◌, ◌≢◌, ℕ, suc, ◌+◌, ◌-◌, ◌≤◌, Bool, true, false, not, cond, ◌||◌, nat_eq, List, [], ◌∷◌, ◌++◌, length, take, drop, Option, Some, option_map, is_some, Result, Ok, Err, IsOk, refl, sym, ap, ◌∙◌, subst, arith, append_assoc}
 use Rattle.std.specs.List.{AllByRecursion}
 use Rattle.std.specs.Ordering.{is_eq, ordering_reverse}
+use Rattle.std.proofs.lemmas.Bool.Decides.{nat_tests}
 use Rattle.std.proofs.lemmas.List.{length-take-le, drop-take}
 use Rattle.std.proofs.Math.Seq.{drop-append_seam}
 use Rattle.kad_bencode.specs.Keys.{key_cmp, keys_of, value_of}
@@ -21,7 +22,7 @@ use Rattle.std.proofs.lemmas.Map.Lookups.{exact_bytes}
 use Rattle.kad_bencode.proofs.Limits.{keys_push, all_push}
 use Rattle.kad_bencode.proofs.Places.{turned}
 use Rattle.kad_bencode.proofs.Looking.{same_key}
-use Rattle.kad_bencode.specs.Finding.{ArePairs, IsUpTo, IsNew}
+use Rattle.kad_bencode.specs.Finding.{ArePairs, IsUpTo, IsNew, IsAbove, IsNext}
 
 -- a fault that is handed on
 pub handed : {B : Type 0} (bytes : List ℕ) (r : Result B Bad) (e y : Bad) (Q : B → Type 0) → r ≡ Err y → y ≡ e → IsFirstFault bytes e → Scans bytes r Q
@@ -87,15 +88,30 @@ new_greatest keys greatest key h u =
     let r = above_all keys greatest key h u in
     record { new = r.0; others = r.1; itself = λ e. let f : false ≡ true = sym (ap is_eq e) ∙ same_key key in cc }
 
-pub old_greatest : (keys : List (List ℕ)) (greatest key : List ℕ) → key_cmp key greatest ≢ Greater → has_key keys key ≡ false → IsUpTo greatest keys → IsNew greatest keys key
-old_greatest keys greatest key h n u = record { new = n; others = u; itself = λ e. h (turned greatest key e) }
-
 pub same_pairs : (bytes : List ℕ) (at : ℕ) (os : List Open) (ps qs : List (Pair Value)) → Reached bytes at (Keyless os ps) → Reached bytes at (Keyless os qs) → ps ≡ qs
 same_pairs bytes at os ps qs a b = let e : Keyless os ps ≡ Keyless os qs = same_some (sym a ∙ b) in cc
 
 pub up_to_more : (greatest : List ℕ) (ps : List (Pair Value)) (key : List ℕ) (v : Value) → IsNew greatest (keys_of ps) key → IsUpTo greatest (keys_of (ps ++ record { key = key; value = v } ∷ []))
 up_to_more greatest ps key v n =
     subst (IsUpTo greatest) (sym (keys_push ps key v)) (all_push (λ k. key_cmp greatest k ≢ Less) (keys_of ps) key n.others n.itself)
+
+-- the first key, or one above the greatest
+pub next_key : (bytes : List ℕ) (from at : ℕ) (os : List Open) (ps : List (Pair Value)) → Reached bytes from (Keyless os []) → Reached bytes at (Keyless os ps) → (first : Bool) → (first ≡ true → at ≡ from) → (greatest key : List ℕ) (told : Bool) → told ≡ true → IsNext first (key_cmp key greatest) told → IsUpTo greatest (keys_of ps) → IsNew key (keys_of ps) key
+next_key bytes from at os ps r g true e greatest key told t h u =
+    let empty : ps ≡ [] = same_pairs bytes from os ps [] (subst (λ n. Reached bytes n (Keyless os ps)) (e refl) g) r in
+    subst (λ l. IsNew key (keys_of l) key) (sym empty) (record { new = refl; others = tt; itself = λ f. let z : false ≡ true = sym (ap is_eq f) ∙ same_key key in cc })
+next_key bytes from at os ps r g false e greatest key told t h u = new_greatest (keys_of ps) greatest key (subst (IsAbove (key_cmp key greatest)) t h) u
+
+pub not_new : (b told : Bool) → told ≡ not b → told ≡ false → b ≡ true
+not_new true told e f = refl
+not_new false told e f = absurd (let z : false ≡ true = sym f ∙ e in cc)
+
+pub is_fresh : (b told : Bool) → told ≡ not b → told ≡ true → b ≡ false
+is_fresh true told e f = absurd (let z : true ≡ false = sym f ∙ e in cc)
+is_fresh false told e f = refl
+
+pub from_eq : (m n : ℕ) → nat_eq m n ≡ true → m ≡ n
+from_eq m n h = grind (arith, nat_tests)
 
 -- ---- the answer is the only one
 

@@ -6,5 +6,6 @@ pub mod Written
 pub mod Parts
 pub mod Scanning
 pub mod Finding
+pub mod Marking
 pub mod Naming
 pub mod formers

@@ -6,6 +6,7 @@ pub mod entries;
 mod find;
 pub mod into;
 pub mod laws;
+mod marks;
 pub mod pairs;
 pub mod parts;
 pub mod piece;

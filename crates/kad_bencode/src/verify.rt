@@ -1,16 +1,16 @@
 //! Whether bytes spell a value (BEP 3), without memory.
 ghost use Rattle.std.specs.Prelude.{◌≡◌, ℕ, suc, ◌+◌, ◌<◌, ◌≤◌, not, List, [], ◌∷◌, length, IsOk, IfOk, IfErr, OnOk, get_or, Err, MatchOption, true};
-ghost use Rattle.kad_bencode.specs.Keys.{key_cmp, keys_of};
-ghost use Rattle.kad_bencode.specs.Spelling.{Spells, has_key};
+ghost use Rattle.kad_bencode.specs.Keys.{key_cmp};
+ghost use Rattle.kad_bencode.specs.Spelling.{Spells};
 ghost use Rattle.kad_bencode.specs.Faults.{Open, InList, IsFirstFault};
-ghost use Rattle.kad_bencode.specs.Machine.{Awaits, ReadsValue, Reached, Ready, Keyless, FitsOpen};
+ghost use Rattle.kad_bencode.specs.Machine.{Awaits, ReadsValue, Reached, Ready, Keyless, FitsOpen, FitsPairs};
 ghost use Rattle.kad_bencode.specs.declared.entries.Pair.{Pair};
 ghost use Rattle.kad_bencode.specs.declared.value.Value.{Value};
 ghost use Rattle.kad_bencode.specs.declared.value.Bad.{Bad};
 ghost use Rattle.kad_bencode.specs.Scanning.{Scans};
-ghost use Rattle.kad_bencode.specs.Finding.{ArePairs, IsUpTo, IsNew, IsAbove};
+ghost use Rattle.kad_bencode.specs.Finding.{IsAbove, IsNext};
 
-use crate::find::find;
+use crate::marks::{MOST, add, is_new, mark_all};
 use crate::reader::MAX_DEPTH;
 use crate::scan::{has_byte, integer_at, string_at};
 use crate::value::Bad;
@@ -95,27 +95,45 @@ fn dictionary_at(bytes: &[u8], from: usize, depth: usize) -> Result<usize, Bad>
     let mut greatest = &bytes[from..from];
     'pairs: while !has_byte(bytes, at, b'e') {
         let (key, behind) = string_at(bytes, at)?;
-        match greatest_with(&bytes[from..at], greatest, key) {
-            Some(key) => greatest = key,
-            None => return Err(Bad::KeyTwice { at }),
+        if !is_next(at == from, greatest, key) {
+            return unsorted_at(bytes, from, at, depth);
         }
+        greatest = key;
         at = value_at(bytes, behind, depth)?;
     }
     Ok(at + 1)
 }
 
-/// The greatest of the pairs' keys and a new one, or none where the key is among them. It looks through the pairs only where
-/// the key isn't above all of theirs.
-fn greatest_with<'a>(pairs: &[u8], greatest: &'a [u8], key: &'a [u8]) -> Option<&'a [u8]>
-    ensures { (ps : List (Pair Value)) → ArePairs pairs.now ps → IsUpTo greatest.now (keys_of ps) → MatchOption result (has_key (keys_of ps) key.now ≡ true) (λ g. IsNew g.now (keys_of ps) key.now) }
+/// Where a dictionary ends that has pairs from `from` to `start`, and whose next key isn't above all of theirs. It marks
+/// its keys, so that a new one is known without a look at the others.
+#[cycle(checking)]
+fn unsorted_at(bytes: &[u8], from: usize, start: usize, depth: usize) -> Result<usize, Bad>
+    requires order { from ≤ start }
+    requires within { start ≤ length bytes.now }
+    requires depth { depth ≤ 16 }
+    ensures moves { IfOk result (λ next. (start < next) × (next ≤ length bytes.now)) }
+    ensures reads { (os : List Open) (pairs : List (Pair Value)) → suc (length os) ≡ depth → Reached bytes.now from (Keyless os []) → FitsOpen os → Reached bytes.now start (Keyless os pairs) → FitsPairs os pairs
+        → Scans bytes.now result (λ next. (v : Value) × ReadsValue bytes.now from os v next) }
 {
-    if is_above(key, greatest) {
-        return Some(key);
+    let mut marks = [0u64; MOST];
+    let mut count = mark_all(&bytes[from..start], &mut marks);
+    let mut at = start;
+    'loose: while !has_byte(bytes, at, b'e') {
+        let (key, behind) = string_at(bytes, at)?;
+        if !is_new(&bytes[from..at], &marks, count, key) {
+            return Err(Bad::KeyTwice { at });
+        }
+        count = add(&mut marks, count, key);
+        at = value_at(bytes, behind, depth)?;
     }
-    if has_key(pairs, key) {
-        return None;
-    }
-    Some(greatest)
+    Ok(at + 1)
+}
+
+/// Whether a key is the first, or above the greatest.
+fn is_next(first: bool, greatest: &[u8], key: &[u8]) -> bool
+    ensures { IsNext first (key_cmp key.now greatest.now) result }
+{
+    first || is_above(key, greatest)
 }
 
 /// Whether a key comes after another.
@@ -127,11 +145,4 @@ fn is_above(a: &[u8], b: &[u8]) -> bool
         Ordering::Equal => false,
         Ordering::Less => false,
     }
-}
-
-/// Whether a key is among pairs.
-fn has_key(pairs: &[u8], key: &[u8]) -> bool
-    ensures { (ps : List (Pair Value)) → ArePairs pairs.now ps → result ≡ has_key (keys_of ps) key.now }
-{
-    find(pairs, key).is_some()
 }

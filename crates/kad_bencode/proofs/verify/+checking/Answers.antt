@@ -1,11 +1,16 @@
-use Rattle.std.proofs.Common.{List, subst, [], ◌∷◌, ◌++◌, refl, ◌∙◌, arith, true, false}
+use Rattle.std.proofs.Common.{List, ◌≤◌, nat_eq, sym, subst, [], ◌∷◌, ◌++◌, refl, ◌∙◌, arith, true, false}
 use Rattle.std.proofs.lemmas.Result.{err_from_is_err_and}
 use Rattle.kad_bencode.specs.Keys.{put, keys_of}
 use Rattle.kad_bencode.specs.Faults.{InList, InPair}
 use Rattle.kad_bencode.specs.Machine.{AsKey, AsValue}
 use Rattle.kad_bencode.specs.declared.value.Value.TheVariants as value
 use Rattle.kad_bencode.proofs.Nested.{awaits_integer, integer_value, deep_list, deep_dictionary, list_opened, dictionary_opened, opened_value, awaits_text, text_value, list_awaits, list_more, list_ends, PairsSoFar, pairs_await, key_twice, key_new, pairs_more, pairs_end}
-use Rattle.kad_bencode.proofs.Verifying.{handed, widened, key_known, are_pairs, up_to_more, same_pairs}
+use Rattle.kad_bencode.proofs.Verifying.{handed, widened, key_known, are_pairs, up_to_more, same_pairs, next_key, not_new, is_fresh, from_eq}
+use Rattle.kad_bencode.proofs.Marked.{all_more}
+use Rattle.kad_bencode.proofs.Limits.{keys_push}
+use Rattle.kad_bencode.proofs.Folds.{ordered_pairs}
+use Rattle.kad_bencode.specs.Spelling.{put_all}
+use Rattle.kad_bencode.specs.Marking.{AreAll}
 use Rattle.kad_bencode.specs.declared.entries.Pair.{Pair}
 use Rattle.kad_bencode.specs.declared.value.Value.{Value}
 use Rattle.kad_bencode.specs.Finding.{IsUpTo}
@@ -71,18 +76,16 @@ dictionary_at-returns-in_err-key-clause-reads t c os d r f =
     let p = err_from_is_err_and c.from_residual.result c.from_residual.ensures.1 in
     handed c.args.bytes.now c.from_residual.result _ p.0 _ p.1 p.2 (c.in_err-key.ensures.reads (AsKey os e.1.pairs) (pairs_await c.args.bytes.now c.pairs.at os e.0 e.1 f c.pairs.invariant.within c.pairs-test.ensures))
 
-pub dictionary_at-returns-in-None-clause-reads : goal.dictionary_at-returns-in-None-clause-reads
-dictionary_at-returns-in-None-clause-reads t c os d r f =
+pub dictionary_at-returns-then-not-is_next-clause-reads : goal.dictionary_at-returns-then-not-is_next-clause-reads
+dictionary_at-returns-then-not-is_next-clause-reads t c os d r f =
     let e = c.pairs.invariant.so_far os d r f in
-    key_twice c.args.bytes.now c.pairs.at os e.0 c.in_ok-key.key.now c.in_ok-key.behind e.1 c.pairs.invariant.within
-    (c.in_ok-key.ensures.reads (AsKey os e.1.pairs) (pairs_await c.args.bytes.now c.pairs.at os e.0 e.1 f c.pairs.invariant.within c.pairs-test.ensures))
-    (key_known c.args.bytes.now c.args.from c.pairs.at os e.0 e.1 c.pairs.invariant.after c.pairs.invariant.within r c.in_ok-key.key.now true (c.in-None.ensures e.1.pairs (are_pairs c.args.bytes.now c.args.from c.pairs.at os e.0 e.1 c.pairs.invariant.after c.pairs.invariant.within r) e.2))
+    c.unsorted_at.ensures.reads os e.1.pairs d r f e.1.reached e.1.fits
 
 pub dictionary_at-returns-in_err-at-clause-reads : goal.dictionary_at-returns-in_err-at-clause-reads
 dictionary_at-returns-in_err-at-clause-reads t c os d r f =
     let e = c.pairs.invariant.so_far os d r f in
     let s = c.in_ok-key.ensures.reads (AsKey os e.1.pairs) (pairs_await c.args.bytes.now c.pairs.at os e.0 e.1 f c.pairs.invariant.within c.pairs-test.ensures) in
-    let n = c.in-Some.ensures e.1.pairs (are_pairs c.args.bytes.now c.args.from c.pairs.at os e.0 e.1 c.pairs.invariant.after c.pairs.invariant.within r) e.2 in
+    let n = next_key c.args.bytes.now c.args.from c.pairs.at os e.1.pairs r e.1.reached (nat_eq c.pairs.at c.args.from) (from_eq c.pairs.at c.args.from) c.pairs.greatest.now c.in_ok-key.key.now c.is_next.result (let t = c.if-not-is_next.false in cc) c.is_next.ensures e.2 in
     let new = key_known c.args.bytes.now c.args.from c.pairs.at os e.0 e.1 c.pairs.invariant.after c.pairs.invariant.within r c.in_ok-key.key.now false n.new in
     let p = err_from_is_err_and c.from_residual-in_err-at.result c.from_residual-in_err-at.ensures.1 in
     handed c.args.bytes.now c.from_residual-in_err-at.result _ p.0 _ p.1 p.2 (c.in_err-at.ensures.reads (InPair e.1.pairs c.in_ok-key.key.now ∷ os) d (key_new c.args.bytes.now c.pairs.at os e.0 c.in_ok-key.key.now c.in_ok-key.behind e.1 f s new))
@@ -94,12 +97,12 @@ dictionary_at-pairs-preserved t c = record {
   so_far = λ os d r f.
       let e = c.pairs.invariant.so_far os d r f in
       let s = c.in_ok-key.ensures.reads (AsKey os e.1.pairs) (pairs_await c.args.bytes.now c.pairs.at os e.0 e.1 f c.pairs.invariant.within c.pairs-test.ensures) in
-      let n = c.in-Some.ensures e.1.pairs (are_pairs c.args.bytes.now c.args.from c.pairs.at os e.0 e.1 c.pairs.invariant.after c.pairs.invariant.within r) e.2 in
+      let n = next_key c.args.bytes.now c.args.from c.pairs.at os e.1.pairs r e.1.reached (nat_eq c.pairs.at c.args.from) (from_eq c.pairs.at c.args.from) c.pairs.greatest.now c.in_ok-key.key.now c.is_next.result (let t = c.if-not-is_next.false in cc) c.is_next.ensures e.2 in
       let new = key_known c.args.bytes.now c.args.from c.pairs.at os e.0 e.1 c.pairs.invariant.after c.pairs.invariant.within r c.in_ok-key.key.now false n.new in
       let v = c.in_ok-at.ensures.reads (InPair e.1.pairs c.in_ok-key.key.now ∷ os) d (key_new c.args.bytes.now c.pairs.at os e.0 c.in_ok-key.key.now c.in_ok-key.behind e.1 f s new) in
       let more : PairsSoFar c.args.bytes.now c.in_ok-at.at os (put e.0 c.in_ok-key.key.now v.0) = pairs_more c.args.bytes.now c.pairs.at os e.0 c.in_ok-key.key.now c.in_ok-key.behind v.0 c.in_ok-at.at e.1 new v.1 in
       let added : List (Pair Value) = e.1.pairs ++ record { key = c.in_ok-key.key.now; value = v.1.tree } ∷ [] in
-      (put e.0 c.in_ok-key.key.now v.0, more, subst (λ ps. IsUpTo c.in-Some.key.now (keys_of ps)) (same_pairs c.args.bytes.now c.in_ok-at.at os added more.pairs v.1.reached more.reached) (up_to_more c.in-Some.key.now e.1.pairs c.in_ok-key.key.now v.1.tree n));
+      (put e.0 c.in_ok-key.key.now v.0, more, subst (λ ps. IsUpTo c.in_ok-key.key.now (keys_of ps)) (same_pairs c.args.bytes.now c.in_ok-at.at os added more.pairs v.1.reached more.reached) (up_to_more c.in_ok-key.key.now e.1.pairs c.in_ok-key.key.now v.1.tree n));
 }
 
 pub dictionary_at-returns-clause-reads : goal.dictionary_at-returns-clause-reads
@@ -113,3 +116,61 @@ dictionary_at-pairs-init t c = record {
   within = c.requires.within;
   so_far = λ os d r f. ([], record { pairs = []; reached = r; fits = (let few = c.requires.depth in omega (arith, d, few), tt, refl); names = refl }, tt);
 }
+
+-- ---- dictionaries whose keys are out of order
+
+pub unsorted_at-loose-init : goal.unsorted_at-loose-init
+unsorted_at-loose-init t c = record {
+  after = omega arith;
+  within = c.requires.within;
+  so_far = λ os ps d r f g h.
+      let so : PairsSoFar c.args.bytes.now c.args.start os (put_all [] (ordered_pairs ps)) = record { pairs = ps; reached = g; fits = h; names = refl } in
+      (put_all [] (ordered_pairs ps), so, c.mark_all-count.ensures ps (are_pairs c.args.bytes.now c.args.from c.args.start os (put_all [] (ordered_pairs ps)) so c.requires.order c.requires.within r));
+}
+
+pub unsorted_at-returns-in_err-key-clause-reads : goal.unsorted_at-returns-in_err-key-clause-reads
+unsorted_at-returns-in_err-key-clause-reads t c os ps d r f g h =
+    let e = c.loose.invariant.so_far os ps d r f g h in
+    let p = err_from_is_err_and c.from_residual.result c.from_residual.ensures.1 in
+    handed c.args.bytes.now c.from_residual.result _ p.0 _ p.1 p.2 (c.in_err-key.ensures.reads (AsKey os e.1.pairs) (pairs_await c.args.bytes.now c.loose.at os e.0 e.1 f c.loose.invariant.within c.loose-test.ensures))
+
+pub unsorted_at-returns-then-not-is_new-clause-reads : goal.unsorted_at-returns-then-not-is_new-clause-reads
+unsorted_at-returns-then-not-is_new-clause-reads t c os ps d r f g h =
+    let e = c.loose.invariant.so_far os ps d r f g h in
+    let after : c.args.from ≤ c.loose.at = omega (arith, c.requires.order, c.loose.invariant.after) in
+    let told = c.is_new.ensures e.1.pairs (are_pairs c.args.bytes.now c.args.from c.loose.at os e.0 e.1 after c.loose.invariant.within r) e.2 in
+    key_twice c.args.bytes.now c.loose.at os e.0 c.in_ok-key.key.now c.in_ok-key.behind e.1 c.loose.invariant.within
+    (c.in_ok-key.ensures.reads (AsKey os e.1.pairs) (pairs_await c.args.bytes.now c.loose.at os e.0 e.1 f c.loose.invariant.within c.loose-test.ensures))
+    (key_known c.args.bytes.now c.args.from c.loose.at os e.0 e.1 after c.loose.invariant.within r c.in_ok-key.key.now true (not_new _ c.is_new.result told (let t = c.if-not-is_new.true in cc)))
+
+pub unsorted_at-returns-in_err-at-clause-reads : goal.unsorted_at-returns-in_err-at-clause-reads
+unsorted_at-returns-in_err-at-clause-reads t c os ps d r f g h =
+    let e = c.loose.invariant.so_far os ps d r f g h in
+    let after : c.args.from ≤ c.loose.at = omega (arith, c.requires.order, c.loose.invariant.after) in
+    let s = c.in_ok-key.ensures.reads (AsKey os e.1.pairs) (pairs_await c.args.bytes.now c.loose.at os e.0 e.1 f c.loose.invariant.within c.loose-test.ensures) in
+    let told = c.is_new.ensures e.1.pairs (are_pairs c.args.bytes.now c.args.from c.loose.at os e.0 e.1 after c.loose.invariant.within r) e.2 in
+    let new = key_known c.args.bytes.now c.args.from c.loose.at os e.0 e.1 after c.loose.invariant.within r c.in_ok-key.key.now false (is_fresh _ c.is_new.result told (let t = c.if-not-is_new.false in cc)) in
+    let p = err_from_is_err_and c.from_residual-in_err-at.result c.from_residual-in_err-at.ensures.1 in
+    handed c.args.bytes.now c.from_residual-in_err-at.result _ p.0 _ p.1 p.2 (c.in_err-at.ensures.reads (InPair e.1.pairs c.in_ok-key.key.now ∷ os) d (key_new c.args.bytes.now c.loose.at os e.0 c.in_ok-key.key.now c.in_ok-key.behind e.1 f s new))
+
+pub unsorted_at-loose-preserved : goal.unsorted_at-loose-preserved
+unsorted_at-loose-preserved t c = record {
+  after = omega (arith, c.in_ok-key.ensures.moves, c.in_ok-at.ensures.moves, c.loose.invariant.after);
+  within = omega (arith, c.in_ok-at.ensures.moves);
+  so_far = λ os ps d r f g h.
+      let e = c.loose.invariant.so_far os ps d r f g h in
+      let after : c.args.from ≤ c.loose.at = omega (arith, c.requires.order, c.loose.invariant.after) in
+      let s = c.in_ok-key.ensures.reads (AsKey os e.1.pairs) (pairs_await c.args.bytes.now c.loose.at os e.0 e.1 f c.loose.invariant.within c.loose-test.ensures) in
+      let told = c.is_new.ensures e.1.pairs (are_pairs c.args.bytes.now c.args.from c.loose.at os e.0 e.1 after c.loose.invariant.within r) e.2 in
+      let new = key_known c.args.bytes.now c.args.from c.loose.at os e.0 e.1 after c.loose.invariant.within r c.in_ok-key.key.now false (is_fresh _ c.is_new.result told (let t = c.if-not-is_new.false in cc)) in
+      let v = c.in_ok-at.ensures.reads (InPair e.1.pairs c.in_ok-key.key.now ∷ os) d (key_new c.args.bytes.now c.loose.at os e.0 c.in_ok-key.key.now c.in_ok-key.behind e.1 f s new) in
+      let more : PairsSoFar c.args.bytes.now c.in_ok-at.at os (put e.0 c.in_ok-key.key.now v.0) = pairs_more c.args.bytes.now c.loose.at os e.0 c.in_ok-key.key.now c.in_ok-key.behind v.0 c.in_ok-at.at e.1 new v.1 in
+      let added : List (Pair Value) = e.1.pairs ++ record { key = c.in_ok-key.key.now; value = v.1.tree } ∷ [] in
+      let marked : AreAll c.add-count.result c.add-count.new.marks (keys_of added) = subst (AreAll c.add-count.result c.add-count.new.marks) (sym (keys_push e.1.pairs c.in_ok-key.key.now v.1.tree)) (all_more c.loose.count c.add-count.result c.loose.marks c.add-count.new.marks (keys_of e.1.pairs) c.in_ok-key.key.now e.2 c.add-count.ensures) in
+      (put e.0 c.in_ok-key.key.now v.0, more, subst (λ qs. AreAll c.add-count.result c.add-count.new.marks (keys_of qs)) (same_pairs c.args.bytes.now c.in_ok-at.at os added more.pairs v.1.reached more.reached) marked);
+}
+
+pub unsorted_at-returns-clause-reads : goal.unsorted_at-returns-clause-reads
+unsorted_at-returns-clause-reads t c os ps d r f g h =
+    let e = c.loose.invariant.so_far os ps d r f g h in
+    (value.Dict e.0, pairs_end c.args.bytes.now c.args.from c.loose.at os e.0 e.1 (omega (arith, c.requires.order, c.loose.invariant.after)) c.loose-test.ensures)

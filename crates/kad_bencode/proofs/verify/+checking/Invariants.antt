@@ -1,22 +1,23 @@
 use Rattle.std.proofs.Common.{◌≡◌, suc, ◌+◌, ◌-◌, ◌*◌, ◌≤◌, List, [], ◌∷◌, length}
 use Rattle.kad_bencode.specs.Faults.{Open, InList}
-use Rattle.kad_bencode.specs.Machine.{Reached, Ready, Keyless, FitsOpen}
+use Rattle.kad_bencode.specs.Machine.{Reached, Ready, Keyless, FitsOpen, FitsPairs}
 use Rattle.kad_bencode.proofs.Nested.{ListSoFar, PairsSoFar}
 use Rattle.kad_bencode.specs.declared.entries.Pair.{Pair}
 use Rattle.kad_bencode.specs.declared.value.Value.{Value}
 use Rattle.kad_bencode.specs.Keys.{keys_of}
 use Rattle.kad_bencode.specs.Finding.{IsUpTo}
+use Rattle.kad_bencode.specs.Marking.{AreAll}
 use Rattle.kad_bencode.proofs.verify.+checking.Given as goal
 
 -- the lists and dictionaries that may still be opened
 abbrev pub decreases-value_at : goal.decreases-value_at
-decreases-value_at l = 2 * (16 - l.depth) + 1
+decreases-value_at l = 3 * (16 - l.depth) + 1
 
 abbrev pub decreases-list_at : goal.decreases-list_at
-decreases-list_at l = 2 * (16 - l.depth) + 2
+decreases-list_at l = 3 * (16 - l.depth) + 2
 
 abbrev pub decreases-dictionary_at : goal.decreases-dictionary_at
-decreases-dictionary_at l = 2 * (16 - l.depth) + 2
+decreases-dictionary_at l = 3 * (16 - l.depth) + 3
 
 abbrev pub invariant-list_at-values : goal.invariant-list_at-values
 invariant-list_at-values l = record {
@@ -37,3 +38,16 @@ invariant-dictionary_at-pairs l = record {
 
 abbrev pub decreases-dictionary_at-pairs : goal.decreases-dictionary_at-pairs
 decreases-dictionary_at-pairs l = length l.bytes - l.at
+
+abbrev pub decreases-unsorted_at : goal.decreases-unsorted_at
+decreases-unsorted_at l = 3 * (16 - l.depth) + 2
+
+abbrev pub invariant-unsorted_at-loose : goal.invariant-unsorted_at-loose
+invariant-unsorted_at-loose l = record {
+  after : l.start ≤ l.at;
+  within : l.at ≤ length l.bytes;
+  so_far : (os : List Open) (pairs : List (Pair Value)) → suc (length os) ≡ l.depth → Reached l.bytes l.from (Keyless os []) → FitsOpen os → Reached l.bytes l.start (Keyless os pairs) → FitsPairs os pairs → (entries : List (Pair Value)) × (so : PairsSoFar l.bytes l.at os entries) × AreAll l.count l.marks (keys_of so.pairs);
+}
+
+abbrev pub decreases-unsorted_at-loose : goal.decreases-unsorted_at-loose
+decreases-unsorted_at-loose l = length l.bytes - l.at
