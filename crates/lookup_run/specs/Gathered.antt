@@ -1,0 +1,83 @@
+-- What the heard answers of a lookup gave beside contacts: peers and tokens (BEP 5).
+use Rattle.std.specs.Prelude.{◌≡◌, ◌⊎◌, ◌↔◌, ℕ, List, [], ◌∷◌, ◌++◌, Option, Some, None, Contains}
+use Rattle.std.specs.List.{flat_map}
+use Rattle.std.specs.List.Sorted.{IsStrictlySortedBy}
+use Rattle.std.specs.Ordering.{ordering_then, nat_cmp}
+use Rattle.std.specs.Cmp.Lexicographic.{slice_cmp}
+use Rattle.std.specs.declared.cmp.Ordering.{Ordering}
+use Rattle.kad_base.specs.declared.plain.Addr.{Addr}
+use Rattle.kad_base.specs.declared.plain.Contact.{Contact}
+use Rattle.kad_base.specs.declared.plain.Event.{Event}
+use Rattle.kad_base.specs.declared.plain.Event.TheVariants.{Now, Sent, Unsent, Got, Quiet}
+use Rattle.kad_base.specs.Contacts.{address_bytes}
+use Rattle.kad_krpc.specs.declared.message.Answer.{Answer}
+use Rattle.claim_book.specs.declared.plain.Entry.{Entry}
+use Rattle.lookup_run.specs.declared.plain.AskKind.{AskKind}
+use Rattle.lookup_run.specs.declared.plain.AskKind.TheVariants.{FindNode, GetPeers}
+use Rattle.lookup_run.specs.declared.plain.Token.{Token}
+use Rattle.lookup_run.specs.declared.reply.Reply.TheVariants as reply
+use Rattle.lookup_run.specs.Tells.{Given, OpenQuery, Seen, Replies, Gives, part_of, begun}
+
+-- a contact that answered, and its answer
+pub record Answered : Type 0 where
+  pub contact : Contact
+  pub answer : Answer
+
+-- the datagram is the answer of a contact that was asked, in its own name
+pub record HeardIn (s : Seen) (from : Addr) (bytes : List ℕ) (a : Answered) : Type 0 where
+  pub query : OpenQuery
+  pub is_open : Contains s.queries query
+  pub replies : Replies bytes from query (reply.Answer a.answer)
+  pub own_name : a.answer.id ≡ query.contact.id
+  pub contact_is : a.contact ≡ query.contact
+
+-- what one event shows to be heard
+abbrev pub Hears : Seen → Event → List Answered → Type 0
+Hears s (Got from bytes until at) found =
+    ((a : Answered) × HeardIn s from bytes a × (found ≡ a ∷ []))
+    ⊎ (((a : Answered) → ¬ HeardIn s from bytes a) × (found ≡ []))
+Hears s other found = found ≡ []
+
+pub record HearsStep (g : Given) (J : List Entry) (s : Seen) (e : Event) : Type 0 where
+  pub mid : Seen
+  pub gives : Gives g J s e mid
+  pub found : List Answered
+  pub hears : Hears s e found
+
+-- what the events show to be heard, in order
+abbrev pub HearsFrom : Given → List Entry → Seen → List Event → List Answered → Type 0
+HearsFrom g J s [] heard = heard ≡ []
+HearsFrom g J s (e ∷ es) heard = (step : HearsStep g J s e) × (rest : List Answered) × HearsFrom g J step.mid es rest × (heard ≡ step.found ++ rest)
+
+-- in the order of the bytes of the address and then of the port, IPv4 first
+abbrev pub addr_cmp : Addr → Addr → Ordering
+addr_cmp a b = ordering_then (slice_cmp nat_cmp (address_bytes a.ip) (address_bytes b.ip)) (nat_cmp a.port b.port)
+
+-- the different members of a list of addresses, in order
+pub record IsEachOnce (all found : List Addr) : Type 0 where
+  pub in_order : IsStrictlySortedBy addr_cmp found
+  pub same : (a : Addr) → Contains found a ↔ Contains all a
+
+abbrev pub values_of : Answered → List Addr
+values_of a = part_of a.answer.values
+
+abbrev pub tokens_in : Contact → Option (List ℕ) → List Token
+tokens_in c None = []
+tokens_in c (Some token) = record { contact = c; token = token } ∷ []
+
+abbrev pub token_of : Answered → List Token
+token_of a = tokens_in a.contact a.answer.token
+
+-- the peers that the answers named, and the tokens that they gave, where those were asked for
+abbrev pub GathersOf : AskKind → List Answered → List Addr → List Token → Type 0
+GathersOf FindNode heard peers tokens = (peers ≡ []) × (tokens ≡ [])
+GathersOf GetPeers heard peers tokens = IsEachOnce (flat_map values_of heard) peers × (tokens ≡ flat_map token_of heard)
+
+-- what was gathered is what the events show
+pub record Gathers (g : Given) (J : List Entry) (events : List Event) (peers : List Addr) (tokens : List Token) : Type 0 where
+  pub at : ℕ
+  pub rest : List Event
+  pub first : events ≡ Now at ∷ rest
+  pub heard : List Answered
+  pub hears : HearsFrom g J (begun at) rest heard
+  pub gathers : GathersOf g.kind heard peers tokens

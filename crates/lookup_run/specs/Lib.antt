@@ -1,0 +1,6 @@
+pub mod Tells
+pub mod Rounds
+pub mod Gathered
+pub mod Lookup
+pub mod Standing
+pub mod Steps

@@ -1,0 +1,125 @@
+-- What a lookup promises: its journal, the table that comes back, and what holds where it ended early.
+use Rattle.std.specs.Prelude.{◌≡◌, ◌≢◌, ◌⊎◌, ℕ, ◌+◌, ◌<◌, ◌≤◌, List, [], ◌∷◌, ◌++◌, length, map, Option}
+use Rattle.std.specs.List.{All, AllByRecursion, flat_map}
+use Rattle.kad_base.specs.declared.plain.Addr.{Addr}
+use Rattle.kad_base.specs.declared.plain.Contact.{Contact}
+use Rattle.kad_base.specs.declared.plain.Event.{Event}
+use Rattle.kad_base.specs.declared.plain.Event.TheVariants.{Got}
+use Rattle.kad_base.specs.declared.serial.Made.{Made}
+use Rattle.kad_base.specs.Contacts.{IsUsable}
+use Rattle.kad_base.specs.Limits.{max_k, max_paths, max_alpha}
+use Rattle.kad_base.specs.Outside.{Grows}
+use Rattle.kad_base.specs.Serial.{left_by, IsRun}
+use Rattle.kad_distance.specs.KClosest.{k_closest}
+use Rattle.id_puzzles.specs.Drawn.{WordsState}
+use Rattle.contact_table.specs.declared.calls.TableCall.{TableCall}
+use Rattle.contact_table.specs.declared.calls.TableCall.TheVariants.{Seen as Seen_call, Failed, Closest}
+use Rattle.contact_table.specs.declared.calls.TableReply.{TableReply}
+use Rattle.contact_table.specs.declared.calls.TableReply.TheVariants.{NoMemory}
+use Rattle.contact_table.specs.TableState.{TableState}
+use Rattle.contact_table.specs.TableStep.{TableMay, TableStep, table_after, contacts_of}
+use Rattle.claim_book.specs.declared.plain.Setting.{Setting}
+use Rattle.claim_book.specs.declared.plain.Cause.{Cause}
+use Rattle.claim_book.specs.declared.plain.Cause.TheVariants.{Timeout}
+use Rattle.claim_book.specs.declared.plain.Entry.{Entry}
+use Rattle.claim_book.specs.declared.plain.Entry.TheVariants.{Lost, Note}
+use Rattle.claim_book.specs.Journal.{seeds, asked}
+use Rattle.claim_book.specs.Legal.{Legal}
+use Rattle.claim_book.specs.RunOut.{RunOut}
+use Rattle.claim_book.specs.Result.{result_of}
+use Rattle.claim_book.specs.Calls.{Counted}
+use Rattle.lookup_run.specs.declared.plain.LookSetting.{LookSetting}
+use Rattle.lookup_run.specs.declared.plain.Outcome.{Outcome}
+use Rattle.lookup_run.specs.Tells.{Given, Seen, TellsSoFar, Tells}
+use Rattle.lookup_run.specs.Rounds.{Rounds}
+use Rattle.lookup_run.specs.Gathered.{Gathers}
+
+-- what the book is set to
+abbrev pub setting_of : LookSetting → Setting
+setting_of look = record { own = look.own; target = look.target; k = look.k; paths = look.paths; alpha = look.alpha; policy = look.policy }
+
+-- the setting is within the limits
+pub record IsWithinLimits (look : LookSetting) : Type 0 where
+  pub few : look.k ≤ max_k
+  pub some_path : 1 ≤ look.paths
+  pub few_paths : look.paths ≤ max_paths
+  pub some_query : 1 ≤ look.alpha
+  pub few_queries : look.alpha ≤ max_alpha
+
+-- the events of a lookup that starts here
+abbrev pub given_of : LookSetting → WordsState → Given
+given_of look words = record { setting = setting_of look; timeout = look.timeout; kind = look.kind; seed = words.seed; place = words.place }
+
+-- the contacts that a lookup begins with: the k closest of the table (Kademlia, 2002, section 2.3)
+abbrev pub seeds_in : LookSetting → TableState → List Contact
+seeds_in look table = k_closest look.target look.k (contacts_of table)
+
+-- a word for each contact that was asked
+abbrev pub drawn_for : WordsState → List Entry → WordsState
+drawn_for words J = record { seed = words.seed; place = words.place + length (asked J) }
+
+-- A whole lookup. Its journal is legal, starts with the closest contacts of the table, is what the link's events tell,
+-- goes by rounds, and has run out on every path; what was found is its result; each word that was drawn went to one
+-- contact; and the peers and tokens are those of the answers that were heard.
+pub record LooksUp (look : LookSetting) (table : TableState) (words words' : WordsState) (told told' : Option (List Event)) (outcome : Outcome) : Type 0 where
+  pub legal : Legal (setting_of look) outcome.journal
+  pub seeds_are : seeds outcome.journal ≡ seeds_in look table
+  pub tells : Grows told told' (λ events. Tells (given_of look words) outcome.journal events)
+  pub run_out : (p : ℕ) → p < look.paths → RunOut (setting_of look) p outcome.journal
+  pub found : outcome.found ≡ result_of (setting_of look) outcome.journal
+  pub counted : Counted outcome.journal outcome.counts
+  pub drawn : words' ≡ drawn_for words outcome.journal
+
+-- the events, without the last one where that is a datagram, tell the journal so far
+pub record TellsEarly (g : Given) (J : List Entry) (events : List Event) : Type 0 where
+  pub front : List Event
+  pub end : Seen
+  pub so_far : TellsSoFar g J front end
+  pub whole : (events ≡ front) ⊎ ((from : Addr) × (bytes : List ℕ) × (until : ℕ) × (at : ℕ) × (events ≡ front ++ Got from bytes until at ∷ []))
+
+-- A lookup that ended early: there is a legal journal with the same seeds that the events tell so far, so nobody was asked
+-- twice either.
+pub record Unfinished (look : LookSetting) (table : TableState) (words words' : WordsState) (told told' : Option (List Event)) : Type 0 where
+  pub journal : List Entry
+  pub legal : Legal (setting_of look) journal
+  pub seeds_are : seeds journal ≡ seeds_in look table
+  pub tells : Grows told told' (λ events. TellsEarly (given_of look words) journal events)
+  pub drawn : words' ≡ drawn_for words journal
+
+-- ---- the table
+
+-- a call of the table, and who makes it
+pub record Told : Type 0 where
+  pub role : ℕ
+  pub call : TableCall
+
+abbrev pub told_in : Made TableCall TableReply → Told
+told_in m = record { role = m.role; call = m.call }
+
+-- the driver tells the table who let the time pass, and the worker of a path who answered (Kademlia, 2002, section 2.2)
+abbrev pub lost_by : Contact → Cause → List Told
+lost_by c Timeout = record { role = 0; call = Failed c } ∷ []
+lost_by c other = []
+
+abbrev pub told_of : Entry → List Told
+told_of (Lost p c cause) = lost_by c cause
+told_of (Note p c) = record { role = p + 1; call = Seen_call c } ∷ []
+told_of other = []
+
+-- the calls of a lookup: it asks for its seeds, and then tells what its journal has, in order
+abbrev pub table_calls : LookSetting → List Entry → List Told
+table_calls look J = record { role = 0; call = Closest look.target look.k } ∷ flat_map told_of J
+
+-- one table is what the other becomes by some run
+pub record TableRan (table table' : TableState) : Type 0 where
+  pub run : List (Made TableCall TableReply)
+  pub is_run : IsRun TableMay TableStep table_after table run
+  pub leaves : table' ≡ left_by table_after table run
+
+-- by the run of these calls, none of which wanted memory
+pub record TableTold (calls : List Told) (table table' : TableState) : Type 0 where
+  pub run : List (Made TableCall TableReply)
+  pub is_run : IsRun TableMay TableStep table_after table run
+  pub leaves : table' ≡ left_by table_after table run
+  pub calls_are : map told_in run ≡ calls
+  pub kept : All (λ m. m.reply ≢ NoMemory) run

@@ -1,0 +1,147 @@
+-- Where a lookup stands between two calls on its link: what its events showed, its journal, its open queries and its table.
+use Rattle.std.specs.Prelude.{◌≡◌, ◌≢◌, ℕ, ◌+◌, ◌-◌, ◌*◌, ◌^◌, ◌<◌, ◌≤◌, List, [], ◌∷◌, ◌++◌, length, map, Option}
+use Rattle.std.specs.List.{All, AllByRecursion, flat_map}
+use Rattle.kad_base.specs.declared.plain.Event.{Event}
+use Rattle.kad_base.specs.declared.plain.Event.TheVariants.{Now}
+use Rattle.kad_base.specs.Limits.{max_datagram, max_strays, max_round_receives}
+use Rattle.kad_base.specs.Outside.{Grows}
+use Rattle.kad_base.specs.Words.{word_bytes}
+use Rattle.kad_krpc.specs.declared.message.Message.{Message}
+use Rattle.kad_krpc.specs.Reading.{Says}
+use Rattle.id_puzzles.specs.Drawn.{WordsState}
+use Rattle.query_book.specs.declared.Query.{Query}
+use Rattle.contact_table.specs.TableState.{TableState}
+use Rattle.claim_book.specs.declared.plain.Entry.{Entry}
+use Rattle.claim_book.specs.Journal.{seeds, asked, open_any}
+use Rattle.claim_book.specs.Legal.{seeded}
+use Rattle.claim_book.specs.Calls.{asker}
+use Rattle.lookup_run.specs.declared.plain.AskKind.{AskKind}
+use Rattle.lookup_run.specs.declared.plain.AskKind.TheVariants.{FindNode, GetPeers}
+use Rattle.lookup_run.specs.declared.plain.LookSetting.{LookSetting}
+use Rattle.lookup_run.specs.declared.plain.Gathered.{Gathered}
+use Rattle.lookup_run.specs.declared.plain.Work.{Work}
+use Rattle.lookup_run.specs.declared.reply.Reply.{Reply}
+use Rattle.lookup_run.specs.declared.reply.Said.{Said}
+use Rattle.lookup_run.specs.Tells.{Given, OpenQuery, Seen, deadline_of, driven, Gives, SaysTo, begun}
+use Rattle.lookup_run.specs.Rounds.{path_number, SettlesIn, InTurn}
+use Rattle.lookup_run.specs.Gathered.{Answered, Hears, values_of, token_of}
+use Rattle.lookup_run.specs.Lookup.{setting_of, given_of, seeds_in, drawn_for, table_calls, TableTold}
+
+-- ---- what a datagram says
+
+-- no word has these four bytes
+abbrev pub IsNoId : List ℕ → Type 0
+IsNoId bytes = (w : ℕ) → w < 2 ^ 32 → bytes ≢ word_bytes w
+
+-- the message says nothing to whatever query
+abbrev pub SaysNothing : Message → Type 0
+SaysNothing m = (w : ℕ) (r : Reply) → w < 2 ^ 32 → ¬ SaysTo (word_bytes w) m r
+
+-- it says this, and nothing else
+pub record SaysAll (m : Message) (said : Said) : Type 0 where
+  pub says_it : SaysTo (word_bytes said.tx) m said.reply
+  pub same_id : (w : ℕ) (r : Reply) → w < 2 ^ 32 → SaysTo (word_bytes w) m r → w ≡ said.tx
+  pub same_reply : (w : ℕ) (r : Reply) → w < 2 ^ 32 → SaysTo (word_bytes w) m r → r ≡ said.reply
+
+-- the datagram replies to the query of this transaction id, whoever sent it
+pub record RepliesTo (bytes : List ℕ) (w : ℕ) (r : Reply) : Type 0 where
+  pub short : length bytes ≤ max_datagram
+  pub message : Message
+  pub says : Says bytes message
+  pub to_query : SaysTo (word_bytes w) message r
+
+abbrev pub IsNoReply : List ℕ → Type 0
+IsNoReply bytes = (w : ℕ) (r : Reply) → w < 2 ^ 32 → ¬ RepliesTo bytes w r
+
+pub record IsReply (bytes : List ℕ) (said : Said) : Type 0 where
+  pub replies : RepliesTo bytes said.tx said.reply
+  pub same_id : (w : ℕ) (r : Reply) → w < 2 ^ 32 → RepliesTo bytes w r → w ≡ said.tx
+  pub same_reply : (w : ℕ) (r : Reply) → w < 2 ^ 32 → RepliesTo bytes w r → r ≡ said.reply
+
+-- ---- the driver's own state
+
+-- an open query with its path, which is the one that asked its contact
+abbrev pub as_open : List Entry → Query → OpenQuery
+as_open J q = record { path = asker q.contact J; contact = q.contact; tx = q.tx; deadline = q.deadline }
+
+-- the book is that of the lookup, and its open contacts are those of the open queries, in order
+pub record Keeps (look : LookSetting) (work : Work) : Type 0 where
+  pub setting : work.book.setting ≡ setting_of look
+  pub is_open : map (λ q. q.contact) work.queries ≡ open_any work.book.journal
+  pub ids : AllByRecursion (λ (q : Query). q.tx < 2 ^ 32) work.queries
+  pub deadlines : AllByRecursion (λ (q : Query). q.deadline ≤ deadline_of work.stand.moment look.timeout) work.queries
+  pub few_strays : work.stand.strays < max_strays
+  pub few_receives : work.stand.receives < max_round_receives
+
+-- there is a word for each contact that may still be asked
+abbrev pub HasWords : WordsState → List Entry → Type 0
+HasWords words J = words.place < 2 ^ 59 + length (asked J)
+
+-- how far a lookup is from its end: an ask takes two and may give one back, a reply or a timeout takes one, and so does a
+-- stray
+abbrev pub weight_of : Work → ℕ
+weight_of work = 2 * (2048 - length (asked work.book.journal)) + (length work.queries + (max_strays - work.stand.strays))
+
+-- ---- what was told
+
+-- one event after the part P of the journal J, with all that it shows
+pub record Step (g : Given) (J P : List Entry) (s : Seen) (e : Event) : Type 0 where
+  pub mid : Seen
+  pub between : List Entry
+  pub gave : List Entry
+  pub found : List Answered
+  pub gives : Gives g J s e mid
+  pub given : mid.given ≡ s.given ++ gave
+  pub settles : SettlesIn s.receives between
+  pub in_turn : InTurn g.setting (P ++ between) s e gave
+  pub hears : Hears s e found
+
+-- the events, one after another, from the part P of the journal J to its part Q
+abbrev pub Walk : Given → List Entry → List Entry → Seen → List Event → Seen → List Entry → List Answered → Type 0
+Walk g J P s [] t Q heard = (t ≡ s) × (Q ≡ P) × (heard ≡ [])
+Walk g J P s (e ∷ es) t Q heard =
+    (step : Step g J P s e) × (rest : List Answered) × Walk g J ((P ++ step.between) ++ step.gave) step.mid es t Q rest × (heard ≡ step.found ++ rest)
+
+-- the driver keeps of the events just this
+pub record Stands (g : Given) (work : Work) (place : ℕ) (s : Seen) : Type 0 where
+  pub moment : s.moment ≡ work.stand.moment
+  pub queries : s.queries ≡ map (as_open work.book.journal) work.queries
+  pub sends : g.place + s.sends ≡ place
+  pub strays : s.strays ≡ work.stand.strays
+  pub receives : s.receives ≡ work.stand.receives
+  pub given : s.given ≡ driven work.book.journal
+
+-- and of the answers this
+abbrev pub Keeping : AskKind → List Answered → Gathered → Type 0
+Keeping FindNode heard gathered = (gathered.peers ≡ []) × (gathered.tokens ≡ [])
+Keeping GetPeers heard gathered = (gathered.peers ≡ flat_map values_of heard) × (gathered.tokens ≡ flat_map token_of heard)
+
+-- The events show where the lookup stands. What was settled since the last one is on the first b paths, and what was
+-- asked since the last receive on paths up to a.
+pub record Shows (g : Given) (work : Work) (place b a : ℕ) (events : List Event) : Type 0 where
+  pub at : ℕ
+  pub rest : List Event
+  pub first : events ≡ Now at ∷ rest
+  pub end : Seen
+  pub last : List Entry
+  pub heard : List Answered
+  pub walk : Walk g work.book.journal (seeded g.setting.paths (seeds work.book.journal)) (begun at) rest end last heard
+  pub behind : List Entry
+  pub journal : work.book.journal ≡ last ++ behind
+  pub settles : SettlesIn end.receives behind
+  pub below : AllByRecursion (λ e. path_number e < b) behind
+  pub ascends : AllByRecursion (λ e. path_number e ≤ a) end.since
+  pub stands : Stands g work place end
+  pub keeping : Keeping g.kind heard work.gathered
+
+-- since the lookup began, with these words and this table
+pub record Along (look : LookSetting) (start : WordsState) (table : TableState) (began : Option (List Event)) (words : WordsState) (work : Work) (b a : ℕ) (told : Option (List Event)) : Type 0 where
+  pub drawn : words ≡ drawn_for start work.book.journal
+  pub seeds_are : seeds work.book.journal ≡ seeds_in look table
+  pub tabled : TableTold (table_calls look work.book.journal) table work.table
+  pub shows : Grows began told (λ events. Shows (given_of look start) work words.place b a events)
+
+-- whatever holds since a lookup began goes on to hold
+abbrev pub Goes : LookSetting → WordsState → WordsState → Work → Work → ℕ → ℕ → ℕ → ℕ → Option (List Event) → Option (List Event) → Type 0
+Goes look words words' old new b a b' a' told told' =
+    (start : WordsState) (table : TableState) (began : Option (List Event)) → Along look start table began words old b a told → Along look start table began words' new b' a' told'

@@ -1,0 +1,20 @@
+//! One lookup over a link (S/Kademlia's disjoint paths, 2007, section 4.4, over Kademlia's, 2002, section 2.3): it asks,
+//! receives and settles in rounds, begins with the closest contacts of a routing table and tells the table who answered
+//! and who didn't. It opens no socket and reads no clock but the link's.
+#![tactic(auto)]
+
+mod ask;
+mod gather;
+mod hear;
+mod look_up;
+mod plain;
+mod receive;
+mod reply;
+mod round;
+mod send;
+mod settle;
+#[cfg(test)]
+mod tests;
+
+pub use look_up::look_up_alone;
+pub use plain::{AskKind, LookFault, LookSetting, Outcome, Token, Tokened};

@@ -1,0 +1,139 @@
+//! A whole lookup, from the seeds of a table to where every path has run out.
+ghost use Rattle.std.specs.Prelude.{◌≡◌, ◌≤◌, ◌<◌, ◌^◌, ◌∷◌, [], ℕ, IfOk, IfErr, OnOk, OnErr, IsErrOf};
+ghost use Rattle.std.specs.List.{All};
+ghost use Rattle.kad_base.specs.declared.plain.Event.TheVariants.{Now};
+ghost use Rattle.kad_base.specs.Contacts.{IsUsable};
+ghost use Rattle.kad_base.specs.Limits.{max_strays};
+ghost use Rattle.kad_base.specs.Outside.{Grows, Rose};
+ghost use Rattle.contact_table.specs.TableStep.{contacts_of};
+ghost use Rattle.claim_book.specs.RunOut.{RunOut};
+ghost use Rattle.lookup_run.specs.declared.plain.AskKind.{AskKind};
+ghost use Rattle.lookup_run.specs.Tells.{EndsAtStray};
+ghost use Rattle.lookup_run.specs.Rounds.{Rounds};
+ghost use Rattle.lookup_run.specs.Gathered.{Gathers, IsEachOnce};
+ghost use Rattle.lookup_run.specs.Lookup.{IsWithinLimits, setting_of, given_of, seeds_in, table_calls, LooksUp, TableTold, TableRan, Unfinished};
+ghost use Rattle.lookup_run.specs.Steps.{IsDone, IsBookOf, asks_seeds, IsBegun};
+
+use crate::gather::{in_order, nothing};
+use crate::hear::DRIVER;
+use crate::plain::{Gathered, LookFault, LookSetting, Outcome, Stand, Work};
+use crate::round::go_rounds;
+use claim_book::{Book, BookCall, BookReply};
+use contact_table::{Table, TableCall, TableReply};
+use id_puzzles::Words;
+use kad_base::{Check, Contacts, Link, NoMemory, Serial};
+use query_book::Queries;
+use std::alloc::Global;
+
+/// The contacts that the lookup begins with: the k closest of the table.
+fn seeds_of(table: &mut Table, look: &LookSetting) -> Result<Contacts, NoMemory>
+    ensures seeds { IfOk result (λ seeds. seeds ≡ seeds_in look.now table.old) }
+    ensures table { table.new ≡ table.old }
+    ensures told { OnOk result (TableTold (asks_seeds look.now) table.old table.new) }
+{
+    let call = TableCall::Closest {
+        target: look.target,
+        n: look.k,
+    };
+    match table.apply(DRIVER, call) {
+        TableReply::List { list } => Ok(list),
+        _ => Err(NoMemory),
+    }
+}
+
+/// What the lookup found, where every path has run out.
+fn finish(mut book: Book, gathered: Gathered) -> Result<Outcome, LookFault>
+    requires { (p : ℕ) → p < book.setting.paths → RunOut book.setting p book.journal }
+    ensures done { IfOk result (IsDone book) }
+    ensures peers { IfOk result (λ outcome. IsEachOnce gathered.peers outcome.peers) }
+    ensures tokens { IfOk result (λ outcome. outcome.tokens ≡ gathered.tokens) }
+    ensures fault { IfErr result (λ fault. fault ≡ LookFault.NoMemory) }
+{
+    match book.apply(DRIVER, BookCall::Finish) {
+        BookReply::Found { found, counts } => Ok(Outcome {
+            found,
+            counts,
+            journal: book.into_journal(),
+            peers: in_order(gathered.peers),
+            tokens: gathered.tokens,
+        }),
+        _ => Err(LookFault::NoMemory),
+    }
+}
+
+/// A book that begins with the closest contacts of the table. Without memory the table is as it was.
+fn open_book(alloc: Global, table: &mut Table, look: &LookSetting) -> Result<Book, NoMemory>
+    requires limits { IsWithinLimits look.now }
+    requires usable { All (IsUsable look.now.own) (contacts_of table.old) }
+    ensures book { IfOk result (IsBookOf look.now table.old) }
+    ensures told { OnOk result (TableTold (asks_seeds look.now) table.old table.new) }
+    ensures err { OnErr result (table.new ≡ table.old) }
+{
+    let seeds = seeds_of(table, look)?;
+    Book::new(alloc, look.setting(), seeds.as_slice())
+}
+
+/// What a lookup keeps where it begins, at the moment that the link tells.
+fn begin<L: Link>(alloc: Global, link: &mut L, table: Table, book: Book) -> Work
+    ensures begun { IsBegun book table (L.moment link.new) result }
+    ensures told { Grows (L.told link.old) (L.told link.new) (λ es. es ≡ Now (L.moment link.new) ∷ []) }
+    ensures recv_faults { L.recv_faults link.old ≤ L.recv_faults link.new }
+{
+    Work {
+        book,
+        table,
+        queries: Queries::new(),
+        stand: Stand {
+            moment: link.now(),
+            receives: 0,
+            strays: 0,
+        },
+        gathered: nothing(alloc),
+    }
+}
+
+/// Looks the target up from the k closest contacts of the table, and tells the table who answered and who didn't: asks,
+/// receives and settles in rounds until every path has run out. The table comes back on every answer. It waits for
+/// nobody but the link, and returns for every link.
+pub fn look_up_alone<L: Link, C: Check>(
+    alloc: Global,
+    link: &mut L,
+    words: &mut Words,
+    table: Table,
+    setting: &LookSetting,
+    check: &C,
+) -> (Table, Result<Outcome, LookFault>)
+    requires limits { IsWithinLimits setting.now }
+    requires own { table.own ≡ setting.now.own }
+    requires usable { All (IsUsable setting.now.own) (contacts_of table) }
+    requires place { words.old.place < 2 ^ 59 }
+    ensures lookup { IfOk result.1 (LooksUp setting.now table words.old words.new (L.told link.old) (L.told link.new)) }
+    ensures rounds { IfOk result.1 (λ outcome. Grows (L.told link.old) (L.told link.new) (λ events. Rounds (given_of setting.now words.old) outcome.journal events)) }
+    ensures gathered { IfOk result.1 (λ outcome. Grows (L.told link.old) (L.told link.new) (λ events. Gathers (given_of setting.now words.old) outcome.journal events outcome.peers outcome.tokens)) }
+    ensures none_gathered { IfOk result.1 (λ outcome. setting.now.kind ≡ AskKind.FindNode → (outcome.peers ≡ []) × (outcome.tokens ≡ [])) }
+    ensures table { IfOk result.1 (λ outcome. TableTold (table_calls setting.now outcome.journal) table result.0) }
+    ensures unfinished { IfErr result.1 (λ fault. Unfinished setting.now table words.old words.new (L.told link.old) (L.told link.new)) }
+    ensures table_left { IfErr result.1 (λ fault. TableRan table result.0) }
+    ensures strays { IsErrOf result.1 LookFault.Strays → Grows (L.told link.old) (L.told link.new) (λ events. EndsAtStray (given_of setting.now words.old) events max_strays) }
+    ensures link { IsErrOf result.1 LookFault.LinkFault → Rose (L.recv_faults link.old) (L.recv_faults link.new) }
+    ensures recv_faults { L.recv_faults link.old ≤ L.recv_faults link.new }
+{
+    let mut table = table;
+    let book = match open_book(alloc, &mut table, setting) {
+        Ok(book) => book,
+        Err(_) => return (table, Err(LookFault::NoMemory)),
+    };
+    let mut work = begin(alloc, link, table, book);
+    let ended = go_rounds(alloc, link, &mut work, words, setting, check);
+    let Work {
+        book,
+        table,
+        gathered,
+        queries: _,
+        stand: _,
+    } = work;
+    match ended {
+        Ok(()) => (table, finish(book, gathered)),
+        Err(fault) => (table, Err(fault)),
+    }
+}

@@ -1,0 +1,53 @@
+//! Settling what the answers of a round gave, path by path.
+ghost use Rattle.std.specs.Prelude.{◌≡◌, ◌<◌, ◌+◌, List, Option, IfErr, OnOk, OnErr};
+ghost use Rattle.kad_base.specs.declared.plain.Event.{Event};
+ghost use Rattle.id_puzzles.specs.Drawn.{WordsState};
+ghost use Rattle.lookup_run.specs.Rounds.{AllSettled};
+ghost use Rattle.lookup_run.specs.Lookup.{IsWithinLimits};
+ghost use Rattle.lookup_run.specs.Standing.{Keeps};
+ghost use Rattle.lookup_run.specs.Steps.{SettlesPaths, Stops};
+
+use crate::plain::{LookFault, LookSetting, Work};
+use kad_base::Check;
+use path_worker::settle_alone;
+
+/// Settles all that the path has, and tells the table who answered.
+fn settle_path<C: Check>(
+    work: &mut Work,
+    look: &LookSetting,
+    check: &C,
+    path: u8,
+) -> Result<(), LookFault>
+    requires limits { IsWithinLimits look.now }
+    requires path { path < look.now.paths }
+    requires keeps { Keeps look.now work.old }
+    requires round_over { work.old.stand.receives ≡ 0 }
+    requires settled { AllSettled path work.old.book.journal }
+    ensures ok { (told : Option (List Event)) → OnOk result (SettlesPaths look.now path (path + 1) work.old work.new told) }
+    ensures stops { (told : Option (List Event)) → OnErr result ((words : WordsState) → Stops look.now words words work.old work.new told told) }
+    ensures fault { IfErr result (λ fault. fault ≡ LookFault.NoMemory) }
+{
+    match settle_alone(path, &mut work.book, &mut work.table, look.policy, check) {
+        Ok(_) => Ok(()),
+        Err(_) => Err(LookFault::NoMemory),
+    }
+}
+
+/// Settles all that the paths have, path by path.
+pub(crate) fn settle_all<C: Check>(
+    work: &mut Work,
+    look: &LookSetting,
+    check: &C,
+) -> Result<(), LookFault>
+    requires limits { IsWithinLimits look.now }
+    requires keeps { Keeps look.now work.old }
+    requires round_over { work.old.stand.receives ≡ 0 }
+    ensures ok { (told : Option (List Event)) → OnOk result (SettlesPaths look.now 0 look.now.paths work.old work.new told) }
+    ensures stops { (told : Option (List Event)) → OnErr result ((words : WordsState) → Stops look.now words words work.old work.new told told) }
+    ensures fault { IfErr result (λ fault. fault ≡ LookFault.NoMemory) }
+{
+    for path in 0..look.paths {
+        settle_path(work, look, check, path)?;
+    }
+    Ok(())
+}
