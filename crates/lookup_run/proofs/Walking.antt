@@ -1,0 +1,220 @@
+-- What the events show goes on, event by event, while the journal grows.
+use Rattle.std.proofs.Common.{◌≡◌, ◌≢◌, ℕ, zero, suc, ◌+◌, ◌<◌, ◌≤◌, List, [], ◌∷◌, ◌++◌, length, Option, refl, sym, ap, subst, ◌∙◌, arith}
+use Rattle.std.specs.Prelude.{map}
+use Rattle.std.specs.List.{All, AllByRecursion, flat_map}
+use Rattle.std.proofs.lemmas.List.{append-nil, append_assoc}
+use Rattle.std.proofs.lemmas.List.Concat.{flat_map-append}
+use Rattle.std.proofs.lemmas.List.Elements.{All-append}
+use Rattle.kad_base.specs.declared.plain.Event.{Event}
+use Rattle.kad_base.specs.declared.plain.Event.TheVariants.{Now, Sent, Unsent, Got, Quiet}
+use Rattle.kad_base.specs.declared.serial.Made.{Made}
+use Rattle.kad_base.specs.Outside.{Grows}
+use Rattle.kad_base.specs.Serial.{left_by, IsRun}
+use Rattle.kad_base.proofs.Grown.{grows_then}
+use Rattle.kad_base.proofs.Runs.{left_by-append}
+use Rattle.id_puzzles.specs.Drawn.{WordsState}
+use Rattle.contact_table.specs.declared.calls.TableCall.{TableCall}
+use Rattle.contact_table.specs.declared.calls.TableReply.{TableReply}
+use Rattle.contact_table.specs.declared.calls.TableReply.TheVariants.{NoMemory}
+use Rattle.contact_table.specs.TableState.{TableState}
+use Rattle.contact_table.specs.TableStep.{TableMay, TableStep, table_after}
+use Rattle.claim_book.specs.declared.plain.Entry.{Entry}
+use Rattle.claim_book.specs.Journal.{seed_of, seeds}
+use Rattle.claim_book.specs.Legal.{seeded}
+use Rattle.lookup_run.specs.declared.plain.AskKind.{AskKind}
+use Rattle.lookup_run.specs.declared.plain.AskKind.TheVariants.{FindNode, GetPeers}
+use Rattle.lookup_run.specs.declared.plain.LookSetting.{LookSetting}
+use Rattle.lookup_run.specs.declared.plain.Gathered.{Gathered}
+use Rattle.lookup_run.specs.declared.plain.Work.{Work}
+use Rattle.lookup_run.specs.Tells.{Given, Seen, HasAsked, HaveAsked, Receives, Gives, begun}
+use Rattle.lookup_run.specs.Rounds.{path_number, SettlesIn, InTurn}
+use Rattle.lookup_run.specs.Gathered.{Answered, Hears, values_of, token_of}
+use Rattle.lookup_run.specs.Lookup.{given_of, seeds_in, drawn_for, told_of, table_calls, told_in, Told, TableTold}
+use Rattle.lookup_run.specs.Standing.{Step, Walk, Stands, Keeping, Shows, Along, Goes}
+use Rattle.lookup_run.specs.Steps.{KeepsAlso, KeepsFor}
+
+-- ---- a longer journal
+
+asked_longer : (g : Given) (J more : List Entry) (s : Seen) (p : ℕ) → HasAsked g J s p → HasAsked g (J ++ more) s p
+asked_longer g J more s p h = record {
+  before = h.before;
+  behind = h.behind ++ more;
+  later = h.later;
+  earlier = h.earlier;
+  splits = ap (λ l. l ++ more) h.splits ∙ append_assoc h.before h.behind more;
+  none = h.none;
+  covers = h.covers;
+  since_receive = h.since_receive;
+  of_others = h.of_others;
+}
+
+have_longer : (n : ℕ) (g : Given) (J more : List Entry) (s : Seen) → HaveAsked n g J s → HaveAsked n g (J ++ more) s
+have_longer zero g J more s h = λ p lt. asked_longer g J more s p (h p lt)
+have_longer (suc n) g J more s h = tt
+
+receives_longer : (g : Given) (J more : List Entry) (s : Seen) (until : ℕ) → Receives g J s until → Receives g (J ++ more) s until
+receives_longer g J more s until h = record { some_open = h.some_open; waits = h.waits; asked = have_longer s.receives g J more s h.asked }
+
+pub gives_longer : (g : Given) (J more : List Entry) (s t : Seen) (e : Event) → Gives g J s e t → Gives g (J ++ more) s e t
+gives_longer g J more s t (Now at) h = h
+gives_longer g J more s t (Sent to bytes) h = h
+gives_longer g J more s t (Unsent to bytes) h = h
+gives_longer g J more s t (Got from bytes until at) h = (receives_longer g J more s until h.0, h.1)
+gives_longer g J more s t (Quiet until at) h = (receives_longer g J more s until h.0, h.1)
+
+step_longer : (g : Given) (J more P : List Entry) (s : Seen) (e : Event) → Step g J P s e → Step g (J ++ more) P s e
+step_longer g J more P s e h = record {
+  mid = h.mid;
+  between = h.between;
+  gave = h.gave;
+  found = h.found;
+  gives = gives_longer g J more s h.mid e h.gives;
+  given = h.given;
+  settles = h.settles;
+  in_turn = h.in_turn;
+  hears = h.hears;
+}
+
+pub walk_longer : (g : Given) (J more P : List Entry) (s : Seen) (es : List Event) (t : Seen) (Q : List Entry) (heard : List Answered) → Walk g J P s es t Q heard → Walk g (J ++ more) P s es t Q heard
+unfolding step_longer
+walk_longer g J more P s [] t Q heard h = h
+walk_longer g J more P s (e ∷ es) t Q heard h = (step_longer g J more P s e h.0, h.1, walk_longer g J more ((P ++ h.0.between) ++ h.0.gave) h.0.mid es t Q h.1 h.2, h.3)
+
+-- ---- one event more
+
+pub walk_on : (g : Given) (J P : List Entry) (s : Seen) (es : List Event) (m : Seen) (Q : List Entry) (heard : List Answered) (e : Event) → Walk g J P s es m Q heard → (step : Step g J Q m e)
+    → Walk g J P s (es ++ e ∷ []) step.mid ((Q ++ step.between) ++ step.gave) (heard ++ step.found)
+walk_on g J P s [] m Q heard e h =
+    let here : (step : Step g J P s e) → Walk g J P s (e ∷ []) step.mid ((P ++ step.between) ++ step.gave) ([] ++ step.found) =
+    (λ step. (step, [], (refl, refl, refl), sym (append-nil step.found))) in
+    let there = subst (λ (l : List Answered). (step : Step g J P s e) → Walk g J P s (e ∷ []) step.mid ((P ++ step.between) ++ step.gave) (l ++ step.found)) (sym h.2) here in
+    let these = subst (λ (R : List Entry). (step : Step g J R s e) → Walk g J P s (e ∷ []) step.mid ((R ++ step.between) ++ step.gave) (heard ++ step.found)) (sym h.1) there in
+    subst (λ (x : Seen). (step : Step g J Q x e) → Walk g J P s (e ∷ []) step.mid ((Q ++ step.between) ++ step.gave) (heard ++ step.found)) (sym h.0) these
+walk_on g J P s (x ∷ es) m Q heard e h = λ step. (
+  h.0,
+  h.1 ++ step.found,
+  walk_on g J ((P ++ h.0.between) ++ h.0.gave) h.0.mid es m Q h.1 e h.2 step,
+  ap (λ l. l ++ step.found) h.3 ∙ append_assoc h.0.found h.1 step.found,
+)
+
+-- what one event owes, where it gives these entries
+pub record OneEvent (g : Given) (old new : Work) (more : List Entry) (place' a' : ℕ) (s : Seen) (e : Event) : Type 0 where
+  pub after : Seen
+  pub gives : Gives g new.book.journal s e after
+  pub given : after.given ≡ s.given ++ more
+  pub in_turn : InTurn g.setting old.book.journal s e more
+  pub stands : Stands g new place' after
+  pub ascends : AllByRecursion (λ (x : Entry). path_number x ≤ a') after.since
+  pub found : List Answered
+  pub hears : Hears s e found
+  pub keeps : KeepsFor g.kind found old.gathered new.gathered
+
+pub seeds_append : (J K : List Entry) → seeds (J ++ K) ≡ seeds J ++ seeds K
+unfolding seeds
+seeds_append J K = flat_map-append seed_of J K
+
+pub seeds_same : (J more J' : List Entry) → J' ≡ J ++ more → seeds more ≡ [] → seeds J' ≡ seeds J
+seeds_same J more J' is none = ap seeds is ∙ seeds_append J more ∙ ap (λ l. seeds J ++ l) none ∙ append-nil (seeds J)
+
+settles_none : (n : ℕ) → SettlesIn n []
+settles_none zero = tt
+settles_none (suc n) = refl
+
+keeping_more : (kind : AskKind) (heard found : List Answered) (old new : Gathered) → Keeping kind heard old → KeepsFor kind found old new → Keeping kind (heard ++ found) new
+keeping_more FindNode heard found old new h k = (ap (λ (x : Gathered). x.peers) k ∙ h.0, ap (λ (x : Gathered). x.tokens) k ∙ h.1)
+keeping_more GetPeers heard found old new h k = (
+  k.peers ∙ ap (λ l. l ++ flat_map values_of found) h.0 ∙ sym (flat_map-append values_of heard found),
+  k.tokens ∙ ap (λ l. l ++ flat_map token_of found) h.1 ∙ sym (flat_map-append token_of heard found),
+)
+
+pub shows_next : (g : Given) (old new : Work) (more : List Entry) (place place' b b' a a' : ℕ) (e : Event) (es fs : List Event) → new.book.journal ≡ old.book.journal ++ more → seeds more ≡ []
+    → ((s : Seen) → Stands g old place s → AllByRecursion (λ (x : Entry). path_number x ≤ a) s.since → OneEvent g old new more place' a' s e)
+    → Shows g old place b a es → fs ≡ e ∷ [] → Shows g new place' b' a' (es ++ fs)
+shows_next g old new more place place' b b' a a' e es fs journal no_seeds next h is =
+    let J = old.book.journal in
+    let J' = new.book.journal in
+    let on = next h.end h.stands h.ascends in
+    let longer : Walk g J' (seeded g.setting.paths (seeds J)) (begun h.at) h.rest h.end h.last h.heard =
+    subst (λ K. Walk g K (seeded g.setting.paths (seeds J)) (begun h.at) h.rest h.end h.last h.heard) (sym journal) (walk_longer g J more (seeded g.setting.paths (seeds J)) (begun h.at) h.rest h.end h.last h.heard h.walk) in
+    let begins : Walk g J' (seeded g.setting.paths (seeds J')) (begun h.at) h.rest h.end h.last h.heard =
+    subst (λ cs. Walk g J' (seeded g.setting.paths cs) (begun h.at) h.rest h.end h.last h.heard) (sym (seeds_same J more J' journal no_seeds)) longer in
+    let step : Step g J' h.last h.end e = record {
+      mid = on.after;
+      between = h.behind;
+      gave = more;
+      found = on.found;
+      gives = on.gives;
+      given = on.given;
+      settles = h.settles;
+      in_turn = subst (λ l. InTurn g.setting l h.end e more) h.journal on.in_turn;
+      hears = on.hears;
+    } in
+    record {
+      at = h.at;
+      rest = h.rest ++ e ∷ [];
+      first = ap (λ l. es ++ l) is ∙ ap (λ l. l ++ e ∷ []) h.first;
+      end = on.after;
+      last = (h.last ++ h.behind) ++ more;
+      heard = h.heard ++ on.found;
+      walk = walk_on g J' (seeded g.setting.paths (seeds J')) (begun h.at) h.rest h.end h.last h.heard e begins step;
+      behind = [];
+      journal = journal ∙ ap (λ l. l ++ more) h.journal ∙ sym (append-nil ((h.last ++ h.behind) ++ more));
+      settles = settles_none on.after.receives;
+      below = tt;
+      ascends = on.ascends;
+      stands = on.stands;
+      keeping = keeping_more g.kind h.heard on.found old.gathered new.gathered h.keeping on.keeps;
+    }
+
+-- ---- the table
+
+IsRun-append : (t : TableState) (xs ys : List (Made TableCall TableReply)) → IsRun TableMay TableStep table_after t xs → IsRun TableMay TableStep table_after (left_by table_after t xs) ys → IsRun TableMay TableStep table_after t (xs ++ ys)
+IsRun-append t [] ys r q = q
+IsRun-append t (x ∷ xs) ys r q = (r.0, r.1, IsRun-append (table_after t x.role x.call x.reply) xs ys r.2 q)
+
+map-append : {A B : Type 0} (f : A → B) (xs ys : List A) → map f (xs ++ ys) ≡ map f xs ++ map f ys
+map-append f [] ys = refl
+map-append f (x ∷ xs) ys = ap (λ l. f x ∷ l) (map-append f xs ys)
+
+-- one run after another
+pub table_then : (xs ys : List Told) (t u v : TableState) → TableTold xs t u → TableTold ys u v → TableTold (xs ++ ys) t v
+table_then xs ys t u v h k = record {
+  run = h.run ++ k.run;
+  is_run = IsRun-append t h.run k.run h.is_run (subst (λ (s : TableState). IsRun TableMay TableStep table_after s k.run) h.leaves k.is_run);
+  leaves = k.leaves ∙ ap (λ (s : TableState). left_by table_after s k.run) h.leaves ∙ sym (left_by-append table_after t h.run k.run);
+  calls_are = map-append told_in h.run k.run ∙ ap (λ l. l ++ map told_in k.run) h.calls_are ∙ ap (λ l. xs ++ l) k.calls_are;
+  kept = All-append (λ (m : Made TableCall TableReply). m.reply ≢ NoMemory) h.run k.run h.kept k.kept;
+}
+
+-- no calls
+pub table_same : (t u : TableState) → u ≡ t → TableTold [] t u
+table_same t u is = record { run = []; is_run = tt; leaves = is; calls_are = refl; kept = λ k d lt. absurd (omega arith) }
+
+calls_more : (look : LookSetting) (J more J' : List Entry) → J' ≡ J ++ more → table_calls look J ++ flat_map told_of more ≡ table_calls look J'
+calls_more look J more J' is = sym (ap (table_calls look) is ∙ ap (λ l. table_calls look [] ++ l) (flat_map-append told_of J more))
+
+-- ---- the whole of what is known
+
+-- what a step with one event owes
+pub record NextStep (look : LookSetting) (words words' : WordsState) (old new : Work) (a a' : ℕ) (e : Event) : Type 0 where
+  pub more : List Entry
+  pub journal : new.book.journal ≡ old.book.journal ++ more
+  pub no_seeds : seeds more ≡ []
+  pub drawn : (start : WordsState) → words ≡ drawn_for start old.book.journal → words' ≡ drawn_for start new.book.journal
+  pub tabled : TableTold (flat_map told_of more) old.table new.table
+  pub next : (start : WordsState) → words ≡ drawn_for start old.book.journal → (s : Seen) → Stands (given_of look start) old words.place s
+      → AllByRecursion (λ (x : Entry). path_number x ≤ a) s.since → OneEvent (given_of look start) old new more words'.place a' s e
+
+pub along_next : (look : LookSetting) (words words' : WordsState) (old new : Work) (b b' a a' : ℕ) (e : Event) (told told' : Option (List Event)) → NextStep look words words' old new a a' e → Grows told told' (λ es. es ≡ e ∷ []) → Goes look words words' old new b a b' a' told told'
+along_next look words words' old new b b' a a' e told told' n grows start table began h = record {
+  drawn = n.drawn start h.drawn;
+  seeds_are = seeds_same old.book.journal n.more new.book.journal n.journal n.no_seeds ∙ h.seeds_are;
+  tabled = subst (λ calls. TableTold calls table new.table) (calls_more look old.book.journal n.more new.book.journal n.journal) (table_then (table_calls look old.book.journal) (flat_map told_of n.more) table old.table new.table h.tabled n.tabled);
+  shows = grows_then began told told' _ _ _ h.shows grows (λ es fs p is. shows_next (given_of look start) old new n.more words.place words'.place b b' a a' e es fs n.journal n.no_seeds (n.next start h.drawn) p is);
+}
+
+-- ---- weaker bounds
+
+pub all_weaker : {A : Type 0} (P Q : A → Type 0) → ((x : A) → P x → Q x) → (xs : List A) → AllByRecursion P xs → AllByRecursion Q xs
+all_weaker P Q f [] h = tt
+all_weaker P Q f (x ∷ xs) h = (f x h.0, all_weaker P Q f xs h.1)

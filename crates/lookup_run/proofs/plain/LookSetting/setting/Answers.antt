@@ -1,0 +1,1 @@
+use Rattle.lookup_run.proofs.Walking.{along_next}
