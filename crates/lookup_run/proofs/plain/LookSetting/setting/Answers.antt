@@ -1,1 +1,1 @@
-use Rattle.lookup_run.proofs.Walking.{along_next}
+use Rattle.lookup_run.proofs.Opens.{opens_ask}
