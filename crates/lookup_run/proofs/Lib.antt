@@ -1,2 +1,4 @@
 pub mod Walking
 pub mod Opens
+pub mod Others
+pub mod Crowd

@@ -1,0 +1,110 @@
+-- What an ask of one path leaves of the others.
+use Rattle.std.proofs.Common.{◌≡◌, ◌≢◌, ℕ, ◌<◌, List, [], ◌∷◌, ◌++◌, length, Some, None, Bool, true, false, not, ◌||◌, ◌&&◌, cond, refl, sym, ap, subst, ◌∙◌}
+use Rattle.std.specs.Prelude.{find, filter, nat_lt}
+use Rattle.std.proofs.lemmas.Bool.{or_left}
+use Rattle.std.proofs.lemmas.List.{append-nil}
+use Rattle.kad_base.specs.declared.plain.Contact.{Contact}
+use Rattle.kad_base.specs.Contacts.{same, among, without}
+use Rattle.kad_base.proofs.Contacts.{same_exact, among_more}
+use Rattle.kad_distance.specs.KClosest.{k_closest}
+use Rattle.claim_book.specs.declared.plain.Setting.{Setting}
+use Rattle.claim_book.specs.declared.plain.Cause.{Cause}
+use Rattle.claim_book.specs.declared.plain.Entry.{Entry}
+use Rattle.claim_book.specs.declared.plain.Entry.TheVariants.{Ask, Lost}
+use Rattle.claim_book.specs.Journal.{on_path, path, asked, asked_on, answered, failed, open_on, alive, unsettled, may_ask}
+use Rattle.claim_book.specs.Legal.{Legal}
+use Rattle.claim_book.proofs.More.{path_more, asked_more, asked_on_more, answered_more, failed_more}
+use Rattle.claim_book.proofs.Claims.{may_ask_on_path, one_path, asked_on_path}
+use Rattle.claim_book.proofs.Kept.{off_this}
+use Rattle.claim_book.proofs.Unsettled.{unsettled_kept}
+
+no_true : (b : Bool) → (b ≡ true → ⊥) → b ≡ false
+no_true true n = absurd (n refl)
+no_true false n = refl
+
+-- an absent contact makes no difference
+absent_step : (out more : List Contact) (c x : Contact) (cs : List Contact) → among more x ≡ (among out x || same x c) → (same c x || among cs c) ≡ false → (among cs c ≡ false → without cs more ≡ without cs out) → without (x ∷ cs) more ≡ without (x ∷ cs) out
+absent_step out more c x cs f h rest =
+    let parts = neither (same c x) (among cs c) h in
+    let apart : same x c ≡ false = no_true (same x c) (λ y. (let e = same_exact x c y in let back : same c x ≡ true = subst (λ z. same c z ≡ true) (sym e) (ap (λ z. same z c) (sym e) ∙ y) in let no = parts.0 in absurd cc)) in
+    ap (λ b. cond (not b) (x ∷ without cs more) (without cs more)) (f ∙ ap (λ b. among out x || b) apart ∙ or_no (among out x)) ∙ ap (λ l. cond (not (among out x)) (x ∷ l) l) (rest parts.1)
+  where
+    neither : (a b : Bool) → (a || b) ≡ false → (a ≡ false) × (b ≡ false)
+    neither true b e = absurd cc
+    neither false b e = (refl, e)
+
+    or_no : (b : Bool) → (b || false) ≡ b
+    or_no true = refl
+    or_no false = refl
+
+pub without_absent : (out more : List Contact) (c : Contact) → ((x : Contact) → among more x ≡ (among out x || same x c)) → (cs : List Contact) → among cs c ≡ false → without cs more ≡ without cs out
+without_absent out more c f [] h = refl
+without_absent out more c f (x ∷ cs) h = absent_step out more c x cs (f x) h (without_absent out more c f cs)
+
+-- where all were asked, they still were
+all_asked : (A B cs : List Contact) → ((x : Contact) → among A x ≡ true → among B x ≡ true) → find (λ x. not (among A x)) cs ≡ None → find (λ x. not (among B x)) cs ≡ None
+all_asked A B [] f h = refl
+all_asked A B (x ∷ cs) f h = pick (among A x) refl h (all_asked A B cs f)
+  where
+    pick : (a : Bool) → among A x ≡ a → cond (not a) (Some x) (find (λ y. not (among A y)) cs) ≡ None → (find (λ y. not (among A y)) cs ≡ None → find (λ y. not (among B y)) cs ≡ None) → find (λ y. not (among B y)) (x ∷ cs) ≡ None
+    pick true e none rest = ap (λ b. cond (not b) (Some x) (find (λ y. not (among B y)) cs)) (f x e) ∙ rest none
+    pick false e none rest = absurd cc
+
+-- a path that may ask nothing still may not
+pub still_none : (s : Setting) (q : ℕ) (J K : List Entry) → open_on q K ≡ open_on q J → alive q K ≡ alive q J → ((x : Contact) → among (asked J) x ≡ true → among (asked K) x ≡ true) → may_ask s q J ≡ None → may_ask s q K ≡ None
+unfolding may_ask
+still_none s q J K opens lives asks none =
+    ap (λ l. cond (nat_lt (length l) s.alpha) (find (λ c. not (among (asked K) c)) (k_closest s.target s.k (alive q K))) None) opens
+    ∙ ap (λ l. cond (nat_lt (length (open_on q J)) s.alpha) (find (λ c. not (among (asked K) c)) (k_closest s.target s.k l)) None) lives
+    ∙ pick (nat_lt (length (open_on q J)) s.alpha) none
+  where
+    pick : (b : Bool) → cond b (find (λ c. not (among (asked J) c)) (k_closest s.target s.k (alive q J))) None ≡ None → cond b (find (λ c. not (among (asked K) c)) (k_closest s.target s.k (alive q J))) None ≡ None
+    pick true h = all_asked (asked J) (asked K) (k_closest s.target s.k (alive q J)) asks h
+    pick false h = refl
+
+off : (p q : ℕ) (c : Contact) → (q ≡ p → ⊥) → on_path q p (c ∷ []) ≡ []
+off p q c ne = ap (λ b. cond b (c ∷ []) []) (off_this p q ne)
+
+more_asked : (J : List Entry) (e : Entry) (x : Contact) → among (asked J) x ≡ true → among (asked (J ++ e ∷ [])) x ≡ true
+more_asked J e x h = ap (λ l. among l x) (asked_more J e) ∙ among_more (asked J) _ x ∙ or_left (among (asked J) x) _ h
+
+-- when another asks
+pub none_after_ask : (s : Setting) (p q : ℕ) (J : List Entry) (c : Contact) → (q ≡ p → ⊥) → may_ask s q J ≡ None → may_ask s q (J ++ Ask p c ∷ []) ≡ None
+unfolding open_on alive
+none_after_ask s p q J c ne none =
+    let e : Entry = Ask p c in
+    let ends : answered (J ++ e ∷ []) ++ failed (J ++ e ∷ []) ≡ answered J ++ failed J = ap (λ l. l ++ failed (J ++ e ∷ [])) (answered_more J e ∙ append-nil (answered J)) ∙ ap (λ l. answered J ++ l) (failed_more J e ∙ append-nil (failed J)) in
+    still_none s q J (J ++ e ∷ [])
+    (ap (λ l. without l (answered (J ++ e ∷ []) ++ failed (J ++ e ∷ []))) (asked_on_more q J e ∙ ap (λ l. asked_on q J ++ l) (off p q c ne) ∙ append-nil (asked_on q J)) ∙ ap (λ l. without (asked_on q J) l) ends)
+    (ap (λ l. without l (failed (J ++ e ∷ []))) (path_more q J e ∙ append-nil (path q J)) ∙ ap (λ l. without (path q J) l) (failed_more J e ∙ append-nil (failed J)))
+    (more_asked J e) none
+
+-- when one of another's is lost
+pub none_after_lost : (s : Setting) (p q : ℕ) (J : List Entry) (c : Contact) (cause : Cause) → Legal s J → among (path p J) c ≡ true → (q ≡ p → ⊥) → may_ask s q J ≡ None → may_ask s q (J ++ Lost p c cause ∷ []) ≡ None
+unfolding open_on alive
+none_after_lost s p q J c cause l on ne none =
+    let e : Entry = Lost p c cause in
+    let not_on : among (path q J) c ≡ false = no_true (among (path q J) c) (λ y. ne (one_path s J l q p c y on)) in
+    let not_asked : among (asked_on q J) c ≡ false = no_true (among (asked_on q J) c) (λ y. ne (one_path s J l q p c (asked_on_path s J l q c y) on)) in
+    let fails : (x : Contact) → among (failed (J ++ e ∷ [])) x ≡ (among (failed J) x || same x c) = (λ x. ap (λ k. among k x) (failed_more J e) ∙ among_more (failed J) (c ∷ []) x ∙ ap (λ b. among (failed J) x || b) (or_no (same x c))) in
+    let ends : (x : Contact) → among (answered (J ++ e ∷ []) ++ failed (J ++ e ∷ [])) x ≡ (among (answered J ++ failed J) x || same x c) =
+    (λ x. among_more (answered (J ++ e ∷ [])) (failed (J ++ e ∷ [])) x ∙ ap (λ k. among k x || among (failed (J ++ e ∷ [])) x) (answered_more J e ∙ append-nil (answered J)) ∙ ap (λ b. among (answered J) x || b) (fails x) ∙ regroup (among (answered J) x) (among (failed J) x) (same x c) ∙ sym (ap (λ b. b || same x c) (among_more (answered J) (failed J) x))) in
+    still_none s q J (J ++ e ∷ [])
+    (ap (λ k. without k (answered (J ++ e ∷ []) ++ failed (J ++ e ∷ []))) (asked_on_more q J e ∙ append-nil (asked_on q J)) ∙ without_absent (answered J ++ failed J) (answered (J ++ e ∷ []) ++ failed (J ++ e ∷ [])) c ends (asked_on q J) not_asked)
+    (ap (λ k. without k (failed (J ++ e ∷ []))) (path_more q J e ∙ append-nil (path q J)) ∙ without_absent (failed J) (failed (J ++ e ∷ [])) c fails (path q J) not_on)
+    (more_asked J e) none
+  where
+    or_no : (b : Bool) → (b || false) ≡ b
+    or_no true = refl
+    or_no false = refl
+
+    regroup : (a b d : Bool) → (a || (b || d)) ≡ ((a || b) || d)
+    regroup true b d = refl
+    regroup false b d = refl
+
+-- neither leaves anything to settle
+pub settled_after_ask : (s : Setting) (p q : ℕ) (J : List Entry) (c : Contact) → Legal s J → unsettled q (J ++ Ask p c ∷ []) ≡ unsettled q J
+settled_after_ask s p q J c l = unsettled_kept s q J (Ask p c) l refl refl
+
+pub settled_after_lost : (s : Setting) (p q : ℕ) (J : List Entry) (c : Contact) (cause : Cause) → Legal s J → unsettled q (J ++ Lost p c cause ∷ []) ≡ unsettled q J
+settled_after_lost s p q J c cause l = unsettled_kept s q J (Lost p c cause) l refl refl
