@@ -2,3 +2,5 @@ pub mod Walking
 pub mod Opens
 pub mod Others
 pub mod Crowd
+pub mod Driven
+pub mod Asking

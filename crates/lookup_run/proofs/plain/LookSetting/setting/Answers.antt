@@ -1,1 +1,1 @@
-use Rattle.lookup_run.proofs.Crowd.{room_to_ask}
+use Rattle.lookup_run.proofs.Asking.{sent_step}

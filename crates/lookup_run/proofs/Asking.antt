@@ -1,0 +1,188 @@
+-- One contact more is asked: its query is open, or it is lost at once.
+use Rattle.std.proofs.Common.{◌≡◌, ◌≢◌, ℕ, ◌+◌, ◌-◌, ◌*◌, ◌%◌, ◌^◌, ◌<◌, ◌≤◌, List, [], ◌∷◌, ◌++◌, length, Option, Some, None, Bool, true, false, refl, sym, ap, subst, ◌∙◌, arith}
+use Rattle.std.specs.Prelude.{map, slice_get, Any, remove}
+use Rattle.std.specs.List.{All, AllByRecursion, flat_map}
+use Rattle.std.proofs.lemmas.List.{append-nil, append_assoc, length-append}
+use Rattle.kad_base.specs.declared.plain.Contact.{Contact}
+use Rattle.kad_base.specs.declared.plain.Event.{Event}
+use Rattle.kad_base.specs.declared.plain.Event.TheVariants.{Sent, Unsent}
+use Rattle.kad_base.specs.Contacts.{among, without}
+use Rattle.kad_base.specs.Limits.{max_strays}
+use Rattle.kad_base.specs.Outside.{Grows}
+use Rattle.kad_base.specs.Words.{word}
+use Rattle.kad_krpc.specs.Form.{form}
+use Rattle.id_puzzles.specs.Drawn.{WordsState}
+use Rattle.query_book.specs.declared.Query.{Query}
+use Rattle.query_book.specs.Queries.{IsFirstFree}
+use Rattle.claim_book.specs.declared.plain.Setting.{Setting}
+use Rattle.claim_book.specs.declared.plain.Cause.TheVariants.{SendFault}
+use Rattle.claim_book.specs.declared.plain.Entry.{Entry}
+use Rattle.claim_book.specs.declared.plain.Entry.TheVariants.{Ask, Lost}
+use Rattle.claim_book.specs.Journal.{seeds, asked, open_any, unsettled, may_ask}
+use Rattle.claim_book.specs.Legal.{Legal}
+use Rattle.claim_book.specs.State.{BookState, added}
+use Rattle.claim_book.proofs.More.{asked_more, legal_more}
+use Rattle.claim_book.proofs.Bounds.{asked_few}
+use Rattle.claim_book.proofs.Claims.{may_ask_says, may_ask_on_path}
+use Rattle.lookup_run.specs.declared.plain.AskKind.{AskKind}
+use Rattle.lookup_run.specs.declared.plain.AskKind.TheVariants.{FindNode, GetPeers}
+use Rattle.lookup_run.specs.declared.plain.LookSetting.{LookSetting}
+use Rattle.lookup_run.specs.declared.plain.Gathered.{Gathered}
+use Rattle.lookup_run.specs.declared.plain.Stand.{Stand}
+use Rattle.lookup_run.specs.declared.plain.Work.{Work}
+use Rattle.lookup_run.specs.Tells.{Given, OpenQuery, Seen, is_driven, driven, gives, deadline_of, query_message, query_of}
+use Rattle.lookup_run.specs.Rounds.{path_number, AllSettled, NoneAsks}
+use Rattle.lookup_run.specs.Gathered.{Answered}
+use Rattle.lookup_run.specs.Lookup.{setting_of, given_of, drawn_for, IsWithinLimits}
+use Rattle.lookup_run.specs.Standing.{as_open, Keeps, HasWords, weight_of, Stands}
+use Rattle.lookup_run.specs.Steps.{KeepsFor, Asks}
+use Rattle.lookup_run.proofs.Walking.{OneEvent, NextStep, along_next, table_same, all_weaker}
+use Rattle.lookup_run.proofs.Opens.{opens_ask, opens_lost, opens_kept, each_asked, asker_new, asker_kept, without_one, opens_distinct}
+use Rattle.lookup_run.proofs.Others.{none_after_ask, none_after_lost, settled_after_ask, settled_after_lost}
+use Rattle.lookup_run.proofs.Driven.{driven_more, keeps_none, query_back, map_push, all_push, small_id}
+
+-- nothing but the book and the open queries changed
+pub record SameRest (old new : Work) : Type 0 where
+  pub table : new.table ≡ old.table
+  pub stand : new.stand ≡ old.stand
+  pub gathered : new.gathered ≡ old.gathered
+
+-- what an ask depends on
+pub record Asking (look : LookSetting) (p : ℕ) (c : Contact) (tx : ℕ) (words words' : WordsState) (old : Work) : Type 0 where
+  pub limits : IsWithinLimits look
+  pub path : p < look.paths
+  pub keeps : Keeps look old
+  pub has_words : HasWords words old.book.journal
+  pub round_over : old.stand.receives ≡ 0
+  pub settled : AllSettled look.paths old.book.journal
+  pub none_below : NoneAsks (setting_of look) p old.book.journal
+  pub legal : Legal (setting_of look) old.book.journal
+  pub may : may_ask (setting_of look) p old.book.journal ≡ Some c
+  pub id : IsFirstFree old.queries (word words.seed words.place) tx
+  pub drawn : words' ≡ record words { place = words.place + 1 }
+
+abbrev query_bytes : LookSetting → ℕ → List ℕ
+query_bytes look tx = form (query_message look.kind look.own look.target tx)
+
+abbrev the_query : LookSetting → Contact → ℕ → Work → Query
+the_query look c tx old = record { tx = tx; contact = c; deadline = deadline_of old.stand.moment look.timeout }
+
+ask_counts : (p : ℕ) (J : List Entry) (c : Contact) → length (asked (J ++ Ask p c ∷ [])) ≡ length (asked J) + 1
+ask_counts p J c = ap length (asked_more J (Ask p c)) ∙ length-append (asked J) (c ∷ [])
+
+lost_counts : (p q : ℕ) (J : List Entry) (c d : Contact) → length (asked ((J ++ Ask p c ∷ []) ++ Lost q d SendFault ∷ [])) ≡ length (asked J) + 1
+lost_counts p q J c d = ap length (asked_more (J ++ Ask p c ∷ []) (Lost q d SendFault) ∙ append-nil (asked (J ++ Ask p c ∷ []))) ∙ ask_counts p J c
+
+no_seeds_asked : (p : ℕ) (c : Contact) → seeds (Ask p c ∷ []) ≡ []
+unfolding seeds
+no_seeds_asked p c = refl
+
+no_seeds_lost : (p : ℕ) (c : Contact) → seeds (Ask p c ∷ Lost p c SendFault ∷ []) ≡ []
+unfolding seeds
+no_seeds_lost p c = refl
+
+drawn_more : (words words' start : WordsState) (J J' : List Entry) → words' ≡ record words { place = words.place + 1 } → length (asked J') ≡ length (asked J) + 1 → words ≡ drawn_for start J → words' ≡ drawn_for start J'
+drawn_more words words' start J J' next one is =
+    let place : words.place + 1 ≡ start.place + length (asked J') = (let p = ap (λ (w : WordsState). w.place) is in omega (arith, p, one)) in
+    next ∙ ap (λ n. record { seed = words.seed; place = n }) place ∙ ap (λ (w : WordsState). record { seed = w.seed; place = start.place + length (asked J') }) is
+
+id_of : (look : LookSetting) (p : ℕ) (c : Contact) (tx : ℕ) (words words' start : WordsState) (old : Work) (s : Seen) → Asking look p c tx words words' old → words ≡ drawn_for start old.book.journal → Stands (given_of look start) old words.place s
+    → IsFirstFree (map query_of s.queries) (word start.seed (start.place + s.sends)) tx
+id_of look p c tx words words' start old s a is st =
+    let J = old.book.journal in
+    let queries : map query_of s.queries ≡ old.queries = ap (map query_of) st.queries ∙ query_back J old.queries in
+    let drawn : word start.seed (start.place + s.sends) ≡ word words.seed words.place = ap (word start.seed) st.sends ∙ ap (λ (w : WordsState). word w.seed words.place) (sym is) in
+    subst (λ l. IsFirstFree l (word start.seed (start.place + s.sends)) tx) (sym queries) (subst (λ w. IsFirstFree old.queries w tx) (sym drawn) a.id)
+
+-- the query is open
+sent_event : (look : LookSetting) (p : ℕ) (c : Contact) (tx : ℕ) (words words' start : WordsState) (old new : Work) (s : Seen) → Asking look p c tx words words' old → SameRest old new → new.book ≡ added old.book (Ask p c) → new.queries ≡ old.queries ++ the_query look c tx old ∷ []
+    → words ≡ drawn_for start old.book.journal → Stands (given_of look start) old words.place s → AllByRecursion (λ (x : Entry). path_number x ≤ p) s.since → OneEvent (given_of look start) old new (Ask p c ∷ []) words'.place p s (Sent c.addr (query_bytes look tx))
+sent_event look p c tx words words' start old new s a rest book queries is st asc =
+    let J = old.book.journal in
+    let J' = J ++ Ask p c ∷ [] in
+    let journal : new.book.journal ≡ J' = ap (λ (b : BookState). b.journal) book in
+    let q = the_query look c tx old in
+    let oq : OpenQuery = record { path = p; contact = c; tx = tx; deadline = deadline_of s.moment look.timeout } in
+    let after : Seen = record (gives s (Ask p c ∷ [])) { queries = s.queries ++ oq ∷ []; sends = s.sends + 1 } in
+    let new_path : as_open J' q ≡ oq = ap (λ n. record { path = n; contact = c; tx = tx; deadline = deadline_of old.stand.moment look.timeout }) (asker_new p J c (may_ask_says (setting_of look) p J c a.may).new)
+        ∙ ap (λ m. record { path = p; contact = c; tx = tx; deadline = deadline_of m look.timeout }) (sym st.moment) in
+    let opens : s.queries ++ oq ∷ [] ≡ map (as_open new.book.journal) new.queries =
+        ap (λ l. l ++ oq ∷ []) (st.queries ∙ sym (opens_kept J (Ask p c ∷ []) old.queries (each_asked J old.queries a.keeps.is_open))) ∙ ap (λ x. map (as_open J') old.queries ++ x ∷ []) (sym new_path)
+        ∙ sym (map_push (as_open J') old.queries q) ∙ ap (map (as_open J')) (sym queries) ∙ ap (λ K. map (as_open K) new.queries) (sym journal) in
+    record {
+      after = after;
+      gives = record { path = p; contact = c; tx = tx; is_query = record { address = refl; id = id_of look p c tx words words' start old s a is st; form = refl }; after = refl };
+      given = refl;
+      in_turn = record { path = p; contact = c; rest = []; asks = refl; begins = st.receives ∙ a.round_over; settled = a.settled; none_before = a.none_below; ascends = asc };
+      stands = record {
+        moment = st.moment ∙ ap (λ (x : Stand). x.moment) (sym rest.stand);
+        queries = opens;
+        sends = (let h = st.sends in let d = ap (λ (w : WordsState). w.place) a.drawn in omega (arith, h, d));
+        strays = st.strays ∙ ap (λ (x : Stand). x.strays) (sym rest.stand);
+        receives = st.receives ∙ ap (λ (x : Stand). x.receives) (sym rest.stand);
+        given = ap (λ l. l ++ Ask p c ∷ []) st.given ∙ sym (driven_more J (Ask p c) refl) ∙ ap driven (sym journal);
+      };
+      ascends = all_push (λ (x : Entry). path_number x ≤ p) s.since (Ask p c) asc (omega arith);
+      found = [];
+      hears = refl;
+      keeps = keeps_none look.kind old.gathered new.gathered rest.gathered;
+    }
+
+pub sent_step : (look : LookSetting) (p : ℕ) (c : Contact) (tx : ℕ) (words words' : WordsState) (old new : Work) → Asking look p c tx words words' old → SameRest old new → new.book ≡ added old.book (Ask p c) → new.queries ≡ old.queries ++ the_query look c tx old ∷ []
+    → NextStep look words words' old new p p (Sent c.addr (query_bytes look tx))
+sent_step look p c tx words words' old new a rest book queries =
+    let J = old.book.journal in
+    let journal : new.book.journal ≡ J ++ Ask p c ∷ [] = ap (λ (b : BookState). b.journal) book in
+    record {
+      more = Ask p c ∷ [];
+      journal = journal;
+      no_seeds = no_seeds_asked p c;
+      drawn = λ start is. drawn_more words words' start J new.book.journal a.drawn (ap (λ K. length (asked K)) journal ∙ ask_counts p J c) is;
+      tabled = table_same old.table new.table rest.table;
+      next = λ start is s st asc. sent_event look p c tx words words' start old new s a rest book queries is st asc;
+    }
+
+-- it could not be sent
+unsent_event : (look : LookSetting) (p : ℕ) (c : Contact) (tx : ℕ) (words words' start : WordsState) (old new : Work) (s : Seen) → Asking look p c tx words words' old → SameRest old new → new.book ≡ added (added old.book (Ask p c)) (Lost p c SendFault) → new.queries ≡ old.queries
+    → words ≡ drawn_for start old.book.journal → Stands (given_of look start) old words.place s → AllByRecursion (λ (x : Entry). path_number x ≤ p) s.since → OneEvent (given_of look start) old new (Ask p c ∷ Lost p c SendFault ∷ []) words'.place p s (Unsent c.addr (query_bytes look tx))
+unsent_event look p c tx words words' start old new s a rest book queries is st asc =
+    let J = old.book.journal in
+    let J' = (J ++ Ask p c ∷ []) ++ Lost p c SendFault ∷ [] in
+    let journal : new.book.journal ≡ J' = ap (λ (b : BookState). b.journal) book in
+    let longer : new.book.journal ≡ J ++ Ask p c ∷ Lost p c SendFault ∷ [] = journal ∙ append_assoc J (Ask p c ∷ []) (Lost p c SendFault ∷ []) in
+    let after : Seen = record (gives s (Ask p c ∷ Lost p c SendFault ∷ [])) { sends = s.sends + 1 } in
+    let opens : s.queries ≡ map (as_open new.book.journal) new.queries =
+        st.queries ∙ sym (opens_kept J (Ask p c ∷ Lost p c SendFault ∷ []) old.queries (each_asked J old.queries a.keeps.is_open)) ∙ ap (λ K. map (as_open K) old.queries) (sym longer) ∙ ap (map (as_open new.book.journal)) (sym queries) in
+    record {
+      after = after;
+      gives = record { path = p; contact = c; tx = tx; is_query = record { address = refl; id = id_of look p c tx words words' start old s a is st; form = refl }; after = refl };
+      given = refl;
+      in_turn = record { path = p; contact = c; rest = Lost p c SendFault ∷ []; asks = refl; begins = st.receives ∙ a.round_over; settled = a.settled; none_before = a.none_below; ascends = asc };
+      stands = record {
+        moment = st.moment ∙ ap (λ (x : Stand). x.moment) (sym rest.stand);
+        queries = opens;
+        sends = (let h = st.sends in let d = ap (λ (w : WordsState). w.place) a.drawn in omega (arith, h, d));
+        strays = st.strays ∙ ap (λ (x : Stand). x.strays) (sym rest.stand);
+        receives = st.receives ∙ ap (λ (x : Stand). x.receives) (sym rest.stand);
+        given = ap (λ l. l ++ Ask p c ∷ Lost p c SendFault ∷ []) st.given ∙ sym (append_assoc (driven J) (Ask p c ∷ []) (Lost p c SendFault ∷ [])) ∙ ap (λ l. l ++ Lost p c SendFault ∷ []) (sym (driven_more J (Ask p c) refl)) ∙ sym (driven_more (J ++ Ask p c ∷ []) (Lost p c SendFault) refl) ∙ ap driven (sym journal);
+      };
+      ascends = subst (AllByRecursion (λ (x : Entry). path_number x ≤ p)) (append_assoc s.since (Ask p c ∷ []) (Lost p c SendFault ∷ []))
+          (all_push (λ (x : Entry). path_number x ≤ p) (s.since ++ Ask p c ∷ []) (Lost p c SendFault) (all_push (λ (x : Entry). path_number x ≤ p) s.since (Ask p c) asc (omega arith)) (omega arith));
+      found = [];
+      hears = refl;
+      keeps = keeps_none look.kind old.gathered new.gathered rest.gathered;
+    }
+
+unsent_step : (look : LookSetting) (p : ℕ) (c : Contact) (tx : ℕ) (words words' : WordsState) (old new : Work) → Asking look p c tx words words' old → SameRest old new → new.book ≡ added (added old.book (Ask p c)) (Lost p c SendFault) → new.queries ≡ old.queries
+    → NextStep look words words' old new p p (Unsent c.addr (query_bytes look tx))
+unsent_step look p c tx words words' old new a rest book queries =
+    let J = old.book.journal in
+    let journal : new.book.journal ≡ (J ++ Ask p c ∷ []) ++ Lost p c SendFault ∷ [] = ap (λ (b : BookState). b.journal) book in
+    record {
+      more = Ask p c ∷ Lost p c SendFault ∷ [];
+      journal = journal ∙ append_assoc J (Ask p c ∷ []) (Lost p c SendFault ∷ []);
+      no_seeds = no_seeds_lost p c;
+      drawn = λ start is. drawn_more words words' start J new.book.journal a.drawn (ap (λ K. length (asked K)) journal ∙ lost_counts p p J c c) is;
+      tabled = table_same old.table new.table rest.table;
+      next = λ start is s st asc. unsent_event look p c tx words words' start old new s a rest book queries is st asc;
+    }

@@ -1,0 +1,47 @@
+-- Small facts of lists, of the driver's entries and of open queries.
+use Rattle.std.proofs.Common.{◌≡◌, ◌≢◌, ℕ, ◌+◌, ◌%◌, ◌^◌, ◌<◌, ◌≤◌, List, [], ◌∷◌, ◌++◌, length, true, false, cond, refl, sym, ap, subst, ◌∙◌, arith}
+use Rattle.std.specs.Prelude.{map}
+use Rattle.std.specs.List.{AllByRecursion, flat_map}
+use Rattle.std.proofs.lemmas.List.{append-nil}
+use Rattle.std.proofs.lemmas.List.Elements.{filter-append}
+use Rattle.query_book.specs.declared.Query.{Query}
+use Rattle.query_book.specs.Queries.{IsFirstFree}
+use Rattle.claim_book.specs.declared.plain.Entry.{Entry}
+use Rattle.lookup_run.specs.declared.plain.AskKind.{AskKind}
+use Rattle.lookup_run.specs.declared.plain.AskKind.TheVariants.{FindNode, GetPeers}
+use Rattle.lookup_run.specs.declared.plain.Gathered.{Gathered}
+use Rattle.lookup_run.specs.Tells.{is_driven, driven, query_of}
+use Rattle.lookup_run.specs.Standing.{as_open}
+use Rattle.lookup_run.specs.Steps.{KeepsFor}
+
+pub driven_append : (J K : List Entry) → driven (J ++ K) ≡ driven J ++ driven K
+unfolding driven
+driven_append J K = filter-append is_driven J K
+
+pub driven_more : (J : List Entry) (e : Entry) → is_driven e ≡ true → driven (J ++ e ∷ []) ≡ driven J ++ e ∷ []
+unfolding driven
+driven_more J e is = driven_append J (e ∷ []) ∙ ap (λ b. driven J ++ cond b (e ∷ []) []) is
+
+pub driven_quiet : (J : List Entry) (e : Entry) → is_driven e ≡ false → driven (J ++ e ∷ []) ≡ driven J
+unfolding driven
+driven_quiet J e is = driven_append J (e ∷ []) ∙ ap (λ b. driven J ++ cond b (e ∷ []) []) is ∙ append-nil (driven J)
+
+-- nothing was heard, and nothing kept
+pub keeps_none : (kind : AskKind) (old new : Gathered) → new ≡ old → KeepsFor kind [] old new
+keeps_none FindNode old new is = is
+keeps_none GetPeers old new is = record { peers = ap (λ (g : Gathered). g.peers) is ∙ sym (append-nil old.peers); tokens = ap (λ (g : Gathered). g.tokens) is ∙ sym (append-nil old.tokens) }
+
+pub query_back : (J : List Entry) (qs : List Query) → map query_of (map (as_open J) qs) ≡ qs
+query_back J [] = refl
+query_back J (q ∷ qs) = ap (λ l. q ∷ l) (query_back J qs)
+
+pub map_push : {A B : Type 0} (f : A → B) (xs : List A) (x : A) → map f (xs ++ x ∷ []) ≡ map f xs ++ f x ∷ []
+map_push f [] x = refl
+map_push f (y ∷ xs) x = ap (λ l. f y ∷ l) (map_push f xs x)
+
+pub all_push : {A : Type 0} (P : A → Type 0) (xs : List A) (x : A) → AllByRecursion P xs → P x → AllByRecursion P (xs ++ x ∷ [])
+all_push P [] x h p = (p, tt)
+all_push P (y ∷ xs) x h p = (h.0, all_push P xs x h.1 p)
+
+pub small_id : (qs : List Query) (w tx : ℕ) → IsFirstFree qs w tx → tx < 2 ^ 32
+small_id qs w tx h = (let e = h.is_id in omega (arith, e))
