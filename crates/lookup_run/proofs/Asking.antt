@@ -1,12 +1,12 @@
 -- One contact more is asked: its query is open, or it is lost at once.
 use Rattle.std.proofs.Common.{◌≡◌, ◌≢◌, ℕ, ◌+◌, ◌-◌, ◌*◌, ◌%◌, ◌^◌, ◌<◌, ◌≤◌, List, [], ◌∷◌, ◌++◌, length, Option, Some, None, Bool, true, false, refl, sym, ap, subst, ◌∙◌, arith}
 use Rattle.std.specs.Prelude.{map, slice_get, Any, remove}
-use Rattle.std.specs.List.{All, AllByRecursion, flat_map}
+use Rattle.std.specs.List.{All, AllByRecursion, IsDistinct, flat_map}
 use Rattle.std.proofs.lemmas.List.{append-nil, append_assoc, length-append}
 use Rattle.kad_base.specs.declared.plain.Contact.{Contact}
 use Rattle.kad_base.specs.declared.plain.Event.{Event}
 use Rattle.kad_base.specs.declared.plain.Event.TheVariants.{Sent, Unsent}
-use Rattle.kad_base.specs.Contacts.{among, without}
+use Rattle.kad_base.specs.Contacts.{same, among, without}
 use Rattle.kad_base.specs.Limits.{max_strays}
 use Rattle.kad_base.specs.Outside.{Grows}
 use Rattle.kad_base.specs.Words.{word}
@@ -18,10 +18,10 @@ use Rattle.claim_book.specs.declared.plain.Setting.{Setting}
 use Rattle.claim_book.specs.declared.plain.Cause.TheVariants.{SendFault}
 use Rattle.claim_book.specs.declared.plain.Entry.{Entry}
 use Rattle.claim_book.specs.declared.plain.Entry.TheVariants.{Ask, Lost}
-use Rattle.claim_book.specs.Journal.{seeds, asked, open_any, unsettled, may_ask}
+use Rattle.claim_book.specs.Journal.{seeds, path, asked, open_any, unsettled, may_ask}
 use Rattle.claim_book.specs.Legal.{Legal}
 use Rattle.claim_book.specs.State.{BookState, added}
-use Rattle.claim_book.proofs.More.{asked_more, legal_more}
+use Rattle.claim_book.proofs.More.{asked_more, path_more, legal_more}
 use Rattle.claim_book.proofs.Bounds.{asked_few}
 use Rattle.claim_book.proofs.Claims.{may_ask_says, may_ask_on_path}
 use Rattle.lookup_run.specs.declared.plain.AskKind.{AskKind}
@@ -186,3 +186,99 @@ unsent_step look p c tx words words' old new a rest book queries =
       tabled = table_same old.table new.table rest.table;
       next = λ start is s st asc. unsent_event look p c tx words words' start old new s a rest book queries is st asc;
     }
+
+few_asks : (look : LookSetting) (J : List Entry) → IsWithinLimits look → Legal (setting_of look) J → length (asked J) ≤ 2048
+few_asks look J limits l =
+    let few = asked_few (setting_of look) J (let a = limits.some_path in omega arith) (let a = limits.few in omega arith) l in
+    let paths = limits.few_paths in
+    omega (arith, few, paths)
+
+all_settled : (look : LookSetting) (p : ℕ) (J : List Entry) (c : Contact) → Legal (setting_of look) J → AllSettled look.paths J → AllSettled look.paths (J ++ Ask p c ∷ [])
+all_settled look p J c l h = λ q lt. settled_after_ask (setting_of look) p q J c l ∙ h q lt
+
+none_ask : (look : LookSetting) (p : ℕ) (J : List Entry) (c : Contact) → NoneAsks (setting_of look) p J → NoneAsks (setting_of look) p (J ++ Ask p c ∷ [])
+none_ask look p J c h = λ q lt. none_after_ask (setting_of look) p q J c (λ e. absurd (omega (arith, lt, e))) (h q lt)
+
+pub sent_asks : (look : LookSetting) (p : ℕ) (c : Contact) (tx : ℕ) (words words' : WordsState) (old new : Work) (told told' : Option (List Event)) → Asking look p c tx words words' old → SameRest old new → new.book ≡ added old.book (Ask p c) → new.queries ≡ old.queries ++ the_query look c tx old ∷ []
+    → Grows told told' (λ es. es ≡ Sent c.addr (query_bytes look tx) ∷ []) → Asks look p p words words' old new told told' × (weight_of new < weight_of old)
+sent_asks look p c tx words words' old new told told' a rest book queries grows =
+    let J = old.book.journal in
+    let J' = J ++ Ask p c ∷ [] in
+    let journal : new.book.journal ≡ J' = ap (λ (b : BookState). b.journal) book in
+    let q = the_query look c tx old in
+    let k = a.keeps in
+    let one : length (asked new.book.journal) ≡ length (asked J) + 1 = ap (λ K. length (asked K)) journal ∙ ask_counts p J c in
+    let few : length (asked new.book.journal) ≤ 2048 = subst (λ K. length (asked K) ≤ 2048) (sym journal) (few_asks look J' a.limits (legal_more (setting_of look) J (Ask p c) a.legal a.may)) in
+    let longer : length new.queries ≡ length old.queries + 1 = ap length queries ∙ length-append old.queries (q ∷ []) in
+    let same_strays : new.stand.strays ≡ old.stand.strays = ap (λ (x : Stand). x.strays) rest.stand in
+    let less : weight_of new < weight_of old = omega (arith, one, few, longer, same_strays) in
+    let same_deadline : deadline_of new.stand.moment look.timeout ≡ deadline_of old.stand.moment look.timeout = ap (λ (x : Stand). deadline_of x.moment look.timeout) rest.stand in
+    (
+      record {
+        keeps = record {
+          setting = ap (λ (b : BookState). b.setting) book ∙ k.setting;
+          is_open = ap (map (λ (x : Query). x.contact)) queries ∙ map_push (λ (x : Query). x.contact) old.queries q ∙ ap (λ l. l ++ c ∷ []) k.is_open ∙ sym (opens_ask (setting_of look) p J c a.legal a.may) ∙ ap open_any (sym journal);
+          ids = subst (AllByRecursion (λ (x : Query). x.tx < 2 ^ 32)) (sym queries) (all_push (λ (x : Query). x.tx < 2 ^ 32) old.queries q k.ids (small_id old.queries (word words.seed words.place) tx a.id));
+          deadlines = subst (λ d. AllByRecursion (λ (x : Query). x.deadline ≤ d) new.queries) (sym same_deadline)
+              (subst (AllByRecursion (λ (x : Query). x.deadline ≤ deadline_of old.stand.moment look.timeout)) (sym queries) (all_push (λ (x : Query). x.deadline ≤ deadline_of old.stand.moment look.timeout) old.queries q k.deadlines (omega arith)));
+          few_strays = (let n = k.few_strays in omega (arith, n, same_strays));
+          few_receives = (let n = k.few_receives in let e = ap (λ (x : Stand). x.receives) rest.stand in omega (arith, n, e));
+        };
+        has_words = (let h = a.has_words in let d = ap (λ (w : WordsState). w.place) a.drawn in omega (arith, h, d, one));
+        settled = subst (AllSettled look.paths) (sym journal) (all_settled look p J c a.legal a.settled);
+        none_below = subst (NoneAsks (setting_of look) p) (sym journal) (none_ask look p J c a.none_below);
+        stand = rest.stand;
+        lighter = omega (arith, less);
+        goes = λ b. along_next look words words' old new b b p p (Sent c.addr (query_bytes look tx)) told told' (sent_step look p c tx words words' old new a rest book queries) grows;
+      },
+      less,
+    )
+
+-- the last that was opened is closed again
+pub opens_back : (s : Setting) (p : ℕ) (J : List Entry) (c : Contact) → Legal s J → may_ask s p J ≡ Some c → open_any ((J ++ Ask p c ∷ []) ++ Lost p c SendFault ∷ []) ≡ open_any J
+opens_back s p J c l may =
+    let J1 = J ++ Ask p c ∷ [] in
+    let l1 = legal_more s J (Ask p c) l may in
+    let opens = opens_ask s p J c l may in
+    opens_lost p J1 c SendFault ∙ ap (λ cs. without cs (c ∷ [])) opens
+    ∙ without_one c (open_any J) [] (subst (IsDistinct same) opens (opens_distinct s J1 l1)) ∙ append-nil (open_any J)
+
+on_path_still : (p : ℕ) (J : List Entry) (c : Contact) → among (path p J) c ≡ true → among (path p (J ++ Ask p c ∷ [])) c ≡ true
+on_path_still p J c h = ap (λ l. among l c) (path_more p J (Ask p c) ∙ append-nil (path p J)) ∙ h
+
+pub unsent_asks : (look : LookSetting) (p : ℕ) (c : Contact) (tx : ℕ) (words words' : WordsState) (old new : Work) (told told' : Option (List Event)) → Asking look p c tx words words' old → SameRest old new → new.book ≡ added (added old.book (Ask p c)) (Lost p c SendFault) → new.queries ≡ old.queries
+    → Grows told told' (λ es. es ≡ Unsent c.addr (query_bytes look tx) ∷ []) → Asks look p p words words' old new told told' × (weight_of new < weight_of old)
+unsent_asks look p c tx words words' old new told told' a rest book queries grows =
+    let J = old.book.journal in
+    let J1 = J ++ Ask p c ∷ [] in
+    let J' = J1 ++ Lost p c SendFault ∷ [] in
+    let journal : new.book.journal ≡ J' = ap (λ (b : BookState). b.journal) book in
+    let k = a.keeps in
+    let l1 = legal_more (setting_of look) J (Ask p c) a.legal a.may in
+    let on : among (path p J1) c ≡ true = on_path_still p J c (may_ask_on_path (setting_of look) p J c a.may) in
+    let one : length (asked new.book.journal) ≡ length (asked J) + 1 = ap (λ K. length (asked K)) journal ∙ lost_counts p p J c c in
+    let few : length (asked new.book.journal) ≤ 2048 = (let x = few_asks look J1 a.limits l1 in let y = ask_counts p J c in omega (arith, x, y, one)) in
+    let same_queries : length new.queries ≡ length old.queries = ap length queries in
+    let same_strays : new.stand.strays ≡ old.stand.strays = ap (λ (x : Stand). x.strays) rest.stand in
+    let less : weight_of new < weight_of old = omega (arith, one, few, same_queries, same_strays) in
+    let same_deadline : deadline_of new.stand.moment look.timeout ≡ deadline_of old.stand.moment look.timeout = ap (λ (x : Stand). deadline_of x.moment look.timeout) rest.stand in
+    (
+      record {
+        keeps = record {
+          setting = ap (λ (b : BookState). b.setting) book ∙ k.setting;
+          is_open = ap (map (λ (x : Query). x.contact)) queries ∙ k.is_open ∙ sym (opens_back (setting_of look) p J c a.legal a.may) ∙ ap open_any (sym journal);
+          ids = subst (AllByRecursion (λ (x : Query). x.tx < 2 ^ 32)) (sym queries) k.ids;
+          deadlines = subst (λ d. AllByRecursion (λ (x : Query). x.deadline ≤ d) new.queries) (sym same_deadline)
+              (subst (AllByRecursion (λ (x : Query). x.deadline ≤ deadline_of old.stand.moment look.timeout)) (sym queries) k.deadlines);
+          few_strays = (let n = k.few_strays in omega (arith, n, same_strays));
+          few_receives = (let n = k.few_receives in let e = ap (λ (x : Stand). x.receives) rest.stand in omega (arith, n, e));
+        };
+        has_words = (let h = a.has_words in let d = ap (λ (w : WordsState). w.place) a.drawn in omega (arith, h, d, one));
+        settled = subst (AllSettled look.paths) (sym journal) (λ q lt. settled_after_lost (setting_of look) p q J1 c SendFault l1 ∙ all_settled look p J c a.legal a.settled q lt);
+        none_below = subst (NoneAsks (setting_of look) p) (sym journal) (λ q lt. none_after_lost (setting_of look) p q J1 c SendFault l1 on (λ e. absurd (omega (arith, lt, e))) (none_ask look p J c a.none_below q lt));
+        stand = rest.stand;
+        lighter = omega (arith, less);
+        goes = λ b. along_next look words words' old new b b p p (Unsent c.addr (query_bytes look tx)) told told' (unsent_step look p c tx words words' old new a rest book queries) grows;
+      },
+      less,
+    )

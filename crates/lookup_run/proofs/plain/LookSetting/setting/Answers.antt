@@ -1,1 +1,1 @@
-use Rattle.lookup_run.proofs.Asking.{sent_step}
+use Rattle.lookup_run.proofs.Asking.{unsent_asks}
