@@ -4,3 +4,4 @@ pub mod Others
 pub mod Crowd
 pub mod Driven
 pub mod Asking
+pub mod Nexts

@@ -1,1 +1,0 @@
-use Rattle.lookup_run.proofs.Asking.{unsent_asks}
