@@ -1,19 +1,22 @@
 -- One contact more is asked: its query is open, or it is lost at once.
-use Rattle.std.proofs.Common.{◌≡◌, ◌≢◌, ℕ, ◌+◌, ◌-◌, ◌*◌, ◌%◌, ◌^◌, ◌<◌, ◌≤◌, List, [], ◌∷◌, ◌++◌, length, Option, Some, None, Bool, true, false, refl, sym, ap, subst, ◌∙◌, arith}
-use Rattle.std.specs.Prelude.{map, slice_get, Any, remove}
+use Rattle.std.proofs.Common.{◌≡◌, ◌≢◌, ℕ, zero, suc, ◌+◌, ◌-◌, ◌*◌, ◌%◌, ◌^◌, ◌<◌, ◌≤◌, List, [], ◌∷◌, ◌++◌, length, Option, Some, None, Bool, true, false, inl, inr, refl, sym, ap, subst, ◌∙◌, arith}
+use Rattle.std.specs.Prelude.{map, slice_get, Any, remove, IfSome, IsNone, ◌↔◌}
 use Rattle.std.specs.List.{All, AllByRecursion, IsDistinct, flat_map}
-use Rattle.std.proofs.lemmas.List.{append-nil, append_assoc, length-append}
+use Rattle.std.proofs.Math.Nat.{mul-le-mul_left, mul-le-mul_right}
+use Rattle.std.proofs.lemmas.Bool.{cases_lt}
+use Rattle.std.proofs.lemmas.List.{append-nil, append_assoc, length-append, length-map}
+use Rattle.std.proofs.lemmas.List.Elements.{recursion_from_All}
 use Rattle.kad_base.specs.declared.plain.Contact.{Contact}
 use Rattle.kad_base.specs.declared.plain.Event.{Event}
 use Rattle.kad_base.specs.declared.plain.Event.TheVariants.{Sent, Unsent}
 use Rattle.kad_base.specs.Contacts.{same, among, without}
-use Rattle.kad_base.specs.Limits.{max_strays}
+use Rattle.kad_base.specs.Limits.{max_strays, max_open}
 use Rattle.kad_base.specs.Outside.{Grows}
 use Rattle.kad_base.specs.Words.{word}
 use Rattle.kad_krpc.specs.Form.{form}
 use Rattle.id_puzzles.specs.Drawn.{WordsState}
 use Rattle.query_book.specs.declared.Query.{Query}
-use Rattle.query_book.specs.Queries.{IsFirstFree}
+use Rattle.query_book.specs.Queries.{HasId, IsFirstFree, IsOf, Closes}
 use Rattle.claim_book.specs.declared.plain.Setting.{Setting}
 use Rattle.claim_book.specs.declared.plain.Cause.TheVariants.{SendFault}
 use Rattle.claim_book.specs.declared.plain.Entry.{Entry}
@@ -21,9 +24,11 @@ use Rattle.claim_book.specs.declared.plain.Entry.TheVariants.{Ask, Lost}
 use Rattle.claim_book.specs.Journal.{seeds, path, asked, open_any, unsettled, may_ask}
 use Rattle.claim_book.specs.Legal.{Legal}
 use Rattle.claim_book.specs.State.{BookState, added}
+use Rattle.claim_book.specs.Calls.{asker}
+use Rattle.claim_book.proofs.Among.{among_itself}
 use Rattle.claim_book.proofs.More.{asked_more, path_more, legal_more}
 use Rattle.claim_book.proofs.Bounds.{asked_few}
-use Rattle.claim_book.proofs.Claims.{may_ask_says, may_ask_on_path}
+use Rattle.claim_book.proofs.Claims.{may_ask_says, may_ask_on_path, among_right}
 use Rattle.lookup_run.specs.declared.plain.AskKind.{AskKind}
 use Rattle.lookup_run.specs.declared.plain.AskKind.TheVariants.{FindNode, GetPeers}
 use Rattle.lookup_run.specs.declared.plain.LookSetting.{LookSetting}
@@ -35,9 +40,10 @@ use Rattle.lookup_run.specs.Rounds.{path_number, AllSettled, NoneAsks}
 use Rattle.lookup_run.specs.Gathered.{Answered}
 use Rattle.lookup_run.specs.Lookup.{setting_of, given_of, drawn_for, IsWithinLimits}
 use Rattle.lookup_run.specs.Standing.{as_open, Keeps, HasWords, weight_of, Stands}
-use Rattle.lookup_run.specs.Steps.{KeepsFor, Asks}
-use Rattle.lookup_run.proofs.Walking.{OneEvent, NextStep, along_next, table_same, all_weaker}
+use Rattle.lookup_run.specs.Steps.{KeepsFor, Asks, AsksNone}
+use Rattle.lookup_run.proofs.Walking.{OneEvent, NextStep, along_next, along_later, table_same}
 use Rattle.lookup_run.proofs.Opens.{opens_ask, opens_lost, opens_kept, each_asked, asker_new, asker_kept, without_one, opens_distinct}
+use Rattle.lookup_run.proofs.Crowd.{room_to_ask}
 use Rattle.lookup_run.proofs.Others.{none_after_ask, none_after_lost, settled_after_ask, settled_after_lost}
 use Rattle.lookup_run.proofs.Driven.{driven_more, keeps_none, query_back, map_push, all_push, small_id}
 
@@ -282,3 +288,117 @@ unsent_asks look p c tx words words' old new told told' a rest book queries grow
       },
       less,
     )
+
+-- what the book said is an ask of the lookup
+pub asking_of : (look : LookSetting) (p : ℕ) (c : Contact) (tx : ℕ) (words words' : WordsState) (old : Work) → IsWithinLimits look → p < look.paths → Keeps look old → HasWords words old.book.journal → old.stand.receives ≡ 0 → AllSettled look.paths old.book.journal → NoneAsks (setting_of look) p old.book.journal
+    → Legal old.book.setting old.book.journal → Some c ≡ may_ask old.book.setting p old.book.journal → IsFirstFree old.queries (word words.seed words.place) tx → words' ≡ record words { place = words.place + 1 } → Asking look p c tx words words' old
+asking_of look p c tx words words' old limits lt keeps has begins settled none l may id drawn = record {
+  limits = limits;
+  path = lt;
+  keeps = keeps;
+  has_words = has;
+  round_over = begins;
+  settled = settled;
+  none_below = none;
+  legal = subst (λ (s : Setting). Legal s old.book.journal) keeps.setting l;
+  may = ap (λ (s : Setting). may_ask s p old.book.journal) (sym keeps.setting) ∙ sym may;
+  id = id;
+  drawn = drawn;
+}
+
+-- there is room for the query
+pub room_of : (look : LookSetting) (p : ℕ) (c : Contact) (old : Work) → IsWithinLimits look → Keeps look old → Legal old.book.setting old.book.journal → Some c ≡ may_ask old.book.setting p old.book.journal → length old.queries < max_open
+room_of look p c old limits keeps l may =
+    let J = old.book.journal in
+    let legal = subst (λ (s : Setting). Legal s J) keeps.setting l in
+    let may' : may_ask (setting_of look) p J ≡ Some c = ap (λ (s : Setting). may_ask s p J) (sym keeps.setting) ∙ sym may in
+    let some : 0 < look.paths = (let a = limits.some_path in omega arith) in
+    let room = room_to_ask (setting_of look) p J c some legal may' in
+    let same_length : length old.queries ≡ length (open_any J) = sym (length-map old.queries (λ (q : Query). q.contact)) ∙ ap length keeps.is_open in
+    let all = at_most look.alpha look.paths limits.few_queries limits.few_paths in
+    omega (arith, room, same_length, all)
+  where
+    at_most : (a n : ℕ) → a ≤ 4 → n ≤ 8 → a * n ≤ 32
+    at_most a n ha hn = (let x = mul-le-mul_left a hn in let y = mul-le-mul_right 8 ha in omega (arith, x, y))
+
+-- there is a word for it
+pub word_of : (look : LookSetting) (words : WordsState) (old : Work) → IsWithinLimits look → Keeps look old → HasWords words old.book.journal → Legal old.book.setting old.book.journal → words.place < 2 ^ 60
+word_of look words old limits keeps has l =
+    let few = few_asks look old.book.journal limits (subst (λ (s : Setting). Legal s old.book.journal) keeps.setting l) in
+    omega (arith, few, has)
+
+all_last : {A : Type 0} (P : A → Type 0) (xs : List A) (x : A) → AllByRecursion P (xs ++ x ∷ []) → P x
+all_last P [] x h = h.0
+all_last P (y ∷ xs) x h = all_last P xs x h.1
+
+no_id_behind : (x : Query) (qs : List Query) (tx : ℕ) → ¬ HasId (x ∷ qs) tx → ¬ HasId qs tx
+no_id_behind x qs tx n h = n (suc h.0, h.1, (let lt = h.2 in omega (arith, lt)), h.3, h.4)
+
+removed_last : (qs : List Query) (q x : Query) (place : ℕ) → slice_get (qs ++ q ∷ []) place ≡ Some x → x.tx ≡ q.tx → ¬ HasId qs q.tx → remove (qs ++ q ∷ []) place ≡ qs
+removed_last [] q x zero here e n = refl
+removed_last [] q x (suc k) here e n = absurd cc
+removed_last (y ∷ qs) q x zero here e n = (let is : y ≡ x = cc in absurd (n (0, y, omega arith, refl, ap (λ (z : Query). z.tx) is ∙ e)))
+removed_last (y ∷ qs) q x (suc k) here e n = ap (λ l. y ∷ l) (removed_last qs q x k here e (no_id_behind y qs q.tx n))
+
+-- the last query that was opened is closed
+pub closed_last : (qs : List Query) (q : Query) (old new : List Query) (result : Option Contact) → ¬ HasId qs q.tx → old ≡ qs ++ q ∷ [] → IfSome result (λ c. Closes q.tx q.contact.addr c old new) → (IsNone result ↔ All (λ x. ¬ IsOf q.tx q.contact.addr x) old) → new ≡ qs
+closed_last qs q old new None free is some none =
+    let all = recursion_from_All (λ x. ¬ IsOf q.tx q.contact.addr x) (qs ++ q ∷ []) (subst (All (λ x. ¬ IsOf q.tx q.contact.addr x)) is (none.0 refl)) in
+    absurd (all_last (λ x. ¬ IsOf q.tx q.contact.addr x) qs q all (refl, refl))
+closed_last qs q old new (Some c) free is some none =
+    some.others ∙ ap (λ l. remove l some.place) is ∙ removed_last qs q some.query some.place (ap (λ l. slice_get l some.place) (sym is) ∙ some.here) some.answers.0 free
+
+-- the contact that was asked is open
+pub lost_open : (p : ℕ) (c : Contact) (old new : BookState) → Legal old.setting old.journal → Some c ≡ may_ask old.setting p old.journal → new ≡ added old (Ask p c) → among (open_any new.journal) c ≡ true
+lost_open p c old new l may book =
+    ap (λ (b : BookState). among (open_any b.journal) c) book ∙ ap (λ cs. among cs c) (opens_ask old.setting p old.journal c l (sym may)) ∙ among_right (open_any old.journal) (c ∷ []) c (among_itself c)
+
+-- it was asked by this path
+pub lost_added : (p : ℕ) (c : Contact) (old mid new : BookState) → Some c ≡ may_ask old.setting p old.journal → mid ≡ added old (Ask p c) → new ≡ added mid (Lost (asker c mid.journal) c SendFault) → new ≡ added (added old (Ask p c)) (Lost p c SendFault)
+lost_added p c old mid new may book lost =
+    let by : asker c mid.journal ≡ p = ap (λ (b : BookState). asker c b.journal) book ∙ asker_new p old.journal c (may_ask_says old.setting p old.journal c (sym may)).new in
+    lost ∙ ap (λ n. added mid (Lost n c SendFault)) by ∙ ap (λ (b : BookState). added b (Lost p c SendFault)) book
+
+-- nothing was asked so far
+pub asks_not : (look : LookSetting) (p : ℕ) (words : WordsState) (work : Work) (told : Option (List Event)) → Keeps look work → HasWords words work.book.journal → AllSettled look.paths work.book.journal → NoneAsks (setting_of look) p work.book.journal → Asks look p p words words work work told told
+asks_not look p words work told keeps has settled none = record {
+  keeps = keeps;
+  has_words = has;
+  settled = settled;
+  none_below = none;
+  stand = refl;
+  lighter = omega arith;
+  goes = λ b start table began h. h;
+}
+
+none_more : (s : Setting) (p : ℕ) (J : List Entry) → NoneAsks s p J → may_ask s p J ≡ None → NoneAsks s (p + 1) J
+none_more s p J below here q lt = elim (cases_lt q p) [ inl less ↦ below q less | inr more ↦ (let is : q ≡ p = omega (arith, lt, more) in ap (λ n. may_ask s n J) is ∙ here) ]
+
+-- asks after asks
+pub asks_then : (look : LookSetting) (p q r : ℕ) (words words' words'' : WordsState) (old mid new : Work) (a b c : Option (List Event)) → Asks look p q words words' old mid a b → Asks look q r words' words'' mid new b c → Asks look p r words words'' old new a c
+asks_then look p q r words words' words'' old mid new a b c h k = record {
+  keeps = k.keeps;
+  has_words = k.has_words;
+  settled = k.settled;
+  none_below = k.none_below;
+  stand = k.stand ∙ h.stand;
+  lighter = (let x = h.lighter in let y = k.lighter in omega (arith, x, y));
+  goes = λ d start table began x. k.goes d start table began (h.goes d start table began x);
+}
+
+-- the path may ask nothing more
+pub asks_over : (look : LookSetting) (p : ℕ) (words words' words'' : WordsState) (old mid new : Work) (a b c : Option (List Event)) → Asks look p p words words' old mid a b → AsksNone look p words' words'' mid new b c → Asks look p (p + 1) words words'' old new a c
+asks_over look p words words' words'' old mid new a b c h k =
+    let none : NoneAsks (setting_of look) (p + 1) mid.book.journal = none_more (setting_of look) p mid.book.journal h.none_below k.none in
+    let over : Asks look p (p + 1) words words' old mid a b = record {
+      keeps = h.keeps;
+      has_words = h.has_words;
+      settled = h.settled;
+      none_below = none;
+      stand = h.stand;
+      lighter = h.lighter;
+      goes = λ d start table began x. along_later look start table began words' mid d p (p + 1) b (omega arith) (h.goes d start table began x);
+    } in
+    subst (λ (w : WordsState). Asks look p (p + 1) words w old new a c) (sym k.same_words)
+    (subst (λ (x : Work). Asks look p (p + 1) words words' old x a c) (sym k.same_work)
+    (subst (λ (o : Option (List Event)). Asks look p (p + 1) words words' old mid a o) (sym k.same_told) over))

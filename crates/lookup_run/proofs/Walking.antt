@@ -10,7 +10,7 @@ use Rattle.kad_base.specs.declared.plain.Event.TheVariants.{Now, Sent, Unsent, G
 use Rattle.kad_base.specs.declared.serial.Made.{Made}
 use Rattle.kad_base.specs.Outside.{Grows}
 use Rattle.kad_base.specs.Serial.{left_by, IsRun}
-use Rattle.kad_base.proofs.Grown.{grows_then}
+use Rattle.kad_base.proofs.Grown.{grows_then, grows_weaker}
 use Rattle.kad_base.proofs.Runs.{left_by-append}
 use Rattle.id_puzzles.specs.Drawn.{WordsState}
 use Rattle.contact_table.specs.declared.calls.TableCall.{TableCall}
@@ -218,3 +218,29 @@ along_next look words words' old new b b' a a' e told told' n grows start table 
 pub all_weaker : {A : Type 0} (P Q : A → Type 0) → ((x : A) → P x → Q x) → (xs : List A) → AllByRecursion P xs → AllByRecursion Q xs
 all_weaker P Q f [] h = tt
 all_weaker P Q f (x ∷ xs) h = (f x h.0, all_weaker P Q f xs h.1)
+
+shows_later : (g : Given) (work : Work) (place b a a' : ℕ) (es : List Event) → a ≤ a' → Shows g work place b a es → Shows g work place b a' es
+shows_later g work place b a a' es le h = record {
+  at = h.at;
+  rest = h.rest;
+  first = h.first;
+  end = h.end;
+  last = h.last;
+  heard = h.heard;
+  walk = h.walk;
+  behind = h.behind;
+  journal = h.journal;
+  settles = h.settles;
+  below = h.below;
+  ascends = all_weaker (λ (e : Entry). path_number e ≤ a) (λ (e : Entry). path_number e ≤ a') (λ e x. omega (arith, x, le)) h.end.since h.ascends;
+  stands = h.stands;
+  keeping = h.keeping;
+}
+
+pub along_later : (look : LookSetting) (start : WordsState) (table : TableState) (began : Option (List Event)) (words : WordsState) (work : Work) (b a a' : ℕ) (told : Option (List Event)) → a ≤ a' → Along look start table began words work b a told → Along look start table began words work b a' told
+along_later look start table began words work b a a' told le h = record {
+  drawn = h.drawn;
+  seeds_are = h.seeds_are;
+  tabled = h.tabled;
+  shows = grows_weaker began told _ _ h.shows (λ es x. shows_later (given_of look start) work words.place b a a' es le x);
+}

@@ -1,0 +1,14 @@
+use Rattle.std.proofs.Common.{◌≡◌, ◌≤◌}
+use Rattle.lookup_run.specs.Steps.{Asks}
+use Rattle.lookup_run.specs.Standing.{weight_of}
+use Rattle.lookup_run.proofs.ask.ask_path.Given as goal
+
+abbrev pub invariant-asking : goal.invariant-asking
+invariant-asking g l = record {
+  asks : Asks l.look l.path l.path l.fn.words l.words l.fn.work l.work (g.L.Link.told l.fn.link) (g.L.Link.told l.link);
+  moment : g.L.Link.moment l.link ≡ g.L.Link.moment l.fn.link;
+  faults : g.L.Link.recv_faults l.fn.link ≤ g.L.Link.recv_faults l.link;
+}
+
+abbrev pub decreases-asking : goal.decreases-asking
+decreases-asking g l = weight_of l.work
