@@ -1,0 +1,26 @@
+use Rattle.std.proofs.Common.{◌+◌, ◌∙◌, refl, arith, ap}
+use Rattle.lookup_run.specs.declared.plain.Stand.{Stand}
+use Rattle.lookup_run.proofs.Asking.{asks_then, asks_not}
+use Rattle.lookup_run.proofs.ask.ask_all.Goals as goal
+
+pub loop-path-init : goal.loop-path-init
+loop-path-init g c =
+    let b = c.requires.begins in
+    record {
+      asks = asks_not c.args.look.now 0 c.args.words.now c.args.work.now _ b.keeps b.has_words b.settled (λ q lt. absurd (omega (arith, lt)));
+      moment = refl;
+      faults = omega arith;
+    }
+
+pub loop-path-preserved : goal.loop-path-preserved
+loop-path-preserved g c =
+    let p = c.loop-path.path in
+    let i = c.loop-path.invariant in
+    record {
+      asks = asks_then c.args.look.now 0 p (p + 1) c.args.words.now c.loop-path.words c.ask_path.new.words c.args.work.now c.loop-path.work c.ask_path.new.work _ _ _ i.asks c.ask_path.ensures.asks;
+      moment = c.ask_path.ensures.moment ∙ i.moment;
+      faults = (let a = i.faults in let b = c.ask_path.ensures.recv_faults in omega (arith, a, b));
+    }
+
+pub ask_path-requires-clause-round_over : goal.ask_path-requires-clause-round_over
+ask_path-requires-clause-round_over g c = ap (λ (x : Stand). x.receives) c.loop-path.invariant.asks.stand ∙ c.requires.begins.round_over

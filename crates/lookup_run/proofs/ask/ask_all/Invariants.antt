@@ -1,0 +1,10 @@
+use Rattle.std.proofs.Common.{◌≡◌, ◌≤◌}
+use Rattle.lookup_run.specs.Steps.{Asks}
+use Rattle.lookup_run.proofs.ask.ask_all.Given as goal
+
+abbrev pub invariant-loop-path : goal.invariant-loop-path
+invariant-loop-path g l = record {
+  asks : Asks l.look 0 l.path l.fn.words l.words l.fn.work l.work (g.L.Link.told l.fn.link) (g.L.Link.told l.link);
+  moment : g.L.Link.moment l.link ≡ g.L.Link.moment l.fn.link;
+  faults : g.L.Link.recv_faults l.fn.link ≤ g.L.Link.recv_faults l.link;
+}
