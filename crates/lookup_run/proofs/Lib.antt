@@ -5,3 +5,6 @@ pub mod Crowd
 pub mod Driven
 pub mod Asking
 pub mod Nexts
+pub mod Quiet
+pub mod Early
+pub mod Settled

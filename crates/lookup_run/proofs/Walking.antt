@@ -190,7 +190,7 @@ table_then xs ys t u v h k = record {
 pub table_same : (t u : TableState) → u ≡ t → TableTold [] t u
 table_same t u is = record { run = []; is_run = tt; leaves = is; calls_are = refl; kept = λ k d lt. absurd (omega arith) }
 
-calls_more : (look : LookSetting) (J more J' : List Entry) → J' ≡ J ++ more → table_calls look J ++ flat_map told_of more ≡ table_calls look J'
+pub calls_more : (look : LookSetting) (J more J' : List Entry) → J' ≡ J ++ more → table_calls look J ++ flat_map told_of more ≡ table_calls look J'
 calls_more look J more J' is = sym (ap (table_calls look) is ∙ ap (λ l. table_calls look [] ++ l) (flat_map-append told_of J more))
 
 -- ---- the whole of what is known

@@ -215,6 +215,7 @@ pub record SettlesPaths (look : LookSetting) (from to : ℕ) (old new : Work) (t
   pub stand : new.stand ≡ old.stand
   pub same_asks : length (asked new.book.journal) ≡ length (asked old.book.journal)
   pub queries : new.queries ≡ old.queries
+  pub ran : TableRan old.table new.table
   pub goes : (words : WordsState) (a : ℕ) → Goes look words words old new from a to a told told
 
 -- ---- rounds

@@ -3,7 +3,7 @@ ghost use Rattle.std.specs.Prelude.{◌≡◌, ◌<◌, ◌+◌, List, Option, I
 ghost use Rattle.kad_base.specs.declared.plain.Event.{Event};
 ghost use Rattle.id_puzzles.specs.Drawn.{WordsState};
 ghost use Rattle.lookup_run.specs.Rounds.{AllSettled};
-ghost use Rattle.lookup_run.specs.Lookup.{IsWithinLimits};
+ghost use Rattle.lookup_run.specs.Lookup.{IsWithinLimits, TableRan};
 ghost use Rattle.lookup_run.specs.Standing.{Keeps};
 ghost use Rattle.lookup_run.specs.Steps.{SettlesPaths, Stops};
 
@@ -24,7 +24,7 @@ fn settle_path<C: Check>(
     requires round_over { work.old.stand.receives ≡ 0 }
     requires settled { AllSettled path work.old.book.journal }
     ensures ok { (told : Option (List Event)) → OnOk result (SettlesPaths look.now path (path + 1) work.old work.new told) }
-    ensures stops { (told : Option (List Event)) → OnErr result ((words : WordsState) → Stops look.now words words work.old work.new told told) }
+    ensures ran { OnErr result (TableRan work.old.table work.new.table) }
     ensures fault { IfErr result (λ fault. fault ≡ LookFault.NoMemory) }
 {
     match settle_alone(path, &mut work.book, &mut work.table, look.policy, check) {
@@ -46,8 +46,12 @@ pub(crate) fn settle_all<C: Check>(
     ensures stops { (told : Option (List Event)) → OnErr result ((words : WordsState) → Stops look.now words words work.old work.new told told) }
     ensures fault { IfErr result (λ fault. fault ≡ LookFault.NoMemory) }
 {
+    work.book.legal();
     for path in 0..look.paths {
-        settle_path(work, look, check, path)?;
+        match settle_path(work, look, check, path) {
+            Ok(()) => {}
+            Err(fault) => return Err(fault),
+        }
     }
     Ok(())
 }

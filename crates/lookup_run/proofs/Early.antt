@@ -1,0 +1,77 @@
+-- A lookup that ends early: its events tell the journal so far.
+use Rattle.std.proofs.Common.{◌≡◌, ◌⊎◌, ℕ, ◌+◌, List, [], ◌∷◌, ◌++◌, Option, inl, inr, refl, sym, ap, subst, ◌∙◌}
+use Rattle.std.specs.Prelude.{map}
+use Rattle.std.proofs.lemmas.List.{append-nil}
+use Rattle.kad_base.specs.declared.plain.Addr.{Addr}
+use Rattle.kad_base.specs.declared.plain.Event.{Event}
+use Rattle.kad_base.specs.declared.plain.Event.TheVariants.{Now, Got}
+use Rattle.kad_base.specs.Outside.{Grows}
+use Rattle.kad_base.specs.Limits.{max_strays}
+use Rattle.kad_base.proofs.Grown.{grows_then}
+use Rattle.id_puzzles.specs.Drawn.{WordsState}
+use Rattle.contact_table.specs.TableState.{TableState}
+use Rattle.claim_book.specs.declared.plain.Entry.{Entry}
+use Rattle.claim_book.specs.Legal.{Legal, seeded}
+use Rattle.claim_book.specs.Journal.{seeds}
+use Rattle.lookup_run.specs.declared.plain.LookSetting.{LookSetting}
+use Rattle.lookup_run.specs.declared.plain.Work.{Work}
+use Rattle.lookup_run.specs.Tells.{Given, Seen, TellsFrom, TellsSoFar, IsStray, EndsAtStray, begun}
+use Rattle.lookup_run.specs.Gathered.{Answered}
+use Rattle.lookup_run.specs.Lookup.{setting_of, given_of, TellsEarly, Told, TableTold, TableRan}
+use Rattle.lookup_run.specs.Standing.{as_open, Walk, Stands, Shows, Along}
+use Rattle.lookup_run.specs.Steps.{Ended, Stops, EndsByStray}
+
+pub tells_of : (g : Given) (J P : List Entry) (s : Seen) (es : List Event) (t : Seen) (Q : List Entry) (heard : List Answered) → Walk g J P s es t Q heard → TellsFrom g J s es t
+tells_of g J P s [] t Q heard h = h.0
+tells_of g J P s (e ∷ es) t Q heard h = (h.0.mid, h.0.gives, tells_of g J ((P ++ h.0.between) ++ h.0.gave) h.0.mid es t Q h.1 h.2)
+
+pub so_far_of : (g : Given) (work : Work) (place b a : ℕ) (es : List Event) (h : Shows g work place b a es) → TellsSoFar g work.book.journal es h.end
+so_far_of g work place b a es h =
+    subst (λ l. TellsSoFar g work.book.journal l h.end) (sym h.first)
+    (tells_of g work.book.journal (seeded g.setting.paths (seeds work.book.journal)) (begun h.at) h.rest h.end h.last h.heard h.walk, h.stands.given)
+
+pub ran_of : (calls : List Told) (t u v : TableState) → v ≡ u → TableTold calls t u → TableRan t v
+ran_of calls t u v same h = record { run = h.run; is_run = h.is_run; leaves = same ∙ h.leaves }
+
+-- nothing more was told, or a datagram
+abbrev pub IsEarly : List Event → Type 0
+IsEarly more = (more ≡ []) ⊎ ((from : Addr) × (bytes : List ℕ) × (until : ℕ) × (at : ℕ) × (more ≡ Got from bytes until at ∷ []))
+
+early_of : (g : Given) (work : Work) (place b a : ℕ) (es fs : List Event) → Shows g work place b a es → IsEarly fs → TellsEarly g work.book.journal (es ++ fs)
+early_of g work place b a es fs h (inl is) = record { front = es; end = h.end; so_far = so_far_of g work place b a es h; whole = inl (ap (λ l. es ++ l) is ∙ append-nil es) }
+early_of g work place b a es fs h (inr got) = record { front = es; end = h.end; so_far = so_far_of g work place b a es h; whole = inr (got.0, got.1, got.2, got.3, ap (λ l. es ++ l) got.4) }
+
+-- nothing more was told
+pub early_now : (g : Given) (work : Work) (place b a : ℕ) (es : List Event) → Shows g work place b a es → TellsEarly g work.book.journal es
+early_now g work place b a es h = record { front = es; end = h.end; so_far = so_far_of g work place b a es h; whole = inl refl }
+
+-- the journal is that from before the step
+pub stops_of : (look : LookSetting) (words : WordsState) (old new : Work) (told told' : Option (List Event)) → Legal (setting_of look) old.book.journal → new.table ≡ old.table → Grows told told' IsEarly → Stops look words words old new told told'
+stops_of look words old new told told' legal table grows start from began b a h = record {
+  unfinished = record {
+    journal = old.book.journal;
+    legal = legal;
+    seeds_are = h.seeds_are;
+    tells = grows_then began told told' _ _ _ h.shows grows (λ es fs p is. early_of (given_of look start) old words.place b a es fs p is);
+    drawn = h.drawn;
+  };
+  ran = ran_of _ from old.table new.table table h.tabled;
+}
+
+-- the last stray that a lookup takes
+pub ends_by_stray : (look : LookSetting) (words : WordsState) (old : Work) (told told' : Option (List Event)) (source : Addr) (bytes : List ℕ) (until at : ℕ) → ((s : Seen) → s.queries ≡ map (as_open old.book.journal) old.queries → IsStray s source bytes) → Grows told told' (λ es. es ≡ Got source bytes until at ∷ []) → old.stand.strays + 1 ≡ max_strays
+    → EndsByStray look words old told told'
+ends_by_stray look words old told told' source bytes until at none grows number start table began b a h =
+    grows_then began told told' _ _ _ h.shows grows (λ es fs p is. record {
+      journal = old.book.journal;
+      before = es;
+      end = p.end;
+      from = source;
+      bytes = bytes;
+      until = until;
+      at = at;
+      so_far = so_far_of (given_of look start) old words.place b a es p;
+      last = ap (λ l. es ++ l) is;
+      stray = none p.end p.stands.queries;
+      count = ap (λ n. n + 1) p.stands.strays ∙ number;
+    })

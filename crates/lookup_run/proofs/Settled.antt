@@ -1,0 +1,214 @@
+-- What settling a path leaves: the events show the longer journal, and the table was told of whom it notes.
+use Rattle.std.proofs.Common.{◌≡◌, ◌≢◌, ◌⊎◌, ℕ, zero, suc, ◌+◌, ◌^◌, ◌==◌, ◌<◌, ◌≤◌, List, [], ◌∷◌, ◌++◌, length, Option, true, inl, inr, refl, sym, ap, subst, ◌∙◌, arith}
+use Rattle.std.specs.Prelude.{map}
+use Rattle.std.specs.List.{All, AllByRecursion, flat_map}
+use Rattle.std.proofs.lemmas.Bool.{cases_lt, eqb-true, false≢true}
+use Rattle.std.proofs.lemmas.List.{append-nil, append_assoc, map-append}
+use Rattle.std.proofs.lemmas.List.Elements.{All-head, All-tail}
+use Rattle.kad_base.specs.declared.plain.Contact.{Contact}
+use Rattle.kad_base.specs.declared.plain.Event.{Event}
+use Rattle.kad_base.specs.declared.serial.Made.{Made}
+use Rattle.kad_base.specs.Limits.{max_strays, max_round_receives}
+use Rattle.kad_base.specs.Outside.{Grows}
+use Rattle.kad_base.specs.Serial.{left_by, IsRun}
+use Rattle.kad_base.proofs.Grown.{grows_weaker, grows_none}
+use Rattle.kad_base.proofs.Runs.{left_by-append}
+use Rattle.id_puzzles.specs.Drawn.{WordsState}
+use Rattle.query_book.specs.declared.Query.{Query}
+use Rattle.contact_table.specs.declared.calls.TableCall.{TableCall}
+use Rattle.contact_table.specs.declared.calls.TableCall.TheVariants.{Seen as Seen_call}
+use Rattle.contact_table.specs.declared.calls.TableReply.{TableReply}
+use Rattle.contact_table.specs.TableState.{TableState}
+use Rattle.contact_table.specs.TableStep.{TableMay, TableStep, table_after}
+use Rattle.claim_book.specs.declared.plain.Entry.{Entry}
+use Rattle.claim_book.specs.declared.plain.Entry.TheVariants.{Seed, Ask, Heard, Lost, Note, Taken, Held, Turned, Rejected, Skipped}
+use Rattle.claim_book.specs.Journal.{seeds, asked, open_any, unsettled, settles_on}
+use Rattle.claim_book.specs.Legal.{Legal, seeded}
+use Rattle.path_worker.specs.Settling.{role_of, seen_with, TellsSeen, Settling}
+use Rattle.lookup_run.specs.declared.plain.LookSetting.{LookSetting}
+use Rattle.lookup_run.specs.declared.plain.Work.{Work}
+use Rattle.lookup_run.specs.Tells.{Given, driven, begun, deadline_of}
+use Rattle.lookup_run.specs.Rounds.{path_number, SettlesIn, SettlesFrom, AllSettled}
+use Rattle.lookup_run.specs.Lookup.{setting_of, given_of, drawn_for, Told, told_of, told_in, table_calls, TableTold, TableRan}
+use Rattle.lookup_run.specs.Standing.{as_open, Keeps, Keeping, Walk, Stands, Shows, Along, Goes}
+use Rattle.lookup_run.specs.Steps.{SettlesPaths, Ended, Stops}
+use Rattle.lookup_run.proofs.Driven.{driven_append}
+use Rattle.lookup_run.proofs.Early.{early_now}
+use Rattle.lookup_run.proofs.Opens.{opens_kept, each_asked}
+use Rattle.lookup_run.proofs.Quiet.{IsQuiet, each_quiet, no_seeds, none_driven, asked_same, open_same, unsettled_same, settles_from, below_more}
+use Rattle.lookup_run.proofs.Walking.{walk_longer, seeds_same, table_then, calls_more}
+
+-- ---- the table
+
+seen_by : ℕ → TableCall → Told
+seen_by p call = record { role = p + 1; call = call }
+
+told_entry : (p : ℕ) (e : Entry) → settles_on p e ≡ true → map (λ call. record { role = p + 1; call = call }) (seen_with e) ≡ told_of e
+told_entry p (Note q c) h = ap (λ n. record { role = n + 1; call = Seen_call c } ∷ []) (sym (eqb-true q p h))
+told_entry p (Taken q c) h = refl
+told_entry p (Held q c by) h = refl
+told_entry p (Turned q c) h = refl
+told_entry p (Rejected q r) h = refl
+told_entry p (Skipped q r) h = refl
+told_entry p (Seed q c) h = refl
+told_entry p (Ask q c) h = refl
+told_entry p (Heard q c reports) h = refl
+told_entry p (Lost q c cause) h = absurd (false≢true h)
+
+told_entries : (p : ℕ) (es : List Entry) → All (λ e. settles_on p e ≡ true) es → map (λ call. record { role = p + 1; call = call }) (flat_map seen_with es) ≡ flat_map told_of es
+told_entries p [] h = refl
+told_entries p (e ∷ es) h =
+    map-append (λ (call : TableCall). record { role = p + 1; call = call }) (seen_with e) (flat_map seen_with es)
+    ∙ ap (λ l. l ++ map (λ call. record { role = p + 1; call = call }) (flat_map seen_with es)) (told_entry p e (All-head (λ e. settles_on p e ≡ true) e es h))
+    ∙ ap (λ l. told_of e ++ l) (told_entries p es (All-tail (λ e. settles_on p e ≡ true) e es h))
+
+told_run : (p : ℕ) (run : List (Made TableCall TableReply)) → All (λ m. m.role ≡ role_of p) run → map told_in run ≡ map (λ call. record { role = p + 1; call = call }) (map (λ m. m.call) run)
+told_run p [] h = refl
+told_run p (m ∷ run) h =
+    ap (λ n. record { role = n; call = m.call } ∷ map told_in run) (All-head (λ (m : Made TableCall TableReply). m.role ≡ role_of p) m run h)
+    ∙ ap (λ l. record { role = p + 1; call = m.call } ∷ l) (told_run p run (All-tail (λ (m : Made TableCall TableReply). m.role ≡ role_of p) m run h))
+
+settling_told : (p : ℕ) (old new : Work) (h : Settling p old.book new.book old.table new.table) → TableTold (flat_map told_of h.more) old.table new.table
+settling_told p old new h = record {
+  run = h.run;
+  is_run = h.is_run;
+  leaves = h.leaves;
+  calls_are = told_run p h.run h.tells.roles ∙ ap (map (λ call. record { role = p + 1; call = call })) h.tells.calls ∙ told_entries p h.more h.settles;
+  kept = h.tells.kept;
+}
+
+IsRun-append : (t : TableState) (xs ys : List (Made TableCall TableReply)) → IsRun TableMay TableStep table_after t xs → IsRun TableMay TableStep table_after (left_by table_after t xs) ys → IsRun TableMay TableStep table_after t (xs ++ ys)
+IsRun-append t [] ys r q = q
+IsRun-append t (x ∷ xs) ys r q = (r.0, r.1, IsRun-append (table_after t x.role x.call x.reply) xs ys r.2 q)
+
+pub ran_then : (t u v : TableState) → TableRan t u → TableRan u v → TableRan t v
+ran_then t u v h k = record {
+  run = h.run ++ k.run;
+  is_run = IsRun-append t h.run k.run h.is_run (subst (λ (s : TableState). IsRun TableMay TableStep table_after s k.run) h.leaves k.is_run);
+  leaves = k.leaves ∙ ap (λ (s : TableState). left_by table_after s k.run) h.leaves ∙ sym (left_by-append table_after t h.run k.run);
+}
+
+-- a run after calls that were told
+ran_after : (calls : List Told) (t u v : TableState) → TableTold calls t u → TableRan u v → TableRan t v
+ran_after calls t u v h k = ran_then t u v (record { run = h.run; is_run = h.is_run; leaves = h.leaves }) k
+
+pub ran_by : (p : ℕ) (old new : Work) → Settling p old.book new.book old.table new.table → TableRan old.table new.table
+ran_by p old new h = record { run = h.run; is_run = h.is_run; leaves = h.leaves }
+
+-- ---- what the events show
+
+-- the round is over, so what settles stands in ascending path
+settles_in : (n p : ℕ) (front es : List Entry) → n ≡ 0 → SettlesIn n front → AllByRecursion (λ e. path_number e < p) front → AllByRecursion (IsQuiet p) es → SettlesIn n (front ++ es)
+settles_in zero p front es is s b h = settles_from 0 p front es (omega arith) s b h
+settles_in (suc n) p front es is s b h = absurd (omega (arith, is))
+
+shows_settled : (g : Given) (old new : Work) (more : List Entry) (place p a : ℕ) (es : List Event) → new.book.journal ≡ old.book.journal ++ more → AllByRecursion (IsQuiet p) more → old.stand.receives ≡ 0 → map (λ q. q.contact) old.queries ≡ open_any old.book.journal
+    → new.queries ≡ old.queries → new.stand ≡ old.stand → new.gathered ≡ old.gathered → Shows g old place p a es → Shows g new place (p + 1) a es
+shows_settled g old new more place p a es journal quiet over is_open queries stand gathered h =
+    let J = old.book.journal in
+    let J' = new.book.journal in
+    let st = h.stands in
+    let longer : Walk g J' (seeded g.setting.paths (seeds J)) (begun h.at) h.rest h.end h.last h.heard =
+    subst (λ K. Walk g K (seeded g.setting.paths (seeds J)) (begun h.at) h.rest h.end h.last h.heard) (sym journal) (walk_longer g J more (seeded g.setting.paths (seeds J)) (begun h.at) h.rest h.end h.last h.heard h.walk) in
+    let paths : map (as_open J') new.queries ≡ map (as_open J) old.queries =
+    ap (map (as_open J')) queries ∙ ap (λ K. map (as_open K) old.queries) journal ∙ opens_kept J more old.queries (each_asked J old.queries is_open) in
+    record {
+      at = h.at;
+      rest = h.rest;
+      first = h.first;
+      end = h.end;
+      last = h.last;
+      heard = h.heard;
+      walk = subst (λ cs. Walk g J' (seeded g.setting.paths cs) (begun h.at) h.rest h.end h.last h.heard) (sym (seeds_same J more J' journal (no_seeds p more quiet))) longer;
+      behind = h.behind ++ more;
+      journal = journal ∙ ap (λ l. l ++ more) h.journal ∙ append_assoc h.last h.behind more;
+      settles = settles_in h.end.receives p h.behind more (st.receives ∙ over) h.settles h.below quiet;
+      below = below_more p h.behind more h.below quiet;
+      ascends = h.ascends;
+      stands = record {
+        moment = st.moment ∙ sym (ap (λ x. x.moment) stand);
+        queries = st.queries ∙ sym paths;
+        sends = st.sends;
+        strays = st.strays ∙ sym (ap (λ x. x.strays) stand);
+        receives = st.receives ∙ sym (ap (λ x. x.receives) stand);
+        given = st.given ∙ sym (ap driven journal ∙ driven_append J more ∙ ap (λ l. driven J ++ l) (none_driven p more quiet) ∙ append-nil (driven J));
+      };
+      keeping = subst (λ x. Keeping g.kind h.heard x) (sym gathered) h.keeping;
+    }
+
+settled_more : (p : ℕ) (J more J' : List Entry) → J' ≡ J ++ more → AllByRecursion (IsQuiet p) more → AllSettled p J → unsettled p J' ≡ [] → AllSettled (p + 1) J'
+settled_more p J more J' journal quiet below here q lt = elim (cases_lt q p) [
+    inl less ↦ ap (unsettled q) journal ∙ unsettled_same p q J more (λ e. absurd (omega (arith, less, e))) quiet ∙ below q less
+  | inr more_than ↦ (let is : q ≡ p = omega (arith, lt, more_than) in ap (λ n. unsettled n J') is ∙ here)
+  ]
+
+drawn_same : (words start : WordsState) (J J' : List Entry) → asked J' ≡ asked J → words ≡ drawn_for start J → words ≡ drawn_for start J'
+drawn_same words start J J' same is = is ∙ ap (λ (cs : List Contact). record { seed = start.seed; place = start.place + length cs }) (sym same)
+
+pub settles_path : (look : LookSetting) (p : ℕ) (old new : Work) (told : Option (List Event)) → Keeps look old → old.stand.receives ≡ 0 → AllSettled p old.book.journal → (h : Settling p old.book new.book old.table new.table) → unsettled p new.book.journal ≡ []
+    → new.queries ≡ old.queries → new.stand ≡ old.stand → new.gathered ≡ old.gathered → SettlesPaths look p (p + 1) old new told
+settles_path look p old new told k over below h here queries stand gathered =
+    let J = old.book.journal in
+    let J' = new.book.journal in
+    let quiet = each_quiet p h.more h.settles in
+    let same_asked : asked J' ≡ asked J = ap asked h.journal ∙ asked_same p J h.more quiet in
+    let same_open : open_any J' ≡ open_any J = ap open_any h.journal ∙ open_same p J h.more quiet in
+    record {
+      keeps = record {
+        setting = h.setting ∙ k.setting;
+        is_open = ap (map (λ (q : Query). q.contact)) queries ∙ k.is_open ∙ sym same_open;
+        ids = subst (AllByRecursion (λ (q : Query). q.tx < 2 ^ 32)) (sym queries) k.ids;
+        deadlines = subst (λ x. AllByRecursion (λ (q : Query). q.deadline ≤ deadline_of x.moment look.timeout) new.queries) (sym stand) (subst (AllByRecursion (λ (q : Query). q.deadline ≤ deadline_of old.stand.moment look.timeout)) (sym queries) k.deadlines);
+        few_strays = subst (λ x. x.strays < max_strays) (sym stand) k.few_strays;
+        few_receives = subst (λ x. x.receives < max_round_receives) (sym stand) k.few_receives;
+      };
+      settled = settled_more p J h.more J' h.journal quiet below here;
+      stand = stand;
+      same_asks = ap length same_asked;
+      queries = queries;
+      ran = ran_by p old new h;
+      goes = λ words a start table began al. record {
+        drawn = drawn_same words start J J' same_asked al.drawn;
+        seeds_are = seeds_same J h.more J' h.journal (no_seeds p h.more quiet) ∙ al.seeds_are;
+        tabled = subst (λ calls. TableTold calls table new.table) (calls_more look J h.more J' h.journal) (table_then (table_calls look J) (flat_map told_of h.more) table old.table new.table al.tabled (settling_told p old new h));
+        shows = grows_weaker began told _ _ al.shows (λ es s. shows_settled (given_of look start) old new h.more words.place p a es h.journal quiet over k.is_open queries stand gathered s);
+      };
+    }
+
+-- where it ends early, the journal is that from before, and the table is what some run leaves
+pub stops_settling : (look : LookSetting) (old new : Work) (told : Option (List Event)) → Legal (setting_of look) old.book.journal → TableRan old.table new.table → (words : WordsState) → Stops look words words old new told told
+stops_settling look old new told legal ran words start table began b a al = record {
+  unfinished = record {
+    journal = old.book.journal;
+    legal = legal;
+    seeds_are = al.seeds_are;
+    tells = grows_weaker began told _ _ al.shows (λ es s. early_now (given_of look start) old words.place b a es s);
+    drawn = al.drawn;
+  };
+  ran = ran_after (table_calls look old.book.journal) table old.table new.table al.tabled ran;
+}
+
+-- ---- path by path
+
+pub settles_nothing : (look : LookSetting) (work : Work) (told : Option (List Event)) → Keeps look work → SettlesPaths look 0 0 work work told
+settles_nothing look work told k = record {
+  keeps = k;
+  settled = λ p lt. absurd (omega arith);
+  stand = refl;
+  same_asks = refl;
+  queries = refl;
+  ran = record { run = []; is_run = tt; leaves = refl };
+  goes = λ words a start table began al. al;
+}
+
+pub settles_then : (look : LookSetting) (from mid to : ℕ) (a b c : Work) (told : Option (List Event)) → SettlesPaths look from mid a b told → SettlesPaths look mid to b c told → SettlesPaths look from to a c told
+settles_then look from mid to a b c told h k = record {
+  keeps = k.keeps;
+  settled = k.settled;
+  stand = k.stand ∙ h.stand;
+  same_asks = k.same_asks ∙ h.same_asks;
+  queries = k.queries ∙ h.queries;
+  ran = ran_then a.table b.table c.table h.ran k.ran;
+  goes = λ words n start table began al. k.goes words n start table began (h.goes words n start table began al);
+}
+
