@@ -8,3 +8,4 @@ pub mod Nexts
 pub mod Quiet
 pub mod Early
 pub mod Settled
+pub mod OnceSettled
