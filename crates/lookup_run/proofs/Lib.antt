@@ -9,3 +9,6 @@ pub mod Quiet
 pub mod Early
 pub mod Settled
 pub mod OnceSettled
+pub mod OnceEvents
+pub mod Once
+pub mod Alike

@@ -6,6 +6,7 @@
 mod ask;
 mod gather;
 mod hear;
+mod laws;
 mod look_up;
 mod plain;
 mod receive;
@@ -16,5 +17,6 @@ mod settle;
 #[cfg(test)]
 mod tests;
 
+pub use laws::one_journal;
 pub use look_up::look_up_alone;
 pub use plain::{AskKind, LookFault, LookSetting, Outcome, Token, Tokened};
