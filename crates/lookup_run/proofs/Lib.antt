@@ -12,3 +12,4 @@ pub mod OnceSettled
 pub mod OnceEvents
 pub mod Once
 pub mod Alike
+pub mod Replying

@@ -90,13 +90,7 @@ fn ask_one<L: Link>(
 }
 
 /// Asks all that the path may ask.
-fn ask_path<L: Link>(
-    link: &mut L,
-    work: &mut Work,
-    words: &mut Words,
-    look: &LookSetting,
-    path: u8,
-)
+fn ask_path<L: Link>(link: &mut L, work: &mut Work, words: &mut Words, look: &LookSetting, path: u8)
     requires limits { IsWithinLimits look.now }
     requires path { path < look.now.paths }
     requires keeps { Keeps look.now work.old }
@@ -112,12 +106,7 @@ fn ask_path<L: Link>(
 }
 
 /// Asks all that the paths may ask, path by path.
-pub(crate) fn ask_all<L: Link>(
-    link: &mut L,
-    work: &mut Work,
-    words: &mut Words,
-    look: &LookSetting,
-)
+pub(crate) fn ask_all<L: Link>(link: &mut L, work: &mut Work, words: &mut Words, look: &LookSetting)
     requires limits { IsWithinLimits look.now }
     requires begins { Begins look.now words.old work.old }
     ensures asks { Asks look.now 0 look.now.paths words.old words.new work.old work.new (L.told link.old) (L.told link.new) }

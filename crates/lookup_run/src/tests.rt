@@ -76,7 +76,10 @@ fn two_paths_find_what_each_learns(rt: HostRuntime) -> Result<(), Fail> {
     let Ok(outcome) = play(rt.alloc(), &[1, 2], 2, &mut link)? else {
         return Err(Fail::new("it ended early"));
     };
-    assert_eq!(rt; outcome.found.as_slice(), [contact(1), contact(2), contact(3), contact(4)].as_slice());
+    assert_eq!(rt;
+        outcome.found.as_slice(),
+        [contact(1), contact(2), contact(3), contact(4)].as_slice()
+    );
     assert_eq!(rt; outcome.counts.asked, 4);
     Ok(())
 }
