@@ -13,3 +13,5 @@ pub mod OnceEvents
 pub mod Once
 pub mod Alike
 pub mod Replying
+pub mod Hearing
+pub mod Expiring

@@ -150,6 +150,7 @@ pub(crate) fn expire(work: &mut Work, at: u64)
     ensures { Expires at work.old work.new }
 {
     while let Some(contact) = work.queries.overdue(at) {
+        work.book.legal();
         lose(&mut work.book, contact, Cause::Timeout);
         tell_failed(&mut work.table, contact);
     }
