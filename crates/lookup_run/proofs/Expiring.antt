@@ -80,11 +80,11 @@ all_append : {A : Type 0} (P : A → Type 0) (xs ys : List A) → AllByRecursion
 all_append P [] ys h k = k
 all_append P (x ∷ xs) ys h k = (h.0, all_append P xs ys h.1 k)
 
-map-append : {A B : Type 0} (f : A → B) (xs ys : List A) → map f (xs ++ ys) ≡ map f xs ++ map f ys
-map-append f [] ys = refl
-map-append f (x ∷ xs) ys = ap (λ l. f x ∷ l) (map-append f xs ys)
+pub map_append : {A B : Type 0} (f : A → B) (xs ys : List A) → map f (xs ++ ys) ≡ map f xs ++ map f ys
+map_append f [] ys = refl
+map_append f (x ∷ xs) ys = ap (λ l. f x ∷ l) (map_append f xs ys)
 
-among_middle : (before : List Query) (q : Query) (behind : List Query) → among (map (λ (q : Query). q.contact) (before ++ q ∷ behind)) q.contact ≡ true
+pub among_middle : (before : List Query) (q : Query) (behind : List Query) → among (map (λ (q : Query). q.contact) (before ++ q ∷ behind)) q.contact ≡ true
 among_middle [] q behind = ap (λ b. b || among (map (λ (x : Query). x.contact) behind) q.contact) (same_itself q.contact)
 among_middle (x ∷ before) q behind = either (same q.contact x.contact) (among (map (λ (q : Query). q.contact) (before ++ q ∷ behind)) q.contact) (among_middle before q behind)
   where
@@ -102,7 +102,7 @@ expires_one at old w v q h first due legal book table stand gathered =
     let was_asked : among (asked J) c ≡ true = each_asked J old.queries h.was_open c (ap (λ l. among (map (λ (x : Query). x.contact) l) c) were ∙ among_middle h.gone q v.queries) in
     let by : asker c w.book.journal ≡ asker c J = ap (asker c) h.journal ∙ asker_kept J (map timed_out (map (as_open J) h.gone)) c was_asked in
     let closed : map timed_out (map (as_open J) (h.gone ++ q ∷ [])) ≡ map timed_out (map (as_open J) h.gone) ++ timed_out (as_open J q) ∷ [] =
-    ap (map timed_out) (map-append (as_open J) h.gone (q ∷ [])) ∙ map-append timed_out (map (as_open J) h.gone) (as_open J q ∷ []) in
+    ap (map timed_out) (map_append (as_open J) h.gone (q ∷ [])) ∙ map_append timed_out (map (as_open J) h.gone) (as_open J q ∷ []) in
     let opens : open_any w.book.journal ≡ c ∷ map (λ (x : Query). x.contact) v.queries = sym h.is_open ∙ ap (map (λ (x : Query). x.contact)) first in
     record {
       gone = h.gone ++ q ∷ [];

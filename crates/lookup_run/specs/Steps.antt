@@ -34,7 +34,7 @@ use Rattle.lookup_run.specs.Tells.{OpenQuery, EndsAtStray, Replies, ReplyGives, 
 use Rattle.lookup_run.specs.Rounds.{AllSettled, NoneAsks, WaitsInTurn}
 use Rattle.lookup_run.specs.Gathered.{Answered, values_of, token_of}
 use Rattle.lookup_run.specs.Lookup.{setting_of, given_of, seeds_in, told_of, Unfinished, TableRan, TableTold, Told}
-use Rattle.lookup_run.specs.Standing.{as_open, Keeps, HasWords, weight_of, Along, Goes}
+use Rattle.lookup_run.specs.Standing.{IsReply, as_open, Keeps, HasWords, weight_of, Along, Goes}
 
 -- the book after the path was asked what it asks
 abbrev pub asked_more : ℕ → BookState → Option Contact → BookState
@@ -164,14 +164,16 @@ pub record IsLastStray (from : Addr) (bytes : List ℕ) (work : Work) : Type 0 w
   pub none : RepliesToNone from bytes work
   pub last : work.stand.strays + 1 ≡ max_strays
 
--- it replies to one of the open queries, which is closed, and the reply is heard
+-- it replies to one of the open queries and to no other, which is closed, and the reply is heard
 pub record IsMatchFor (look : LookSetting) (from : Addr) (bytes : List ℕ) (old new : Work) : Type 0 where
   pub before : List Query
   pub query : Query
   pub behind : List Query
   pub what : Reply
   pub was_open : old.queries ≡ before ++ query ∷ behind
+  pub alone : (q : Query) → Contains old.queries q → q.tx ≡ query.tx → q ≡ query
   pub replies : Replies bytes from (as_open old.book.journal query) what
+  pub reads : IsReply bytes (record { tx = query.tx; reply = what })
   pub closes : new.queries ≡ before ++ behind
   pub hears : HearsOne look query.contact what old.book new.book
   pub heard : List Answered
@@ -193,6 +195,7 @@ pub record MayReceive (look : LookSetting) (work : Work) : Type 0 where
 pub record ReceivesOne (look : LookSetting) (old new : Work) (told told' : Option (List Event)) : Type 0 where
   pub keeps : Keeps look new
   pub some_open : new.stand.receives ≢ 0 → new.queries ≢ []
+  pub round : (new.stand.receives ≡ 0) ⊎ (new.stand.receives ≡ old.stand.receives + 1)
   pub same_asks : length (asked new.book.journal) ≡ length (asked old.book.journal)
   pub first_lighter : old.stand.receives ≡ 0 → weight_of new < weight_of old
   pub lighter : weight_of new ≤ weight_of old

@@ -71,6 +71,8 @@ fn take_datagram(
     ensures link { ¬ IsErrOf result LookFault.LinkFault }
     ensures table { work.new.table ≡ work.old.table }
 {
+    // No two open queries have one transaction id.
+    let _ = work.queries.len();
     let said = match read_reply(alloc, bytes) {
         Ok(Some(said)) => said,
         Ok(None) => return take_stray(&mut work.stand),
@@ -105,6 +107,7 @@ pub(crate) fn receive<L: Link>(
     ensures link { IsErrOf result LookFault.LinkFault → Rose (L.recv_faults link.old) (L.recv_faults link.new) }
     ensures recv_faults { L.recv_faults link.old ≤ L.recv_faults link.new }
 {
+    work.book.legal();
     let until = wait_until(&work.stand, &work.queries);
     match link.recv(buf, until) {
         Ok(Came::Packet { from, len, at }) => {

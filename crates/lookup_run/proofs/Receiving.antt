@@ -1,0 +1,595 @@
+-- One receive: what its event gives, and that the lookup comes nearer to its end.
+use Rattle.std.proofs.Common.{◌≡◌, ◌≢◌, ◌⊎◌, ℕ, zero, suc, ◌+◌, ◌-◌, ◌*◌, ◌^◌, ◌<◌, ◌≤◌, min, List, [], ◌∷◌, ◌++◌, length, Option, None, Bool, true, false, not, ◌||◌, cond, inl, inr, refl, sym, ap, subst, ◌∙◌, arith}
+use Rattle.std.specs.Prelude.{Contains, map, filter, nat_lt}
+use Rattle.std.specs.List.{AllByRecursion, IsDistinct, flat_map}
+use Rattle.std.proofs.lemmas.Bool.Decides.{nat_tests}
+use Rattle.std.proofs.lemmas.List.{append-nil, append_assoc, length-append}
+use Rattle.std.proofs.lemmas.List.Concat.{flat_map-append}
+use Rattle.std.proofs.lemmas.List.Elements.{filter-append}
+use Rattle.kad_base.specs.declared.plain.Addr.{Addr}
+use Rattle.kad_base.specs.declared.plain.Contact.{Contact}
+use Rattle.kad_base.specs.declared.plain.Policy.{Policy}
+use Rattle.kad_base.specs.declared.plain.Event.{Event}
+use Rattle.kad_base.specs.declared.plain.Event.TheVariants.{Got, Quiet}
+use Rattle.kad_base.specs.Contacts.{same, among, without}
+use Rattle.kad_base.specs.Limits.{max_strays, max_round_receives}
+use Rattle.kad_base.specs.Outside.{Grows}
+use Rattle.kad_krpc.specs.declared.message.Answer.{Answer}
+use Rattle.id_puzzles.specs.Drawn.{WordsState}
+use Rattle.query_book.specs.declared.Query.{Query}
+use Rattle.contact_table.specs.TableState.{TableState}
+use Rattle.claim_book.specs.declared.plain.Setting.{Setting}
+use Rattle.claim_book.specs.declared.plain.Entry.{Entry}
+use Rattle.claim_book.specs.declared.plain.Entry.TheVariants.{Heard, Lost}
+use Rattle.claim_book.specs.declared.plain.Cause.TheVariants.{WrongId, Error}
+use Rattle.claim_book.specs.Journal.{ask_of, seed_of, seeds, asked, open_any}
+use Rattle.claim_book.specs.Legal.{Legal}
+use Rattle.claim_book.specs.Calls.{asker}
+use Rattle.claim_book.specs.State.{BookState, added}
+use Rattle.lookup_run.specs.declared.plain.AskKind.{AskKind}
+use Rattle.lookup_run.specs.declared.plain.AskKind.TheVariants.{FindNode, GetPeers}
+use Rattle.lookup_run.specs.declared.plain.LookSetting.{LookSetting}
+use Rattle.lookup_run.specs.declared.plain.Gathered.{Gathered}
+use Rattle.lookup_run.specs.declared.plain.Stand.{Stand}
+use Rattle.lookup_run.specs.declared.plain.Work.{Work}
+use Rattle.lookup_run.specs.declared.reply.Reply.{Reply}
+use Rattle.lookup_run.specs.declared.reply.Reply.TheVariants as reply
+use Rattle.lookup_run.specs.Tells.{Given, OpenQuery, Seen, is_driven, driven, deadline_of, IsEarliest, WaitsUntil, HaveAsked, Receives, Gives, Replies, ReplyGives, IsStray, is_overdue, timed_out, closed_at, open_at, received, goes_on, after_match, after_stray, after_quiet}
+use Rattle.lookup_run.specs.Rounds.{WaitsInTurn, InTurn}
+use Rattle.lookup_run.specs.Gathered.{Answered, HeardIn, Hears}
+use Rattle.lookup_run.specs.Lookup.{setting_of, given_of, told_of, drawn_for, TableTold}
+use Rattle.lookup_run.specs.Standing.{IsReply, as_open, Keeps, weight_of, Stands}
+use Rattle.lookup_run.specs.Steps.{query_to, IsDue, WaitsFor, goes_round, RepliesToNone, HearsIn, KeepsFor, Expires, TakesStray, IsStrayFor, IsMatchFor, TakesDatagram, MayReceive, ReceivesOne}
+use Rattle.lookup_run.proofs.Walking.{OneEvent, NextStep, along_next, seeds_append}
+use Rattle.lookup_run.proofs.Opens.{opens_heard, opens_lost, opens_distinct, opens_kept, without_one, each_asked}
+use Rattle.lookup_run.proofs.Matching.{in_cons, in_map, map_in, in_middle, all_in, none_in, to_reply}
+use Rattle.lookup_run.proofs.Expiring.{map_append}
+
+-- ---- how long it waits
+
+same_deadlines : (J : List Entry) (qs : List Query) → map (λ (q : OpenQuery). q.deadline) (map (as_open J) qs) ≡ map (λ (q : Query). q.deadline) qs
+same_deadlines J [] = refl
+same_deadlines J (q ∷ qs) = ap (λ l. q.deadline ∷ l) (same_deadlines J qs)
+
+least_of : (J : List Entry) (until : ℕ) (qs : List Query) → AllByRecursion (λ (q : Query). until ≤ q.deadline) qs → AllByRecursion (λ (q : OpenQuery). until ≤ q.deadline) (map (as_open J) qs)
+least_of J until [] h = tt
+least_of J until (q ∷ qs) h = (h.0, least_of J until qs h.1)
+
+waits_of : (n : ℕ) (J : List Entry) (qs : List Query) (moment until : ℕ) (s : Seen) → s.queries ≡ map (as_open J) qs → s.moment ≡ moment → WaitsFor n moment qs until → WaitsUntil n s until
+waits_of zero J qs moment until s queries m due =
+    subst (λ l. IsEarliest l until) (sym queries) (record { one = subst (λ l. Contains l until) (sym (same_deadlines J qs)) due.one; least = least_of J until qs due.least })
+waits_of (suc n) J qs moment until s queries m is = is ∙ sym m
+
+asked_of : (n : ℕ) (g : Given) (J more : List Entry) (s : Seen) → WaitsInTurn g.setting J n → s.given ≡ driven J → HaveAsked n g (J ++ more) s
+asked_of zero g J more s turn given = λ p lt. record {
+  before = J;
+  behind = more;
+  later = [];
+  earlier = s.since;
+  splits = refl;
+  none = turn.1 p lt;
+  covers = given ∙ sym (append-nil (driven J));
+  since_receive = sym (append-nil s.since);
+  of_others = tt;
+}
+asked_of (suc n) g J more s turn given = tt
+
+some_left : (J : List Entry) (qs : List Query) → qs ≢ [] → map (as_open J) qs ≢ []
+some_left J [] some e = some refl
+some_left J (q ∷ qs) some e = absurd cc
+
+receives_of : (look : LookSetting) (start : WordsState) (old : Work) (more : List Entry) (place : ℕ) (s : Seen) (until : ℕ) → MayReceive look old → WaitsFor old.stand.receives old.stand.moment old.queries until → Stands (given_of look start) old place s
+    → Receives (given_of look start) (old.book.journal ++ more) s until
+receives_of look start old more place s until may waits st = record {
+  some_open = λ none. some_left old.book.journal old.queries may.some_open (sym st.queries ∙ none);
+  waits = subst (λ n. WaitsUntil n s until) (sym st.receives) (waits_of old.stand.receives old.book.journal old.queries old.stand.moment until s st.queries st.moment waits);
+  asked = subst (λ n. HaveAsked n (given_of look start) (old.book.journal ++ more) s) (sym st.receives) (asked_of old.stand.receives (given_of look start) old.book.journal more s may.in_turn st.given);
+}
+
+turn_of : (look : LookSetting) (start : WordsState) (old : Work) (place : ℕ) (s : Seen) → MayReceive look old → Stands (given_of look start) old place s → WaitsInTurn (setting_of look) old.book.journal s.receives
+turn_of look start old place s may st = subst (WaitsInTurn (setting_of look) old.book.journal) (sym st.receives) may.in_turn
+
+-- ---- what is overdue
+
+open_still : (at : ℕ) (J : List Entry) (qs : List Query) → open_at at (map (as_open J) qs) ≡ map (as_open J) (filter (λ (q : Query). nat_lt at q.deadline) qs)
+open_still at J [] = refl
+open_still at J (q ∷ qs) = pick (nat_lt at q.deadline) (open_still at J qs)
+  where
+    pick : (b : Bool) → open_at at (map (as_open J) qs) ≡ map (as_open J) (filter (λ (q : Query). nat_lt at q.deadline) qs)
+        → cond (not (not b)) (as_open J q ∷ open_at at (map (as_open J) qs)) (open_at at (map (as_open J) qs)) ≡ map (as_open J) (cond b (q ∷ filter (λ (q : Query). nat_lt at q.deadline) qs) (filter (λ (q : Query). nat_lt at q.deadline) qs))
+    pick true h = ap (λ l. as_open J q ∷ l) h
+    pick false h = h
+
+all_still : (P : Query → Type 0) (at : ℕ) (qs : List Query) → AllByRecursion P qs → AllByRecursion P (filter (λ (q : Query). nat_lt at q.deadline) qs)
+all_still P at [] h = tt
+all_still P at (q ∷ qs) h =
+    elim (nat_lt at q.deadline) as (λ b. AllByRecursion P (cond b (q ∷ filter (λ (q : Query). nat_lt at q.deadline) qs) (filter (λ (q : Query). nat_lt at q.deadline) qs))) [
+      | true ↦ (h.0, all_still P at qs h.1)
+      | false ↦ all_still P at qs h.1
+    ]
+
+fewer_still : (at : ℕ) (qs : List Query) → length (filter (λ (q : Query). nat_lt at q.deadline) qs) ≤ length qs
+fewer_still at [] = omega arith
+fewer_still at (q ∷ qs) =
+    let rest = fewer_still at qs in
+    elim (nat_lt at q.deadline) as (λ b. length (cond b (q ∷ filter (λ (q : Query). nat_lt at q.deadline) qs) (filter (λ (q : Query). nat_lt at q.deadline) qs)) ≤ length (q ∷ qs)) [
+      | true ↦ omega (arith, rest)
+      | false ↦ omega (arith, rest)
+    ]
+
+late : (at d : ℕ) → d ≤ at → nat_lt at d ≡ false
+late at d le = grind (arith, nat_tests)
+
+one_less : (at d : ℕ) (qs : List Query) → Contains (map (λ (q : Query). q.deadline) qs) d → d ≤ at → length (filter (λ (q : Query). nat_lt at q.deadline) qs) < length qs
+one_less at d [] has le = absurd (none_in d has)
+one_less at d (q ∷ qs) has le =
+    elim (in_cons q.deadline (map (λ (q : Query). q.deadline) qs) d has) [
+      | inl is ↦
+          let gone : nat_lt at q.deadline ≡ false = late at q.deadline (subst (λ n. n ≤ at) is le) in
+          let few = fewer_still at qs in
+          subst (λ b. length (cond b (q ∷ filter (λ (q : Query). nat_lt at q.deadline) qs) (filter (λ (q : Query). nat_lt at q.deadline) qs)) < length (q ∷ qs)) (sym gone) (omega (arith, few))
+      | inr rest ↦
+          let less = one_less at d qs rest le in
+          elim (nat_lt at q.deadline) as (λ b. length (cond b (q ∷ filter (λ (q : Query). nat_lt at q.deadline) qs) (filter (λ (q : Query). nat_lt at q.deadline) qs)) < length (q ∷ qs)) [
+            | true ↦ omega (arith, less)
+            | false ↦ omega (arith, less)
+          ]
+    ]
+
+among_still : (at : ℕ) (qs : List Query) (c : Contact) → among (map (λ (q : Query). q.contact) (filter (λ (q : Query). nat_lt at q.deadline) qs)) c ≡ true → among (map (λ (q : Query). q.contact) qs) c ≡ true
+among_still at [] c h = h
+among_still at (q ∷ qs) c h = pick (nat_lt at q.deadline) h (among_still at qs c)
+  where
+    pick : (b : Bool) → among (map (λ (q : Query). q.contact) (cond b (q ∷ filter (λ (q : Query). nat_lt at q.deadline) qs) (filter (λ (q : Query). nat_lt at q.deadline) qs))) c ≡ true
+        → (among (map (λ (q : Query). q.contact) (filter (λ (q : Query). nat_lt at q.deadline) qs)) c ≡ true → among (map (λ (q : Query). q.contact) qs) c ≡ true)
+        → (same c q.contact || among (map (λ (q : Query). q.contact) qs) c) ≡ true
+    pick true h f = both (same c q.contact) (among (map (λ (q : Query). q.contact) (filter (λ (q : Query). nat_lt at q.deadline) qs)) c) (among (map (λ (q : Query). q.contact) qs) c) h f
+      where
+        both : (a b d : Bool) → (a || b) ≡ true → (b ≡ true → d ≡ true) → (a || d) ≡ true
+        both true b d h f = refl
+        both false b d h f = f h
+    pick false h f = last (same c q.contact) (among (map (λ (q : Query). q.contact) qs) c) (f h)
+      where
+        last : (a b : Bool) → b ≡ true → (a || b) ≡ true
+        last true b h = refl
+        last false b h = h
+
+-- ---- the entries of the driver
+
+driven_closed : (qs : List OpenQuery) → driven (map timed_out qs) ≡ map timed_out qs
+unfolding driven
+driven_closed [] = refl
+driven_closed (q ∷ qs) = ap (λ l. timed_out q ∷ l) (driven_closed qs)
+
+driven_append : (J K : List Entry) → driven (J ++ K) ≡ driven J ++ driven K
+unfolding driven
+driven_append J K = filter-append is_driven J K
+
+seeds_closed : (qs : List OpenQuery) → seeds (map timed_out qs) ≡ []
+unfolding seeds
+seeds_closed [] = refl
+seeds_closed (q ∷ qs) = seeds_closed qs
+
+asks_closed : (qs : List OpenQuery) → asked (map timed_out qs) ≡ []
+unfolding asked
+asks_closed [] = refl
+asks_closed (q ∷ qs) = asks_closed qs
+
+asked_append : (J K : List Entry) → asked (J ++ K) ≡ asked J ++ asked K
+unfolding asked
+asked_append J K = flat_map-append ask_of J K
+
+-- entries that end a query at once
+pub record IsEnds (first : List Entry) : Type 0 where
+  pub all_driven : driven first ≡ first
+  pub no_seeds : seeds first ≡ []
+  pub no_asks : asked first ≡ []
+  pub untold : flat_map told_of first ≡ []
+
+ends_none : IsEnds []
+unfolding driven seeds asked
+ends_none = record { all_driven = refl; no_seeds = refl; no_asks = refl; untold = refl }
+
+-- what a reply gives closes one
+pub record Closing (J : List Entry) (c : Contact) (e : Entry) : Type 0 where
+  pub ends : IsEnds (e ∷ [])
+  pub closes : open_any (J ++ e ∷ []) ≡ without (open_any J) (c ∷ [])
+
+closing_heard : (J : List Entry) (c : Contact) (p : ℕ) (reports : _) → Closing J c (Heard p c reports)
+unfolding driven seeds asked
+closing_heard J c p reports = record { ends = record { all_driven = refl; no_seeds = refl; no_asks = refl; untold = refl }; closes = opens_heard p J c reports }
+
+closing_wrong : (J : List Entry) (c : Contact) (p : ℕ) → Closing J c (Lost p c WrongId)
+unfolding driven seeds asked
+closing_wrong J c p = record { ends = record { all_driven = refl; no_seeds = refl; no_asks = refl; untold = refl }; closes = opens_lost p J c WrongId }
+
+closing_error : (J : List Entry) (c : Contact) (p : ℕ) (code : _) → Closing J c (Lost p c (Error code))
+unfolding driven seeds asked
+closing_error J c p code = record { ends = record { all_driven = refl; no_seeds = refl; no_asks = refl; untold = refl }; closes = opens_lost p J c (Error code) }
+
+closing_of : (policy : Policy) (J : List Entry) (c : Contact) (what : Reply) (e : Entry) → ReplyGives policy (query_to J c) what e → Closing J c e
+closing_of policy J c (reply.Answer answer) e (inl own) = subst (Closing J c) (sym own.1) (closing_heard J c (asker c J) _)
+closing_of policy J c (reply.Answer answer) e (inr other) = subst (Closing J c) (sym other.1) (closing_wrong J c (asker c J))
+closing_of policy J c (reply.Error code) e is = subst (Closing J c) (sym is) (closing_error J c (asker c J) code)
+
+gives_of : (policy : Policy) (J : List Entry) (q : Query) (what : Reply) (e : Entry) → ReplyGives policy (query_to J q.contact) what e → ReplyGives policy (as_open J q) what e
+gives_of policy J q (reply.Answer answer) e h = h
+gives_of policy J q (reply.Error code) e h = h
+
+-- ---- what a receive leaves
+
+among_dropped : (before : List Query) (q : Query) (behind : List Query) (c : Contact) → among (map (λ (q : Query). q.contact) (before ++ behind)) c ≡ true → among (map (λ (q : Query). q.contact) (before ++ q ∷ behind)) c ≡ true
+among_dropped [] q behind c h = last (same c q.contact) (among (map (λ (q : Query). q.contact) behind) c) h
+  where
+    last : (a b : Bool) → b ≡ true → (a || b) ≡ true
+    last true b h = refl
+    last false b h = h
+among_dropped (x ∷ before) q behind c h = both (same c x.contact) (among (map (λ (q : Query). q.contact) (before ++ behind)) c) (among (map (λ (q : Query). q.contact) (before ++ q ∷ behind)) c) h (among_dropped before q behind c)
+  where
+    both : (a b d : Bool) → (a || b) ≡ true → (b ≡ true → d ≡ true) → (a || d) ≡ true
+    both true b d h f = refl
+    both false b d h f = f h
+
+all_dropped : (P : Query → Type 0) (before : List Query) (q : Query) (behind : List Query) → AllByRecursion P (before ++ q ∷ behind) → AllByRecursion P (before ++ behind)
+all_dropped P [] q behind h = h.1
+all_dropped P (x ∷ before) q behind h = (h.0, all_dropped P before q behind h.1)
+
+-- the entries `first`, and then those of the queries `left` that are overdue
+pub record Left (look : LookSetting) (at : ℕ) (old new : Work) (first : List Entry) (left : List Query) : Type 0 where
+  pub ends : IsEnds first
+  pub setting : new.book.setting ≡ old.book.setting
+  pub journal : new.book.journal ≡ old.book.journal ++ (first ++ closed_at at (map (as_open old.book.journal) left))
+  pub queries : new.queries ≡ filter (λ (q : Query). nat_lt at q.deadline) left
+  pub paths : map (as_open new.book.journal) new.queries ≡ map (as_open old.book.journal) new.queries
+  pub is_open : map (λ (q : Query). q.contact) new.queries ≡ open_any new.book.journal
+  pub ids : AllByRecursion (λ (q : Query). q.tx < 2 ^ 32) left
+  pub deadlines : AllByRecursion (λ (q : Query). q.deadline ≤ deadline_of old.stand.moment look.timeout) left
+  pub table : TableTold (flat_map told_of (closed_at at (map (as_open old.book.journal) left))) old.table new.table
+  pub moment : new.stand.moment ≡ at
+  pub later : old.stand.moment ≤ at
+
+left_of : (look : LookSetting) (at : ℕ) (old mid late : Work) (stand : Stand) (first : List Entry) (left : List Query) → IsEnds first → mid.book.setting ≡ old.book.setting → mid.book.journal ≡ old.book.journal ++ first → mid.queries ≡ left → mid.table ≡ old.table
+    → ((c : Contact) → among (map (λ (q : Query). q.contact) left) c ≡ true → among (asked old.book.journal) c ≡ true)
+    → AllByRecursion (λ (q : Query). q.tx < 2 ^ 32) left → AllByRecursion (λ (q : Query). q.deadline ≤ deadline_of old.stand.moment look.timeout) left → Expires at mid late → stand.moment ≡ at → old.stand.moment ≤ at
+    → Left look at old (record late { stand = stand }) first left
+left_of look at old mid late stand first left ends setting journal queries table asks ids deadlines e moment later =
+    let J = old.book.journal in
+    let closed = closed_at at (map (as_open J) left) in
+    let opens : map (as_open mid.book.journal) mid.queries ≡ map (as_open J) left = ap (map (as_open mid.book.journal)) queries ∙ ap (λ K. map (as_open K) left) journal ∙ opens_kept J first left asks in
+    let journal' : late.book.journal ≡ J ++ (first ++ closed) = e.journal ∙ ap (λ l. mid.book.journal ++ closed_at at l) opens ∙ ap (λ l. l ++ closed) journal ∙ append_assoc J first closed in
+    let queries' : late.queries ≡ filter (λ (q : Query). nat_lt at q.deadline) left = e.queries ∙ ap (filter (λ (q : Query). nat_lt at q.deadline)) queries in
+    record {
+      ends = ends;
+      setting = e.setting ∙ setting;
+      journal = journal';
+      queries = queries';
+      paths = ap (λ K. map (as_open K) late.queries) journal' ∙ opens_kept J (first ++ closed) late.queries (λ c h. asks c (among_still at left c (subst (λ l. among (map (λ (q : Query). q.contact) l) c ≡ true) queries' h)));
+      is_open = e.is_open;
+      ids = ids;
+      deadlines = deadlines;
+      table = subst (λ l. TableTold (flat_map told_of (closed_at at l)) old.table late.table) opens (subst (λ t. TableTold (flat_map told_of (closed_at at (map (as_open mid.book.journal) mid.queries))) t late.table) table e.table);
+      moment = moment;
+      later = later;
+    }
+
+driven_left : (first : List Entry) (qs : List OpenQuery) → IsEnds first → driven (first ++ map timed_out qs) ≡ first ++ map timed_out qs
+driven_left first qs ends = driven_append first (map timed_out qs) ∙ ap (λ l. l ++ driven (map timed_out qs)) ends.all_driven ∙ ap (λ l. first ++ l) (driven_closed qs)
+
+seeds_left : (first : List Entry) (qs : List OpenQuery) → IsEnds first → seeds (first ++ map timed_out qs) ≡ []
+seeds_left first qs ends = seeds_append first (map timed_out qs) ∙ ap (λ l. l ++ seeds (map timed_out qs)) ends.no_seeds ∙ seeds_closed qs
+
+asks_left : (J first : List Entry) (qs : List OpenQuery) → IsEnds first → asked (J ++ (first ++ map timed_out qs)) ≡ asked J
+asks_left J first qs ends = asked_append J (first ++ map timed_out qs) ∙ ap (λ l. asked J ++ l) (asked_append first (map timed_out qs) ∙ ap (λ l. l ++ asked (map timed_out qs)) ends.no_asks ∙ asks_closed qs) ∙ append-nil (asked J)
+
+same_asks : (look : LookSetting) (at : ℕ) (old new : Work) (first : List Entry) (left : List Query) → Left look at old new first left → length (asked new.book.journal) ≡ length (asked old.book.journal)
+same_asks look at old new first left l =
+    ap (λ J. length (asked J)) l.journal ∙ ap length (asks_left old.book.journal first (filter (is_overdue at) (map (as_open old.book.journal) left)) l.ends)
+
+stands_left : (look : LookSetting) (g : Given) (place at : ℕ) (old new : Work) (first : List Entry) (left : List Query) (strays receives : ℕ) (s : Seen) → Left look at old new first left → Stands g old place s → strays ≡ new.stand.strays → receives ≡ new.stand.receives
+    → Stands g new place (received s at first (map (as_open old.book.journal) left) strays receives)
+stands_left look g place at old new first left strays receives s l st is_strays is_receives =
+    let J = old.book.journal in
+    let more = first ++ closed_at at (map (as_open J) left) in
+    record {
+      moment = sym l.moment;
+      queries = open_still at J left ∙ ap (map (as_open J)) (sym l.queries) ∙ sym l.paths;
+      sends = st.sends;
+      strays = is_strays;
+      receives = is_receives;
+      given = ap (λ k. k ++ more) st.given ∙ sym (ap driven l.journal ∙ driven_append J more ∙ ap (λ k. driven J ++ k) (driven_left first (filter (is_overdue at) (map (as_open J) left)) l.ends));
+    }
+
+round_is : (n : ℕ) (J : List Entry) (qs : List Query) → goes_on n (map (as_open J) qs) ≡ goes_round n qs
+round_is n J [] = refl
+round_is n J (q ∷ qs) = refl
+
+round_left : (n m at : ℕ) (J : List Entry) (left new : List Query) → n ≡ m → new ≡ filter (λ (q : Query). nat_lt at q.deadline) left → goes_on n (open_at at (map (as_open J) left)) ≡ goes_round m new
+round_left n m at J left new same is = ap (goes_on n) (open_still at J left ∙ ap (map (as_open J)) (sym is)) ∙ round_is n J new ∙ ap (λ k. goes_round k new) same
+
+next_of : (look : LookSetting) (words : WordsState) (at : ℕ) (old new : Work) (first : List Entry) (left : List Query) (a : ℕ) (e : Event) → Left look at old new first left
+    → ((start : WordsState) (s : Seen) → Stands (given_of look start) old words.place s → OneEvent (given_of look start) old new (first ++ closed_at at (map (as_open old.book.journal) left)) words.place 0 s e)
+    → NextStep look words words old new a 0 e
+next_of look words at old new first left a e l next =
+    let closed = closed_at at (map (as_open old.book.journal) left) in
+    let ended = filter (is_overdue at) (map (as_open old.book.journal) left) in
+    record {
+      more = first ++ closed;
+      journal = l.journal;
+      no_seeds = seeds_left first ended l.ends;
+      drawn = λ start is. is ∙ ap (λ n. record { seed = start.seed; place = start.place + n }) (sym (same_asks look at old new first left l));
+      tabled = subst (λ calls. TableTold calls old.table new.table) (sym (flat_map-append told_of first closed ∙ ap (λ k. k ++ flat_map told_of closed) l.ends.untold)) l.table;
+      next = λ start is s st asc. next start s st;
+    }
+
+-- how its round goes on
+abbrev pub RoundGoes : Stand → Stand → List Query → Type 0
+RoundGoes from to queries = (to.receives ≡ 0) ⊎ ((to.receives ≡ from.receives + 1) × (to.receives < max_round_receives) × (queries ≢ []))
+
+round_goes : (n : ℕ) (from to : Stand) (qs : List Query) → from.receives ≡ n → to.receives ≡ goes_round n qs → RoundGoes from to qs
+round_goes n from to [] same is = inl is
+round_goes n from to (q ∷ qs) same is =
+    elim (nat_lt (n + 1) max_round_receives) as (λ b. nat_lt (n + 1) max_round_receives ≡ b → to.receives ≡ cond b (n + 1) 0 → RoundGoes from to (q ∷ qs)) [
+      | true ↦ λ e k. inr (k ∙ ap (λ m. m + 1) (sym same), (let lt = below n e in omega (arith, lt, k)), λ none. absurd cc)
+      | false ↦ λ e k. inl k
+    ] refl is
+  where
+    below : (n : ℕ) → nat_lt (n + 1) max_round_receives ≡ true → n + 1 < max_round_receives
+    below n e = grind (arith, nat_tests)
+
+later_deadlines : (m at timeout : ℕ) (qs : List Query) → m ≤ at → AllByRecursion (λ (q : Query). q.deadline ≤ deadline_of m timeout) qs → AllByRecursion (λ (q : Query). q.deadline ≤ deadline_of at timeout) qs
+later_deadlines m at timeout [] le h = tt
+later_deadlines m at timeout (q ∷ qs) le h = ((let a = h.0 in omega (arith, a, le)), later_deadlines m at timeout qs le h.1)
+
+keeps_left : (look : LookSetting) (at : ℕ) (old new : Work) (first : List Entry) (left : List Query) → Left look at old new first left → Keeps look old → new.stand.strays < max_strays → RoundGoes old.stand new.stand new.queries → Keeps look new
+keeps_left look at old new first left l keeps strays round = record {
+  setting = l.setting ∙ keeps.setting;
+  is_open = l.is_open;
+  ids = subst (AllByRecursion (λ (q : Query). q.tx < 2 ^ 32)) (sym l.queries) (all_still (λ (q : Query). q.tx < 2 ^ 32) at left l.ids);
+  deadlines = subst (AllByRecursion (λ (q : Query). q.deadline ≤ deadline_of new.stand.moment look.timeout)) (sym l.queries)
+      (all_still (λ (q : Query). q.deadline ≤ deadline_of new.stand.moment look.timeout) at left (later_deadlines old.stand.moment new.stand.moment look.timeout left (subst (λ m. old.stand.moment ≤ m) (sym l.moment) l.later) l.deadlines));
+  few_strays = strays;
+  few_receives = few round;
+}
+  where
+    few : RoundGoes old.stand new.stand new.queries → new.stand.receives < max_round_receives
+    few (inl z) = omega (arith, z)
+    few (inr more) = more.1
+
+goes_open : (from to : Stand) (qs : List Query) → RoundGoes from to qs → to.receives ≢ 0 → qs ≢ []
+goes_open from to qs (inl z) some = absurd (some z)
+goes_open from to qs (inr more) some = more.2
+
+goes_count : (from to : Stand) (qs : List Query) → RoundGoes from to qs → (to.receives ≡ 0) ⊎ (to.receives ≡ from.receives + 1)
+goes_count from to qs (inl z) = inl z
+goes_count from to qs (inr more) = inr more.0
+
+receives_one : (look : LookSetting) (at : ℕ) (old new : Work) (first : List Entry) (left : List Query) (e : Event) (told told' : Option (List Event)) → Left look at old new first left → Keeps look old → new.stand.strays < max_strays → RoundGoes old.stand new.stand new.queries
+    → length new.queries + (max_strays - new.stand.strays) ≤ length old.queries + (max_strays - old.stand.strays)
+    → (old.stand.receives ≡ 0 → length new.queries + (max_strays - new.stand.strays) < length old.queries + (max_strays - old.stand.strays))
+    → ((words : WordsState) (start : WordsState) (s : Seen) → Stands (given_of look start) old words.place s → OneEvent (given_of look start) old new (first ++ closed_at at (map (as_open old.book.journal) left)) words.place 0 s e)
+    → Grows told told' (λ es. es ≡ e ∷ []) → ReceivesOne look old new told told'
+receives_one look at old new first left e told told' l keeps strays round light first_light next grows =
+    let asks = same_asks look at old new first left l in
+    record {
+      keeps = keeps_left look at old new first left l keeps strays round;
+      some_open = goes_open old.stand new.stand new.queries round;
+      round = goes_count old.stand new.stand new.queries round;
+      same_asks = asks;
+      first_lighter = λ z. (let lt = first_light z in lighter (length (asked new.book.journal)) (length (asked old.book.journal)) _ _ asks lt);
+      lighter = no_heavier (length (asked new.book.journal)) (length (asked old.book.journal)) _ _ asks light;
+      goes = λ words b a. along_next look words words old new b 0 a 0 e told told' (next_of look words at old new first left a e l (next words)) grows;
+    }
+  where
+    lighter : (n m x y : ℕ) → n ≡ m → x < y → 2 * (2048 - n) + x < 2 * (2048 - m) + y
+    lighter n m x y e lt = omega (arith, e, lt)
+
+    no_heavier : (n m x y : ℕ) → n ≡ m → x ≤ y → 2 * (2048 - n) + x ≤ 2 * (2048 - m) + y
+    no_heavier n m x y e le = omega (arith, e, le)
+
+keeps_none : (kind : AskKind) (g h : Gathered) → h ≡ g → KeepsFor kind [] g h
+keeps_none FindNode g h is = is
+keeps_none GetPeers g h is = record { peers = ap (λ (x : Gathered). x.peers) is ∙ sym (append-nil g.peers); tokens = ap (λ (x : Gathered). x.tokens) is ∙ sym (append-nil g.tokens) }
+
+-- ---- a datagram that replies to none
+
+pub stray_of : (work : Work) (s : Seen) (from : Addr) (bytes : List ℕ) → s.queries ≡ map (as_open work.book.journal) work.queries → RepliesToNone from bytes work → IsStray s from bytes
+stray_of work s from bytes queries none q has r h =
+    let found = in_map (as_open work.book.journal) work.queries q (subst (λ l. Contains l q) queries has) in
+    none found.0 found.1 r (subst (λ y. Replies bytes from y r) found.2 h)
+
+light_stray : (a b c d : ℕ) → a ≤ b → d ≡ c + 1 → d < 1000000 → a + (1000000 - d) < b + (1000000 - c)
+light_stray a b c d le is lt = omega (arith, le, is, lt)
+
+fewer_left : (look : LookSetting) (at : ℕ) (old new : Work) (first : List Entry) (left : List Query) → Left look at old new first left → length new.queries ≤ length left
+fewer_left look at old new first left l = subst (λ qs. length qs ≤ length left) (sym l.queries) (fewer_still at left)
+
+-- the events of a receive that gives no entry at first
+one_quiet : (look : LookSetting) (words start : WordsState) (at : ℕ) (old new : Work) (s : Seen) (e : Event) (strays receives : ℕ) → Left look at old new [] old.queries → Stands (given_of look start) old words.place s → new.gathered ≡ old.gathered
+    → strays ≡ new.stand.strays → receives ≡ new.stand.receives → Gives (given_of look start) new.book.journal s e (received s at [] s.queries strays receives) → InTurn (setting_of look) old.book.journal s e ([] ++ closed_at at (map (as_open old.book.journal) old.queries)) → Hears s e []
+    → OneEvent (given_of look start) old new ([] ++ closed_at at (map (as_open old.book.journal) old.queries)) words.place 0 s e
+one_quiet look words start at old new s e strays receives l st gathered is_strays is_receives gives turn hears = record {
+  after = received s at [] s.queries strays receives;
+  gives = gives;
+  given = ap (λ qs. s.given ++ ([] ++ closed_at at qs)) st.queries;
+  in_turn = turn;
+  stands = subst (λ qs. Stands (given_of look start) new words.place (received s at [] qs strays receives)) (sym st.queries)
+      (stands_left look (given_of look start) words.place at old new [] old.queries strays receives s l st is_strays is_receives);
+  ascends = tt;
+  found = [];
+  hears = hears;
+  keeps = keeps_none look.kind old.gathered new.gathered gathered;
+}
+
+-- what a receive depends on
+pub record Receiving (look : LookSetting) (old : Work) (until at : ℕ) : Type 0 where
+  pub may : MayReceive look old
+  pub legal : Legal old.book.setting old.book.journal
+  pub waits : WaitsFor old.stand.receives old.stand.moment old.queries until
+  pub later : old.stand.moment ≤ at
+
+no_heard : (work : Work) (s : Seen) (from : Addr) (bytes : List ℕ) → s.queries ≡ map (as_open work.book.journal) work.queries → RepliesToNone from bytes work → (a : Answered) → ¬ HeardIn s from bytes a
+no_heard work s from bytes queries none a h = stray_of work s from bytes queries none h.query h.is_open (reply.Answer a.answer) h.replies
+
+stray_receives : (look : LookSetting) (from : Addr) (bytes : List ℕ) (until at n : ℕ) (old mid late : Work) (told told' : Option (List Event)) → Receiving look old until at → IsStrayFor from bytes old mid → Expires at mid late → n ≡ goes_round late.stand.receives late.queries
+    → Grows told told' (λ es. es ≡ Got from bytes until at ∷ []) → ReceivesOne look old (record late { stand = record { moment = at; receives = n; strays = late.stand.strays } }) told told'
+stray_receives look from bytes until at n old mid late told told' r t e is grows =
+    let keeps = r.may.keeps in
+    let stand : Stand = record { moment = at; receives = n; strays = late.stand.strays } in
+    let new : Work = record late { stand = stand } in
+    let l : Left look at old new [] old.queries =
+    left_of look at old mid late stand [] old.queries ends_none (ap (λ (b : BookState). b.setting) t.book) (ap (λ (b : BookState). b.journal) t.book ∙ sym (append-nil old.book.journal)) t.queries t.table
+    (each_asked old.book.journal old.queries keeps.is_open) keeps.ids keeps.deadlines e refl r.later in
+    let strays : late.stand.strays ≡ old.stand.strays + 1 = ap (λ (x : Stand). x.strays) (e.stand ∙ t.takes.after) in
+    let few : late.stand.strays < max_strays = subst (λ (x : Stand). x.strays < max_strays) (sym e.stand) t.takes.few in
+    let receives : old.stand.receives ≡ late.stand.receives = sym (ap (λ (x : Stand). x.receives) (e.stand ∙ t.takes.after)) in
+    let light = light_stray (length late.queries) (length old.queries) old.stand.strays late.stand.strays (fewer_left look at old new [] old.queries l) strays few in
+    receives_one look at old new [] old.queries (Got from bytes until at) told told' l keeps few (round_goes late.stand.receives old.stand stand late.queries receives is)
+    (omega (arith, light)) (λ z. light)
+    (λ words start s st. one_quiet look words start at old new s (Got from bytes until at) (s.strays + 1) (goes_on s.receives (open_at at s.queries)) l st (e.gathered ∙ t.gathered)
+    (ap (λ m. m + 1) st.strays ∙ sym strays)
+    (ap (λ qs. goes_on s.receives (open_at at qs)) st.queries ∙ round_left s.receives late.stand.receives at old.book.journal old.queries late.queries (st.receives ∙ receives) l.queries ∙ sym is)
+    (subst (λ J. Receives (given_of look start) J s until) (sym l.journal) (receives_of look start old ([] ++ closed_at at (map (as_open old.book.journal) old.queries)) words.place s until r.may r.waits st), inr (stray_of old s from bytes st.queries t.none, refl))
+    (turn_of look start old words.place s r.may st) (inr (no_heard old s from bytes st.queries t.none, refl)))
+    grows
+
+-- ---- no datagram
+
+quiet_light : (n at until x y : ℕ) (qs qs' : List Query) (moment : ℕ) → qs' ≡ filter (λ (q : Query). nat_lt at q.deadline) qs → x ≡ y → until ≤ at → n ≡ 0 → WaitsFor n moment qs until → length qs' + (max_strays - x) < length qs + (max_strays - y)
+quiet_light n at until x y qs qs' moment is strays le begins waits =
+    let due : IsDue qs until = subst (λ m. WaitsFor m moment qs until) begins waits in
+    let less = one_less at until qs due.one le in
+    let few : length qs' < length qs = subst (λ l. length l < length qs) (sym is) less in
+    omega (arith, few, strays)
+
+pub quiet_receives : (look : LookSetting) (until at : ℕ) (old late : Work) (told told' : Option (List Event)) → Receiving look old until at → until ≤ at → Expires at old late → Grows told told' (λ es. es ≡ Quiet until at ∷ [])
+    → ReceivesOne look old (record late { stand = record { moment = at; receives = 0; strays = late.stand.strays } }) told told'
+quiet_receives look until at old late told told' r le e grows =
+    let keeps = r.may.keeps in
+    let stand : Stand = record { moment = at; receives = 0; strays = late.stand.strays } in
+    let new : Work = record late { stand = stand } in
+    let l : Left look at old new [] old.queries =
+    left_of look at old old late stand [] old.queries ends_none refl (sym (append-nil old.book.journal)) refl refl (each_asked old.book.journal old.queries keeps.is_open) keeps.ids keeps.deadlines e refl r.later in
+    let strays : late.stand.strays ≡ old.stand.strays = ap (λ (x : Stand). x.strays) e.stand in
+    let few : late.stand.strays < max_strays = (let f = keeps.few_strays in omega (arith, f, strays)) in
+    let fewer = fewer_left look at old new [] old.queries l in
+    receives_one look at old new [] old.queries (Quiet until at) told told' l keeps few (inl refl) (omega (arith, fewer, strays))
+    (λ z. quiet_light old.stand.receives at until late.stand.strays old.stand.strays old.queries late.queries old.stand.moment l.queries strays le z r.waits)
+    (λ words start s st. one_quiet look words start at old new s (Quiet until at) s.strays 0 l st e.gathered (st.strays ∙ sym strays) refl
+    (subst (λ J. Receives (given_of look start) J s until) (sym l.journal) (receives_of look start old ([] ++ closed_at at (map (as_open old.book.journal) old.queries)) words.place s until r.may r.waits st), refl)
+    (turn_of look start old words.place s r.may st) refl)
+    grows
+
+-- ---- a datagram that replies to one
+
+the_one : (J : List Entry) (qs : List Query) (q : Query) (from : Addr) (bytes : List ℕ) (what : Reply) (s : Seen) (a : Answered) → s.queries ≡ map (as_open J) qs → AllByRecursion (λ (x : Query). x.tx < 2 ^ 32) qs → IsReply bytes (record { tx = q.tx; reply = what }) → ((x : Query) → Contains qs x → x.tx ≡ q.tx → x ≡ q)
+    → (h : HeardIn s from bytes a) → (h.query ≡ as_open J q) × (reply.Answer a.answer ≡ what)
+the_one J qs q from bytes what s a queries ids reads alone h =
+    let found = in_map (as_open J) qs h.query (subst (λ l. Contains l h.query) queries h.is_open) in
+    let x = found.0 in
+    let small = all_in (λ (y : Query). y.tx < 2 ^ 32) qs x ids found.1 in
+    let replies = to_reply J bytes from x (reply.Answer a.answer) (subst (λ y. Replies bytes from y (reply.Answer a.answer)) found.2 h.replies) in
+    let same : x ≡ q = alone x found.1 (reads.same_id x.tx (reply.Answer a.answer) small replies) in
+    (found.2 ∙ ap (as_open J) same, reads.same_reply x.tx (reply.Answer a.answer) small replies)
+
+hears_one : (J : List Entry) (qs : List Query) (q : Query) (from : Addr) (bytes : List ℕ) (until at : ℕ) (what : Reply) (heard : List Answered) (s : Seen) → s.queries ≡ map (as_open J) qs → Contains qs q → AllByRecursion (λ (x : Query). x.tx < 2 ^ 32) qs → Replies bytes from (as_open J q) what
+    → IsReply bytes (record { tx = q.tx; reply = what }) → ((x : Query) → Contains qs x → x.tx ≡ q.tx → x ≡ q) → HearsIn q.contact what heard → Hears s (Got from bytes until at) heard
+hears_one J qs q from bytes until at (reply.Answer answer) heard s queries has ids replies reads alone (inl own) = inl (
+  record { contact = q.contact; answer = answer },
+  record { query = as_open J q; is_open = subst (λ l. Contains l (as_open J q)) (sym queries) (map_in (as_open J) qs q has); replies = replies; own_name = own.0; contact_is = refl },
+  own.1,
+)
+hears_one J qs q from bytes until at (reply.Answer answer) heard s queries has ids replies reads alone (inr other) = inr (
+  (λ a h.
+      let one = the_one J qs q from bytes (reply.Answer answer) s a queries ids reads alone h in
+      let said = one.1 in
+      let same : a.answer ≡ answer = cc in
+      other.0 (ap (λ (x : Answer). x.id) (sym same) ∙ h.own_name ∙ ap (λ (y : OpenQuery). y.contact.id) one.0)),
+  other.1,
+)
+hears_one J qs q from bytes until at (reply.Error code) heard s queries has ids replies reads alone none = inr (
+  (λ a h.
+      let one = the_one J qs q from bytes (reply.Error code) s a queries ids reads alone h in
+      let said = one.1 in absurd cc),
+  none,
+)
+
+match_receives : (look : LookSetting) (from : Addr) (bytes : List ℕ) (until at n : ℕ) (old mid late : Work) (told told' : Option (List Event)) → Receiving look old until at → IsMatchFor look from bytes old mid → Expires at mid late → n ≡ goes_round late.stand.receives late.queries
+    → Grows told told' (λ es. es ≡ Got from bytes until at ∷ []) → ReceivesOne look old (record late { stand = record { moment = at; receives = n; strays = late.stand.strays } }) told told'
+match_receives look from bytes until at n old mid late told told' r m e is grows =
+    let keeps = r.may.keeps in
+    let J = old.book.journal in
+    let entry = m.hears.entry in
+    let left = m.before ++ m.behind in
+    let more = (entry ∷ []) ++ closed_at at (map (as_open J) left) in
+    let closing = closing_of look.policy J m.query.contact m.what entry m.hears.gives in
+    let stand : Stand = record { moment = at; receives = n; strays = late.stand.strays } in
+    let new : Work = record late { stand = stand } in
+    let l : Left look at old new (entry ∷ []) left =
+    left_of look at old mid late stand (entry ∷ []) left closing.ends (ap (λ (b : BookState). b.setting) m.hears.after) (ap (λ (b : BookState). b.journal) m.hears.after) m.closes m.table
+    (λ c h. each_asked J old.queries keeps.is_open c (subst (λ qs. among (map (λ (q : Query). q.contact) qs) c ≡ true) (sym m.was_open) (among_dropped m.before m.query m.behind c h)))
+    (all_dropped (λ (q : Query). q.tx < 2 ^ 32) m.before m.query m.behind (subst (AllByRecursion (λ (q : Query). q.tx < 2 ^ 32)) m.was_open keeps.ids))
+    (all_dropped (λ (q : Query). q.deadline ≤ deadline_of old.stand.moment look.timeout) m.before m.query m.behind (subst (AllByRecursion (λ (q : Query). q.deadline ≤ deadline_of old.stand.moment look.timeout)) m.was_open keeps.deadlines))
+    e refl r.later in
+    let same : late.stand ≡ old.stand = e.stand ∙ m.stand in
+    let strays : late.stand.strays ≡ old.stand.strays = ap (λ (x : Stand). x.strays) same in
+    let receives : old.stand.receives ≡ late.stand.receives = sym (ap (λ (x : Stand). x.receives) same) in
+    let few : late.stand.strays < max_strays = (let f = keeps.few_strays in omega (arith, f, strays)) in
+    let fewer = fewer_left look at old new (entry ∷ []) left l in
+    let one : length old.queries ≡ length m.before + suc (length m.behind) = ap length m.was_open ∙ length-append m.before (m.query ∷ m.behind) in
+    let two : length left ≡ length m.before + length m.behind = length-append m.before m.behind in
+    let light : length late.queries + (max_strays - late.stand.strays) < length old.queries + (max_strays - old.stand.strays) = omega (arith, fewer, strays, one, two) in
+    receives_one look at old new (entry ∷ []) left (Got from bytes until at) told told' l keeps few (round_goes late.stand.receives old.stand stand late.queries receives is)
+    (omega (arith, light)) (λ z. light)
+    (λ words start s st. record {
+      after = after_match s at entry (map (as_open J) left);
+      gives = (
+        subst (λ K. Receives (given_of look start) K s until) (sym l.journal) (receives_of look start old more words.place s until r.may r.waits st),
+        inl (record {
+          entry = entry;
+          left = map (as_open J) left;
+          matched = record {
+            before = map (as_open J) m.before;
+            query = as_open J m.query;
+            behind = map (as_open J) m.behind;
+            what = m.what;
+            queries = st.queries ∙ ap (map (as_open J)) m.was_open ∙ map_append (as_open J) m.before (m.query ∷ m.behind);
+            replies = m.replies;
+            entry = gives_of look.policy J m.query m.what entry m.hears.gives;
+            closes = map_append (as_open J) m.before m.behind;
+          };
+          after = refl;
+        }),
+      );
+      given = refl;
+      in_turn = turn_of look start old words.place s r.may st;
+      stands = stands_left look (given_of look start) words.place at old new (entry ∷ []) left s.strays (goes_on s.receives (open_at at (map (as_open J) left))) s l st (st.strays ∙ sym strays)
+          (round_left s.receives late.stand.receives at J left late.queries (st.receives ∙ receives) l.queries ∙ sym is);
+      ascends = tt;
+      found = m.heard;
+      hears = hears_one J old.queries m.query from bytes until at m.what m.heard s st.queries (subst (λ qs. Contains qs m.query) (sym m.was_open) (in_middle m.before m.query m.behind)) keeps.ids m.replies m.reads m.alone m.hears_in;
+      keeps = subst (λ g. KeepsFor look.kind m.heard old.gathered g) (sym e.gathered) m.keeps_for;
+    })
+    grows
+
+-- ---- a datagram
+
+pub datagram_receives : (look : LookSetting) (from : Addr) (bytes : List ℕ) (until at n : ℕ) (old mid late : Work) (told told' : Option (List Event)) → Receiving look old until at → TakesDatagram look from bytes old mid → Expires at mid late → n ≡ goes_round late.stand.receives late.queries
+    → Grows told told' (λ es. es ≡ Got from bytes until at ∷ []) → ReceivesOne look old (record late { stand = record { moment = at; receives = n; strays = late.stand.strays } }) told told'
+datagram_receives look from bytes until at n old mid late told told' r (inl m) e is grows = match_receives look from bytes until at n old mid late told told' r m e is grows
+datagram_receives look from bytes until at n old mid late told told' r (inr t) e is grows = stray_receives look from bytes until at n old mid late told told' r t e is grows
+
+pub datagram_opens : (look : LookSetting) (from : Addr) (bytes : List ℕ) (old mid : Work) → Keeps look old → Legal old.book.setting old.book.journal → TakesDatagram look from bytes old mid → map (λ (q : Query). q.contact) mid.queries ≡ open_any mid.book.journal
+datagram_opens look from bytes old mid keeps legal (inr t) = ap (map (λ (q : Query). q.contact)) t.queries ∙ keeps.is_open ∙ sym (ap (λ (b : BookState). open_any b.journal) t.book)
+datagram_opens look from bytes old mid keeps legal (inl m) =
+    let J = old.book.journal in
+    let c = m.query.contact in
+    let closing = closing_of look.policy J c m.what m.hears.entry m.hears.gives in
+    let cs = map (λ (q : Query). q.contact) m.before in
+    let ds = map (λ (q : Query). q.contact) m.behind in
+    let opens : open_any J ≡ cs ++ c ∷ ds = sym keeps.is_open ∙ ap (map (λ (q : Query). q.contact)) m.was_open ∙ map_append (λ (q : Query). q.contact) m.before (m.query ∷ m.behind) in
+    ap (map (λ (q : Query). q.contact)) m.closes ∙ map_append (λ (q : Query). q.contact) m.before m.behind
+    ∙ sym (ap (λ (b : BookState). open_any b.journal) m.hears.after ∙ closing.closes ∙ ap (λ l. without l (c ∷ [])) opens ∙ without_one c cs ds (subst (IsDistinct same) opens (opens_distinct old.book.setting J legal)))
+
+pub datagram_round : (look : LookSetting) (from : Addr) (bytes : List ℕ) (at : ℕ) (old mid late : Work) → Keeps look old → TakesDatagram look from bytes old mid → Expires at mid late → late.stand.receives < max_round_receives
+datagram_round look from bytes at old mid late keeps (inl m) e = subst (λ (x : Stand). x.receives < max_round_receives) (sym (e.stand ∙ m.stand)) keeps.few_receives
+datagram_round look from bytes at old mid late keeps (inr t) e = subst (λ (x : Stand). x.receives < max_round_receives) (sym (e.stand ∙ t.takes.after)) keeps.few_receives
