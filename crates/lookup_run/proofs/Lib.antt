@@ -15,6 +15,6 @@ pub mod Alike
 pub mod Replying
 pub mod Hearing
 pub mod Expiring
-pub mod Early
 pub mod Matching
 pub mod Receiving
+pub mod InOrder

@@ -1,5 +1,7 @@
 //! What the answers give beside contacts: peers and tokens.
-ghost use Rattle.std.specs.Prelude.{◌≡◌, ◌∷◌, ◌++◌, [], OnOk};
+ghost use Rattle.std.specs.Prelude.{◌≡◌, ◌∷◌, ◌++◌, [], true, OnOk, Contains, Any};
+ghost use Rattle.std.specs.Ordering.{is_eq};
+ghost use Rattle.std.specs.List.Sorted.{IsStrictlySortedBy};
 ghost use Rattle.lookup_run.specs.Tells.{part_of};
 ghost use Rattle.lookup_run.specs.Gathered.{tokens_in, IsEachOnce};
 ghost use Rattle.lookup_run.specs.Steps.{KeepsAlso};
@@ -46,14 +48,24 @@ pub(crate) fn gather(
     keep_token(gathered, contact, answer.token)
 }
 
-/// The different addresses, in order.
+/// The different members of the list, in order. Takes no memory.
+fn each_once<T: Ord + Drop>(items: Vec<T>) -> Vec<T>
+    ensures in_order { IsStrictlySortedBy T.cmp result.items }
+    ensures of_list { (x : T) → Contains result.items x → Contains items.items x }
+    ensures all { (x : T) → Contains items.items x → Any (λ y. is_eq (T.cmp x y) ≡ true) result.items }
+{
+    let mut items = items;
+    items.sort_unstable();
+    items.dedup();
+    items
+}
+
+/// The different addresses, in order. Takes no memory.
 pub(crate) fn in_order(peers: Addrs) -> Addrs
     ensures { IsEachOnce peers result }
 {
-    let mut peers = peers.into_vec();
-    peers.sort_unstable();
-    peers.dedup();
-    List::from_vec(peers)
+    let items = each_once(peers.into_vec());
+    List::from_vec(items)
 }
 
 /// Nothing yet. Takes no memory.
