@@ -97,20 +97,44 @@ fn with_replies(alloc: Global, script: Script, replies: &[Reply]) -> Result<Scri
     Ok(script)
 }
 
-/// A link over these replies, whose first moment is 0.
-pub fn link(alloc: Global, replies: &[Reply]) -> Result<ScriptLink, Fail> {
-    failing_link(alloc, replies, &[], &[])
+/// Contact n answers at moment 10 with these peers, by their ports, and with a token of one byte.
+fn peers_event(alloc: Global, n: u8, ports: &[u16], token: u8) -> Result<ScriptEvent, Fail>
+    ensures { IfOk result IsWritableEvent }
+{
+    let to = contact(n).addr;
+    let mut values = List::new(alloc);
+    for port in ports {
+        values.push(Addr { port: *port, ..to })?;
+    }
+    let mut bytes = List::new(alloc);
+    bytes.push(token)?;
+    Ok(ScriptEvent::ToQuery {
+        to,
+        at: 10,
+        from: to,
+        message: Message::Answer {
+            tx: List::new(alloc),
+            answer: Answer {
+                id: contact(n).id,
+                nodes: None,
+                snodes: None,
+                token: Some(bytes),
+                values: Some(values),
+            },
+        },
+    })
 }
 
-/// The same, where the sends and the receives of these numbers, from 0, fail.
-pub fn failing_link(
-    alloc: Global,
-    replies: &[Reply],
-    sends: &[u64],
-    receives: &[u64],
-) -> Result<ScriptLink, Fail> {
+/// A link over the answers of contacts 1 and 2 to `get_peers`, which both name the peer at port 7000.
+pub fn peers_link(alloc: Global) -> Result<ScriptLink, Fail> {
+    let mut script = List::new(alloc);
+    script.push(peers_event(alloc, 1, &[7002, 7000], 11)?)?;
+    script.push(peers_event(alloc, 2, &[7000, 7001], 12)?)?;
+    Ok(ScriptLink::new(alloc, 0, script, List::new(alloc), List::new(alloc)))
+}
+
+/// A link over these replies, whose first moment is 0.
+pub fn link(alloc: Global, replies: &[Reply]) -> Result<ScriptLink, Fail> {
     let script = with_replies(alloc, List::new(alloc), replies)?;
-    let sends = List::from_slice(alloc, sends)?;
-    let receives = List::from_slice(alloc, receives)?;
-    Ok(ScriptLink::new(alloc, 0, script, sends, receives))
+    Ok(ScriptLink::new(alloc, 0, script, List::new(alloc), List::new(alloc)))
 }
