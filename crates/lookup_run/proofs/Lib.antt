@@ -18,3 +18,4 @@ pub mod Expiring
 pub mod Matching
 pub mod Receiving
 pub mod InOrder
+pub mod Fewer

@@ -126,6 +126,11 @@ abbrev pub EndsByStray : LookSetting → WordsState → Work → Option (List Ev
 EndsByStray look words old told told' =
     (start : WordsState) (table : TableState) (began : Option (List Event)) (b a : ℕ) → Along look start table began words old b a told → Grows began told' (λ events. EndsAtStray (given_of look start) events max_strays)
 
+-- the events of a lookup that ends in this step don't end so
+abbrev pub FewStrays : LookSetting → WordsState → Work → Option (List Event) → Option (List Event) → Type 0
+FewStrays look words old told told' =
+    (start : WordsState) (table : TableState) (began : Option (List Event)) (b a : ℕ) → Along look start table began words old b a told → Grows began told' (λ events. ¬ EndsAtStray (given_of look start) events max_strays)
+
 -- ---- receiving
 
 -- how long a receive waits: to the earliest deadline where it begins a round, and else not at all
