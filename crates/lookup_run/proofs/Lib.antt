@@ -19,3 +19,4 @@ pub mod Matching
 pub mod Receiving
 pub mod InOrder
 pub mod Fewer
+pub mod Looking

@@ -121,6 +121,15 @@ abbrev pub Stops : LookSetting → WordsState → WordsState → Work → Work �
 Stops look words words' old new told told' =
     (start : WordsState) (table : TableState) (began : Option (List Event)) (b a : ℕ) → Along look start table began words old b a told → Ended look start table began words' new.table told'
 
+-- the same from where a round begins
+abbrev pub StopsRound : LookSetting → WordsState → WordsState → Work → Work → Option (List Event) → Option (List Event) → Type 0
+StopsRound look words words' old new told told' =
+    (start : WordsState) (table : TableState) (began : Option (List Event)) → Along look start table began words old look.paths 0 told → Ended look start table began words' new.table told'
+
+abbrev pub RoundEndsByStray : LookSetting → WordsState → Work → Option (List Event) → Option (List Event) → Type 0
+RoundEndsByStray look words old told told' =
+    (start : WordsState) (table : TableState) (began : Option (List Event)) → Along look start table began words old look.paths 0 told → Grows began told' (λ events. EndsAtStray (given_of look start) events max_strays)
+
 -- the events of a lookup that ends in this step end with the last stray that it takes
 abbrev pub EndsByStray : LookSetting → WordsState → Work → Option (List Event) → Option (List Event) → Type 0
 EndsByStray look words old told told' =

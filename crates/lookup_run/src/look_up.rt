@@ -104,7 +104,6 @@ pub fn look_up_alone<L: Link, C: Check>(
     check: &C,
 ) -> (Table, Result<Outcome, LookFault>)
     requires limits { IsWithinLimits setting.now }
-    requires own { table.own ≡ setting.now.own }
     requires usable { All (IsUsable setting.now.own) (contacts_of table) }
     requires place { words.old.place < 2 ^ 59 }
     ensures lookup { IfOk result.1 (LooksUp setting.now table words.old words.new (L.told link.old) (L.told link.new)) }
@@ -115,6 +114,7 @@ pub fn look_up_alone<L: Link, C: Check>(
     ensures unfinished { IfErr result.1 (λ fault. Unfinished setting.now table words.old words.new (L.told link.old) (L.told link.new)) }
     ensures table_left { IfErr result.1 (λ fault. TableRan table result.0) }
     ensures strays { IsErrOf result.1 LookFault.Strays → Grows (L.told link.old) (L.told link.new) (λ events. EndsAtStray (given_of setting.now words.old) events max_strays) }
+    ensures few { IfOk result.1 (λ outcome. Grows (L.told link.old) (L.told link.new) (λ events. ¬ EndsAtStray (given_of setting.now words.old) events max_strays)) }
     ensures link { IsErrOf result.1 LookFault.LinkFault → Rose (L.recv_faults link.old) (L.recv_faults link.new) }
     ensures recv_faults { L.recv_faults link.old ≤ L.recv_faults link.new }
 {
@@ -125,6 +125,7 @@ pub fn look_up_alone<L: Link, C: Check>(
     };
     let mut work = begin(alloc, link, table, book);
     let ended = go_rounds(alloc, link, &mut work, words, setting, check);
+    work.book.legal();
     let Work {
         book,
         table,

@@ -2,7 +2,7 @@
 ghost use Rattle.std.specs.Prelude.{◌≡◌, ◌≤◌, ◌<◌, length, true, false, IfOk, OnOk, OnErr, IsErrOf};
 ghost use Rattle.kad_base.specs.Outside.{Rose};
 ghost use Rattle.lookup_run.specs.Lookup.{IsWithinLimits};
-ghost use Rattle.lookup_run.specs.Steps.{Begins, GoesRound, IsOver, Stops, EndsByStray};
+ghost use Rattle.lookup_run.specs.Steps.{Begins, GoesRound, IsOver, StopsRound, RoundEndsByStray};
 
 use crate::ask::ask_all;
 use crate::plain::{LookFault, LookSetting, Work};
@@ -30,8 +30,8 @@ fn go_round<L: Link, C: Check>(
     ensures more { IfOk result (λ more. more ≡ true → GoesRound look.now words.old words.new work.old work.new (L.told link.old) (L.told link.new)) }
     ensures over { IfOk result (λ more. more ≡ false → IsOver look.now words.old words.new work.old work.new (L.told link.old) (L.told link.new)) }
     ensures moment { OnOk result (L.moment link.new ≡ work.new.stand.moment) }
-    ensures stops { OnErr result (Stops look.now words.old words.new work.old work.new (L.told link.old) (L.told link.new)) }
-    ensures strays { IsErrOf result LookFault.Strays → EndsByStray look.now words.old work.old (L.told link.old) (L.told link.new) }
+    ensures stops { OnErr result (StopsRound look.now words.old words.new work.old work.new (L.told link.old) (L.told link.new)) }
+    ensures strays { IsErrOf result LookFault.Strays → RoundEndsByStray look.now words.old work.old (L.told link.old) (L.told link.new) }
     ensures link { IsErrOf result LookFault.LinkFault → Rose (L.recv_faults link.old) (L.recv_faults link.new) }
     ensures recv_faults { L.recv_faults link.old ≤ L.recv_faults link.new }
 {
@@ -57,8 +57,8 @@ pub(crate) fn go_rounds<L: Link, C: Check>(
     requires begins { Begins look.now words.old work.old }
     requires moment { L.moment link.old ≡ work.old.stand.moment }
     ensures over { OnOk result (IsOver look.now words.old words.new work.old work.new (L.told link.old) (L.told link.new)) }
-    ensures stops { OnErr result (Stops look.now words.old words.new work.old work.new (L.told link.old) (L.told link.new)) }
-    ensures strays { IsErrOf result LookFault.Strays → EndsByStray look.now words.old work.old (L.told link.old) (L.told link.new) }
+    ensures stops { OnErr result (StopsRound look.now words.old words.new work.old work.new (L.told link.old) (L.told link.new)) }
+    ensures strays { IsErrOf result LookFault.Strays → RoundEndsByStray look.now words.old work.old (L.told link.old) (L.told link.new) }
     ensures link { IsErrOf result LookFault.LinkFault → Rose (L.recv_faults link.old) (L.recv_faults link.new) }
     ensures recv_faults { L.recv_faults link.old ≤ L.recv_faults link.new }
 {

@@ -1,0 +1,356 @@
+-- A lookup begins with the seeds of a table, and ends where every path has run out, or early.
+use Rattle.std.proofs.Common.{◌≡◌, ◌≢◌, ℕ, zero, suc, ◌+◌, ◌<◌, ◌≤◌, ◌^◌, List, [], ◌∷◌, ◌++◌, length, drop, get_or, Option, Some, None, Bool, true, false, Result, Ok, Err, IfOk, inl, inr, refl, sym, ap, subst, ◌∙◌, arith}
+use Rattle.std.specs.Prelude.{map, Contains, IsSome, IfErr}
+use Rattle.std.specs.List.{All, AllByRecursion, flat_map}
+use Rattle.std.specs.List.Sorted.{IsStrictlySortedBy}
+use Rattle.std.proofs.lemmas.List.{append-nil}
+use Rattle.std.proofs.lemmas.List.Elements.{All-from_recursion}
+use Rattle.kad_base.specs.declared.plain.Addr.{Addr}
+use Rattle.kad_base.specs.declared.plain.Contact.{Contact}
+use Rattle.kad_base.specs.declared.plain.Event.{Event}
+use Rattle.kad_base.specs.declared.plain.Event.TheVariants.{Now}
+use Rattle.kad_base.specs.declared.serial.Made.{Made}
+use Rattle.kad_base.specs.Contacts.{among, without, IsUsable}
+use Rattle.kad_base.specs.Limits.{max_strays, max_round_receives}
+use Rattle.kad_base.specs.Outside.{Grows}
+use Rattle.kad_base.proofs.Grown.{grows_weaker, grows_none}
+use Rattle.kad_distance.specs.Order.{closeness}
+use Rattle.kad_distance.proofs.Chosen.{closest_rises, closest_few, closest_among}
+use Rattle.id_puzzles.specs.Drawn.{WordsState}
+use Rattle.query_book.specs.declared.Query.{Query}
+use Rattle.contact_table.specs.TableState.{TableState}
+use Rattle.contact_table.specs.declared.calls.TableCall.{TableCall}
+use Rattle.contact_table.specs.declared.calls.TableCall.TheVariants.{Closest}
+use Rattle.contact_table.specs.declared.calls.TableReply.{TableReply}
+use Rattle.contact_table.specs.declared.calls.TableReply.TheVariants.{List as List_reply, NoMemory}
+use Rattle.contact_table.specs.TableStep.{TableStep, table_after, contacts_of}
+use Rattle.claim_book.specs.declared.plain.Setting.{Setting}
+use Rattle.claim_book.specs.declared.plain.Entry.{Entry}
+use Rattle.claim_book.specs.Journal.{seeds, asked, answered, failed, open_any, open_on, things, settled, unsettled, may_ask}
+use Rattle.claim_book.specs.Legal.{Legal, seeded_from, seeded}
+use Rattle.claim_book.specs.RunOut.{RunOut}
+use Rattle.claim_book.specs.Result.{result_of}
+use Rattle.claim_book.specs.State.{BookState}
+use Rattle.claim_book.specs.Calls.{Counted, IsFound}
+use Rattle.claim_book.proofs.Among.{none_among, among_none}
+use Rattle.claim_book.proofs.Ends.{over_or_ask}
+use Rattle.claim_book.proofs.Kept.{open_on_any}
+use Rattle.claim_book.proofs.Seeding.{legal_seeded}
+use Rattle.lookup_run.specs.declared.plain.AskKind.{AskKind}
+use Rattle.lookup_run.specs.declared.plain.AskKind.TheVariants.{FindNode, GetPeers}
+use Rattle.lookup_run.specs.declared.plain.LookSetting.{LookSetting}
+use Rattle.lookup_run.specs.declared.plain.Gathered.{Gathered}
+use Rattle.lookup_run.specs.declared.plain.Outcome.{Outcome}
+use Rattle.lookup_run.specs.declared.plain.Stand.{Stand}
+use Rattle.lookup_run.specs.declared.plain.Token.{Token}
+use Rattle.lookup_run.specs.declared.plain.Work.{Work}
+use Rattle.lookup_run.specs.Tells.{Given, Seen, driven, begun, deadline_of, TellsSoFar, Tells}
+use Rattle.lookup_run.specs.Rounds.{SettlesIn, AllSettled, NoneAsks, RoundsFrom, Rounds}
+use Rattle.lookup_run.specs.Gathered.{Answered, HearsFrom, IsEachOnce, GathersOf, Gathers}
+use Rattle.lookup_run.specs.Lookup.{setting_of, given_of, seeds_in, drawn_for, IsWithinLimits, told_of, table_calls, LooksUp, TellsEarly, Unfinished, TableRan, TableTold}
+use Rattle.lookup_run.specs.Standing.{as_open, Keeps, HasWords, Walk, Stands, Keeping, Shows, Along}
+use Rattle.lookup_run.specs.Steps.{Begins, IsOver, IsDone, IsBookOf, asks_seeds, IsBegun, Ended}
+use Rattle.lookup_run.proofs.Early.{so_far_of, ran_of}
+
+-- ---- a journal of seeds alone
+
+seeds_quiet : (paths i : ℕ) (cs : List Contact) → driven (seeded_from paths i cs) ≡ []
+unfolding driven
+seeds_quiet paths i [] = refl
+seeds_quiet paths i (c ∷ cs) = seeds_quiet paths (i + 1) cs
+
+seeds_stand : (paths i : ℕ) (cs : List Contact) → seeds (seeded_from paths i cs) ≡ cs
+unfolding seeds
+seeds_stand paths i [] = refl
+seeds_stand paths i (c ∷ cs) = ap (λ l. c ∷ l) (seeds_stand paths (i + 1) cs)
+
+seeds_ask : (paths i : ℕ) (cs : List Contact) → asked (seeded_from paths i cs) ≡ []
+unfolding asked
+seeds_ask paths i [] = refl
+seeds_ask paths i (c ∷ cs) = seeds_ask paths (i + 1) cs
+
+seeds_tell : (paths i : ℕ) (cs : List Contact) → flat_map told_of (seeded_from paths i cs) ≡ []
+seeds_tell paths i [] = refl
+seeds_tell paths i (c ∷ cs) = seeds_tell paths (i + 1) cs
+
+seeds_learn : (p paths i : ℕ) (cs : List Contact) → things p (seeded_from paths i cs) ≡ []
+unfolding things
+seeds_learn p paths i [] = refl
+seeds_learn p paths i (c ∷ cs) = seeds_learn p paths (i + 1) cs
+
+none_dropped : {A : Type 0} (n : ℕ) → drop {A = A} n [] ≡ []
+none_dropped zero = refl
+none_dropped (suc n) = refl
+
+seeds_settled : (p paths : ℕ) (cs : List Contact) → unsettled p (seeded paths cs) ≡ []
+unfolding unsettled
+seeds_settled p paths cs = ap (drop (length (settled p (seeded paths cs)))) (seeds_learn p paths 0 cs) ∙ none_dropped (length (settled p (seeded paths cs)))
+
+seeds_open : (paths : ℕ) (cs : List Contact) → open_any (seeded paths cs) ≡ []
+unfolding open_any
+seeds_open paths cs = ap (λ l. without l (answered (seeded paths cs) ++ failed (seeded paths cs))) (seeds_ask paths 0 cs)
+
+-- ---- the beginning
+
+-- what a lookup begins with
+pub record Opening (look : LookSetting) (words : WordsState) (table table' : TableState) (book : BookState) (moment : ℕ) (work : Work) (told told' : Option (List Event)) : Type 0 where
+  pub book_of : IsBookOf look table book
+  pub tabled : TableTold (asks_seeds look) table table'
+  pub begun_at : IsBegun book table' moment work
+  pub grows : Grows told told' (λ es. es ≡ Now moment ∷ [])
+  pub place : words.place < 2 ^ 59
+
+journal_of : (look : LookSetting) (words : WordsState) (table table' : TableState) (book : BookState) (moment : ℕ) (work : Work) (told told' : Option (List Event)) → Opening look words table table' book moment work told told' → work.book.journal ≡ seeded look.paths (seeds_in look table)
+journal_of look words table table' book moment work told told' o = ap (λ (b : BookState). b.journal) o.begun_at.book_is ∙ o.book_of.journal
+
+pub begins_of : (look : LookSetting) (words : WordsState) (table table' : TableState) (book : BookState) (moment : ℕ) (work : Work) (told told' : Option (List Event)) → Opening look words table table' book moment work told told' → Begins look words work
+begins_of look words table table' book moment work told told' o =
+    let b = o.begun_at in
+    let journal = journal_of look words table table' book moment work told told' o in
+    let stand = b.stand in
+    record {
+      keeps = record {
+        setting = ap (λ (x : BookState). x.setting) b.book_is ∙ o.book_of.setting;
+        is_open = ap (map (λ (q : Query). q.contact)) b.none_open ∙ sym (ap open_any journal ∙ seeds_open look.paths (seeds_in look table));
+        ids = subst (AllByRecursion (λ (q : Query). q.tx < 2 ^ 32)) (sym b.none_open) tt;
+        deadlines = subst (AllByRecursion (λ (q : Query). q.deadline ≤ deadline_of work.stand.moment look.timeout)) (sym b.none_open) tt;
+        few_strays = (let z = ap (λ (x : Stand). x.strays) stand in omega (arith, z));
+        few_receives = (let z = ap (λ (x : Stand). x.receives) stand in omega (arith, z));
+      };
+      has_words = (let lt = o.place in omega (arith, lt));
+      round_over = ap (λ (x : Stand). x.receives) stand;
+      settled = λ p lt. ap (unsettled p) journal ∙ seeds_settled p look.paths (seeds_in look table);
+    }
+
+begun_keeping : (kind : AskKind) (g : Gathered) → g.peers ≡ [] → g.tokens ≡ [] → Keeping kind [] g
+begun_keeping FindNode g p t = (p, t)
+begun_keeping GetPeers g p t = (p, t)
+
+pub along_of : (look : LookSetting) (words : WordsState) (table table' : TableState) (book : BookState) (moment : ℕ) (work : Work) (told told' : Option (List Event)) → Opening look words table table' book moment work told told' → Along look words table told words work look.paths 0 told'
+along_of look words table table' book moment work told told' o =
+    let b = o.begun_at in
+    let cs = seeds_in look table in
+    let journal = journal_of look words table table' book moment work told told' o in
+    let begins : seeds work.book.journal ≡ cs = ap seeds journal ∙ seeds_stand look.paths 0 cs in
+    let none : length (asked work.book.journal) ≡ 0 = ap (λ J. length (asked J)) journal ∙ ap length (seeds_ask look.paths 0 cs) in
+    let place : words.place ≡ words.place + length (asked work.book.journal) = omega (arith, none) in
+    record {
+      drawn = ap (λ n. record { seed = words.seed; place = n }) place;
+      seeds_are = begins;
+      tabled = subst (λ (t : TableState). TableTold (table_calls look work.book.journal) table t) (sym b.table_is)
+          (subst (λ calls. TableTold calls table table') (sym (ap (table_calls look) journal ∙ ap (λ l. asks_seeds look ++ l) (seeds_tell look.paths 0 cs))) o.tabled);
+      shows = grows_weaker told told' _ _ o.grows (λ es is. record {
+        at = moment;
+        rest = [];
+        first = is;
+        end = begun moment;
+        last = seeded look.paths (seeds work.book.journal);
+        heard = [];
+        walk = (refl, refl, refl);
+        behind = [];
+        journal = journal ∙ ap (seeded look.paths) (sym begins) ∙ sym (append-nil (seeded look.paths (seeds work.book.journal)));
+        settles = tt;
+        below = tt;
+        ascends = tt;
+        stands = record {
+          moment = sym (ap (λ (x : Stand). x.moment) b.stand);
+          queries = sym (ap (map (as_open work.book.journal)) b.none_open);
+          sends = omega arith;
+          strays = sym (ap (λ (x : Stand). x.strays) b.stand);
+          receives = sym (ap (λ (x : Stand). x.receives) b.stand);
+          given = sym (ap driven journal ∙ seeds_quiet look.paths 0 cs);
+        };
+        keeping = begun_keeping look.kind work.gathered b.no_peers b.no_tokens;
+      });
+    }
+
+-- ---- an end before the first event
+
+usable_seeds : (look : LookSetting) (table : TableState) → All (IsUsable look.own) (contacts_of table) → All (IsUsable look.own) (seeds_in look table)
+usable_seeds look table usable k d lt =
+    let c = get_or (seeds_in look table) k d in
+    let there = closest_among look.target look.k (contacts_of table) c (k, lt, get_or_any (seeds_in look table) k d c lt) in
+    subst (IsUsable look.own) there.2 (usable there.0 c there.1)
+  where
+    get_or_any : (xs : List Contact) (k : ℕ) (d e : Contact) → k < length xs → get_or xs k e ≡ get_or xs k d
+    get_or_any [] k d e lt = absurd (omega (arith, lt))
+    get_or_any (x ∷ xs) zero d e lt = refl
+    get_or_any (x ∷ xs) (suc k) d e lt = get_or_any xs k d e (omega (arith, lt))
+
+pub record SeedsFit (look : LookSetting) (table : TableState) : Type 0 where
+  pub few : length (seeds_in look table) ≤ look.k
+  pub in_order : IsStrictlySortedBy (closeness look.target) (seeds_in look table)
+  pub usable : All (IsUsable look.own) (seeds_in look table)
+
+pub seeds_fit : (look : LookSetting) (table : TableState) → All (IsUsable look.own) (contacts_of table) → SeedsFit look table
+seeds_fit look table usable = record {
+  few = closest_few look.target look.k (contacts_of table);
+  in_order = closest_rises look.target look.k (contacts_of table);
+  usable = usable_seeds look table usable;
+}
+
+pub never_began : (look : LookSetting) (table : TableState) (words : WordsState) (told : Option (List Event)) → All (IsUsable look.own) (contacts_of table) → Unfinished look table words words told told
+never_began look table words told usable =
+    let cs = seeds_in look table in
+    let J = seeded look.paths cs in
+    let fit = seeds_fit look table usable in
+    let none : length (asked J) ≡ 0 = ap length (seeds_ask look.paths 0 cs) in
+    let place : words.place ≡ words.place + length (asked J) = omega (arith, none) in
+    record {
+      journal = J;
+      legal = legal_seeded (setting_of look) cs fit.few fit.in_order fit.usable;
+      seeds_are = seeds_stand look.paths 0 cs;
+      tells = grows_none told _ (record { front = []; end = begun 0; so_far = (seeds_quiet look.paths 0 cs, refl); whole = inl refl });
+      drawn = ap (λ n. record { seed = words.seed; place = n }) place;
+    }
+
+-- ---- the end
+
+rounds_of : (g : Given) (J P : List Entry) (s : Seen) (es : List Event) (t : Seen) (Q behind : List Entry) (heard : List Answered) → Walk g J P s es t Q heard → J ≡ Q ++ behind → SettlesIn t.receives behind → RoundsFrom g J P s es
+rounds_of g J P s [] t Q behind heard h is settles = (behind, is ∙ ap (λ l. l ++ behind) h.1, subst (λ (x : Seen). SettlesIn x.receives behind) h.0 settles)
+rounds_of g J P s (e ∷ es) t Q behind heard h is settles = (
+  record { mid = h.0.mid; between = h.0.between; gave = h.0.gave; gives = h.0.gives; given = h.0.given; settles = h.0.settles; in_turn = h.0.in_turn },
+  rounds_of g J ((P ++ h.0.between) ++ h.0.gave) h.0.mid es t Q behind h.1 h.2 is settles,
+)
+
+hears_of : (g : Given) (J P : List Entry) (s : Seen) (es : List Event) (t : Seen) (Q : List Entry) (heard : List Answered) → Walk g J P s es t Q heard → HearsFrom g J s es heard
+hears_of g J P s [] t Q heard h = h.2
+hears_of g J P s (e ∷ es) t Q heard h = (record { mid = h.0.mid; gives = h.0.gives; found = h.0.found; hears = h.0.hears }, h.1, hears_of g J ((P ++ h.0.between) ++ h.0.gave) h.0.mid es t Q h.1 h.2, h.3)
+
+-- where no contact is open, none is on a path
+none_on : (p : ℕ) (J : List Entry) → open_any J ≡ [] → open_on p J ≡ []
+none_on p J none = none_among (open_on p J) (λ c. no_true (among (open_on p J) c) (λ h. (let on = open_on_any p J c h in let off = among_none (open_any J) none c in absurd cc)))
+  where
+    no_true : (b : Bool) → (b ≡ true → ⊥) → b ≡ false
+    no_true true n = absurd (n refl)
+    no_true false n = refl
+
+-- every path has run out
+pub all_over : (look : LookSetting) (words words' : WordsState) (old new : Work) (told told' : Option (List Event)) → IsWithinLimits look → IsOver look words words' old new told told' → Legal new.book.setting new.book.journal → (p : ℕ) → p < new.book.setting.paths → RunOut new.book.setting p new.book.journal
+all_over look words words' old new told told' limits over legal p lt =
+    let k = over.keeps in
+    let J = new.book.journal in
+    let less : p < look.paths = (let e = ap (λ (s : Setting). s.paths) k.setting in omega (arith, lt, e)) in
+    let none : open_any J ≡ [] = sym k.is_open ∙ ap (map (λ (q : Query). q.contact)) over.none_open in
+    let l = subst (λ (s : Setting). Legal s J) k.setting legal in
+    subst (λ (s : Setting). RunOut s p J) (sym k.setting)
+    (elim (over_or_ask (setting_of look) J p l limits.some_query (none_on p J none) (over.settled p less)) [
+      | inl o ↦ o
+      | inr some ↦ (let no_one : false ≡ true = subst IsSome (over.none_asks p less) some in absurd cc)
+    ])
+
+each_of_none : (xs ys : List Addr) → xs ≡ [] → IsEachOnce xs ys → ys ≡ []
+each_of_none xs [] none h = refl
+each_of_none xs (y ∷ ys) none h = (let has = subst (λ l. Contains l y) none ((h.same y).0 (0, omega arith, refl)) in let lt = has.1 in absurd (omega (arith, lt)))
+
+gathers_of : (kind : AskKind) (heard : List Answered) (g : Gathered) (peers : List Addr) (tokens : List Token) → Keeping kind heard g → IsEachOnce g.peers peers → tokens ≡ g.tokens → GathersOf kind heard peers tokens
+gathers_of FindNode heard g peers tokens h once is = (each_of_none g.peers peers h.0 once, is ∙ h.1)
+gathers_of GetPeers heard g peers tokens h once is = (subst (λ l. IsEachOnce l peers) h.0 once, is ∙ h.1)
+
+-- what a lookup that is over has
+pub record Done (look : LookSetting) (start words' : WordsState) (table : TableState) (work : Work) (began told' : Option (List Event)) (o : Outcome) : Type 0 where
+  pub keeps : Keeps look work
+  pub none_open : work.queries ≡ []
+  pub settled : AllSettled look.paths work.book.journal
+  pub none_asks : NoneAsks (setting_of look) look.paths work.book.journal
+  pub along : Along look start table began words' work look.paths look.paths told'
+  pub done : IsDone work.book o
+
+pub looks_up : (look : LookSetting) (start words' : WordsState) (table : TableState) (work : Work) (began told' : Option (List Event)) (o : Outcome) → Done look start words' table work began told' o → LooksUp look table start words' began told' o
+looks_up look start words' table work began told' o d =
+    let k = d.keeps in
+    let a = d.along in
+    let J = work.book.journal in
+    record {
+      legal = subst (λ (s : Setting). Legal s o.journal) k.setting d.done.legal;
+      seeds_are = ap seeds d.done.journal ∙ a.seeds_are;
+      tells = subst (λ K. Grows began told' (λ events. Tells (given_of look start) K events)) (sym d.done.journal)
+          (grows_weaker began told' _ _ a.shows (λ es h. record {
+            end = h.end;
+            so_far = so_far_of (given_of look start) work words'.place look.paths look.paths es h;
+            none_open = h.stands.queries ∙ ap (map (as_open J)) d.none_open;
+          }));
+      run_out = subst (λ (s : Setting). (p : ℕ) → p < s.paths → RunOut s p o.journal) k.setting d.done.run_out;
+      found = d.done.found ∙ ap (λ (s : Setting). result_of s o.journal) k.setting;
+      counted = d.done.counted;
+      drawn = a.drawn ∙ ap (drawn_for start) (sym d.done.journal);
+    }
+
+pub goes_by_rounds : (look : LookSetting) (start words' : WordsState) (table : TableState) (work : Work) (began told' : Option (List Event)) (o : Outcome) → Done look start words' table work began told' o → Grows began told' (λ events. Rounds (given_of look start) o.journal events)
+goes_by_rounds look start words' table work began told' o d =
+    let J = work.book.journal in
+    subst (λ K. Grows began told' (λ events. Rounds (given_of look start) K events)) (sym d.done.journal)
+    (grows_weaker began told' _ _ d.along.shows (λ es h. record {
+      at = h.at;
+      rest = h.rest;
+      first = h.first;
+      goes = rounds_of (given_of look start) J (seeded look.paths (seeds J)) (begun h.at) h.rest h.end h.last h.behind h.heard h.walk h.journal h.settles;
+      settled = d.settled;
+      none_asks = d.none_asks;
+    }))
+
+pub gathered_all : (look : LookSetting) (start words' : WordsState) (table : TableState) (work : Work) (began told' : Option (List Event)) (o : Outcome) → Done look start words' table work began told' o → IsEachOnce work.gathered.peers o.peers → o.tokens ≡ work.gathered.tokens → Grows began told' (λ events. Gathers (given_of look start) o.journal events o.peers o.tokens)
+gathered_all look start words' table work began told' o d once tokens =
+    let J = work.book.journal in
+    subst (λ K. Grows began told' (λ events. Gathers (given_of look start) K events o.peers o.tokens)) (sym d.done.journal)
+    (grows_weaker began told' _ _ d.along.shows (λ es h. record {
+      at = h.at;
+      rest = h.rest;
+      first = h.first;
+      heard = h.heard;
+      hears = hears_of (given_of look start) J (seeded look.paths (seeds J)) (begun h.at) h.rest h.end h.last h.heard h.walk;
+      gathers = gathers_of look.kind h.heard work.gathered o.peers o.tokens h.keeping once tokens;
+    }))
+
+pub table_told : (look : LookSetting) (start words' : WordsState) (table : TableState) (work : Work) (began told' : Option (List Event)) (o : Outcome) → Done look start words' table work began told' o → TableTold (table_calls look o.journal) table work.table
+table_told look start words' table work began told' o d = subst (λ K. TableTold (table_calls look K) table work.table) (sym d.done.journal) d.along.tabled
+
+-- a lookup that is over, and for which there was no memory
+pub over_ended : (look : LookSetting) (start words' : WordsState) (table : TableState) (work : Work) (began told' : Option (List Event)) (b a : ℕ) → Legal (setting_of look) work.book.journal → Along look start table began words' work b a told' → Ended look start table began words' work.table told'
+over_ended look start words' table work began told' b a legal h = record {
+  unfinished = record {
+    journal = work.book.journal;
+    legal = legal;
+    seeds_are = h.seeds_are;
+    tells = grows_weaker began told' _ _ h.shows (λ es x. record { front = es; end = x.end; so_far = so_far_of (given_of look start) work words'.place b a es x; whole = inl refl });
+    drawn = h.drawn;
+  };
+  ran = ran_of (table_calls look work.book.journal) table work.table work.table refl h.tabled;
+}
+
+pub ok_then : {T F : Type 0} (r : Result T F) (P Q : T → Type 0) → IfOk r P → ((x : T) → P x → Q x) → IfOk r Q
+ok_then (Ok x) P Q h k = k x h
+ok_then (Err e) P Q h k = tt
+
+-- ---- parts
+
+pub seeds_told : (look : LookSetting) (t u : TableState) (list : List Contact) → TableStep t 0 (Closest look.target look.k) (List_reply list) → u ≡ table_after t 0 (Closest look.target look.k) (List_reply list) → TableTold (asks_seeds look) t u
+seeds_told look t u list step after =
+    let m : Made TableCall TableReply = record { role = 0; call = Closest look.target look.k; reply = List_reply list } in
+    record {
+      run = m ∷ [];
+      is_run = (tt, step, tt);
+      leaves = after;
+      calls_are = refl;
+      kept = All-from_recursion (λ (x : Made TableCall TableReply). x.reply ≢ NoMemory) (m ∷ []) ((λ e. absurd cc), tt);
+    }
+
+pub few_seeds : (look : LookSetting) (table : TableState) (xs : List Contact) (s : Setting) → All (IsUsable look.own) (contacts_of table) → xs ≡ seeds_in look table → s ≡ setting_of look → length xs ≤ s.k
+few_seeds look table xs s usable is set = (let few = (seeds_fit look table usable).few in let n = ap length is in let k = ap (λ (x : Setting). x.k) set in omega (arith, few, n, k))
+
+pub ordered_seeds : (look : LookSetting) (table : TableState) (xs : List Contact) (s : Setting) → All (IsUsable look.own) (contacts_of table) → xs ≡ seeds_in look table → s ≡ setting_of look → IsStrictlySortedBy (closeness s.target) xs
+ordered_seeds look table xs s usable is set = subst (λ (x : Setting). IsStrictlySortedBy (closeness x.target) xs) (sym set) (subst (IsStrictlySortedBy (closeness look.target)) (sym is) (seeds_fit look table usable).in_order)
+
+pub all_usable : (look : LookSetting) (table : TableState) (xs : List Contact) (s : Setting) → All (IsUsable look.own) (contacts_of table) → xs ≡ seeds_in look table → s ≡ setting_of look → All (IsUsable s.own) xs
+all_usable look table xs s usable is set = subst (λ (x : Setting). All (IsUsable x.own) xs) (sym set) (subst (All (IsUsable look.own)) (sym is) (seeds_fit look table usable).usable)
+
+pub is_done : (book after : BookState) (o : Outcome) → after ≡ book → IsFound book.setting book.journal o.found o.counts → o.journal ≡ after.journal → Legal after.setting o.journal → IsDone book o
+is_done book after o same found journal legal =
+    let is : o.journal ≡ book.journal = journal ∙ ap (λ (b : BookState). b.journal) same in
+    record {
+      journal = is;
+      legal = subst (λ (s : Setting). Legal s o.journal) (ap (λ (b : BookState). b.setting) same) legal;
+      run_out = subst (λ J. (p : ℕ) → p < book.setting.paths → RunOut book.setting p J) (sym is) found.run_out;
+      found = found.is_result ∙ ap (result_of book.setting) (sym is);
+      counted = subst (λ J. Counted J o.counts) (sym is) found.counted;
+    }
