@@ -344,12 +344,12 @@ ordered_seeds look table xs s usable is set = subst (λ (x : Setting). IsStrictl
 pub all_usable : (look : LookSetting) (table : TableState) (xs : List Contact) (s : Setting) → All (IsUsable look.own) (contacts_of table) → xs ≡ seeds_in look table → s ≡ setting_of look → All (IsUsable s.own) xs
 all_usable look table xs s usable is set = subst (λ (x : Setting). All (IsUsable x.own) xs) (sym set) (subst (All (IsUsable look.own)) (sym is) (seeds_fit look table usable).usable)
 
-pub is_done : (book after : BookState) (o : Outcome) → after ≡ book → IsFound book.setting book.journal o.found o.counts → o.journal ≡ after.journal → Legal after.setting o.journal → IsDone book o
+pub is_done : (book after : BookState) (o : Outcome) → after ≡ book → IsFound book.setting book.journal o.found o.counts → o.journal ≡ after.journal → Legal after.setting after.journal → IsDone book o
 is_done book after o same found journal legal =
     let is : o.journal ≡ book.journal = journal ∙ ap (λ (b : BookState). b.journal) same in
     record {
       journal = is;
-      legal = subst (λ (s : Setting). Legal s o.journal) (ap (λ (b : BookState). b.setting) same) legal;
+      legal = subst (λ (s : Setting). Legal s o.journal) (ap (λ (b : BookState). b.setting) same) (subst (Legal after.setting) (sym journal) legal);
       run_out = subst (λ J. (p : ℕ) → p < book.setting.paths → RunOut book.setting p J) (sym is) found.run_out;
       found = found.is_result ∙ ap (result_of book.setting) (sym is);
       counted = subst (λ J. Counted J o.counts) (sym is) found.counted;
