@@ -1,6 +1,6 @@
 -- A lookup that ends early: its events tell the journal so far.
-use Rattle.std.proofs.Common.{◌≡◌, ◌⊎◌, ℕ, ◌+◌, List, [], ◌∷◌, ◌++◌, Option, inl, inr, refl, sym, ap, subst, ◌∙◌}
-use Rattle.std.specs.Prelude.{map}
+use Rattle.std.proofs.Common.{◌≡◌, ◌⊎◌, ℕ, ◌+◌, List, [], ◌∷◌, ◌++◌, Option, Result, Ok, Err, inl, inr, refl, sym, ap, subst, ◌∙◌}
+use Rattle.std.specs.Prelude.{map, OnErr, IsErrOf}
 use Rattle.std.proofs.lemmas.List.{append-nil}
 use Rattle.kad_base.specs.declared.plain.Addr.{Addr}
 use Rattle.kad_base.specs.declared.plain.Event.{Event}
@@ -13,6 +13,8 @@ use Rattle.contact_table.specs.TableState.{TableState}
 use Rattle.claim_book.specs.declared.plain.Entry.{Entry}
 use Rattle.claim_book.specs.Legal.{Legal, seeded}
 use Rattle.claim_book.specs.Journal.{seeds}
+use Rattle.lookup_run.specs.declared.plain.LookFault.{LookFault}
+use Rattle.lookup_run.specs.declared.plain.LookFault.TheVariants.{Strays}
 use Rattle.lookup_run.specs.declared.plain.LookSetting.{LookSetting}
 use Rattle.lookup_run.specs.declared.plain.Work.{Work}
 use Rattle.lookup_run.specs.Tells.{Given, Seen, TellsFrom, TellsSoFar, IsStray, EndsAtStray, begun}
@@ -75,3 +77,16 @@ ends_by_stray look words old told told' source bytes until at none grows number 
       stray = none p.end p.stands.queries;
       count = ap (λ n. n + 1) p.stands.strays ∙ number;
     })
+
+pub on_err_of : {T E P : Type 0} (r : Result T E) → P → OnErr r P
+on_err_of (Ok x) p = tt
+on_err_of (Err e) p = p
+
+-- the fault of a `?` is that of the call
+pub passed_on : {T : Type 0} (r : Result T LookFault) (y x : LookFault) → r ≡ Err y → y ≡ x → IsErrOf r Strays → IsErrOf {T = Unit {0}} (Err x) Strays
+passed_on {T} r y x e same is =
+    let there : ◌≡◌ {A = Result T LookFault} (Err y) (Err Strays) = sym e ∙ is in
+    let it : y ≡ Strays = cc in
+    let here : x ≡ Strays = sym same ∙ it in
+    let passed : ◌≡◌ {A = Result (Unit {0}) LookFault} (Err x) (Err Strays) = cc in
+    passed

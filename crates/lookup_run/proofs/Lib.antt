@@ -20,3 +20,4 @@ pub mod Receiving
 pub mod InOrder
 pub mod Fewer
 pub mod Looking
+pub mod WholeRound

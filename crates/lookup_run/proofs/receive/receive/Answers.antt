@@ -1,0 +1,61 @@
+use Rattle.std.proofs.Common.{◌≡◌, ◌≤◌, take, refl, subst, sym, inl, inr}
+use Rattle.std.proofs.lemmas.Result.{err_from_is_err_and}
+use Rattle.kad_base.proofs.Grown.{grows_weaker}
+use Rattle.claim_book.specs.declared.plain.Setting.{Setting}
+use Rattle.claim_book.specs.Legal.{Legal}
+use Rattle.id_puzzles.specs.Drawn.{WordsState}
+use Rattle.lookup_run.specs.declared.plain.Work.{Work}
+use Rattle.lookup_run.proofs.Early.{stops_of, ends_by_stray, on_err_of, passed_on}
+use Rattle.lookup_run.proofs.Receiving.{stray_of, datagram_receives, datagram_opens, quiet_receives}
+use Rattle.lookup_run.proofs.receive.receive.Goals as goal
+
+pub returns-in_err-take_datagram-in-Ok-Packet-clause-stops : goal.returns-in_err-take_datagram-in-Ok-Packet-clause-stops
+returns-in_err-take_datagram-in-Ok-Packet-clause-stops g c =
+    let p = c.in-Ok-Packet in
+    let old : Work = c.args.work.now in
+    let grows = rw p.field-0-is at p.ensures.ok in
+    on_err_of c.from_residual.result (λ (words : WordsState). stops_of c.args.look.now words old c.take_datagram.new.work _ _
+    (subst (λ (s : Setting). Legal s old.book.journal) c.requires.may_receive.keeps.setting c.legal.ensures) c.take_datagram.ensures.table
+    (grows_weaker _ _ _ _ grows (λ es is. inr (p.from, take p.len c.recv.new.buf, c.wait_until-until.result, p.at, is))))
+
+pub returns-in_err-take_datagram-in-Ok-Packet-clause-strays : goal.returns-in_err-take_datagram-in-Ok-Packet-clause-strays
+returns-in_err-take_datagram-in-Ok-Packet-clause-strays g c is words =
+    let p = c.in-Ok-Packet in
+    let old : Work = c.args.work.now in
+    let grows = rw p.field-0-is at p.ensures.ok in
+    let f = c.in_err-take_datagram-in-Ok-Packet in
+    let out = err_from_is_err_and c.from_residual.result c.from_residual.ensures.1 in
+    let last = f.ensures.strays (passed_on c.from_residual.result out.0 f.field-0.0 out.1 out.2 is) in
+    ends_by_stray c.args.look.now words old _ _ p.from (take p.len c.recv.new.buf) c.wait_until-until.result p.at (λ s queries. stray_of old s p.from (take p.len c.recv.new.buf) queries last.none) grows last.last
+
+pub expire-requires : goal.expire-requires
+expire-requires g c =
+    let p = c.in-Ok-Packet in
+    datagram_opens c.args.look.now p.from (take p.len c.recv.new.buf) c.args.work.now c.take_datagram.new.work c.requires.may_receive.keeps c.legal.ensures c.in_ok-take_datagram-in-Ok-Packet.ensures.ok
+
+pub returns-in_ok-take_datagram-in-Ok-Packet-clause-ok : goal.returns-in_ok-take_datagram-in-Ok-Packet-clause-ok
+returns-in_ok-take_datagram-in-Ok-Packet-clause-ok g c =
+    let p = c.in-Ok-Packet in
+    let old : Work = c.args.work.now in
+    let grows = rw p.field-0-is at p.ensures.ok in
+    let came = rw p.field-0-is at p.ensures.came in
+    let later : old.stand.moment ≤ p.at = subst (λ m. m ≤ p.at) c.requires.moment came.1 in
+    datagram_receives c.args.look.now p.from (take p.len c.recv.new.buf) c.wait_until-until.result p.at c.round_after-work.result old c.take_datagram.new.work c.expire.new.work _ _
+    (record { may = c.requires.may_receive; legal = c.legal.ensures; waits = c.wait_until-until.ensures; later = later })
+    c.in_ok-take_datagram-in-Ok-Packet.ensures.ok c.expire.ensures c.round_after-work.ensures grows
+
+pub returns-in-Ok-Quiet-clause-ok : goal.returns-in-Ok-Quiet-clause-ok
+returns-in-Ok-Quiet-clause-ok g c =
+    let p = c.in-Ok-Quiet in
+    let old : Work = c.args.work.now in
+    let grows = rw p.field-0-is at p.ensures.ok in
+    let came = rw p.field-0-is at p.ensures.came in
+    let later : old.stand.moment ≤ p.at = subst (λ m. m ≤ p.at) c.requires.moment came.1 in
+    quiet_receives c.args.look.now c.wait_until-until.result p.at old c.expire-in-Ok-Quiet.new.work _ _
+    (record { may = c.requires.may_receive; legal = c.legal.ensures; waits = c.wait_until-until.ensures; later = later }) came.0 c.expire-in-Ok-Quiet.ensures grows
+
+pub returns-in-Err-clause-stops : goal.returns-in-Err-clause-stops
+returns-in-Err-clause-stops g c words =
+    let old : Work = c.args.work.now in
+    stops_of c.args.look.now words old old _ _ (subst (λ (s : Setting). Legal s old.book.journal) c.requires.may_receive.keeps.setting c.legal.ensures) refl
+    (grows_weaker _ _ _ _ c.in-Err.ensures.err (λ es is. inl is))

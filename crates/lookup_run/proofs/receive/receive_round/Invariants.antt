@@ -1,0 +1,14 @@
+use Rattle.std.proofs.Common.{◌≡◌, ◌≤◌, length}
+use Rattle.lookup_run.proofs.WholeRound.{Rounding, still_to}
+use Rattle.lookup_run.proofs.receive.receive_round.Given as goal
+
+abbrev pub invariant-receiving : goal.invariant-receiving
+invariant-receiving g l = record {
+  so_far : Rounding l.look l.fn.work l.work (g.L.Link.told l.fn.link) (g.L.Link.told l.link);
+  room : length l.buf ≡ 4097;
+  moment : g.L.Link.moment l.link ≡ l.work.stand.moment;
+  faults : g.L.Link.recv_faults l.fn.link ≤ g.L.Link.recv_faults l.link;
+}
+
+abbrev pub decreases-receiving : goal.decreases-receiving
+decreases-receiving g l = still_to l.work.stand.receives
