@@ -111,10 +111,10 @@ sent_event look p c tx words words' start old new s a rest book queries is st as
     let oq : OpenQuery = record { path = p; contact = c; tx = tx; deadline = deadline_of s.moment look.timeout } in
     let after : Seen = record (gives s (Ask p c ∷ [])) { queries = s.queries ++ oq ∷ []; sends = s.sends + 1 } in
     let new_path : as_open J' q ≡ oq = ap (λ n. record { path = n; contact = c; tx = tx; deadline = deadline_of old.stand.moment look.timeout }) (asker_new p J c (may_ask_says (setting_of look) p J c a.may).new)
-        ∙ ap (λ m. record { path = p; contact = c; tx = tx; deadline = deadline_of m look.timeout }) (sym st.moment) in
+    ∙ ap (λ m. record { path = p; contact = c; tx = tx; deadline = deadline_of m look.timeout }) (sym st.moment) in
     let opens : s.queries ++ oq ∷ [] ≡ map (as_open new.book.journal) new.queries =
-        ap (λ l. l ++ oq ∷ []) (st.queries ∙ sym (opens_kept J (Ask p c ∷ []) old.queries (each_asked J old.queries a.keeps.is_open))) ∙ ap (λ x. map (as_open J') old.queries ++ x ∷ []) (sym new_path)
-        ∙ sym (map_push (as_open J') old.queries q) ∙ ap (map (as_open J')) (sym queries) ∙ ap (λ K. map (as_open K) new.queries) (sym journal) in
+    ap (λ l. l ++ oq ∷ []) (st.queries ∙ sym (opens_kept J (Ask p c ∷ []) old.queries (each_asked J old.queries a.keeps.is_open))) ∙ ap (λ x. map (as_open J') old.queries ++ x ∷ []) (sym new_path)
+    ∙ sym (map_push (as_open J') old.queries q) ∙ ap (map (as_open J')) (sym queries) ∙ ap (λ K. map (as_open K) new.queries) (sym journal) in
     record {
       after = after;
       gives = record { path = p; contact = c; tx = tx; is_query = record { address = refl; id = id_of look p c tx words words' start old s a is st; form = refl }; after = refl };
@@ -158,7 +158,7 @@ unsent_event look p c tx words words' start old new s a rest book queries is st 
     let longer : new.book.journal ≡ J ++ Ask p c ∷ Lost p c SendFault ∷ [] = journal ∙ append_assoc J (Ask p c ∷ []) (Lost p c SendFault ∷ []) in
     let after : Seen = record (gives s (Ask p c ∷ Lost p c SendFault ∷ [])) { sends = s.sends + 1 } in
     let opens : s.queries ≡ map (as_open new.book.journal) new.queries =
-        st.queries ∙ sym (opens_kept J (Ask p c ∷ Lost p c SendFault ∷ []) old.queries (each_asked J old.queries a.keeps.is_open)) ∙ ap (λ K. map (as_open K) old.queries) (sym longer) ∙ ap (map (as_open new.book.journal)) (sym queries) in
+    st.queries ∙ sym (opens_kept J (Ask p c ∷ Lost p c SendFault ∷ []) old.queries (each_asked J old.queries a.keeps.is_open)) ∙ ap (λ K. map (as_open K) old.queries) (sym longer) ∙ ap (map (as_open new.book.journal)) (sym queries) in
     record {
       after = after;
       gives = record { path = p; contact = c; tx = tx; is_query = record { address = refl; id = id_of look p c tx words words' start old s a is st; form = refl }; after = refl };
@@ -218,8 +218,7 @@ sent_asks look p c tx words words' old new told told' a rest book queries grows 
     let longer : length new.queries ≡ length old.queries + 1 = ap length queries ∙ length-append old.queries (q ∷ []) in
     let same_strays : new.stand.strays ≡ old.stand.strays = ap (λ (x : Stand). x.strays) rest.stand in
     let less : weight_of new < weight_of old = omega (arith, one, few, longer, same_strays) in
-    let same_deadline : deadline_of new.stand.moment look.timeout ≡ deadline_of old.stand.moment look.timeout = ap (λ (x : Stand). deadline_of x.moment look.timeout) rest.stand in
-    (
+    let same_deadline : deadline_of new.stand.moment look.timeout ≡ deadline_of old.stand.moment look.timeout = ap (λ (x : Stand). deadline_of x.moment look.timeout) rest.stand in (
       record {
         keeps = record {
           setting = ap (λ (b : BookState). b.setting) book ∙ k.setting;
@@ -267,8 +266,7 @@ unsent_asks look p c tx words words' old new told told' a rest book queries grow
     let same_queries : length new.queries ≡ length old.queries = ap length queries in
     let same_strays : new.stand.strays ≡ old.stand.strays = ap (λ (x : Stand). x.strays) rest.stand in
     let less : weight_of new < weight_of old = omega (arith, one, few, same_queries, same_strays) in
-    let same_deadline : deadline_of new.stand.moment look.timeout ≡ deadline_of old.stand.moment look.timeout = ap (λ (x : Stand). deadline_of x.moment look.timeout) rest.stand in
-    (
+    let same_deadline : deadline_of new.stand.moment look.timeout ≡ deadline_of old.stand.moment look.timeout = ap (λ (x : Stand). deadline_of x.moment look.timeout) rest.stand in (
       record {
         keeps = record {
           setting = ap (λ (b : BookState). b.setting) book ∙ k.setting;

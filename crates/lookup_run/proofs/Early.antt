@@ -4,7 +4,7 @@ use Rattle.std.specs.Prelude.{map, OnErr, IsErrOf}
 use Rattle.std.proofs.lemmas.List.{append-nil}
 use Rattle.kad_base.specs.declared.plain.Addr.{Addr}
 use Rattle.kad_base.specs.declared.plain.Event.{Event}
-use Rattle.kad_base.specs.declared.plain.Event.TheVariants.{Now, Got}
+use Rattle.kad_base.specs.declared.plain.Event.TheVariants.{Got}
 use Rattle.kad_base.specs.Outside.{Grows}
 use Rattle.kad_base.specs.Limits.{max_strays}
 use Rattle.kad_base.proofs.Grown.{grows_then}
@@ -14,14 +14,13 @@ use Rattle.claim_book.specs.declared.plain.Entry.{Entry}
 use Rattle.claim_book.specs.Legal.{Legal, seeded}
 use Rattle.claim_book.specs.Journal.{seeds}
 use Rattle.lookup_run.specs.declared.plain.LookFault.{LookFault}
-use Rattle.lookup_run.specs.declared.plain.LookFault.TheVariants.{Strays}
 use Rattle.lookup_run.specs.declared.plain.LookSetting.{LookSetting}
 use Rattle.lookup_run.specs.declared.plain.Work.{Work}
-use Rattle.lookup_run.specs.Tells.{Given, Seen, TellsFrom, TellsSoFar, IsStray, EndsAtStray, begun}
+use Rattle.lookup_run.specs.Tells.{Given, Seen, TellsFrom, TellsSoFar, IsStray, begun}
 use Rattle.lookup_run.specs.Gathered.{Answered}
 use Rattle.lookup_run.specs.Lookup.{setting_of, given_of, TellsEarly, Told, TableTold, TableRan}
-use Rattle.lookup_run.specs.Standing.{as_open, Walk, Stands, Shows, Along}
-use Rattle.lookup_run.specs.Steps.{Ended, Stops, EndsByStray}
+use Rattle.lookup_run.specs.Standing.{as_open, Walk, Shows}
+use Rattle.lookup_run.specs.Steps.{Stops, EndsByStray}
 
 pub tells_of : (g : Given) (J P : List Entry) (s : Seen) (es : List Event) (t : Seen) (Q : List Entry) (heard : List Answered) → Walk g J P s es t Q heard → TellsFrom g J s es t
 tells_of g J P s [] t Q heard h = h.0
@@ -83,10 +82,10 @@ on_err_of (Ok x) p = tt
 on_err_of (Err e) p = p
 
 -- the fault of a `?` is that of the call
-pub passed_on : {T : Type 0} (r : Result T LookFault) (y x : LookFault) → r ≡ Err y → y ≡ x → IsErrOf r Strays → IsErrOf {T = Unit {0}} (Err x) Strays
-passed_on {T} r y x e same is =
-    let there : ◌≡◌ {A = Result T LookFault} (Err y) (Err Strays) = sym e ∙ is in
-    let it : y ≡ Strays = cc in
-    let here : x ≡ Strays = sym same ∙ it in
-    let passed : ◌≡◌ {A = Result (Unit {0}) LookFault} (Err x) (Err Strays) = cc in
+pub passed_on : {T : Type 0} (fault : LookFault) (r : Result T LookFault) (y x : LookFault) → r ≡ Err y → y ≡ x → IsErrOf r fault → IsErrOf {T = Unit {0}} (Err x) fault
+passed_on {T} fault r y x e same is =
+    let there : ◌≡◌ {A = Result T LookFault} (Err y) (Err fault) = sym e ∙ is in
+    let it : y ≡ fault = cc in
+    let here : x ≡ fault = sym same ∙ it in
+    let passed : ◌≡◌ {A = Result (Unit {0}) LookFault} (Err x) (Err fault) = cc in
     passed

@@ -1,5 +1,5 @@
 -- The overdue queries are lost, oldest first.
-use Rattle.std.proofs.Common.{◌≡◌, ◌≢◌, ℕ, zero, suc, ◌<◌, ◌≤◌, List, [], ◌∷◌, ◌++◌, length, Bool, true, false, not, ◌||◌, cond, refl, sym, ap, subst, ◌∙◌, arith}
+use Rattle.std.proofs.Common.{◌≡◌, ◌≢◌, ℕ, ◌<◌, ◌≤◌, List, [], ◌∷◌, ◌++◌, Bool, true, false, not, ◌||◌, cond, refl, sym, ap, subst, ◌∙◌, arith}
 use Rattle.std.specs.Prelude.{map, filter, nat_lt}
 use Rattle.std.specs.List.{All, AllByRecursion, IsDistinct, flat_map}
 use Rattle.std.proofs.lemmas.Bool.Decides.{nat_tests}
@@ -26,7 +26,7 @@ use Rattle.claim_book.specs.Legal.{Legal}
 use Rattle.claim_book.specs.Calls.{asker}
 use Rattle.claim_book.specs.State.{BookState, added}
 use Rattle.lookup_run.specs.declared.plain.Work.{Work}
-use Rattle.lookup_run.specs.Tells.{OpenQuery, is_overdue, timed_out, closed_at}
+use Rattle.lookup_run.specs.Tells.{is_overdue, timed_out, closed_at}
 use Rattle.lookup_run.specs.Lookup.{told_of, TableTold}
 use Rattle.lookup_run.specs.Standing.{as_open}
 use Rattle.lookup_run.specs.Steps.{Expires}

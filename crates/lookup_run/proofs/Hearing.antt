@@ -1,21 +1,16 @@
 -- What the book is told of a reply.
-use Rattle.std.proofs.Common.{◌≡◌, ◌≢◌, ℕ, ◌<◌, ◌≤◌, List, [], ◌∷◌, ◌++◌, length, take, inl, inr, refl, sym, ap, subst, ◌∙◌, arith}
-use Rattle.std.specs.Prelude.{map, ℤ}
-use Rattle.std.proofs.lemmas.List.{append-nil, length-map, length-take}
+use Rattle.std.proofs.Common.{◌≡◌, ◌≤◌, List, [], ◌∷◌, length, take, inl, refl, ap, ◌∙◌, arith}
+use Rattle.std.proofs.lemmas.List.{length-map, length-take}
 use Rattle.kad_base.specs.declared.plain.Contact.{Contact}
 use Rattle.kad_base.specs.declared.plain.Report.{Report}
 use Rattle.kad_base.specs.declared.plain.Policy.{Policy}
 use Rattle.kad_base.specs.declared.plain.Policy.TheVariants.{Plain, Puzzled}
 use Rattle.kad_base.specs.Limits.{max_reports}
 use Rattle.kad_krpc.specs.declared.message.Answer.{Answer}
-use Rattle.claim_book.specs.declared.plain.Cause.TheVariants.{Error}
-use Rattle.claim_book.specs.declared.plain.Entry.TheVariants.{Heard, Lost}
+use Rattle.claim_book.specs.declared.plain.Entry.TheVariants.{Heard}
 use Rattle.claim_book.specs.Calls.{asker}
 use Rattle.claim_book.specs.State.{added}
-use Rattle.lookup_run.specs.declared.plain.AskKind.{AskKind}
-use Rattle.lookup_run.specs.declared.plain.AskKind.TheVariants.{FindNode, GetPeers}
 use Rattle.lookup_run.specs.declared.plain.LookSetting.{LookSetting}
-use Rattle.lookup_run.specs.declared.plain.Gathered.{Gathered}
 use Rattle.lookup_run.specs.declared.plain.Work.{Work}
 use Rattle.lookup_run.specs.declared.reply.Reply.TheVariants as reply
 use Rattle.lookup_run.specs.Tells.{bare, part_of, reports_of}

@@ -1,7 +1,7 @@
 -- To which of the open queries a datagram replies.
-use Rattle.std.proofs.Common.{◌≡◌, ◌≢◌, ◌⊎◌, ℕ, zero, suc, ◌+◌, ◌^◌, ◌<◌, ◌≤◌, List, [], ◌∷◌, ◌++◌, length, get_or, take, drop, Some, Result, Ok, Err, true, inl, inr, refl, sym, ap, subst, ◌∙◌, arith}
-use Rattle.std.specs.Prelude.{Contains, map, slice_get, remove, OnOk, IfErr, IsErrOf}
-use Rattle.std.specs.List.{All, AllByRecursion, AllPairs}
+use Rattle.std.proofs.Common.{◌≡◌, ◌⊎◌, ℕ, zero, suc, ◌+◌, ◌^◌, ◌<◌, List, [], ◌∷◌, ◌++◌, length, get_or, take, drop, Some, Result, Ok, Err, true, inl, inr, refl, sym, ap, subst, ◌∙◌, arith}
+use Rattle.std.specs.Prelude.{Contains, map, slice_get, OnOk, IfErr, IsErrOf}
+use Rattle.std.specs.List.{All, AllByRecursion}
 use Rattle.std.proofs.lemmas.Option.{slice_get-get_or, get_or_from_slice_get, slice_get_within}
 use Rattle.std.proofs.lemmas.Bool.{cases_lt}
 use Rattle.kad_base.specs.declared.plain.Addr.{Addr}
@@ -19,7 +19,7 @@ use Rattle.lookup_run.specs.declared.plain.LookSetting.{LookSetting}
 use Rattle.lookup_run.specs.declared.plain.Work.{Work}
 use Rattle.lookup_run.specs.declared.reply.Reply.{Reply}
 use Rattle.lookup_run.specs.declared.reply.Said.{Said}
-use Rattle.lookup_run.specs.Tells.{OpenQuery, SaysTo, Replies}
+use Rattle.lookup_run.specs.Tells.{SaysTo, Replies}
 use Rattle.lookup_run.specs.Standing.{RepliesTo, IsReply, IsNoReply, as_open}
 use Rattle.lookup_run.specs.Steps.{RepliesToNone, TakesStray, TakesDatagram, IsLastStray, HearsOne, HearsIn, KeepsFor, HearsReply, IsMatchFor}
 use Rattle.lookup_run.proofs.Expiring.{among_middle}

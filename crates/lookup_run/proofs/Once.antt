@@ -79,11 +79,11 @@ once_from g J K P s (e ∷ es) some l m a b apart h k =
     let x = legal_step g J P s e es l h in
     let y = legal_step g K P s e es m k in
     let between : h.0.between ≡ k.0.between = between_once g.setting P h.0.between k.0.between s.receives some x.before x.settles y.settles h.0.settles k.0.settles
-        (λ z. settled_at g.setting (P ++ h.0.between) s e h.0.gave z h.0.in_turn) (λ z. settled_at g.setting (P ++ k.0.between) s e k.0.gave z k.0.in_turn) in
+    (λ z. settled_at g.setting (P ++ h.0.between) s e h.0.gave z h.0.in_turn) (λ z. settled_at g.setting (P ++ k.0.between) s e k.0.gave z k.0.in_turn) in
     let Q = P ++ k.0.between in
     let to_Q : P ++ h.0.between ≡ Q = ap (λ l. P ++ l) between in
     let mid : h.0.mid ≡ k.0.mid = step_once g J K Q s h.0.mid k.0.mid e h.0.gave k.0.gave apart h.0.gives k.0.gives h.0.given k.0.given
-        (subst (λ R. InTurn g.setting R s e h.0.gave) to_Q h.0.in_turn) k.0.in_turn (subst (λ R. LegalAfter g.setting R h.0.gave) to_Q x.gives) y.gives in
+    (subst (λ R. InTurn g.setting R s e h.0.gave) to_Q h.0.in_turn) k.0.in_turn (subst (λ R. LegalAfter g.setting R h.0.gave) to_Q x.gives) y.gives in
     let gave : h.0.gave ≡ k.0.gave = append_cancel_left s.given h.0.gave k.0.gave (sym h.0.given ∙ ap (λ (t : Seen). t.given) mid ∙ k.0.given) in
     let front : (P ++ h.0.between) ++ h.0.gave ≡ Q ++ k.0.gave = ap (λ l. l ++ h.0.gave) to_Q ∙ ap (λ l. Q ++ l) gave in
     once_from g J K (Q ++ k.0.gave) k.0.mid es some l m a b (apart_gives g K s k.0.mid e apart k.0.gives)

@@ -177,7 +177,7 @@ asks_once s Q p q c d h k =
             let same : p ≡ q = omega (arith, ge, le) in
             let both : ◌≡◌ {A = Option Contact} (Some c) (Some d) = sym h.may ∙ ap (λ n. may_ask s n Q) same ∙ k.may in
             (same, (let one : c ≡ d = cc in one))
-        )
+            )
       ]
     ]
 

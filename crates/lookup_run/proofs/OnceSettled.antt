@@ -124,8 +124,8 @@ settled_once s n low P (x ∷ xs) (y ∷ ys) some is l h k a b c d =
         | inr le ↦
             let one : x ≡ y = entry_once s P x y l h.0 k.0 a.1 b.1 (omega (arith, ge, le)) in
             let rest : xs ≡ ys = settled_once s n (path_number x) (P ++ x ∷ []) xs ys some is (legal_more s P x l h.0) h.1 (subst (λ e. LegalAfter s (P ++ e ∷ []) ys) (sym one) k.1) a.2 (subst (λ e. SettlesFrom (path_number e) ys) (sym one) b.2)
-                (subst (AllSettled n) (sym (append_assoc P (x ∷ []) xs)) c)
-                (subst (λ e. AllSettled n ((P ++ e ∷ []) ++ ys)) (sym one) (subst (AllSettled n) (sym (append_assoc P (y ∷ []) ys)) d)) in
+            (subst (AllSettled n) (sym (append_assoc P (x ∷ []) xs)) c)
+            (subst (λ e. AllSettled n ((P ++ e ∷ []) ++ ys)) (sym one) (subst (AllSettled n) (sym (append_assoc P (y ∷ []) ys)) d)) in
             ap (λ e. e ∷ xs) one ∙ ap (λ l. y ∷ l) rest
       ]
     ]

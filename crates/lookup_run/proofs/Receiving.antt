@@ -1,5 +1,5 @@
 -- One receive: what its event gives, and that the lookup comes nearer to its end.
-use Rattle.std.proofs.Common.{◌≡◌, ◌≢◌, ◌⊎◌, ℕ, zero, suc, ◌+◌, ◌-◌, ◌*◌, ◌^◌, ◌<◌, ◌≤◌, min, List, [], ◌∷◌, ◌++◌, length, Option, None, Bool, true, false, not, ◌||◌, cond, inl, inr, refl, sym, ap, subst, ◌∙◌, arith}
+use Rattle.std.proofs.Common.{◌≡◌, ◌≢◌, ◌⊎◌, ℕ, zero, suc, ◌+◌, ◌-◌, ◌*◌, ◌^◌, ◌<◌, ◌≤◌, List, [], ◌∷◌, ◌++◌, length, Option, Bool, true, false, not, ◌||◌, cond, inl, inr, refl, sym, ap, subst, ◌∙◌, arith}
 use Rattle.std.specs.Prelude.{Contains, map, filter, nat_lt}
 use Rattle.std.specs.List.{AllByRecursion, IsDistinct, flat_map}
 use Rattle.std.proofs.lemmas.Bool.Decides.{nat_tests}
@@ -17,15 +17,13 @@ use Rattle.kad_base.specs.Outside.{Grows}
 use Rattle.kad_krpc.specs.declared.message.Answer.{Answer}
 use Rattle.id_puzzles.specs.Drawn.{WordsState}
 use Rattle.query_book.specs.declared.Query.{Query}
-use Rattle.contact_table.specs.TableState.{TableState}
-use Rattle.claim_book.specs.declared.plain.Setting.{Setting}
 use Rattle.claim_book.specs.declared.plain.Entry.{Entry}
 use Rattle.claim_book.specs.declared.plain.Entry.TheVariants.{Heard, Lost}
 use Rattle.claim_book.specs.declared.plain.Cause.TheVariants.{WrongId, Error}
-use Rattle.claim_book.specs.Journal.{ask_of, seed_of, seeds, asked, open_any}
+use Rattle.claim_book.specs.Journal.{ask_of, seeds, asked, open_any}
 use Rattle.claim_book.specs.Legal.{Legal}
 use Rattle.claim_book.specs.Calls.{asker}
-use Rattle.claim_book.specs.State.{BookState, added}
+use Rattle.claim_book.specs.State.{BookState}
 use Rattle.lookup_run.specs.declared.plain.AskKind.{AskKind}
 use Rattle.lookup_run.specs.declared.plain.AskKind.TheVariants.{FindNode, GetPeers}
 use Rattle.lookup_run.specs.declared.plain.LookSetting.{LookSetting}
@@ -34,12 +32,12 @@ use Rattle.lookup_run.specs.declared.plain.Stand.{Stand}
 use Rattle.lookup_run.specs.declared.plain.Work.{Work}
 use Rattle.lookup_run.specs.declared.reply.Reply.{Reply}
 use Rattle.lookup_run.specs.declared.reply.Reply.TheVariants as reply
-use Rattle.lookup_run.specs.Tells.{Given, OpenQuery, Seen, is_driven, driven, deadline_of, IsEarliest, WaitsUntil, HaveAsked, Receives, Gives, Replies, ReplyGives, IsStray, is_overdue, timed_out, closed_at, open_at, received, goes_on, after_match, after_stray, after_quiet}
+use Rattle.lookup_run.specs.Tells.{Given, OpenQuery, Seen, is_driven, driven, deadline_of, IsEarliest, WaitsUntil, HaveAsked, Receives, Gives, Replies, ReplyGives, IsStray, is_overdue, timed_out, closed_at, open_at, received, goes_on, after_match}
 use Rattle.lookup_run.specs.Rounds.{WaitsInTurn, InTurn}
 use Rattle.lookup_run.specs.Gathered.{Answered, HeardIn, Hears}
-use Rattle.lookup_run.specs.Lookup.{setting_of, given_of, told_of, drawn_for, TableTold}
-use Rattle.lookup_run.specs.Standing.{IsReply, as_open, Keeps, weight_of, Stands}
-use Rattle.lookup_run.specs.Steps.{query_to, IsDue, WaitsFor, goes_round, RepliesToNone, HearsIn, KeepsFor, Expires, TakesStray, IsStrayFor, IsMatchFor, TakesDatagram, MayReceive, ReceivesOne}
+use Rattle.lookup_run.specs.Lookup.{setting_of, given_of, told_of, TableTold}
+use Rattle.lookup_run.specs.Standing.{IsReply, as_open, Keeps, Stands}
+use Rattle.lookup_run.specs.Steps.{query_to, IsDue, WaitsFor, goes_round, RepliesToNone, HearsIn, KeepsFor, Expires, IsStrayFor, IsMatchFor, TakesDatagram, MayReceive, ReceivesOne}
 use Rattle.lookup_run.proofs.Walking.{OneEvent, NextStep, along_next, seeds_append}
 use Rattle.lookup_run.proofs.Opens.{opens_heard, opens_lost, opens_distinct, opens_kept, without_one, each_asked}
 use Rattle.lookup_run.proofs.Matching.{in_cons, in_map, map_in, in_middle, all_in, none_in, to_reply}
@@ -589,7 +587,3 @@ datagram_opens look from bytes old mid keeps legal (inl m) =
     let opens : open_any J ≡ cs ++ c ∷ ds = sym keeps.is_open ∙ ap (map (λ (q : Query). q.contact)) m.was_open ∙ map_append (λ (q : Query). q.contact) m.before (m.query ∷ m.behind) in
     ap (map (λ (q : Query). q.contact)) m.closes ∙ map_append (λ (q : Query). q.contact) m.before m.behind
     ∙ sym (ap (λ (b : BookState). open_any b.journal) m.hears.after ∙ closing.closes ∙ ap (λ l. without l (c ∷ [])) opens ∙ without_one c cs ds (subst (IsDistinct same) opens (opens_distinct old.book.setting J legal)))
-
-pub datagram_round : (look : LookSetting) (from : Addr) (bytes : List ℕ) (at : ℕ) (old mid late : Work) → Keeps look old → TakesDatagram look from bytes old mid → Expires at mid late → late.stand.receives < max_round_receives
-datagram_round look from bytes at old mid late keeps (inl m) e = subst (λ (x : Stand). x.receives < max_round_receives) (sym (e.stand ∙ m.stand)) keeps.few_receives
-datagram_round look from bytes at old mid late keeps (inr t) e = subst (λ (x : Stand). x.receives < max_round_receives) (sym (e.stand ∙ t.takes.after)) keeps.few_receives

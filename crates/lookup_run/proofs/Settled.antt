@@ -138,9 +138,9 @@ shows_settled g old new more place p a es journal quiet over is_open queries sta
 
 settled_more : (p : ℕ) (J more J' : List Entry) → J' ≡ J ++ more → AllByRecursion (IsQuiet p) more → AllSettled p J → unsettled p J' ≡ [] → AllSettled (p + 1) J'
 settled_more p J more J' journal quiet below here q lt = elim (cases_lt q p) [
-    inl less ↦ ap (unsettled q) journal ∙ unsettled_same p q J more (λ e. absurd (omega (arith, less, e))) quiet ∙ below q less
+  | inl less ↦ ap (unsettled q) journal ∙ unsettled_same p q J more (λ e. absurd (omega (arith, less, e))) quiet ∙ below q less
   | inr more_than ↦ (let is : q ≡ p = omega (arith, lt, more_than) in ap (λ n. unsettled n J') is ∙ here)
-  ]
+]
 
 drawn_same : (words start : WordsState) (J J' : List Entry) → asked J' ≡ asked J → words ≡ drawn_for start J → words ≡ drawn_for start J'
 drawn_same words start J J' same is = is ∙ ap (λ (cs : List Contact). record { seed = start.seed; place = start.place + length cs }) (sym same)
@@ -211,4 +211,3 @@ settles_then look from mid to a b c told h k = record {
   ran = ran_then a.table b.table c.table h.ran k.ran;
   goes = λ words n start table began al. k.goes words n start table began (h.goes words n start table began al);
 }
-

@@ -5,7 +5,7 @@ ghost use Rattle.kad_base.specs.Outside.{Rose};
 ghost use Rattle.id_puzzles.specs.Drawn.{WordsState};
 ghost use Rattle.lookup_run.specs.Lookup.{IsWithinLimits};
 ghost use Rattle.lookup_run.specs.Standing.{Keeps};
-ghost use Rattle.lookup_run.specs.Steps.{WaitsFor, goes_round, TakesStray, TakesDatagram, IsLastStray, MayReceive, ReceivesOne, ReceivesAll, Stops, EndsByStray};
+ghost use Rattle.lookup_run.specs.Steps.{WaitsFor, goes_round, TakesStray, TakesDatagram, IsLastStray, MayReceive, ReceivesOne, ReceivesAll, Stops, EndsByStray, FewStrays};
 
 use crate::hear::{expire, hear};
 use crate::plain::{LookFault, LookSetting, Stand, Work};
@@ -104,6 +104,7 @@ pub(crate) fn receive<L: Link>(
     ensures moment { OnOk result (L.moment link.new ≡ work.new.stand.moment) }
     ensures stops { OnErr result ((words : WordsState) → Stops look.now words words work.old work.new (L.told link.old) (L.told link.new)) }
     ensures strays { IsErrOf result LookFault.Strays → (words : WordsState) → EndsByStray look.now words work.old (L.told link.old) (L.told link.new) }
+    ensures few { IsErrOf result LookFault.LinkFault → (words : WordsState) → FewStrays look.now words work.old (L.told link.old) (L.told link.new) }
     ensures link { IsErrOf result LookFault.LinkFault → Rose (L.recv_faults link.old) (L.recv_faults link.new) }
     ensures recv_faults { L.recv_faults link.old ≤ L.recv_faults link.new }
 {
@@ -144,6 +145,7 @@ pub(crate) fn receive_round<L: Link>(
     ensures moment { OnOk result (L.moment link.new ≡ work.new.stand.moment) }
     ensures stops { OnErr result ((words : WordsState) → Stops look.now words words work.old work.new (L.told link.old) (L.told link.new)) }
     ensures strays { IsErrOf result LookFault.Strays → (words : WordsState) → EndsByStray look.now words work.old (L.told link.old) (L.told link.new) }
+    ensures few { IsErrOf result LookFault.LinkFault → (words : WordsState) → FewStrays look.now words work.old (L.told link.old) (L.told link.new) }
     ensures link { IsErrOf result LookFault.LinkFault → Rose (L.recv_faults link.old) (L.recv_faults link.new) }
     ensures recv_faults { L.recv_faults link.old ≤ L.recv_faults link.new }
 {

@@ -105,7 +105,12 @@ fn the_table_is_told_who_is_silent(rt: HostRuntime) -> Result<(), Fail> {
     assert_eq!(rt; outcome.found.as_slice(), [contact(1)].as_slice());
     let contact = contact(2);
     let reply = table.apply(0, TableCall::Failed { contact });
-    assert_eq!(rt; reply, TableReply::Gone { gone: Gone::Removed });
+    assert_eq!(rt;
+        reply,
+        TableReply::Gone {
+            gone: Gone::Removed
+        }
+    );
     Ok(())
 }
 

@@ -1,11 +1,13 @@
-use Rattle.std.proofs.Common.{◌≡◌, ◌≤◌, take, refl, subst, sym, inl, inr}
+use Rattle.std.proofs.Common.{◌≤◌, take, refl, subst, inl, inr}
 use Rattle.std.proofs.lemmas.Result.{err_from_is_err_and}
 use Rattle.kad_base.proofs.Grown.{grows_weaker}
 use Rattle.claim_book.specs.declared.plain.Setting.{Setting}
 use Rattle.claim_book.specs.Legal.{Legal}
 use Rattle.id_puzzles.specs.Drawn.{WordsState}
 use Rattle.lookup_run.specs.declared.plain.Work.{Work}
+use Rattle.lookup_run.specs.declared.plain.LookFault.TheVariants.{Strays}
 use Rattle.lookup_run.proofs.Early.{stops_of, ends_by_stray, on_err_of, passed_on}
+use Rattle.lookup_run.proofs.Fewer.{few_still}
 use Rattle.lookup_run.proofs.Receiving.{stray_of, datagram_receives, datagram_opens, quiet_receives}
 use Rattle.lookup_run.proofs.receive.receive.Goals as goal
 
@@ -25,7 +27,7 @@ returns-in_err-take_datagram-in-Ok-Packet-clause-strays g c is words =
     let grows = rw p.field-0-is at p.ensures.ok in
     let f = c.in_err-take_datagram-in-Ok-Packet in
     let out = err_from_is_err_and c.from_residual.result c.from_residual.ensures.1 in
-    let last = f.ensures.strays (passed_on c.from_residual.result out.0 f.field-0.0 out.1 out.2 is) in
+    let last = f.ensures.strays (passed_on Strays c.from_residual.result out.0 f.field-0.0 out.1 out.2 is) in
     ends_by_stray c.args.look.now words old _ _ p.from (take p.len c.recv.new.buf) c.wait_until-until.result p.at (λ s queries. stray_of old s p.from (take p.len c.recv.new.buf) queries last.none) grows last.last
 
 pub expire-requires : goal.expire-requires
@@ -59,3 +61,6 @@ returns-in-Err-clause-stops g c words =
     let old : Work = c.args.work.now in
     stops_of c.args.look.now words old old _ _ (subst (λ (s : Setting). Legal s old.book.journal) c.requires.may_receive.keeps.setting c.legal.ensures) refl
     (grows_weaker _ _ _ _ c.in-Err.ensures.err (λ es is. inl is))
+
+pub returns-in-Err-clause-few : goal.returns-in-Err-clause-few
+returns-in-Err-clause-few g c is words = few_still c.args.look.now words c.args.work.now _ _ c.requires.may_receive.keeps.few_strays c.in-Err.ensures.err

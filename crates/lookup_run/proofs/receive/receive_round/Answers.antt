@@ -1,7 +1,8 @@
 use Rattle.std.proofs.Common.{rules}
 use Rattle.std.proofs.lemmas.Result.{err_from_is_err_and}
+use Rattle.lookup_run.specs.declared.plain.LookFault.TheVariants.{LinkFault, Strays}
 use Rattle.lookup_run.proofs.Early.{on_err_of, passed_on}
-use Rattle.lookup_run.proofs.WholeRound.{next_receive, stops_after, stray_after}
+use Rattle.lookup_run.proofs.WholeRound.{next_receive, stops_after, stray_after, few_after}
 use Rattle.lookup_run.proofs.receive.receive_round.Goals as goal
 
 pub receiving-preserved : goal.receiving-preserved
@@ -20,4 +21,10 @@ pub returns-in_err-receive-2-clause-strays : goal.returns-in_err-receive-2-claus
 returns-in_err-receive-2-clause-strays g c is =
     let f = c.in_err-receive-2 in
     let out = err_from_is_err_and c.from_residual-in_err-receive-2.result c.from_residual-in_err-receive-2.ensures.1 in
-    stray_after c.args.look.now c.args.work.now c.receiving.work _ _ _ c.receiving.invariant.so_far (f.ensures.strays (passed_on c.from_residual-in_err-receive-2.result out.0 f.field-0.0 out.1 out.2 is))
+    stray_after c.args.look.now c.args.work.now c.receiving.work _ _ _ c.receiving.invariant.so_far (f.ensures.strays (passed_on Strays c.from_residual-in_err-receive-2.result out.0 f.field-0.0 out.1 out.2 is))
+
+pub returns-in_err-receive-2-clause-few : goal.returns-in_err-receive-2-clause-few
+returns-in_err-receive-2-clause-few g c is =
+    let f = c.in_err-receive-2 in
+    let out = err_from_is_err_and c.from_residual-in_err-receive-2.result c.from_residual-in_err-receive-2.ensures.1 in
+    few_after c.args.look.now c.args.work.now c.receiving.work _ _ _ c.receiving.invariant.so_far (f.ensures.few (passed_on LinkFault c.from_residual-in_err-receive-2.result out.0 f.field-0.0 out.1 out.2 is))

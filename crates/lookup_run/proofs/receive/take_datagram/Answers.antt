@@ -1,4 +1,4 @@
-use Rattle.std.proofs.Common.{refl, subst, sym, inl}
+use Rattle.std.proofs.Common.{refl, inl}
 use Rattle.lookup_run.specs.declared.plain.Work.{Work}
 use Rattle.lookup_run.proofs.Matching.{silent, unasked, taken_open, matches, takes_stray, is_last_stray}
 use Rattle.lookup_run.proofs.receive.take_datagram.Goals as goal

@@ -1,4 +1,4 @@
-use Rattle.std.proofs.Common.{rules, arith, ◌≡◌, ◌<◌, ◌^◌, ℕ, List, subst, sym, ◌∙◌, w64, to_z, of_z, ap}
+use Rattle.std.proofs.Common.{rules, arith, ◌≡◌, ◌<◌, subst, sym, w64, to_z, of_z}
 use Rattle.std.specs.Prelude.{ℤ}
 use Rattle.kad_base.specs.Words.{word_bytes}
 use Rattle.kad_krpc.specs.declared.message.Message.TheVariants as message
