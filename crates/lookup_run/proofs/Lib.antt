@@ -21,3 +21,4 @@ pub mod InOrder
 pub mod Fewer
 pub mod Looking
 pub mod WholeRound
+pub mod Rounding

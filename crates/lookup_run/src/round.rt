@@ -39,9 +39,14 @@ fn go_round<L: Link, C: Check>(
     if work.queries.is_empty() {
         return Ok(false);
     }
-    receive_round(alloc, link, work, buf, look)?;
-    settle_all(work, look, check)?;
-    Ok(true)
+    match receive_round(alloc, link, work, buf, look) {
+        Ok(()) => {}
+        Err(fault) => return Err(fault),
+    }
+    match settle_all(work, look, check) {
+        Ok(()) => Ok(true),
+        Err(fault) => Err(fault),
+    }
 }
 
 /// Goes round until every path has run out.
@@ -63,6 +68,11 @@ pub(crate) fn go_rounds<L: Link, C: Check>(
     ensures recv_faults { L.recv_faults link.old ≤ L.recv_faults link.new }
 {
     let mut buf = [0u8; RECEIVE_ROOM];
-    'rounds: while go_round(alloc, link, work, words, &mut buf, look, check)? {}
-    Ok(())
+    'rounds: loop {
+        match go_round(alloc, link, work, words, &mut buf, look, check) {
+            Ok(true) => {}
+            Ok(false) => return Ok(()),
+            Err(fault) => return Err(fault),
+        }
+    }
 }
