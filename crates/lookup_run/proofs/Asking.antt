@@ -39,7 +39,7 @@ use Rattle.lookup_run.specs.Tells.{Given, OpenQuery, Seen, is_driven, driven, gi
 use Rattle.lookup_run.specs.Rounds.{path_number, AllSettled, NoneAsks}
 use Rattle.lookup_run.specs.Gathered.{Answered}
 use Rattle.lookup_run.specs.Lookup.{setting_of, given_of, drawn_for, IsWithinLimits}
-use Rattle.lookup_run.specs.Standing.{as_open, Keeps, HasWords, weight_of, Stands}
+use Rattle.lookup_run.specs.Standing.{as_open, IsBare, Keeps, HasWords, weight_of, Stands}
 use Rattle.lookup_run.specs.Steps.{KeepsFor, Asks, AsksNone}
 use Rattle.lookup_run.proofs.Walking.{OneEvent, NextStep, along_next, along_later, table_same}
 use Rattle.lookup_run.proofs.Opens.{opens_ask, opens_lost, opens_kept, each_asked, asker_new, asker_kept, without_one, opens_distinct}
@@ -228,6 +228,7 @@ sent_asks look p c tx words words' old new told told' a rest book queries grows 
               (subst (AllByRecursion (λ (x : Query). x.deadline ≤ deadline_of old.stand.moment look.timeout)) (sym queries) (all_push (λ (x : Query). x.deadline ≤ deadline_of old.stand.moment look.timeout) old.queries q k.deadlines (omega arith)));
           few_strays = (let n = k.few_strays in omega (arith, n, same_strays));
           few_receives = (let n = k.few_receives in let e = ap (λ (x : Stand). x.receives) rest.stand in omega (arith, n, e));
+          no_peers = λ e. subst IsBare (sym rest.gathered) (k.no_peers e);
         };
         has_words = (let h = a.has_words in let d = ap (λ (w : WordsState). w.place) a.drawn in omega (arith, h, d, one));
         settled = subst (AllSettled look.paths) (sym journal) (all_settled look p J c a.legal a.settled);
@@ -276,6 +277,7 @@ unsent_asks look p c tx words words' old new told told' a rest book queries grow
               (subst (AllByRecursion (λ (x : Query). x.deadline ≤ deadline_of old.stand.moment look.timeout)) (sym queries) k.deadlines);
           few_strays = (let n = k.few_strays in omega (arith, n, same_strays));
           few_receives = (let n = k.few_receives in let e = ap (λ (x : Stand). x.receives) rest.stand in omega (arith, n, e));
+          no_peers = λ e. subst IsBare (sym rest.gathered) (k.no_peers e);
         };
         has_words = (let h = a.has_words in let d = ap (λ (w : WordsState). w.place) a.drawn in omega (arith, h, d, one));
         settled = subst (AllSettled look.paths) (sym journal) (λ q lt. settled_after_lost (setting_of look) p q J1 c SendFault l1 ∙ all_settled look p J c a.legal a.settled q lt);

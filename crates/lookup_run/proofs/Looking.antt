@@ -116,6 +116,7 @@ begins_of look words table table' book moment work told told' o =
         deadlines = subst (AllByRecursion (λ (q : Query). q.deadline ≤ deadline_of work.stand.moment look.timeout)) (sym b.none_open) tt;
         few_strays = (let z = ap (λ (x : Stand). x.strays) stand in omega (arith, z));
         few_receives = (let z = ap (λ (x : Stand). x.receives) stand in omega (arith, z));
+        no_peers = λ e. record { no_peers = b.no_peers; no_tokens = b.no_tokens };
       };
       has_words = (let lt = o.place in omega (arith, lt));
       round_over = ap (λ (x : Stand). x.receives) stand;
@@ -246,6 +247,10 @@ each_of_none xs (y ∷ ys) none h = (let has = subst (λ l. Contains l y) none (
 gathers_of : (kind : AskKind) (heard : List Answered) (g : Gathered) (peers : List Addr) (tokens : List Token) → Keeping kind heard g → IsEachOnce g.peers peers → tokens ≡ g.tokens → GathersOf kind heard peers tokens
 gathers_of FindNode heard g peers tokens h once is = (each_of_none g.peers peers h.0 once, is ∙ h.1)
 gathers_of GetPeers heard g peers tokens h once is = (subst (λ l. IsEachOnce l peers) h.0 once, is ∙ h.1)
+
+-- where no peers are asked for, there are none
+pub none_gathered : (look : LookSetting) (work : Work) (peers : List Addr) (tokens : List Token) → Keeps look work → IsEachOnce work.gathered.peers peers → tokens ≡ work.gathered.tokens → look.kind ≡ FindNode → (peers ≡ []) × (tokens ≡ [])
+none_gathered look work peers tokens k once is kind = (let none = k.no_peers kind in (each_of_none work.gathered.peers peers none.no_peers once, is ∙ none.no_tokens))
 
 -- what a lookup that is over has
 pub record Done (look : LookSetting) (start words' : WordsState) (table : TableState) (work : Work) (began told' : Option (List Event)) (o : Outcome) : Type 0 where

@@ -36,7 +36,7 @@ use Rattle.lookup_run.specs.Tells.{Given, OpenQuery, Seen, is_driven, driven, de
 use Rattle.lookup_run.specs.Rounds.{WaitsInTurn, InTurn}
 use Rattle.lookup_run.specs.Gathered.{Answered, HeardIn, Hears}
 use Rattle.lookup_run.specs.Lookup.{setting_of, given_of, told_of, TableTold}
-use Rattle.lookup_run.specs.Standing.{IsReply, as_open, Keeps, Stands}
+use Rattle.lookup_run.specs.Standing.{IsBare, IsReply, as_open, Keeps, Stands}
 use Rattle.lookup_run.specs.Steps.{query_to, IsDue, WaitsFor, goes_round, RepliesToNone, HearsIn, KeepsFor, Expires, IsStrayFor, IsMatchFor, TakesDatagram, MayReceive, ReceivesOne}
 use Rattle.lookup_run.proofs.Walking.{OneEvent, NextStep, along_next, seeds_append}
 use Rattle.lookup_run.proofs.Opens.{opens_heard, opens_lost, opens_distinct, opens_kept, without_one, each_asked}
@@ -338,8 +338,8 @@ later_deadlines : (m at timeout : ℕ) (qs : List Query) → m ≤ at → AllByR
 later_deadlines m at timeout [] le h = tt
 later_deadlines m at timeout (q ∷ qs) le h = ((let a = h.0 in omega (arith, a, le)), later_deadlines m at timeout qs le h.1)
 
-keeps_left : (look : LookSetting) (at : ℕ) (old new : Work) (first : List Entry) (left : List Query) → Left look at old new first left → Keeps look old → new.stand.strays < max_strays → RoundGoes old.stand new.stand new.queries → Keeps look new
-keeps_left look at old new first left l keeps strays round = record {
+keeps_left : (look : LookSetting) (at : ℕ) (old new : Work) (first : List Entry) (left : List Query) → Left look at old new first left → Keeps look old → new.stand.strays < max_strays → RoundGoes old.stand new.stand new.queries → (look.kind ≡ FindNode → new.gathered ≡ old.gathered) → Keeps look new
+keeps_left look at old new first left l keeps strays round bare = record {
   setting = l.setting ∙ keeps.setting;
   is_open = l.is_open;
   ids = subst (AllByRecursion (λ (q : Query). q.tx < 2 ^ 32)) (sym l.queries) (all_still (λ (q : Query). q.tx < 2 ^ 32) at left l.ids);
@@ -347,6 +347,7 @@ keeps_left look at old new first left l keeps strays round = record {
       (all_still (λ (q : Query). q.deadline ≤ deadline_of new.stand.moment look.timeout) at left (later_deadlines old.stand.moment new.stand.moment look.timeout left (subst (λ m. old.stand.moment ≤ m) (sym l.moment) l.later) l.deadlines));
   few_strays = strays;
   few_receives = few round;
+  no_peers = λ e. subst IsBare (sym (bare e)) (keeps.no_peers e);
 }
   where
     few : RoundGoes old.stand new.stand new.queries → new.stand.receives < max_round_receives
@@ -361,15 +362,15 @@ goes_count : (from to : Stand) (qs : List Query) → RoundGoes from to qs → (t
 goes_count from to qs (inl z) = inl z
 goes_count from to qs (inr more) = inr more.0
 
-receives_one : (look : LookSetting) (at : ℕ) (old new : Work) (first : List Entry) (left : List Query) (e : Event) (told told' : Option (List Event)) → Left look at old new first left → Keeps look old → new.stand.strays < max_strays → RoundGoes old.stand new.stand new.queries
+receives_one : (look : LookSetting) (at : ℕ) (old new : Work) (first : List Entry) (left : List Query) (e : Event) (told told' : Option (List Event)) → Left look at old new first left → Keeps look old → new.stand.strays < max_strays → RoundGoes old.stand new.stand new.queries → (look.kind ≡ FindNode → new.gathered ≡ old.gathered)
     → length new.queries + (max_strays - new.stand.strays) ≤ length old.queries + (max_strays - old.stand.strays)
     → (old.stand.receives ≡ 0 → length new.queries + (max_strays - new.stand.strays) < length old.queries + (max_strays - old.stand.strays))
     → ((words : WordsState) (start : WordsState) (s : Seen) → Stands (given_of look start) old words.place s → OneEvent (given_of look start) old new (first ++ closed_at at (map (as_open old.book.journal) left)) words.place 0 s e)
     → Grows told told' (λ es. es ≡ e ∷ []) → ReceivesOne look old new told told'
-receives_one look at old new first left e told told' l keeps strays round light first_light next grows =
+receives_one look at old new first left e told told' l keeps strays round bare light first_light next grows =
     let asks = same_asks look at old new first left l in
     record {
-      keeps = keeps_left look at old new first left l keeps strays round;
+      keeps = keeps_left look at old new first left l keeps strays round bare;
       some_open = goes_open old.stand new.stand new.queries round;
       round = goes_count old.stand new.stand new.queries round;
       same_asks = asks;
@@ -383,6 +384,11 @@ receives_one look at old new first left e told told' l keeps strays round light 
 
     no_heavier : (n m x y : ℕ) → n ≡ m → x ≤ y → 2 * (2048 - n) + x ≤ 2 * (2048 - m) + y
     no_heavier n m x y e le = omega (arith, e, le)
+
+-- nothing is kept where no peers are asked for
+kept_find : (kind : AskKind) (heard : List Answered) (g h : Gathered) → kind ≡ FindNode → KeepsFor kind heard g h → h ≡ g
+kept_find FindNode heard g h is k = k
+kept_find GetPeers heard g h is k = absurd cc
 
 keeps_none : (kind : AskKind) (g h : Gathered) → h ≡ g → KeepsFor kind [] g h
 keeps_none FindNode g h is = is
@@ -441,7 +447,7 @@ stray_receives look from bytes until at n old mid late told told' r t e is grows
     let few : late.stand.strays < max_strays = subst (λ (x : Stand). x.strays < max_strays) (sym e.stand) t.takes.few in
     let receives : old.stand.receives ≡ late.stand.receives = sym (ap (λ (x : Stand). x.receives) (e.stand ∙ t.takes.after)) in
     let light = light_stray (length late.queries) (length old.queries) old.stand.strays late.stand.strays (fewer_left look at old new [] old.queries l) strays few in
-    receives_one look at old new [] old.queries (Got from bytes until at) told told' l keeps few (round_goes late.stand.receives old.stand stand late.queries receives is)
+    receives_one look at old new [] old.queries (Got from bytes until at) told told' l keeps few (round_goes late.stand.receives old.stand stand late.queries receives is) (λ k. e.gathered ∙ t.gathered)
     (omega (arith, light)) (λ z. light)
     (λ words start s st. one_quiet look words start at old new s (Got from bytes until at) (s.strays + 1) (goes_on s.receives (open_at at s.queries)) l st (e.gathered ∙ t.gathered)
     (ap (λ m. m + 1) st.strays ∙ sym strays)
@@ -470,7 +476,7 @@ quiet_receives look until at old late told told' r le e grows =
     let strays : late.stand.strays ≡ old.stand.strays = ap (λ (x : Stand). x.strays) e.stand in
     let few : late.stand.strays < max_strays = (let f = keeps.few_strays in omega (arith, f, strays)) in
     let fewer = fewer_left look at old new [] old.queries l in
-    receives_one look at old new [] old.queries (Quiet until at) told told' l keeps few (inl refl) (omega (arith, fewer, strays))
+    receives_one look at old new [] old.queries (Quiet until at) told told' l keeps few (inl refl) (λ k. e.gathered) (omega (arith, fewer, strays))
     (λ z. quiet_light old.stand.receives at until late.stand.strays old.stand.strays old.queries late.queries old.stand.moment l.queries strays le z r.waits)
     (λ words start s st. one_quiet look words start at old new s (Quiet until at) s.strays 0 l st e.gathered (st.strays ∙ sym strays) refl
     (subst (λ J. Receives (given_of look start) J s until) (sym l.journal) (receives_of look start old ([] ++ closed_at at (map (as_open old.book.journal) old.queries)) words.place s until r.may r.waits st), refl)
@@ -536,7 +542,7 @@ match_receives look from bytes until at n old mid late told told' r m e is grows
     let one : length old.queries ≡ length m.before + suc (length m.behind) = ap length m.was_open ∙ length-append m.before (m.query ∷ m.behind) in
     let two : length left ≡ length m.before + length m.behind = length-append m.before m.behind in
     let light : length late.queries + (max_strays - late.stand.strays) < length old.queries + (max_strays - old.stand.strays) = omega (arith, fewer, strays, one, two) in
-    receives_one look at old new (entry ∷ []) left (Got from bytes until at) told told' l keeps few (round_goes late.stand.receives old.stand stand late.queries receives is)
+    receives_one look at old new (entry ∷ []) left (Got from bytes until at) told told' l keeps few (round_goes late.stand.receives old.stand stand late.queries receives is) (λ k. e.gathered ∙ kept_find look.kind m.heard old.gathered mid.gathered k m.keeps_for)
     (omega (arith, light)) (λ z. light)
     (λ words start s st. record {
       after = after_match s at entry (map (as_open J) left);

@@ -9,7 +9,7 @@ use Rattle.claim_book.specs.Journal.{asked}
 use Rattle.lookup_run.specs.declared.plain.LookSetting.{LookSetting}
 use Rattle.lookup_run.specs.declared.plain.Work.{Work}
 use Rattle.lookup_run.specs.Standing.{HasWords, weight_of, Along, Goes}
-use Rattle.lookup_run.specs.Steps.{Asks, ReceivesAll, SettlesPaths, Begins, GoesRound, IsOver, Stops, StopsRound, EndsByStray, RoundEndsByStray}
+use Rattle.lookup_run.specs.Steps.{Asks, ReceivesAll, SettlesPaths, Begins, GoesRound, IsOver, Stops, StopsRound, EndsByStray, RoundEndsByStray, FewStrays, RoundFewStrays}
 
 pub round_over : (look : LookSetting) (words words' : WordsState) (old new : Work) (told told' : Option (List Event)) → Asks look 0 look.paths words words' old new told told' → new.queries ≡ [] → IsOver look words words' old new told told'
 round_over look words words' old new told told' a none = record {
@@ -76,3 +76,9 @@ rounds_stop look w x y a b c t u v h k start table began al = k start table bega
 
 pub rounds_stray : (look : LookSetting) (w x : WordsState) (a b : Work) (t u v : Option (List Event)) → Rounding look w x a b t u → RoundEndsByStray look x b u v → RoundEndsByStray look w a t v
 rounds_stray look w x a b t u v h k start table began al = k start table began (h.goes start table began al)
+
+pub few_receiving : (look : LookSetting) (words words' : WordsState) (a b : Work) (t u v : Option (List Event)) → Asks look 0 look.paths words words' a b t u → FewStrays look words' b u v → RoundFewStrays look words a t v
+few_receiving look words words' a b t u v asks few start table began h = few start table began look.paths look.paths (asks.goes look.paths start table began h)
+
+pub rounds_few : (look : LookSetting) (w x : WordsState) (a b : Work) (t u v : Option (List Event)) → Rounding look w x a b t u → RoundFewStrays look x b u v → RoundFewStrays look w a t v
+rounds_few look w x a b t u v r few start table began h = few start table began (r.goes start table began h)

@@ -30,7 +30,7 @@ use Rattle.lookup_run.specs.declared.plain.Work.{Work}
 use Rattle.lookup_run.specs.Tells.{Given, driven, begun, deadline_of}
 use Rattle.lookup_run.specs.Rounds.{path_number, SettlesIn, SettlesFrom, AllSettled}
 use Rattle.lookup_run.specs.Lookup.{setting_of, given_of, drawn_for, Told, told_of, told_in, table_calls, TableTold, TableRan}
-use Rattle.lookup_run.specs.Standing.{as_open, Keeps, Keeping, Walk, Stands, Shows, Along, Goes}
+use Rattle.lookup_run.specs.Standing.{IsBare, as_open, Keeps, Keeping, Walk, Stands, Shows, Along, Goes}
 use Rattle.lookup_run.specs.Steps.{SettlesPaths, Ended, Stops}
 use Rattle.lookup_run.proofs.Driven.{driven_append}
 use Rattle.lookup_run.proofs.Early.{early_now}
@@ -161,6 +161,7 @@ settles_path look p old new told k over below h here queries stand gathered =
         deadlines = subst (λ x. AllByRecursion (λ (q : Query). q.deadline ≤ deadline_of x.moment look.timeout) new.queries) (sym stand) (subst (AllByRecursion (λ (q : Query). q.deadline ≤ deadline_of old.stand.moment look.timeout)) (sym queries) k.deadlines);
         few_strays = subst (λ x. x.strays < max_strays) (sym stand) k.few_strays;
         few_receives = subst (λ x. x.receives < max_round_receives) (sym stand) k.few_receives;
+        no_peers = λ e. subst IsBare (sym gathered) (k.no_peers e);
       };
       settled = settled_more p J h.more J' h.journal quiet below here;
       stand = stand;

@@ -64,6 +64,11 @@ pub record IsReply (bytes : List ℕ) (said : Said) : Type 0 where
 abbrev pub as_open : List Entry → Query → OpenQuery
 as_open J q = record { path = asker q.contact J; contact = q.contact; tx = q.tx; deadline = q.deadline }
 
+-- nothing was gathered
+pub record IsBare (gathered : Gathered) : Type 0 where
+  pub no_peers : gathered.peers ≡ []
+  pub no_tokens : gathered.tokens ≡ []
+
 -- the book is that of the lookup, and its open contacts are those of the open queries, in order
 pub record Keeps (look : LookSetting) (work : Work) : Type 0 where
   pub setting : work.book.setting ≡ setting_of look
@@ -72,6 +77,7 @@ pub record Keeps (look : LookSetting) (work : Work) : Type 0 where
   pub deadlines : AllByRecursion (λ (q : Query). q.deadline ≤ deadline_of work.stand.moment look.timeout) work.queries
   pub few_strays : work.stand.strays < max_strays
   pub few_receives : work.stand.receives < max_round_receives
+  pub no_peers : look.kind ≡ FindNode → IsBare work.gathered
 
 -- there is a word for each contact that may still be asked
 abbrev pub HasWords : WordsState → List Entry → Type 0

@@ -140,6 +140,10 @@ abbrev pub FewStrays : LookSetting → WordsState → Work → Option (List Even
 FewStrays look words old told told' =
     (start : WordsState) (table : TableState) (began : Option (List Event)) (b a : ℕ) → Along look start table began words old b a told → Grows began told' (λ events. ¬ EndsAtStray (given_of look start) events max_strays)
 
+abbrev pub RoundFewStrays : LookSetting → WordsState → Work → Option (List Event) → Option (List Event) → Type 0
+RoundFewStrays look words old told told' =
+    (start : WordsState) (table : TableState) (began : Option (List Event)) → Along look start table began words old look.paths 0 told → Grows began told' (λ events. ¬ EndsAtStray (given_of look start) events max_strays)
+
 -- ---- receiving
 
 -- how long a receive waits: to the earliest deadline where it begins a round, and else not at all

@@ -115,6 +115,7 @@ pub fn look_up_alone<L: Link, C: Check>(
     ensures table_left { IfErr result.1 (λ fault. TableRan table result.0) }
     ensures strays { IsErrOf result.1 LookFault.Strays → Grows (L.told link.old) (L.told link.new) (λ events. EndsAtStray (given_of setting.now words.old) events max_strays) }
     ensures few { IfOk result.1 (λ outcome. Grows (L.told link.old) (L.told link.new) (λ events. ¬ EndsAtStray (given_of setting.now words.old) events max_strays)) }
+    ensures few_at_fault { IsErrOf result.1 LookFault.LinkFault → Grows (L.told link.old) (L.told link.new) (λ events. ¬ EndsAtStray (given_of setting.now words.old) events max_strays) }
     ensures link { IsErrOf result.1 LookFault.LinkFault → Rose (L.recv_faults link.old) (L.recv_faults link.new) }
     ensures recv_faults { L.recv_faults link.old ≤ L.recv_faults link.new }
 {

@@ -2,7 +2,7 @@
 ghost use Rattle.std.specs.Prelude.{◌≡◌, ◌≤◌, ◌<◌, length, true, false, IfOk, OnOk, OnErr, IsErrOf};
 ghost use Rattle.kad_base.specs.Outside.{Rose};
 ghost use Rattle.lookup_run.specs.Lookup.{IsWithinLimits};
-ghost use Rattle.lookup_run.specs.Steps.{Begins, GoesRound, IsOver, StopsRound, RoundEndsByStray};
+ghost use Rattle.lookup_run.specs.Steps.{Begins, GoesRound, IsOver, StopsRound, RoundEndsByStray, RoundFewStrays};
 
 use crate::ask::ask_all;
 use crate::plain::{LookFault, LookSetting, Work};
@@ -32,6 +32,7 @@ fn go_round<L: Link, C: Check>(
     ensures moment { OnOk result (L.moment link.new ≡ work.new.stand.moment) }
     ensures stops { OnErr result (StopsRound look.now words.old words.new work.old work.new (L.told link.old) (L.told link.new)) }
     ensures strays { IsErrOf result LookFault.Strays → RoundEndsByStray look.now words.old work.old (L.told link.old) (L.told link.new) }
+    ensures few { IsErrOf result LookFault.LinkFault → RoundFewStrays look.now words.old work.old (L.told link.old) (L.told link.new) }
     ensures link { IsErrOf result LookFault.LinkFault → Rose (L.recv_faults link.old) (L.recv_faults link.new) }
     ensures recv_faults { L.recv_faults link.old ≤ L.recv_faults link.new }
 {
@@ -64,6 +65,7 @@ pub(crate) fn go_rounds<L: Link, C: Check>(
     ensures over { OnOk result (IsOver look.now words.old words.new work.old work.new (L.told link.old) (L.told link.new)) }
     ensures stops { OnErr result (StopsRound look.now words.old words.new work.old work.new (L.told link.old) (L.told link.new)) }
     ensures strays { IsErrOf result LookFault.Strays → RoundEndsByStray look.now words.old work.old (L.told link.old) (L.told link.new) }
+    ensures few { IsErrOf result LookFault.LinkFault → RoundFewStrays look.now words.old work.old (L.told link.old) (L.told link.new) }
     ensures link { IsErrOf result LookFault.LinkFault → Rose (L.recv_faults link.old) (L.recv_faults link.new) }
     ensures recv_faults { L.recv_faults link.old ≤ L.recv_faults link.new }
 {

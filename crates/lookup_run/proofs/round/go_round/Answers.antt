@@ -1,6 +1,6 @@
 use Rattle.std.proofs.Common.{◌≡◌, None, Err, ◌∙◌, ap, sym, refl}
-use Rattle.lookup_run.specs.declared.plain.LookFault.TheVariants.{Strays}
-use Rattle.lookup_run.proofs.Rounding.{round_over, round_more, stops_receiving, strays_receiving, stops_settling_round}
+use Rattle.lookup_run.specs.declared.plain.LookFault.TheVariants.{Strays, LinkFault}
+use Rattle.lookup_run.proofs.Rounding.{round_over, round_more, stops_receiving, strays_receiving, few_receiving, stops_settling_round}
 use Rattle.lookup_run.proofs.round.go_round.Goals as goal
 
 pub returns-then-is_empty-clause-over : goal.returns-then-is_empty-clause-over
@@ -26,3 +26,8 @@ pub returns-in-Err-settle_all-clause-stops : goal.returns-in-Err-settle_all-clau
 returns-in-Err-settle_all-clause-stops g c =
     let told = g.L.Link.told c.receive_round.new.link in
     stops_settling_round c.args.look.now c.args.words.now c.ask_all.new.words c.args.work.now c.ask_all.new.work c.receive_round.new.work c.settle_all.new.work _ _ told c.ask_all.ensures.asks c.in-Ok.ensures.ok (c.in-Err-settle_all.ensures.stops told c.ask_all.new.words)
+
+pub returns-in-Err-clause-few : goal.returns-in-Err-clause-few
+returns-in-Err-clause-few g c is =
+    let fault : c.in-Err.fault ≡ LinkFault = cc in
+    few_receiving c.args.look.now c.args.words.now c.ask_all.new.words c.args.work.now c.ask_all.new.work _ _ _ c.ask_all.ensures.asks (c.in-Err.ensures.few (ap (λ x. Err x) fault) c.ask_all.new.words)

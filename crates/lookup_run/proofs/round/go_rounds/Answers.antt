@@ -1,6 +1,6 @@
 use Rattle.std.proofs.Common.{◌≡◌, Err, refl, arith, ap, rules}
-use Rattle.lookup_run.specs.declared.plain.LookFault.TheVariants.{Strays}
-use Rattle.lookup_run.proofs.Rounding.{rounds_none, rounds_then, rounds_over, rounds_stop, rounds_stray}
+use Rattle.lookup_run.specs.declared.plain.LookFault.TheVariants.{Strays, LinkFault}
+use Rattle.lookup_run.proofs.Rounding.{rounds_none, rounds_then, rounds_over, rounds_stop, rounds_stray, rounds_few}
 use Rattle.lookup_run.proofs.round.go_rounds.Goals as goal
 
 pub rounds-init : goal.rounds-init
@@ -31,3 +31,8 @@ pub returns-in-Err-clause-strays : goal.returns-in-Err-clause-strays
 returns-in-Err-clause-strays g c is = 
     let fault : c.in-Err.fault ≡ Strays = cc in
     rounds_stray c.args.look.now c.args.words.now c.rounds.words c.args.work.now c.rounds.work _ _ _ c.rounds.invariant.rounding (c.in-Err.ensures.strays (ap (λ x. Err x) fault))
+
+pub returns-in-Err-clause-few : goal.returns-in-Err-clause-few
+returns-in-Err-clause-few g c is =
+    let fault : c.in-Err.fault ≡ LinkFault = cc in
+    rounds_few c.args.look.now c.args.words.now c.rounds.words c.args.work.now c.rounds.work _ _ _ c.rounds.invariant.rounding (c.in-Err.ensures.few (ap (λ x. Err x) fault))
