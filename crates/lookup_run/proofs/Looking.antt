@@ -44,13 +44,14 @@ use Rattle.lookup_run.specs.declared.plain.Outcome.{Outcome}
 use Rattle.lookup_run.specs.declared.plain.Stand.{Stand}
 use Rattle.lookup_run.specs.declared.plain.Token.{Token}
 use Rattle.lookup_run.specs.declared.plain.Work.{Work}
-use Rattle.lookup_run.specs.Tells.{Given, Seen, driven, begun, deadline_of, TellsSoFar, Tells}
+use Rattle.lookup_run.specs.Tells.{Given, Seen, driven, begun, deadline_of, TellsSoFar, Tells, EndsAtStray}
 use Rattle.lookup_run.specs.Rounds.{SettlesIn, AllSettled, NoneAsks, RoundsFrom, Rounds}
 use Rattle.lookup_run.specs.Gathered.{Answered, HearsFrom, IsEachOnce, GathersOf, Gathers}
 use Rattle.lookup_run.specs.Lookup.{setting_of, given_of, seeds_in, drawn_for, IsWithinLimits, told_of, table_calls, LooksUp, TellsEarly, Unfinished, TableRan, TableTold}
 use Rattle.lookup_run.specs.Standing.{as_open, Keeps, HasWords, Walk, Stands, Keeping, Shows, Along}
 use Rattle.lookup_run.specs.Steps.{Begins, IsOver, IsDone, IsBookOf, asks_seeds, IsBegun, Ended}
 use Rattle.lookup_run.proofs.Early.{so_far_of, ran_of}
+use Rattle.lookup_run.proofs.Fewer.{few_along}
 
 -- ---- a journal of seeds alone
 
@@ -359,3 +360,44 @@ is_done book after o same found journal legal =
       found = found.is_result ∙ ap (result_of book.setting) (sym is);
       counted = subst (λ J. Counted J o.counts) (sym is) found.counted;
     }
+
+-- ---- the whole
+
+-- a lookup that goes its rounds from its opening to where it is over
+pub done_from : (look : LookSetting) (words words' : WordsState) (table table' : TableState) (book : BookState) (moment : ℕ) (begun_ work : Work) (told mid told' : Option (List Event)) (o : Outcome) → Opening look words table table' book moment begun_ told mid → IsOver look words words' begun_ work mid told' → IsDone work.book o
+    → Done look words words' table work told told' o
+done_from look words words' table table' book moment begun_ work told mid told' o opening over done = record {
+  keeps = over.keeps;
+  none_open = over.none_open;
+  settled = over.settled;
+  none_asks = over.none_asks;
+  along = over.goes words table told (along_of look words table table' book moment begun_ told mid opening);
+  done = done;
+}
+
+pub opening_of : (look : LookSetting) (words : WordsState) (table table' : TableState) (book : BookState) (moment : ℕ) (work : Work) (told told' : Option (List Event)) → IsBookOf look table book → TableTold (asks_seeds look) table table' → IsBegun book table' moment work → Grows told told' (λ es. es ≡ Now moment ∷ []) → words.place < 2 ^ 59
+    → Opening look words table table' book moment work told told'
+opening_of look words table table' book moment work told told' b t w g lt = record { book_of = b; tabled = t; begun_at = w; grows = g; place = lt }
+
+-- a lookup that was over, and for which there was no memory
+pub over_left : (look : LookSetting) (words words' : WordsState) (table table' : TableState) (book : BookState) (moment : ℕ) (begun_ work : Work) (told mid told' : Option (List Event)) → Opening look words table table' book moment begun_ told mid → IsOver look words words' begun_ work mid told' → Legal work.book.setting work.book.journal
+    → Ended look words table told words' work.table told'
+over_left look words words' table table' book moment begun_ work told mid told' opening over legal =
+    over_ended look words words' table work told told' look.paths look.paths (subst (λ (s : Setting). Legal s work.book.journal) over.keeps.setting legal) (over.goes words table told (along_of look words table table' book moment begun_ told mid opening))
+
+pub few_over : (look : LookSetting) (words words' : WordsState) (table table' : TableState) (book : BookState) (moment : ℕ) (begun_ work : Work) (told mid told' : Option (List Event)) → Opening look words table table' book moment begun_ told mid → IsOver look words words' begun_ work mid told'
+    → Grows told told' (λ events. ¬ EndsAtStray (given_of look words) events max_strays)
+few_over look words words' table table' book moment begun_ work told mid told' opening over =
+    few_along look words table told words' work look.paths look.paths told' over.keeps.few_strays (over.goes words table told (along_of look words table table' book moment begun_ told mid opening))
+
+pub ok_three : {T F : Type 0} (r : Result T F) (P Q R S : T → Type 0) → IfOk r P → IfOk r Q → IfOk r R → ((x : T) → P x → Q x → R x → S x) → IfOk r S
+ok_three (Ok x) P Q R S a b c k = k x a b c
+ok_three (Err e) P Q R S a b c k = tt
+
+pub ok_any : {T F : Type 0} (r : Result T F) (X : Type 0) → X → IfOk r (λ _. X)
+ok_any (Ok x) X h = h
+ok_any (Err e) X h = tt
+
+pub err_any : {T F : Type 0} (r : Result T F) (X : Type 0) → X → IfErr r (λ _. X)
+err_any (Ok x) X h = tt
+err_any (Err e) X h = h
