@@ -24,6 +24,7 @@ use id_puzzles::Words;
 use kad_base::{Check, Contacts, Link, NoMemory, Serial};
 use query_book::Queries;
 use std::alloc::Global;
+use std::hash::RandomState;
 
 /// The contacts that the lookup begins with: the k closest of the table.
 fn seeds_of(table: &mut Table, look: &LookSetting) -> Result<Contacts, NoMemory>
@@ -62,7 +63,12 @@ fn finish(mut book: Book, gathered: Gathered) -> Result<Outcome, LookFault>
 }
 
 /// A book that begins with the closest contacts of the table. Without memory the table is as it was.
-fn open_book(alloc: Global, table: &mut Table, look: &LookSetting) -> Result<Book, NoMemory>
+fn open_book(
+    alloc: Global,
+    table: &mut Table,
+    look: &LookSetting,
+    hasher: RandomState,
+) -> Result<Book, NoMemory>
     requires limits { IsWithinLimits look.now }
     requires usable { All (IsUsable look.now.own) (contacts_of table.old) }
     ensures book { IfOk result (IsBookOf look.now table.old) }
@@ -70,7 +76,7 @@ fn open_book(alloc: Global, table: &mut Table, look: &LookSetting) -> Result<Boo
     ensures err { OnErr result (table.new ≡ table.old) }
 {
     let seeds = seeds_of(table, look)?;
-    Book::new(alloc, look.setting(), seeds.as_slice())
+    Book::new(alloc, look.setting(), seeds.as_slice(), hasher)
 }
 
 /// What a lookup keeps where it begins, at the moment that the link tells.
@@ -94,7 +100,8 @@ fn begin<L: Link>(alloc: Global, link: &mut L, table: Table, book: Book) -> Work
 
 /// Looks the target up from the k closest contacts of the table, and tells the table who answered and who didn't: asks,
 /// receives and settles in rounds until every path has run out. The table comes back on every answer. It waits for
-/// nobody but the link, and returns for every link.
+/// nobody but the link, and returns for every link. Strangers choose the contacts, so the hasher of the book's index is
+/// handed in; no answer depends on it.
 pub fn look_up_alone<L: Link, C: Check>(
     alloc: Global,
     link: &mut L,
@@ -102,6 +109,7 @@ pub fn look_up_alone<L: Link, C: Check>(
     table: Table,
     setting: &LookSetting,
     check: &C,
+    hasher: RandomState,
 ) -> (Table, Result<Outcome, LookFault>)
     requires limits { IsWithinLimits setting.now }
     requires usable { All (IsUsable setting.now.own) (contacts_of table) }
@@ -120,7 +128,7 @@ pub fn look_up_alone<L: Link, C: Check>(
     ensures recv_faults { L.recv_faults link.old ≤ L.recv_faults link.new }
 {
     let mut table = table;
-    let book = match open_book(alloc, &mut table, setting) {
+    let book = match open_book(alloc, &mut table, setting, hasher) {
         Ok(book) => book,
         Err(_) => return (table, Err(LookFault::NoMemory)),
     };

@@ -16,6 +16,7 @@ use id_puzzles::{Sha1Check, Words};
 use kad_base::{Addr, Id, Policy, Serial, is_usable};
 use script::{Reply, contact, link, peers_link};
 use std::alloc::Global;
+use std::hash::RandomState;
 use std::test::Fail;
 
 const OWN: Id = Id([255; 20]);
@@ -64,6 +65,7 @@ fn play(
     paths: u8,
     kind: AskKind,
     link: &mut ScriptLink,
+    hasher: RandomState,
 ) -> Result<(Table, Outcome), Fail>
     requires some { 1 ≤ paths }
     requires few { paths ≤ 8 }
@@ -71,7 +73,7 @@ fn play(
     let table = table_of(alloc, own, contacts)?;
     let look = setting(own, paths, kind);
     let mut words = Words::new(&[0; 32], 5);
-    let (table, result) = look_up_alone(alloc, link, &mut words, table, &look, &Sha1Check);
+    let (table, result) = look_up_alone(alloc, link, &mut words, table, &look, &Sha1Check, hasher);
     match result {
         Ok(outcome) => Ok((table, outcome)),
         Err(_) => Err(Fail::new("it ended early")),
@@ -90,7 +92,15 @@ fn two_paths_find_what_each_learns(rt: HostRuntime) -> Result<(), Fail> {
     };
     let replies = [first, second, Reply::of(3, 20), Reply::of(4, 20)];
     let mut link = link(rt.alloc(), &replies)?;
-    let (_table, outcome) = play(rt.alloc(), OWN, &[1, 2], 2, AskKind::FindNode, &mut link)?;
+    let (_table, outcome) = play(
+        rt.alloc(),
+        OWN,
+        &[1, 2],
+        2,
+        AskKind::FindNode,
+        &mut link,
+        RandomState::new(&rt)?,
+    )?;
     let all = [contact(1), contact(2), contact(3), contact(4)];
     assert_eq!(rt; outcome.found.as_slice(), all.as_slice());
     assert_eq!(rt; outcome.counts.asked, 4);
@@ -101,7 +111,15 @@ fn two_paths_find_what_each_learns(rt: HostRuntime) -> Result<(), Fail> {
 #[test]
 fn the_table_is_told_who_is_silent(rt: HostRuntime) -> Result<(), Fail> {
     let mut link = link(rt.alloc(), &[Reply::of(1, 10)])?;
-    let (mut table, outcome) = play(rt.alloc(), OWN, &[1, 2], 1, AskKind::FindNode, &mut link)?;
+    let (mut table, outcome) = play(
+        rt.alloc(),
+        OWN,
+        &[1, 2],
+        1,
+        AskKind::FindNode,
+        &mut link,
+        RandomState::new(&rt)?,
+    )?;
     assert_eq!(rt; outcome.found.as_slice(), [contact(1)].as_slice());
     let contact = contact(2);
     let reply = table.apply(0, TableCall::Failed { contact });
@@ -124,7 +142,15 @@ fn peer(port: u16) -> Addr {
 #[test]
 fn peers_stand_once_and_tokens_with_their_contacts(rt: HostRuntime) -> Result<(), Fail> {
     let mut link = peers_link(rt.alloc())?;
-    let (_table, outcome) = play(rt.alloc(), OWN, &[1, 2], 1, AskKind::GetPeers, &mut link)?;
+    let (_table, outcome) = play(
+        rt.alloc(),
+        OWN,
+        &[1, 2],
+        1,
+        AskKind::GetPeers,
+        &mut link,
+        RandomState::new(&rt)?,
+    )?;
     let peers = [peer(7000), peer(7001), peer(7002)];
     assert_eq!(rt; outcome.peers.as_slice(), peers.as_slice());
     assert_eq!(rt; outcome.tokens.len(), 2);

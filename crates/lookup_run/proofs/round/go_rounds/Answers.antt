@@ -28,7 +28,7 @@ pub returns-in-Err-clause-stops : goal.returns-in-Err-clause-stops
 returns-in-Err-clause-stops g c = rounds_stop c.args.look.now c.args.words.now c.rounds.words c.go_round.new.words c.args.work.now c.rounds.work c.go_round.new.work _ _ _ c.rounds.invariant.rounding c.in-Err.ensures.stops
 
 pub returns-in-Err-clause-strays : goal.returns-in-Err-clause-strays
-returns-in-Err-clause-strays g c is = 
+returns-in-Err-clause-strays g c is =
     let fault : c.in-Err.fault ≡ Strays = cc in
     rounds_stray c.args.look.now c.args.words.now c.rounds.words c.args.work.now c.rounds.work _ _ _ c.rounds.invariant.rounding (c.in-Err.ensures.strays (ap (λ x. Err x) fault))
 
