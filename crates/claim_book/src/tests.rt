@@ -1,6 +1,10 @@
 ghost use Rattle.std.specs.Prelude.{◌<◌, IfOk};
 ghost use Rattle.claim_book.specs.Calls.{BookMay};
 
+mod compare;
+mod large;
+mod plain_book;
+
 use super::*;
 use kad_base::{Addr, Check, Contact, Id, Ip, List, NoMemory, Policy, Report, Serial, is_usable};
 use kad_distance::closer;
