@@ -333,15 +333,7 @@ fn call_one(
         ),
         5 => {
             let role = 1 + dice.roll(9) as u8;
-            both(
-                rt,
-                alloc,
-                book,
-                plain,
-                role,
-                BookCall::Pull,
-                BookCall::Pull,
-            )
+            both(rt, alloc, book, plain, role, BookCall::Pull, BookCall::Pull)
         }
         _ => settle_one(rt, alloc, book, plain, dice, nodes),
     }
@@ -388,12 +380,7 @@ fn call_all(
 }
 
 /// Some of those that may be asked.
-fn known(
-    alloc: Global,
-    own: &Id,
-    dice: &mut Dice,
-    nodes: &[Report],
-) -> Result<Vec<Contact>, Fail> {
+fn known(alloc: Global, own: &Id, dice: &mut Dice, nodes: &[Report]) -> Result<Vec<Contact>, Fail> {
     let mut known = Vec::new(alloc);
     for report in nodes {
         if is_usable(own, &report.contact) && dice.roll(3) == 0 {

@@ -188,8 +188,7 @@ fn round(
     let mut all = (from, 0u32, 0u32);
     for path in 0..8u8 {
         if let Some(contact) = next(book, path) {
-            let (taken, turned) =
-                answered(rt, alloc, book, path + 1, contact, &sixteen(all.0))?;
+            let (taken, turned) = answered(rt, alloc, book, path + 1, contact, &sixteen(all.0))?;
             all = (
                 all.0.wrapping_add(16),
                 all.1.wrapping_add(taken),
@@ -214,22 +213,11 @@ fn first_contacts(alloc: Global, count: u16) -> Result<Vec<Contact>, Fail> {
 fn eight_paths_fill_up(rt: HostRuntime) -> Result<(), Fail> {
     let alloc = rt.alloc();
     let seeds = first_contacts(alloc, 8)?;
-    let mut book = begun(
-        &rt,
-        alloc,
-        RandomState::new(&rt)?,
-        20,
-        8,
-        seeds.as_slice(),
-    )?;
+    let mut book = begun(&rt, alloc, RandomState::new(&rt)?, 20, 8, seeds.as_slice())?;
     let mut all = (8u16, 0u32, 0u32);
     for _ in 0..20u8 {
         let (from, taken, turned) = round(&rt, alloc, &mut book, all.0)?;
-        all = (
-            from,
-            all.1.wrapping_add(taken),
-            all.2.wrapping_add(turned),
-        );
+        all = (from, all.1.wrapping_add(taken), all.2.wrapping_add(turned));
     }
     assert_eq!(rt; all, (2568, 2040, 520));
     let found = List::from_vec(first_contacts(alloc, 20)?);
