@@ -9,7 +9,7 @@ mod stdin;
 mod stdout;
 
 use id_puzzles::Sha1Check;
-use kad_base::{Addr, Ip};
+use kad_words::bind_of;
 use node_top::run;
 use std::alloc::AllocError;
 use std::hash::RandomState;
@@ -21,12 +21,6 @@ use std::{env, io};
 use stdin::StandardInput;
 use stdout::StandardOutput;
 use udp_link::UdpLink;
-
-/// Any IPv4 address of this machine, and a port that the system picks.
-const ANY: Addr = Addr {
-    ip: Ip::V4([0; 4]),
-    port: 0,
-};
 
 /// Why the node isn't started.
 #[derive(Clone, Copy, Debug, PartialEq, Eq)]
@@ -93,7 +87,7 @@ where
     let mut random = [0u8; 32];
     rt.fill_bytes(&mut random).map_err(|_| Refusal::Start)?;
     let hasher = RandomState::new(rt).map_err(|_| Refusal::Start)?;
-    let mut link = UdpLink::bind(rt, ANY).map_err(|_| Refusal::Socket)?;
+    let mut link = UdpLink::bind(rt, bind_of(words.as_slice())).map_err(|_| Refusal::Socket)?;
     let mut source = StandardInput::new(rt.reader());
     let mut sink = StandardOutput::new(rt);
     Ok(run(

@@ -1,89 +1,57 @@
--- One contact more is asked: its query is open, or it is lost at once.
-use Rattle.std.proofs.Common.{◌≡◌, ◌+◌, ◌^◌, ◌<◌, ◌≤◌, List, [], ◌∷◌, ◌++◌, length, Option, Some, None, refl, sym, ap, subst, ◌∙◌}
-use Rattle.std.proofs.lemmas.List.{append-nil, length-append}
-use Rattle.kad_base.specs.declared.plain.Contact.{Contact}
-use Rattle.kad_base.specs.declared.plain.Event.{Event}
-use Rattle.kad_base.specs.declared.plain.Event.TheVariants.{Sent, Unsent}
-use Rattle.kad_base.specs.Outside.{Grows}
-use Rattle.kad_base.specs.Words.{word}
-use Rattle.kad_krpc.specs.Form.{form, find_node_query}
-use Rattle.id_puzzles.specs.Drawn.{WordsState}
-use Rattle.claim_book.specs.declared.plain.Setting.{Setting}
-use Rattle.claim_book.specs.declared.plain.Cause.TheVariants.{SendFault}
-use Rattle.claim_book.specs.declared.plain.Entry.{Entry}
-use Rattle.claim_book.specs.declared.plain.Entry.TheVariants.{Ask, Lost}
-use Rattle.claim_book.specs.Journal.{seeds, asked, open_on, may_ask}
-use Rattle.claim_book.specs.Legal.{Legal}
-use Rattle.claim_book.specs.State.{BookState, added}
-use Rattle.claim_book.proofs.More.{asked_more, seeds_more}
-use Rattle.node_top.specs.declared.driver.plain.LookSetting.{LookSetting}
-use Rattle.node_top.specs.declared.driver.plain.Query.{Query}
-use Rattle.node_top.specs.declared.driver.plain.Stand.{Stand}
-use Rattle.node_top.specs.Tells.{deadline_of}
-use Rattle.node_top.specs.Standing.{contacts_of, Telling, HasSent, TellsOn, AsksOne}
-use Rattle.node_top.proofs.BookFacts.{open_asked, open_lost}
-use Rattle.node_top.proofs.Telling.{telling_next, sent_goes, unsent_goes}
+-- Words ask for a command that is built, or the words of none.
+use Rattle.std.proofs.Common.{◌≡◌, ◌≢◌, ℕ, zero, suc, ◌<◌, List, [], ◌∷◌, slice_index_or, Option, true, false, true≢false, refl, sym, ap, subst, ◌∙◌, arith}
+use Rattle.std.specs.Prelude.{bytes_eq, Contains}
+use Rattle.kad_base.specs.declared.plain.Id.{Id}
+use Rattle.kad_base.specs.declared.plain.Policy.{Policy}
+use Rattle.kad_words.specs.Table.{Word, lookup, peers, serve, check, mint, sim}
+use Rattle.kad_words.specs.Plain.{CommandOf, IsPlain, word_of}
+use Rattle.kad_words.specs.declared.command.Command.{Command}
+use Rattle.kad_words.specs.declared.command.Command.TheVariants.{Peers, Serve, Check, Mint, Sim}
+use Rattle.kad_words.specs.declared.command.LookWords.{LookWords}
+use Rattle.kad_words.proofs.OneCommand.{command_plain}
+use Rattle.node_top.specs.Asked.{Asks, BeginsBuilt, built}
 
--- an ask counts
-asks_one : (J : List Entry) (c : Contact) → length (asked (J ++ Ask 0 c ∷ [])) ≡ length (asked J) + 1
-asks_one J c = ap length (asked_more J (Ask 0 c)) ∙ length-append (asked J) (c ∷ [])
+begins_with : (words rest : List Word) (command : Word) → words ≡ command ∷ rest → BeginsBuilt words → Contains built command
+begins_with words rest command e b = subst BeginsBuilt e b
 
-asks_lost : (J : List Entry) (c : Contact) → length (asked ((J ++ Ask 0 c ∷ []) ++ Lost 0 c SendFault ∷ [])) ≡ length (asked J) + 1
-asks_lost J c = ap length (asked_more (J ++ Ask 0 c ∷ []) (Lost 0 c SendFault) ∙ append-nil (asked (J ++ Ask 0 c ∷ []))) ∙ asks_one J c
+pub asks_begins : (words : List Word) → Asks words → BeginsBuilt words
+asks_begins words h = subst BeginsBuilt (sym h.plain.begins) h.is_built
 
--- what an ask depends on
-pub record Asking (look : LookSetting) (stand : Stand) (words words' : WordsState) (old : BookState) (c : Contact) : Type 0 where
-  pub legal : Legal old.setting old.journal
-  pub may : may_ask old.setting 0 old.journal ≡ Some c
-  pub none_open : open_on 0 old.journal ≡ []
-  pub idle : stand.query ≡ None
-  pub small : word words.seed words.place < 2 ^ 32
-  pub drawn : words' ≡ record words { place = words.place + 1 }
+pub plain_asks : (words : List Word) → IsPlain words → BeginsBuilt words → Asks words
+plain_asks words h b = record { plain = h; is_built = begins_with words h.rest h.command h.begins b }
 
-sent_tells : (look : LookSetting) (stand : Stand) (words words' : WordsState) (old new : BookState) (c : Contact) (q : Query) (told told' : Option (List Event)) → Asking look stand words words' old c → new ≡ added old (Ask 0 c) → HasSent look.setting look.timeout stand.moment c words told told' (Some q) → TellsOn look stand (record stand { query = Some q }) words words' old new told told'
-sent_tells look stand words words' old new c q told told' a book sent g began is h =
-    let tx = word words.seed words.place in
-    let J = old.journal ++ Ask 0 c ∷ [] in
-    let grows = subst (λ (s : Setting). Grows told told' (λ es. es ≡ Sent c.addr (form (find_node_query s.own s.target tx)) ∷ [])) (sym is.setting) sent.0 in
-    let query : q ≡ record { contact = c; tx = tx; deadline = deadline_of stand.moment g.timeout } = sent.1 ∙ ap (λ t. record { contact = c; tx = tx; deadline = deadline_of stand.moment t }) (sym is.timeout) in
-    let one = telling_next g stand (record stand { query = Some (record { contact = c; tx = tx; deadline = deadline_of stand.moment g.timeout }) }) words.place (words.place + 1) old.journal J (Sent c.addr (form (find_node_query g.setting.own g.setting.target tx))) began told told'
-    (sent_goes g stand c old.journal words.place tx a.idle (ap (λ s. word s words.place) (sym is.seed)) a.small) h grows in
-    let two = subst (λ (x : Query). Telling g (record stand { query = Some x }) (words.place + 1) J began told') (sym query) one in
-    subst (λ p. Telling g (record stand { query = Some q }) p new.journal began told') (sym (ap (λ (d : WordsState). d.place) a.drawn))
-    (subst (λ K. Telling g (record stand { query = Some q }) (words.place + 1) K began told') (sym (ap (λ (b : BookState). b.journal) book)) two)
+pub command_built : (words : List Word) (command : Command) → CommandOf words command → BeginsBuilt words → Contains built (word_of command)
+command_built words command h b = begins_with words h.rest (word_of command) h.begins b
 
-pub sent_asks : (look : LookSetting) (stand : Stand) (words words' : WordsState) (old new : BookState) (c : Contact) (q : Query) (told told' : Option (List Event)) → Asking look stand words words' old c → new ≡ added old (Ask 0 c) → HasSent look.setting look.timeout stand.moment c words told told' (Some q) → length (asked new.journal) ≤ 256 → AsksOne look stand (record stand { query = Some q }) words words' old new told told'
-sent_asks look stand words words' old new c q told told' a book sent few = record {
-  drawn = a.drawn;
-  setting = ap (λ (b : BookState). b.setting) book;
-  is_open = ap (λ (b : BookState). open_on 0 b.journal) book ∙ open_asked old.setting old.journal c a.legal a.may a.none_open ∙ ap (λ (x : Query). x.contact ∷ []) (sym sent.1);
-  one_more = ap (λ (b : BookState). length (asked b.journal)) book ∙ asks_one old.journal c;
-  few = few;
-  same_seeds = ap (λ (b : BookState). seeds b.journal) book ∙ seeds_more old.journal (Ask 0 c) ∙ append-nil (seeds old.journal);
-  receives = refl;
-  strays = refl;
-  tells = sent_tells look stand words words' old new c q told told' a book sent;
-}
+pub command_asks : (words : List Word) (command : Command) → CommandOf words command → Contains built (word_of command) → Asks words
+command_asks words command h b =
+    let plain = command_plain words command h in
+    let first : word_of command ≡ plain.command = (let e = h.begins in let f = plain.begins in cc) in
+    record { plain = plain; is_built = subst (λ (w : Word). Contains built w) first b }
 
-unsent_tells : (look : LookSetting) (stand : Stand) (words words' : WordsState) (old new : BookState) (c : Contact) (told told' : Option (List Event)) → Asking look stand words words' old c → new ≡ added (added old (Ask 0 c)) (Lost 0 c SendFault) → HasSent look.setting look.timeout stand.moment c words told told' None → TellsOn look stand stand words words' old new told told'
-unsent_tells look stand words words' old new c told told' a book sent g began is h =
-    let tx = word words.seed words.place in
-    let J = (old.journal ++ Ask 0 c ∷ []) ++ Lost 0 c SendFault ∷ [] in
-    let grows = subst (λ (s : Setting). Grows told told' (λ es. es ≡ Unsent c.addr (form (find_node_query s.own s.target tx)) ∷ [])) (sym is.setting) sent in
-    let one = telling_next g stand stand words.place (words.place + 1) old.journal J (Unsent c.addr (form (find_node_query g.setting.own g.setting.target tx))) began told told'
-    (unsent_goes g stand c old.journal words.place tx a.idle (ap (λ s. word s words.place) (sym is.seed)) a.small) h grows in
-    subst (λ p. Telling g stand p new.journal began told') (sym (ap (λ (d : WordsState). d.place) a.drawn))
-    (subst (λ K. Telling g stand (words.place + 1) K began told') (sym (ap (λ (b : BookState). b.journal) book)) one)
+-- ---- the commands that are built
 
-pub unsent_asks : (look : LookSetting) (stand : Stand) (words words' : WordsState) (old new : BookState) (c : Contact) (told told' : Option (List Event)) → Asking look stand words words' old c → new ≡ added (added old (Ask 0 c)) (Lost 0 c SendFault) → HasSent look.setting look.timeout stand.moment c words told told' None → length (asked new.journal) ≤ 256 → AsksOne look stand stand words words' old new told told'
-unsent_asks look stand words words' old new c told told' a book sent few = record {
-  drawn = a.drawn;
-  setting = ap (λ (b : BookState). b.setting) book;
-  is_open = ap (λ (b : BookState). open_on 0 b.journal) book ∙ open_lost (old.journal ++ Ask 0 c ∷ []) c SendFault (open_asked old.setting old.journal c a.legal a.may a.none_open) ∙ sym (ap contacts_of a.idle);
-  one_more = ap (λ (b : BookState). length (asked b.journal)) book ∙ asks_lost old.journal c;
-  few = few;
-  same_seeds = ap (λ (b : BookState). seeds b.journal) book ∙ seeds_more (old.journal ++ Ask 0 c ∷ []) (Lost 0 c SendFault) ∙ append-nil (seeds (old.journal ++ Ask 0 c ∷ [])) ∙ seeds_more old.journal (Ask 0 c) ∙ append-nil (seeds old.journal);
-  receives = refl;
-  strays = refl;
-  tells = unsent_tells look stand words words' old new c told told' a book sent;
-}
+built_word : (w : Word) → Contains built w → lookup ≡ w
+built_word w h = go h.0 h.1 h.2
+  where
+    go : (k : ℕ) → k < 1 → slice_index_or built k w ≡ w → lookup ≡ w
+    go zero lt e = e
+    go (suc k) lt e = absurd (omega arith)
+
+other_word : (w : Word) → bytes_eq lookup w ≡ false → Contains built w → ⊥
+other_word w differs h = true≢false (ap (bytes_eq lookup) (built_word w h) ∙ differs)
+
+pub peers_not : (look : LookWords) (announce : Option ℕ) → Contains built (word_of (Peers look announce)) → ⊥
+peers_not look announce h = other_word peers refl h
+
+pub serve_not : (own : Option Id) (k bits : ℕ) (policy : Policy) (receives : ℕ) → Contains built (word_of (Serve own k bits policy receives)) → ⊥
+serve_not own k bits policy receives h = other_word serve refl h
+
+pub check_not : (policy : Policy) → Contains built (word_of (Check policy)) → ⊥
+check_not policy h = other_word check refl h
+
+pub mint_not : (seed : Option (List ℕ)) (c1 c2 tries : ℕ) → Contains built (word_of (Mint seed c1 c2 tries)) → ⊥
+mint_not seed c1 c2 tries h = other_word mint refl h
+
+pub sim_not : (seed : Option (List ℕ)) (nodes hostile k paths alpha timeout : ℕ) → Contains built (word_of (Sim seed nodes hostile k paths alpha timeout)) → ⊥
+sim_not seed nodes hostile k paths alpha timeout h = other_word sim refl h

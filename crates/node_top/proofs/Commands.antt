@@ -1,66 +1,52 @@
 -- From a lookup to the command that asked for it.
-use Rattle.std.proofs.Common.{◌≡◌, ◌≢◌, ℕ, zero, suc, ◌<◌, ◌≤◌, List, [], ◌∷◌, length, Option, Result, Ok, Err, IfErr, inl, inr, sym, ap, subst, ◌∙◌, arith}
+use Rattle.std.proofs.Common.{◌≡◌, ◌≢◌, ℕ, zero, suc, ◌<◌, ◌≤◌, List, [], ◌∷◌, length, Option, Result, Ok, Err, ◌⊎◌, inl, inr, refl, sym, ap, subst, ◌∙◌, arith}
+use Rattle.std.specs.Prelude.{map, IfOk, IfErr}
 use Rattle.std.specs.List.{All}
-use Rattle.std.specs.List.Sorted.{IsStrictlySortedBy}
+use Rattle.std.proofs.lemmas.List.Elements.{All-cons, All-nil}
 use Rattle.kad_base.specs.declared.plain.Id.{Id}
 use Rattle.kad_base.specs.declared.plain.Contact.{Contact}
 use Rattle.kad_base.specs.declared.plain.Report.{Report}
 use Rattle.kad_base.specs.declared.plain.Policy.{Policy}
 use Rattle.kad_base.specs.declared.plain.Event.{Event}
 use Rattle.kad_base.specs.Contacts.{IsUsable}
+use Rattle.kad_base.specs.Limits.{max_strays}
 use Rattle.kad_base.specs.Outside.{Grows}
-use Rattle.kad_distance.specs.Order.{closeness}
-use Rattle.kad_distance.specs.KClosest.{k_closest}
-use Rattle.kad_distance.proofs.Chosen.{closest_rises, closest_few, closest_all}
+use Rattle.kad_base.proofs.Grown.{grows_weaker}
 use Rattle.id_puzzles.specs.Drawn.{WordsState}
+use Rattle.contact_table.specs.TableState.{TableState}
+use Rattle.contact_table.specs.TableStep.{contacts_of}
+use Rattle.contact_table.specs.Told.{new_table}
 use Rattle.claim_book.specs.declared.plain.Setting.{Setting}
+use Rattle.claim_book.specs.declared.plain.Entry.{Entry}
 use Rattle.claim_book.specs.Journal.{asked, failed, turned}
-use Rattle.claim_book.specs.Legal.{Legal}
-use Rattle.claim_book.specs.RunOut.{RunOut}
 use Rattle.claim_book.specs.Result.{result_of}
 use Rattle.claim_book.proofs.Claims.{took_distinct, asked_distinct}
 use Rattle.claim_book.proofs.Ends.{found_answered}
-use Rattle.node_top.specs.declared.driver.plain.Outcome.{Outcome}
+use Rattle.lookup_run.specs.declared.plain.LookSetting.{LookSetting}
+use Rattle.lookup_run.specs.declared.plain.Outcome.{Outcome}
+use Rattle.lookup_run.specs.Tells.{Given, Tells, EndsAtStray}
+use Rattle.lookup_run.specs.Rounds.{Rounds}
+use Rattle.lookup_run.specs.Lookup.{IsWithinLimits, given_of, LooksUp, TableTold, TellsEarly, Unfinished}
+use Rattle.kad_words.specs.declared.command.LookWords.{LookWords}
 use Rattle.node_top.specs.declared.status.Status.{Status}
-use Rattle.node_top.specs.declared.status.Status.TheVariants.{Usage, BadLine, LinkFault, SourceFault, Strays, NoSeeds, NoMemory, TooLong}
-use Rattle.node_top.specs.declared.words.Command.TheVariants.{Lookup}
-use Rattle.node_top.specs.declared.words.LookWords.{LookWords}
-use Rattle.node_top.specs.Words.{Word, CommandOf}
+use Rattle.node_top.specs.declared.status.Status.TheVariants.{NoMemory}
 use Rattle.node_top.specs.Printed.{printed}
-use Rattle.node_top.specs.Tells.{Given, Tells, EndsAtStray}
-use Rattle.node_top.specs.Standing.{given_of, LooksUp}
-use Rattle.node_top.specs.Looked.{Admits, Reads, setting_of, lookup_of, printed_of, LooksAt, Outside, LookCause, HasCause}
+use Rattle.node_top.specs.Shown.{Shown}
+use Rattle.node_top.specs.Input.{Admits, Reads}
+use Rattle.node_top.specs.Started.{own_of, look_of, book_of, drawn_of, lookup_of, IsInRange, seen_call, Start}
+use Rattle.node_top.specs.Looked.{printed_of, LooksAt, Begun, EndsByStrays, MeetsFewStrays}
+use Rattle.node_top.proofs.Starting.{usable_told}
 
-all_cons : {A : Type 0} (P : A → Type 0) (x : A) (xs : List A) → P x → All P xs → All P (x ∷ xs)
-all_cons P x xs p h zero d lt = p
-all_cons P x xs p h (suc k) d lt = h k d (omega arith)
-
-all_none : {A : Type 0} (P : A → Type 0) → All P []
-all_none P k d lt = absurd (omega arith)
-
-admits_usable : (own : Id) (policy : Policy) (rs : List Report) (cs : List Contact) → Admits own policy rs cs → All (IsUsable own) cs
-admits_usable own policy [] cs h = subst (All (IsUsable own)) (sym h) (all_none (IsUsable own))
+pub admits_usable : (own : Id) (policy : Policy) (rs : List Report) (cs : List Contact) → Admits own policy rs cs → All (IsUsable own) cs
+admits_usable own policy [] cs h = subst (All (IsUsable own)) (sym h) (All-nil (IsUsable own))
 admits_usable own policy (r ∷ rs) cs h =
     elim h [
-      | inl a ↦ subst (All (IsUsable own)) (sym a.1) (all_cons (IsUsable own) r.contact a.0 a.2.0 (admits_usable own policy rs a.0 a.3))
+      | inl a ↦ subst (All (IsUsable own)) (sym a.1) (All-cons (IsUsable own) r.contact a.0 a.2.0 (admits_usable own policy rs a.0 a.3))
       | inr b ↦ admits_usable own policy rs cs b.1
     ]
 
--- the seeds are usable, few and in order
-pub seeds_few : (setting : Setting) (contacts xs : List Contact) → xs ≡ k_closest setting.target setting.k contacts → length xs ≤ setting.k
-seeds_few setting contacts xs is = subst (λ l. length l ≤ setting.k) (sym is) (closest_few setting.target setting.k contacts)
-
-pub seeds_rise : (setting : Setting) (contacts xs : List Contact) → xs ≡ k_closest setting.target setting.k contacts → IsStrictlySortedBy (closeness setting.target) xs
-seeds_rise setting contacts xs is = subst (IsStrictlySortedBy (closeness setting.target)) (sym is) (closest_rises setting.target setting.k contacts)
-
-pub seeds_usable : (setting : Setting) (left left' : Option (List ℕ)) (contacts xs : List Contact) → Reads setting left left' contacts → xs ≡ k_closest setting.target setting.k contacts → All (IsUsable setting.own) xs
-seeds_usable setting left left' contacts xs reads is =
-    subst (All (IsUsable setting.own)) (sym is) (closest_all setting.target setting.k contacts (IsUsable setting.own) (admits_usable setting.own setting.policy reads.reports contacts reads.admits))
-
-given_is : (look : LookWords) (random : List ℕ) (s : Setting) (words : WordsState) → s ≡ setting_of look random → words ≡ record { seed = random; place = 5 } → given_of (record { setting = s; timeout = look.timeout }) words ≡ lookup_of look random
-given_is look random s words e f =
-    ap (λ (x : Setting). given_of (record { setting = x; timeout = look.timeout }) words) e
-    ∙ ap (λ (d : WordsState). given_of (record { setting = setting_of look random; timeout = look.timeout }) d) f
+pub within_limits : (look : LookWords) (random : List ℕ) → IsInRange look → IsWithinLimits (look_of look random)
+within_limits look random h = record { few = h.few_live; some_path = h.some_path; few_paths = h.few_paths; some_query = h.some_query; few_queries = h.few_queries }
 
 text_is : (s : Setting) (o : Outcome) (text : List ℕ) → o.found ≡ result_of s o.journal → o.counts.asked ≡ length (asked o.journal) → o.counts.failed ≡ length (failed o.journal) → o.counts.turned ≡ length (turned o.journal) → text ≡ printed o.found o.counts.asked o.counts.failed o.counts.turned → text ≡ printed_of s o.journal
 text_is s o text a b c d is =
@@ -69,41 +55,134 @@ text_is s o text a b c d is =
     ∙ ap (λ n. printed (result_of s o.journal) (length (asked o.journal)) n o.counts.turned) c
     ∙ ap (λ n. printed (result_of s o.journal) (length (asked o.journal)) (length (failed o.journal)) n) d
 
-pub looks_at : (look : LookWords) (random : List ℕ) (s : Setting) (words words' : WordsState) (left left' : Option (List ℕ)) (told told' : Option (List Event)) (contacts starts : List Contact) (o : Outcome) (text : List ℕ) → s ≡ setting_of look random → words ≡ record { seed = random; place = 5 } → Reads s left left' contacts → contacts ≢ [] → starts ≡ k_closest s.target s.k contacts
-    → LooksUp (record { setting = s; timeout = look.timeout }) starts words words' told told' o → text ≡ printed o.found o.counts.asked o.counts.failed o.counts.turned → LooksAt look random left left' told told' text
-looks_at look random s words words' left left' told told' contacts starts o text e f reads some_one closest up is =
-    let now = setting_of look random in
-    let legal = subst (λ (x : Setting). Legal x o.journal) e up.legal in
-    let over = subst (λ (x : Setting). (p : ℕ) → p < x.paths → RunOut x p o.journal) e up.run_out in
-    let found = up.found ∙ ap (λ (x : Setting). result_of x o.journal) e in
+pub looks_at : (look : LookWords) (random : List ℕ) (source : Shown ℕ) (link : Shown Event) (start : Start look random source) (left : WordsState) (o : Outcome) (text : List ℕ) → IsInRange look
+    → LooksUp (look_of look random) start.table (drawn_of random) left link.before link.after o → Grows link.before link.after (λ events. Rounds (lookup_of look random) o.journal events)
+    → MeetsFewStrays look random link → text ≡ printed o.found o.counts.asked o.counts.failed o.counts.turned → LooksAt look random source link text
+looks_at look random source link start left o text range up rounds few is =
+    let set = book_of look random in
     record {
-      contacts = contacts;
-      reads = subst (λ (x : Setting). Reads x left left' contacts) e reads;
-      some_one = some_one;
+      start = start;
       journal = o.journal;
-      legal = legal;
-      seeds_are = up.seeds_are ∙ closest ∙ ap (λ (x : Setting). k_closest x.target x.k contacts) e;
-      tells = subst (λ (g : Given). Grows told told' (λ events. Tells g o.journal events)) (given_is look random s words e f) up.tells;
-      run_out = over;
-      taken_once = took_distinct now o.journal legal;
-      asked_once = asked_distinct now o.journal legal;
-      have_answered = λ c has. found_answered now o.journal c (omega arith) legal over has;
-      text_is = text_is now o text found up.counted.asked up.counted.failed up.counted.turned is;
+      legal = up.legal;
+      seeds_are = up.seeds_are;
+      tells = up.tells;
+      rounds = rounds;
+      few_strays = few;
+      run_out = up.run_out;
+      taken_once = took_distinct set o.journal up.legal;
+      asked_once = asked_distinct set o.journal up.legal;
+      have_answered = λ c has. found_answered set o.journal c range.some_path up.legal up.run_out has;
+      text_is = text_is set o text up.found up.counted.asked up.counted.failed up.counted.turned is;
     }
 
-pub strays_at : (look : LookWords) (random : List ℕ) (s : Setting) (words : WordsState) (told told' : Option (List Event)) → s ≡ setting_of look random → words ≡ record { seed = random; place = 5 } → Grows told told' (λ events. EndsAtStray (given_of (record { setting = s; timeout = look.timeout }) words) events 1000000) → Grows told told' (λ events. EndsAtStray (lookup_of look random) events 1000000)
-strays_at look random s words told told' e f ends = subst (λ (g : Given). Grows told told' (λ events. EndsAtStray g events 1000000)) (given_is look random s words e f) ends
+pub begun_of : (look : LookWords) (random : List ℕ) (source : Shown ℕ) (link : Shown Event) (start : Start look random source) (left : WordsState) → Unfinished (look_of look random) start.table (drawn_of random) left link.before link.after
+    → Begun look random source link
+begun_of look random source link start left h = record { start = start; left = left; so_far = h; asked_once = asked_distinct (book_of look random) h.journal h.legal }
 
--- the cause of a lookup is that of its command
-pub cause_of : (words : List Word) (look : LookWords) (random : List ℕ) (o : Outside) (status : Status) → CommandOf words (Lookup look) → LookCause look random o status → HasCause words random o status
-cause_of words look random o Usage c h = absurd h
-cause_of words look random o (BadLine line) c h = h
-cause_of words look random o LinkFault c h = (h.0, record { look = look; command = c; reads = h.1 })
-cause_of words look random o SourceFault c h = h
-cause_of words look random o Strays c h = (record { look = look; command = c; ends = h.0 }, record { look = look; command = c; reads = h.1 })
-cause_of words look random o NoSeeds c h = record { look = look; command = c; reads = h }
-cause_of words look random o NoMemory c h = tt
-cause_of words look random o TooLong c h = h
+tells_early : (g : Given) (J : List Entry) (events : List Event) → Tells g J events → TellsEarly g J events
+tells_early g J events h = record { front = events; end = h.end; so_far = h.so_far; whole = inl refl }
+
+-- a lookup that has run out had begun
+pub begun_whole : (look : LookWords) (random : List ℕ) (source : Shown ℕ) (link : Shown Event) (start : Start look random source) (left : WordsState) (o : Outcome) → LooksUp (look_of look random) start.table (drawn_of random) left link.before link.after o
+    → Begun look random source link
+begun_whole look random source link start left o up =
+    begun_of look random source link start left (record {
+      journal = o.journal;
+      legal = up.legal;
+      seeds_are = up.seeds_are;
+      tells = grows_weaker link.before link.after (λ events. Tells (lookup_of look random) o.journal events) (λ events. TellsEarly (lookup_of look random) o.journal events) up.tells (λ events h. tells_early (lookup_of look random) o.journal events h);
+      drawn = up.drawn;
+    })
+
+-- ---- the same over the values that the code has
+
+-- what a lookup has where it begins
+pub record Has (look : LookWords) (random : List ℕ) (source : Shown ℕ) (setting : LookSetting) (words : WordsState) (table : TableState) : Type 0 where
+  pub setting_is : setting ≡ look_of look random
+  pub words_are : words ≡ drawn_of random
+  pub range : IsInRange look
+  pub contacts : List Contact
+  pub reads : Reads setting.own setting.policy source contacts
+  pub some_one : contacts ≢ []
+  pub told : TableTold (map seen_call contacts) (new_table setting.own look.k look.bits) table
+
+pub has : (look : LookWords) (random : List ℕ) (source : Shown ℕ) (setting : LookSetting) (words : WordsState) (table : TableState) (contacts xs : List Contact) → setting ≡ look_of look random → words ≡ drawn_of random → IsInRange look
+    → Reads setting.own setting.policy source contacts → contacts ≢ [] → xs ≡ contacts → TableTold (map seen_call xs) (new_table setting.own look.k look.bits) table → Has look random source setting words table
+has look random source setting words table contacts xs e f range reads some_one same told = record {
+  setting_is = e;
+  words_are = f;
+  range = range;
+  contacts = contacts;
+  reads = reads;
+  some_one = some_one;
+  told = subst (λ (l : List Contact). TableTold (map seen_call l) (new_table setting.own look.k look.bits) table) same told;
+}
+
+abbrev start_of : (look : LookWords) (random : List ℕ) (source : Shown ℕ) (setting : LookSetting) (words : WordsState) (table : TableState) → Has look random source setting words table → Start look random source
+start_of look random source setting words table h = record {
+  contacts = h.contacts;
+  reads = subst (λ (s : LookSetting). Reads s.own s.policy source h.contacts) h.setting_is h.reads;
+  some_one = h.some_one;
+  table = table;
+  told = subst (λ (s : LookSetting). TableTold (map seen_call h.contacts) (new_table s.own look.k look.bits) table) h.setting_is h.told;
+}
+
+-- what holds of the setting and the words holds of those that they are
+moved : (look : LookWords) (random : List ℕ) (source : Shown ℕ) (setting : LookSetting) (words : WordsState) (table : TableState) (P : LookSetting → WordsState → Type 0) → Has look random source setting words table → P setting words → P (look_of look random) (drawn_of random)
+moved look random source setting words table P h p = subst (P (look_of look random)) h.words_are (subst (λ (s : LookSetting). P s words) h.setting_is p)
+
+pub limits_of : (look : LookWords) (random : List ℕ) (source : Shown ℕ) (setting : LookSetting) (words : WordsState) (table : TableState) → Has look random source setting words table → IsWithinLimits setting
+limits_of look random source setting words table h = subst IsWithinLimits (sym h.setting_is) (within_limits look random h.range)
+
+pub usable_in_table : (look : LookWords) (random : List ℕ) (source : Shown ℕ) (setting : LookSetting) (words : WordsState) (table : TableState) → Has look random source setting words table → All (IsUsable setting.own) (contacts_of table)
+usable_in_table look random source setting words table h =
+    usable_told setting.own look.k look.bits h.contacts table (admits_usable setting.own setting.policy h.reads.reports h.contacts h.reads.admits) h.told
+
+pub few_from : (look : LookWords) (random : List ℕ) (source : Shown ℕ) (link : Shown Event) (setting : LookSetting) (words : WordsState) (table : TableState) → Has look random source setting words table
+    → Grows link.before link.after (λ events. ¬ EndsAtStray (given_of setting words) events max_strays) → MeetsFewStrays look random link
+few_from look random source link setting words table h few = moved look random source setting words table (λ s w. Grows link.before link.after (λ events. ¬ EndsAtStray (given_of s w) events max_strays)) h few
+
+pub looks_from : (look : LookWords) (random : List ℕ) (source : Shown ℕ) (link : Shown Event) (setting : LookSetting) (words left : WordsState) (table : TableState) (o : Outcome) (text : List ℕ) → Has look random source setting words table
+    → LooksUp setting table words left link.before link.after o → Grows link.before link.after (λ events. Rounds (given_of setting words) o.journal events)
+    → Grows link.before link.after (λ events. ¬ EndsAtStray (given_of setting words) events max_strays)
+    → text ≡ printed o.found o.counts.asked o.counts.failed o.counts.turned → LooksAt look random source link text
+looks_from look random source link setting words left table o text h up rounds few is =
+    looks_at look random source link (start_of look random source setting words table h) left o text h.range
+    (moved look random source setting words table (λ s w. LooksUp s table w left link.before link.after o) h up)
+    (moved look random source setting words table (λ s w. Grows link.before link.after (λ events. Rounds (given_of s w) o.journal events)) h rounds)
+    (few_from look random source link setting words table h few) is
+
+pub begun_from : (look : LookWords) (random : List ℕ) (source : Shown ℕ) (link : Shown Event) (setting : LookSetting) (words left : WordsState) (table : TableState) → Has look random source setting words table
+    → Unfinished setting table words left link.before link.after → Begun look random source link
+begun_from look random source link setting words left table h so_far =
+    begun_of look random source link (start_of look random source setting words table h) left
+    (moved look random source setting words table (λ s w. Unfinished s table w left link.before link.after) h so_far)
+
+pub begun_whole_from : (look : LookWords) (random : List ℕ) (source : Shown ℕ) (link : Shown Event) (setting : LookSetting) (words left : WordsState) (table : TableState) (o : Outcome) → Has look random source setting words table
+    → LooksUp setting table words left link.before link.after o → Begun look random source link
+begun_whole_from look random source link setting words left table o h up =
+    begun_whole look random source link (start_of look random source setting words table h) left o
+    (moved look random source setting words table (λ s w. LooksUp s table w left link.before link.after o) h up)
+
+pub strays_from : (look : LookWords) (random : List ℕ) (source : Shown ℕ) (link : Shown Event) (setting : LookSetting) (words : WordsState) (table : TableState) → Has look random source setting words table
+    → Grows link.before link.after (λ events. EndsAtStray (given_of setting words) events max_strays) → EndsByStrays look random link
+strays_from look random source link setting words table h ends = moved look random source setting words table (λ s w. Grows link.before link.after (λ events. EndsAtStray (given_of s w) events max_strays)) h ends
+
+-- ---- results
+
+pub ok_at : {T F : Type 0} (r : Result T F) (x : T) (P : T → Type 0) → r ≡ Ok x → IfOk r P → P x
+ok_at r x P e h = subst (λ s. IfOk s P) e h
+
+pub err_at : {T F : Type 0} (r : Result T F) (x : F) (P : F → Type 0) → r ≡ Err x → IfErr r P → P x
+err_at r x P e h = subst (λ s. IfErr s P) e h
+
+pub err_began : {T : Type 0} (r : Result T Status) (X Y : Type 0) → X → IfErr r (λ status. status ≡ NoMemory → X ⊎ Y)
+err_began (Ok x) X Y h = tt
+err_began (Err e) X Y h = λ same. inl h
+
+pub ok_then : {T F : Type 0} (r : Result T F) (P Q : T → Type 0) → IfOk r P → ((x : T) → P x → Q x) → IfOk r Q
+ok_then (Ok x) P Q h k = k x h
+ok_then (Err e) P Q h k = tt
 
 pub err_then : {T F : Type 0} (r : Result T F) (P Q : F → Type 0) → IfErr r P → ((x : F) → P x → Q x) → IfErr r Q
 err_then (Ok x) P Q h k = tt

@@ -1,23 +1,34 @@
 -- The ends of a command keep each other out: one input was read, it has one reading, and it gives one list of contacts.
-use Rattle.std.proofs.Common.{◌≡◌, ◌≢◌, ℕ, ◌+◌, ◌≤◌, List, [], ◌∷◌, ◌++◌, length, Option, Some, None, inl, inr, refl, sym, ap, subst, ◌∙◌, arith}
-use Rattle.std.proofs.lemmas.List.{append-nil, length-append}
+use Rattle.std.proofs.Common.{◌≡◌, ◌≢◌, ℕ, ◌+◌, ◌≤◌, List, [], ◌∷◌, ◌++◌, length, Option, Some, None, inl, inr, refl, sym, ap, subst, ◌∙◌, arith, true, false, true≢false, lit<}
+use Rattle.std.specs.Prelude.{codes, bytes_eq, Contains}
+use Rattle.std.proofs.lemmas.List.{append-nil, append_cancel_left, length-append}
 use Rattle.kad_base.specs.declared.plain.Id.{Id}
 use Rattle.kad_base.specs.declared.plain.Contact.{Contact}
 use Rattle.kad_base.specs.declared.plain.Report.{Report}
 use Rattle.kad_base.specs.declared.plain.Policy.{Policy}
 use Rattle.kad_base.specs.declared.plain.Event.{Event}
-use Rattle.kad_base.specs.Outside.{Rose}
-use Rattle.claim_book.specs.declared.plain.Setting.{Setting}
+use Rattle.kad_base.specs.declared.plain.Event.TheVariants.{Got}
+use Rattle.kad_base.specs.Limits.{max_strays}
+use Rattle.kad_base.specs.Outside.{Grows, Rose}
+use Rattle.kad_base.proofs.Grown.{grows_none}
+use Rattle.lookup_run.specs.Tells.{Given, EndsAtStray}
+use Rattle.kad_words.specs.Table.{Word}
+use Rattle.kad_words.specs.Plain.{CommandOf, IsPlain, word_of}
+use Rattle.kad_words.specs.declared.command.Command.{Command}
+use Rattle.kad_words.specs.declared.command.Command.TheVariants.{Lookup, Peers, Serve, Check, Mint, Sim}
+use Rattle.kad_words.specs.declared.command.LookWords.{LookWords}
+use Rattle.kad_words.proofs.OneCommand.{command_once, command_plain}
 use Rattle.node_top.specs.declared.status.Status.{Status}
 use Rattle.node_top.specs.declared.status.Status.TheVariants.{Usage, BadLine, LinkFault, SourceFault, Strays, NoSeeds, NoMemory, TooLong}
-use Rattle.node_top.specs.declared.words.Command.TheVariants.{Lookup}
-use Rattle.node_top.specs.declared.words.LookWords.{LookWords}
-use Rattle.node_top.specs.Words.{Word, CommandOf}
+use Rattle.node_top.specs.Asked.{Asks, BeginsBuilt, built}
 use Rattle.node_top.specs.Lines.{lines, Reporting}
-use Rattle.node_top.specs.Looked.{ReadsAll, ReadsFew, ReadsTooMuch, Admits, Reads, setting_of, IsPlain, Looked, HasBadLine, HasNoSeeds, HasSeeds, HasStrays, Outside, HasCause}
-use Rattle.node_top.specs.Endings.{number_of, OrNoMemory, Names}
+use Rattle.node_top.specs.Shown.{Shown, HasFailed}
+use Rattle.node_top.specs.Input.{ReadsAll, ReadsFew, ReadsTooMuch, Admits, Reads, HasBadLine}
+use Rattle.node_top.specs.Started.{own_of, lookup_of, Start}
+use Rattle.node_top.specs.Looked.{Begun, LookCause, MeetsFewStrays}
+use Rattle.node_top.specs.Commands.{TextOf, Looked, HasNoSeeds, HasSeeds, HasStrays, HasFewStrays, HasBegun, HasCause}
+use Rattle.node_top.specs.Endings.{number_of, EndsEarly, OrNoMemory, Names}
 use Rattle.node_top.proofs.TextLaws.{read_or_bad, reading_once}
-use Rattle.node_top.proofs.LookupForm.{command_once}
 
 -- ---- what was read
 
@@ -63,114 +74,208 @@ admits_once own policy (r ∷ rs) xs ys s t =
       ]
     ]
 
-reads_once : (setting : Setting) (old new : Option (List ℕ)) (xs ys : List Contact) → new ≢ None → Reads setting old new xs → Reads setting old new ys → xs ≡ ys
-reads_once setting old new xs ys told s t =
-    let same = input_once old new s.input t.input told s.read t.read in
+reads_once : (own : Id) (policy : Policy) (source : Shown ℕ) (xs ys : List Contact) → source.after ≢ None → Reads own policy source xs → Reads own policy source ys → xs ≡ ys
+reads_once own policy source xs ys told s t =
+    let same = input_once source.before source.after s.input t.input told s.read t.read in
     let one = reading_once (lines t.input) s.reports t.reports (subst (λ l. Reporting (lines l) s.reports) same s.good_lines) t.good_lines in
-    admits_once setting.own setting.policy t.reports xs ys (subst (λ rs. Admits setting.own setting.policy rs xs) one s.admits) t.admits
+    admits_once own policy t.reports xs ys (subst (λ rs. Admits own policy rs xs) one s.admits) t.admits
 
-reads_not_bad : (setting : Setting) (old new : Option (List ℕ)) (xs : List Contact) → new ≢ None → Reads setting old new xs → HasBadLine old new → ⊥
-reads_not_bad setting old new xs told s bad =
-    let same = input_once old new s.input bad.1.input told s.read bad.1.read in
+reads_not_bad : (own : Id) (policy : Policy) (source : Shown ℕ) (xs : List Contact) → source.after ≢ None → Reads own policy source xs → HasBadLine source → ⊥
+reads_not_bad own policy source xs told s bad =
+    let same = input_once source.before source.after s.input bad.1.input told s.read bad.1.read in
     read_or_bad (lines bad.1.input) s.reports bad.0 (subst (λ l. Reporting (lines l) s.reports) same s.good_lines) bad.1.first_bad
 
 same_look : (words : List Word) (a b : LookWords) → CommandOf words (Lookup a) → CommandOf words (Lookup b) → a ≡ b
 same_look words a b s t = let e = command_once words (Lookup a) (Lookup b) s t in cc
 
-seeds_not_none : (words : List Word) (random : List ℕ) (old new : Option (List ℕ)) → new ≢ None → HasSeeds words random old new → HasNoSeeds words random old new → ⊥
-seeds_not_none words random old new told s t =
+seeds_not_none : (words : List Word) (random : List ℕ) (source : Shown ℕ) → source.after ≢ None → HasSeeds words random source → HasNoSeeds words random source → ⊥
+seeds_not_none words random source told s t =
     let same = same_look words s.look t.look s.command t.command in
-    let reads = subst (λ (look : LookWords). Reads (setting_of look random) old new s.reads.contacts) same s.reads.reads in
-    s.reads.some_one (reads_once (setting_of t.look random) old new s.reads.contacts [] told reads t.reads)
+    let reads = subst (λ (look : LookWords). Reads (own_of look.own random) look.policy source s.reads.contacts) same s.reads.reads in
+    s.reads.some_one (reads_once (own_of t.look.own random) t.look.policy source s.reads.contacts [] told reads t.reads)
 
-seeds_not_bad : (words : List Word) (random : List ℕ) (old new : Option (List ℕ)) → new ≢ None → HasSeeds words random old new → HasBadLine old new → ⊥
-seeds_not_bad words random old new told s bad = reads_not_bad (setting_of s.look random) old new s.reads.contacts told s.reads.reads bad
+seeds_not_bad : (words : List Word) (random : List ℕ) (source : Shown ℕ) → source.after ≢ None → HasSeeds words random source → HasBadLine source → ⊥
+seeds_not_bad words random source told s bad = reads_not_bad (own_of s.look.own random) s.look.policy source s.reads.contacts told s.reads.reads bad
 
-none_not_bad : (words : List Word) (random : List ℕ) (old new : Option (List ℕ)) → new ≢ None → HasNoSeeds words random old new → HasBadLine old new → ⊥
-none_not_bad words random old new told s bad = reads_not_bad (setting_of s.look random) old new [] told s.reads bad
+none_not_bad : (words : List Word) (random : List ℕ) (source : Shown ℕ) → source.after ≢ None → HasNoSeeds words random source → HasBadLine source → ⊥
+none_not_bad words random source told s bad = reads_not_bad (own_of s.look.own random) s.look.policy source [] told s.reads bad
 
-seeds_few : (words : List Word) (random : List ℕ) (old new : Option (List ℕ)) → HasSeeds words random old new → ReadsFew old new
-seeds_few words random old new s = all_few old new s.reads.reads.input s.reads.reads.read
+seeds_few : (words : List Word) (random : List ℕ) (source : Shown ℕ) → HasSeeds words random source → ReadsFew source.before source.after
+seeds_few words random source s = all_few source.before source.after s.reads.reads.input s.reads.reads.read
+
+-- ---- which words ask
+
+pub lookup_asks : (words : List Word) (look : LookWords) → CommandOf words (Lookup look) → Asks words
+lookup_asks words look h =
+    let plain = command_plain words (Lookup look) h in
+    let first : codes "lookup" ≡ plain.command = (let e = h.begins in let f = plain.begins in cc) in
+    record { plain = plain; is_built = subst (λ (w : Word). Contains built w) first (0, lit< tt, refl) }
+
+-- ---- what a lookup was that began
+
+start_seeds : (words : List Word) (random : List ℕ) (source : Shown ℕ) (look : LookWords) → CommandOf words (Lookup look) → Start look random source → HasSeeds words random source
+start_seeds words random source look c s = record { look = look; command = c; reads = record { contacts = s.contacts; reads = s.reads; some_one = s.some_one } }
+
+pub begun_by : (words : List Word) (random : List ℕ) (source : Shown ℕ) (link : Shown Event) (look : LookWords) → CommandOf words (Lookup look) → Begun look random source link → HasBegun words random source link
+begun_by words random source link look c b = record { command = Lookup look; asked = c; begun = b }
 
 -- ---- a command that has its output
 
-pub looked_seeds : (words : List Word) (random : List ℕ) (old new : Option (List ℕ)) (told told' : Option (List Event)) (text : List ℕ) → Looked words random old new told told' text → HasSeeds words random old new
-looked_seeds words random old new told told' text h = record {
-  look = h.look;
-  command = h.command;
-  reads = record { contacts = h.looks.contacts; reads = h.looks.reads; some_one = h.looks.some_one };
-}
+look_seeds : (words : List Word) (random : List ℕ) (source : Shown ℕ) (link : Shown Event) (text : List ℕ) (command : Command) → CommandOf words command → TextOf command random source link text → HasSeeds words random source
+look_seeds words random source link text (Lookup look) h t = start_seeds words random source look h t.start
+look_seeds words random source link text (Peers look announce) h t = absurd t
+look_seeds words random source link text (Serve own k bits policy receives) h t = absurd t
+look_seeds words random source link text (Check policy) h t = absurd t
+look_seeds words random source link text (Mint seed c1 c2 tries) h t = absurd t
+look_seeds words random source link text (Sim seed nodes hostile k paths alpha timeout) h t = absurd t
 
-pub seeds_plain : (words : List Word) (random : List ℕ) (old new : Option (List ℕ)) → HasSeeds words random old new → IsPlain words
-seeds_plain words random old new s = (Lookup s.look, s.command)
+pub looked_seeds : (words : List Word) (random : List ℕ) (source : Shown ℕ) (link : Shown Event) (text : List ℕ) → Looked words random source link text → HasSeeds words random source
+looked_seeds words random source link text h = look_seeds words random source link text h.command h.asked h.text_of
 
-pub none_plain : (words : List Word) (random : List ℕ) (old new : Option (List ℕ)) → HasNoSeeds words random old new → IsPlain words
-none_plain words random old new s = (Lookup s.look, s.command)
+pub seeds_plain : (words : List Word) (random : List ℕ) (source : Shown ℕ) → HasSeeds words random source → Asks words
+seeds_plain words random source s = lookup_asks words s.look s.command
+
+pub none_plain : (words : List Word) (random : List ℕ) (source : Shown ℕ) → HasNoSeeds words random source → Asks words
+none_plain words random source s = lookup_asks words s.look s.command
+
+look_few : (words : List Word) (random : List ℕ) (source : Shown ℕ) (link : Shown Event) (text : List ℕ) (command : Command) → CommandOf words command → TextOf command random source link text → HasFewStrays words random link
+look_few words random source link text (Lookup look) h t = record { look = look; command = h; few = t.few_strays }
+look_few words random source link text (Peers look announce) h t = absurd t
+look_few words random source link text (Serve own k bits policy receives) h t = absurd t
+look_few words random source link text (Check policy) h t = absurd t
+look_few words random source link text (Mint seed c1 c2 tries) h t = absurd t
+look_few words random source link text (Sim seed nodes hostile k paths alpha timeout) h t = absurd t
+
+-- ---- whether the last stray came
+
+-- where the content is told, one list was added
+added_once : {A : Type 0} (old new : Option (List A)) (P : List A → Type 0) → new ≢ None → Grows old new P → Grows old new (λ t. P t → ⊥) → ⊥
+added_once old None P told g h = told refl
+added_once {A} old (Some after) P told g h =
+    let before : g.before ≡ h.before = (let e = g.was in let f = h.was in cc) in
+    let same : g.before ++ g.added ≡ g.before ++ h.added = sym g.sum_is ∙ h.sum_is ∙ ap (λ (l : List A). l ++ h.added) (sym before) in
+    h.holds (subst P (append_cancel_left g.before g.added h.added same) g.holds)
+
+few_not_last : (words : List Word) (random : List ℕ) (link : Shown Event) → link.after ≢ None → HasFewStrays words random link → HasStrays words random link → ⊥
+few_not_last words random link told s t =
+    let same = same_look words s.look t.look s.command t.command in
+    let few = subst (λ (look : LookWords). MeetsFewStrays look random link) same s.few in
+    added_once link.before link.after (λ events. EndsAtStray (lookup_of t.look random) events max_strays) told t.ends few
+
+none_last : (g : Given) (number : ℕ) → ¬ EndsAtStray g [] number
+none_last g number e = nothing_more e.before (Got e.from e.bytes e.until e.at) e.last
+  where
+    nothing_more : (es : List Event) (x : Event) → [] ≡ es ++ x ∷ [] → ⊥
+    nothing_more [] x e = cc
+    nothing_more (y ∷ es) x e = cc
+
+-- where nothing was told it didn't
+unasked_not_last : (words : List Word) (random : List ℕ) (link : Shown Event) → link.after ≢ None → link.after ≡ link.before → HasStrays words random link → ⊥
+unasked_not_last words random link told same t =
+    let g = lookup_of t.look random in
+    let none_ : Grows link.before link.after (λ events. ¬ EndsAtStray g events max_strays) =
+    subst (λ (o : Option (List Event)). Grows link.before o (λ events. ¬ EndsAtStray g events max_strays)) (sym same) (grows_none link.before (λ events. ¬ EndsAtStray g events max_strays) (none_last g max_strays)) in
+    added_once link.before link.after (λ events. EndsAtStray g events max_strays) told t.ends none_
+
+pub looked_not_last : (words : List Word) (random : List ℕ) (source : Shown ℕ) (link : Shown Event) (text : List ℕ) → Looked words random source link text → link.after ≢ None → HasStrays words random link → ⊥
+looked_not_last words random source link text h told t = few_not_last words random link told (look_few words random source link text h.command h.asked h.text_of) t
 
 -- what holds of a command that found seeds
-pub record Found (words : List Word) (random : List ℕ) (old new : Option (List ℕ)) : Type 0 where
-  pub plain : IsPlain words
-  pub bad_line : new ≢ None → ¬ HasBadLine old new
-  pub no_seeds : new ≢ None → ¬ HasNoSeeds words random old new
-  pub too_long : new ≢ None → ¬ ReadsTooMuch old new
+pub record Found (words : List Word) (random : List ℕ) (source : Shown ℕ) : Type 0 where
+  pub plain : Asks words
+  pub bad_line : source.after ≢ None → ¬ HasBadLine source
+  pub no_seeds : source.after ≢ None → ¬ HasNoSeeds words random source
+  pub too_long : source.after ≢ None → ¬ ReadsTooMuch source.before source.after
 
-pub found : (words : List Word) (random : List ℕ) (old new : Option (List ℕ)) → HasSeeds words random old new → Found words random old new
-found words random old new s = record {
-  plain = seeds_plain words random old new s;
-  bad_line = λ told bad. seeds_not_bad words random old new told s bad;
-  no_seeds = λ told none. seeds_not_none words random old new told s none;
-  too_long = λ told much. few_not_much old new told (seeds_few words random old new s) much;
+pub found : (words : List Word) (random : List ℕ) (source : Shown ℕ) → HasSeeds words random source → Found words random source
+found words random source s = record {
+  plain = seeds_plain words random source s;
+  bad_line = λ told bad. seeds_not_bad words random source told s bad;
+  no_seeds = λ told none. seeds_not_none words random source told s none;
+  too_long = λ told much. few_not_much source.before source.after told (seeds_few words random source s) much;
 }
 
 -- ---- and of one that has none, by its cause
 
-pub bad_line_comes : (words : List Word) (random : List ℕ) (o : Outside) (status : Status) → HasCause words random o status → IsPlain words → o.left' ≢ None → ¬ Rose o.source_faults o.source_faults' → HasBadLine o.left o.left' → OrNoMemory (number_of status) 3
-bad_line_comes words random o Usage c plain told quiet bad = absurd (c.0 plain)
-bad_line_comes words random o (BadLine line) c plain told quiet bad = inl refl
-bad_line_comes words random o LinkFault c plain told quiet bad = absurd (seeds_not_bad words random o.left o.left' told c.1 bad)
-bad_line_comes words random o SourceFault c plain told quiet bad = absurd (quiet c.0)
-bad_line_comes words random o Strays c plain told quiet bad = absurd (seeds_not_bad words random o.left o.left' told c.1 bad)
-bad_line_comes words random o NoSeeds c plain told quiet bad = absurd (none_not_bad words random o.left o.left' told c bad)
-bad_line_comes words random o NoMemory c plain told quiet bad = inr refl
-bad_line_comes words random o TooLong c plain told quiet bad = absurd (few_not_much o.left o.left' told (all_few o.left o.left' bad.1.input bad.1.read) c)
+-- the cause of a lookup is that of its command
+pub cause_of : (words : List Word) (look : LookWords) (random : List ℕ) (source : Shown ℕ) (link : Shown Event) (status : Status) → CommandOf words (Lookup look) → LookCause look random source link status → HasCause words random source link status
+cause_of words look random source link Usage c h = absurd h
+cause_of words look random source link (BadLine line) c h = h
+cause_of words look random source link LinkFault c h =
+    (h.0, start_seeds words random source look c h.1.start, begun_by words random source link look c h.1, record { look = look; command = c; few = h.2 })
+cause_of words look random source link SourceFault c h = h
+cause_of words look random source link Strays c h = (record { look = look; command = c; ends = h.0 }, start_seeds words random source look c h.1.start, begun_by words random source link look c h.1)
+cause_of words look random source link NoSeeds c h = record { look = look; command = c; reads = h }
+cause_of words look random source link NoMemory c h = tt
+cause_of words look random source link TooLong c h = h
 
-pub no_seeds_come : (words : List Word) (random : List ℕ) (o : Outside) (status : Status) → HasCause words random o status → o.left' ≢ None → ¬ Rose o.source_faults o.source_faults' → HasNoSeeds words random o.left o.left' → OrNoMemory (number_of status) 8
-no_seeds_come words random o Usage c told quiet none_ = absurd (c.0 (none_plain words random o.left o.left' none_))
-no_seeds_come words random o (BadLine line) c told quiet none_ = absurd (none_not_bad words random o.left o.left' told none_ (line, c))
-no_seeds_come words random o LinkFault c told quiet none_ = absurd (seeds_not_none words random o.left o.left' told c.1 none_)
-no_seeds_come words random o SourceFault c told quiet none_ = absurd (quiet c.0)
-no_seeds_come words random o Strays c told quiet none_ = absurd (seeds_not_none words random o.left o.left' told c.1 none_)
-no_seeds_come words random o NoSeeds c told quiet none_ = inl refl
-no_seeds_come words random o NoMemory c told quiet none_ = inr refl
-no_seeds_come words random o TooLong c told quiet none_ = absurd (few_not_much o.left o.left' told (all_few o.left o.left' none_.reads.input none_.reads.read) c)
+pub bad_line_comes : (words : List Word) (random : List ℕ) (source : Shown ℕ) (link : Shown Event) (status : Status) → HasCause words random source link status → Asks words → source.after ≢ None → ¬ HasFailed source → HasBadLine source → OrNoMemory (number_of status) 3
+bad_line_comes words random source link Usage c plain told quiet bad = absurd (c.0 plain)
+bad_line_comes words random source link (BadLine line) c plain told quiet bad = inl refl
+bad_line_comes words random source link LinkFault c plain told quiet bad = absurd (seeds_not_bad words random source told c.1 bad)
+bad_line_comes words random source link SourceFault c plain told quiet bad = absurd (quiet c.0)
+bad_line_comes words random source link Strays c plain told quiet bad = absurd (seeds_not_bad words random source told c.1 bad)
+bad_line_comes words random source link NoSeeds c plain told quiet bad = absurd (none_not_bad words random source told c bad)
+bad_line_comes words random source link NoMemory c plain told quiet bad = inr refl
+bad_line_comes words random source link TooLong c plain told quiet bad = absurd (few_not_much source.before source.after told (all_few source.before source.after bad.1.input bad.1.read) c)
 
-pub too_long_comes : (words : List Word) (random : List ℕ) (o : Outside) (status : Status) → HasCause words random o status → o.left' ≢ None → ReadsTooMuch o.left o.left' → OrNoMemory (number_of status) 11
-too_long_comes words random o Usage c told much = absurd (few_not_much o.left o.left' told (unread_few o.left o.left' c.1) much)
-too_long_comes words random o (BadLine line) c told much = absurd (few_not_much o.left o.left' told (all_few o.left o.left' c.input c.read) much)
-too_long_comes words random o LinkFault c told much = absurd (few_not_much o.left o.left' told (seeds_few words random o.left o.left' c.1) much)
-too_long_comes words random o SourceFault c told much = absurd (few_not_much o.left o.left' told c.1 much)
-too_long_comes words random o Strays c told much = absurd (few_not_much o.left o.left' told (seeds_few words random o.left o.left' c.1) much)
-too_long_comes words random o NoSeeds c told much = absurd (few_not_much o.left o.left' told (all_few o.left o.left' c.reads.input c.reads.read) much)
-too_long_comes words random o NoMemory c told much = inr refl
-too_long_comes words random o TooLong c told much = inl refl
+pub no_seeds_come : (words : List Word) (random : List ℕ) (source : Shown ℕ) (link : Shown Event) (status : Status) → HasCause words random source link status → source.after ≢ None → ¬ HasFailed source → HasNoSeeds words random source → OrNoMemory (number_of status) 8
+no_seeds_come words random source link Usage c told quiet none_ = absurd (c.0 (none_plain words random source none_))
+no_seeds_come words random source link (BadLine line) c told quiet none_ = absurd (none_not_bad words random source told none_ (line, c))
+no_seeds_come words random source link LinkFault c told quiet none_ = absurd (seeds_not_none words random source told c.1 none_)
+no_seeds_come words random source link SourceFault c told quiet none_ = absurd (quiet c.0)
+no_seeds_come words random source link Strays c told quiet none_ = absurd (seeds_not_none words random source told c.1 none_)
+no_seeds_come words random source link NoSeeds c told quiet none_ = inl refl
+no_seeds_come words random source link NoMemory c told quiet none_ = inr refl
+no_seeds_come words random source link TooLong c told quiet none_ = absurd (few_not_much source.before source.after told (all_few source.before source.after none_.reads.input none_.reads.read) c)
 
-pub completes : (words : List Word) (random : List ℕ) (o : Outside) (status : Status) → HasCause words random o status → o.left' ≢ None → ¬ Rose o.source_faults o.source_faults' → ¬ Rose o.recv_faults o.recv_faults' → ¬ HasStrays words random o.told o.told' → HasSeeds words random o.left o.left' → OrNoMemory (number_of status) 0
-completes words random o Usage c told quiet hears few seeds = absurd (c.0 (seeds_plain words random o.left o.left' seeds))
-completes words random o (BadLine line) c told quiet hears few seeds = absurd (seeds_not_bad words random o.left o.left' told seeds (line, c))
-completes words random o LinkFault c told quiet hears few seeds = absurd (hears c.0)
-completes words random o SourceFault c told quiet hears few seeds = absurd (quiet c.0)
-completes words random o Strays c told quiet hears few seeds = absurd (few c.0)
-completes words random o NoSeeds c told quiet hears few seeds = absurd (seeds_not_none words random o.left o.left' told seeds c)
-completes words random o NoMemory c told quiet hears few seeds = inr refl
-completes words random o TooLong c told quiet hears few seeds = absurd (few_not_much o.left o.left' told (seeds_few words random o.left o.left' seeds) c)
+pub too_long_comes : (words : List Word) (random : List ℕ) (source : Shown ℕ) (link : Shown Event) (status : Status) → HasCause words random source link status → source.after ≢ None → ReadsTooMuch source.before source.after → OrNoMemory (number_of status) 11
+too_long_comes words random source link Usage c told much = absurd (few_not_much source.before source.after told (unread_few source.before source.after c.1) much)
+too_long_comes words random source link (BadLine line) c told much = absurd (few_not_much source.before source.after told (all_few source.before source.after c.input c.read) much)
+too_long_comes words random source link LinkFault c told much = absurd (few_not_much source.before source.after told (seeds_few words random source c.1) much)
+too_long_comes words random source link SourceFault c told much = absurd (few_not_much source.before source.after told c.1 much)
+too_long_comes words random source link Strays c told much = absurd (few_not_much source.before source.after told (seeds_few words random source c.1) much)
+too_long_comes words random source link NoSeeds c told much = absurd (few_not_much source.before source.after told (all_few source.before source.after c.reads.input c.reads.read) much)
+too_long_comes words random source link NoMemory c told much = inr refl
+too_long_comes words random source link TooLong c told much = inl refl
+
+pub completes : (words : List Word) (random : List ℕ) (source : Shown ℕ) (link : Shown Event) (status : Status) → HasCause words random source link status → source.after ≢ None → ¬ HasFailed source → ¬ HasFailed link → ¬ HasStrays words random link → HasSeeds words random source → OrNoMemory (number_of status) 0
+completes words random source link Usage c told quiet hears few seeds = absurd (c.0 (seeds_plain words random source seeds))
+completes words random source link (BadLine line) c told quiet hears few seeds = absurd (seeds_not_bad words random source told seeds (line, c))
+completes words random source link LinkFault c told quiet hears few seeds = absurd (hears c.0)
+completes words random source link SourceFault c told quiet hears few seeds = absurd (quiet c.0)
+completes words random source link Strays c told quiet hears few seeds = absurd (few c.0)
+completes words random source link NoSeeds c told quiet hears few seeds = absurd (seeds_not_none words random source told seeds c)
+completes words random source link NoMemory c told quiet hears few seeds = inr refl
+completes words random source link TooLong c told quiet hears few seeds = absurd (few_not_much source.before source.after told (seeds_few words random source seeds) c)
 
 -- a status names the first bad line
-pub named : (words : List Word) (random : List ℕ) (o : Outside) (status : Status) → HasCause words random o status → Names o.left o.left' status
-named words random o Usage c = tt
-named words random o (BadLine line) c = c
-named words random o LinkFault c = tt
-named words random o SourceFault c = tt
-named words random o Strays c = tt
-named words random o NoSeeds c = tt
-named words random o NoMemory c = tt
-named words random o TooLong c = tt
+pub named : (words : List Word) (random : List ℕ) (source : Shown ℕ) (link : Shown Event) (status : Status) → HasCause words random source link status → Names source status
+named words random source link Usage c = tt
+named words random source link (BadLine line) c = c
+named words random source link LinkFault c = tt
+named words random source link SourceFault c = tt
+named words random source link Strays c = tt
+named words random source link NoSeeds c = tt
+named words random source link NoMemory c = tt
+named words random source link TooLong c = tt
+
+pub strays_come : (words : List Word) (random : List ℕ) (source : Shown ℕ) (link : Shown Event) (status : Status) → HasCause words random source link status → (EndsEarly (number_of status) → link.after ≡ link.before) → link.after ≢ None → HasStrays words random link → OrNoMemory (number_of status) 7
+strays_come words random source link Usage c early told t = absurd (unasked_not_last words random link told (early (inl refl)) t)
+strays_come words random source link (BadLine line) c early told t = absurd (unasked_not_last words random link told (early (inr (inl refl))) t)
+strays_come words random source link LinkFault c early told t = absurd (few_not_last words random link told c.3 t)
+strays_come words random source link SourceFault c early told t = absurd (unasked_not_last words random link told (early (inr (inr (inl refl)))) t)
+strays_come words random source link Strays c early told t = inl refl
+strays_come words random source link NoSeeds c early told t = absurd (unasked_not_last words random link told (early (inr (inr (inr (inl refl))))) t)
+strays_come words random source link NoMemory c early told t = inr refl
+strays_come words random source link TooLong c early told t = absurd (unasked_not_last words random link told (early (inr (inr (inr (inr refl))))) t)
+
+pub is_no_memory : (status : Status) → number_of status ≡ 9 → status ≡ NoMemory
+is_no_memory Usage e = absurd cc
+is_no_memory (BadLine line) e = absurd cc
+is_no_memory LinkFault e = absurd cc
+is_no_memory SourceFault e = absurd cc
+is_no_memory Strays e = absurd cc
+is_no_memory NoSeeds e = absurd cc
+is_no_memory NoMemory e = refl
+is_no_memory TooLong e = absurd cc

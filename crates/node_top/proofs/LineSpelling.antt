@@ -13,10 +13,10 @@ use Rattle.kad_base.specs.declared.plain.Proof.{Proof}
 use Rattle.kad_base.specs.declared.plain.Report.{Report}
 use Rattle.kad_base.specs.declared.plain.Addr.{Addr}
 use Rattle.kad_base.specs.declared.plain.Id.{Id}
-use Rattle.node_top.specs.Text.{SpellsAddr, SpellsHex, SpellsId, ip_text}
+use Rattle.kad_words.specs.Text.{SpellsAddr, SpellsHex, SpellsId, ip_text}
 use Rattle.node_top.specs.Lines.{EndsWithProof, IsBad, IsContactLine, IsPassedOver, SpellsProof}
-use Rattle.node_top.proofs.AddrSpelling.{decimal_digits, v4_bytes}
-use Rattle.node_top.proofs.HexSpelling.{spells_digits}
+use Rattle.kad_words.proofs.AddrSpelling.{decimal_digits, v4_bytes}
+use Rattle.kad_words.proofs.HexSpelling.{spells_digits}
 
 -- a visible ASCII character
 abbrev pub IsVisible : ℕ → Type 0

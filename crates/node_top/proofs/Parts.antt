@@ -8,7 +8,7 @@ use Rattle.kad_base.specs.declared.plain.Report.{Report}
 use Rattle.kad_base.specs.declared.plain.Policy.{Policy}
 use Rattle.kad_base.specs.Outside.{Shrinks}
 use Rattle.node_top.specs.Written.{IsFront}
-use Rattle.node_top.specs.Looked.{ReadsTooMuch, IsAdmitted, Admits, AdmitsOne}
+use Rattle.node_top.specs.Input.{ReadsTooMuch, IsAdmitted, Admits, AdmitsOne}
 
 pub front : (all : List ℕ) (n : ℕ) (t u : List ℕ) → t ≡ take n all → u ≡ [] → IsFront (t ++ u) all
 front all n t u p q = (drop n all, ap (λ l. (t ++ l) ++ drop n all) q ∙ ap (λ l. l ++ drop n all) (append-nil t ∙ p) ∙ take-append-drop n all)

@@ -5,7 +5,7 @@ use Rattle.std.proofs.lemmas.List.{append_assoc, append-nil, drop_more, take_all
 use Rattle.std.proofs.lemmas.Grind.{flat_map-append}
 use Rattle.hex.specs.Hex.{encode_lower}
 use Rattle.kad_base.specs.declared.plain.Contact.{Contact}
-use Rattle.node_top.specs.Text.{groups_after, ip_text}
+use Rattle.kad_words.specs.Text.{groups_after, ip_text}
 use Rattle.node_top.specs.Printed.{contact_text, counts_text, line_of, printed}
 
 -- a text that was written in these pieces

@@ -1,12 +1,14 @@
 -- How the top call ends: the number and the line of each status, and what was written. All of it is this project's own.
 use Rattle.std.specs.Prelude.{◌≡◌, ◌⊎◌, ℕ, List, ◌++◌, codes, decimal, Option}
 use Rattle.kad_base.specs.declared.plain.Event.{Event}
-use Rattle.kad_base.specs.Outside.{Grows, Rose}
+use Rattle.kad_base.specs.Outside.{Grows}
 use Rattle.node_top.specs.declared.status.Status.{Status}
 use Rattle.node_top.specs.declared.status.Status.TheVariants.{Usage, BadLine, LinkFault, SourceFault, Strays, NoSeeds, NoMemory, TooLong}
-use Rattle.node_top.specs.Words.{Word}
+use Rattle.kad_words.specs.Table.{Word}
 use Rattle.node_top.specs.Written.{IsFront}
-use Rattle.node_top.specs.Looked.{Looked, IsBadLine}
+use Rattle.node_top.specs.Shown.{Shown, HasFailed}
+use Rattle.node_top.specs.Input.{IsBadLine}
+use Rattle.node_top.specs.Commands.{Looked}
 
 -- the number of a status
 abbrev pub number_of : Status → ℕ
@@ -31,27 +33,28 @@ status_line NoMemory = codes "no memory\n"
 status_line TooLong = codes "too long\n"
 
 -- the text was written, or a front of it where the sink's faults rose
-abbrev pub Writes : List ℕ → Option (List ℕ) → Option (List ℕ) → ℕ → ℕ → Type 0
-Writes text written written' faults faults' =
-    Grows written written' (λ added. added ≡ text) ⊎ (Rose faults faults' × Grows written written' (λ added. IsFront added text))
+abbrev pub Writes : List ℕ → Shown ℕ → Type 0
+Writes text sink =
+    Grows sink.before sink.after (λ added. added ≡ text)
+    ⊎ (HasFailed sink × Grows sink.before sink.after (λ added. IsFront added text))
 
 -- a status that names a line of the input names the first that is bad
-abbrev pub Names : Option (List ℕ) → Option (List ℕ) → Status → Type 0
-Names left left' (BadLine line) = IsBadLine left left' line
-Names left left' other = Unit {0}
+abbrev pub Names : Shown ℕ → Status → Type 0
+Names source (BadLine line) = IsBadLine source line
+Names source other = Unit {0}
 
 -- the line of the status of this number was written
-pub record WritesLine (number : ℕ) (left left' written written' : Option (List ℕ)) (faults faults' : ℕ) : Type 0 where
+pub record WritesLine (number : ℕ) (source sink : Shown ℕ) : Type 0 where
   pub status : Status
   pub numbered : number ≡ number_of status
-  pub names : Names left left' status
-  pub writes : Writes (status_line status) written written' faults faults'
+  pub names : Names source status
+  pub writes : Writes (status_line status) sink
 
 -- a lookup whose text was not written to its end: all is as in a whole one, but that a front of its text was written
-pub record CutShort (words : List Word) (random : List ℕ) (left left' : Option (List ℕ)) (told told' : Option (List Event)) (written written' : Option (List ℕ)) : Type 0 where
+pub record CutShort (words : List Word) (random : List ℕ) (source : Shown ℕ) (link : Shown Event) (sink : Shown ℕ) : Type 0 where
   pub text : List ℕ
-  pub looked : Looked words random left left' told told' text
-  pub writes : Grows written written' (λ added. IsFront added text)
+  pub looked : Looked words random source link text
+  pub writes : Grows sink.before sink.after (λ added. IsFront added text)
 
 -- the statuses that end a command before it calls the link
 abbrev pub EndsEarly : ℕ → Type 0

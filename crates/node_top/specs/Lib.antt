@@ -1,9 +1,10 @@
-pub mod Text
-pub mod Words
+pub mod Asked
 pub mod Lines
 pub mod Printed
-pub mod Tells
-pub mod Standing
+pub mod Shown
+pub mod Input
+pub mod Started
 pub mod Looked
+pub mod Commands
 pub mod Written
 pub mod Endings

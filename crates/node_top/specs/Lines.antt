@@ -6,7 +6,7 @@ use Rattle.std.specs.Str.{byte}
 use Rattle.std.specs.Str.Lines.{strip_carriage_return}
 use Rattle.kad_base.specs.declared.plain.Proof.{Proof}
 use Rattle.kad_base.specs.declared.plain.Report.{Report}
-use Rattle.node_top.specs.Text.{SpellsHex, SpellsId, SpellsAddr}
+use Rattle.kad_words.specs.Text.{SpellsHex, SpellsId, SpellsAddr}
 
 -- the parts between the line feeds of an input. After the last line feed stands a last part, which may be empty
 abbrev pub lines : List ℕ → List (List ℕ)

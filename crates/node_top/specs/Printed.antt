@@ -2,7 +2,7 @@
 use Rattle.std.specs.Prelude.{ℕ, List, ◌++◌, length, codes, decimal, flat_map}
 use Rattle.hex.specs.Hex.{encode_lower}
 use Rattle.kad_base.specs.declared.plain.Contact.{Contact}
-use Rattle.node_top.specs.Text.{addr_text}
+use Rattle.kad_words.specs.Text.{addr_text}
 
 -- a text as a line
 abbrev pub line_of : List ℕ → List ℕ

@@ -1,7 +1,7 @@
 //! The input of a command: its bytes, and the contacts that its lines give.
 ghost use Rattle.std.specs.Prelude.{◌≡◌, ◌≤◌, OnOk, IfOk, IsErrOf, IsTrue, ◌↔◌};
 ghost use Rattle.kad_base.specs.Outside.{Rose};
-ghost use Rattle.node_top.specs.Looked.{ReadsAll, ReadsFew, ReadsTooMuch, IsAdmitted, Admits, AdmitsOne};
+ghost use Rattle.node_top.specs.Input.{ReadsAll, ReadsFew, ReadsTooMuch, IsAdmitted, Admits, AdmitsOne};
 
 use kad_base::limits::MAX_INPUT;
 use kad_base::{Bytes, Check, Contacts, Id, List, NoMemory, Policy, Report, Source, is_usable};
@@ -13,6 +13,17 @@ pub(crate) enum ReadFault {
     Source,
     TooLong,
     NoMemory,
+}
+
+impl From<NoMemory> for ReadFault {
+    ghost use Rattle.std.specs.Prelude.{◌≡◌};
+    ghost use Rattle.node_top.specs.declared.input.ReadFault.TheVariants as fault;
+
+    ghost from_gives = { λ _ e. e ≡ fault.NoMemory };
+
+    fn from(_: NoMemory) -> Self {
+        ReadFault::NoMemory
+    }
 }
 
 /// Reads a source to its end, or to one byte more than an input may have.
@@ -34,23 +45,21 @@ pub(crate) fn read_whole<S: Source>(alloc: Global, source: &mut S) -> Result<Byt
         match source.take(&mut buf[..room]) {
             Ok(0) => return Ok(bytes),
             Ok(n) => {
-                if bytes.extend(&buf[..n]).is_err() {
-                    return Err(ReadFault::NoMemory);
-                }
+                bytes.extend(&buf[..n])?;
             }
             Err(_) => return Err(ReadFault::Source),
         }
     }
 }
 
-/// Whether the report's contact may be a seed.
+/// Whether the report's contact may begin a lookup.
 fn is_admitted<C: Check>(own: &Id, policy: Policy, check: &C, report: &Report) -> bool
     ensures { IsTrue result ↔ IsAdmitted own.now policy report.now }
 {
     is_usable(own, &report.contact) && check.check(policy, report)
 }
 
-/// Takes the report's contact, if it may be a seed.
+/// Takes the report's contact, if it may begin a lookup.
 fn admit<C: Check>(
     contacts: &mut Contacts,
     own: &Id,

@@ -2,17 +2,16 @@
 //! and no socket: the source, the sink and the link are handed in.
 #![tactic(auto)]
 
-mod driver;
+mod asked;
 mod input;
 mod lines;
 mod lookup;
 mod output;
 mod printed;
+mod start;
 mod status;
 #[cfg(test)]
 mod tests;
-mod text;
 mod top;
-mod words;
 
 pub use top::run;

@@ -5,8 +5,8 @@ ghost use Rattle.kad_base.specs.declared.plain.Proof.{Proof};
 ghost use Rattle.kad_base.specs.declared.plain.Report.{Report};
 ghost use Rattle.node_top.specs.Lines.{lines, Tells, IsBad, IsContactLine, SpellsProof, Reporting, IsFirstBad};
 
-use crate::text::{read_addr, read_hex, read_id};
-use kad_base::{Contact, List, Proof, Report, Reports};
+use kad_base::{Contact, List, NoMemory, Proof, Report, Reports};
+use kad_words::text::{read_addr, read_hex, read_id};
 use std::alloc::Global;
 
 /// Why an input gives no reports.
@@ -15,6 +15,17 @@ pub(crate) enum LinesFault {
     /// The first bad line, counted from 1.
     Bad { line: usize },
     NoMemory,
+}
+
+impl From<NoMemory> for LinesFault {
+    ghost use Rattle.std.specs.Prelude.{◌≡◌};
+    ghost use Rattle.node_top.specs.declared.lines.LinesFault.TheVariants as fault;
+
+    ghost from_gives = { λ _ e. e ≡ fault.NoMemory };
+
+    fn from(_: NoMemory) -> Self {
+        LinesFault::NoMemory
+    }
 }
 
 /// A line that is neither passed over nor a contact line.
@@ -32,9 +43,7 @@ pub(crate) fn read_lines(alloc: Global, bytes: &[u8]) -> Result<Reports, LinesFa
         match read_line(line) {
             Ok(None) => {}
             Ok(Some(report)) => {
-                if reports.push(report).is_err() {
-                    return Err(LinesFault::NoMemory);
-                }
+                reports.push(report)?;
             }
             Err(BadLine) => return Err(LinesFault::Bad { line: i + 1 }),
         }

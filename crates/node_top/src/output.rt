@@ -2,6 +2,7 @@
 ghost use Rattle.std.specs.Prelude.{◌≡◌, ◌≤◌, OnOk, OnErr};
 ghost use Rattle.kad_base.specs.Outside.{Grows, Rose};
 ghost use Rattle.node_top.specs.Written.{IsFront};
+ghost use Rattle.node_top.specs.Shown.{shown};
 ghost use Rattle.node_top.specs.Endings.{Writes};
 
 use kad_base::{Failed, Sink};
@@ -10,7 +11,7 @@ use kad_base::{Failed, Sink};
 pub(crate) fn write_whole<K: Sink>(sink: &mut K, bytes: &[u8]) -> Result<(), Failed>
     ensures ok { OnOk result (Grows (K.written sink.old) (K.written sink.new) (λ added. added ≡ bytes.now)) }
     ensures err { OnErr result (Grows (K.written sink.old) (K.written sink.new) (λ added. IsFront added bytes.now)) }
-    ensures writes { Writes bytes.now (K.written sink.old) (K.written sink.new) (K.faults sink.old) (K.faults sink.new) }
+    ensures writes { Writes bytes.now (shown K.written K.faults sink.old sink.new) }
     ensures faults { K.faults sink.old ≤ K.faults sink.new }
     ensures failed { OnErr result (Rose (K.faults sink.old) (K.faults sink.new)) }
 {

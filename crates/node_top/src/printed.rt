@@ -3,7 +3,7 @@ ghost use Rattle.std.specs.Prelude.{◌≡◌, ◌++◌, ◌^◌, ◌<◌, IfOk,
 ghost use Rattle.hex.specs.Hex.{IsBytes};
 ghost use Rattle.kad_base.specs.declared.plain.Contact.{Contact};
 ghost use Rattle.kad_base.specs.declared.plain.Ip.TheVariants.{V6};
-ghost use Rattle.node_top.specs.Text.{IsV4, ip_text};
+ghost use Rattle.kad_words.specs.Text.{IsV4, ip_text};
 ghost use Rattle.node_top.specs.Lines.{IsContactLine};
 ghost use Rattle.node_top.specs.Printed.{printed, contact_text, counts_text, line_of};
 

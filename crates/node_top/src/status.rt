@@ -3,7 +3,7 @@ ghost use Rattle.std.specs.Prelude.{◌≡◌, ◌≢◌, ◌<◌, ◌≤◌, ta
 ghost use Rattle.node_top.specs.Endings.{number_of, status_line};
 
 use itoa::Buffer;
-use kad_base::put_bytes;
+use kad_base::{NoMemory, put_bytes};
 
 /// The room that the longest line takes: `bad line `, 20 digits and the line feed.
 pub(crate) const LINE_ROOM: usize = 30;
@@ -11,7 +11,7 @@ pub(crate) const LINE_ROOM: usize = 30;
 /// Why a command ends with no output.
 #[derive(Clone, Copy, Debug, PartialEq, Eq)]
 pub(crate) enum Status {
-    /// The words are not of the plain form.
+    /// The words ask for nothing that is built.
     Usage,
     /// This line of the input, counted from 1, is the first that is no contact line.
     BadLine { line: usize },
@@ -26,6 +26,17 @@ pub(crate) enum Status {
     NoMemory,
     /// The input is longer than 1,048,576 bytes.
     TooLong,
+}
+
+impl From<NoMemory> for Status {
+    ghost use Rattle.std.specs.Prelude.{◌≡◌};
+    ghost use Rattle.node_top.specs.declared.status.Status.TheVariants as status;
+
+    ghost from_gives = { λ _ e. e ≡ status.NoMemory };
+
+    fn from(_: NoMemory) -> Self {
+        Status::NoMemory
+    }
 }
 
 /// Puts the line that names a bad line of the input.

@@ -1,4 +1,7 @@
 //! Whole lookups over a scripted link.
+mod crowd;
+mod paths;
+mod puzzled;
 mod replies;
 mod script;
 
@@ -8,7 +11,7 @@ use id_puzzles::Sha1Check;
 use kad_base::{
     BytesSink, BytesSource, Event, List, Numbers, Sink, Source, SteadySink, SteadySource,
 };
-use script::{Reply, contact, failing_link, link};
+use script::{Reply, contact, failing_link, link, port};
 use std::alloc::Global;
 use std::hash::RandomState;
 use std::test::Fail;
@@ -26,7 +29,7 @@ const FOUND_2: &str =
 const ANSWER_1: &[u8] =
     b"d1:rd2:id20:\0\0\0\0\0\0\0\0\0\0\0\0\0\0\0\0\0\0\0\x01e1:t4:\xa0\x8d\xed\x1a1:y1:re";
 
-/// What a lookup of zeros by the node of ones wrote, its status, and its link.
+/// What a command wrote, its status, and its link.
 #[derive(Drop)]
 struct Played {
     status: u8,
@@ -38,27 +41,32 @@ fn none(alloc: Global) -> Numbers {
     List::new(alloc)
 }
 
-fn words(alloc: Global) -> Result<Vec<String>, Fail> {
+/// A lookup of zeros by the node of ones, on one path.
+const ONE_PATH: &[&str] = &[
+    "lookup",
+    "--target",
+    "0000000000000000000000000000000000000000",
+    "--own",
+    "ffffffffffffffffffffffffffffffffffffffff",
+    "--paths",
+    "1",
+];
+
+fn words(alloc: Global, texts: &[&str]) -> Result<Vec<String>, Fail> {
     let mut words = Vec::new(alloc);
-    for word in [
-        "lookup",
-        "--target",
-        "0000000000000000000000000000000000000000",
-        "--own",
-        "ffffffffffffffffffffffffffffffffffffffff",
-    ] {
-        words.push(String::from_str(alloc, word)?)?;
+    for text in texts {
+        words.push(String::from_str(alloc, text)?)?;
     }
     Ok(words)
 }
 
-fn play(rt: &HostRuntime, input: &str, link: ScriptLink) -> Result<Played, Fail> {
+fn play(rt: &HostRuntime, texts: &[&str], input: &str, link: ScriptLink) -> Result<Played, Fail> {
     let alloc = rt.alloc();
     let mut link = link;
     let bytes = List::from_slice(alloc, input.as_bytes())?;
     let mut source = SteadySource::new(bytes);
     let mut sink = BytesSink::new(4096, none(alloc), List::new(alloc));
-    let words = words(alloc)?;
+    let words = words(alloc, texts)?;
     let status = run(
         rt,
         alloc,
@@ -72,6 +80,25 @@ fn play(rt: &HostRuntime, input: &str, link: ScriptLink) -> Result<Played, Fail>
     );
     let text = String::from_str(alloc, std::str::from_utf8(sink.written())?)?;
     Ok(Played { status, text, link })
+}
+
+/// The command answers this status and writes this text.
+fn shows(
+    rt: &HostRuntime,
+    texts: &[&str],
+    input: &str,
+    link: ScriptLink,
+    status: u8,
+    text: &str,
+) -> Result<(), Fail> {
+    let played = play(rt, texts, input, link)?;
+    if played.status != status {
+        return Err(Fail::new("another status"));
+    }
+    if played.text.as_str() != text {
+        return Err(Fail::new("another text"));
+    }
+    Ok(())
 }
 
 /// The datagrams that were sent, as the transcript has them.
@@ -88,17 +115,17 @@ fn sent(alloc: Global, link: &ScriptLink) -> Result<Vec<Vec<u8>>, Fail> {
     Ok(sent)
 }
 
-/// The contacts from this one to the eighth answer at this moment. The second names the ninth, who answers at 2010.
-fn naming_the_ninth(alloc: Global, first: u8, at: u64) -> Result<Vec<Reply>, Fail> {
+/// The contacts from this one to the ninth answer at moment 10. The second names the ninth.
+fn naming_the_ninth(alloc: Global, first: u8) -> Result<Vec<Reply>, Fail> {
     let mut replies = Vec::new(alloc);
-    for n in first..=8 {
-        let node = if n == 2 { Some(9) } else { None };
-        replies.push(Reply {
-            node,
-            ..Reply::of(n, at)
-        })?;
+    for n in first..=9 {
+        let reply = if n == 2 {
+            Reply::naming(2, 10, 9)
+        } else {
+            Reply::of(n, 10)
+        };
+        replies.push(reply)?;
     }
-    replies.push(Reply::of(9, 2010))?;
     Ok(replies)
 }
 
@@ -106,8 +133,9 @@ fn naming_the_ninth(alloc: Global, first: u8, at: u64) -> Result<Vec<Reply>, Fai
 fn lines(alloc: Global, from: u8, to: u8) -> Result<String, Fail> {
     let mut text = String::new(alloc);
     for n in from..=to {
+        let port = port(n);
         let line = format!(in alloc;
-            "00000000000000000000000000000000000000{n:02x} 127.0.0.1:600{n}\n"
+            "00000000000000000000000000000000000000{n:02x} 127.0.0.1:{port}\n"
         )?;
         text.push_str(line.as_str())?;
     }
@@ -131,7 +159,7 @@ fn query(alloc: Global) -> Result<Vec<u8>, Fail> {
 fn a_contact_that_answers_is_found(rt: HostRuntime) -> Result<(), Fail> {
     let alloc = rt.alloc();
     let query = query(alloc)?;
-    let played = play(&rt, LINE_1, link(alloc, &[Reply::of(1, 10)])?)?;
+    let played = play(&rt, ONE_PATH, LINE_1, link(alloc, &[Reply::of(1, 10)])?)?;
     let sent = sent(alloc, &played.link)?;
     assert_eq!(rt; played.status, 0);
     assert_eq!(rt; played.text.as_str(), FOUND_1);
@@ -146,7 +174,7 @@ fn a_contact_that_answers_is_found(rt: HostRuntime) -> Result<(), Fail> {
 #[test]
 fn a_lookup_tells_what_it_did(rt: HostRuntime) -> Result<(), Fail> {
     let alloc = rt.alloc();
-    let played = play(&rt, LINE_1, link(alloc, &[Reply::of(1, 10)])?)?;
+    let played = play(&rt, ONE_PATH, LINE_1, link(alloc, &[Reply::of(1, 10)])?)?;
     let addr = contact(1).addr;
     let events = [
         Event::Now { at: 0 },
@@ -168,7 +196,7 @@ fn a_lookup_tells_what_it_did(rt: HostRuntime) -> Result<(), Fail> {
 #[test]
 fn nothing_to_begin_with_sends_nothing(rt: HostRuntime) -> Result<(), Fail> {
     let alloc = rt.alloc();
-    let played = play(&rt, "", link(alloc, &[Reply::of(1, 10)])?)?;
+    let played = play(&rt, ONE_PATH, "", link(alloc, &[Reply::of(1, 10)])?)?;
     let sent = sent(alloc, &played.link)?;
     assert_eq!(rt; played.status, 8);
     assert_eq!(rt; played.text.as_str(), "no seeds\n");
@@ -183,10 +211,7 @@ fn an_answer_from_another_port_is_a_stray(rt: HostRuntime) -> Result<(), Fail> {
         ..Reply::of(1, 5)
     };
     let link = link(rt.alloc(), &[from_another_port, Reply::of(1, 10)])?;
-    let played = play(&rt, LINE_1, link)?;
-    assert_eq!(rt; played.status, 0);
-    assert_eq!(rt; played.text.as_str(), FOUND_1);
-    Ok(())
+    shows(&rt, ONE_PATH, LINE_1, link, 0, FOUND_1)
 }
 
 #[test]
@@ -195,29 +220,27 @@ fn an_answer_in_another_name_loses_the_contact(rt: HostRuntime) -> Result<(), Fa
         id: 7,
         ..Reply::of(1, 10)
     };
-    let played = play(&rt, LINE_1, link(rt.alloc(), &[in_another_name])?)?;
-    assert_eq!(rt; played.status, 0);
-    assert_eq!(rt; played.text.as_str(), "found 0 asked 1 failed 1 turned 0\n");
-    Ok(())
+    shows(
+        &rt,
+        ONE_PATH,
+        LINE_1,
+        link(rt.alloc(), &[in_another_name])?,
+        0,
+        "found 0 asked 1 failed 1 turned 0\n",
+    )
 }
 
 #[test]
 fn a_refused_send_loses_the_contact(rt: HostRuntime) -> Result<(), Fail> {
     let two = lines(rt.alloc(), 1, 2)?;
     let link = failing_link(rt.alloc(), &[Reply::of(2, 10)], &[0], &[])?;
-    let played = play(&rt, two.as_str(), link)?;
-    assert_eq!(rt; played.status, 0);
-    assert_eq!(rt; played.text.as_str(), FOUND_2);
-    Ok(())
+    shows(&rt, ONE_PATH, two.as_str(), link, 0, FOUND_2)
 }
 
 #[test]
 fn a_failed_receive_ends_the_lookup(rt: HostRuntime) -> Result<(), Fail> {
     let link = failing_link(rt.alloc(), &[Reply::of(1, 10)], &[], &[0])?;
-    let played = play(&rt, LINE_1, link)?;
-    assert_eq!(rt; played.status, 4);
-    assert_eq!(rt; played.text.as_str(), "link fault\n");
-    Ok(())
+    shows(&rt, ONE_PATH, LINE_1, link, 4, "link fault\n")
 }
 
 #[test]
@@ -226,12 +249,9 @@ fn a_ninth_is_not_asked_while_eight_closer_ones_answer(rt: HostRuntime) -> Resul
     let input = lines(alloc, 1, 8)?;
     let mut text = lines(alloc, 1, 8)?;
     text.push_str("found 8 asked 8 failed 0 turned 0\n")?;
-    let replies = naming_the_ninth(alloc, 1, 10)?;
+    let replies = naming_the_ninth(alloc, 1)?;
     let link = link(alloc, replies.as_slice())?;
-    let played = play(&rt, input.as_str(), link)?;
-    assert_eq!(rt; played.status, 0);
-    assert_eq!(rt; played.text.as_str(), text.as_str());
-    Ok(())
+    shows(&rt, ONE_PATH, input.as_str(), link, 0, text.as_str())
 }
 
 #[test]
@@ -240,21 +260,22 @@ fn a_ninth_is_asked_where_one_of_eight_is_silent(rt: HostRuntime) -> Result<(), 
     let input = lines(alloc, 1, 8)?;
     let mut text = lines(alloc, 2, 9)?;
     text.push_str("found 8 asked 9 failed 1 turned 0\n")?;
-    let replies = naming_the_ninth(alloc, 2, 2010)?;
+    let replies = naming_the_ninth(alloc, 2)?;
     let link = link(alloc, replies.as_slice())?;
-    let played = play(&rt, input.as_str(), link)?;
-    assert_eq!(rt; played.status, 0);
-    assert_eq!(rt; played.text.as_str(), text.as_str());
-    Ok(())
+    shows(&rt, ONE_PATH, input.as_str(), link, 0, text.as_str())
 }
 
 #[test]
 fn a_bad_line_is_named(rt: HostRuntime) -> Result<(), Fail> {
     let input = "0000000000000000000000000000000000000001 127.0.0.1:6001\nxyz\n";
-    let played = play(&rt, input, link(rt.alloc(), &[Reply::of(1, 10)])?)?;
-    assert_eq!(rt; played.status, 3);
-    assert_eq!(rt; played.text.as_str(), "bad line 2\n");
-    Ok(())
+    shows(
+        &rt,
+        ONE_PATH,
+        input,
+        link(rt.alloc(), &[Reply::of(1, 10)])?,
+        3,
+        "bad line 2\n",
+    )
 }
 
 /// The status of a lookup over the script in which contact 1 answers.
@@ -281,7 +302,7 @@ fn status_of<S: Source, K: Sink>(
 #[test]
 fn a_failed_read_ends_the_command(rt: HostRuntime) -> Result<(), Fail> {
     let alloc = rt.alloc();
-    let words = words(alloc)?;
+    let words = words(alloc, ONE_PATH)?;
     let input = List::from_slice(alloc, LINE_1.as_bytes())?;
     let mut source = BytesSource::new(input, 100, List::from_slice(alloc, &[0])?);
     let mut sink = SteadySink::new(alloc, 1000)?;
@@ -294,7 +315,7 @@ fn a_failed_read_ends_the_command(rt: HostRuntime) -> Result<(), Fail> {
 #[test]
 fn a_failed_write_leaves_a_front(rt: HostRuntime) -> Result<(), Fail> {
     let alloc = rt.alloc();
-    let words = words(alloc)?;
+    let words = words(alloc, ONE_PATH)?;
     let mut source = SteadySource::new(List::from_slice(alloc, LINE_1.as_bytes())?);
     // A byte a call, and the fourth call fails.
     let mut sink = BytesSink::new(1, List::from_slice(alloc, &[3])?, List::new(alloc));
@@ -307,7 +328,7 @@ fn a_failed_write_leaves_a_front(rt: HostRuntime) -> Result<(), Fail> {
 #[test]
 fn too_long_an_input_is_named(rt: HostRuntime) -> Result<(), Fail> {
     let alloc = rt.alloc();
-    let words = words(alloc)?;
+    let words = words(alloc, ONE_PATH)?;
     let mut source = SteadySource::new(List::from_vec(vec![in alloc; b'#'; 1_048_577]?));
     let mut sink = SteadySink::new(alloc, 1000)?;
     let status = status_of(&rt, &words, &mut source, &mut sink)?;
@@ -316,12 +337,23 @@ fn too_long_an_input_is_named(rt: HostRuntime) -> Result<(), Fail> {
     Ok(())
 }
 
+/// No words at all, a command that there is not, and one that is not built.
 #[test]
-fn no_words_ask_for_nothing(rt: HostRuntime) -> Result<(), Fail> {
-    let mut source = SteadySource::new(List::new(rt.alloc()));
-    let mut sink = SteadySink::new(rt.alloc(), 1000)?;
-    let status = status_of(&rt, &[], &mut source, &mut sink)?;
-    assert_eq!(rt; status, 2);
-    assert_eq!(rt; sink.written(), b"usage\n".as_slice());
-    Ok(())
+fn words_that_ask_for_nothing(rt: HostRuntime) -> Result<(), Fail> {
+    let zeros = "0000000000000000000000000000000000000000";
+    refuses(&rt, &[])?;
+    refuses(&rt, &["find"])?;
+    refuses(&rt, &["check"])?;
+    refuses(&rt, &["lookup"])?;
+    refuses(&rt, &["lookup", "--target", &zeros[1..]])?;
+    refuses(&rt, &["lookup", "--target", zeros, "--k", "21"])?;
+    refuses(&rt, &["lookup", "--target", zeros, "--k", "8", "--k", "8"])?;
+    refuses(&rt, &["lookup", "--target", zeros, "--k=8"])?;
+    refuses(&rt, &["lookup", "--target", zeros, "--k"])?;
+    refuses(&rt, &["lookup", "--target", zeros, "--speed", "1"])
+}
+
+fn refuses(rt: &HostRuntime, texts: &[&str]) -> Result<(), Fail> {
+    let link = link(rt.alloc(), &[Reply::of(1, 10)])?;
+    shows(rt, texts, LINE_1, link, 2, "usage\n")
 }

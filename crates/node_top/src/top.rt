@@ -1,14 +1,17 @@
 //! The top call: one command, its output and its status.
-ghost use Rattle.std.specs.Prelude.{◌≡◌, ◌≢◌, ◌≤◌, ◌⊎◌, ◌↔◌, None, map, string_bytes, IfOk, IfErr};
-ghost use Rattle.kad_base.specs.Outside.{Rose};
-ghost use Rattle.node_top.specs.Looked.{IsPlain, LookedUp, Looked, HasCause, HasBadLine, HasNoSeeds, HasSeeds, HasStrays, ReadsTooMuch, outside_of};
+ghost use Rattle.std.specs.Prelude.{◌≡◌, ◌≢◌, ◌≤◌, ◌⊎◌, ◌↔◌, None, IfOk, IfErr};
+ghost use Rattle.node_top.specs.Asked.{Asks, bytes_of};
+ghost use Rattle.node_top.specs.Shown.{shown, IsTold, HasFailed};
+ghost use Rattle.node_top.specs.Input.{HasBadLine, ReadsTooMuch};
+ghost use Rattle.node_top.specs.Commands.{LookedUp, Looked, HasCause, HasBegun, HasNoSeeds, HasSeeds, HasStrays, GoesWell};
 ghost use Rattle.node_top.specs.Endings.{number_of, status_line, Writes, WritesLine, CutShort, EndsEarly, OrNoMemory};
 
+use crate::asked::asked;
 use crate::lookup::lookup;
 use crate::output::write_whole;
 use crate::status::{LINE_ROOM, Status};
-use crate::words::read_words;
 use kad_base::{Bytes, Check, Link, Sink, Source};
+use kad_words::Command;
 use std::alloc::Global;
 use std::hash::RandomState;
 
@@ -22,24 +25,30 @@ fn output_of<S: Source, L: Link, C: Check>(
     check: &C,
     hasher: RandomState,
 ) -> Result<Bytes, Status>
-    ensures ok { IfOk result (Looked (map (λ w. string_bytes w) words.now) random.now (S.left source.old) (S.left source.new) (L.told link.old) (L.told link.new)) }
+    ensures ok { IfOk result (Looked (bytes_of words.now) random.now
+        (shown S.left S.faults source.old source.new)
+        (shown L.told L.recv_faults link.old link.new)) }
     ensures unread { IfErr result (λ status. number_of status ≡ 2 → source.new ≡ source.old) }
     ensures early { IfErr result (λ status. EndsEarly (number_of status) → link.new ≡ link.old) }
-    ensures plain { ¬ IsPlain (map (λ w. string_bytes w) words.now) → IfErr result (λ status. number_of status ≡ 2) }
-    ensures cause { IfErr result (HasCause (map (λ w. string_bytes w) words.now) random.now (outside_of (S.left source.old) (S.left source.new) (S.faults source.old) (S.faults source.new) (L.told link.old) (L.told link.new) (L.recv_faults link.old) (L.recv_faults link.new))) }
+    ensures no_memory { IfErr result (λ status. status ≡ Status.NoMemory →
+        HasBegun (bytes_of words.now) random.now
+        (shown S.left S.faults source.old source.new)
+        (shown L.told L.recv_faults link.old link.new) ⊎ (link.new ≡ link.old)) }
+    ensures plain { ¬ Asks (bytes_of words.now) → IfErr result (λ status. number_of status ≡ 2) }
+    ensures cause { IfErr result (HasCause (bytes_of words.now) random.now
+        (shown S.left S.faults source.old source.new)
+        (shown L.told L.recv_faults link.old link.new)) }
 {
-    let command = match read_words(words) {
-        Some(command) => command,
-        None => return Err(Status::Usage),
-    };
-    let look = command.lookup();
-    lookup(alloc, &look, source, link, random, check, hasher)
+    match asked(alloc, words)? {
+        Command::Lookup { look } => lookup(alloc, &look, source, link, random, check, hasher),
+        _ => Err(Status::Usage),
+    }
 }
 
 /// Writes the one line of a command that has no output, or a front of it where the sink fails. The line is whole before
 /// its first byte is written, and takes no memory.
 fn write_line<K: Sink>(sink: &mut K, status: &Status)
-    ensures { Writes (status_line status.now) (K.written sink.old) (K.written sink.new) (K.faults sink.old) (K.faults sink.new) }
+    ensures { Writes (status_line status.now) (shown K.written K.faults sink.old sink.new) }
 {
     let mut room = [0u8; LINE_ROOM];
     let size = status.put_line(&mut room);
@@ -49,15 +58,16 @@ fn write_line<K: Sink>(sink: &mut K, status: &Status)
 /// Does the command that the words ask for, and answers the status that the program ends with. `words` are those after
 /// the program's name; `random` are 32 bytes that nobody else knows, from which the node's identifier (unless a word
 /// names it) and the transaction ids are drawn. `rt` is the runtime, for commands that wait; none does so far.
+/// Strangers choose what the lookup keeps an index of, so its `hasher` is handed in; nothing that is written depends on it.
 ///
-/// The one command is `lookup --target <40 hex digits>` with the options `--own <40 hex digits>` and `--timeout <1 to
-/// 60000 milliseconds>`. It reads contact lines from the source, asks the closest contacts on one path with one query
-/// open, and writes the closest contacts that answered, nearest first.
+/// The one command that is built so far is `lookup`: it tells a new routing table of the contact lines of the source,
+/// asks the closest contacts of the table on several disjoint paths, and writes the closest contacts that answered, nearest
+/// first. What its words are is the business of `kad_words`.
 ///
 /// | Status | Line | When |
 /// |---|---|---|
 /// | 0 | the output | done |
-/// | 2 | `usage` | the words are not of the plain form |
+/// | 2 | `usage` | the words are not of the plain form, or their command isn't built |
 /// | 3 | `bad line n` | line n is the first that is no contact line |
 /// | 4 | `link fault` | a receive failed |
 /// | 5 | none | a write failed |
@@ -78,32 +88,60 @@ pub fn run<R, S: Source, K: Sink, L: Link, C: Check>(
     hasher: RandomState,
 ) -> u8
     // The text that was written is that of a legal journal which the link's events tell and whose paths have run out.
-    ensures looked_up { result ≡ 0 → LookedUp (map (λ w. string_bytes w) words.now) random.now (S.left source.old) (S.left source.new) (L.told link.old) (L.told link.new) (K.written sink.old) (K.written sink.new) }
+    ensures looked_up { result ≡ 0 → LookedUp (bytes_of words.now) random.now
+        (shown S.left S.faults source.old source.new)
+        (shown L.told L.recv_faults link.old link.new)
+        (shown K.written K.faults sink.old sink.new) }
 
-    // Words of another form end with 2, and only they.
-    ensures usage { result ≡ 2 ↔ ¬ IsPlain (map (λ w. string_bytes w) words.now) }
+    // Words that ask for no command that is built end with 2, and only they.
+    ensures usage { result ≡ 2 ↔ ¬ Asks (bytes_of words.now) }
 
     // Each other status but 9 comes only with its cause.
-    ensures bad_line { result ≡ 3 → HasBadLine (S.left source.old) (S.left source.new) }
-    ensures link_fault { result ≡ 4 → Rose (L.recv_faults link.old) (L.recv_faults link.new) }
-    ensures sink_fault { result ≡ 5 → Rose (K.faults sink.old) (K.faults sink.new) }
-    ensures source_fault { result ≡ 6 → Rose (S.faults source.old) (S.faults source.new) }
-    ensures strays { result ≡ 7 → HasStrays (map (λ w. string_bytes w) words.now) random.now (L.told link.old) (L.told link.new) }
-    ensures begun { (result ≡ 4) ⊎ (result ≡ 7) → HasSeeds (map (λ w. string_bytes w) words.now) random.now (S.left source.old) (S.left source.new) }
-    ensures no_seeds { result ≡ 8 → HasNoSeeds (map (λ w. string_bytes w) words.now) random.now (S.left source.old) (S.left source.new) }
+    ensures bad_line { result ≡ 3 → HasBadLine (shown S.left S.faults source.old source.new) }
+    ensures link_fault { result ≡ 4 → HasFailed (shown L.told L.recv_faults link.old link.new) }
+    ensures sink_fault { result ≡ 5 → HasFailed (shown K.written K.faults sink.old sink.new) }
+    ensures source_fault { result ≡ 6 → HasFailed (shown S.left S.faults source.old source.new) }
+    ensures strays { result ≡ 7 → HasStrays (bytes_of words.now) random.now
+        (shown L.told L.recv_faults link.old link.new) }
+    ensures begun { (result ≡ 4) ⊎ (result ≡ 7) → HasSeeds (bytes_of words.now) random.now
+        (shown S.left S.faults source.old source.new) }
+    ensures unfinished { (result ≡ 4) ⊎ (result ≡ 7) → HasBegun (bytes_of words.now) random.now
+        (shown S.left S.faults source.old source.new)
+        (shown L.told L.recv_faults link.old link.new) }
+    ensures no_memory { result ≡ 9 → HasBegun (bytes_of words.now) random.now
+        (shown S.left S.faults source.old source.new)
+        (shown L.told L.recv_faults link.old link.new) ⊎ (link.new ≡ link.old) }
+    ensures no_seeds { result ≡ 8 → HasNoSeeds (bytes_of words.now) random.now
+        (shown S.left S.faults source.old source.new) }
     ensures too_long { result ≡ 11 → ReadsTooMuch (S.left source.old) (S.left source.new) }
 
-    // Where the source goes on telling, each of these causes brings its status, want of memory aside.
-    ensures bad_line_comes { IsPlain (map (λ w. string_bytes w) words.now) → S.left source.new ≢ None → ¬ Rose (S.faults source.old) (S.faults source.new) → HasBadLine (S.left source.old) (S.left source.new) → OrNoMemory result 3 }
-    ensures no_seeds_come { S.left source.new ≢ None → ¬ Rose (S.faults source.old) (S.faults source.new) → HasNoSeeds (map (λ w. string_bytes w) words.now) random.now (S.left source.old) (S.left source.new) → OrNoMemory result 8 }
-    ensures too_long_comes { S.left source.new ≢ None → ReadsTooMuch (S.left source.old) (S.left source.new) → OrNoMemory result 11 }
+    // Where the source, or the link, goes on telling, each of these causes brings its status, want of memory aside.
+    ensures bad_line_comes { let input = shown S.left S.faults source.old source.new in
+        Asks (bytes_of words.now) → IsTold input → ¬ HasFailed input → HasBadLine input
+        → OrNoMemory result 3 }
+    ensures no_seeds_come { let input = shown S.left S.faults source.old source.new in
+        IsTold input → ¬ HasFailed input → HasNoSeeds (bytes_of words.now) random.now input
+        → OrNoMemory result 8 }
+    ensures strays_come { let told = shown L.told L.recv_faults link.old link.new in
+        IsTold told → HasStrays (bytes_of words.now) random.now told → OrNoMemory result 7 }
+    ensures too_long_comes { S.left source.new ≢ None → ReadsTooMuch (S.left source.old) (S.left source.new)
+        → OrNoMemory result 11 }
 
-    // With a good input, no failure and few strays a lookup is done, want of memory aside.
-    ensures complete { S.left source.new ≢ None → ¬ Rose (S.faults source.old) (S.faults source.new) → ¬ Rose (L.recv_faults link.old) (L.recv_faults link.new) → ¬ Rose (K.faults sink.old) (K.faults sink.new) → ¬ HasStrays (map (λ w. string_bytes w) words.now) random.now (L.told link.old) (L.told link.new) → HasSeeds (map (λ w. string_bytes w) words.now) random.now (S.left source.old) (S.left source.new) → OrNoMemory result 0 }
+    // With a good input, no failure and few strays a command is done, want of memory aside.
+    ensures complete { GoesWell (bytes_of words.now) random.now
+        (shown S.left S.faults source.old source.new)
+        (shown L.told L.recv_faults link.old link.new)
+        (shown K.written K.faults sink.old sink.new)
+        → OrNoMemory result 0 }
 
     // What was written: the line of the status, or at 5 a front of the text.
-    ensures line { result ≢ 0 → result ≢ 5 → WritesLine result (S.left source.old) (S.left source.new) (K.written sink.old) (K.written sink.new) (K.faults sink.old) (K.faults sink.new) }
-    ensures cut_short { result ≡ 5 → CutShort (map (λ w. string_bytes w) words.now) random.now (S.left source.old) (S.left source.new) (L.told link.old) (L.told link.new) (K.written sink.old) (K.written sink.new) }
+    ensures line { result ≢ 0 → result ≢ 5 → WritesLine result
+        (shown S.left S.faults source.old source.new)
+        (shown K.written K.faults sink.old sink.new) }
+    ensures cut_short { result ≡ 5 → CutShort (bytes_of words.now) random.now
+        (shown S.left S.faults source.old source.new)
+        (shown L.told L.recv_faults link.old link.new)
+        (shown K.written K.faults sink.old sink.new) }
 
     // What was not called: the source at 2, and the link at each status that comes before the lookup begins.
     ensures unread { result ≡ 2 → source.new ≡ source.old }

@@ -1,6 +1,6 @@
 //! Replies as other nodes send them, by their bytes. Their transaction id is that of the first query, as `query` has it.
 use crate::tests::script::{Reply, link_with};
-use crate::tests::{FOUND_1, LINE_1, lines, play};
+use crate::tests::{FOUND_1, LINE_1, ONE_PATH, lines, shows};
 use std::test::Fail;
 
 /// The error message of BEP 5's own example.
@@ -17,39 +17,41 @@ const A_USUAL_ANSWER: &[u8] =
 /// Contact 1 would be found by its later answer, if the error message were a stray.
 #[test]
 fn an_error_message_loses_the_contact(rt: HostRuntime) -> Result<(), Fail> {
-    let link = link_with(rt.alloc(), AN_ERROR, &[Reply::of(1, 20)])?;
-    let played = play(&rt, LINE_1, link)?;
-    assert_eq!(rt; played.status, 0);
-    assert_eq!(rt; played.text.as_str(), "found 0 asked 1 failed 1 turned 0\n");
-    Ok(())
+    let link = link_with(rt.alloc(), AN_ERROR, 10, 1, &[Reply::of(1, 20)])?;
+    shows(
+        &rt,
+        ONE_PATH,
+        LINE_1,
+        link,
+        0,
+        "found 0 asked 1 failed 1 turned 0\n",
+    )
 }
 
 #[test]
 fn an_answer_with_a_broken_record_is_no_answer(rt: HostRuntime) -> Result<(), Fail> {
-    let link = link_with(rt.alloc(), NODES_OF_27_BYTES, &[])?;
-    let played = play(&rt, LINE_1, link)?;
-    assert_eq!(rt; played.status, 0);
-    assert_eq!(rt; played.text.as_str(), "found 0 asked 1 failed 1 turned 0\n");
-    Ok(())
+    let link = link_with(rt.alloc(), NODES_OF_27_BYTES, 10, 1, &[])?;
+    shows(
+        &rt,
+        ONE_PATH,
+        LINE_1,
+        link,
+        0,
+        "found 0 asked 1 failed 1 turned 0\n",
+    )
 }
 
 /// Contact 1 is found by its later answer, which a message that loses it would prevent.
 #[test]
 fn an_answer_with_a_broken_record_is_a_stray(rt: HostRuntime) -> Result<(), Fail> {
-    let link = link_with(rt.alloc(), NODES_OF_27_BYTES, &[Reply::of(1, 20)])?;
-    let played = play(&rt, LINE_1, link)?;
-    assert_eq!(rt; played.status, 0);
-    assert_eq!(rt; played.text.as_str(), FOUND_1);
-    Ok(())
+    let link = link_with(rt.alloc(), NODES_OF_27_BYTES, 10, 1, &[Reply::of(1, 20)])?;
+    shows(&rt, ONE_PATH, LINE_1, link, 0, FOUND_1)
 }
 
 #[test]
 fn an_answer_with_more_keys_is_heard(rt: HostRuntime) -> Result<(), Fail> {
     let mut text = lines(rt.alloc(), 1, 2)?;
     text.push_str("found 2 asked 2 failed 0 turned 0\n")?;
-    let link = link_with(rt.alloc(), A_USUAL_ANSWER, &[Reply::of(2, 20)])?;
-    let played = play(&rt, LINE_1, link)?;
-    assert_eq!(rt; played.status, 0);
-    assert_eq!(rt; played.text.as_str(), text.as_str());
-    Ok(())
+    let link = link_with(rt.alloc(), A_USUAL_ANSWER, 10, 1, &[Reply::of(2, 20)])?;
+    shows(&rt, ONE_PATH, LINE_1, link, 0, text.as_str())
 }

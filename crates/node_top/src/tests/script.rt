@@ -1,23 +1,23 @@
 //! Links that play the scripts of the tests.
 ghost use Rattle.std.specs.Prelude.{All, IfOk};
-ghost use Rattle.kad_krpc.specs.Form.{Each, IsNode};
+ghost use Rattle.kad_krpc.specs.Form.{Each, IsNode, IsProved, IsV4};
 ghost use Rattle.fake_net.specs.Scripts.{IsWritableEvent};
 
 use fake_net::{Script, ScriptEvent, ScriptLink};
-use kad_base::{Addr, Contact, Contacts, Id, Ip, List};
+use kad_base::{Addr, Contact, Contacts, Id, Ip, List, Reports};
 use kad_krpc::{Answer, Message};
 use std::alloc::Global;
 use std::test::Fail;
 
-/// The query to contact `to` is answered at this moment from this port, in the name of contact `id`, with this contact
-/// as the one node, or without nodes.
+/// The query to contact `to` is answered at this moment from this port, in the name of contact `id`, with this node of
+/// 127.0.0.1, its number and its port, or without nodes.
 #[derive(Clone, Copy, Debug)]
 pub struct Reply {
     pub to: u8,
     pub at: u64,
     pub port: u16,
     pub id: u8,
-    pub node: Option<u8>,
+    pub node: Option<(u8, u16)>,
 }
 
 impl Reply {
@@ -26,10 +26,45 @@ impl Reply {
         Reply {
             to: n,
             at,
-            port: 6000 + n as u16,
+            port: port(n),
             id: n,
             node: None,
         }
+    }
+
+    /// The same, with this contact as the one node.
+    pub fn naming(n: u8, at: u64, node: u8) -> Reply {
+        Reply {
+            node: Some((node, port(node))),
+            ..Reply::of(n, at)
+        }
+    }
+}
+
+/// The port of contact n.
+pub fn port(n: u8) -> u16 {
+    6000 + n as u16
+}
+
+/// 127.0.0.1 and this port.
+pub fn local(port: u16) -> Addr
+    ensures { IsV4 result.ip }
+{
+    Addr {
+        ip: Ip::V4([127, 0, 0, 1]),
+        port,
+    }
+}
+
+/// Identifier n at 127.0.0.1 and this port.
+fn node(n: u8, port: u16) -> Contact
+    ensures { IsNode result }
+{
+    let mut id = [0; 20];
+    id[19] = n;
+    Contact {
+        id: Id(id),
+        addr: local(port),
     }
 }
 
@@ -37,51 +72,62 @@ impl Reply {
 pub fn contact(n: u8) -> Contact
     ensures { IsNode result }
 {
-    let mut id = [0; 20];
-    id[19] = n;
-    Contact {
-        id: Id(id),
-        addr: Addr {
-            ip: Ip::V4([127, 0, 0, 1]),
-            port: 6000 + n as u16,
-        },
-    }
+    node(n, port(n))
 }
 
-fn nodes(alloc: Global, node: Option<u8>) -> Result<Option<Contacts>, Fail>
+fn nodes(alloc: Global, named: Option<(u8, u16)>) -> Result<Option<Contacts>, Fail>
     ensures { IfOk result (Each IsNode) }
 {
-    let Some(n) = node else {
+    let Some((n, port)) = named else {
         return Ok(None);
     };
     let mut nodes = List::new(alloc);
-    nodes.push(contact(n))?;
+    nodes.push(node(n, port))?;
     Ok(Some(nodes))
+}
+
+/// The query to `to` is answered at this moment from this address, in this name and with these nodes.
+pub fn answer(
+    alloc: Global,
+    to: Addr,
+    at: u64,
+    from: Addr,
+    id: Id,
+    nodes: Option<Contacts>,
+    snodes: Option<Reports>,
+) -> ScriptEvent
+    requires nodes { Each IsNode nodes }
+    requires snodes { Each IsProved snodes }
+    ensures { IsWritableEvent result }
+{
+    ScriptEvent::ToQuery {
+        to,
+        at,
+        from,
+        message: Message::Answer {
+            tx: List::new(alloc),
+            answer: Answer {
+                id,
+                nodes,
+                snodes,
+                token: None,
+                values: None,
+            },
+        },
+    }
 }
 
 fn event(alloc: Global, reply: &Reply) -> Result<ScriptEvent, Fail>
     ensures { IfOk result IsWritableEvent }
 {
     let to = contact(reply.to).addr;
+    let from = Addr {
+        port: reply.port,
+        ..to
+    };
     let nodes = nodes(alloc, reply.node)?;
-    Ok(ScriptEvent::ToQuery {
-        to,
-        at: reply.at,
-        from: Addr {
-            port: reply.port,
-            ..to
-        },
-        message: Message::Answer {
-            tx: List::new(alloc),
-            answer: Answer {
-                id: contact(reply.id).id,
-                nodes,
-                snodes: None,
-                token: None,
-                values: None,
-            },
-        },
-    })
+    let id = contact(reply.id).id;
+    Ok(answer(alloc, to, reply.at, from, id, nodes, None))
 }
 
 /// The script with these replies behind it.
@@ -97,15 +143,15 @@ fn with_replies(alloc: Global, script: Script, replies: &[Reply]) -> Result<Scri
     Ok(script)
 }
 
-/// The bytes from contact 1 at moment 10.
-fn datagram(alloc: Global, bytes: &[u8]) -> Result<ScriptEvent, Fail>
+/// The bytes from contact 1 at this moment, that many times.
+fn datagram(alloc: Global, bytes: &[u8], at: u64, times: u32) -> Result<ScriptEvent, Fail>
     ensures { IfOk result IsWritableEvent }
 {
     Ok(ScriptEvent::Deliver {
-        at: 10,
+        at,
         from: contact(1).addr,
         bytes: List::from_slice(alloc, bytes)?,
-        times: 1,
+        times,
     })
 }
 
@@ -127,11 +173,24 @@ pub fn failing_link(
     Ok(ScriptLink::new(alloc, 0, script, sends, receives))
 }
 
-/// A link over these bytes from contact 1 at moment 10 beside the replies, whose first moment is 0.
-pub fn link_with(alloc: Global, bytes: &[u8], replies: &[Reply]) -> Result<ScriptLink, Fail> {
+/// A link over these bytes from contact 1 at this moment, that many times, beside the replies, whose first moment is 0.
+pub fn link_with(
+    alloc: Global,
+    bytes: &[u8],
+    at: u64,
+    times: u32,
+    replies: &[Reply],
+) -> Result<ScriptLink, Fail> {
     let mut script = List::new(alloc);
-    let datagram = datagram(alloc, bytes)?;
+    let datagram = datagram(alloc, bytes, at, times)?;
     script.push(datagram)?;
     let script = with_replies(alloc, script, replies)?;
-    Ok(ScriptLink::new(alloc, 0, script, List::new(alloc), List::new(alloc)))
+    Ok(link_over(alloc, script))
+}
+
+/// A link over this script, whose first moment is 0.
+pub fn link_over(alloc: Global, script: Script) -> ScriptLink
+    requires { All IsWritableEvent script }
+{
+    ScriptLink::new(alloc, 0, script, List::new(alloc), List::new(alloc))
 }

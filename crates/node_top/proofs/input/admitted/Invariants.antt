@@ -1,5 +1,5 @@
 use Rattle.std.proofs.Common.{take}
-use Rattle.node_top.specs.Looked.{Admits}
+use Rattle.node_top.specs.Input.{Admits}
 use Rattle.node_top.proofs.input.admitted.Given as goal
 
 abbrev pub invariant-loop-report : goal.invariant-loop-report

@@ -1,6 +1,6 @@
 use Rattle.std.proofs.Common.{◌≡◌, ◌*◌, ◌<◌, [], ◌∷◌, ◌++◌, drop, string_bytes}
 use Rattle.std.specs.Prelude.{codes}
-use Rattle.node_top.specs.Text.{groups_after}
+use Rattle.kad_words.specs.Text.{groups_after}
 use Rattle.node_top.proofs.printed.print_groups.Given as goal
 
 abbrev pub invariant-loop-i : goal.invariant-loop-i

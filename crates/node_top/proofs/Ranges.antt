@@ -1,0 +1,33 @@
+-- The values of a lookup's words are within the limits.
+use Rattle.std.proofs.Common.{◌≡◌, ℕ, ◌≤◌, List, Option, Some, None, subst, sym, arith}
+use Rattle.kad_words.specs.Table.{Word}
+use Rattle.kad_words.specs.Text.{SpellsNumber}
+use Rattle.kad_words.specs.Plain.{CommandOf, IsGivenOr}
+use Rattle.kad_words.specs.declared.command.Command.TheVariants.{Lookup}
+use Rattle.kad_words.specs.declared.command.LookWords.{LookWords}
+use Rattle.node_top.specs.Started.{IsInRange}
+
+record Within (least most n : ℕ) : Type 0 where
+  pub above : least ≤ n
+  pub below : n ≤ most
+
+within : (least most default : ℕ) → least ≤ default → default ≤ most → (value : Option Word) (n : ℕ) → IsGivenOr default (SpellsNumber least most) value n → Within least most n
+within least most default low high None n is = record { above = omega (arith, is, low); below = omega (arith, is, high) }
+within least most default low high (Some value) n is = record { above = is.above; below = is.below }
+
+pub in_range : (words : List Word) (look : LookWords) → CommandOf words (Lookup look) → IsInRange look
+in_range words look h =
+    let k = within 1 20 8 (omega arith) (omega arith) _ look.k h.says.k in
+    let paths = within 1 8 4 (omega arith) (omega arith) _ look.paths h.says.paths in
+    let alpha = within 1 4 3 (omega arith) (omega arith) _ look.alpha h.says.alpha in
+    let bits = within 1 5 1 (omega arith) (omega arith) _ look.bits h.says.bits in
+    record {
+      some_live = k.above;
+      few_live = k.below;
+      some_path = paths.above;
+      few_paths = paths.below;
+      some_query = alpha.above;
+      few_queries = alpha.below;
+      some_bits = bits.above;
+      few_bits = bits.below;
+    }

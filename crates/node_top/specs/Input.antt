@@ -1,0 +1,63 @@
+-- What was read of an input, and the contacts that it gives.
+use Rattle.std.specs.Prelude.{◌≡◌, ◌≢◌, ◌⊎◌, ℕ, ◌+◌, ◌≤◌, List, [], ◌∷◌, ◌++◌, length, Option, Some, IfSome}
+use Rattle.kad_base.specs.declared.plain.Id.{Id}
+use Rattle.kad_base.specs.declared.plain.Contact.{Contact}
+use Rattle.kad_base.specs.declared.plain.Report.{Report}
+use Rattle.kad_base.specs.declared.plain.Policy.{Policy}
+use Rattle.kad_base.specs.Contacts.{IsUsable}
+use Rattle.kad_base.specs.Limits.{max_input}
+use Rattle.kad_base.specs.Puzzles.{Passes}
+use Rattle.node_top.specs.Lines.{lines, Reporting, IsFirstBad}
+use Rattle.node_top.specs.Shown.{Shown}
+
+-- where the rest is told, nothing is left, and these bytes were read, which are no more than an input may have
+abbrev pub ReadsAll : Option (List ℕ) → Option (List ℕ) → List ℕ → Type 0
+ReadsAll old new input = IfSome new (λ rest. (rest ≡ []) × (old ≡ Some input) × (length input ≤ max_input))
+
+-- where the rest is told, no more was read than an input may have
+abbrev pub ReadsFew : Option (List ℕ) → Option (List ℕ) → Type 0
+ReadsFew old new = IfSome new (λ rest. (front : List ℕ) × (length front ≤ max_input) × (old ≡ Some (front ++ rest)))
+
+-- where the rest is told, one byte more was read than an input may have
+abbrev pub ReadsTooMuch : Option (List ℕ) → Option (List ℕ) → Type 0
+ReadsTooMuch old new = IfSome new (λ rest. (front : List ℕ) × (length front ≡ max_input + 1) × (old ≡ Some (front ++ rest)))
+
+-- the report's contact may begin a lookup: it is usable, and passes
+abbrev pub IsAdmitted : Id → Policy → Report → Type 0
+IsAdmitted own policy report = IsUsable own report.contact × Passes policy report
+
+-- these are the contacts of the reports that are admitted, in order
+abbrev pub Admits : Id → Policy → List Report → List Contact → Type 0
+Admits own policy [] contacts = contacts ≡ []
+Admits own policy (r ∷ reports) contacts =
+    ((rest : List Contact) × (contacts ≡ r.contact ∷ rest) × IsAdmitted own policy r × Admits own policy reports rest)
+    ⊎ (¬ IsAdmitted own policy r × Admits own policy reports contacts)
+
+-- one report more: its contact is taken, where it is admitted
+abbrev pub AdmitsOne : Id → Policy → Report → List Contact → List Contact → Type 0
+AdmitsOne own policy r old new = (IsAdmitted own policy r × (new ≡ old ++ r.contact ∷ [])) ⊎ (¬ IsAdmitted own policy r × (new ≡ old))
+
+-- the input was read to its end, each of its lines is good, and a node with this identifier and policy admits these
+-- contacts of it
+pub record Reads (own : Id) (policy : Policy) (source : Shown ℕ) (contacts : List Contact) : Type 0 where
+  pub input : List ℕ
+  pub read : ReadsAll source.before source.after input
+  pub reports : List Report
+  pub good_lines : Reporting (lines input) reports
+  pub admits : Admits own policy reports contacts
+
+-- the same, and some contact is among them
+pub record ReadsSome (own : Id) (policy : Policy) (source : Shown ℕ) : Type 0 where
+  pub contacts : List Contact
+  pub reads : Reads own policy source contacts
+  pub some_one : contacts ≢ []
+
+-- the input was read to its end, and the line of this number is the first that is bad
+pub record IsBadLine (source : Shown ℕ) (number : ℕ) : Type 0 where
+  pub input : List ℕ
+  pub read : ReadsAll source.before source.after input
+  pub first_bad : IsFirstBad (lines input) number
+
+-- the input was read to its end, and it has a bad line
+abbrev pub HasBadLine : Shown ℕ → Type 0
+HasBadLine source = (number : ℕ) × IsBadLine source number

@@ -1,0 +1,22 @@
+-- What a call saw of a source, a link or a sink: what it told that it holds, and how often it had failed, before and
+-- after.
+use Rattle.std.specs.Prelude.{◌≢◌, ℕ, List, Option, None}
+use Rattle.kad_base.specs.Outside.{Rose}
+
+pub record Shown (A : Type 0) : Type 0 where
+  pub before : Option (List A)
+  pub after : Option (List A)
+  pub faults : ℕ
+  pub faults' : ℕ
+
+-- by what is told of each, and how its failures are counted
+abbrev pub shown : {X A : Type 0} → (X → Option (List A)) → (X → ℕ) → X → X → Shown A
+shown told faults old new = record { before = told old; after = told new; faults = faults old; faults' = faults new }
+
+-- it still tells what it holds
+abbrev pub IsTold : {A : Type 0} → Shown A → Type 0
+IsTold s = s.after ≢ None
+
+-- it failed, as far as its count shows
+abbrev pub HasFailed : {A : Type 0} → Shown A → Type 0
+HasFailed s = Rose s.faults s.faults'
