@@ -22,3 +22,4 @@ pub mod Fewer
 pub mod Looking
 pub mod WholeRound
 pub mod Rounding
+pub mod Trying

@@ -13,8 +13,8 @@ use bucket_tree::Gone;
 use contact_table::{Table, TableCall, TableReply, holds_what_it_was_told};
 use fake_net::ScriptLink;
 use id_puzzles::{Sha1Check, Words};
-use kad_base::{Addr, Id, Policy, Serial, is_usable};
-use script::{Reply, contact, link, peers_link};
+use kad_base::{Id, Policy, Serial, is_usable};
+use script::{Reply, contact, link, peer, peers_link};
 use std::alloc::Global;
 use std::hash::RandomState;
 use std::test::Fail;
@@ -42,8 +42,7 @@ fn setting(own: Id, paths: u8, kind: AskKind) -> LookSetting
 
 /// A table that was told these contacts, each of which the node may ask.
 fn table_of(alloc: Global, own: Id, contacts: &[u8]) -> Result<Table, Fail>
-    ensures own { IfOk result (λ table. table.own ≡ own) }
-    ensures usable { IfOk result (λ table. All (IsUsable own) (contacts_of table)) }
+    ensures { IfOk result (λ table. All (IsUsable own) (contacts_of table)) }
 {
     let mut table = Table::new(alloc, own, 8, 1)?;
     for n in contacts {
@@ -130,13 +129,6 @@ fn the_table_is_told_who_is_silent(rt: HostRuntime) -> Result<(), Fail> {
         }
     );
     Ok(())
-}
-
-fn peer(port: u16) -> Addr {
-    Addr {
-        port,
-        ..contact(1).addr
-    }
 }
 
 #[test]

@@ -1,6 +1,6 @@
 //! Links that play the scripts of the tests.
 ghost use Rattle.std.specs.Prelude.{All, IfOk};
-ghost use Rattle.kad_krpc.specs.Form.{Each, IsNode};
+ghost use Rattle.kad_krpc.specs.Form.{Each, IsNode, IsV4};
 ghost use Rattle.fake_net.specs.Scripts.{IsWritableEvent};
 
 use fake_net::{Script, ScriptEvent, ScriptLink};
@@ -97,15 +97,30 @@ fn with_replies(alloc: Global, script: Script, replies: &[Reply]) -> Result<Scri
     Ok(script)
 }
 
-/// Contact n answers at moment 10 with these peers, by their ports, and with a token of one byte.
-fn peers_event(alloc: Global, n: u8, ports: &[u16], token: u8) -> Result<ScriptEvent, Fail>
+/// The peer at this port.
+pub fn peer(port: u16) -> Addr
+    ensures { IsV4 result.ip }
+{
+    Addr {
+        ip: Ip::V4([127, 0, 0, 1]),
+        port,
+    }
+}
+
+/// Contact n answers at moment 10 with the peers at these two ports, and with a token of one byte.
+fn peers_event(
+    alloc: Global,
+    n: u8,
+    first: u16,
+    second: u16,
+    token: u8,
+) -> Result<ScriptEvent, Fail>
     ensures { IfOk result IsWritableEvent }
 {
     let to = contact(n).addr;
     let mut values = List::new(alloc);
-    for port in ports {
-        values.push(Addr { port: *port, ..to })?;
-    }
+    values.push(peer(first))?;
+    values.push(peer(second))?;
     let mut bytes = List::new(alloc);
     bytes.push(token)?;
     Ok(ScriptEvent::ToQuery {
@@ -128,8 +143,8 @@ fn peers_event(alloc: Global, n: u8, ports: &[u16], token: u8) -> Result<ScriptE
 /// A link over the answers of contacts 1 and 2 to `get_peers`, which both name the peer at port 7000.
 pub fn peers_link(alloc: Global) -> Result<ScriptLink, Fail> {
     let mut script = List::new(alloc);
-    script.push(peers_event(alloc, 1, &[7002, 7000], 11)?)?;
-    script.push(peers_event(alloc, 2, &[7000, 7001], 12)?)?;
+    script.push(peers_event(alloc, 1, 7002, 7000, 11)?)?;
+    script.push(peers_event(alloc, 2, 7000, 7001, 12)?)?;
     Ok(ScriptLink::new(alloc, 0, script, List::new(alloc), List::new(alloc)))
 }
 
