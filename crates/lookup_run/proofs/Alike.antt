@@ -1,6 +1,6 @@
 -- What events show of datagrams, whatever the journal is: which are strays, and how many there were.
-use Rattle.std.proofs.Common.{◌≡◌, ◌≢◌, ℕ, zero, suc, ◌+◌, ◌%◌, ◌^◌, ◌<◌, ◌≤◌, List, [], ◌∷◌, ◌++◌, length, get_or, Bool, true, false, not, cond, inl, inr, refl, sym, ap, subst, ◌∙◌, arith}
-use Rattle.std.specs.Prelude.{map, filter, Contains}
+use Rattle.std.proofs.Common.{◌≡◌, ◌≢◌, ℕ, zero, suc, ◌+◌, ◌%◌, ◌^◌, ◌<◌, List, [], ◌∷◌, ◌++◌, length, get_or, true, false, not, cond, inl, inr, refl, sym, ap, subst, ◌∙◌, arith}
+use Rattle.std.specs.Prelude.{map, Contains}
 use Rattle.std.specs.List.{AllByRecursion}
 use Rattle.std.proofs.lemmas.Bool.{cases_lt}
 use Rattle.kad_base.specs.declared.plain.Addr.{Addr}
@@ -11,9 +11,9 @@ use Rattle.query_book.specs.declared.Query.{Query}
 use Rattle.query_book.specs.Queries.{HasId, IsFirstFree}
 use Rattle.claim_book.specs.declared.plain.Entry.{Entry}
 use Rattle.lookup_run.specs.declared.reply.Reply.{Reply}
-use Rattle.lookup_run.specs.Tells.{Given, OpenQuery, Seen, query_of, deadline_of, SentGives, UnsentGives, SaysTo, Replies, MatchGives, GotGives, IsStray, is_overdue, open_at, goes_on, after_stray, Gives, TellsFrom, begun, TellsSoFar, EndsAtStray}
+use Rattle.lookup_run.specs.Tells.{Given, OpenQuery, Seen, query_of, deadline_of, SentGives, SaysTo, Replies, MatchGives, GotGives, IsStray, is_overdue, open_at, goes_on, after_stray, Gives, TellsFrom, begun, TellsSoFar, EndsAtStray}
 use Rattle.lookup_run.proofs.Driven.{map_push}
-use Rattle.lookup_run.proofs.OnceEvents.{Apart, apart_gives, small_there, one_query, reply_once, contains_there}
+use Rattle.lookup_run.proofs.OnceEvents.{Apart, apart_gives, small_there, one_query, reply_once}
 
 -- an open query as the events alone show it
 abbrev bare : OpenQuery → OpenQuery

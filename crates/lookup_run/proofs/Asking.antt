@@ -1,7 +1,7 @@
 -- One contact more is asked: its query is open, or it is lost at once.
-use Rattle.std.proofs.Common.{◌≡◌, ◌≢◌, ℕ, zero, suc, ◌+◌, ◌-◌, ◌*◌, ◌%◌, ◌^◌, ◌<◌, ◌≤◌, List, [], ◌∷◌, ◌++◌, length, Option, Some, None, Bool, true, false, inl, inr, refl, sym, ap, subst, ◌∙◌, arith}
-use Rattle.std.specs.Prelude.{map, slice_get, Any, remove, IfSome, IsNone, ◌↔◌}
-use Rattle.std.specs.List.{All, AllByRecursion, IsDistinct, flat_map}
+use Rattle.std.proofs.Common.{◌≡◌, ℕ, zero, suc, ◌+◌, ◌*◌, ◌^◌, ◌<◌, ◌≤◌, List, [], ◌∷◌, ◌++◌, length, Option, Some, None, true, inl, inr, refl, sym, ap, subst, ◌∙◌, arith}
+use Rattle.std.specs.Prelude.{map, slice_get, remove, IfSome, IsNone, ◌↔◌}
+use Rattle.std.specs.List.{All, AllByRecursion, IsDistinct}
 use Rattle.std.proofs.Math.Nat.{mul-le-mul_left, mul-le-mul_right}
 use Rattle.std.proofs.lemmas.Bool.{cases_lt}
 use Rattle.std.proofs.lemmas.List.{append-nil, append_assoc, length-append, length-map}
@@ -10,7 +10,7 @@ use Rattle.kad_base.specs.declared.plain.Contact.{Contact}
 use Rattle.kad_base.specs.declared.plain.Event.{Event}
 use Rattle.kad_base.specs.declared.plain.Event.TheVariants.{Sent, Unsent}
 use Rattle.kad_base.specs.Contacts.{same, among, without}
-use Rattle.kad_base.specs.Limits.{max_strays, max_open}
+use Rattle.kad_base.specs.Limits.{max_open}
 use Rattle.kad_base.specs.Outside.{Grows}
 use Rattle.kad_base.specs.Words.{word}
 use Rattle.kad_krpc.specs.Form.{form}
@@ -21,7 +21,7 @@ use Rattle.claim_book.specs.declared.plain.Setting.{Setting}
 use Rattle.claim_book.specs.declared.plain.Cause.TheVariants.{SendFault}
 use Rattle.claim_book.specs.declared.plain.Entry.{Entry}
 use Rattle.claim_book.specs.declared.plain.Entry.TheVariants.{Ask, Lost}
-use Rattle.claim_book.specs.Journal.{seeds, path, asked, open_any, unsettled, may_ask}
+use Rattle.claim_book.specs.Journal.{seeds, path, asked, open_any, may_ask}
 use Rattle.claim_book.specs.Legal.{Legal}
 use Rattle.claim_book.specs.State.{BookState, added}
 use Rattle.claim_book.specs.Calls.{asker}
@@ -29,20 +29,16 @@ use Rattle.claim_book.proofs.Among.{among_itself}
 use Rattle.claim_book.proofs.More.{asked_more, path_more, legal_more}
 use Rattle.claim_book.proofs.Bounds.{asked_few}
 use Rattle.claim_book.proofs.Claims.{may_ask_says, may_ask_on_path, among_right}
-use Rattle.lookup_run.specs.declared.plain.AskKind.{AskKind}
-use Rattle.lookup_run.specs.declared.plain.AskKind.TheVariants.{FindNode, GetPeers}
 use Rattle.lookup_run.specs.declared.plain.LookSetting.{LookSetting}
-use Rattle.lookup_run.specs.declared.plain.Gathered.{Gathered}
 use Rattle.lookup_run.specs.declared.plain.Stand.{Stand}
 use Rattle.lookup_run.specs.declared.plain.Work.{Work}
-use Rattle.lookup_run.specs.Tells.{Given, OpenQuery, Seen, is_driven, driven, gives, deadline_of, query_message, query_of}
+use Rattle.lookup_run.specs.Tells.{OpenQuery, Seen, driven, gives, deadline_of, query_message, query_of}
 use Rattle.lookup_run.specs.Rounds.{path_number, AllSettled, NoneAsks}
-use Rattle.lookup_run.specs.Gathered.{Answered}
 use Rattle.lookup_run.specs.Lookup.{setting_of, given_of, drawn_for, IsWithinLimits}
 use Rattle.lookup_run.specs.Standing.{as_open, IsBare, Keeps, HasWords, weight_of, Stands}
-use Rattle.lookup_run.specs.Steps.{KeepsFor, Asks, AsksNone}
+use Rattle.lookup_run.specs.Steps.{Asks, AsksNone}
 use Rattle.lookup_run.proofs.Walking.{OneEvent, NextStep, along_next, along_later, table_same}
-use Rattle.lookup_run.proofs.Opens.{opens_ask, opens_lost, opens_kept, each_asked, asker_new, asker_kept, without_one, opens_distinct}
+use Rattle.lookup_run.proofs.Opens.{opens_ask, opens_lost, opens_kept, each_asked, asker_new, without_one, opens_distinct}
 use Rattle.lookup_run.proofs.Crowd.{room_to_ask}
 use Rattle.lookup_run.proofs.Others.{none_after_ask, none_after_lost, settled_after_ask, settled_after_lost}
 use Rattle.lookup_run.proofs.Driven.{driven_more, keeps_none, query_back, map_push, all_push, small_id}

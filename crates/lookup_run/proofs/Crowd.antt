@@ -1,18 +1,18 @@
 -- How many queries are open at once: no more than the paths may have.
 use Rattle.std.proofs.Common.{◌≡◌, ℕ, zero, suc, ◌+◌, ◌*◌, ◌<◌, ◌≤◌, List, [], ◌∷◌, ◌++◌, length, Some, Bool, true, false, not, ◌||◌, cond, inl, inr, refl, sym, ap, subst, ◌∙◌, arith, eqb}
 use Rattle.std.specs.Prelude.{filter}
-use Rattle.std.proofs.lemmas.Bool.{cases_lt, or_left}
+use Rattle.std.proofs.lemmas.Bool.{cases_lt}
 use Rattle.std.proofs.lemmas.Cmp.{eq_by_cmp_equiv}
 use Rattle.std.proofs.lemmas.Map.Made.{length-le_from_is_member}
-use Rattle.std.proofs.lemmas.List.{append-nil, length-append}
+use Rattle.std.proofs.lemmas.List.{length-append}
 use Rattle.std.proofs.lemmas.List.Elements.{filter-append}
 use Rattle.kad_base.specs.declared.plain.Contact.{Contact}
-use Rattle.kad_base.specs.Contacts.{same, among, without}
+use Rattle.kad_base.specs.Contacts.{among, without}
 use Rattle.kad_base.proofs.Contacts.{contact_total, among_more}
 use Rattle.claim_book.specs.declared.plain.Setting.{Setting}
 use Rattle.claim_book.specs.declared.plain.Entry.{Entry}
-use Rattle.claim_book.specs.declared.plain.Entry.TheVariants.{Seed, Ask, Heard, Lost, Note, Taken, Held, Turned, Rejected, Skipped}
-use Rattle.claim_book.specs.Journal.{on_path, ask_on, answer_of, fail_of, asked_on, answered, failed, open_any, open_on, may_ask}
+use Rattle.claim_book.specs.declared.plain.Entry.TheVariants.{Ask}
+use Rattle.claim_book.specs.Journal.{ask_on, answer_of, fail_of, asked_on, answered, failed, open_any, open_on, may_ask}
 use Rattle.claim_book.specs.Legal.{Fits, Legal}
 use Rattle.claim_book.specs.Calls.{asker}
 use Rattle.claim_book.proofs.More.{asked_on_more, answered_more, failed_more, legal_more, along}

@@ -1,5 +1,5 @@
 -- A lookup begins with the seeds of a table, and ends where every path has run out, or early.
-use Rattle.std.proofs.Common.{◌≡◌, ◌≢◌, ℕ, zero, suc, ◌+◌, ◌<◌, ◌≤◌, ◌^◌, List, [], ◌∷◌, ◌++◌, length, drop, get_or, Option, Some, None, Bool, true, false, Result, Ok, Err, IfOk, inl, inr, refl, sym, ap, subst, ◌∙◌, arith}
+use Rattle.std.proofs.Common.{◌≡◌, ◌≢◌, ℕ, zero, suc, ◌+◌, ◌<◌, ◌≤◌, ◌^◌, List, [], ◌∷◌, ◌++◌, length, drop, get_or, Option, Bool, true, false, Result, Ok, Err, IfOk, inl, inr, refl, sym, ap, subst, ◌∙◌, arith}
 use Rattle.std.specs.Prelude.{map, Contains, IsSome, IfErr}
 use Rattle.std.specs.List.{All, AllByRecursion, flat_map}
 use Rattle.std.specs.List.Sorted.{IsStrictlySortedBy}
@@ -11,7 +11,7 @@ use Rattle.kad_base.specs.declared.plain.Event.{Event}
 use Rattle.kad_base.specs.declared.plain.Event.TheVariants.{Now}
 use Rattle.kad_base.specs.declared.serial.Made.{Made}
 use Rattle.kad_base.specs.Contacts.{among, without, IsUsable}
-use Rattle.kad_base.specs.Limits.{max_strays, max_round_receives}
+use Rattle.kad_base.specs.Limits.{max_strays}
 use Rattle.kad_base.specs.Outside.{Grows}
 use Rattle.kad_base.proofs.Grown.{grows_weaker, grows_none}
 use Rattle.kad_distance.specs.Order.{closeness}
@@ -26,7 +26,7 @@ use Rattle.contact_table.specs.declared.calls.TableReply.TheVariants.{List as Li
 use Rattle.contact_table.specs.TableStep.{TableStep, table_after, contacts_of}
 use Rattle.claim_book.specs.declared.plain.Setting.{Setting}
 use Rattle.claim_book.specs.declared.plain.Entry.{Entry}
-use Rattle.claim_book.specs.Journal.{seeds, asked, answered, failed, open_any, open_on, things, settled, unsettled, may_ask}
+use Rattle.claim_book.specs.Journal.{seeds, asked, answered, failed, open_any, open_on, things, settled, unsettled}
 use Rattle.claim_book.specs.Legal.{Legal, seeded_from, seeded}
 use Rattle.claim_book.specs.RunOut.{RunOut}
 use Rattle.claim_book.specs.Result.{result_of}
@@ -44,11 +44,11 @@ use Rattle.lookup_run.specs.declared.plain.Outcome.{Outcome}
 use Rattle.lookup_run.specs.declared.plain.Stand.{Stand}
 use Rattle.lookup_run.specs.declared.plain.Token.{Token}
 use Rattle.lookup_run.specs.declared.plain.Work.{Work}
-use Rattle.lookup_run.specs.Tells.{Given, Seen, driven, begun, deadline_of, TellsSoFar, Tells, EndsAtStray}
+use Rattle.lookup_run.specs.Tells.{Given, Seen, driven, begun, deadline_of, Tells, EndsAtStray}
 use Rattle.lookup_run.specs.Rounds.{SettlesIn, AllSettled, NoneAsks, RoundsFrom, Rounds}
 use Rattle.lookup_run.specs.Gathered.{Answered, HearsFrom, IsEachOnce, GathersOf, Gathers}
-use Rattle.lookup_run.specs.Lookup.{setting_of, given_of, seeds_in, drawn_for, IsWithinLimits, told_of, table_calls, LooksUp, TellsEarly, Unfinished, TableRan, TableTold}
-use Rattle.lookup_run.specs.Standing.{as_open, Keeps, HasWords, Walk, Stands, Keeping, Shows, Along}
+use Rattle.lookup_run.specs.Lookup.{setting_of, given_of, seeds_in, drawn_for, IsWithinLimits, told_of, table_calls, LooksUp, Unfinished, TableTold}
+use Rattle.lookup_run.specs.Standing.{as_open, Keeps, Walk, Keeping, Along}
 use Rattle.lookup_run.specs.Steps.{Begins, IsOver, IsDone, IsBookOf, asks_seeds, IsBegun, Ended}
 use Rattle.lookup_run.proofs.Early.{so_far_of, ran_of}
 use Rattle.lookup_run.proofs.Fewer.{few_along}

@@ -1,5 +1,5 @@
 -- The events of a lookup that goes by rounds tell one journal alone.
-use Rattle.std.proofs.Common.{◌≡◌, ◌≢◌, ℕ, zero, suc, ◌+◌, ◌<◌, ◌≤◌, List, [], ◌∷◌, ◌++◌, inl, inr, refl, sym, ap, subst, ◌∙◌, arith}
+use Rattle.std.proofs.Common.{◌≡◌, ℕ, zero, suc, ◌<◌, List, [], ◌∷◌, ◌++◌, refl, sym, ap, subst, ◌∙◌}
 use Rattle.std.proofs.lemmas.List.{append-nil, append_assoc, append_cancel_left}
 use Rattle.kad_base.specs.declared.plain.Event.{Event}
 use Rattle.kad_base.specs.declared.plain.Event.TheVariants.{Now, Sent, Unsent, Got, Quiet}
@@ -8,7 +8,7 @@ use Rattle.claim_book.specs.declared.plain.Entry.{Entry}
 use Rattle.claim_book.specs.Journal.{seeds}
 use Rattle.claim_book.specs.Legal.{LegalAfter, Legal, seeded}
 use Rattle.lookup_run.specs.Tells.{Given, Seen, Gives, begun}
-use Rattle.lookup_run.specs.Rounds.{AllSettled, SettlesFrom, SettlesIn, InTurn, WaitsInTurn, RoundStep, RoundsFrom, Rounds}
+use Rattle.lookup_run.specs.Rounds.{AllSettled, SettlesIn, InTurn, WaitsInTurn, RoundsFrom, Rounds}
 use Rattle.lookup_run.proofs.OnceSettled.{settled_once}
 use Rattle.lookup_run.proofs.OnceEvents.{Apart, apart_gives, got_once, sent_once, unsent_once}
 

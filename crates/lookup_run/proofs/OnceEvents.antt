@@ -1,5 +1,5 @@
 -- What an event gives, where it is known what the events before it showed.
-use Rattle.std.proofs.Common.{◌≡◌, ◌≢◌, ℕ, zero, suc, ◌+◌, ◌%◌, ◌^◌, ◌<◌, ◌≤◌, List, [], ◌∷◌, ◌++◌, length, get_or, Option, Some, None, Bool, true, false, not, cond, inl, inr, refl, sym, ap, subst, ◌∙◌, arith}
+use Rattle.std.proofs.Common.{◌≡◌, ◌≢◌, ℕ, suc, ◌+◌, ◌%◌, ◌^◌, ◌<◌, List, [], ◌∷◌, ◌++◌, Option, Some, Bool, true, false, not, cond, inl, inr, refl, sym, ap, subst, ◌∙◌, arith}
 use Rattle.std.specs.Prelude.{map, filter, Contains}
 use Rattle.std.specs.List.{AllByRecursion}
 use Rattle.std.specs.Int.{w32, from_le_bytes}
@@ -26,7 +26,7 @@ use Rattle.claim_book.specs.Journal.{may_ask}
 use Rattle.claim_book.specs.Legal.{LegalAfter}
 use Rattle.lookup_run.specs.declared.reply.Reply.{Reply}
 use Rattle.lookup_run.specs.declared.reply.Reply.TheVariants as reply
-use Rattle.lookup_run.specs.Tells.{Given, OpenQuery, Seen, query_of, gives, deadline_of, SentGives, UnsentGives, SaysTo, Replies, ReplyGives, MatchGives, GotGives, IsStray, after_match, open_at, is_overdue, Gives}
+use Rattle.lookup_run.specs.Tells.{Given, OpenQuery, Seen, query_of, gives, deadline_of, SentGives, UnsentGives, SaysTo, Replies, ReplyGives, MatchGives, GotGives, after_match, is_overdue, Gives}
 use Rattle.lookup_run.specs.Rounds.{NoneAsks, AsksInTurn}
 use Rattle.lookup_run.proofs.Driven.{all_push, small_id}
 

@@ -1,25 +1,25 @@
 -- The open contacts of a journal, in the order of their asks, and who asked them.
-use Rattle.std.proofs.Common.{◌≡◌, ℕ, ◌<◌, List, [], ◌∷◌, ◌++◌, length, get_or, Some, Bool, true, false, not, ◌||◌, ◌&&◌, cond, refl, sym, ap, subst, ◌∙◌}
+use Rattle.std.proofs.Common.{◌≡◌, ℕ, List, [], ◌∷◌, ◌++◌, get_or, Some, Bool, true, false, not, ◌||◌, cond, refl, sym, ap, ◌∙◌}
 use Rattle.std.specs.Prelude.{map, filter, slice_get}
 use Rattle.std.specs.List.{IsDistinct, AllByRecursion, flat_map}
-use Rattle.std.proofs.lemmas.Bool.{and_parts, not-true}
+use Rattle.std.proofs.lemmas.Bool.{and_parts}
 use Rattle.std.proofs.lemmas.List.{append-nil}
 use Rattle.std.proofs.lemmas.List.Concat.{flat_map-append}
 use Rattle.std.proofs.lemmas.List.Elements.{filter-append}
 use Rattle.kad_base.specs.declared.plain.Contact.{Contact}
 use Rattle.kad_base.specs.declared.plain.Report.{Report}
 use Rattle.kad_base.specs.Contacts.{same, among, without}
-use Rattle.kad_base.proofs.Contacts.{same_back, same_itself, same_exact, among_more}
+use Rattle.kad_base.proofs.Contacts.{same_back, same_itself, among_more}
 use Rattle.query_book.specs.declared.Query.{Query}
 use Rattle.claim_book.specs.declared.plain.Setting.{Setting}
 use Rattle.claim_book.specs.declared.plain.Cause.{Cause}
 use Rattle.claim_book.specs.declared.plain.Entry.{Entry}
 use Rattle.claim_book.specs.declared.plain.Entry.TheVariants.{Ask, Heard, Lost}
-use Rattle.claim_book.specs.Journal.{ask_of, asker_of, answer_of, fail_of, asked, askers, answered, failed, open_any, may_ask}
+use Rattle.claim_book.specs.Journal.{ask_of, asker_of, asked, askers, answered, failed, open_any, may_ask}
 use Rattle.claim_book.specs.Legal.{Legal}
 use Rattle.claim_book.specs.Calls.{asker}
-use Rattle.claim_book.proofs.More.{asked_more, askers_more, answered_more, failed_more, legal_more}
-use Rattle.claim_book.proofs.Among.{among_filter, among_without}
+use Rattle.claim_book.proofs.More.{asked_more, askers_more, answered_more, failed_more}
+use Rattle.claim_book.proofs.Among.{among_without}
 use Rattle.claim_book.proofs.Claims.{may_ask_says, ended_asked, asked_distinct}
 use Rattle.claim_book.proofs.Ends.{asked_by_some}
 use Rattle.lookup_run.specs.Standing.{as_open}

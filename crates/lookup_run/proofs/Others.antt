@@ -1,6 +1,6 @@
 -- What an ask of one path leaves of the others.
-use Rattle.std.proofs.Common.{◌≡◌, ◌≢◌, ℕ, ◌<◌, List, [], ◌∷◌, ◌++◌, length, Some, None, Bool, true, false, not, ◌||◌, ◌&&◌, cond, refl, sym, ap, subst, ◌∙◌}
-use Rattle.std.specs.Prelude.{find, filter, nat_lt}
+use Rattle.std.proofs.Common.{◌≡◌, ℕ, List, [], ◌∷◌, ◌++◌, length, Some, None, Bool, true, false, not, ◌||◌, cond, refl, sym, ap, subst, ◌∙◌}
+use Rattle.std.specs.Prelude.{find, nat_lt}
 use Rattle.std.proofs.lemmas.Bool.{or_left}
 use Rattle.std.proofs.lemmas.List.{append-nil}
 use Rattle.kad_base.specs.declared.plain.Contact.{Contact}
@@ -14,7 +14,7 @@ use Rattle.claim_book.specs.declared.plain.Entry.TheVariants.{Ask, Lost}
 use Rattle.claim_book.specs.Journal.{on_path, path, asked, asked_on, answered, failed, open_on, alive, unsettled, may_ask}
 use Rattle.claim_book.specs.Legal.{Legal}
 use Rattle.claim_book.proofs.More.{path_more, asked_more, asked_on_more, answered_more, failed_more}
-use Rattle.claim_book.proofs.Claims.{may_ask_on_path, one_path, asked_on_path}
+use Rattle.claim_book.proofs.Claims.{one_path, asked_on_path}
 use Rattle.claim_book.proofs.Kept.{off_this}
 use Rattle.claim_book.proofs.Unsettled.{unsettled_kept}
 

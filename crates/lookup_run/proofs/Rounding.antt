@@ -1,14 +1,12 @@
 -- One round of a lookup: asking, receiving and settling, one after another.
-use Rattle.std.proofs.Common.{◌≡◌, ℕ, ◌+◌, ◌-◌, ◌*◌, ◌^◌, ◌<◌, ◌≤◌, List, [], length, Option, refl, sym, ap, subst, ◌∙◌, arith}
+use Rattle.std.proofs.Common.{◌≡◌, ◌+◌, ◌-◌, ◌*◌, ◌^◌, ◌<◌, List, [], length, Option, sym, ap, subst, ◌∙◌, arith}
 use Rattle.kad_base.specs.declared.plain.Event.{Event}
 use Rattle.kad_base.specs.Limits.{max_strays}
-use Rattle.kad_base.specs.Outside.{Grows}
 use Rattle.id_puzzles.specs.Drawn.{WordsState}
-use Rattle.contact_table.specs.TableState.{TableState}
 use Rattle.claim_book.specs.Journal.{asked}
 use Rattle.lookup_run.specs.declared.plain.LookSetting.{LookSetting}
 use Rattle.lookup_run.specs.declared.plain.Work.{Work}
-use Rattle.lookup_run.specs.Standing.{HasWords, weight_of, Along, Goes}
+use Rattle.lookup_run.specs.Standing.{weight_of, Goes}
 use Rattle.lookup_run.specs.Steps.{Asks, ReceivesAll, SettlesPaths, Begins, GoesRound, IsOver, Stops, StopsRound, EndsByStray, RoundEndsByStray, FewStrays, RoundFewStrays}
 
 pub round_over : (look : LookSetting) (words words' : WordsState) (old new : Work) (told told' : Option (List Event)) → Asks look 0 look.paths words words' old new told told' → new.queries ≡ [] → IsOver look words words' old new told told'

@@ -1,5 +1,5 @@
 -- What settling a path leaves: the events show the longer journal, and the table was told of whom it notes.
-use Rattle.std.proofs.Common.{◌≡◌, ◌≢◌, ◌⊎◌, ℕ, zero, suc, ◌+◌, ◌^◌, ◌==◌, ◌<◌, ◌≤◌, List, [], ◌∷◌, ◌++◌, length, Option, true, inl, inr, refl, sym, ap, subst, ◌∙◌, arith}
+use Rattle.std.proofs.Common.{◌≡◌, ℕ, zero, suc, ◌+◌, ◌^◌, ◌<◌, ◌≤◌, List, [], ◌∷◌, ◌++◌, length, Option, true, inl, inr, refl, sym, ap, subst, ◌∙◌, arith}
 use Rattle.std.specs.Prelude.{map}
 use Rattle.std.specs.List.{All, AllByRecursion, flat_map}
 use Rattle.std.proofs.lemmas.Bool.{cases_lt, eqb-true, false≢true}
@@ -9,9 +9,8 @@ use Rattle.kad_base.specs.declared.plain.Contact.{Contact}
 use Rattle.kad_base.specs.declared.plain.Event.{Event}
 use Rattle.kad_base.specs.declared.serial.Made.{Made}
 use Rattle.kad_base.specs.Limits.{max_strays, max_round_receives}
-use Rattle.kad_base.specs.Outside.{Grows}
 use Rattle.kad_base.specs.Serial.{left_by, IsRun}
-use Rattle.kad_base.proofs.Grown.{grows_weaker, grows_none}
+use Rattle.kad_base.proofs.Grown.{grows_weaker}
 use Rattle.kad_base.proofs.Runs.{left_by-append}
 use Rattle.id_puzzles.specs.Drawn.{WordsState}
 use Rattle.query_book.specs.declared.Query.{Query}
@@ -24,14 +23,14 @@ use Rattle.claim_book.specs.declared.plain.Entry.{Entry}
 use Rattle.claim_book.specs.declared.plain.Entry.TheVariants.{Seed, Ask, Heard, Lost, Note, Taken, Held, Turned, Rejected, Skipped}
 use Rattle.claim_book.specs.Journal.{seeds, asked, open_any, unsettled, settles_on}
 use Rattle.claim_book.specs.Legal.{Legal, seeded}
-use Rattle.path_worker.specs.Settling.{role_of, seen_with, TellsSeen, Settling}
+use Rattle.path_worker.specs.Settling.{role_of, seen_with, Settling}
 use Rattle.lookup_run.specs.declared.plain.LookSetting.{LookSetting}
 use Rattle.lookup_run.specs.declared.plain.Work.{Work}
 use Rattle.lookup_run.specs.Tells.{Given, driven, begun, deadline_of}
-use Rattle.lookup_run.specs.Rounds.{path_number, SettlesIn, SettlesFrom, AllSettled}
+use Rattle.lookup_run.specs.Rounds.{path_number, SettlesIn, AllSettled}
 use Rattle.lookup_run.specs.Lookup.{setting_of, given_of, drawn_for, Told, told_of, told_in, table_calls, TableTold, TableRan}
-use Rattle.lookup_run.specs.Standing.{IsBare, as_open, Keeps, Keeping, Walk, Stands, Shows, Along, Goes}
-use Rattle.lookup_run.specs.Steps.{SettlesPaths, Ended, Stops}
+use Rattle.lookup_run.specs.Standing.{IsBare, as_open, Keeps, Keeping, Walk, Shows}
+use Rattle.lookup_run.specs.Steps.{SettlesPaths, Stops}
 use Rattle.lookup_run.proofs.Driven.{driven_append}
 use Rattle.lookup_run.proofs.Early.{early_now}
 use Rattle.lookup_run.proofs.Opens.{opens_kept, each_asked}

@@ -1,7 +1,7 @@
 -- What the events show goes on, event by event, while the journal grows.
-use Rattle.std.proofs.Common.{◌≡◌, ◌≢◌, ℕ, zero, suc, ◌+◌, ◌<◌, ◌≤◌, List, [], ◌∷◌, ◌++◌, length, Option, refl, sym, ap, subst, ◌∙◌, arith}
+use Rattle.std.proofs.Common.{◌≡◌, ◌≢◌, ℕ, zero, suc, ◌≤◌, List, [], ◌∷◌, ◌++◌, Option, refl, sym, ap, subst, ◌∙◌, arith}
 use Rattle.std.specs.Prelude.{map}
-use Rattle.std.specs.List.{All, AllByRecursion, flat_map}
+use Rattle.std.specs.List.{AllByRecursion, flat_map}
 use Rattle.std.proofs.lemmas.List.{append-nil, append_assoc}
 use Rattle.std.proofs.lemmas.List.Concat.{flat_map-append}
 use Rattle.std.proofs.lemmas.List.Elements.{All-append}
@@ -29,9 +29,9 @@ use Rattle.lookup_run.specs.declared.plain.Work.{Work}
 use Rattle.lookup_run.specs.Tells.{Given, Seen, HasAsked, HaveAsked, Receives, Gives, begun}
 use Rattle.lookup_run.specs.Rounds.{path_number, SettlesIn, InTurn}
 use Rattle.lookup_run.specs.Gathered.{Answered, Hears, values_of, token_of}
-use Rattle.lookup_run.specs.Lookup.{given_of, seeds_in, drawn_for, told_of, table_calls, told_in, Told, TableTold}
+use Rattle.lookup_run.specs.Lookup.{given_of, drawn_for, told_of, table_calls, told_in, Told, TableTold}
 use Rattle.lookup_run.specs.Standing.{Step, Walk, Stands, Keeping, Shows, Along, Goes}
-use Rattle.lookup_run.specs.Steps.{KeepsAlso, KeepsFor}
+use Rattle.lookup_run.specs.Steps.{KeepsFor}
 
 -- ---- a longer journal
 

@@ -8,7 +8,7 @@ use Rattle.std.specs.declared.cmp.Ordering.{Ordering}
 use Rattle.kad_base.specs.declared.plain.Addr.{Addr}
 use Rattle.kad_base.specs.declared.plain.Contact.{Contact}
 use Rattle.kad_base.specs.declared.plain.Event.{Event}
-use Rattle.kad_base.specs.declared.plain.Event.TheVariants.{Now, Sent, Unsent, Got, Quiet}
+use Rattle.kad_base.specs.declared.plain.Event.TheVariants.{Now, Got}
 use Rattle.kad_base.specs.Contacts.{address_bytes}
 use Rattle.kad_krpc.specs.declared.message.Answer.{Answer}
 use Rattle.claim_book.specs.declared.plain.Entry.{Entry}

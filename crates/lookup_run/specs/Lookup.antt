@@ -1,12 +1,11 @@
 -- What a lookup promises: its journal, the table that comes back, and what holds where it ended early.
 use Rattle.std.specs.Prelude.{◌≡◌, ◌≢◌, ◌⊎◌, ℕ, ◌+◌, ◌<◌, ◌≤◌, List, [], ◌∷◌, ◌++◌, length, map, Option}
-use Rattle.std.specs.List.{All, AllByRecursion, flat_map}
+use Rattle.std.specs.List.{All, flat_map}
 use Rattle.kad_base.specs.declared.plain.Addr.{Addr}
 use Rattle.kad_base.specs.declared.plain.Contact.{Contact}
 use Rattle.kad_base.specs.declared.plain.Event.{Event}
 use Rattle.kad_base.specs.declared.plain.Event.TheVariants.{Got}
 use Rattle.kad_base.specs.declared.serial.Made.{Made}
-use Rattle.kad_base.specs.Contacts.{IsUsable}
 use Rattle.kad_base.specs.Limits.{max_k, max_paths, max_alpha}
 use Rattle.kad_base.specs.Outside.{Grows}
 use Rattle.kad_base.specs.Serial.{left_by, IsRun}
@@ -31,8 +30,6 @@ use Rattle.claim_book.specs.Calls.{Counted}
 use Rattle.lookup_run.specs.declared.plain.LookSetting.{LookSetting}
 use Rattle.lookup_run.specs.declared.plain.Outcome.{Outcome}
 use Rattle.lookup_run.specs.Tells.{Given, Seen, TellsSoFar, Tells}
-use Rattle.lookup_run.specs.Rounds.{Rounds}
-use Rattle.lookup_run.specs.Gathered.{Gathers}
 
 -- what the book is set to
 abbrev pub setting_of : LookSetting → Setting

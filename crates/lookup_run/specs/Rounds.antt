@@ -1,6 +1,6 @@
 -- The rounds of a lookup on one thread (this project's own): where the settling entries of its journal stand, in which
 -- order the paths ask (S/Kademlia, 2007, section 4.4), and that they ask all that they may before the driver waits.
-use Rattle.std.specs.Prelude.{◌≡◌, ℕ, zero, suc, ◌+◌, ◌<◌, ◌≤◌, List, [], ◌∷◌, ◌++◌, None, Bool, true}
+use Rattle.std.specs.Prelude.{◌≡◌, ℕ, zero, suc, ◌<◌, ◌≤◌, List, [], ◌∷◌, ◌++◌, None, Bool, true}
 use Rattle.std.specs.List.{AllByRecursion}
 use Rattle.kad_base.specs.declared.plain.Contact.{Contact}
 use Rattle.kad_base.specs.declared.plain.Event.{Event}

@@ -1,7 +1,7 @@
 -- What the transcript of a link tells of the journal of a lookup: which entries its events give, and when. Answers and
 -- error messages are matched to queries by transaction id and source address (BEP 5); who may be asked, and when a path
 -- waits, is Kademlia's (2002, section 2.3) on each of S/Kademlia's disjoint paths (2007, section 4.4).
-use Rattle.std.specs.Prelude.{◌≡◌, ◌≢◌, ◌⊎◌, ℕ, zero, suc, ◌+◌, ◌-◌, ◌%◌, ◌^◌, ◌<◌, ◌≤◌, min, List, [], ◌∷◌, ◌++◌, length, take, map, filter, Option, Some, None, Bool, true, false, not, nat_lt, Contains, if◌then◌else◌}
+use Rattle.std.specs.Prelude.{◌≡◌, ◌≢◌, ◌⊎◌, ℕ, zero, suc, ◌+◌, ◌-◌, ◌^◌, ◌<◌, ◌≤◌, min, List, [], ◌∷◌, ◌++◌, length, take, map, filter, Option, Some, None, Bool, true, false, not, nat_lt, Contains, if◌then◌else◌}
 use Rattle.std.specs.List.{AllByRecursion}
 use Rattle.kad_base.specs.declared.plain.Id.{Id}
 use Rattle.kad_base.specs.declared.plain.Addr.{Addr}

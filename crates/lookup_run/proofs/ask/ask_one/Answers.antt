@@ -1,10 +1,4 @@
-use Rattle.std.proofs.Common.{◌≡◌, ◌++◌, ◌∷◌, [], true, sym, ap, ◌∙◌, refl}
-use Rattle.kad_base.specs.Contacts.{among}
-use Rattle.claim_book.specs.declared.plain.Entry.TheVariants.{Ask, Lost}
-use Rattle.claim_book.specs.declared.plain.Cause.TheVariants.{SendFault}
-use Rattle.claim_book.specs.Journal.{open_any}
-use Rattle.claim_book.specs.State.{BookState, added}
-use Rattle.lookup_run.specs.declared.plain.Work.{Work}
+use Rattle.std.proofs.Common.{refl}
 use Rattle.lookup_run.proofs.Asking.{asking_of, room_of, word_of, sent_asks, unsent_asks, lost_open, lost_added, closed_last}
 use Rattle.lookup_run.proofs.ask.ask_one.Goals as goal
 

@@ -1,5 +1,4 @@
 use Rattle.std.proofs.Common.{subst, sym}
-use Rattle.std.specs.Prelude.{Contains, Any}
 use Rattle.lookup_run.specs.Gathered.{IsEachOnce}
 use Rattle.lookup_run.proofs.InOrder.{each_once}
 use Rattle.lookup_run.proofs.gather.in_order.Goals as goal

@@ -1,4 +1,4 @@
-use Rattle.std.proofs.Common.{◌≡◌, None, Err, ◌∙◌, ap, sym, refl}
+use Rattle.std.proofs.Common.{◌≡◌, None, Err, ◌∙◌, ap, sym}
 use Rattle.lookup_run.specs.declared.plain.LookFault.TheVariants.{Strays, LinkFault}
 use Rattle.lookup_run.proofs.Rounding.{round_over, round_more, stops_receiving, strays_receiving, few_receiving, stops_settling_round}
 use Rattle.lookup_run.proofs.round.go_round.Goals as goal

@@ -1,4 +1,4 @@
-use Rattle.std.proofs.Common.{◌≡◌, ◌+◌, None, subst, refl, sym, ap, ◌∙◌, arith}
+use Rattle.std.proofs.Common.{◌≡◌, ◌+◌, None, subst, ap, ◌∙◌, arith}
 use Rattle.claim_book.specs.Legal.{Legal}
 use Rattle.lookup_run.specs.Steps.{SettlesPaths}
 use Rattle.lookup_run.proofs.Settled.{settles_nothing, settles_then, stops_settling, ran_then}
