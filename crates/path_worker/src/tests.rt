@@ -9,6 +9,7 @@ use contact_table::{Table, TableCall, TableReply};
 use kad_base::{Addr, Check, Contact, Contacts, Id, Ip, List, Policy, Report, Serial, is_usable};
 use kad_distance::k_least;
 use std::alloc::Global;
+use std::hash::RandomState;
 use std::process::Abort;
 use std::test::Fail;
 
@@ -71,7 +72,12 @@ fn setting(paths: u8, policy: Policy) -> Setting
 }
 
 /// A book with a seed for each path.
-fn begun(rt: &impl Abort, alloc: Global, setting: Setting) -> Result<Book, Fail>
+fn begun(
+    rt: &impl Abort,
+    alloc: Global,
+    hasher: RandomState,
+    setting: Setting,
+) -> Result<Book, Fail>
     requires { 0 < setting.paths }
     ensures { IfOk result (λ book. book.setting ≡ setting) }
 {
@@ -86,7 +92,7 @@ fn begun(rt: &impl Abort, alloc: Global, setting: Setting) -> Result<Book, Fail>
             .iter()
             .all(|seed| is_usable(&setting.own, seed))
     );
-    Ok(Book::new(alloc, setting, seeds.as_slice())?)
+    Ok(Book::new(alloc, setting, seeds.as_slice(), hasher)?)
 }
 
 /// Tells the book that the contact of the path was asked, and named these.
@@ -127,7 +133,12 @@ fn the_only_path_settles_in_order_and_tells_the_table_who_answered(
     rt: HostRuntime,
 ) -> Result<(), Fail> {
     let alloc = rt.alloc();
-    let mut book = begun(&rt, alloc, setting(1, Policy::Plain))?;
+    let mut book = begun(
+        &rt,
+        alloc,
+        RandomState::new(&rt)?,
+        setting(1, Policy::Plain),
+    )?;
     let mut table = table(alloc)?;
     let named = [report(contact(9)), report(contact(1)), report(own())];
     answer(&rt, alloc, &mut book, 0, &named)?;
@@ -168,7 +179,12 @@ fn the_only_path_settles_in_order_and_tells_the_table_who_answered(
 #[test]
 fn the_eighth_of_eight_paths_settles_its_own(rt: HostRuntime) -> Result<(), Fail> {
     let alloc = rt.alloc();
-    let mut book = begun(&rt, alloc, setting(8, Policy::Plain))?;
+    let mut book = begun(
+        &rt,
+        alloc,
+        RandomState::new(&rt)?,
+        setting(8, Policy::Plain),
+    )?;
     let mut table = table(alloc)?;
     answer(&rt, alloc, &mut book, 7, &[report(contact(9))])?;
     let check = Unproved { rt: &rt };
@@ -187,7 +203,7 @@ fn a_report_without_a_proof_is_rejected_where_puzzles_are_asked_for(
 ) -> Result<(), Fail> {
     let alloc = rt.alloc();
     let policy = Policy::Puzzled { c1: 1, c2: 1 };
-    let mut book = begun(&rt, alloc, setting(1, policy))?;
+    let mut book = begun(&rt, alloc, RandomState::new(&rt)?, setting(1, policy))?;
     let mut table = table(alloc)?;
     answer(&rt, alloc, &mut book, 0, &[report(contact(9))])?;
     let settled = settle_alone(0, &mut book, &mut table, policy, &Unproved { rt: &rt });
