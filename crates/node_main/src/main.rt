@@ -1,4 +1,5 @@
-//! The program: the real words, random bytes, socket and standard streams, and one call of the node.
+//! The program: the real words, random bytes, socket and standard streams, and one call of the node, which takes the
+//! socket where the command needs one.
 #![tactic(auto)]
 
 ghost use Rattle.std.specs.Prelude.{◌≡◌, ◌≢◌, codes};
@@ -9,8 +10,8 @@ mod stdin;
 mod stdout;
 
 use id_puzzles::Sha1Check;
-use kad_words::bind_of;
-use node_top::run;
+use kad_words::{bind_of, takes_link};
+use node_top::{run, run_plain};
 use std::alloc::AllocError;
 use std::hash::RandomState;
 use std::io::{ErrorKind, Input};
@@ -78,7 +79,7 @@ fn refusal_of(error: &io::Error) -> Refusal
     }
 }
 
-/// Takes the words, then draws, then binds, and runs the node; its status.
+/// Takes the words, then draws, then binds where the command takes a link, and runs the node; its status.
 fn started<R>(rt: &R) -> Result<u8, Refusal>
 where
     R: Env + AllocGlobal + RandomSource + Net + Clock + Input + Print,
@@ -87,13 +88,25 @@ where
     let mut random = [0u8; 32];
     rt.fill_bytes(&mut random).map_err(|_| Refusal::Start)?;
     let hasher = RandomState::new(rt).map_err(|_| Refusal::Start)?;
-    let mut link = UdpLink::bind(rt, bind_of(words.as_slice())).map_err(|_| Refusal::Socket)?;
+    let words = words.as_slice();
     let mut source = StandardInput::new(rt.reader());
     let mut sink = StandardOutput::new(rt);
+    if !takes_link(words) {
+        return Ok(run_plain(
+            rt.alloc(),
+            words,
+            &mut source,
+            &mut sink,
+            &random,
+            &Sha1Check,
+            hasher,
+        ));
+    }
+    let mut link = UdpLink::bind(rt, bind_of(words)).map_err(|_| Refusal::Socket)?;
     Ok(run(
         rt,
         rt.alloc(),
-        words.as_slice(),
+        words,
         &mut source,
         &mut link,
         &mut sink,

@@ -1,15 +1,16 @@
 -- Words ask for a command that is built, or the words of none.
-use Rattle.std.proofs.Common.{◌≡◌, ◌≢◌, ℕ, zero, suc, ◌<◌, List, [], ◌∷◌, slice_index_or, Option, true, false, true≢false, refl, sym, ap, subst, ◌∙◌, arith}
+use Rattle.std.proofs.Common.{◌≡◌, ℕ, zero, suc, ◌<◌, ◌⊎◌, inl, inr, List, ◌∷◌, slice_index_or, Option, true, false, true≢false, refl, sym, ap, subst, ◌∙◌, arith, lit<}
 use Rattle.std.specs.Prelude.{bytes_eq, Contains}
 use Rattle.kad_base.specs.declared.plain.Id.{Id}
 use Rattle.kad_base.specs.declared.plain.Policy.{Policy}
-use Rattle.kad_words.specs.Table.{Word, lookup, peers, serve, check, mint, sim}
+use Rattle.kad_words.specs.Table.{Word, lookup, peers, serve, check, mint, sim, links}
+use Rattle.kad_words.specs.Bound.{TakesLink}
 use Rattle.kad_words.specs.Plain.{CommandOf, IsPlain, word_of}
 use Rattle.kad_words.specs.declared.command.Command.{Command}
-use Rattle.kad_words.specs.declared.command.Command.TheVariants.{Peers, Serve, Check, Mint, Sim}
+use Rattle.kad_words.specs.declared.command.Command.TheVariants.{Lookup, Peers, Serve, Check, Mint, Sim}
 use Rattle.kad_words.specs.declared.command.LookWords.{LookWords}
 use Rattle.kad_words.proofs.OneCommand.{command_plain}
-use Rattle.node_top.specs.Asked.{Asks, BeginsBuilt, built}
+use Rattle.node_top.specs.Asked.{Asks, AsksPlain, BeginsBuilt, built}
 
 begins_with : (words rest : List Word) (command : Word) → words ≡ command ∷ rest → BeginsBuilt words → Contains built command
 begins_with words rest command e b = subst BeginsBuilt e b
@@ -29,29 +30,78 @@ command_asks words command h b =
     let first : word_of command ≡ plain.command = (let e = h.begins in let f = plain.begins in cc) in
     record { plain = plain; is_built = subst (λ (w : Word). Contains built w) first b }
 
+pub asks_built : (words : List Word) (command : Command) → CommandOf words command → Asks words → Contains built (word_of command)
+asks_built words command h asks = command_built words command h (asks_begins words asks)
+
 -- ---- the commands that are built
 
-built_word : (w : Word) → Contains built w → lookup ≡ w
+built_word : (w : Word) → Contains built w → (lookup ≡ w) ⊎ ((check ≡ w) ⊎ (mint ≡ w))
 built_word w h = go h.0 h.1 h.2
   where
-    go : (k : ℕ) → k < 1 → slice_index_or built k w ≡ w → lookup ≡ w
-    go zero lt e = e
-    go (suc k) lt e = absurd (omega arith)
+    go : (k : ℕ) → k < 3 → slice_index_or built k w ≡ w → (lookup ≡ w) ⊎ ((check ≡ w) ⊎ (mint ≡ w))
+    go zero lt e = inl e
+    go (suc zero) lt e = inr (inl e)
+    go (suc (suc zero)) lt e = inr (inr e)
+    go (suc (suc (suc k))) lt e = absurd (omega arith)
 
-other_word : (w : Word) → bytes_eq lookup w ≡ false → Contains built w → ⊥
-other_word w differs h = true≢false (ap (bytes_eq lookup) (built_word w h) ∙ differs)
+differ : (a w : Word) → bytes_eq a w ≡ false → a ≡ w → bytes_eq a a ≡ true → ⊥
+differ a w no_ e same = true≢false (sym same ∙ ap (bytes_eq a) e ∙ no_)
+
+other_word : (w : Word) → bytes_eq lookup w ≡ false → bytes_eq check w ≡ false → bytes_eq mint w ≡ false → Contains built w → ⊥
+other_word w a b d h = elim (built_word w h) [
+  | inl e ↦ differ lookup w a e refl
+  | inr more ↦ elim more [ inl e ↦ differ check w b e refl | inr e ↦ differ mint w d e refl ]
+]
 
 pub peers_not : (look : LookWords) (announce : Option ℕ) → Contains built (word_of (Peers look announce)) → ⊥
-peers_not look announce h = other_word peers refl h
+peers_not look announce h = other_word peers refl refl refl h
 
 pub serve_not : (own : Option Id) (k bits : ℕ) (policy : Policy) (receives : ℕ) → Contains built (word_of (Serve own k bits policy receives)) → ⊥
-serve_not own k bits policy receives h = other_word serve refl h
-
-pub check_not : (policy : Policy) → Contains built (word_of (Check policy)) → ⊥
-check_not policy h = other_word check refl h
-
-pub mint_not : (seed : Option (List ℕ)) (c1 c2 tries : ℕ) → Contains built (word_of (Mint seed c1 c2 tries)) → ⊥
-mint_not seed c1 c2 tries h = other_word mint refl h
+serve_not own k bits policy receives h = other_word serve refl refl refl h
 
 pub sim_not : (seed : Option (List ℕ)) (nodes hostile k paths alpha timeout : ℕ) → Contains built (word_of (Sim seed nodes hostile k paths alpha timeout)) → ⊥
-sim_not seed nodes hostile k paths alpha timeout h = other_word sim refl h
+sim_not seed nodes hostile k paths alpha timeout h = other_word sim refl refl refl h
+
+-- ---- the commands that take a link
+
+link_word : (w : Word) → Contains links w → (lookup ≡ w) ⊎ ((peers ≡ w) ⊎ (serve ≡ w))
+link_word w h = go h.0 h.1 h.2
+  where
+    go : (k : ℕ) → k < 3 → slice_index_or links k w ≡ w → (lookup ≡ w) ⊎ ((peers ≡ w) ⊎ (serve ≡ w))
+    go zero lt e = inl e
+    go (suc zero) lt e = inr (inl e)
+    go (suc (suc zero)) lt e = inr (inr e)
+    go (suc (suc (suc k))) lt e = absurd (omega arith)
+
+no_link : (w : Word) → bytes_eq lookup w ≡ false → bytes_eq peers w ≡ false → bytes_eq serve w ≡ false → Contains links w → ⊥
+no_link w a b d h = elim (link_word w h) [
+  | inl e ↦ differ lookup w a e refl
+  | inr more ↦ elim more [ inl e ↦ differ peers w b e refl | inr e ↦ differ serve w d e refl ]
+]
+
+takes : (words : List Word) (command : Command) → CommandOf words command → TakesLink words → Contains links (word_of command)
+takes words command h t = subst TakesLink h.begins t
+
+pub check_links : (words : List Word) (policy : Policy) → CommandOf words (Check policy) → TakesLink words → ⊥
+check_links words policy h t = no_link check refl refl refl (takes words (Check policy) h t)
+
+pub mint_links : (words : List Word) (seed : Option (List ℕ)) (c1 c2 tries : ℕ) → CommandOf words (Mint seed c1 c2 tries) → TakesLink words → ⊥
+mint_links words seed c1 c2 tries h t = no_link mint refl refl refl (takes words (Mint seed c1 c2 tries) h t)
+
+pub lookup_links : (words : List Word) (look : LookWords) → CommandOf words (Lookup look) → (TakesLink words → ⊥) → ⊥
+lookup_links words look h none_ = none_ (subst TakesLink (sym h.begins) (0, lit< tt, refl))
+
+pub lookup_asks : (words : List Word) (look : LookWords) → CommandOf words (Lookup look) → Asks words
+lookup_asks words look h = command_asks words (Lookup look) h (0, lit< tt, refl)
+
+pub check_asks : (words : List Word) (policy : Policy) → CommandOf words (Check policy) → Asks words
+check_asks words policy h = command_asks words (Check policy) h (1, lit< tt, refl)
+
+pub mint_asks : (words : List Word) (seed : Option (List ℕ)) (c1 c2 tries : ℕ) → CommandOf words (Mint seed c1 c2 tries) → Asks words
+mint_asks words seed c1 c2 tries h = command_asks words (Mint seed c1 c2 tries) h (2, lit< tt, refl)
+
+pub check_plain : (words : List Word) (policy : Policy) → CommandOf words (Check policy) → AsksPlain words
+check_plain words policy h = record { asks = check_asks words policy h; no_link = λ takes. check_links words policy h takes }
+
+pub mint_plain : (words : List Word) (seed : Option (List ℕ)) (c1 c2 tries : ℕ) → CommandOf words (Mint seed c1 c2 tries) → AsksPlain words
+mint_plain words seed c1 c2 tries h = record { asks = mint_asks words seed c1 c2 tries h; no_link = λ takes. mint_links words seed c1 c2 tries h takes }

@@ -1,5 +1,5 @@
 -- From a lookup to the command that asked for it.
-use Rattle.std.proofs.Common.{◌≡◌, ◌≢◌, ℕ, zero, suc, ◌<◌, ◌≤◌, List, [], ◌∷◌, length, Option, Result, Ok, Err, ◌⊎◌, inl, inr, refl, sym, ap, subst, ◌∙◌, arith}
+use Rattle.std.proofs.Common.{◌≡◌, ◌≢◌, ℕ, List, [], ◌∷◌, length, Result, Ok, Err, ◌⊎◌, inl, inr, refl, sym, ap, subst, ◌∙◌}
 use Rattle.std.specs.Prelude.{map, IfOk, IfErr}
 use Rattle.std.specs.List.{All}
 use Rattle.std.proofs.lemmas.List.Elements.{All-cons, All-nil}
@@ -23,6 +23,7 @@ use Rattle.claim_book.specs.Result.{result_of}
 use Rattle.claim_book.proofs.Claims.{took_distinct, asked_distinct}
 use Rattle.claim_book.proofs.Ends.{found_answered}
 use Rattle.lookup_run.specs.declared.plain.LookSetting.{LookSetting}
+use Rattle.lookup_run.specs.declared.plain.AskKind.{AskKind}
 use Rattle.lookup_run.specs.declared.plain.Outcome.{Outcome}
 use Rattle.lookup_run.specs.Tells.{Given, Tells, EndsAtStray}
 use Rattle.lookup_run.specs.Rounds.{Rounds}
@@ -33,7 +34,7 @@ use Rattle.node_top.specs.declared.status.Status.TheVariants.{NoMemory}
 use Rattle.node_top.specs.Printed.{printed}
 use Rattle.node_top.specs.Shown.{Shown}
 use Rattle.node_top.specs.Input.{Admits, Reads}
-use Rattle.node_top.specs.Started.{own_of, look_of, book_of, drawn_of, lookup_of, IsInRange, seen_call, Start}
+use Rattle.node_top.specs.Started.{look_of, book_of, drawn_of, lookup_of, IsInRange, seen_call, Start}
 use Rattle.node_top.specs.Looked.{printed_of, LooksAt, Begun, EndsByStrays, MeetsFewStrays}
 use Rattle.node_top.proofs.Starting.{usable_told}
 
@@ -45,8 +46,8 @@ admits_usable own policy (r ∷ rs) cs h =
       | inr b ↦ admits_usable own policy rs cs b.1
     ]
 
-pub within_limits : (look : LookWords) (random : List ℕ) → IsInRange look → IsWithinLimits (look_of look random)
-within_limits look random h = record { few = h.few_live; some_path = h.some_path; few_paths = h.few_paths; some_query = h.some_query; few_queries = h.few_queries }
+pub within_limits : (kind : AskKind) (look : LookWords) (random : List ℕ) → IsInRange look → IsWithinLimits (look_of kind look random)
+within_limits kind look random h = record { few = h.few_live; some_path = h.some_path; few_paths = h.few_paths; some_query = h.some_query; few_queries = h.few_queries }
 
 text_is : (s : Setting) (o : Outcome) (text : List ℕ) → o.found ≡ result_of s o.journal → o.counts.asked ≡ length (asked o.journal) → o.counts.failed ≡ length (failed o.journal) → o.counts.turned ≡ length (turned o.journal) → text ≡ printed o.found o.counts.asked o.counts.failed o.counts.turned → text ≡ printed_of s o.journal
 text_is s o text a b c d is =
@@ -55,11 +56,11 @@ text_is s o text a b c d is =
     ∙ ap (λ n. printed (result_of s o.journal) (length (asked o.journal)) n o.counts.turned) c
     ∙ ap (λ n. printed (result_of s o.journal) (length (asked o.journal)) (length (failed o.journal)) n) d
 
-pub looks_at : (look : LookWords) (random : List ℕ) (source : Shown ℕ) (link : Shown Event) (start : Start look random source) (left : WordsState) (o : Outcome) (text : List ℕ) → IsInRange look
-    → LooksUp (look_of look random) start.table (drawn_of random) left link.before link.after o → Grows link.before link.after (λ events. Rounds (lookup_of look random) o.journal events)
-    → MeetsFewStrays look random link → text ≡ printed o.found o.counts.asked o.counts.failed o.counts.turned → LooksAt look random source link text
-looks_at look random source link start left o text range up rounds few is =
-    let set = book_of look random in
+pub looks_at : (kind : AskKind) (look : LookWords) (random : List ℕ) (source : Shown ℕ) (link : Shown Event) (start : Start look random source) (left : WordsState) (o : Outcome) (text : List ℕ) → IsInRange look
+    → LooksUp (look_of kind look random) start.table (drawn_of random) left link.before link.after o → Grows link.before link.after (λ events. Rounds (lookup_of kind look random) o.journal events)
+    → MeetsFewStrays kind look random link → text ≡ printed o.found o.counts.asked o.counts.failed o.counts.turned → LooksAt kind look random source link text
+looks_at kind look random source link start left o text range up rounds few is =
+    let set = book_of kind look random in
     record {
       start = start;
       journal = o.journal;
@@ -75,30 +76,30 @@ looks_at look random source link start left o text range up rounds few is =
       text_is = text_is set o text up.found up.counted.asked up.counted.failed up.counted.turned is;
     }
 
-pub begun_of : (look : LookWords) (random : List ℕ) (source : Shown ℕ) (link : Shown Event) (start : Start look random source) (left : WordsState) → Unfinished (look_of look random) start.table (drawn_of random) left link.before link.after
-    → Begun look random source link
-begun_of look random source link start left h = record { start = start; left = left; so_far = h; asked_once = asked_distinct (book_of look random) h.journal h.legal }
+pub begun_of : (kind : AskKind) (look : LookWords) (random : List ℕ) (source : Shown ℕ) (link : Shown Event) (start : Start look random source) (left : WordsState) → Unfinished (look_of kind look random) start.table (drawn_of random) left link.before link.after
+    → Begun kind look random source link
+begun_of kind look random source link start left h = record { start = start; left = left; so_far = h; asked_once = asked_distinct (book_of kind look random) h.journal h.legal }
 
 tells_early : (g : Given) (J : List Entry) (events : List Event) → Tells g J events → TellsEarly g J events
 tells_early g J events h = record { front = events; end = h.end; so_far = h.so_far; whole = inl refl }
 
 -- a lookup that has run out had begun
-pub begun_whole : (look : LookWords) (random : List ℕ) (source : Shown ℕ) (link : Shown Event) (start : Start look random source) (left : WordsState) (o : Outcome) → LooksUp (look_of look random) start.table (drawn_of random) left link.before link.after o
-    → Begun look random source link
-begun_whole look random source link start left o up =
-    begun_of look random source link start left (record {
+pub begun_whole : (kind : AskKind) (look : LookWords) (random : List ℕ) (source : Shown ℕ) (link : Shown Event) (start : Start look random source) (left : WordsState) (o : Outcome) → LooksUp (look_of kind look random) start.table (drawn_of random) left link.before link.after o
+    → Begun kind look random source link
+begun_whole kind look random source link start left o up =
+    begun_of kind look random source link start left (record {
       journal = o.journal;
       legal = up.legal;
       seeds_are = up.seeds_are;
-      tells = grows_weaker link.before link.after (λ events. Tells (lookup_of look random) o.journal events) (λ events. TellsEarly (lookup_of look random) o.journal events) up.tells (λ events h. tells_early (lookup_of look random) o.journal events h);
+      tells = grows_weaker link.before link.after (λ events. Tells (lookup_of kind look random) o.journal events) (λ events. TellsEarly (lookup_of kind look random) o.journal events) up.tells (λ events h. tells_early (lookup_of kind look random) o.journal events h);
       drawn = up.drawn;
     })
 
 -- ---- the same over the values that the code has
 
 -- what a lookup has where it begins
-pub record Has (look : LookWords) (random : List ℕ) (source : Shown ℕ) (setting : LookSetting) (words : WordsState) (table : TableState) : Type 0 where
-  pub setting_is : setting ≡ look_of look random
+pub record Has (kind : AskKind) (look : LookWords) (random : List ℕ) (source : Shown ℕ) (setting : LookSetting) (words : WordsState) (table : TableState) : Type 0 where
+  pub setting_is : setting ≡ look_of kind look random
   pub words_are : words ≡ drawn_of random
   pub range : IsInRange look
   pub contacts : List Contact
@@ -106,9 +107,9 @@ pub record Has (look : LookWords) (random : List ℕ) (source : Shown ℕ) (sett
   pub some_one : contacts ≢ []
   pub told : TableTold (map seen_call contacts) (new_table setting.own look.k look.bits) table
 
-pub has : (look : LookWords) (random : List ℕ) (source : Shown ℕ) (setting : LookSetting) (words : WordsState) (table : TableState) (contacts xs : List Contact) → setting ≡ look_of look random → words ≡ drawn_of random → IsInRange look
-    → Reads setting.own setting.policy source contacts → contacts ≢ [] → xs ≡ contacts → TableTold (map seen_call xs) (new_table setting.own look.k look.bits) table → Has look random source setting words table
-has look random source setting words table contacts xs e f range reads some_one same told = record {
+pub has : (kind : AskKind) (look : LookWords) (random : List ℕ) (source : Shown ℕ) (setting : LookSetting) (words : WordsState) (table : TableState) (contacts xs : List Contact) → setting ≡ look_of kind look random → words ≡ drawn_of random → IsInRange look
+    → Reads setting.own setting.policy source contacts → contacts ≢ [] → xs ≡ contacts → TableTold (map seen_call xs) (new_table setting.own look.k look.bits) table → Has kind look random source setting words table
+has kind look random source setting words table contacts xs e f range reads some_one same told = record {
   setting_is = e;
   words_are = f;
   range = range;
@@ -118,8 +119,8 @@ has look random source setting words table contacts xs e f range reads some_one 
   told = subst (λ (l : List Contact). TableTold (map seen_call l) (new_table setting.own look.k look.bits) table) same told;
 }
 
-abbrev start_of : (look : LookWords) (random : List ℕ) (source : Shown ℕ) (setting : LookSetting) (words : WordsState) (table : TableState) → Has look random source setting words table → Start look random source
-start_of look random source setting words table h = record {
+abbrev start_of : (kind : AskKind) (look : LookWords) (random : List ℕ) (source : Shown ℕ) (setting : LookSetting) (words : WordsState) (table : TableState) → Has kind look random source setting words table → Start look random source
+start_of kind look random source setting words table h = record {
   contacts = h.contacts;
   reads = subst (λ (s : LookSetting). Reads s.own s.policy source h.contacts) h.setting_is h.reads;
   some_one = h.some_one;
@@ -128,45 +129,45 @@ start_of look random source setting words table h = record {
 }
 
 -- what holds of the setting and the words holds of those that they are
-moved : (look : LookWords) (random : List ℕ) (source : Shown ℕ) (setting : LookSetting) (words : WordsState) (table : TableState) (P : LookSetting → WordsState → Type 0) → Has look random source setting words table → P setting words → P (look_of look random) (drawn_of random)
-moved look random source setting words table P h p = subst (P (look_of look random)) h.words_are (subst (λ (s : LookSetting). P s words) h.setting_is p)
+moved : (kind : AskKind) (look : LookWords) (random : List ℕ) (source : Shown ℕ) (setting : LookSetting) (words : WordsState) (table : TableState) (P : LookSetting → WordsState → Type 0) → Has kind look random source setting words table → P setting words → P (look_of kind look random) (drawn_of random)
+moved kind look random source setting words table P h p = subst (P (look_of kind look random)) h.words_are (subst (λ (s : LookSetting). P s words) h.setting_is p)
 
-pub limits_of : (look : LookWords) (random : List ℕ) (source : Shown ℕ) (setting : LookSetting) (words : WordsState) (table : TableState) → Has look random source setting words table → IsWithinLimits setting
-limits_of look random source setting words table h = subst IsWithinLimits (sym h.setting_is) (within_limits look random h.range)
+pub limits_of : (kind : AskKind) (look : LookWords) (random : List ℕ) (source : Shown ℕ) (setting : LookSetting) (words : WordsState) (table : TableState) → Has kind look random source setting words table → IsWithinLimits setting
+limits_of kind look random source setting words table h = subst IsWithinLimits (sym h.setting_is) (within_limits kind look random h.range)
 
-pub usable_in_table : (look : LookWords) (random : List ℕ) (source : Shown ℕ) (setting : LookSetting) (words : WordsState) (table : TableState) → Has look random source setting words table → All (IsUsable setting.own) (contacts_of table)
-usable_in_table look random source setting words table h =
+pub usable_in_table : (kind : AskKind) (look : LookWords) (random : List ℕ) (source : Shown ℕ) (setting : LookSetting) (words : WordsState) (table : TableState) → Has kind look random source setting words table → All (IsUsable setting.own) (contacts_of table)
+usable_in_table kind look random source setting words table h =
     usable_told setting.own look.k look.bits h.contacts table (admits_usable setting.own setting.policy h.reads.reports h.contacts h.reads.admits) h.told
 
-pub few_from : (look : LookWords) (random : List ℕ) (source : Shown ℕ) (link : Shown Event) (setting : LookSetting) (words : WordsState) (table : TableState) → Has look random source setting words table
-    → Grows link.before link.after (λ events. ¬ EndsAtStray (given_of setting words) events max_strays) → MeetsFewStrays look random link
-few_from look random source link setting words table h few = moved look random source setting words table (λ s w. Grows link.before link.after (λ events. ¬ EndsAtStray (given_of s w) events max_strays)) h few
+pub few_from : (kind : AskKind) (look : LookWords) (random : List ℕ) (source : Shown ℕ) (link : Shown Event) (setting : LookSetting) (words : WordsState) (table : TableState) → Has kind look random source setting words table
+    → Grows link.before link.after (λ events. ¬ EndsAtStray (given_of setting words) events max_strays) → MeetsFewStrays kind look random link
+few_from kind look random source link setting words table h few = moved kind look random source setting words table (λ s w. Grows link.before link.after (λ events. ¬ EndsAtStray (given_of s w) events max_strays)) h few
 
-pub looks_from : (look : LookWords) (random : List ℕ) (source : Shown ℕ) (link : Shown Event) (setting : LookSetting) (words left : WordsState) (table : TableState) (o : Outcome) (text : List ℕ) → Has look random source setting words table
+pub looks_from : (kind : AskKind) (look : LookWords) (random : List ℕ) (source : Shown ℕ) (link : Shown Event) (setting : LookSetting) (words left : WordsState) (table : TableState) (o : Outcome) (text : List ℕ) → Has kind look random source setting words table
     → LooksUp setting table words left link.before link.after o → Grows link.before link.after (λ events. Rounds (given_of setting words) o.journal events)
     → Grows link.before link.after (λ events. ¬ EndsAtStray (given_of setting words) events max_strays)
-    → text ≡ printed o.found o.counts.asked o.counts.failed o.counts.turned → LooksAt look random source link text
-looks_from look random source link setting words left table o text h up rounds few is =
-    looks_at look random source link (start_of look random source setting words table h) left o text h.range
-    (moved look random source setting words table (λ s w. LooksUp s table w left link.before link.after o) h up)
-    (moved look random source setting words table (λ s w. Grows link.before link.after (λ events. Rounds (given_of s w) o.journal events)) h rounds)
-    (few_from look random source link setting words table h few) is
+    → text ≡ printed o.found o.counts.asked o.counts.failed o.counts.turned → LooksAt kind look random source link text
+looks_from kind look random source link setting words left table o text h up rounds few is =
+    looks_at kind look random source link (start_of kind look random source setting words table h) left o text h.range
+    (moved kind look random source setting words table (λ s w. LooksUp s table w left link.before link.after o) h up)
+    (moved kind look random source setting words table (λ s w. Grows link.before link.after (λ events. Rounds (given_of s w) o.journal events)) h rounds)
+    (few_from kind look random source link setting words table h few) is
 
-pub begun_from : (look : LookWords) (random : List ℕ) (source : Shown ℕ) (link : Shown Event) (setting : LookSetting) (words left : WordsState) (table : TableState) → Has look random source setting words table
-    → Unfinished setting table words left link.before link.after → Begun look random source link
-begun_from look random source link setting words left table h so_far =
-    begun_of look random source link (start_of look random source setting words table h) left
-    (moved look random source setting words table (λ s w. Unfinished s table w left link.before link.after) h so_far)
+pub begun_from : (kind : AskKind) (look : LookWords) (random : List ℕ) (source : Shown ℕ) (link : Shown Event) (setting : LookSetting) (words left : WordsState) (table : TableState) → Has kind look random source setting words table
+    → Unfinished setting table words left link.before link.after → Begun kind look random source link
+begun_from kind look random source link setting words left table h so_far =
+    begun_of kind look random source link (start_of kind look random source setting words table h) left
+    (moved kind look random source setting words table (λ s w. Unfinished s table w left link.before link.after) h so_far)
 
-pub begun_whole_from : (look : LookWords) (random : List ℕ) (source : Shown ℕ) (link : Shown Event) (setting : LookSetting) (words left : WordsState) (table : TableState) (o : Outcome) → Has look random source setting words table
-    → LooksUp setting table words left link.before link.after o → Begun look random source link
-begun_whole_from look random source link setting words left table o h up =
-    begun_whole look random source link (start_of look random source setting words table h) left o
-    (moved look random source setting words table (λ s w. LooksUp s table w left link.before link.after o) h up)
+pub begun_whole_from : (kind : AskKind) (look : LookWords) (random : List ℕ) (source : Shown ℕ) (link : Shown Event) (setting : LookSetting) (words left : WordsState) (table : TableState) (o : Outcome) → Has kind look random source setting words table
+    → LooksUp setting table words left link.before link.after o → Begun kind look random source link
+begun_whole_from kind look random source link setting words left table o h up =
+    begun_whole kind look random source link (start_of kind look random source setting words table h) left o
+    (moved kind look random source setting words table (λ s w. LooksUp s table w left link.before link.after o) h up)
 
-pub strays_from : (look : LookWords) (random : List ℕ) (source : Shown ℕ) (link : Shown Event) (setting : LookSetting) (words : WordsState) (table : TableState) → Has look random source setting words table
-    → Grows link.before link.after (λ events. EndsAtStray (given_of setting words) events max_strays) → EndsByStrays look random link
-strays_from look random source link setting words table h ends = moved look random source setting words table (λ s w. Grows link.before link.after (λ events. EndsAtStray (given_of s w) events max_strays)) h ends
+pub strays_from : (kind : AskKind) (look : LookWords) (random : List ℕ) (source : Shown ℕ) (link : Shown Event) (setting : LookSetting) (words : WordsState) (table : TableState) → Has kind look random source setting words table
+    → Grows link.before link.after (λ events. EndsAtStray (given_of setting words) events max_strays) → EndsByStrays kind look random link
+strays_from kind look random source link setting words table h ends = moved kind look random source setting words table (λ s w. Grows link.before link.after (λ events. EndsAtStray (given_of s w) events max_strays)) h ends
 
 -- ---- results
 

@@ -7,5 +7,9 @@ pub mod Ranges
 pub mod Starting
 pub mod Asking
 pub mod Commands
+pub mod Verdicts
 pub mod Exactly
+pub mod Causes
+pub mod MayEnd
+pub mod Linkless
 pub mod Nodes

@@ -10,7 +10,7 @@ use Rattle.node_top.specs.Lines.{IsBad, IsFirstBad, Reporting, Tells}
 
 -- ---- one line more
 
-AllZip-push : {A B : Type 0} (R : A → B → Type 0) (xs : List A) (ys : List B) (x : A) (y : B) → AllZip R xs ys → R x y → AllZip R (xs ++ x ∷ []) (ys ++ y ∷ [])
+pub AllZip-push : {A B : Type 0} (R : A → B → Type 0) (xs : List A) (ys : List B) (x : A) (y : B) → AllZip R xs ys → R x y → AllZip R (xs ++ x ∷ []) (ys ++ y ∷ [])
 AllZip-push R [] [] x y h r = (r, tt)
 AllZip-push R [] (b ∷ ys) x y h r = absurd h
 AllZip-push R (a ∷ xs) [] x y h r = absurd h

@@ -7,6 +7,7 @@ use Rattle.hex.specs.Hex.{encode_lower}
 use Rattle.kad_base.specs.declared.plain.Contact.{Contact}
 use Rattle.kad_words.specs.Text.{groups_after, ip_text}
 use Rattle.node_top.specs.Printed.{contact_text, counts_text, line_of, printed}
+use Rattle.node_top.specs.Minted.{minted_line}
 
 -- a text that was written in these pieces
 pub pieces_are : {Z E : Type 0} (r : Result (String Z) E) (x y : List ℕ) → IfOk r (λ s. string_bytes s ≡ x) → x ≡ y → IfOk r (λ s. string_bytes s ≡ y)
@@ -22,6 +23,16 @@ contact_pieces contact id ip e f =
 pub counts_pieces : (found asked failed turned : ℕ)
     → codes "found " ++ (decimal found ++ (codes " asked " ++ (decimal asked ++ (codes " failed " ++ (decimal failed ++ (codes " turned " ++ decimal turned)))))) ≡ counts_text found asked failed turned
 counts_pieces found asked failed turned = sym (simp append_assoc refl)
+
+pub minted_pieces : (id key x a b d : List ℕ) → a ≡ encode_lower id → b ≡ encode_lower key → d ≡ encode_lower x
+    → a ++ (32 ∷ (b ++ (32 ∷ (d ++ (10 ∷ []))))) ≡ minted_line id key x
+minted_pieces id key x a b d e f g =
+    let space : List ℕ = codes " " in
+    let end : List ℕ = codes "\n" in
+    let A = encode_lower id in
+    let B = encode_lower key in
+    let D = encode_lower x in
+    rw (e, f, g) (sym (append_assoc (A ++ space ++ B ++ space) D end ∙ append_assoc (A ++ space ++ B) space (D ++ end) ∙ append_assoc (A ++ space) B (space ++ (D ++ end)) ∙ append_assoc A space (B ++ (space ++ (D ++ end)))))
 
 -- one contact more
 pub line_more : (found : List Contact) (output after : List ℕ) (k : ℕ) (d : Contact) (text : List ℕ) → k < length found

@@ -1,5 +1,5 @@
 -- The values of a lookup's words are within the limits.
-use Rattle.std.proofs.Common.{◌≡◌, ℕ, ◌≤◌, List, Option, Some, None, subst, sym, arith}
+use Rattle.std.proofs.Common.{ℕ, ◌≤◌, List, Option, Some, None, arith}
 use Rattle.kad_words.specs.Table.{Word}
 use Rattle.kad_words.specs.Text.{SpellsNumber}
 use Rattle.kad_words.specs.Plain.{CommandOf, IsGivenOr}

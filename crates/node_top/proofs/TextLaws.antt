@@ -1,22 +1,18 @@
 -- A text has one reading.
-use Rattle.std.proofs.Common.{◌≡◌, ◌≢◌, ℕ, suc, ◌+◌, ◌/◌, ◌%◌, ◌^◌, ◌<◌, ◌⊎◌, inl, true, List, [], ◌∷◌, ◌++◌, length, slice_index, Option, Some, None, refl, sym, ap, ◌∙◌, subst, arith, lit<}
-use Rattle.std.specs.Prelude.{decimal, codes, All, flat_map, option_to_list}
+use Rattle.std.proofs.Common.{◌≡◌, ◌≢◌, ℕ, suc, ◌+◌, ◌/◌, ◌%◌, ◌^◌, ◌<◌, true, List, [], ◌∷◌, ◌++◌, length, slice_index, Option, Some, None, refl, sym, ap, ◌∙◌, subst, arith}
+use Rattle.std.specs.Prelude.{codes, All, flat_map, option_to_list}
 use Rattle.std.specs.Char.{to_ascii_lowercase}
 use Rattle.std.specs.Str.{str_to_ascii_lowercase}
 use Rattle.std.specs.List.{AllZip, AllPass}
-use Rattle.std.specs.Net.Text.{ipv4_text, dotted_text}
-use Rattle.std.proofs.lemmas.Fmt.{decimal_injective}
 use Rattle.std.proofs.lemmas.List.{append_assoc, append-nil}
-use Rattle.std.proofs.lemmas.List.Elements.{All-head, All-tail}
+use Rattle.std.proofs.lemmas.List.Elements.{All-head}
 use Rattle.hex.specs.Hex.{IsBytes, encode_lower, encode_with, is_hex_digit, lower_digits}
 use Rattle.kad_base.specs.declared.plain.Id.{Id}
-use Rattle.kad_base.specs.declared.plain.Ip.{Ip}
-use Rattle.kad_base.specs.declared.plain.Ip.TheVariants.{V4, V6}
 use Rattle.kad_base.specs.declared.plain.Addr.{Addr}
 use Rattle.kad_base.specs.declared.plain.Contact.{Contact}
 use Rattle.kad_base.specs.declared.plain.Proof.{Proof}
 use Rattle.kad_base.specs.declared.plain.Report.{Report}
-use Rattle.kad_words.specs.Text.{IsV4, SpellsAddr, SpellsHex, SpellsId, SpellsNumber, addr_text, ip_text}
+use Rattle.kad_words.specs.Text.{IsV4, SpellsAddr, SpellsHex, SpellsId, addr_text}
 use Rattle.node_top.specs.Lines.{EndsWithProof, IsBad, IsContactLine, IsFirstBad, IsPassedOver, Reporting, SpellsProof, Tells}
 use Rattle.node_top.specs.Printed.{contact_text}
 use Rattle.kad_words.proofs.HexSpelling.{lower_digit, spells_digits}

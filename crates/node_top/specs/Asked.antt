@@ -1,8 +1,9 @@
 -- Which words ask for something: those of the plain form whose command is built. The form is this project's own.
 use Rattle.std.specs.Prelude.{List, [], ◌∷◌, map, string_bytes, Contains}
 use Rattle.std.specs.declared.string.String.{String}
-use Rattle.kad_words.specs.Table.{Word, lookup}
+use Rattle.kad_words.specs.Table.{Word, lookup, check, mint}
 use Rattle.kad_words.specs.Plain.{IsPlain}
+use Rattle.kad_words.specs.Bound.{TakesLink}
 
 -- the words of a command line
 abbrev pub bytes_of : {Z : Type 0} → List (String Z) → List Word
@@ -10,7 +11,7 @@ bytes_of words = map (λ w. string_bytes w) words
 
 -- the commands that are built so far
 abbrev pub built : List Word
-built = lookup ∷ []
+built = lookup ∷ check ∷ mint ∷ []
 
 -- the words are of the plain form, and their command is built
 pub record Asks (words : List Word) : Type 0 where
@@ -21,3 +22,8 @@ pub record Asks (words : List Word) : Type 0 where
 abbrev pub BeginsBuilt : List Word → Type 0
 BeginsBuilt [] = ⊥
 BeginsBuilt (command ∷ rest) = Contains built command
+
+-- the words ask for a plain command, which is one that takes no link
+pub record AsksPlain (words : List Word) : Type 0 where
+  pub asks : Asks words
+  pub no_link : ¬ TakesLink words

@@ -1,41 +1,64 @@
--- What the top call promises, by the command that the words ask for. A command more is a case more in `TextOf` and
--- `BegunBy`, and a word more in `built`.
-use Rattle.std.specs.Prelude.{◌≡◌, ◌⊎◌, ℕ, List, []}
+-- What the top call promises, by the command that the words ask for. A command more that takes a link is a case more in
+-- `TextOf` and `Needs`, where it looks up in `sought_by` and `BegunBy` too, and a word more in `built`.
+use Rattle.std.specs.Prelude.{◌≡◌, ℕ, List, [], Option, Some, None}
 use Rattle.kad_base.specs.declared.plain.Event.{Event}
 use Rattle.kad_base.specs.Outside.{Grows}
+use Rattle.lookup_run.specs.declared.plain.AskKind.{AskKind}
+use Rattle.lookup_run.specs.declared.plain.AskKind.TheVariants.{FindNode}
 use Rattle.kad_words.specs.Table.{Word}
 use Rattle.kad_words.specs.Plain.{CommandOf}
 use Rattle.kad_words.specs.declared.command.Command.{Command}
 use Rattle.kad_words.specs.declared.command.Command.TheVariants.{Lookup}
 use Rattle.kad_words.specs.declared.command.LookWords.{LookWords}
 use Rattle.node_top.specs.declared.status.Status.{Status}
-use Rattle.node_top.specs.declared.status.Status.TheVariants.{Usage, BadLine, LinkFault, SourceFault, Strays, NoSeeds, NoMemory, TooLong}
+use Rattle.node_top.specs.declared.status.Status.TheVariants.{Usage, BadLine, LinkFault, SourceFault, Strays, NoSeeds, NoMemory, Unminted, TooLong}
 use Rattle.node_top.specs.Asked.{Asks}
 use Rattle.node_top.specs.Input.{ReadsFew, ReadsTooMuch, Reads, ReadsSome, IsBadLine}
 use Rattle.node_top.specs.Looked.{LooksAt, Begun, EndsByStrays, MeetsFewStrays}
+use Rattle.node_top.specs.Plainly.{PlainText, PlainNeeds, ReadsInput, HasNothing}
 use Rattle.node_top.specs.Shown.{Shown, IsTold, HasFailed}
 use Rattle.node_top.specs.Started.{own_of}
 
+-- ---- what a command looks up
+
+-- the query that a lookup asks by, and its options
+pub record Sought : Type 0 where
+  pub kind : AskKind
+  pub look : LookWords
+
+-- what the command looks up, if it does
+abbrev pub sought_by : Command → Option Sought
+sought_by (Lookup look) = Some (record { kind = FindNode; look = look })
+sought_by other = None
+
+-- the words ask for a command that looks this up
+pub record Seeks (words : List Word) (sought : Sought) : Type 0 where
+  pub command : Command
+  pub asked : CommandOf words command
+  pub looks : sought_by command ≡ Some sought
+
+-- ---- what it makes
+
 -- the text of a command
 abbrev pub TextOf : Command → List ℕ → Shown ℕ → Shown Event → List ℕ → Type 0
-TextOf (Lookup look) random source link text = LooksAt look random source link text
-TextOf other random source link text = ⊥
+TextOf (Lookup look) random source link text = LooksAt FindNode look random source link text
+TextOf other random source link text = PlainText other random source text
 
 -- what a command's lookup was when it ended early
 abbrev pub BegunBy : Command → List ℕ → Shown ℕ → Shown Event → Type 0
-BegunBy (Lookup look) random source link = Begun look random source link
+BegunBy (Lookup look) random source link = Begun FindNode look random source link
 BegunBy other random source link = ⊥
 
 -- the words ask for a command, and this is its text
-pub record Looked (words : List Word) (random : List ℕ) (source : Shown ℕ) (link : Shown Event) (text : List ℕ) : Type 0 where
+pub record HasText (words : List Word) (random : List ℕ) (source : Shown ℕ) (link : Shown Event) (text : List ℕ) : Type 0 where
   pub command : Command
   pub asked : CommandOf words command
   pub text_of : TextOf command random source link text
 
 -- a whole command: the words ask for it, and its text was written
-pub record LookedUp (words : List Word) (random : List ℕ) (source : Shown ℕ) (link : Shown Event) (sink : Shown ℕ) : Type 0 where
+pub record IsDone (words : List Word) (random : List ℕ) (source : Shown ℕ) (link : Shown Event) (sink : Shown ℕ) : Type 0 where
   pub text : List ℕ
-  pub looked : Looked words random source link text
+  pub has_text : HasText words random source link text
   pub writes : Grows sink.before sink.after (λ added. added ≡ text)
 
 -- the words ask for a lookup, which was begun and not ended
@@ -47,45 +70,57 @@ pub record HasBegun (words : List Word) (random : List ℕ) (source : Shown ℕ)
 -- the words ask for a lookup; the input was read to its end, its lines are good, and some give a contact that is usable
 -- and passes
 pub record HasSeeds (words : List Word) (random : List ℕ) (source : Shown ℕ) : Type 0 where
-  pub look : LookWords
-  pub command : CommandOf words (Lookup look)
-  pub reads : ReadsSome (own_of look.own random) look.policy source
+  pub sought : Sought
+  pub seeks : Seeks words sought
+  pub reads : ReadsSome (own_of sought.look.own random) sought.look.policy source
 
 -- the words ask for a lookup; the input was read to its end, its lines are good, and none gives a contact that is
 -- usable and passes
 pub record HasNoSeeds (words : List Word) (random : List ℕ) (source : Shown ℕ) : Type 0 where
-  pub look : LookWords
-  pub command : CommandOf words (Lookup look)
-  pub reads : Reads (own_of look.own random) look.policy source []
+  pub sought : Sought
+  pub seeks : Seeks words sought
+  pub reads : Reads (own_of sought.look.own random) sought.look.policy source []
 
 -- the words ask for a lookup, and the link's events end with the last stray that it takes
 pub record HasStrays (words : List Word) (random : List ℕ) (link : Shown Event) : Type 0 where
-  pub look : LookWords
-  pub command : CommandOf words (Lookup look)
-  pub ends : EndsByStrays look random link
+  pub sought : Sought
+  pub seeks : Seeks words sought
+  pub ends : EndsByStrays sought.kind sought.look random link
 
 -- the words ask for a lookup, and the link's events don't end so
 pub record HasFewStrays (words : List Word) (random : List ℕ) (link : Shown Event) : Type 0 where
-  pub look : LookWords
-  pub command : CommandOf words (Lookup look)
-  pub few : MeetsFewStrays look random link
+  pub sought : Sought
+  pub seeks : Seeks words sought
+  pub few : MeetsFewStrays sought.kind sought.look random link
 
 -- why there is no output
 abbrev pub HasCause : List Word → List ℕ → Shown ℕ → Shown Event → Status → Type 0
 HasCause words random source link Usage = (¬ Asks words) × (source.after ≡ source.before)
-HasCause words random source link (BadLine line) = IsBadLine source line
+HasCause words random source link (BadLine line) = ReadsInput words × IsBadLine source line
 HasCause words random source link LinkFault = HasFailed link × HasSeeds words random source × HasBegun words random source link × HasFewStrays words random link
-HasCause words random source link SourceFault = HasFailed source × ReadsFew source.before source.after
+HasCause words random source link SourceFault = ReadsInput words × HasFailed source × ReadsFew source.before source.after
 HasCause words random source link Strays = HasStrays words random link × HasSeeds words random source × HasBegun words random source link
 HasCause words random source link NoSeeds = HasNoSeeds words random source
 HasCause words random source link NoMemory = Unit {0}
-HasCause words random source link TooLong = ReadsTooMuch source.before source.after
+HasCause words random source link Unminted = HasNothing words random × (source.after ≡ source.before)
+HasCause words random source link TooLong = ReadsInput words × ReadsTooMuch source.before source.after
 
--- what a plain lookup that ends well goes by: a good input with a node to begin with, no failure and few strays
-pub record GoesWell (words : List Word) (random : List ℕ) (source : Shown ℕ) (link : Shown Event) (sink : Shown ℕ) : Type 0 where
+-- what a lookup needs: a good input with a node to begin with, no failure and few strays
+pub record SeeksWell (sought : Sought) (random : List ℕ) (source : Shown ℕ) (link : Shown Event) : Type 0 where
   pub told : IsTold source
   pub reads : ¬ HasFailed source
   pub hears : ¬ HasFailed link
+  pub few_strays : ¬ EndsByStrays sought.kind sought.look random link
+  pub seeds : ReadsSome (own_of sought.look.own random) sought.look.policy source
+
+-- what a command needs
+abbrev pub Needs : Command → List ℕ → Shown ℕ → Shown Event → Type 0
+Needs (Lookup look) random source link = SeeksWell (record { kind = FindNode; look = look }) random source link
+Needs other random source link = PlainNeeds other random source
+
+-- what a command that ends well goes by
+pub record GoesWell (words : List Word) (random : List ℕ) (source : Shown ℕ) (link : Shown Event) (sink : Shown ℕ) : Type 0 where
+  pub command : Command
+  pub asked : CommandOf words command
+  pub needs : Needs command random source link
   pub writes : ¬ HasFailed sink
-  pub few_strays : ¬ HasStrays words random link
-  pub seeds : HasSeeds words random source

@@ -1,14 +1,18 @@
 -- How the top call ends: the number and the line of each status, and what was written. All of it is this project's own.
-use Rattle.std.specs.Prelude.{◌≡◌, ◌⊎◌, ℕ, List, ◌++◌, codes, decimal, Option}
+use Rattle.std.specs.Prelude.{◌≡◌, ◌⊎◌, ℕ, List, ◌++◌, [], ◌∷◌, codes, decimal, Contains}
 use Rattle.kad_base.specs.declared.plain.Event.{Event}
 use Rattle.kad_base.specs.Outside.{Grows}
 use Rattle.node_top.specs.declared.status.Status.{Status}
-use Rattle.node_top.specs.declared.status.Status.TheVariants.{Usage, BadLine, LinkFault, SourceFault, Strays, NoSeeds, NoMemory, TooLong}
+use Rattle.node_top.specs.declared.status.Status.TheVariants.{Usage, BadLine, LinkFault, SourceFault, Strays, NoSeeds, NoMemory, Unminted, TooLong}
 use Rattle.kad_words.specs.Table.{Word}
+use Rattle.kad_words.specs.Plain.{CommandOf}
+use Rattle.kad_words.specs.declared.command.Command.{Command}
+use Rattle.kad_words.specs.declared.command.Command.TheVariants.{Lookup, Check, Mint}
+use Rattle.node_top.specs.Asked.{Asks}
 use Rattle.node_top.specs.Written.{IsFront}
 use Rattle.node_top.specs.Shown.{Shown, HasFailed}
 use Rattle.node_top.specs.Input.{IsBadLine}
-use Rattle.node_top.specs.Commands.{Looked}
+use Rattle.node_top.specs.Commands.{HasText}
 
 -- the number of a status
 abbrev pub number_of : Status → ℕ
@@ -19,6 +23,7 @@ number_of SourceFault = 6
 number_of Strays = 7
 number_of NoSeeds = 8
 number_of NoMemory = 9
+number_of Unminted = 10
 number_of TooLong = 11
 
 -- the line of a status
@@ -30,6 +35,7 @@ status_line SourceFault = codes "source fault\n"
 status_line Strays = codes "strays\n"
 status_line NoSeeds = codes "no seeds\n"
 status_line NoMemory = codes "no memory\n"
+status_line Unminted = codes "unminted\n"
 status_line TooLong = codes "too long\n"
 
 -- the text was written, or a front of it where the sink's faults rose
@@ -50,15 +56,26 @@ pub record WritesLine (number : ℕ) (source sink : Shown ℕ) : Type 0 where
   pub names : Names source status
   pub writes : Writes (status_line status) sink
 
--- a lookup whose text was not written to its end: all is as in a whole one, but that a front of its text was written
+-- a command whose text was not written to its end: all is as in a whole one, but that a front of its text was written
 pub record CutShort (words : List Word) (random : List ℕ) (source : Shown ℕ) (link : Shown Event) (sink : Shown ℕ) : Type 0 where
   pub text : List ℕ
-  pub looked : Looked words random source link text
+  pub has_text : HasText words random source link text
   pub writes : Grows sink.before sink.after (λ added. IsFront added text)
+
+-- the statuses with which a command may end that is built
+abbrev pub MayEnd : Command → ℕ → Type 0
+MayEnd (Lookup look) status = Contains (0 ∷ 3 ∷ 4 ∷ 5 ∷ 6 ∷ 7 ∷ 8 ∷ 9 ∷ 11 ∷ []) status
+MayEnd (Check policy) status = Contains (0 ∷ 3 ∷ 5 ∷ 6 ∷ 9 ∷ 11 ∷ []) status
+MayEnd (Mint seed c1 c2 tries) status = Contains (0 ∷ 5 ∷ 9 ∷ 10 ∷ []) status
+MayEnd other status = ⊥
+
+-- the status is one of those of the command that the words ask for
+abbrev pub EndsByCommand : List Word → ℕ → Type 0
+EndsByCommand words status = (command : Command) → CommandOf words command → Asks words → MayEnd command status
 
 -- the statuses that end a command before it calls the link
 abbrev pub EndsEarly : ℕ → Type 0
-EndsEarly status = (status ≡ 2) ⊎ (status ≡ 3) ⊎ (status ≡ 6) ⊎ (status ≡ 8) ⊎ (status ≡ 11)
+EndsEarly status = (status ≡ 2) ⊎ (status ≡ 3) ⊎ (status ≡ 6) ⊎ (status ≡ 8) ⊎ (status ≡ 10) ⊎ (status ≡ 11)
 
 -- this status, or that of no memory
 abbrev pub OrNoMemory : ℕ → ℕ → Type 0

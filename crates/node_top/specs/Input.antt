@@ -37,6 +37,12 @@ Admits own policy (r ∷ reports) contacts =
 abbrev pub AdmitsOne : Id → Policy → Report → List Contact → List Contact → Type 0
 AdmitsOne own policy r old new = (IsAdmitted own policy r × (new ≡ old ++ r.contact ∷ [])) ⊎ (¬ IsAdmitted own policy r × (new ≡ old))
 
+-- the input was read to its end, each of its lines is good, and these are the reports of its contact lines, in order
+pub record Lists (source : Shown ℕ) (reports : List Report) : Type 0 where
+  pub input : List ℕ
+  pub read : ReadsAll source.before source.after input
+  pub good_lines : Reporting (lines input) reports
+
 -- the input was read to its end, each of its lines is good, and a node with this identifier and policy admits these
 -- contacts of it
 pub record Reads (own : Id) (policy : Policy) (source : Shown ℕ) (contacts : List Contact) : Type 0 where

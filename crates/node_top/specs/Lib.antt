@@ -5,6 +5,9 @@ pub mod Shown
 pub mod Input
 pub mod Started
 pub mod Looked
+pub mod Checked
+pub mod Minted
+pub mod Plainly
 pub mod Commands
 pub mod Written
 pub mod Endings

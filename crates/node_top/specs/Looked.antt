@@ -1,7 +1,7 @@
 -- What a lookup promises: that its text is that of a legal journal which begins with the table's closest contacts, which
 -- the link's events tell, and whose paths have all run out (S/Kademlia, 2007, section 4.4, over Kademlia, 2002, section
 -- 2.3).
-use Rattle.std.specs.Prelude.{◌≡◌, ◌≢◌, ℕ, ◌<◌, List, [], length, true}
+use Rattle.std.specs.Prelude.{◌≡◌, ℕ, ◌<◌, List, [], length, true}
 use Rattle.std.specs.List.{IsDistinct}
 use Rattle.kad_base.specs.declared.plain.Id.{Id}
 use Rattle.kad_base.specs.declared.plain.Contact.{Contact}
@@ -17,15 +17,16 @@ use Rattle.claim_book.specs.Journal.{seeds, took, asked, answered, failed, turne
 use Rattle.claim_book.specs.Legal.{Legal}
 use Rattle.claim_book.specs.RunOut.{RunOut}
 use Rattle.claim_book.specs.Result.{result_of}
+use Rattle.lookup_run.specs.declared.plain.AskKind.{AskKind}
 use Rattle.lookup_run.specs.Tells.{Tells, EndsAtStray}
 use Rattle.lookup_run.specs.Rounds.{Rounds}
 use Rattle.lookup_run.specs.Lookup.{seeds_in, Unfinished}
 use Rattle.kad_words.specs.declared.command.LookWords.{LookWords}
 use Rattle.node_top.specs.declared.status.Status.{Status}
-use Rattle.node_top.specs.declared.status.Status.TheVariants.{Usage, BadLine, LinkFault, SourceFault, Strays, NoSeeds, NoMemory, TooLong}
+use Rattle.node_top.specs.declared.status.Status.TheVariants.{Usage, BadLine, LinkFault, SourceFault, Strays, NoSeeds, NoMemory, Unminted, TooLong}
 use Rattle.node_top.specs.Printed.{printed}
 use Rattle.node_top.specs.Shown.{Shown, HasFailed}
-use Rattle.node_top.specs.Input.{ReadsFew, ReadsTooMuch, Reads, ReadsSome, IsBadLine}
+use Rattle.node_top.specs.Input.{ReadsFew, ReadsTooMuch, Reads, IsBadLine}
 use Rattle.node_top.specs.Started.{own_of, look_of, book_of, drawn_of, lookup_of, Start}
 
 -- the text of a journal
@@ -33,54 +34,59 @@ abbrev pub printed_of : Setting → List Entry → List ℕ
 printed_of setting J = printed (result_of setting J) (length (asked J)) (length (failed J)) (length (turned J))
 
 -- the link's events end with the last stray that a lookup takes
-abbrev pub EndsByStrays : LookWords → List ℕ → Shown Event → Type 0
-EndsByStrays look random link = Grows link.before link.after (λ events. EndsAtStray (lookup_of look random) events max_strays)
+abbrev pub EndsByStrays : AskKind → LookWords → List ℕ → Shown Event → Type 0
+EndsByStrays kind look random link = Grows link.before link.after (λ events. EndsAtStray (lookup_of kind look random) events max_strays)
 
 -- they don't
-abbrev pub MeetsFewStrays : LookWords → List ℕ → Shown Event → Type 0
-MeetsFewStrays look random link = Grows link.before link.after (λ events. ¬ EndsAtStray (lookup_of look random) events max_strays)
+abbrev pub MeetsFewStrays : AskKind → LookWords → List ℕ → Shown Event → Type 0
+MeetsFewStrays kind look random link = Grows link.before link.after (λ events. ¬ EndsAtStray (lookup_of kind look random) events max_strays)
 
 -- A lookup that was asked for. Its journal is legal and begins with the k closest contacts of the table that the input
 -- gives; the link's events tell it, and go by rounds; every path has run out in it; and the text is its own. So no contact
 -- is taken or asked twice, and each that is printed has answered.
-pub record LooksAt (look : LookWords) (random : List ℕ) (source : Shown ℕ) (link : Shown Event) (text : List ℕ) : Type 0 where
+pub record LooksAt (kind : AskKind) (look : LookWords) (random : List ℕ) (source : Shown ℕ) (link : Shown Event) (text : List ℕ) : Type 0 where
   pub start : Start look random source
   pub journal : List Entry
-  pub legal : Legal (book_of look random) journal
-  pub seeds_are : seeds journal ≡ seeds_in (look_of look random) start.table
-  pub tells : Grows link.before link.after (λ events. Tells (lookup_of look random) journal events)
-  pub rounds : Grows link.before link.after (λ events. Rounds (lookup_of look random) journal events)
-  pub few_strays : MeetsFewStrays look random link
-  pub run_out : (p : ℕ) → p < look.paths → RunOut (book_of look random) p journal
+  pub legal : Legal (book_of kind look random) journal
+  pub seeds_are : seeds journal ≡ seeds_in (look_of kind look random) start.table
+  pub tells : Grows link.before link.after (λ events. Tells (lookup_of kind look random) journal events)
+  pub rounds : Grows link.before link.after (λ events. Rounds (lookup_of kind look random) journal events)
+  pub few_strays : MeetsFewStrays kind look random link
+  pub run_out : (p : ℕ) → p < look.paths → RunOut (book_of kind look random) p journal
   pub taken_once : IsDistinct same (took journal)
   pub asked_once : IsDistinct same (asked journal)
-  pub have_answered : (c : Contact) → among (result_of (book_of look random) journal) c ≡ true → among (answered journal) c ≡ true
-  pub text_is : text ≡ printed_of (book_of look random) journal
+  pub have_answered : (c : Contact) → among (result_of (book_of kind look random) journal) c ≡ true → among (answered journal) c ≡ true
+  pub text_is : text ≡ printed_of (book_of kind look random) journal
 
 -- A lookup that ended early: there is a legal journal that begins with the same contacts, which the events tell so far. So
 -- no contact was asked twice either.
-pub record Begun (look : LookWords) (random : List ℕ) (source : Shown ℕ) (link : Shown Event) : Type 0 where
+pub record Begun (kind : AskKind) (look : LookWords) (random : List ℕ) (source : Shown ℕ) (link : Shown Event) : Type 0 where
   pub start : Start look random source
   pub left : WordsState
-  pub so_far : Unfinished (look_of look random) start.table (drawn_of random) left link.before link.after
+  pub so_far : Unfinished (look_of kind look random) start.table (drawn_of random) left link.before link.after
   pub asked_once : IsDistinct same (asked so_far.journal)
 
 -- why a lookup ended with no output
-abbrev pub LookCause : LookWords → List ℕ → Shown ℕ → Shown Event → Status → Type 0
-LookCause look random source link Usage = ⊥
-LookCause look random source link (BadLine line) = IsBadLine source line
-LookCause look random source link LinkFault = HasFailed link × Begun look random source link × MeetsFewStrays look random link
-LookCause look random source link SourceFault = HasFailed source × ReadsFew source.before source.after
-LookCause look random source link Strays = EndsByStrays look random link × Begun look random source link
-LookCause look random source link NoSeeds = Reads (own_of look.own random) look.policy source []
-LookCause look random source link NoMemory = Unit {0}
-LookCause look random source link TooLong = ReadsTooMuch source.before source.after
+abbrev pub LookCause : AskKind → LookWords → List ℕ → Shown ℕ → Shown Event → Status → Type 0
+LookCause kind look random source link Usage = ⊥
+LookCause kind look random source link (BadLine line) = IsBadLine source line
+LookCause kind look random source link LinkFault = HasFailed link × Begun kind look random source link × MeetsFewStrays kind look random link
+LookCause kind look random source link SourceFault = HasFailed source × ReadsFew source.before source.after
+LookCause kind look random source link Strays = EndsByStrays kind look random link × Begun kind look random source link
+LookCause kind look random source link NoSeeds = Reads (own_of look.own random) look.policy source []
+LookCause kind look random source link NoMemory = Unit {0}
+LookCause kind look random source link TooLong = ReadsTooMuch source.before source.after
+LookCause kind look random source link Unminted = ⊥
 
--- why an input gave no contacts
+-- why an input gave no reports
+abbrev pub ReportsCause : Shown ℕ → Status → Type 0
+ReportsCause source (BadLine line) = IsBadLine source line
+ReportsCause source SourceFault = HasFailed source × ReadsFew source.before source.after
+ReportsCause source NoMemory = Unit {0}
+ReportsCause source TooLong = ReadsTooMuch source.before source.after
+ReportsCause source other = ⊥
+
+-- why an input gave no contacts to begin with
 abbrev pub InputCause : Id → Policy → Shown ℕ → Status → Type 0
-InputCause own policy source (BadLine line) = IsBadLine source line
-InputCause own policy source SourceFault = HasFailed source × ReadsFew source.before source.after
 InputCause own policy source NoSeeds = Reads own policy source []
-InputCause own policy source NoMemory = Unit {0}
-InputCause own policy source TooLong = ReadsTooMuch source.before source.after
-InputCause own policy source other = ⊥
+InputCause own policy source other = ReportsCause source other

@@ -14,7 +14,7 @@ use Rattle.contact_table.specs.TableStep.{TableStep, table_after}
 use Rattle.contact_table.specs.Told.{new_table}
 use Rattle.claim_book.specs.declared.plain.Setting.{Setting}
 use Rattle.lookup_run.specs.declared.plain.LookSetting.{LookSetting}
-use Rattle.lookup_run.specs.declared.plain.AskKind.TheVariants.{FindNode}
+use Rattle.lookup_run.specs.declared.plain.AskKind.{AskKind}
 use Rattle.lookup_run.specs.Tells.{Given}
 use Rattle.lookup_run.specs.Lookup.{setting_of, given_of, Told, TableTold}
 use Rattle.kad_words.specs.declared.command.LookWords.{LookWords}
@@ -26,9 +26,9 @@ abbrev pub own_of : Option Id → List ℕ → Id
 own_of (Some own) random = own
 own_of None random = record { 0 = drawn_bytes random 0 5 }
 
--- what a lookup is set to by its words
-abbrev pub look_of : LookWords → List ℕ → LookSetting
-look_of look random = record {
+-- what a lookup by this query is set to by its words
+abbrev pub look_of : AskKind → LookWords → List ℕ → LookSetting
+look_of kind look random = record {
   own = own_of look.own random;
   target = look.target;
   k = look.k;
@@ -36,19 +36,19 @@ look_of look random = record {
   alpha = look.alpha;
   policy = look.policy;
   timeout = look.timeout;
-  kind = FindNode;
+  kind = kind;
 }
 
 -- what its book is set to
-abbrev pub book_of : LookWords → List ℕ → Setting
-book_of look random = setting_of (look_of look random)
+abbrev pub book_of : AskKind → LookWords → List ℕ → Setting
+book_of kind look random = setting_of (look_of kind look random)
 
 -- its transaction ids are drawn from the sixth word on
 abbrev pub drawn_of : List ℕ → WordsState
 drawn_of random = record { seed = random; place = 5 }
 
-abbrev pub lookup_of : LookWords → List ℕ → Given
-lookup_of look random = given_of (look_of look random) (drawn_of random)
+abbrev pub lookup_of : AskKind → LookWords → List ℕ → Given
+lookup_of kind look random = given_of (look_of kind look random) (drawn_of random)
 
 -- the values of the words are within the limits
 pub record IsInRange (look : LookWords) : Type 0 where

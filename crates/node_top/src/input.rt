@@ -1,15 +1,21 @@
-//! The input of a command: its bytes, and the contacts that its lines give.
-ghost use Rattle.std.specs.Prelude.{◌≡◌, ◌≤◌, OnOk, IfOk, IsErrOf, IsTrue, ◌↔◌};
+//! The input of a command: its bytes, and the reports and contacts that its lines give.
+ghost use Rattle.std.specs.Prelude.{◌≡◌, ◌≤◌, OnOk, IfOk, IfErr, IsErrOf, IsTrue, ◌↔◌};
 ghost use Rattle.kad_base.specs.Outside.{Rose};
-ghost use Rattle.node_top.specs.Input.{ReadsAll, ReadsFew, ReadsTooMuch, IsAdmitted, Admits, AdmitsOne};
+ghost use Rattle.node_top.specs.Input.{ReadsAll, ReadsFew, ReadsTooMuch, Lists, IsAdmitted, Admits, AdmitsOne};
+ghost use Rattle.node_top.specs.Looked.{ReportsCause};
+ghost use Rattle.node_top.specs.Shown.{shown};
 
+use crate::lines::{LinesFault, read_lines};
+use crate::status::Status;
 use kad_base::limits::MAX_INPUT;
-use kad_base::{Bytes, Check, Contacts, Id, List, NoMemory, Policy, Report, Source, is_usable};
+use kad_base::{
+    Bytes, Check, Contacts, Id, List, NoMemory, Policy, Report, Reports, Source, is_usable,
+};
 use std::alloc::Global;
 
 /// Why an input was not read.
 #[derive(Clone, Copy, Debug, PartialEq, Eq)]
-pub(crate) enum ReadFault {
+enum ReadFault {
     Source,
     TooLong,
     NoMemory,
@@ -27,7 +33,7 @@ impl From<NoMemory> for ReadFault {
 }
 
 /// Reads a source to its end, or to one byte more than an input may have.
-pub(crate) fn read_whole<S: Source>(alloc: Global, source: &mut S) -> Result<Bytes, ReadFault>
+fn read_whole<S: Source>(alloc: Global, source: &mut S) -> Result<Bytes, ReadFault>
     ensures ok { IfOk result (ReadsAll (S.left source.old) (S.left source.new)) }
     ensures too_long { IsErrOf result ReadFault.TooLong → ReadsTooMuch (S.left source.old) (S.left source.new) }
     ensures source { IsErrOf result ReadFault.Source → Rose (S.faults source.old) (S.faults source.new) }
@@ -49,6 +55,25 @@ pub(crate) fn read_whole<S: Source>(alloc: Global, source: &mut S) -> Result<Byt
             }
             Err(_) => return Err(ReadFault::Source),
         }
+    }
+}
+
+/// The reports of the input's lines, in order.
+pub(crate) fn read_reports<S: Source>(alloc: Global, source: &mut S) -> Result<Reports, Status>
+    ensures ok { IfOk result (Lists (shown S.left S.faults source.old source.new)) }
+    ensures cause { IfErr result (ReportsCause (shown S.left S.faults source.old source.new)) }
+    ensures faults { S.faults source.old ≤ S.faults source.new }
+{
+    let input = match read_whole(alloc, source) {
+        Ok(input) => input,
+        Err(ReadFault::Source) => return Err(Status::SourceFault),
+        Err(ReadFault::TooLong) => return Err(Status::TooLong),
+        Err(ReadFault::NoMemory) => return Err(Status::NoMemory),
+    };
+    match read_lines(alloc, input.as_slice()) {
+        Ok(reports) => Ok(reports),
+        Err(LinesFault::Bad { line }) => Err(Status::BadLine { line }),
+        Err(LinesFault::NoMemory) => Err(Status::NoMemory),
     }
 }
 

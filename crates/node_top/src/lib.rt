@@ -1,12 +1,15 @@
-//! The top call of the node: the words of a command and its input in, its text and its status out. It opens no file
+//! The top calls of the node: the words of a command and its input in, its text and its status out. They open no file
 //! and no socket: the source, the sink and the link are handed in.
 #![tactic(auto)]
 
 mod asked;
+mod check;
 mod input;
 mod lines;
 mod lookup;
+mod mint;
 mod output;
+mod plain;
 mod printed;
 mod start;
 mod status;
@@ -14,4 +17,5 @@ mod status;
 mod tests;
 mod top;
 
+pub use plain::run_plain;
 pub use top::run;

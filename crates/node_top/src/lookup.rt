@@ -8,15 +8,14 @@ ghost use Rattle.node_top.specs.Printed.{printed};
 ghost use Rattle.node_top.specs.Started.{IsInRange};
 ghost use Rattle.node_top.specs.Shown.{shown};
 
-use crate::input::{ReadFault, admitted, read_whole};
-use crate::lines::{LinesFault, read_lines};
+use crate::input::{admitted, read_reports};
 use crate::printed::print;
 use crate::start::{setting_for, table_of};
 use crate::status::Status;
 use id_puzzles::Words;
 use kad_base::{Bytes, Check, Contacts, Id, Link, NoMemory, Policy, Source};
 use kad_words::LookWords;
-use lookup_run::{LookFault, Outcome, look_up_alone};
+use lookup_run::{AskKind, LookFault, Outcome, look_up_alone};
 use std::alloc::Global;
 use std::hash::RandomState;
 
@@ -24,7 +23,7 @@ use std::hash::RandomState;
 const FIRST_TX: u64 = 5;
 
 /// The contacts that the input gives, where there are some.
-fn read_contacts<S: Source, C: Check>(
+pub(crate) fn read_contacts<S: Source, C: Check>(
     alloc: Global,
     source: &mut S,
     own: &Id,
@@ -36,17 +35,7 @@ fn read_contacts<S: Source, C: Check>(
     ensures cause { IfErr result (InputCause own.now policy (shown S.left S.faults source.old source.new)) }
     ensures faults { S.faults source.old ≤ S.faults source.new }
 {
-    let input = match read_whole(alloc, source) {
-        Ok(input) => input,
-        Err(ReadFault::Source) => return Err(Status::SourceFault),
-        Err(ReadFault::TooLong) => return Err(Status::TooLong),
-        Err(ReadFault::NoMemory) => return Err(Status::NoMemory),
-    };
-    let reports = match read_lines(alloc, input.as_slice()) {
-        Ok(reports) => reports,
-        Err(LinesFault::Bad { line }) => return Err(Status::BadLine { line }),
-        Err(LinesFault::NoMemory) => return Err(Status::NoMemory),
-    };
+    let reports = read_reports(alloc, source)?;
     let contacts = admitted(alloc, own, policy, check, reports.as_slice())?;
     if contacts.as_slice().is_empty() {
         return Err(Status::NoSeeds);
@@ -80,21 +69,21 @@ pub(crate) fn lookup<S: Source, L: Link, C: Check>(
     hasher: RandomState,
 ) -> Result<Bytes, Status>
     requires { IsInRange look.now }
-    ensures ok { IfOk result (LooksAt look.now random.now
+    ensures ok { IfOk result (LooksAt AskKind.FindNode look.now random.now
         (shown S.left S.faults source.old source.new)
         (shown L.told L.recv_faults link.old link.new)) }
-    ensures cause { IfErr result (LookCause look.now random.now
+    ensures cause { IfErr result (LookCause AskKind.FindNode look.now random.now
         (shown S.left S.faults source.old source.new)
         (shown L.told L.recv_faults link.old link.new)) }
     ensures no_memory { IfErr result (λ status. status ≡ Status.NoMemory →
-        Begun look.now random.now
+        Begun AskKind.FindNode look.now random.now
         (shown S.left S.faults source.old source.new)
         (shown L.told L.recv_faults link.old link.new) ⊎ (link.new ≡ link.old)) }
     ensures early { IfErr result (λ status. EndsEarly (number_of status) → link.new ≡ link.old) }
     ensures source_faults { S.faults source.old ≤ S.faults source.new }
     ensures recv_faults { L.recv_faults link.old ≤ L.recv_faults link.new }
 {
-    let setting = setting_for(look, random);
+    let setting = setting_for(AskKind::FindNode, look, random);
     let contacts = read_contacts(alloc, source, &setting.own, setting.policy, check)?;
     let table = table_of(alloc, setting.own, look, contacts.as_slice())?;
     let mut words = Words::new(random, FIRST_TX);

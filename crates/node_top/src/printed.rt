@@ -50,7 +50,7 @@ fn print_counts(
 }
 
 /// Adds a text to an output, as a line.
-fn add_line(output: &mut Bytes, text: &str) -> Result<(), NoMemory>
+pub(crate) fn add_line(output: &mut Bytes, text: &str) -> Result<(), NoMemory>
     ensures { OnOk result (output.new ≡ output.old ++ line_of text.now) }
 {
     output.extend(text.as_bytes())?;

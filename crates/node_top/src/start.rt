@@ -28,9 +28,9 @@ fn own_id(own: Option<Id>, random: &[u8; 32]) -> Id
     }
 }
 
-/// What a lookup is set to by its words.
-pub(crate) fn setting_for(look: &LookWords, random: &[u8; 32]) -> LookSetting
-    ensures { result ≡ look_of look.now random.now }
+/// What a lookup by this query is set to by its words.
+pub(crate) fn setting_for(kind: AskKind, look: &LookWords, random: &[u8; 32]) -> LookSetting
+    ensures { result ≡ look_of kind look.now random.now }
 {
     let own = own_id(look.own, random);
     LookSetting {
@@ -41,7 +41,7 @@ pub(crate) fn setting_for(look: &LookWords, random: &[u8; 32]) -> LookSetting
         alpha: look.alpha,
         policy: look.policy,
         timeout: look.timeout,
-        kind: AskKind::FindNode,
+        kind,
     }
 }
 

@@ -24,6 +24,8 @@ pub(crate) enum Status {
     /// No line of the input gives a contact to begin with.
     NoSeeds,
     NoMemory,
+    /// Nothing was found within the tries.
+    Unminted,
     /// The input is longer than 1,048,576 bytes.
     TooLong,
 }
@@ -54,7 +56,7 @@ impl Status {
     /// The exit status.
     pub(crate) fn number(&self) -> u8
         ensures number { result ≡ number_of self.now }
-        ensures known { (1 < result) × (result ≤ 11) × (result ≢ 5) × (result ≢ 10) }
+        ensures known { (1 < result) × (result ≤ 11) × (result ≢ 5) }
     {
         match self {
             Status::Usage => 2,
@@ -64,6 +66,7 @@ impl Status {
             Status::Strays => 7,
             Status::NoSeeds => 8,
             Status::NoMemory => 9,
+            Status::Unminted => 10,
             Status::TooLong => 11,
         }
     }
@@ -81,6 +84,7 @@ impl Status {
             Status::Strays => put_bytes(room, 0, b"strays\n"),
             Status::NoSeeds => put_bytes(room, 0, b"no seeds\n"),
             Status::NoMemory => put_bytes(room, 0, b"no memory\n"),
+            Status::Unminted => put_bytes(room, 0, b"unminted\n"),
             Status::TooLong => put_bytes(room, 0, b"too long\n"),
         }
     }

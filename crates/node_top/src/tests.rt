@@ -1,6 +1,7 @@
 //! Whole lookups over a scripted link.
 mod crowd;
 mod paths;
+mod plain;
 mod puzzled;
 mod replies;
 mod script;
@@ -343,7 +344,7 @@ fn words_that_ask_for_nothing(rt: HostRuntime) -> Result<(), Fail> {
     let zeros = "0000000000000000000000000000000000000000";
     refuses(&rt, &[])?;
     refuses(&rt, &["find"])?;
-    refuses(&rt, &["check"])?;
+    refuses(&rt, &["serve"])?;
     refuses(&rt, &["lookup"])?;
     refuses(&rt, &["lookup", "--target", &zeros[1..]])?;
     refuses(&rt, &["lookup", "--target", zeros, "--k", "21"])?;

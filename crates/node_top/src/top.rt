@@ -1,19 +1,54 @@
 //! The top call: one command, its output and its status.
 ghost use Rattle.std.specs.Prelude.{◌≡◌, ◌≢◌, ◌≤◌, ◌⊎◌, ◌↔◌, None, IfOk, IfErr};
-ghost use Rattle.node_top.specs.Asked.{Asks, bytes_of};
+ghost use Rattle.kad_words.specs.Bound.{TakesLink};
+ghost use Rattle.node_top.specs.Asked.{Asks, AsksPlain, bytes_of};
 ghost use Rattle.node_top.specs.Shown.{shown, IsTold, HasFailed};
 ghost use Rattle.node_top.specs.Input.{HasBadLine, ReadsTooMuch};
-ghost use Rattle.node_top.specs.Commands.{LookedUp, Looked, HasCause, HasBegun, HasNoSeeds, HasSeeds, HasStrays, GoesWell};
-ghost use Rattle.node_top.specs.Endings.{number_of, status_line, Writes, WritesLine, CutShort, EndsEarly, OrNoMemory};
+ghost use Rattle.node_top.specs.Plainly.{HasNothing, ReadsInput};
+ghost use Rattle.node_top.specs.Commands.{IsDone, HasText, HasCause, HasBegun, HasNoSeeds, HasSeeds, HasStrays, GoesWell};
+ghost use Rattle.node_top.specs.Endings.{number_of, WritesLine, CutShort, EndsByCommand, EndsEarly, OrNoMemory};
 
 use crate::asked::asked;
 use crate::lookup::lookup;
-use crate::output::write_whole;
-use crate::status::{LINE_ROOM, Status};
+use crate::output::{write_line, write_output};
+use crate::plain::plain_output_of;
+use crate::status::Status;
 use kad_base::{Bytes, Check, Link, Sink, Source};
-use kad_words::Command;
+use kad_words::{Command, takes_link};
 use std::alloc::Global;
 use std::hash::RandomState;
+
+/// Does the command that the words ask for over a link, and makes its output. Nothing is written yet.
+fn linked_output_of<S: Source, L: Link, C: Check>(
+    alloc: Global,
+    words: &[String],
+    source: &mut S,
+    link: &mut L,
+    random: &[u8; 32],
+    check: &C,
+    hasher: RandomState,
+) -> Result<Bytes, Status>
+    requires { TakesLink (bytes_of words.now) }
+    ensures ok { IfOk result (HasText (bytes_of words.now) random.now
+        (shown S.left S.faults source.old source.new)
+        (shown L.told L.recv_faults link.old link.new)) }
+    ensures unread { IfErr result (λ status. number_of status ≡ 2 → source.new ≡ source.old) }
+    ensures early { IfErr result (λ status. EndsEarly (number_of status) → link.new ≡ link.old) }
+    ensures no_memory { IfErr result (λ status. status ≡ Status.NoMemory →
+        HasBegun (bytes_of words.now) random.now
+        (shown S.left S.faults source.old source.new)
+        (shown L.told L.recv_faults link.old link.new) ⊎ (link.new ≡ link.old)) }
+    ensures cause { IfErr result (HasCause (bytes_of words.now) random.now
+        (shown S.left S.faults source.old source.new)
+        (shown L.told L.recv_faults link.old link.new)) }
+    ensures plain { ¬ Asks (bytes_of words.now) → IfErr result (λ status. number_of status ≡ 2) }
+    ensures no_input { ¬ ReadsInput (bytes_of words.now) → source.new ≡ source.old }
+{
+    match asked(alloc, words)? {
+        Command::Lookup { look } => lookup(alloc, &look, source, link, random, check, hasher),
+        _ => Err(Status::Usage),
+    }
+}
 
 /// Does the command that the words ask for, and makes its output. Nothing is written yet.
 fn output_of<S: Source, L: Link, C: Check>(
@@ -25,7 +60,7 @@ fn output_of<S: Source, L: Link, C: Check>(
     check: &C,
     hasher: RandomState,
 ) -> Result<Bytes, Status>
-    ensures ok { IfOk result (Looked (bytes_of words.now) random.now
+    ensures ok { IfOk result (HasText (bytes_of words.now) random.now
         (shown S.left S.faults source.old source.new)
         (shown L.told L.recv_faults link.old link.new)) }
     ensures unread { IfErr result (λ status. number_of status ≡ 2 → source.new ≡ source.old) }
@@ -34,25 +69,17 @@ fn output_of<S: Source, L: Link, C: Check>(
         HasBegun (bytes_of words.now) random.now
         (shown S.left S.faults source.old source.new)
         (shown L.told L.recv_faults link.old link.new) ⊎ (link.new ≡ link.old)) }
-    ensures plain { ¬ Asks (bytes_of words.now) → IfErr result (λ status. number_of status ≡ 2) }
     ensures cause { IfErr result (HasCause (bytes_of words.now) random.now
         (shown S.left S.faults source.old source.new)
         (shown L.told L.recv_faults link.old link.new)) }
+    ensures plain { ¬ Asks (bytes_of words.now) → IfErr result (λ status. number_of status ≡ 2) }
+    ensures no_input { ¬ ReadsInput (bytes_of words.now) → source.new ≡ source.old }
+    ensures no_link { AsksPlain (bytes_of words.now) → link.new ≡ link.old }
 {
-    match asked(alloc, words)? {
-        Command::Lookup { look } => lookup(alloc, &look, source, link, random, check, hasher),
-        _ => Err(Status::Usage),
+    if takes_link(words) {
+        return linked_output_of(alloc, words, source, link, random, check, hasher);
     }
-}
-
-/// Writes the one line of a command that has no output, or a front of it where the sink fails. The line is whole before
-/// its first byte is written, and takes no memory.
-fn write_line<K: Sink>(sink: &mut K, status: &Status)
-    ensures { Writes (status_line status.now) (shown K.written K.faults sink.old sink.new) }
-{
-    let mut room = [0u8; LINE_ROOM];
-    let size = status.put_line(&mut room);
-    let _ = write_whole(sink, &room[..size]);
+    plain_output_of(alloc, words, source, random, check)
 }
 
 /// Does the command that the words ask for, and answers the status that the program ends with. `words` are those after
@@ -60,9 +87,9 @@ fn write_line<K: Sink>(sink: &mut K, status: &Status)
 /// names it) and the transaction ids are drawn. `rt` is the runtime, for commands that wait; none does so far.
 /// Strangers choose what the lookup keeps an index of, so its `hasher` is handed in; nothing that is written depends on it.
 ///
-/// The one command that is built so far is `lookup`: it tells a new routing table of the contact lines of the source,
-/// asks the closest contacts of the table on several disjoint paths, and writes the closest contacts that answered, nearest
-/// first. What its words are is the business of `kad_words`.
+/// `lookup` tells a new routing table of the contact lines of the source, asks the closest contacts of the table on several
+/// disjoint paths, and writes the closest contacts that answered, nearest first. The commands that take no link are done as
+/// by `run_plain`. What words a command has is the business of `kad_words`.
 ///
 /// | Status | Line | When |
 /// |---|---|---|
@@ -75,6 +102,7 @@ fn write_line<K: Sink>(sink: &mut K, status: &Status)
 /// | 7 | `strays` | the 1,000,000th datagram that answered no query |
 /// | 8 | `no seeds` | no line gives a contact to begin with |
 /// | 9 | `no memory` | there was no memory |
+/// | 10 | `unminted` | no identifier was found within the tries |
 /// | 11 | `too long` | the input is longer than 1,048,576 bytes |
 pub fn run<R, S: Source, K: Sink, L: Link, C: Check>(
     _rt: &R,
@@ -87,8 +115,9 @@ pub fn run<R, S: Source, K: Sink, L: Link, C: Check>(
     check: &C,
     hasher: RandomState,
 ) -> u8
-    // The text that was written is that of a legal journal which the link's events tell and whose paths have run out.
-    ensures looked_up { result ≡ 0 → LookedUp (bytes_of words.now) random.now
+    // The text that was written is the command's own: a lookup's is that of a legal journal which the link's events tell
+    // and whose paths have run out.
+    ensures done { result ≡ 0 → IsDone (bytes_of words.now) random.now
         (shown S.left S.faults source.old source.new)
         (shown L.told L.recv_faults link.old link.new)
         (shown K.written K.faults sink.old sink.new) }
@@ -97,10 +126,12 @@ pub fn run<R, S: Source, K: Sink, L: Link, C: Check>(
     ensures usage { result ≡ 2 ↔ ¬ Asks (bytes_of words.now) }
 
     // Each other status but 9 comes only with its cause.
-    ensures bad_line { result ≡ 3 → HasBadLine (shown S.left S.faults source.old source.new) }
+    ensures bad_line { result ≡ 3 → ReadsInput (bytes_of words.now)
+        × HasBadLine (shown S.left S.faults source.old source.new) }
     ensures link_fault { result ≡ 4 → HasFailed (shown L.told L.recv_faults link.old link.new) }
     ensures sink_fault { result ≡ 5 → HasFailed (shown K.written K.faults sink.old sink.new) }
-    ensures source_fault { result ≡ 6 → HasFailed (shown S.left S.faults source.old source.new) }
+    ensures source_fault { result ≡ 6 → ReadsInput (bytes_of words.now)
+        × HasFailed (shown S.left S.faults source.old source.new) }
     ensures strays { result ≡ 7 → HasStrays (bytes_of words.now) random.now
         (shown L.told L.recv_faults link.old link.new) }
     ensures begun { (result ≡ 4) ⊎ (result ≡ 7) → HasSeeds (bytes_of words.now) random.now
@@ -113,7 +144,9 @@ pub fn run<R, S: Source, K: Sink, L: Link, C: Check>(
         (shown L.told L.recv_faults link.old link.new) ⊎ (link.new ≡ link.old) }
     ensures no_seeds { result ≡ 8 → HasNoSeeds (bytes_of words.now) random.now
         (shown S.left S.faults source.old source.new) }
-    ensures too_long { result ≡ 11 → ReadsTooMuch (S.left source.old) (S.left source.new) }
+    ensures unminted { result ≡ 10 → HasNothing (bytes_of words.now) random.now }
+    ensures too_long { result ≡ 11 → ReadsInput (bytes_of words.now)
+        × ReadsTooMuch (S.left source.old) (S.left source.new) }
 
     // Where the source, or the link, goes on telling, each of these causes brings its status, want of memory aside.
     ensures bad_line_comes { let input = shown S.left S.faults source.old source.new in
@@ -124,10 +157,11 @@ pub fn run<R, S: Source, K: Sink, L: Link, C: Check>(
         → OrNoMemory result 8 }
     ensures strays_come { let told = shown L.told L.recv_faults link.old link.new in
         IsTold told → HasStrays (bytes_of words.now) random.now told → OrNoMemory result 7 }
+    ensures unminted_comes { HasNothing (bytes_of words.now) random.now → OrNoMemory result 10 }
     ensures too_long_comes { S.left source.new ≢ None → ReadsTooMuch (S.left source.old) (S.left source.new)
         → OrNoMemory result 11 }
 
-    // With a good input, no failure and few strays a command is done, want of memory aside.
+    // With what it needs, and no failure, a command is done, want of memory aside.
     ensures complete { GoesWell (bytes_of words.now) random.now
         (shown S.left S.faults source.old source.new)
         (shown L.told L.recv_faults link.old link.new)
@@ -143,19 +177,17 @@ pub fn run<R, S: Source, K: Sink, L: Link, C: Check>(
         (shown L.told L.recv_faults link.old link.new)
         (shown K.written K.faults sink.old sink.new) }
 
-    // What was not called: the source at 2, and the link at each status that comes before the lookup begins.
+    // What was not called: the source at 2, and for a command that reads no input; and the link at each status that comes
+    // before a lookup begins, and for a command that takes none.
     ensures unread { result ≡ 2 → source.new ≡ source.old }
+    ensures no_input { ¬ ReadsInput (bytes_of words.now) → source.new ≡ source.old }
     ensures unasked { EndsEarly result → link.new ≡ link.old }
-    ensures statuses { (result ≤ 11) × (result ≢ 1) × (result ≢ 10) }
+    ensures no_link { AsksPlain (bytes_of words.now) → link.new ≡ link.old }
+    ensures by_command { EndsByCommand (bytes_of words.now) result }
+    ensures statuses { (result ≤ 11) × (result ≢ 1) }
 {
     match output_of(alloc, words, source, link, random, check, hasher) {
-        Ok(text) => match write_whole(sink, text.as_slice()) {
-            Ok(()) => 0,
-            Err(_) => 5,
-        },
-        Err(status) => {
-            write_line(sink, &status);
-            status.number()
-        }
+        Ok(output) => write_output(sink, output.as_slice()),
+        Err(status) => write_line(sink, &status),
     }
 }

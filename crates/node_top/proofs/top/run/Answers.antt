@@ -1,63 +1,79 @@
-use Rattle.std.proofs.Common.{sym, ap, subst, ◌∙◌}
-use Rattle.node_top.specs.Endings.{OrNoMemory}
-use Rattle.node_top.proofs.Exactly.{looked_seeds, looked_not_last, is_no_memory, found, bad_line_comes, no_seeds_come, strays_come, too_long_comes, completes}
+use Rattle.std.proofs.Common.{inl, inr, sym, ap, subst, ◌∙◌}
+use Rattle.node_top.specs.Endings.{MayEnd, OrNoMemory}
+use Rattle.node_top.proofs.Causes.{found, named, done_of, cut_of, usage_alone, is_no_memory, bad_line_comes, no_seeds_come, unminted_comes, strays_come, too_long_comes, completes}
+use Rattle.node_top.proofs.MayEnd.{may_end, done_end}
 use Rattle.node_top.proofs.top.run.Goals as goal
 
-pub returns-in-Ok-write_whole-clause-usage : goal.returns-in-Ok-write_whole-clause-usage
-returns-in-Ok-write_whole-clause-usage g c =
-    let f = found _ _ _ (looked_seeds _ _ _ _ _ c.in-Ok.ensures.ok) in
-    ((λ e. absurd cc), (λ other. absurd (other f.plain)))
+pub returns-in-Ok-clause-done : goal.returns-in-Ok-clause-done
+returns-in-Ok-clause-done g c = λ whole. done_of _ _ _ _ _ c.in-Ok.output _ c.as_slice.ensures c.in-Ok.ensures.ok (c.write_output.ensures.whole whole)
 
-pub returns-in-Ok-write_whole-clause-bad_line_comes : goal.returns-in-Ok-write_whole-clause-bad_line_comes
-returns-in-Ok-write_whole-clause-bad_line_comes g c = λ plain told quiet bad.
-    let f = found _ _ _ (looked_seeds _ _ _ _ _ c.in-Ok.ensures.ok) in
-    absurd (f.bad_line told bad)
-
-pub returns-in-Ok-write_whole-clause-no_seeds_come : goal.returns-in-Ok-write_whole-clause-no_seeds_come
-returns-in-Ok-write_whole-clause-no_seeds_come g c = λ told quiet no_one.
-    let f = found _ _ _ (looked_seeds _ _ _ _ _ c.in-Ok.ensures.ok) in
-    absurd (f.no_seeds told no_one)
+pub returns-in-Ok-clause-cut_short : goal.returns-in-Ok-clause-cut_short
+returns-in-Ok-clause-cut_short g c = λ cut. cut_of _ _ _ _ _ c.in-Ok.output _ c.as_slice.ensures c.in-Ok.ensures.ok (c.write_output.ensures.cut cut)
 
 pub returns-in-Ok-clause-usage : goal.returns-in-Ok-clause-usage
 returns-in-Ok-clause-usage g c =
-    let f = found _ _ _ (looked_seeds _ _ _ _ _ c.in-Ok.ensures.ok) in
-    ((λ e. absurd cc), (λ other. absurd (other f.plain)))
+    let f = found _ _ _ _ _ c.in-Ok.ensures.ok in
+    ((λ e. absurd (elim c.write_output.ensures.either [ inl zero_ ↦ cc | inr five ↦ cc ])), (λ other. absurd (other f.asks)))
 
 pub returns-in-Ok-clause-bad_line_comes : goal.returns-in-Ok-clause-bad_line_comes
-returns-in-Ok-clause-bad_line_comes g c = λ plain told quiet bad.
-    let f = found _ _ _ (looked_seeds _ _ _ _ _ c.in-Ok.ensures.ok) in
-    absurd (f.bad_line told bad)
+returns-in-Ok-clause-bad_line_comes g c = λ plain told quiet bad. absurd ((found _ _ _ _ _ c.in-Ok.ensures.ok).bad_line told bad)
 
 pub returns-in-Ok-clause-no_seeds_come : goal.returns-in-Ok-clause-no_seeds_come
-returns-in-Ok-clause-no_seeds_come g c = λ told quiet no_one.
-    let f = found _ _ _ (looked_seeds _ _ _ _ _ c.in-Ok.ensures.ok) in
-    absurd (f.no_seeds told no_one)
+returns-in-Ok-clause-no_seeds_come g c = λ told quiet no_one. absurd ((found _ _ _ _ _ c.in-Ok.ensures.ok).no_seeds told no_one)
 
-pub returns-clause-bad_line_comes : goal.returns-clause-bad_line_comes
-returns-clause-bad_line_comes g c = λ plain told quiet bad.
-    subst (λ n. OrNoMemory n 3) (sym c.number.ensures.number) (bad_line_comes _ _ _ _ c.in-Err.status c.in-Err.ensures.cause plain told quiet bad)
+pub returns-in-Ok-clause-unminted_comes : goal.returns-in-Ok-clause-unminted_comes
+returns-in-Ok-clause-unminted_comes g c = λ none_. absurd ((found _ _ _ _ _ c.in-Ok.ensures.ok).nothing none_)
 
-pub returns-clause-no_seeds_come : goal.returns-clause-no_seeds_come
-returns-clause-no_seeds_come g c = λ told quiet no_one.
-    subst (λ n. OrNoMemory n 8) (sym c.number.ensures.number) (no_seeds_come _ _ _ _ c.in-Err.status c.in-Err.ensures.cause told quiet no_one)
-
-pub returns-clause-too_long_comes : goal.returns-clause-too_long_comes
-returns-clause-too_long_comes g c = λ told much.
-    subst (λ n. OrNoMemory n 11) (sym c.number.ensures.number) (too_long_comes _ _ _ _ c.in-Err.status c.in-Err.ensures.cause told much)
-
-pub returns-clause-complete : goal.returns-clause-complete
-returns-clause-complete g c = λ well.
-    subst (λ n. OrNoMemory n 0) (sym c.number.ensures.number) (completes _ _ _ _ c.in-Err.status c.in-Err.ensures.cause well.told well.reads well.hears well.few_strays well.seeds)
-
-pub returns-in-Ok-write_whole-clause-strays_come : goal.returns-in-Ok-write_whole-clause-strays_come
-returns-in-Ok-write_whole-clause-strays_come g c = λ told last. absurd (looked_not_last _ _ _ _ _ c.in-Ok.ensures.ok told last)
+pub returns-in-Ok-clause-too_long_comes : goal.returns-in-Ok-clause-too_long_comes
+returns-in-Ok-clause-too_long_comes g c = λ told much. absurd ((found _ _ _ _ _ c.in-Ok.ensures.ok).too_long told much)
 
 pub returns-in-Ok-clause-strays_come : goal.returns-in-Ok-clause-strays_come
-returns-in-Ok-clause-strays_come g c = λ told last. absurd (looked_not_last _ _ _ _ _ c.in-Ok.ensures.ok told last)
+returns-in-Ok-clause-strays_come g c = λ told last. absurd ((found _ _ _ _ _ c.in-Ok.ensures.ok).strays told last)
 
-pub returns-clause-strays_come : goal.returns-clause-strays_come
-returns-clause-strays_come g c = λ told last.
-    subst (λ n. OrNoMemory n 7) (sym c.number.ensures.number) (strays_come _ _ _ _ c.in-Err.status c.in-Err.ensures.cause (λ e. ap g.L.Link.told (c.in-Err.ensures.early e)) told last)
+pub returns-in-Ok-clause-complete : goal.returns-in-Ok-clause-complete
+returns-in-Ok-clause-complete g c = λ well. elim c.write_output.ensures.either [ inl zero_ ↦ inl zero_ | inr five ↦ absurd (well.writes (c.write_output.ensures.failed five)) ]
 
-pub returns-clause-no_memory : goal.returns-clause-no_memory
-returns-clause-no_memory g c = λ nine. c.in-Err.ensures.no_memory (is_no_memory c.in-Err.status (sym c.number.ensures.number ∙ nine))
+pub returns-in-Err-clause-bad_line_comes : goal.returns-in-Err-clause-bad_line_comes
+returns-in-Err-clause-bad_line_comes g c = λ plain told quiet bad.
+    subst (λ n. OrNoMemory n 3) (sym c.write_line.ensures.number) (bad_line_comes _ _ _ _ c.in-Err.status c.in-Err.ensures.cause plain told quiet bad)
+
+pub returns-in-Err-clause-no_seeds_come : goal.returns-in-Err-clause-no_seeds_come
+returns-in-Err-clause-no_seeds_come g c = λ told quiet no_one.
+    subst (λ n. OrNoMemory n 8) (sym c.write_line.ensures.number) (no_seeds_come _ _ _ _ c.in-Err.status c.in-Err.ensures.cause told quiet no_one)
+
+pub returns-in-Err-clause-unminted_comes : goal.returns-in-Err-clause-unminted_comes
+returns-in-Err-clause-unminted_comes g c = λ none_.
+    subst (λ n. OrNoMemory n 10) (sym c.write_line.ensures.number) (unminted_comes _ _ _ _ c.in-Err.status c.in-Err.ensures.cause none_)
+
+pub returns-in-Err-clause-too_long_comes : goal.returns-in-Err-clause-too_long_comes
+returns-in-Err-clause-too_long_comes g c = λ told much.
+    subst (λ n. OrNoMemory n 11) (sym c.write_line.ensures.number) (too_long_comes _ _ _ _ c.in-Err.status c.in-Err.ensures.cause told much)
+
+pub returns-in-Err-clause-strays_come : goal.returns-in-Err-clause-strays_come
+returns-in-Err-clause-strays_come g c = λ told last.
+    subst (λ n. OrNoMemory n 7) (sym c.write_line.ensures.number) (strays_come _ _ _ _ c.in-Err.status c.in-Err.ensures.cause (λ e. ap g.L.Link.told (c.in-Err.ensures.early e)) told last)
+
+pub returns-in-Err-clause-complete : goal.returns-in-Err-clause-complete
+returns-in-Err-clause-complete g c = λ well.
+    subst (λ n. OrNoMemory n 0) (sym c.write_line.ensures.number) (completes _ _ _ _ _ c.in-Err.status c.in-Err.ensures.cause well)
+
+pub returns-in-Err-clause-no_memory : goal.returns-in-Err-clause-no_memory
+returns-in-Err-clause-no_memory g c = λ nine. c.in-Err.ensures.no_memory (is_no_memory c.in-Err.status (sym c.write_line.ensures.number ∙ nine))
+
+pub returns-in-Err-clause-usage : goal.returns-in-Err-clause-usage
+returns-in-Err-clause-usage g c =
+    ((λ two. usage_alone _ _ _ _ c.in-Err.status c.in-Err.ensures.cause (sym c.write_line.ensures.number ∙ two)), (λ other. c.write_line.ensures.number ∙ c.in-Err.ensures.plain other))
+
+pub returns-in-Err-clause-line : goal.returns-in-Err-clause-line
+returns-in-Err-clause-line g c = λ some whole. record {
+  status = c.in-Err.status;
+  numbered = c.write_line.ensures.number;
+  names = named _ _ _ _ c.in-Err.status c.in-Err.ensures.cause;
+  writes = c.write_line.ensures.writes;
+}
+
+pub returns-in-Ok-clause-by_command : goal.returns-in-Ok-clause-by_command
+returns-in-Ok-clause-by_command g c = λ command h asks. done_end _ _ command c.write_output.ensures.either h asks
+
+pub returns-in-Err-clause-by_command : goal.returns-in-Err-clause-by_command
+returns-in-Err-clause-by_command g c = λ command h asks. subst (MayEnd command) (sym c.write_line.ensures.number) (may_end _ _ _ _ c.in-Err.status command c.in-Err.ensures.cause h asks)

@@ -1,0 +1,28 @@
+use Rattle.std.proofs.Common.{inl, inr, subst}
+use Rattle.kad_words.specs.Plain.{CommandOf}
+use Rattle.kad_words.specs.declared.command.Command.TheVariants.{Lookup}
+use Rattle.node_top.proofs.Commands.{ok_then, err_then}
+use Rattle.node_top.proofs.Asking.{lookup_asks}
+use Rattle.node_top.proofs.Causes.{begun_by, cause_of, lookup_reads}
+use Rattle.node_top.proofs.top.linked_output_of.Goals as goal
+
+pub returns-in-Lookup-clause-ok : goal.returns-in-Lookup-clause-ok
+returns-in-Lookup-clause-ok g c =
+    ok_then c.lookup.result _ _ c.lookup.ensures.ok
+    (λ text t. record { command = Lookup c.in-Lookup.look; asked = subst (CommandOf _) c.in-Lookup.is c.in_ok-look.ensures.command; text_of = t })
+
+pub returns-in-Lookup-clause-no_memory : goal.returns-in-Lookup-clause-no_memory
+returns-in-Lookup-clause-no_memory g c =
+    err_then c.lookup.result _ _ c.lookup.ensures.no_memory
+    (λ status h same. elim (h same) [ inl begun ↦ inl (begun_by _ _ _ _ c.in-Lookup.look (subst (CommandOf _) c.in-Lookup.is c.in_ok-look.ensures.command) begun) | inr e ↦ inr e ])
+
+pub returns-in-Lookup-clause-cause : goal.returns-in-Lookup-clause-cause
+returns-in-Lookup-clause-cause g c =
+    err_then c.lookup.result _ _ c.lookup.ensures.cause
+    (λ status h. cause_of _ c.in-Lookup.look _ _ _ status (subst (CommandOf _) c.in-Lookup.is c.in_ok-look.ensures.command) h)
+
+pub returns-in-Lookup-clause-plain : goal.returns-in-Lookup-clause-plain
+returns-in-Lookup-clause-plain g c = λ none_. absurd (none_ (lookup_asks _ c.in-Lookup.look (subst (CommandOf _) c.in-Lookup.is c.in_ok-look.ensures.command)))
+
+pub returns-in-Lookup-clause-no_input : goal.returns-in-Lookup-clause-no_input
+returns-in-Lookup-clause-no_input g c = λ none_. absurd (none_ (lookup_reads _ c.in-Lookup.look (subst (CommandOf _) c.in-Lookup.is c.in_ok-look.ensures.command)))

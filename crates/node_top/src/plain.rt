@@ -1,0 +1,126 @@
+//! The commands that take no link, and the top call that does them.
+ghost use Rattle.std.specs.Prelude.{◌≡◌, ◌≢◌, ◌≤◌, ◌⊎◌, ◌↔◌, None, IfOk, IfErr};
+ghost use Rattle.node_top.specs.Asked.{AsksPlain, bytes_of};
+ghost use Rattle.node_top.specs.Shown.{shown, IsTold, HasFailed};
+ghost use Rattle.node_top.specs.Input.{HasBadLine, ReadsTooMuch};
+ghost use Rattle.node_top.specs.Plainly.{GoesPlainlyWell, HasNothing, HasPlainCause, HasPlainText, IsPlainCut, IsPlainDone, ReadsInput};
+ghost use Rattle.node_top.specs.Endings.{number_of, EndsByCommand, OrNoMemory, WritesLine};
+
+use crate::asked::asked;
+use crate::check::check;
+use crate::mint::{mint, seed_for};
+use crate::output::{write_line, write_output};
+use crate::status::Status;
+use kad_base::{Bytes, Check, Sink, Source};
+use kad_words::{Command, takes_link};
+use std::alloc::Global;
+use std::hash::RandomState;
+
+/// Does the command that the words ask for, if it takes no link, and makes its output. Nothing is written yet.
+pub(crate) fn plain_output_of<S: Source, C: Check>(
+    alloc: Global,
+    words: &[String],
+    source: &mut S,
+    random: &[u8; 32],
+    judge: &C,
+) -> Result<Bytes, Status>
+    ensures ok { IfOk result (HasPlainText (bytes_of words.now) random.now
+        (shown S.left S.faults source.old source.new)) }
+    ensures cause { IfErr result (HasPlainCause (bytes_of words.now) random.now
+        (shown S.left S.faults source.old source.new)) }
+    ensures unread { IfErr result (λ status. number_of status ≡ 2 → source.new ≡ source.old) }
+    ensures plain { ¬ AsksPlain (bytes_of words.now) → IfErr result (λ status. number_of status ≡ 2) }
+    ensures no_input { ¬ ReadsInput (bytes_of words.now) → source.new ≡ source.old }
+{
+    if takes_link(words) {
+        return Err(Status::Usage);
+    }
+    match asked(alloc, words)? {
+        Command::Check { policy } => check(alloc, policy, source, judge),
+        Command::Mint {
+            seed,
+            c1,
+            c2,
+            tries,
+        } => mint(alloc, &seed_for(seed, random), c1, c2, tries),
+        _ => Err(Status::Usage),
+    }
+}
+
+/// Does the command that the words ask for, if it takes no link, and answers the status that the program ends with: what
+/// `run` does for these commands, without a link. `words` are those after the program's name; `random` are 32 bytes that
+/// nobody else knows. It waits for nobody. `hasher` is for commands that keep an index; none does so far.
+///
+/// `check` writes of each contact line of the source whether its contact passes the puzzles, and then how many do.
+/// `mint` reads nothing, and writes an identifier that solves both puzzles, with its key and X.
+///
+/// | Status | Line | When |
+/// |---|---|---|
+/// | 0 | the output | done |
+/// | 2 | `usage` | the words are not of the plain form, or ask for another command |
+/// | 3 | `bad line n` | line n is the first that is no contact line |
+/// | 5 | none | a write failed |
+/// | 6 | `source fault` | a read failed |
+/// | 9 | `no memory` | there was no memory |
+/// | 10 | `unminted` | no identifier was found within the tries |
+/// | 11 | `too long` | the input is longer than 1,048,576 bytes |
+pub fn run_plain<S: Source, K: Sink, C: Check>(
+    alloc: Global,
+    words: &[String],
+    source: &mut S,
+    sink: &mut K,
+    random: &[u8; 32],
+    check: &C,
+    _hasher: RandomState,
+) -> u8
+    // The text that was written is the command's own.
+    ensures done { result ≡ 0 → IsPlainDone (bytes_of words.now) random.now
+        (shown S.left S.faults source.old source.new)
+        (shown K.written K.faults sink.old sink.new) }
+
+    // Words that ask for no such command end with 2, and only they.
+    ensures usage { result ≡ 2 ↔ ¬ AsksPlain (bytes_of words.now) }
+
+    // Each other status but 9 comes only with its cause.
+    ensures bad_line { result ≡ 3 → ReadsInput (bytes_of words.now)
+        × HasBadLine (shown S.left S.faults source.old source.new) }
+    ensures sink_fault { result ≡ 5 → HasFailed (shown K.written K.faults sink.old sink.new) }
+    ensures source_fault { result ≡ 6 → ReadsInput (bytes_of words.now)
+        × HasFailed (shown S.left S.faults source.old source.new) }
+    ensures unminted { result ≡ 10 → HasNothing (bytes_of words.now) random.now }
+    ensures too_long { result ≡ 11 → ReadsInput (bytes_of words.now)
+        × ReadsTooMuch (S.left source.old) (S.left source.new) }
+
+    // Where the source goes on telling, each of these causes brings its status, want of memory aside.
+    ensures bad_line_comes { let input = shown S.left S.faults source.old source.new in
+        AsksPlain (bytes_of words.now) → IsTold input → ¬ HasFailed input → HasBadLine input
+        → OrNoMemory result 3 }
+    ensures unminted_comes { HasNothing (bytes_of words.now) random.now → OrNoMemory result 10 }
+    ensures too_long_comes { S.left source.new ≢ None → ReadsTooMuch (S.left source.old) (S.left source.new)
+        → OrNoMemory result 11 }
+
+    // With what it needs, and no failure, a command is done, want of memory aside.
+    ensures complete { GoesPlainlyWell (bytes_of words.now) random.now
+        (shown S.left S.faults source.old source.new)
+        (shown K.written K.faults sink.old sink.new)
+        → OrNoMemory result 0 }
+
+    // What was written: the line of the status, or at 5 a front of the text.
+    ensures line { result ≢ 0 → result ≢ 5 → WritesLine result
+        (shown S.left S.faults source.old source.new)
+        (shown K.written K.faults sink.old sink.new) }
+    ensures cut_short { result ≡ 5 → IsPlainCut (bytes_of words.now) random.now
+        (shown S.left S.faults source.old source.new)
+        (shown K.written K.faults sink.old sink.new) }
+
+    // The source was not called at 2, nor for a command that reads no input.
+    ensures unread { result ≡ 2 → source.new ≡ source.old }
+    ensures no_input { ¬ ReadsInput (bytes_of words.now) → source.new ≡ source.old }
+    ensures by_command { AsksPlain (bytes_of words.now) → EndsByCommand (bytes_of words.now) result }
+    ensures statuses { (result ≤ 11) × (result ≢ 1) × (result ≢ 4) × (result ≢ 7) × (result ≢ 8) }
+{
+    match plain_output_of(alloc, words, source, random, check) {
+        Ok(output) => write_output(sink, output.as_slice()),
+        Err(status) => write_line(sink, &status),
+    }
+}
