@@ -34,6 +34,7 @@ after_bit b [] = []
 after_bit b ([] ∷ P) = after_bit b P
 after_bit b ((x ∷ p) ∷ P) = cond (same_bit x b) (p ∷ after_bit b P) (after_bit b P)
 
+-- none of the prefixes is empty
 abbrev pub NoneEmpty : List (List Bool) → Type 0
 NoneEmpty [] = Unit {0}
 NoneEmpty ([] ∷ P) = ⊥
@@ -56,6 +57,7 @@ abbrev pub BeforeAll : List Bool → List (List Bool) → Type 0
 BeforeAll p [] = Unit {0}
 BeforeAll p (q ∷ P) = (is_before p q ≡ true) × BeforeAll p P
 
+-- the prefixes stand in the order of the identifiers that they cover
 abbrev pub Ascending : List (List Bool) → Type 0
 Ascending [] = Unit {0}
 Ascending (p ∷ P) = BeforeAll p P × Ascending P

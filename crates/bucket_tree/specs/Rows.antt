@@ -25,6 +25,7 @@ pub record BucketsState : Type 0 where
 abbrev pub contact_of : Entry → Contact
 contact_of e = e.contact
 
+-- the contacts of a bucket, the least recently seen first
 abbrev pub live_in : RowState → List Contact
 live_in row = map contact_of row.live
 
@@ -38,6 +39,7 @@ prefixes_of rows = map prefix_of rows
 abbrev pub live_of : List RowState → List Contact
 live_of rows = flat_map live_in rows
 
+-- two identifiers are one
 abbrev pub same_id : Id → Id → Bool
 same_id x y = is_eq (slice_cmp nat_cmp x.0 y.0)
 
@@ -68,6 +70,7 @@ pub record SoundRows (own : Id) (k b : ℕ) (rows : List RowState) : Type 0 wher
   pub short : All (λ row. length row.prefix ≤ 160) rows
   pub each : All (IsRow own k b) rows
 
+-- what callers see of sound buckets: k and b within their limits, and their rows
 pub record Sound (s : BucketsState) : Type 0 where
   pub some_live : 0 < s.k
   pub few_live : s.k ≤ 20

@@ -25,6 +25,7 @@ knows row c = among (live_in row) c
 abbrev pub knows_id : RowState → Id → Bool
 knows_id row id = list_any (λ e. same_id e.contact.id id) row.live
 
+-- the entries of other contacts
 abbrev pub without : Contact → List Entry → List Entry
 without c entries = filter (λ e. not (same c e.contact)) entries
 
@@ -32,6 +33,7 @@ without c entries = filter (λ e. not (same c e.contact)) entries
 abbrev pub moved : Contact → RowState → RowState
 moved c row = record { prefix = row.prefix; live = without c row.live ++ fresh c ∷ []; spares = row.spares }
 
+-- the contact is new, and the most recently seen
 abbrev pub added : Contact → RowState → RowState
 added c row = record { prefix = row.prefix; live = row.live ++ fresh c ∷ []; spares = row.spares }
 
@@ -87,9 +89,11 @@ failures_of row c = option_map (λ e. e.failures) (find (λ e. same c e.contact)
 abbrev pub mark : Contact → Entry → Entry
 mark c e = cond (same c e.contact) (record { contact = e.contact; failures = 1 }) e
 
+-- the row whose entry of the contact has now failed once
 abbrev pub marked : Contact → RowState → RowState
 marked c row = record { prefix = row.prefix; live = map (mark c) row.live; spares = row.spares }
 
+-- the row without the contact
 abbrev pub removed : Contact → RowState → RowState
 removed c row = record { prefix = row.prefix; live = without c row.live; spares = row.spares }
 
@@ -107,6 +111,7 @@ RowFailed c row Removed after = (failures_of row c ≡ Some 1) × (row.spares �
 RowFailed c row Replaced after = (failures_of row c ≡ Some 1) × IsReplaced c row after
 RowFailed c row Unknown after = (failures_of row c ≡ None) × (after ≡ row)
 
+-- a failure changes the row whose prefix begins the identifier of the contact, and no other
 pub record InItsRow (c : Contact) (gone : Gone) (rows after : List RowState) : Type 0 where
   pub front : List RowState
   pub back : List RowState

@@ -19,6 +19,7 @@ abbrev pub IsUnder : List Bool → Node → Type 0
 IsUnder p (Leaf row) = row.value.prefix ≡ p
 IsUnder p (Fork' a low b high) = IsUnder (p ++ false ∷ []) low × IsUnder (p ++ true ∷ []) high
 
+-- a prefix has at most the 160 bits of an identifier
 abbrev pub IsShort : RowState → Type 0
 IsShort row = length row.prefix ≤ 160
 

@@ -37,6 +37,7 @@ path_of_role role = role - 1
 abbrev pub asker : Contact → List Entry → ℕ
 asker c J = get_or (askers c J) 0 0
 
+-- a path asks, has run out, or waits for what is open or unsettled
 abbrev pub NextStep : Setting → List Entry → ℕ → BookReply → Type 0
 NextStep s J p (Ask c) = may_ask s p J ≡ Some c
 NextStep s J p RunOut_reply = RunOut s p J
@@ -60,6 +61,7 @@ pub record Counted (J : List Entry) (counts : Counts) : Type 0 where
   pub failed : counts.failed ≡ length (failed J)
   pub turned : counts.turned ≡ length (turned J)
 
+-- every path has run out, and these are the result and the counts of the lookup
 pub record IsFound (s : Setting) (J : List Entry) (found : List Contact) (counts : Counts) : Type 0 where
   pub run_out : (p : ℕ) → p < s.paths → RunOut s p J
   pub is_result : found ≡ result_of s J
@@ -71,18 +73,21 @@ pub record IsNotYet (s : Setting) (J : List Entry) (p : ℕ) : Type 0 where
   pub not_run_out : ¬ RunOut s p J
   pub before : (q : ℕ) → q < p → RunOut s q J
 
+-- the result where every path has run out, and else the first path that has not
 abbrev pub FinishStep : Setting → List Entry → BookReply → Type 0
 FinishStep s J (Found found counts) = IsFound s J found counts
 FinishStep s J (NotYet p) = IsNotYet s J p
 FinishStep s J NoMemory = (p : ℕ) → p < s.paths → RunOut s p J
 FinishStep s J other = ⊥
 
+-- the first unsettled thing of the path: a contact that answered, or a report
 abbrev pub PullStep : List Entry → ℕ → BookReply → Type 0
 PullStep J p (Alive c) = first_unsettled p J ≡ Some (Responder c)
 PullStep J p (Report_reply r) = first_unsettled p J ≡ Some (Told r)
 PullStep J p Idle = unsettled p J ≡ []
 PullStep J p other = ⊥
 
+-- a contact that answered is noted where it is the first unsettled thing of the path
 abbrev pub NoteStep : List Entry → ℕ → Contact → BookReply → Type 0
 NoteStep J p c Kept = first_unsettled p J ≡ Some (Responder c)
 NoteStep J p c NotFront = ¬ (first_unsettled p J ≡ Some (Responder c))
@@ -124,6 +129,7 @@ abbrev pub after_next : BookState → ℕ → BookReply → BookState
 after_next book p (Ask c) = added book (Ask_entry p c)
 after_next book p other = book
 
+-- the entry stands where the reply is Kept
 abbrev pub after_kept : BookState → Entry → BookReply → BookState
 after_kept book e Kept = added book e
 after_kept book e other = book
@@ -137,10 +143,12 @@ settle_entry p r Turned = Some (Turned_entry p r.contact)
 settle_entry p r Taken = Some (Taken_entry p r.contact)
 settle_entry p r other = None
 
+-- with an entry that may be missing
 abbrev pub with_entry : BookState → Option Entry → BookState
 with_entry book None = book
 with_entry book (Some e) = added book e
 
+-- with the entry of the reply to Settle
 abbrev pub after_settle : BookState → ℕ → CheckedState → BookReply → BookState
 after_settle book p checked reply = with_entry book (settle_entry p checked.report reply)
 

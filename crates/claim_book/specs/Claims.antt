@@ -18,6 +18,7 @@ use Rattle.claim_book.specs.Journal.{holders, asked, answered, failed, unsettled
 abbrev pub key_eq : Contact → Contact → Bool
 key_eq = (contact_eq.ghosts).eq
 
+-- the map from each contact that a book knows of to who has it, and what came of asking it
 abbrev pub Claims : Type 0
 Claims = IndexMap Contact Claim RandomState
 

@@ -24,10 +24,12 @@ pub record IsPath (s : Setting) (J : List Entry) (p : ℕ) (x : Path) : Type 0 w
   pub near_room : 256 ≤ vec_capacity x.near
   pub fresh_room : 256 ≤ vec_capacity x.fresh
 
+-- that of every path
 pub record IsPaths (s : Setting) (J : List Entry) (xs : List Path) : Type 0 where
   pub enough : length xs ≡ s.paths
   pub each : (p : ℕ) (d : Path) → p < length xs → IsPath s J p (get_or xs p d)
 
+-- a book as a whole: its journal and room, its map of claims, its paths and its counts
 pub record IsWhole (s : Setting) (J : List Entry) (owed room : ℕ) (m : Claims) (xs : List Path) (counts : Counts) : Type 0 where
   pub book : IsBook s J owed room
   pub map : IsMap s J m

@@ -21,6 +21,8 @@ abbrev pub seed_of : Entry → List Contact
 seed_of (Seed q c) = c ∷ []
 seed_of other = []
 
+-- the same of what is taken, asked, heard, lost and turned away, by any path or on path p; and who asked or has a
+-- contact
 abbrev pub took_of : Entry → List Contact
 took_of (Seed q c) = c ∷ []
 took_of (Taken q c) = c ∷ []
@@ -64,10 +66,12 @@ turned_of other = []
 abbrev pub things_in : Contact → List Report → List Thing
 things_in c reports = Responder c ∷ map Told reports
 
+-- what an entry gives path p to settle
 abbrev pub things_of : ℕ → Entry → List Thing
 things_of p (Heard q c reports) = on_path p q (things_in c reports)
 things_of p other = []
 
+-- the entry settles something on path p
 abbrev pub settles_on : ℕ → Entry → Bool
 settles_on p (Note q c) = q == p
 settles_on p (Taken q c) = q == p
@@ -89,9 +93,11 @@ took J = flat_map took_of J
 unfoldable pub path : ℕ → List Entry → List Contact
 path p J = flat_map (path_of p) J
 
+-- the contacts that any path asked
 unfoldable pub asked : List Entry → List Contact
 asked J = flat_map ask_of J
 
+-- those that path p asked
 unfoldable pub asked_on : ℕ → List Entry → List Contact
 asked_on p J = flat_map (ask_on p) J
 
@@ -103,12 +109,15 @@ askers c J = flat_map (asker_of c) J
 unfoldable pub holders : Contact → List Entry → List ℕ
 holders c J = flat_map (holder_of c) J
 
+-- the contacts that answered
 unfoldable pub answered : List Entry → List Contact
 answered J = flat_map answer_of J
 
+-- those that were lost
 unfoldable pub failed : List Entry → List Contact
 failed J = flat_map fail_of J
 
+-- those that a full path turned away
 unfoldable pub turned : List Entry → List Contact
 turned J = flat_map turned_of J
 
@@ -128,6 +137,7 @@ alive p J = without (path p J) (failed J)
 unfoldable pub things : ℕ → List Entry → List Thing
 things p J = flat_map (things_of p) J
 
+-- the entries that settle on path p
 unfoldable pub settled : ℕ → List Entry → List Entry
 settled p J = filter (settles_on p) J
 
@@ -135,6 +145,7 @@ settled p J = filter (settles_on p) J
 unfoldable pub unsettled : ℕ → List Entry → List Thing
 unsettled p J = drop (length (settled p J)) (things p J)
 
+-- what comes next to be settled on path p
 unfoldable pub first_unsettled : ℕ → List Entry → Option Thing
 first_unsettled p J = slice_get (unsettled p J) 0
 

@@ -46,6 +46,7 @@ abbrev pub LegalAfter : Setting → List Entry → List Entry → Type 0
 LegalAfter s J [] = Unit {0}
 LegalAfter s J (e ∷ es) = Fits s J e × LegalAfter s (J ++ e ∷ []) es
 
+-- a journal each of whose entries may follow those before it
 unfoldable pub Legal : Setting → List Entry → Type 0
 Legal s J = LegalAfter s [] J
 
@@ -54,6 +55,7 @@ abbrev pub seeded_from : ℕ → ℕ → List Contact → List Entry
 seeded_from paths i [] = []
 seeded_from paths i (c ∷ cs) = Seed (i % paths) c ∷ seeded_from paths (i + 1) cs
 
+-- the journal of a lookup that begins with these contacts: the seed of rank i on path i mod the paths
 abbrev pub seeded : ℕ → List Contact → List Entry
 seeded paths cs = seeded_from paths 0 cs
 
@@ -70,6 +72,7 @@ is_of p (Turned q c) = q == p
 is_of p (Rejected q r) = q == p
 is_of p (Skipped q r) = q == p
 
+-- the entry is a seed
 abbrev pub IsSeed : Entry → Type 0
 IsSeed (Seed q c) = Unit {0}
 IsSeed other = ⊥

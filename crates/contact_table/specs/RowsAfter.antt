@@ -41,5 +41,6 @@ failed_row Replaced c row = record {
 }
 failed_row Unknown c row = row
 
+-- the rows after a failure: that of the contact has changed
 abbrev pub failed_rows : Gone → Contact → List RowState → List RowState
 failed_rows gone c rows = put_rows (λ row. failed_row gone c row ∷ []) c.id rows

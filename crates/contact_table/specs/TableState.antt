@@ -12,6 +12,7 @@ pub record TableState : Type 0 where
   pub rows : List RowState
   pub siblings : List Contact
 
+-- its buckets, and its siblings, each as their own crate has them
 abbrev pub buckets_of : TableState → BucketsState
 buckets_of s = record { own = s.own; k = s.k; b = s.b; rows = s.rows }
 

@@ -42,6 +42,7 @@ failed_siblings s c Unknown = without_one s c
 abbrev pub contacts_of : TableState → List Contact
 contacts_of s = live_of s.rows ++ s.siblings
 
+-- when each reply comes; Seen and Closest need memory, Failed none
 abbrev pub TableStep : TableState → ℕ → TableCall → TableReply → Type 0
 TableStep s role (Seen_call c) (Seen_reply seen) = SeenStep s.own s.k s.b c s.rows seen (seen_rows s.own s.k s.b c s.rows)
 TableStep s role (Seen_call c) NoMemory = Unit {0}
@@ -52,9 +53,11 @@ TableStep s role (Closest target n) (List_reply list) = list ≡ k_closest targe
 TableStep s role (Closest target n) NoMemory = Unit {0}
 TableStep s role (Closest target n) other = ⊥
 
+-- the table with other rows and siblings
 abbrev pub with_rows : TableState → List RowState → List Contact → TableState
 with_rows s rows siblings = record { own = s.own; k = s.k; b = s.b; rows = rows; siblings = siblings }
 
+-- the table after a reply; as it was after Closest and where memory ran out
 abbrev pub table_after : TableState → ℕ → TableCall → TableReply → TableState
 table_after s role (Seen_call c) (Seen_reply seen) = with_rows s (seen_rows s.own s.k s.b c s.rows) (seen_siblings (siblings_of s) c seen)
 table_after s role (Failed c) (Gone_reply gone) = with_rows s (failed_rows gone c s.rows) (failed_siblings (siblings_of s) c gone)

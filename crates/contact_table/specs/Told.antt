@@ -21,6 +21,7 @@ told_in (Seen c) = c ∷ []
 told_in (Failed c) = []
 told_in (Closest target n) = []
 
+-- those that a run says were seen, in order
 abbrev pub told_by : List (Made TableCall TableReply) → List Contact
 told_by run = flat_map (λ e. told_in e.call) run
 

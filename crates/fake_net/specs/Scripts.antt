@@ -79,10 +79,12 @@ pub record IsFirstAt (to : Addr) (asked : List Asked) (place : ℕ) : Type 0 whe
 
 -- ---- the script
 
+-- an answer that is to be given has a written form; the bytes of a datagram may be any
 abbrev pub IsWritableEvent : ScriptEvent → Type 0
 IsWritableEvent (Deliver at from bytes times) = Unit {0}
 IsWritableEvent (ToQuery to at from m) = IsWritable m
 
+-- when the event may come, at the earliest
 abbrev pub moment_of : ScriptEvent → ℕ
 moment_of (Deliver at from bytes times) = at
 moment_of (ToQuery to at from m) = at

@@ -41,9 +41,11 @@ pub record IsFirstValue (id : List ℕ) (c2 tries : ℕ) (x : List ℕ) : Type 0
   pub solves : ValueSolves id c2 number
   pub none_before : HoldsOfNone number (ValueSolves id c2)
 
+-- none of the first keys solves the static puzzle
 abbrev pub HasNoKey : List ℕ → ℕ → ℕ → Type 0
 HasNoKey seed c1 tries = HoldsOfNone tries (KeySolves seed c1)
 
+-- none of the first values solves the dynamic puzzle of the identifier
 abbrev pub HasNoFirstValue : List ℕ → ℕ → ℕ → Type 0
 HasNoFirstValue id c2 tries = HoldsOfNone tries (ValueSolves id c2)
 

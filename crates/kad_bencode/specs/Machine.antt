@@ -17,6 +17,7 @@ pub data Place : Type 0 where
   AsValue : List Open → Place
   AsKey : List Open → List (Pair Value) → Place
 
+-- where the machine stands, with what is open and all that it read there
 pub data State : Type 0 where
   -- a value may begin; the innermost list may end
   Ready : List Open → State
@@ -51,13 +52,16 @@ abbrev pub before : Place → State
 before (AsValue os) = Ready os
 before (AsKey os pairs) = Keyless os pairs
 
+-- a number with its sign: -0 is none, so one that is negative is at least 1
 abbrev pub signed : Bool → ℕ → ℤ
 signed false n = pos n
 signed true n = negsuc (n - 1)
 
+-- a digit in ASCII
 abbrev pub is_digit : ℕ → Bool
 is_digit b = nat_le 48 b && nat_lt b 58
 
+-- a digit that isn't 0: no number begins with 0 but 0 itself (BEP 3)
 abbrev pub is_nonzero : ℕ → Bool
 is_nonzero b = nat_le 49 b && nat_lt b 58
 
@@ -67,9 +71,11 @@ closed [] = None
 closed (InList values ∷ os) = Some (filled os (value.List values))
 closed (InPair pairs key ∷ os) = None
 
+-- the length of a string begins: 0 alone, or a number without leading zeros
 abbrev pub length_begins : Place → ℕ → Option State
 length_begins p b = cond (nat_eq b 48) (Some (NoLength p)) (cond (is_nonzero b) (Some (Length p (b - 48))) None)
 
+-- where the machine stands after one more byte; none where no text goes on so
 abbrev pub step : State → ℕ → Option State
 step (Ready os) b =
     cond (nat_eq b 105) (Some (Sign os))
@@ -120,10 +126,12 @@ FitsOpen [] = Unit {0}
 FitsOpen (InList vs ∷ os) = (suc (length os) ≤ 16) × AllByRecursion (Fits (suc (length os))) vs × FitsOpen os
 FitsOpen (InPair ps key ∷ os) = FitsPairs os ps × (has_key (keys_of ps) key ≡ false) × FitsOpen os
 
+-- what is open around a string fits
 abbrev pub FitsPlace : Place → Type 0
 FitsPlace (AsValue os) = FitsOpen os
 FitsPlace (AsKey os ps) = FitsPairs os ps × FitsOpen os
 
+-- all that was read is within the limits
 abbrev pub FitsState : State → Type 0
 FitsState (Ready os) = FitsOpen os
 FitsState (Keyless os ps) = FitsPairs os ps × FitsOpen os

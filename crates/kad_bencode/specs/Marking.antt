@@ -11,6 +11,7 @@ mixed n (b ∷ bs) = mixed ((n * 256 % 2 ^ 64 + b) % 2 ^ 64) bs
 abbrev pub mark_of : List ℕ → ℕ
 mark_of key = mixed (length key) (take 7 key)
 
+-- the mark is among these
 abbrev pub has_mark : List ℕ → ℕ → Bool
 has_mark [] mark = false
 has_mark (m ∷ ms) mark = nat_eq m mark || has_mark ms mark

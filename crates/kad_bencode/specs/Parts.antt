@@ -7,6 +7,7 @@ use Rattle.kad_bencode.specs.declared.value.Value.TheOpen as layer
 use Rattle.kad_bencode.specs.declared.value.Value.TheOpen.{Value-F}
 use Rattle.kad_bencode.specs.declared.value.Value.TheViews.{out-Value}
 
+-- a dictionary's value of a key, by the outermost form of a value; the other forms of BEP 3 have none
 abbrev pub member_in : Value-F Value → List ℕ → Option Value
 member_in (layer.Int n) key = None
 member_in (layer.Text bytes) key = None
@@ -17,6 +18,7 @@ member_in (layer.Dict pairs) key = value_of pairs key
 abbrev pub member_of : Value → List ℕ → Option Value
 member_of value key = member_in (out-Value value) key
 
+-- the bytes of a string, in the same way
 abbrev pub bytes_in : Value-F Value → Option (List ℕ)
 bytes_in (layer.Int n) = None
 bytes_in (layer.Text bytes) = Some bytes
@@ -27,6 +29,7 @@ bytes_in (layer.Dict pairs) = None
 abbrev pub bytes_of : Value → Option (List ℕ)
 bytes_of value = bytes_in (out-Value value)
 
+-- an integer, in the same way
 abbrev pub integer_in : Value-F Value → Option ℤ
 integer_in (layer.Int n) = Some n
 integer_in (layer.Text bytes) = None
@@ -37,6 +40,7 @@ integer_in (layer.Dict pairs) = None
 abbrev pub integer_of : Value → Option ℤ
 integer_of value = integer_in (out-Value value)
 
+-- the values of a list, in the same way
 abbrev pub list_in : Value-F Value → Option (List Value)
 list_in (layer.Int n) = None
 list_in (layer.Text bytes) = None
@@ -47,6 +51,7 @@ list_in (layer.Dict pairs) = None
 abbrev pub list_of : Value → Option (List Value)
 list_of value = list_in (out-Value value)
 
+-- the pairs of a dictionary, in the same way
 abbrev pub dict_in : Value-F Value → Option (List (Pair Value))
 dict_in (layer.Int n) = None
 dict_in (layer.Text bytes) = None

@@ -48,6 +48,7 @@ IsText bytes = (tree : Value) × (bytes ≡ text_of tree)
 
 -- ---- limits
 
+-- the greatest of some numbers, 0 where there is none
 abbrev pub greatest : List ℕ → ℕ
 greatest [] = 0
 greatest (n ∷ ns) = max n (greatest ns)
@@ -56,6 +57,7 @@ greatest (n ∷ ns) = max n (greatest ns)
 abbrev pub values_of : {V : Type 0} → List (Pair V) → List V
 values_of pairs = map (λ p. p.value) pairs
 
+-- a list or dictionary is open around the deepest of its values
 abbrev pub depth_step : Value-F ℕ → ℕ
 depth_step (layer.Int n) = 0
 depth_step (layer.Text bytes) = 0
@@ -71,10 +73,12 @@ abbrev pub is_i64 : ℤ → Bool
 is_i64 (pos n) = nat_lt n (2 ^ 63)
 is_i64 (negsuc n) = nat_lt n (2 ^ 63)
 
+-- each is true
 abbrev pub all_true : List Bool → Bool
 all_true [] = true
 all_true (b ∷ bs) = b && all_true bs
 
+-- the key is among these
 abbrev pub has_key : List (List ℕ) → List ℕ → Bool
 has_key [] key = false
 has_key (k ∷ ks) key = is_eq (key_cmp key k) || has_key ks key
@@ -84,6 +88,7 @@ abbrev pub each_once : List (List ℕ) → Bool
 each_once [] = true
 each_once (k ∷ ks) = not (has_key ks k) && each_once ks
 
+-- one layer is plain: an integer of 64 bits, no key twice, and each inner value plain
 abbrev pub plain_step : Value-F Bool → Bool
 plain_step (layer.Int n) = is_i64 n
 plain_step (layer.Text bytes) = true
@@ -106,6 +111,7 @@ abbrev pub put_all : {V : Type 0} → List (Pair V) → List (Pair V) → List (
 put_all filed [] = filed
 put_all filed (p ∷ ps) = put_all (put filed p.key p.value) ps
 
+-- one layer, a dictionary with its pairs by ascending keys; of a key that stands twice the last one counts
 abbrev pub in_order_step : Value-F Value → Value
 in_order_step (layer.Int n) = roll-Value (layer.Int n)
 in_order_step (layer.Text bytes) = roll-Value (layer.Text bytes)

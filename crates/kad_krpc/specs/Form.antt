@@ -28,6 +28,7 @@ use Rattle.kad_krpc.specs.Records.{addr_bytes, nodes_bytes, snodes_bytes}
 abbrev pub pair : List ℕ → Value → List (Pair Value)
 pair key value = record { key = key; value = value } ∷ []
 
+-- the same of a value that may be missing: then its key is left out
 abbrev pub maybe : {A : Type 0} → List ℕ → (A → Value) → Option A → List (Pair Value)
 maybe key form None = []
 maybe key form (Some x) = pair key (form x)
@@ -56,6 +57,7 @@ arguments_of (GetPeers id info_hash) = pair (codes "id") (Text id.0) ++ pair (co
 arguments_of (AnnouncePeer id info_hash port token) = announced id info_hash port token
 arguments_of (Other method) = []
 
+-- the `q` of a query: the name of its method
 abbrev pub name_of : Ask → List ℕ
 name_of (Ping id) = codes "ping"
 name_of (FindNode id target) = codes "find_node"
@@ -63,19 +65,24 @@ name_of (GetPeers id info_hash) = codes "get_peers"
 name_of (AnnouncePeer id info_hash port token) = codes "announce_peer"
 name_of (Other method) = method
 
+-- a read-only query says `ro` 1; another says nothing of it (BEP 43)
 abbrev pub read_only_pair : Bool → List (Pair Value)
 read_only_pair true = pair (codes "ro") (Int (pos 1))
 read_only_pair false = []
 
+-- a string of the records of the nodes, one after another (compact node info)
 abbrev pub nodes_value : List Contact → Value
 nodes_value nodes = Text (nodes_bytes nodes)
 
+-- the same of nodes with their proofs (this project's own)
 abbrev pub snodes_value : List Report → Value
 snodes_value snodes = Text (snodes_bytes snodes)
 
+-- a list of strings, one for each peer (compact peer info)
 abbrev pub peers_value : List Addr → Value
 peers_value peers = Values (map (λ peer. Text (addr_bytes peer)) peers)
 
+-- the `r` of an answer: who answered, and those of its parts that it has
 abbrev pub answer_pairs : Answer → List (Pair Value)
 answer_pairs answer =
     pair (codes "id") (Text answer.id.0)
@@ -107,6 +114,7 @@ form m = text_of (Dict (message_pairs m))
 
 -- ---- which messages have one
 
+-- an address of IPv4: the compact records of BEP 5 have no place for another
 abbrev pub IsV4 : Ip → Type 0
 IsV4 (V4 bytes) = Unit {0}
 IsV4 (V6 bytes) = ⊥
@@ -115,22 +123,27 @@ IsV4 (V6 bytes) = ⊥
 abbrev pub IsNode : Contact → Type 0
 IsNode c = IsV4 c.addr.ip
 
+-- there is a proof
 abbrev pub HasProof : Option Proof → Type 0
 HasProof None = ⊥
 HasProof (Some proof) = Unit {0}
 
+-- a record of `snodes` has a place for an address of IPv4, and needs a proof
 abbrev pub IsProved : Report → Type 0
 IsProved r = IsV4 r.contact.addr.ip × HasProof r.proof
 
+-- the fact holds of each member of a list that may be missing
 abbrev pub Each : {A : Type 0} → (A → Type 0) → Option (List A) → Type 0
 Each P None = Unit {0}
 Each P (Some items) = AllByRecursion P items
 
+-- each part of the answer has a written form
 pub record IsWritableAnswer (answer : Answer) : Type 0 where
   pub nodes : Each IsNode answer.nodes
   pub snodes : Each IsProved answer.snodes
   pub values : Each (λ (a : Addr). IsV4 a.ip) answer.values
 
+-- no peer announces port 0; an implied port says none
 abbrev pub IsGivenPort : Port → Type 0
 IsGivenPort (Given port) = port ≢ 0
 IsGivenPort Implied = Unit {0}
@@ -142,6 +155,7 @@ pub record IsUnknown (method : List ℕ) : Type 0 where
   pub get_peers : method ≢ codes "get_peers"
   pub announce_peer : method ≢ codes "announce_peer"
 
+-- the query has a written form that is read back
 abbrev pub IsWritableAsk : Ask → Type 0
 IsWritableAsk (Ping id) = Unit {0}
 IsWritableAsk (FindNode id target) = Unit {0}
@@ -149,6 +163,7 @@ IsWritableAsk (GetPeers id info_hash) = Unit {0}
 IsWritableAsk (AnnouncePeer id info_hash port token) = IsGivenPort port
 IsWritableAsk (Other method) = IsUnknown method
 
+-- the message has a written form that is read back; an error message always has one
 abbrev pub IsWritable : Message → Type 0
 IsWritable (message.Query tx read_only ask) = IsWritableAsk ask
 IsWritable (message.Answer tx answer) = IsWritableAnswer answer

@@ -45,6 +45,7 @@ abbrev pub id_in : Option (List ℕ) → Option Id
 id_in None = None
 id_in (Some bytes) = cond (nat_eq (length bytes) 20) (Some (record { 0 = bytes })) None
 
+-- an identifier is a string of 20 bytes
 abbrev pub id_of : Value → Option Id
 id_of v = id_in (bytes_of v)
 
@@ -54,6 +55,7 @@ port_in None = None
 port_in (Some (pos n)) = cond (nat_le 1 n && nat_lt n 65536) (Some n) None
 port_in (Some (negsuc n)) = None
 
+-- the port that a value gives
 abbrev pub port_of : Value → Option ℕ
 port_of v = port_in (integer_of v)
 
@@ -65,6 +67,7 @@ kind_in (Some name) =
     (cond (bytes_eq name (codes "r")) (Some Kind_answer)
     (cond (bytes_eq name (codes "e")) (Some Kind_fault) None))
 
+-- the kind of message that the value of `y` names: q, r or e
 abbrev pub kind_of : Value → Option Kind
 kind_of v = kind_in (bytes_of v)
 
@@ -73,12 +76,14 @@ abbrev pub code_text : Option ℤ → Option (List ℕ) → Option (ℤ × List 
 code_text (Some code) (Some text) = Some (code, text)
 code_text code text = None
 
+-- the first two of a list's values, where they are an integer and a string
 abbrev pub code_text_in : Option (List Value) → Option (ℤ × List ℕ)
 code_text_in None = None
 code_text_in (Some []) = None
 code_text_in (Some (code ∷ [])) = None
 code_text_in (Some (code ∷ text ∷ rest)) = code_text (integer_of code) (bytes_of text)
 
+-- the value of `e`: a list of a code and a text
 abbrev pub code_text_of : Value → Option (ℤ × List ℕ)
 code_text_of v = code_text_in (list_of v)
 
@@ -94,6 +99,7 @@ abbrev pub needed : {A : Type 0} → (Value → Option A) → Key → Option Val
 needed kind key None = Err (Missing key)
 needed kind key (Some v) = of_kind key (kind v)
 
+-- what a step gives, as one that is there
 abbrev pub as_some : {A : Type 0} → Step A → Step (Option A)
 as_some (Ok x) = Ok (Some x)
 as_some (Err fault) = Err fault
@@ -113,6 +119,7 @@ abbrev pub peer_in : Option (List ℕ) → Option Addr
 peer_in None = None
 peer_in (Some bytes) = cond (nat_eq (length bytes) 6) (Some (addr_at 0 bytes)) None
 
+-- the peers of a list of values, in order
 abbrev pub peers_in : Option (List Value) → Option (List Addr)
 peers_in None = None
 peers_in (Some values) = Some (flat_map (λ v. option_to_list (peer_in (bytes_of v))) values)
@@ -125,18 +132,22 @@ is_implied None = false
 is_implied (Some (pos n)) = nat_lt 0 n
 is_implied (Some (negsuc n)) = true
 
+-- the port that is announced: an implied one, whatever `port` says, or the one that `port` gives
 abbrev pub port_by : Option Value → Option Value → Step Port
 port_by implied_port port =
     then (optional integer_of key.ImpliedPort implied_port) (λ implied.
     cond (is_implied implied) (Ok Implied)
     (then (needed port_of key.Port port) (λ given. Ok (Given given))))
 
+-- the rest of a find_node query: its target
 abbrev pub find_node_at : List (Pair Value) → Id → Step Ask
 find_node_at a id = then (needed id_of key.Target (value_of a (codes "target"))) (λ target. Ok (FindNode id target))
 
+-- the rest of a get_peers query: its info hash
 abbrev pub get_peers_at : List (Pair Value) → Id → Step Ask
 get_peers_at a id = then (needed id_of key.InfoHash (value_of a (codes "info_hash"))) (λ info_hash. Ok (GetPeers id info_hash))
 
+-- what an announce_peer query says, by the values of its keys: info hash, token, then port
 abbrev pub announced_by : Id → Option Value → Option Value → Option Value → Option Value → Step Ask
 announced_by id info_hash token implied_port port =
     then (needed id_of key.InfoHash info_hash) (λ info_hash.
@@ -144,9 +155,11 @@ announced_by id info_hash token implied_port port =
     then (port_by implied_port port) (λ port.
     Ok (AnnouncePeer id info_hash port token))))
 
+-- the rest of an announce_peer query
 abbrev pub announce_peer_at : List (Pair Value) → Id → Step Ask
 announce_peer_at a id = announced_by id (value_of a (codes "info_hash")) (value_of a (codes "token")) (value_of a (codes "implied_port")) (value_of a (codes "port"))
 
+-- what a query says beside who asks, by its method
 abbrev pub rest_at : Method → List (Pair Value) → Id → Step Ask
 rest_at Method_ping a id = Ok (Ping id)
 rest_at Method_find_node a id = find_node_at a id
@@ -172,6 +185,7 @@ abbrev pub ask_by : Option Method → List ℕ → Option Value → Step Ask
 ask_by None name a = Ok (Other name)
 ask_by (Some method) name a = arguments_at method a
 
+-- what a query asks, by the name of its method and its arguments
 abbrev pub ask_of : List ℕ → Option Value → Step Ask
 ask_of name a = ask_by (method_in name) name a
 
@@ -181,30 +195,37 @@ is_one None = false
 is_one (Some (pos n)) = nat_eq n 1
 is_one (Some (negsuc n)) = false
 
+-- whether a query is read-only, by its `ro`, which may be missing (BEP 43)
 abbrev pub is_read_only : Option Value → Bool
 is_read_only None = false
 is_read_only (Some v) = is_one (integer_of v)
 
+-- a query, by the values of `q`, `a` and `ro`: the method first, then what it asks
 abbrev pub query_by : List ℕ → Option Value → Option Value → Option Value → Step Message
 query_by tx q a ro =
     then (needed bytes_of key.Q q) (λ method.
     then (ask_of method a) (λ ask.
     Ok (message.Query tx (is_read_only ro) ask)))
 
+-- the query that a dictionary says
 abbrev pub query_at : List ℕ → List (Pair Value) → Step Message
 query_at tx top = query_by tx (value_of top (codes "q")) (value_of top (codes "a")) (value_of top (codes "ro"))
 
 -- ---- answers and error messages
 
+-- the value of `nodes`: records of 26 bytes, where it is there
 abbrev pub nodes_by : Option Value → Step (Option (List Contact))
 nodes_by nodes = then (optional bytes_of key.Nodes nodes) (λ bytes. records 26 node_in key.Nodes bytes)
 
+-- the value of `snodes`: records of 78 bytes, where it is there (this project's own)
 abbrev pub snodes_by : Option Value → Step (Option (List Report))
 snodes_by snodes = then (optional bytes_of key.Snodes snodes) (λ bytes. records 78 proved_in key.Snodes bytes)
 
+-- the value of `values`: peers, where it is there
 abbrev pub values_by : Option Value → Step (Option (List Addr))
 values_by values = then (optional list_of key.Values values) (λ values. Ok (peers_in values))
 
+-- an answer, by the values of its five keys; who answered comes first
 abbrev pub answer_by : Option Value → Option Value → Option Value → Option Value → Option Value → Step Answer
 answer_by id nodes snodes token values =
     then (needed id_of key.Id id) (λ id.
@@ -214,20 +235,24 @@ answer_by id nodes snodes token values =
     then (values_by values) (λ values.
     Ok (record { id = id; nodes = nodes; snodes = snodes; token = token; values = values }))))))
 
+-- the answer that a dictionary says
 abbrev pub answer_at : List (Pair Value) → Step Answer
 answer_at r = answer_by (value_of r (codes "id")) (value_of r (codes "nodes")) (value_of r (codes "snodes")) (value_of r (codes "token")) (value_of r (codes "values"))
 
+-- the message whose `r` is an answer
 abbrev pub answer_message_at : List ℕ → List (Pair Value) → Step Message
 answer_message_at tx top =
     then (needed dict_of key.R (value_of top (codes "r"))) (λ r.
     then (answer_at r) (λ answer.
     Ok (message.Answer tx answer)))
 
+-- the message whose `e` is a code and a text
 abbrev pub fault_at : List ℕ → List (Pair Value) → Step Message
 fault_at tx top = then (needed code_text_of key.E (value_of top (codes "e"))) (λ e. Ok (message.Fault tx e.0 e.1))
 
 -- ---- messages
 
+-- what a message says beside its transaction id, by its kind
 abbrev pub body_at : Kind → List ℕ → List (Pair Value) → Step Message
 body_at Kind_query tx top = query_at tx top
 body_at Kind_answer tx top = answer_message_at tx top

@@ -29,11 +29,12 @@ addr_bytes addr = ip_bytes addr.ip ++ port_bytes addr.port
 abbrev pub node_bytes : Contact → List ℕ
 node_bytes c = c.id.0 ++ addr_bytes c.addr
 
--- a node with its proof, of 78 bytes: identifier, public key, X, address, port
+-- a proof: the public key of 32 bytes, and X of 20
 abbrev pub proof_bytes : Option Proof → List ℕ
 proof_bytes None = []
 proof_bytes (Some proof) = proof.key ++ proof.x
 
+-- a node with its proof, of 78 bytes: identifier, public key, X, address, port (this project's own)
 abbrev pub proved_bytes : Report → List ℕ
 proved_bytes r = r.contact.id.0 ++ proof_bytes r.proof ++ addr_bytes r.contact.addr
 
@@ -41,6 +42,7 @@ proved_bytes r = r.contact.id.0 ++ proof_bytes r.proof ++ addr_bytes r.contact.a
 abbrev pub nodes_bytes : List Contact → List ℕ
 nodes_bytes nodes = flat_map node_bytes nodes
 
+-- the same of nodes with their proofs
 abbrev pub snodes_bytes : List Report → List ℕ
 snodes_bytes snodes = flat_map proved_bytes snodes
 
@@ -50,22 +52,27 @@ snodes_bytes snodes = flat_map proved_bytes snodes
 abbrev pub part : ℕ → ℕ → List ℕ → List ℕ
 part at size bytes = take size (drop at bytes)
 
--- the port and the IPv4 address with its port that stand at a place
+-- the port that stands at a place, in network order
 abbrev pub port_at : ℕ → List ℕ → ℕ
 port_at at bytes = get_or bytes at 0 * 256 + get_or bytes (at + 1) 0
 
+-- the IPv4 address with its port that stands there
 abbrev pub addr_at : ℕ → List ℕ → Addr
 addr_at at bytes = record { ip = V4 (part at 4 bytes); port = port_at (at + 4) bytes }
 
+-- the 20 bytes of an identifier that stand at a place
 abbrev pub id_at : ℕ → List ℕ → Id
 id_at at bytes = record { 0 = part at 20 bytes }
 
+-- the node that 26 bytes are
 abbrev pub node_in : List ℕ → Contact
 node_in bytes = record { id = id_at 0 bytes; addr = addr_at 20 bytes }
 
+-- the proof within the 78 bytes of a node: 32 bytes of public key and 20 of X, behind the identifier
 abbrev pub proof_in : List ℕ → Proof
 proof_in bytes = record { key = part 20 32 bytes; x = part 52 20 bytes }
 
+-- the node with its proof that 78 bytes are
 abbrev pub proved_in : List ℕ → Report
 proved_in bytes = record { contact = record { id = id_at 0 bytes; addr = addr_at 72 bytes }; proof = Some (proof_in bytes) }
 

@@ -40,10 +40,12 @@ viewed (Err fault) = Err fault
 
 -- ---- for the steps of the reading
 
+-- what was asked, by a view of it, or the refusal
 abbrev pub asked : Result AskView KrpcFault → Step Ask
 asked (Ok x) = Ok (ask_seen x)
 asked (Err fault) = Err fault
 
+-- what was answered, by a view of it, or the refusal
 abbrev pub answered : Result AnswerView KrpcFault → Step Answer
 answered (Ok x) = Ok (answer_seen x)
 answered (Err fault) = Err fault
@@ -53,6 +55,7 @@ abbrev pub lent : Result (Bor (List ℕ)) KrpcFault → Step (List ℕ)
 lent (Ok x) = Ok x.now
 lent (Err fault) = Err fault
 
+-- one that may be missing
 abbrev pub lent_some : Result (Option (Bor (List ℕ))) KrpcFault → Step (Option (List ℕ))
 lent_some (Ok o) = Ok (option_copied o)
 lent_some (Err fault) = Err fault
@@ -62,6 +65,7 @@ abbrev pub lent_code : Option (ℤ × Bor (List ℕ)) → Option (ℤ × List �
 lent_code None = None
 lent_code (Some x) = Some (x.0, x.1.now)
 
+-- the same, or the refusal
 abbrev pub lent_error : Result (ℤ × Bor (List ℕ)) KrpcFault → Step (ℤ × List ℕ)
 lent_error (Ok x) = Ok (x.0, x.1.now)
 lent_error (Err fault) = Err fault

@@ -6,12 +6,14 @@ use Rattle.kad_words.specs.declared.choice.Choice.{Choice}
 use Rattle.kad_words.specs.declared.options.Name.{Name}
 use Rattle.kad_words.specs.declared.options.Name.TheVariants as name
 
+-- an option of the code, as the definition has it
 abbrev pub entry_of : Choice → Entry
 entry_of c = record { name = c.name.now; kind = c.kind; need = c.need }
 
 abbrev pub entries_of : List Choice → List Entry
 entries_of = map entry_of
 
+-- the word of a command
 abbrev pub name_word : Name → Word
 name_word name.Lookup = lookup
 name_word name.Peers = peers

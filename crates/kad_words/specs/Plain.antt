@@ -63,6 +63,7 @@ IsThere Required value = IsSome value
 IsThere Optional value = Unit {0}
 IsThere (OrElse default) value = Unit {0}
 
+-- each option that is required has a value
 abbrev pub AreThere : List Entry → List (Word × Word) → Type 0
 AreThere entries pairs = All (λ (e : Entry). IsThere e.need (value_of (option_word e.name) pairs)) entries
 
@@ -109,6 +110,7 @@ MayNumberBy _ value n = ⊥
 abbrev pub Values : Type 0
 Values = Word → Option Word
 
+-- what the values give for an option of each kind: an identifier, a seed, a number
 abbrev pub MayIdOf : Choice → Values → Option Id → Type 0
 MayIdOf c value id = MayBeGiven SpellsId (value c.entry.name) id
 
@@ -129,6 +131,7 @@ PolicyBy (Some v) _ policy.Plain = ⊥
 PolicyBy None (Some v) policy.Plain = ⊥
 PolicyBy v w (policy.Puzzled c1 c2) = NumberBy c1_option.entry.kind c1_option.entry.need v c1 × NumberBy c2_option.entry.kind c2_option.entry.need w c2
 
+-- the policy, by the values of the two numbers of bits (S/Kademlia, 2007, section 4.1)
 abbrev pub PolicyOf : Values → Policy → Type 0
 PolicyOf value p = PolicyBy (value c1_option.entry.name) (value c2_option.entry.name) p
 
@@ -145,6 +148,7 @@ pub record IsLook (goal : Entry) (value : Values) (look : LookWords) : Type 0 wh
   pub bits : NumberOf bits_option value look.bits
   pub policy : PolicyOf value look.policy
 
+-- what the values of a command line ask for, command by command
 abbrev pub Says : Values → Command → Type 0
 Says value (Lookup look) = IsLook target_option.entry value look
 Says value (Peers look announce) = IsLook key_option.entry value look × MayNumberOf announce_option value announce

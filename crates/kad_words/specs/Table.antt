@@ -22,11 +22,13 @@ pub record Choice : Type 0 where
   pub entry : Entry
   pub commands : List Word
 
+-- an option by its parts
 abbrev pub choice : Word → Kind → Need → List Word → Choice
 choice name kind need commands = record { entry = record { name = name; kind = kind; need = need }; commands = commands }
 
 -- ---- the commands
 
+-- the words of the commands
 abbrev pub lookup : Word
 lookup = codes "lookup"
 
@@ -45,6 +47,7 @@ mint = codes "mint"
 abbrev pub sim : Word
 sim = codes "sim"
 
+-- all of them
 abbrev pub commands : List Word
 commands = lookup ∷ peers ∷ serve ∷ check ∷ mint ∷ sim ∷ []
 
@@ -105,6 +108,7 @@ nodes_option = choice (codes "nodes") (Number 1 20000) (OrElse 2000) (sim ∷ []
 abbrev pub hostile_option : Choice
 hostile_option = choice (codes "hostile") (Number 0 100) (OrElse 0) (sim ∷ [])
 
+-- all of them
 abbrev pub table : List Choice
 table = target_option ∷ key_option ∷ own_option ∷ k_option ∷ paths_option ∷ alpha_option ∷ timeout_option ∷ bits_option ∷ c1_option ∷ c2_option ∷ bind_option ∷ announce_option ∷ receives_option
     ∷ seed_option ∷ tries_option ∷ nodes_option ∷ hostile_option ∷ []

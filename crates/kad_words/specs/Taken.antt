@@ -18,6 +18,7 @@ rule name = record (new_rule name) { long = Some name }
 abbrev pub app : List Word → App
 app names = on_top (λ s. record s { disable_help_flag = true; rules = map rule names }) (new_app (codes "nolzavirt"))
 
+-- the names of options
 abbrev pub names_of : List Choice → List Word
 names_of = map (λ (c : Choice). c.name.now)
 
@@ -26,6 +27,7 @@ abbrev pub is_name : Word → Bool
 is_name [] = false
 is_name (x ∷ xs) = not (has_byte 61 (x ∷ xs))
 
+-- so is each of these
 abbrev pub are_names : List Word → Bool
 are_names names = list_all is_name names
 

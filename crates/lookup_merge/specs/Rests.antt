@@ -9,6 +9,7 @@ rests [] places = []
 rests (list ∷ lists) [] = []
 rests (list ∷ lists) (place ∷ places) = drop place list ∷ rests lists places
 
+-- the first of a list, where it has one
 abbrev pub first : {K : Type 0} → List K → Option K
 first [] = None
 first (x ∷ xs) = Some x
@@ -29,6 +30,7 @@ abbrev pub after : {K : Type 0} → (K → K → Ordering) → K → List K → 
 after R c [] = []
 after R c (x ∷ xs) = cond (is_eq (R x c)) xs (x ∷ xs)
 
+-- whether what stands there is c
 abbrev pub stands : {K : Type 0} → (K → K → Ordering) → K → Option K → Bool
 stands R c None = false
 stands R c (Some x) = is_eq (R x c)

@@ -38,6 +38,7 @@ Hears s (Got from bytes until at) found =
     ⊎ (((a : Answered) → ¬ HeardIn s from bytes a) × (found ≡ []))
 Hears s other found = found ≡ []
 
+-- one event: what it gives, and what it shows to be heard
 pub record HearsStep (g : Given) (J : List Entry) (s : Seen) (e : Event) : Type 0 where
   pub mid : Seen
   pub gives : Gives g J s e mid
@@ -58,13 +59,16 @@ pub record IsEachOnce (all found : List Addr) : Type 0 where
   pub in_order : IsStrictlySortedBy addr_cmp found
   pub same : (a : Addr) → Contains found a ↔ Contains all a
 
+-- the peers that an answer named (`values`)
 abbrev pub values_of : Answered → List Addr
 values_of a = part_of a.answer.values
 
+-- a token with the contact that gave it, where there is one
 abbrev pub tokens_in : Contact → Option (List ℕ) → List Token
 tokens_in c None = []
 tokens_in c (Some token) = record { contact = c; token = token } ∷ []
 
+-- the token of an answer (BEP 5): an announce_peer query to that contact needs it
 abbrev pub token_of : Answered → List Token
 token_of a = tokens_in a.contact a.answer.token
 

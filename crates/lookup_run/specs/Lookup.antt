@@ -90,6 +90,7 @@ pub record Told : Type 0 where
   pub role : ℕ
   pub call : TableCall
 
+-- a call that was made, without its reply
 abbrev pub told_in : Made TableCall TableReply → Told
 told_in m = record { role = m.role; call = m.call }
 
@@ -98,6 +99,7 @@ abbrev pub lost_by : Contact → Cause → List Told
 lost_by c Timeout = record { role = 0; call = Failed c } ∷ []
 lost_by c other = []
 
+-- what an entry of the journal tells the table: a timeout, or a contact that answered
 abbrev pub told_of : Entry → List Told
 told_of (Lost p c cause) = lost_by c cause
 told_of (Note p c) = record { role = p + 1; call = Seen_call c } ∷ []

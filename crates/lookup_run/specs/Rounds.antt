@@ -64,6 +64,7 @@ abbrev pub WaitsInTurn : Setting → List Entry → ℕ → Type 0
 WaitsInTurn setting J zero = AllSettled setting.paths J × NoneAsks setting setting.paths J
 WaitsInTurn setting J (suc n) = Unit {0}
 
+-- an event stands where a round has it: a send where asks may stand, a receive where one may wait
 abbrev pub InTurn : Setting → List Entry → Seen → Event → List Entry → Type 0
 InTurn setting J s (Now at) gave = ⊥
 InTurn setting J s (Sent to bytes) gave = AsksInTurn setting J s gave

@@ -50,9 +50,11 @@ pub record RepliesTo (bytes : List ℕ) (w : ℕ) (r : Reply) : Type 0 where
   pub says : Says bytes message
   pub to_query : SaysTo (word_bytes w) message r
 
+-- the datagram replies to no query, whatever its transaction id
 abbrev pub IsNoReply : List ℕ → Type 0
 IsNoReply bytes = (w : ℕ) (r : Reply) → w < 2 ^ 32 → ¬ RepliesTo bytes w r
 
+-- the datagram replies to this transaction id alone, and says this reply alone
 pub record IsReply (bytes : List ℕ) (said : Said) : Type 0 where
   pub replies : RepliesTo bytes said.tx said.reply
   pub same_id : (w : ℕ) (r : Reply) → w < 2 ^ 32 → RepliesTo bytes w r → w ≡ said.tx

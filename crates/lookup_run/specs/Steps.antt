@@ -123,6 +123,7 @@ abbrev pub StopsRound : LookSetting → WordsState → WordsState → Work → W
 StopsRound look words words' old new told told' =
     (start : WordsState) (table : TableState) (began : Option (List Event)) → Along look start table began words old look.paths 0 told → Ended look start table began words' new.table told'
 
+-- the events of a lookup that ends in this round end with the last stray that it takes
 abbrev pub RoundEndsByStray : LookSetting → WordsState → Work → Option (List Event) → Option (List Event) → Type 0
 RoundEndsByStray look words old told told' =
     (start : WordsState) (table : TableState) (began : Option (List Event)) → Along look start table began words old look.paths 0 told → Grows began told' (λ events. EndsAtStray (given_of look start) events max_strays)
@@ -137,6 +138,7 @@ abbrev pub FewStrays : LookSetting → WordsState → Work → Option (List Even
 FewStrays look words old told told' =
     (start : WordsState) (table : TableState) (began : Option (List Event)) (b a : ℕ) → Along look start table began words old b a told → Grows began told' (λ events. ¬ EndsAtStray (given_of look start) events max_strays)
 
+-- the same of a lookup that ends in this round
 abbrev pub RoundFewStrays : LookSetting → WordsState → Work → Option (List Event) → Option (List Event) → Type 0
 RoundFewStrays look words old told told' =
     (start : WordsState) (table : TableState) (began : Option (List Event)) → Along look start table began words old look.paths 0 told → Grows began told' (λ events. ¬ EndsAtStray (given_of look start) events max_strays)
@@ -148,6 +150,7 @@ pub record IsDue (queries : List Query) (moment : ℕ) : Type 0 where
   pub one : Contains (map (λ q. q.deadline) queries) moment
   pub least : AllByRecursion (λ (q : Query). moment ≤ q.deadline) queries
 
+-- until when a receive waits, by how many the round has had
 abbrev pub WaitsFor : ℕ → ℕ → List Query → ℕ → Type 0
 WaitsFor zero moment queries until = IsDue queries until
 WaitsFor (suc n) moment queries until = until ≡ moment
@@ -166,6 +169,7 @@ pub record TakesStray (old new : Stand) : Type 0 where
   pub after : new ≡ record { moment = old.moment; receives = old.receives; strays = old.strays + 1 }
   pub few : new.strays < max_strays
 
+-- the datagram is a stray: it replies to no open query, and only the count of strays changes
 pub record IsStrayFor (from : Addr) (bytes : List ℕ) (old new : Work) : Type 0 where
   pub none : RepliesToNone from bytes old
   pub takes : TakesStray old.stand new.stand
@@ -197,6 +201,7 @@ pub record IsMatchFor (look : LookSetting) (from : Addr) (bytes : List ℕ) (old
   pub table : new.table ≡ old.table
   pub stand : new.stand ≡ old.stand
 
+-- a datagram is matched to the open query that it replies to (BEP 5), or is a stray
 abbrev pub TakesDatagram : LookSetting → Addr → List ℕ → Work → Work → Type 0
 TakesDatagram look from bytes old new = IsMatchFor look from bytes old new ⊎ IsStrayFor from bytes old new
 

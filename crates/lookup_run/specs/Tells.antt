@@ -70,6 +70,7 @@ is_driven (Heard p c reports) = true
 is_driven (Lost p c cause) = true
 is_driven other = false
 
+-- these alone, in order
 unfoldable pub driven : List Entry → List Entry
 driven J = filter is_driven J
 
@@ -136,6 +137,7 @@ pub record HasAsked (g : Given) (J : List Entry) (s : Seen) (p : ℕ) : Type 0 w
   pub since_receive : s.since ≡ earlier ++ later
   pub of_others : AllByRecursion (λ (e : Entry). is_of p e ≡ false) later
 
+-- where a receive begins a round, so it is with each path
 abbrev pub HaveAsked : ℕ → Given → List Entry → Seen → Type 0
 HaveAsked zero g J s = (p : ℕ) → p < g.setting.paths → HasAsked g J s p
 HaveAsked (suc n) g J s = Unit {0}
@@ -151,10 +153,12 @@ pub record Receives (g : Given) (J : List Entry) (s : Seen) (until : ℕ) : Type
 abbrev pub bare : Contact → Report
 bare c = record { contact = c; proof = None }
 
+-- the members of a list that may be missing
 abbrev pub part_of : {A : Type 0} → Option (List A) → List A
 part_of None = []
 part_of (Some items) = items
 
+-- the reports that an answer gives, by the policy of the lookup
 abbrev pub reports_of : Policy → Answer → List Report
 reports_of Plain answer = map bare (take max_reports (part_of answer.nodes))
 reports_of (Puzzled c1 c2) answer = take max_reports (part_of answer.snodes)
@@ -205,6 +209,7 @@ IsStray s from bytes = (q : OpenQuery) → Contains s.queries q → (r : Reply) 
 abbrev pub is_overdue : ℕ → OpenQuery → Bool
 is_overdue at q = not (nat_lt at q.deadline)
 
+-- an open query whose time has passed loses its contact (Kademlia, 2002, section 2.2)
 abbrev pub timed_out : OpenQuery → Entry
 timed_out q = Lost q.path q.contact Timeout
 
@@ -212,6 +217,7 @@ timed_out q = Lost q.path q.contact Timeout
 abbrev pub closed_at : ℕ → List OpenQuery → List Entry
 closed_at at queries = map timed_out (filter (is_overdue at) queries)
 
+-- the queries that are still open then
 abbrev pub open_at : ℕ → List OpenQuery → List OpenQuery
 open_at at queries = filter (λ q. not (is_overdue at q)) queries
 
@@ -232,21 +238,26 @@ abbrev pub goes_on : ℕ → List OpenQuery → ℕ
 goes_on n [] = 0
 goes_on n (q ∷ queries) = if nat_lt (n + 1) max_round_receives then n + 1 else 0
 
+-- what the events show after a datagram that replied to an open query
 abbrev pub after_match : Seen → ℕ → Entry → List OpenQuery → Seen
 after_match s at e left = received s at (e ∷ []) left s.strays (goes_on s.receives (open_at at left))
 
+-- the same after a stray
 abbrev pub after_stray : Seen → ℕ → Seen
 after_stray s at = received s at [] s.queries (s.strays + 1) (goes_on s.receives (open_at at s.queries))
 
+-- the same after a receive that gave no datagram: the round is over
 abbrev pub after_quiet : Seen → ℕ → Seen
 after_quiet s at = received s at [] s.queries s.strays 0
 
+-- a datagram that is matched gives the entry of its reply
 pub record MatchGives (g : Given) (s : Seen) (from : Addr) (bytes : List ℕ) (at : ℕ) (t : Seen) : Type 0 where
   pub entry : Entry
   pub left : List OpenQuery
   pub matched : Matched g s from bytes entry left
   pub after : t ≡ after_match s at entry left
 
+-- a datagram is matched, or is a stray
 abbrev pub GotGives : Given → Seen → Addr → List ℕ → ℕ → Seen → Type 0
 GotGives g s from bytes at t = MatchGives g s from bytes at t ⊎ (IsStray s from bytes × (t ≡ after_stray s at))
 

@@ -47,6 +47,7 @@ book_of kind look random = setting_of (look_of kind look random)
 abbrev pub drawn_of : List ℕ → WordsState
 drawn_of random = record { seed = random; place = 5 }
 
+-- what its events are read by: the setting and the drawn words
 abbrev pub lookup_of : AskKind → LookWords → List ℕ → Given
 lookup_of kind look random = given_of (look_of kind look random) (drawn_of random)
 

@@ -10,6 +10,7 @@ pub record IsBetween (peer : Addr) : Type 0 where
   pub from_first : is_gt (address_cmp FIRST peer) ≡ false
   pub to_last : is_lt (address_cmp LAST peer) ≡ false
 
+-- so is the address of each pair
 abbrev pub AreBetween : List Held → Type 0
 AreBetween held = All (λ h. IsBetween h.0.1) held
 

@@ -26,15 +26,19 @@ use Rattle.kad_bencode.specs.contracts.entries.Dictionary as C
 use Rattle.kad_bencode.specs.contracts.entries.Dictionary.TheInside as I
 use Rattle.kad_bencode.specs.Keys.{keys_of}
 
+-- a key with what stands in the place of its value
 abbrev pub entry : Former {0} → Former {0}
 entry g = via (pair (const (List ℕ)) g) (λ X. Pair (g.Of X)) (λ X e. (e.key, e.value)) (λ X v. record { key = v.0; value = v.1 }) (λ X e. refl) (λ X v. refl)
 
+-- what a dictionary holds, by what its values hold
 abbrev pub the_former : Former {0} → Former {0}
 the_former g = list (entry g)
 
+-- and that what it holds weighs less than it
 abbrev pub the_weighed : {g : Former {0}} → Weighed g → Weighed (the_former g)
 the_weighed {g} w = w_list (w_via (w_pair (w_const (List ℕ)) w) (λ X. Pair (g.Of X)) (λ X e. (e.key, e.value)) (λ X v. record { key = v.0; value = v.1 }) (λ X e. refl) (λ X v. refl))
 
+-- a dictionary without pairs
 pub the_empty : List (Pair ⊥)
 the_empty = []
 
@@ -42,6 +46,7 @@ the_empty = []
 abbrev pub the_items : (X : Type 0) → List (Pair X) → List X
 the_items X pairs = map (λ p. p.value) pairs
 
+-- the values are what the former lists
 pub the_items_listed : (X : Type 0) (d : List (Pair X)) → listed _ (children (the_former this) X d) ≡ the_items X d
 the_items_listed X [] = refl
 the_items_listed X (p ∷ ps) = ap (λ l. p.value ∷ l) (the_items_listed X ps)
