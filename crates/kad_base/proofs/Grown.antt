@@ -1,3 +1,4 @@
+-- A content that is told, which two calls in turn added to, or took from: what both did, in order.
 use Rattle.std.proofs.Common.{◌≡◌, List, ◌++◌, [], Option, Some, None, refl, sym, ap, ◌∙◌}
 use Rattle.std.proofs.lemmas.List.{append_assoc, append-nil}
 use Rattle.kad_base.specs.Outside.{Added, Grows, Shrinks}

@@ -1,3 +1,4 @@
+-- The k least of a list: the first k of its different members in order; and the place of one more among them.
 use Rattle.std.proofs.Common.{◌≡◌, ℕ, zero, suc, ◌+◌, ◌-◌, ◌<◌, ◌≤◌, List, [], ◌∷◌, ◌++◌, length, take, drop, get_or, Bool, true, false, not, cond, refl, sym, ap, ◌∙◌, arith, add-zero, zero-add}
 use Rattle.std.specs.Prelude.{filter, fold, nat_lt, insert}
 use Rattle.std.specs.List.{All, AllByRecursion}

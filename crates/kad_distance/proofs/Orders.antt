@@ -1,3 +1,4 @@
+-- The order of contacts by distance is total, and only a contact ties with itself: XOR can be undone.
 use Rattle.std.proofs.Common.{◌≡◌, ℕ, List, [], ◌∷◌, refl, sym, ap, ◌∙◌}
 use Rattle.std.specs.Prelude.{bit_xor}
 use Rattle.std.specs.Int.Bits.{xor_self, xor_zero_l, xor_assoc}
