@@ -6,6 +6,7 @@ use Rattle.std.proofs.lemmas.Map.Keys.{IsDistinct-push}
 use Rattle.std.proofs.lemmas.Map.Made.{length-le_from_is_member}
 use Rattle.std.proofs.lemmas.List.{append-nil, length-append}
 use Rattle.std.proofs.lemmas.Bool.{eqb-true, eq-eqb, cases_lt}
+use Rattle.kad_base.specs.Limits.{max_path_contacts, max_reports}
 use Rattle.kad_base.specs.declared.plain.Contact.{Contact}
 use Rattle.kad_base.specs.Contacts.{same, among}
 use Rattle.kad_base.proofs.Contacts.{contact_total}
@@ -36,16 +37,16 @@ path_within p (e ∷ J) = omega (arith, length-append (path_of p e) (path p J), 
 path_gains : (p : ℕ) (J : List Entry) (e : Entry) → length (path p (J ++ e ∷ [])) ≡ length (path p J) + length (path_of p e)
 path_gains p J e = ap length (path_more p J e) ∙ length-append (path p J) (path_of p e)
 
--- a path has at most 256 contacts
-pub path_few : (s : Setting) (J : List Entry) → s.k < 256 → Legal s J → (p : ℕ) → length (path p J) ≤ 256
+-- a path has no more contacts than it may have
+pub path_few : (s : Setting) (J : List Entry) → s.k < max_path_contacts → Legal s J → (p : ℕ) → length (path p J) ≤ max_path_contacts
 unfolding path
-path_few s J k = along (λ J. (p : ℕ) → length (path p J) ≤ 256) s (λ p. omega arith) (λ J e l d f p. step J e f p (d p)) J
+path_few s J k = along (λ J. (p : ℕ) → length (path p J) ≤ max_path_contacts) s (λ p. omega arith) (λ J e l d f p. step J e f p (d p)) J
   where
-    step : (J : List Entry) (e : Entry) → Fits s J e → (p : ℕ) → length (path p J) ≤ 256 → length (path p (J ++ e ∷ [])) ≤ 256
+    step : (J : List Entry) (e : Entry) → Fits s J e → (p : ℕ) → length (path p J) ≤ max_path_contacts → length (path p (J ++ e ∷ [])) ≤ max_path_contacts
     step J (Seed q c) f p le = (let few = f.few in omega (arith, path_gains p J (Seed q c), path_one p (Seed q c), path_within p J))
     step J (Taken q c) f p le = full J q c p f.2 le (eqb q p) refl
       where
-        full : (J : List Entry) (q : ℕ) (c : Contact) (p : ℕ) → length (path q J) < 256 → length (path p J) ≤ 256 → (b : Bool) → eqb q p ≡ b → length (path p (J ++ Taken q c ∷ [])) ≤ 256
+        full : (J : List Entry) (q : ℕ) (c : Contact) (p : ℕ) → length (path q J) < max_path_contacts → length (path p J) ≤ max_path_contacts → (b : Bool) → eqb q p ≡ b → length (path p (J ++ Taken q c ∷ [])) ≤ max_path_contacts
         full J q c p lt le true e = (let is : length (path q J) ≡ length (path p J) = ap (λ n. length (path n J)) (eqb-true q p e) in omega (arith, path_gains p J (Taken q c), path_one p (Taken q c)))
         full J q c p lt le false e = (let z : length (on_path p q (c ∷ [])) ≡ 0 = ap (λ b. length (cond b (c ∷ []) [])) e in omega (arith, path_gains p J (Taken q c), z))
     step J other f p le = omega (arith, path_gains p J other)
@@ -55,7 +56,7 @@ abbrev have : ℕ → List Entry → ℕ
 have zero J = 0
 have (suc n) J = have n J + length (path n J)
 
-have_few : (J : List Entry) → ((p : ℕ) → length (path p J) ≤ 256) → (n : ℕ) → have n J ≤ 256 * n
+have_few : (J : List Entry) → ((p : ℕ) → length (path p J) ≤ max_path_contacts) → (n : ℕ) → have n J ≤ max_path_contacts * n
 have_few J few zero = omega arith
 have_few J few (suc n) = (let one = few n in let rest = have_few J few n in omega arith)
 
@@ -96,7 +97,7 @@ took_within : (s : Setting) (J : List Entry) → 0 < s.paths → Legal s J → l
 unfolding took
 took_within s J z = along (λ J. length (took J) ≤ have s.paths J) s (omega arith) (λ J e l d f. (let goes = took_entry s J e z l f in omega (arith, ap length (took_more J e), length-append (took J) (took_of e)))) J
 
-pub took_few : (s : Setting) (J : List Entry) → 0 < s.paths → s.k < 256 → Legal s J → length (took J) ≤ 256 * s.paths
+pub took_few : (s : Setting) (J : List Entry) → 0 < s.paths → s.k < max_path_contacts → Legal s J → length (took J) ≤ max_path_contacts * s.paths
 took_few s J z k l = (let all = took_within s J z l in let few = have_few J (path_few s J k l) s.paths in omega arith)
 
 asked_took : (s : Setting) (J : List Entry) (c : Contact) → Legal s J → among (asked J) c ≡ true → among (took J) c ≡ true
@@ -106,7 +107,7 @@ asked_took s J c l h = (let by = asked_by_some c J h in path_took by.0 J c (aske
 pub asked_within : (s : Setting) (J : List Entry) → Legal s J → length (asked J) ≤ length (took J)
 asked_within s J l = length-le_from_is_member (eq_by_cmp_equiv contact_total) (asked J) (took J) (asked_distinct s J l) (λ c h. asked_took s J c l h)
 
-pub asked_few : (s : Setting) (J : List Entry) → 0 < s.paths → s.k < 256 → Legal s J → length (asked J) ≤ 256 * s.paths
+pub asked_few : (s : Setting) (J : List Entry) → 0 < s.paths → s.k < max_path_contacts → Legal s J → length (asked J) ≤ max_path_contacts * s.paths
 asked_few s J z k l = (let a = took_few s J z k l in let b = asked_within s J l in omega arith)
 
 stays : (xs ys : List Contact) → ys ≡ [] → IsDistinct same xs → IsDistinct same (xs ++ ys)
@@ -134,8 +135,8 @@ failed_within s J l = length-le_from_is_member (eq_by_cmp_equiv contact_total) (
 pub answered_within : (s : Setting) (J : List Entry) → Legal s J → length (answered J) ≤ length (asked J)
 answered_within s J l = length-le_from_is_member (eq_by_cmp_equiv contact_total) (answered J) (asked J) (answered_distinct s J l) (λ c h. answered_asked s J l c h)
 
--- an answer gives itself and at most 16 reports to settle, and what is turned away was settled
-turned_entry : (s : Setting) (J : List Entry) (e : Entry) → 0 < s.paths → Legal s J → Fits s J e → 3 * length (turned_of e) + unsettled_room s.paths (J ++ e ∷ []) ≤ unsettled_room s.paths J + 49 * length (answer_of e)
+-- an answer gives itself and its reports to settle, which are few, and what is turned away was settled
+turned_entry : (s : Setting) (J : List Entry) (e : Entry) → 0 < s.paths → Legal s J → Fits s J e → 3 * length (turned_of e) + unsettled_room s.paths (J ++ e ∷ []) ≤ unsettled_room s.paths J + (3 * max_reports + 1) * length (answer_of e)
 turned_entry s J (Seed q c) z l f = omega (arith, rooms_kept s J (Seed q c) s.paths l (λ p. refl) (λ p. refl))
 turned_entry s J (Ask q c) z l f = omega (arith, rooms_kept s J (Ask q c) s.paths l (λ p. refl) (λ p. refl))
 turned_entry s J (Heard q c reports) z l f =
@@ -150,12 +151,12 @@ turned_entry s J (Turned q c) z l f = omega (arith, settle_owed s J (Turned q c)
 turned_entry s J (Rejected q r) z l f = omega (arith, settle_owed s J (Rejected q r) q (Told r) z l f (eq-eqb q q refl) (off_this q) (λ p. refl) f.0)
 turned_entry s J (Skipped q r) z l f = omega (arith, settle_owed s J (Skipped q r) q (Told r) z l f (eq-eqb q q refl) (off_this q) (λ p. refl) f.0)
 
-turned_within : (s : Setting) (J : List Entry) → 0 < s.paths → Legal s J → 3 * length (turned J) + unsettled_room s.paths J ≤ 49 * length (answered J)
+turned_within : (s : Setting) (J : List Entry) → 0 < s.paths → Legal s J → 3 * length (turned J) + unsettled_room s.paths J ≤ (3 * max_reports + 1) * length (answered J)
 unfolding turned answered
-turned_within s J z = along (λ J. 3 * length (turned J) + unsettled_room s.paths J ≤ 49 * length (answered J)) s (omega (arith, seeded_rooms s.paths [] s.paths))
+turned_within s J z = along (λ J. 3 * length (turned J) + unsettled_room s.paths J ≤ (3 * max_reports + 1) * length (answered J)) s (omega (arith, seeded_rooms s.paths [] s.paths))
     (λ J e l d f. (let goes = turned_entry s J e z l f in omega (arith, ap length (turned_more J e), length-append (turned J) (turned_of e), ap length (answered_more J e), length-append (answered J) (answer_of e)))) J
 
-pub turned_few : (s : Setting) (J : List Entry) → 0 < s.paths → s.k < 256 → Legal s J → length (turned J) ≤ 17 * (256 * s.paths)
+pub turned_few : (s : Setting) (J : List Entry) → 0 < s.paths → s.k < max_path_contacts → Legal s J → length (turned J) ≤ (max_reports + 1) * (max_path_contacts * s.paths)
 turned_few s J z k l =
     let a = asked_few s J z k l in
     let b = answered_within s J l in
@@ -163,8 +164,8 @@ turned_few s J z k l =
     omega arith
 
 -- what is left to settle has its room
-pub room_within : (s : Setting) (J : List Entry) → 0 < s.paths → Legal s J → unsettled_room s.paths J ≤ 49 * length (answered J)
+pub room_within : (s : Setting) (J : List Entry) → 0 < s.paths → Legal s J → unsettled_room s.paths J ≤ (3 * max_reports + 1) * length (answered J)
 room_within s J z l = (let all = turned_within s J z l in omega arith)
 
-pub failed_few : (s : Setting) (J : List Entry) → 0 < s.paths → s.k < 256 → Legal s J → length (failed J) ≤ 256 * s.paths
+pub failed_few : (s : Setting) (J : List Entry) → 0 < s.paths → s.k < max_path_contacts → Legal s J → length (failed J) ≤ max_path_contacts * s.paths
 failed_few s J z k l = (let a = asked_few s J z k l in let b = failed_within s J l in omega arith)

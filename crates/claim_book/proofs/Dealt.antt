@@ -5,6 +5,7 @@ use Rattle.std.specs.List.Sorted.{IsStrictlySortedBy}
 use Rattle.std.specs.Prelude.{vec_capacity}
 use Rattle.std.proofs.lemmas.List.{length-take-le}
 use Rattle.std.proofs.lemmas.Bool.{eq-eqb}
+use Rattle.kad_base.specs.Limits.{max_path_contacts}
 use Rattle.kad_base.specs.declared.plain.Contact.{Contact}
 use Rattle.kad_base.specs.Contacts.{among, IsUsable}
 use Rattle.kad_distance.specs.Order.{closeness}
@@ -35,7 +36,7 @@ seed_new s J q c l f = path_new s J (Seed q c) (legal_more s J (Seed q c) l f) f
 pub record Deals (s : Setting) (cs : List Contact) (i : ℕ) : Type 0 where
   pub some_path : 0 < s.paths
   pub few : length cs ≤ s.k
-  pub small : s.k < 256
+  pub small : s.k < max_path_contacts
   pub in_order : IsStrictlySortedBy (closeness s.target) cs
   pub usable : All (IsUsable s.own) cs
   pub here : i < length cs
@@ -54,7 +55,7 @@ dealt_map s cs i x m n d h sets =
 pub dealt_within : (s : Setting) (cs : List Contact) (i : ℕ) (xs : List Path) → Deals s cs i → IsPaths s (seeded s.paths (take i cs)) xs → i % s.paths < length xs
 dealt_within s cs i xs d h = (let z = d.some_path in let n = h.enough in omega arith)
 
-pub dealt_few : (s : Setting) (cs : List Contact) (i : ℕ) (p : ℕ) → Deals s cs i → length (path p (seeded s.paths (take i cs))) < 256
+pub dealt_few : (s : Setting) (cs : List Contact) (i : ℕ) (p : ℕ) → Deals s cs i → length (path p (seeded s.paths (take i cs))) < max_path_contacts
 dealt_few s cs i p d =
     let lt = d.here in
     let few = d.few in

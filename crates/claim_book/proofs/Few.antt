@@ -4,6 +4,7 @@ use Rattle.std.specs.List.{sum_by}
 use Rattle.std.proofs.lemmas.List.Sums.{sum_by-cons}
 use Rattle.std.proofs.lemmas.List.{length-drop}
 use Rattle.std.proofs.lemmas.Bool.{cases_lt}
+use Rattle.kad_base.specs.Limits.{max_path_contacts}
 use Rattle.claim_book.specs.declared.plain.Setting.{Setting}
 use Rattle.claim_book.specs.declared.plain.Thing.{Thing}
 use Rattle.claim_book.specs.declared.plain.Thing.TheVariants.{Responder, Told}
@@ -37,8 +38,8 @@ none_past s J p z l le =
     let none = ap (λ ts. length ts) (beyond s J z l p le).no_things in
     omega (arith, length-drop (length (settled p J)) (things p J), none)
 
--- an answer gives itself and at most 16 reports to settle, and a path asks at most 256 contacts
-pub unsettled_few : (s : Setting) (J : List Entry) → 0 < s.paths → s.paths < 256 → s.k < 256 → Legal s J → (p : ℕ) → length (unsettled p J) < 2 ^ 32
+-- an answer gives itself and its reports to settle, and a path asks no more contacts than it may have: both are few
+pub unsettled_few : (s : Setting) (J : List Entry) → 0 < s.paths → s.paths < 256 → s.k < max_path_contacts → Legal s J → (p : ℕ) → length (unsettled p J) < 2 ^ 32
 unsettled_few s J z few k l p =
     elim (cases_lt p s.paths) [
       | inl below ↦

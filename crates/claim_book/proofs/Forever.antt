@@ -9,6 +9,7 @@ use Rattle.std.proofs.lemmas.Option.{get_or_from_slice_get}
 use Rattle.std.proofs.lemmas.List.{append-nil, append_assoc}
 use Rattle.std.proofs.lemmas.List.Elements.{All-weaker}
 use Rattle.std.proofs.lemmas.Bool.{or_parts, and_from, eqb-false}
+use Rattle.kad_base.specs.Limits.{max_path_contacts}
 use Rattle.kad_base.specs.declared.plain.Contact.{Contact}
 use Rattle.kad_base.specs.Contacts.{same, among, without}
 use Rattle.kad_base.proofs.Contacts.{same_back, among_more, contact_total}
@@ -206,7 +207,7 @@ pub asked_on_distinct : (s : Setting) (p : ℕ) (J : List Entry) → Legal s J �
 unfolding asked_on IsDistinct
 asked_on_distinct s p = along (λ J. IsDistinct same (asked_on p J)) s tt (λ J e l d f. subst (IsDistinct same) (sym (asked_on_more p J e)) (asked_on_step s J e p d f))
 
-pub asks_few : (s : Setting) (J : List Entry) (p : ℕ) → s.k < 256 → Legal s J → length (asked_on p J) ≤ 256
+pub asks_few : (s : Setting) (J : List Entry) (p : ℕ) → s.k < max_path_contacts → Legal s J → length (asked_on p J) ≤ max_path_contacts
 asks_few s J p k l =
     let have = path_few s J k l p in
     let fewer = length-le_from_is_member (eq_by_cmp_equiv contact_total) (asked_on p J) (path p J) (asked_on_distinct s p J l) (λ c h. asked_on_path s J l p c h) in

@@ -5,6 +5,7 @@ use Rattle.std.specs.List.{All}
 use Rattle.std.specs.List.Sorted.{IsStrictlySortedBy}
 use Rattle.std.proofs.lemmas.List.{length-append, length-set, get_or-set_same, get_or-set_other}
 use Rattle.std.proofs.lemmas.Bool.{eq-eqb, ne_eqb, eqb-true, cases_eq}
+use Rattle.kad_base.specs.Limits.{max_path_contacts}
 use Rattle.kad_base.specs.declared.plain.Contact.{Contact}
 use Rattle.kad_base.specs.declared.plain.Report.{Report}
 use Rattle.kad_base.specs.Contacts.{among, without}
@@ -246,8 +247,8 @@ fresh_few : (p : ℕ) (J : List Entry) → length (fresh_on p J) ≤ length (pat
 fresh_few p J = (let a = near_few p J in let b = few_kept (λ c. not (among (asked J) c)) (alive p J) in omega arith)
 
 -- where the path isn't full there is room in both
-pub near_fits : (s : Setting) (J : List Entry) (p : ℕ) (x : Path) → IsPath s J p x → length (path p J) < 256 → length x.near.items < vec_capacity x.near
+pub near_fits : (s : Setting) (J : List Entry) (p : ℕ) (x : Path) → IsPath s J p x → length (path p J) < max_path_contacts → length x.near.items < vec_capacity x.near
 near_fits s J p x h few = (let a = ap length h.sorted in let b = once_few (closeness s.target) (alive p J) in let d = near_few p J in let r = h.near_room in omega arith)
 
-pub fresh_fits : (s : Setting) (J : List Entry) (p : ℕ) (x : Path) → IsPath s J p x → length (path p J) < 256 → length x.fresh.items < vec_capacity x.fresh
+pub fresh_fits : (s : Setting) (J : List Entry) (p : ℕ) (x : Path) → IsPath s J p x → length (path p J) < max_path_contacts → length x.fresh.items < vec_capacity x.fresh
 fresh_fits s J p x h few = (let a = ap length h.unasked in let b = once_few (closeness s.target) (fresh_on p J) in let d = fresh_few p J in let r = h.fresh_room in omega arith)

@@ -1,6 +1,7 @@
 -- Each reply leaves a legal journal.
 use Rattle.std.proofs.Common.{◌≡◌, ℕ, ◌+◌, ◌≤◌, List, [], ◌∷◌, ◌++◌, length, Option, Some, None, true, refl, subst}
 use Rattle.std.proofs.lemmas.Bool.{eq-eqb}
+use Rattle.kad_base.specs.Limits.{max_reports}
 use Rattle.kad_base.specs.declared.plain.Contact.{Contact}
 use Rattle.kad_base.specs.declared.plain.Report.{Report}
 use Rattle.kad_base.specs.Contacts.{among}
@@ -49,7 +50,7 @@ noted_less s J p c h = unsettled_less s J (Note_entry p c) p h (eq-eqb p p refl)
 abbrev LegalBook : BookState → Type 0
 LegalBook b = Legal b.setting b.journal
 
-heard_legal : (b : BookState) (c : Contact) (reports : List Report) → length reports ≤ 16 → LegalBook b → among (open_any b.journal) c ≡ true → LegalBook (added b (Heard_entry (asker c b.journal) c reports))
+heard_legal : (b : BookState) (c : Contact) (reports : List Report) → length reports ≤ max_reports → LegalBook b → among (open_any b.journal) c ≡ true → LegalBook (added b (Heard_entry (asker c b.journal) c reports))
 heard_legal b c reports few l h = legal_more b.setting b.journal (Heard_entry (asker c b.journal) c reports) l (open_on_asker b.journal c h, few)
 
 settle_legal : (b : BookState) (p : ℕ) (checked : CheckedState) (reply : BookReply) (o : Option Entry) → LegalBook b → SettleStep b.setting b.journal p checked reply → settle_entry p checked.report reply ≡ o → LegalBook (with_entry b o)

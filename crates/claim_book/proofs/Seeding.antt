@@ -6,6 +6,7 @@ use Rattle.std.specs.List.Sorted.{IsStrictlySortedBy}
 use Rattle.std.specs.declared.cmp.Ordering.{Ordering}
 use Rattle.std.specs.declared.cmp.Ordering.TheVariants.{Less}
 use Rattle.std.proofs.lemmas.List.{take_more, take_all, length-take-le}
+use Rattle.kad_base.specs.Limits.{max_path_contacts}
 use Rattle.kad_base.specs.declared.plain.Contact.{Contact}
 use Rattle.kad_base.specs.Contacts.{without, IsUsable}
 use Rattle.kad_distance.specs.Order.{closeness}
@@ -121,7 +122,7 @@ seeded_room d n cs =
     let opens : length (without (asked J) (answered J ++ failed J)) ≡ 0 = ap (λ l. length (without l (answered J ++ failed J))) (seeded_asked d 0 cs) in
     omega (arith, seeded_rooms d cs n)
 
-pub book_new : (s : Setting) (cs : List Contact) (J : List Entry) (owed room : ℕ) → J ≡ seeded s.paths cs → 0 < s.paths → s.paths < 256 → s.k < 256 → length cs ≤ s.k → IsStrictlySortedBy (closeness s.target) cs → All (IsUsable s.own) cs → owed ≡ 2 * length cs → length cs + owed ≤ room → IsBook s J owed room
+pub book_new : (s : Setting) (cs : List Contact) (J : List Entry) (owed room : ℕ) → J ≡ seeded s.paths cs → 0 < s.paths → s.paths < 256 → s.k < max_path_contacts → length cs ≤ s.k → IsStrictlySortedBy (closeness s.target) cs → All (IsUsable s.own) cs → owed ≡ 2 * length cs → length cs + owed ≤ room → IsBook s J owed room
 book_new s cs J owed room is some_path few_paths small few sorted usable enough fits =
     record {
       legal = subst (Legal s) (sym is) (legal_seeded s cs few sorted usable);

@@ -1,5 +1,6 @@
 -- The book as an object whose calls are steps: who may make which call, when each reply comes, and what it leaves.
 use Rattle.std.specs.Prelude.{◌≡◌, ◌≢◌, ℕ, ◌-◌, ◌<◌, ◌≤◌, [], List, length, Option, Some, None, true, false, get_or}
+use Rattle.kad_base.specs.Limits.{max_path_contacts, max_reports}
 use Rattle.kad_base.specs.declared.plain.Contact.{Contact}
 use Rattle.kad_base.specs.declared.plain.Report.{Report}
 use Rattle.kad_base.specs.Contacts.{among, IsUsable}
@@ -22,7 +23,7 @@ use Rattle.claim_book.specs.State.{BookState, added}
 -- role 0 drives, role p + 1 settles on path p
 abbrev pub BookMay : ℕ → BookCall → Type 0
 BookMay role (Next p) = role ≡ 0
-BookMay role (Heard c reports) = (role ≡ 0) × (length reports ≤ 16)
+BookMay role (Heard c reports) = (role ≡ 0) × (length reports ≤ max_reports)
 BookMay role (Lost c cause) = role ≡ 0
 BookMay role Finish = role ≡ 0
 BookMay role Pull = role ≢ 0
@@ -109,8 +110,10 @@ abbrev pub SettleStep : Setting → List Entry → ℕ → CheckedState → Book
 SettleStep s J p checked Skipped = IsFront s J p checked × ¬ IsUsable s.own checked.report.contact
 SettleStep s J p checked Rejected = IsFront s J p checked × IsUsable s.own checked.report.contact × ¬ Passes s.policy checked.report
 SettleStep s J p checked (Held q) = IsSound s J p checked × (among (path q J) checked.report.contact ≡ true)
-SettleStep s J p checked Turned = IsSound s J p checked × (among (took J) checked.report.contact ≡ false) × (length (path p J) ≡ 256)
-SettleStep s J p checked Taken = IsSound s J p checked × (among (took J) checked.report.contact ≡ false) × (length (path p J) < 256)
+SettleStep s J p checked Turned =
+    IsSound s J p checked × (among (took J) checked.report.contact ≡ false) × (length (path p J) ≡ max_path_contacts)
+SettleStep s J p checked Taken =
+    IsSound s J p checked × (among (took J) checked.report.contact ≡ false) × (length (path p J) < max_path_contacts)
 SettleStep s J p checked NotFront = ¬ IsFront s J p checked
 SettleStep s J p checked other = ⊥
 

@@ -1,5 +1,6 @@
 -- What a book keeps to answer without its journal: each part is a filter of the journal.
 use Rattle.std.specs.Prelude.{◌≡◌, ℕ, ◌<◌, ◌≤◌, List, [], length, get_or, vec_capacity}
+use Rattle.kad_base.specs.Limits.{max_path_contacts}
 use Rattle.kad_distance.specs.Order.{closeness}
 use Rattle.kad_distance.specs.KClosest.{each_once}
 use Rattle.kad_base.specs.Contacts.{without}
@@ -21,8 +22,8 @@ pub record IsPath (s : Setting) (J : List Entry) (p : ℕ) (x : Path) : Type 0 w
   pub counted : x.count ≡ length (path p J)
   pub opened : x.opens ≡ length (open_on p J)
   pub queued : x.queue.items ≡ unsettled p J
-  pub near_room : 256 ≤ vec_capacity x.near
-  pub fresh_room : 256 ≤ vec_capacity x.fresh
+  pub near_room : max_path_contacts ≤ vec_capacity x.near
+  pub fresh_room : max_path_contacts ≤ vec_capacity x.fresh
 
 -- that of every path
 pub record IsPaths (s : Setting) (J : List Entry) (xs : List Path) : Type 0 where
@@ -51,5 +52,5 @@ pub record IsEmptyPath (x : Path) : Type 0 where
   pub no_count : x.count ≡ 0
   pub no_opens : x.opens ≡ 0
   pub no_queue : x.queue.items ≡ []
-  pub near_room : 256 ≤ vec_capacity x.near
-  pub fresh_room : 256 ≤ vec_capacity x.fresh
+  pub near_room : max_path_contacts ≤ vec_capacity x.near
+  pub fresh_room : max_path_contacts ≤ vec_capacity x.fresh

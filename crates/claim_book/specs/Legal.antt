@@ -1,6 +1,7 @@
 -- Which entry may follow a journal.
 use Rattle.std.specs.Prelude.{◌≡◌, ℕ, ◌+◌, ◌%◌, ◌<◌, ◌≤◌, List, [], ◌∷◌, ◌++◌, length, Some, Bool, true, false, ◌==◌}
 use Rattle.std.specs.List.Sorted.{IsStrictlySortedBy}
+use Rattle.kad_base.specs.Limits.{max_path_contacts, max_reports}
 use Rattle.kad_base.specs.declared.plain.Contact.{Contact}
 use Rattle.kad_base.specs.declared.plain.Report.{Report}
 use Rattle.kad_base.specs.Contacts.{among, IsUsable}
@@ -32,14 +33,14 @@ pub record Believed (s : Setting) (J : List Entry) (q : ℕ) (c : Contact) : Typ
 abbrev pub Fits : Setting → List Entry → Entry → Type 0
 Fits s J (Seed q c) = SeedFits s J q c
 Fits s J (Ask q c) = may_ask s q J ≡ Some c
-Fits s J (Heard q c reports) = (among (open_on q J) c ≡ true) × (length reports ≤ 16)
+Fits s J (Heard q c reports) = (among (open_on q J) c ≡ true) × (length reports ≤ max_reports)
 Fits s J (Lost q c cause) = among (open_on q J) c ≡ true
 Fits s J (Note q c) = first_unsettled q J ≡ Some (Responder c)
 Fits s J (Skipped q r) = (first_unsettled q J ≡ Some (Told r)) × ¬ IsUsable s.own r.contact
 Fits s J (Rejected q r) = (first_unsettled q J ≡ Some (Told r)) × IsUsable s.own r.contact × ¬ Passes s.policy r
 Fits s J (Held q c by) = Believed s J q c × (among (path by J) c ≡ true)
-Fits s J (Turned q c) = Believed s J q c × (among (took J) c ≡ false) × (length (path q J) ≡ 256)
-Fits s J (Taken q c) = Believed s J q c × (among (took J) c ≡ false) × (length (path q J) < 256)
+Fits s J (Turned q c) = Believed s J q c × (among (took J) c ≡ false) × (length (path q J) ≡ max_path_contacts)
+Fits s J (Taken q c) = Believed s J q c × (among (took J) c ≡ false) × (length (path q J) < max_path_contacts)
 
 -- each of the entries may follow those before it
 abbrev pub LegalAfter : Setting → List Entry → List Entry → Type 0

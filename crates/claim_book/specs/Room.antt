@@ -1,6 +1,7 @@
 -- The room that a book keeps, so that no later call on the contacts that it knows takes memory.
 use Rattle.std.specs.Prelude.{ℕ, zero, suc, ◌+◌, ◌*◌, ◌<◌, ◌≤◌, List, length}
 use Rattle.std.specs.List.{sum_by}
+use Rattle.kad_base.specs.Limits.{max_path_contacts}
 use Rattle.kad_base.specs.Contacts.{without}
 use Rattle.claim_book.specs.declared.plain.Setting.{Setting}
 use Rattle.claim_book.specs.declared.plain.Thing.{Thing}
@@ -37,6 +38,6 @@ pub record IsBook (s : Setting) (J : List Entry) (owed room : ℕ) : Type 0 wher
   pub legal : Legal s J
   pub some_path : 0 < s.paths
   pub few_paths : s.paths < 256
-  pub small : s.k < 256
+  pub small : s.k < max_path_contacts
   pub all_owed : room_for s.paths J ≤ owed
   pub fits : length J + owed ≤ room

@@ -2,6 +2,7 @@
 ghost use Rattle.std.specs.Prelude.{◌≡◌, ◌<◌, ◌≤◌, ◌+◌, ◌*◌, ◌++◌, ◌∷◌, [], Some, true, length, vec_len, vec_capacity, OnOk, OnErr, IsSome};
 ghost use Rattle.std.specs.List.{All};
 ghost use Rattle.std.specs.VecDeque.{deque_capacity};
+ghost use Rattle.kad_base.specs.Limits.{max_reports};
 ghost use Rattle.kad_base.specs.declared.plain.Contact.{Contact};
 ghost use Rattle.kad_base.specs.Contacts.{among};
 ghost use Rattle.claim_book.specs.declared.plain.Entry.TheVariants.{Ask, Heard, Lost, Taken, Turned};
@@ -43,7 +44,7 @@ impl Book {
         reports: Reports,
     ) -> Result<(), NoMemory>
         requires asks { among (open_on path self.old.journal) contact ≡ true }
-        requires few { length reports ≤ 16 }
+        requires few { length reports ≤ max_reports }
         ensures ok { OnOk result (self.new ≡ added self.old (Heard path contact reports)) }
         ensures err { OnErr result (self.new ≡ self.old) }
     {
@@ -168,7 +169,7 @@ fn make_room(
     own: &Id,
     reports: &[Report],
 ) -> Result<(), NoMemory>
-    requires few { length reports.now ≤ 16 }
+    requires few { length reports.now ≤ max_reports }
     requires fits { length journal.old.items + owed ≤ vec_capacity journal.old }
     ensures journal { journal.new.items ≡ journal.old.items }
     ensures room { length journal.new.items + owed ≤ vec_capacity journal.new }

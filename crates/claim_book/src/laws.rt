@@ -1,6 +1,7 @@
 // Laws of legal journals.
 ghost use Rattle.std.specs.Prelude.{◌≡◌, ◌<◌, ◌≤◌, ◌*◌, ◌⊎◌, ◌++◌, ◌∷◌, [], List, ℕ, length, filter, true, IsSome};
 ghost use Rattle.std.specs.List.{IsDistinct};
+ghost use Rattle.kad_base.specs.Limits.{max_path_contacts};
 ghost use Rattle.kad_base.specs.declared.plain.Contact.{Contact};
 ghost use Rattle.kad_base.specs.Contacts.{same, among};
 ghost use Rattle.claim_book.specs.declared.plain.Setting.{Setting};
@@ -23,11 +24,14 @@ pub fn one_path()
     ensures { (s : Setting) (J : List Entry) (p q : ℕ) (c : Contact) → Legal s J → among (path p J) c ≡ true → among (path q J) c ≡ true → p ≡ q }
 {}
 
-/// A path has at most 256 contacts, so it asks at most 256, and all paths ask at most 256 each.
+/// A path has at most `MAX_PATH_CONTACTS` contacts, so it asks no more than that, and all paths no more than that each.
 pub fn bounded()
-    ensures path { (s : Setting) (J : List Entry) (p : ℕ) → s.k < 256 → Legal s J → length (path p J) ≤ 256 }
-    ensures asked_on { (s : Setting) (J : List Entry) (p : ℕ) → s.k < 256 → Legal s J → length (asked_on p J) ≤ 256 }
-    ensures asked { (s : Setting) (J : List Entry) → 0 < s.paths → s.k < 256 → Legal s J → length (asked J) ≤ 256 * s.paths }
+    ensures path { (s : Setting) (J : List Entry) (p : ℕ) → s.k < max_path_contacts
+        → Legal s J → length (path p J) ≤ max_path_contacts }
+    ensures asked_on { (s : Setting) (J : List Entry) (p : ℕ) → s.k < max_path_contacts
+        → Legal s J → length (asked_on p J) ≤ max_path_contacts }
+    ensures asked { (s : Setting) (J : List Entry) → 0 < s.paths → s.k < max_path_contacts
+        → Legal s J → length (asked J) ≤ max_path_contacts * s.paths }
 {}
 
 /// A path that has run out stays so, whatever other paths do: the next entry of it can only be a seed, and where no

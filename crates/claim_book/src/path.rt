@@ -2,6 +2,7 @@
 ghost use Rattle.std.specs.Prelude.{◌≡◌, ◌≤◌, ◌<◌, ◌+◌, ◌++◌, ◌∷◌, [], List, length, take, drop, filter, find, slice_get, IfOk, OnOk, vec_capacity, not, Bool};
 ghost use Rattle.std.specs.List.Sorted.{IsStrictlySortedBy};
 ghost use Rattle.std.specs.VecDeque.{deque_capacity};
+ghost use Rattle.kad_base.specs.Limits.{max_path_contacts};
 ghost use Rattle.kad_base.specs.declared.plain.Contact.{Contact};
 ghost use Rattle.kad_base.specs.Contacts.{same, among, without};
 ghost use Rattle.kad_distance.specs.Order.{closeness};
@@ -138,7 +139,7 @@ pub(crate) fn add_one(path: &mut Path, setting: &Setting, contact: &Contact)
     requires fresh_sorted { IsStrictlySortedBy (closeness setting.now.target) path.old.fresh.items }
     requires near_room { length path.old.near.items < vec_capacity path.old.near }
     requires fresh_room { length path.old.fresh.items < vec_capacity path.old.fresh }
-    requires few { path.old.count < 256 }
+    requires few { path.old.count < max_path_contacts }
     ensures near { path.new.near.items ≡ put (closeness setting.now.target) path.old.near.items contact.now }
     ensures near_room { vec_capacity path.old.near ≤ vec_capacity path.new.near }
     ensures fresh { path.new.fresh.items ≡ put (closeness setting.now.target) path.old.fresh.items contact.now }
@@ -158,7 +159,7 @@ pub(crate) fn take_one(path: &mut Path, setting: &Setting, contact: &Contact)
     requires fresh_sorted { IsStrictlySortedBy (closeness setting.now.target) path.old.fresh.items }
     requires near_room { length path.old.near.items < vec_capacity path.old.near }
     requires fresh_room { length path.old.fresh.items < vec_capacity path.old.fresh }
-    requires few { path.old.count < 256 }
+    requires few { path.old.count < max_path_contacts }
     ensures near { path.new.near.items ≡ put (closeness setting.now.target) path.old.near.items contact.now }
     ensures near_room { vec_capacity path.old.near ≤ vec_capacity path.new.near }
     ensures fresh { path.new.fresh.items ≡ put (closeness setting.now.target) path.old.fresh.items contact.now }

@@ -1,5 +1,6 @@
 //! What a book says of its paths and contacts, by its index.
 ghost use Rattle.std.specs.Prelude.{◌≡◌, ◌↔◌, ◌<◌, ℕ, IsTrue, Some, MatchOption, true, false, length, slice_get, IfOk};
+ghost use Rattle.kad_base.specs.Limits.{max_path_contacts};
 ghost use Rattle.kad_base.specs.Contacts.{among};
 ghost use Rattle.claim_book.specs.declared.plain.Thing.TheVariants.{Responder, Told};
 ghost use Rattle.claim_book.specs.Journal.{holders, path as path_of_journal, open_any, first_unsettled, may_ask};
@@ -150,7 +151,7 @@ impl Book {
 
     /// Whether the path has as many contacts as a path can have, those that were lost among them.
     fn is_full(&self, path: u8) -> bool
-        ensures { IsTrue result ↔ (length (path_of_journal path self.now.journal) ≡ 256) }
+        ensures { IsTrue result ↔ (length (path_of_journal path self.now.journal) ≡ max_path_contacts) }
     {
         if path >= self.setting.paths {
             return false;

@@ -2,6 +2,7 @@
 ghost use Rattle.std.specs.Prelude.{◌≡◌, ◌≤◌, ◌<◌, ◌++◌, ◌∷◌, [], length, take, map, IfOk, OnOk, get_or, ℕ, vec_len, vec_capacity};
 ghost use Rattle.std.specs.List.{All};
 ghost use Rattle.std.specs.List.Sorted.{IsStrictlySortedBy};
+ghost use Rattle.kad_base.specs.Limits.{max_path_contacts};
 ghost use Rattle.kad_base.specs.Contacts.{IsUsable};
 ghost use Rattle.kad_distance.specs.Order.{closeness};
 ghost use Rattle.claim_book.specs.declared.path.Path.{Path};
@@ -47,7 +48,7 @@ pub(crate) fn seed(
 ) -> Result<(), NoMemory>
     requires some_path { 0 < setting.now.paths }
     requires few { length seeds.now ≤ setting.now.k }
-    requires small { setting.now.k < 256 }
+    requires small { setting.now.k < max_path_contacts }
     requires in_order { IsStrictlySortedBy (closeness setting.now.target) seeds.now }
     requires usable { All (IsUsable setting.now.own) seeds.now }
     requires empty { journal.old.items ≡ [] }

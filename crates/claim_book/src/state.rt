@@ -2,6 +2,7 @@
 ghost use Rattle.std.specs.Prelude.{◌≡◌, ℕ, ◌≤◌, ◌<◌, ◌^◌, length, IfOk, OnOk};
 ghost use Rattle.std.specs.List.{All};
 ghost use Rattle.std.specs.List.Sorted.{IsStrictlySortedBy};
+ghost use Rattle.kad_base.specs.Limits.{max_reports};
 ghost use Rattle.kad_base.specs.Contacts.{IsUsable};
 ghost use Rattle.kad_distance.specs.Order.{closeness};
 ghost use Rattle.claim_book.specs.declared.plain.Entry.TheVariants.{Heard, Lost, Note};
@@ -135,7 +136,7 @@ impl Book {
 
     /// The contact answered. Takes the memory for all later calls on what it reported.
     pub(crate) fn heard(&mut self, contact: Contact, reports: Reports) -> BookReply
-        requires { length reports ≤ 16 }
+        requires { length reports ≤ max_reports }
         ensures step { HeardStep self.old.journal contact result }
         ensures after { self.new ≡ after_kept self.old (Heard (asker contact self.old.journal) contact reports) result }
     {

@@ -1,5 +1,6 @@
 use Rattle.std.proofs.Common.{◌<◌, length, sym, ap, ◌∙◌, arith}
 use Rattle.std.proofs.lemmas.Bool.{eqb-true, eq-eqb}
+use Rattle.kad_base.specs.Limits.{max_path_contacts}
 use Rattle.claim_book.specs.State.{BookState}
 use Rattle.claim_book.specs.Journal.{path}
 use Rattle.claim_book.proofs.Forever.{past_contacts}
@@ -23,4 +24,4 @@ returns c =
     let lt : p < length c.self.inside.paths.items = (let a = c.self.invariant.paths.enough in let b = c.if-path-self.false in omega arith) in
     let x = path_at s J _ p c.index.result.now c.self.invariant.paths lt c.index.ensures in
     let here = x.counted ∙ ap (λ (b : BookState). length (path p b.journal)) c.self.view_is in
-    (λ h. sym here ∙ eqb-true c.index.result.now.count 256 h, λ full. eq-eqb c.index.result.now.count 256 (here ∙ full))
+    (λ h. sym here ∙ eqb-true c.index.result.now.count max_path_contacts h, λ full. eq-eqb c.index.result.now.count max_path_contacts (here ∙ full))

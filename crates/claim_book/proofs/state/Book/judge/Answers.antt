@@ -1,6 +1,7 @@
 use Rattle.std.proofs.Common.{◌≡◌, ◌≤◌, ◌<◌, ℕ, Bool, true, false, length, Some, ap, sym, subst, ◌∙◌, inl, inr, arith, rules}
 use Rattle.std.specs.Prelude.{slice_get}
 use Rattle.std.proofs.lemmas.Bool.{cases_lt}
+use Rattle.kad_base.specs.Limits.{max_path_contacts}
 use Rattle.kad_base.specs.declared.plain.Report.{Report}
 use Rattle.kad_base.specs.declared.plain.Policy.{Policy}
 use Rattle.kad_base.specs.Contacts.{IsUsable, among}
@@ -41,13 +42,13 @@ returns-then-is_full c =
     let passes = subst (λ (q : Policy). Passes q checked.report) policy (c.passes.ensures.0 c.if-not-passes.false) in
     let sound : IsSound s J c.args.path checked = record { front = record { first = first; policy = policy }; usable = usable; passes = passes } in
     let none = c.in-None.ensures ∙ ap (λ (b : BookState). slice_get (holders c.report-report.result.contact b.journal) 0) (sym c.self.view_is) in
-    let full : length (path c.args.path J) ≡ 256 = ap (λ (b : BookState). length (path c.args.path b.journal)) c.self.view_is ∙ c.is_full.ensures.0 c.if-is_full.true in
+    let full : length (path c.args.path J) ≡ max_path_contacts = ap (λ (b : BookState). length (path c.args.path b.journal)) c.self.view_is ∙ c.is_full.ensures.0 c.if-is_full.true in
     subst (λ (b : BookState). SettleStep b.setting b.journal c.args.path checked Turned) c.self.view_is
     (sound, ap (λ (x : Report). among (took J) x.contact) (sym r) ∙ no_holder J c.report-report.result.contact none, full)
 
-less : (n : ℕ) (b : Bool) → b ≡ false → (n ≡ 256 → b ≡ true) → n ≤ 256 → n < 256
+less : (n : ℕ) (b : Bool) → b ≡ false → (n ≡ max_path_contacts → b ≡ true) → n ≤ max_path_contacts → n < max_path_contacts
 less n true e f le = absurd cc
-less n false e f le = elim (cases_lt n 256) [ inl lt ↦ lt | inr ge ↦ (let is : n ≡ 256 = omega arith in let no = f is in absurd cc) ]
+less n false e f le = elim (cases_lt n max_path_contacts) [ inl lt ↦ lt | inr ge ↦ (let is : n ≡ max_path_contacts = omega arith in let no = f is in absurd cc) ]
 
 pub returns-else-is_full : goal.returns-else-is_full
 returns-else-is_full c =
@@ -63,6 +64,6 @@ returns-else-is_full c =
     let none = c.in-None.ensures ∙ ap (λ (b : BookState). slice_get (holders c.report-report.result.contact b.journal) 0) (sym c.self.view_is) in
     let few = path_few s J c.self.invariant.book.small c.self.invariant.book.legal c.args.path in
     let here = ap (λ (b : BookState). length (path c.args.path b.journal)) c.self.view_is in
-    let some_room : length (path c.args.path J) < 256 = less (length (path c.args.path J)) c.is_full.result c.if-is_full.false (λ full. c.is_full.ensures.1 (sym here ∙ full)) few in
+    let some_room : length (path c.args.path J) < max_path_contacts = less (length (path c.args.path J)) c.is_full.result c.if-is_full.false (λ full. c.is_full.ensures.1 (sym here ∙ full)) few in
     subst (λ (b : BookState). SettleStep b.setting b.journal c.args.path checked Taken) c.self.view_is
     (sound, ap (λ (x : Report). among (took J) x.contact) (sym r) ∙ no_holder J c.report-report.result.contact none, some_room)
