@@ -20,7 +20,7 @@ use Rattle.claim_book.specs.declared.plain.Entry.TheVariants.{Seed, Ask, Heard, 
 use Rattle.claim_book.specs.declared.path.Path.{Path}
 use Rattle.claim_book.specs.Journal.{path_of, ask_of, ask_on, answer_of, fail_of, holder_of, things_in, things_of, settles_on, took, path, asked, asked_on, answered, failed, open_on, alive, things, settled, unsettled, may_ask}
 use Rattle.claim_book.specs.Legal.{Fits, Legal, is_of}
-use Rattle.claim_book.specs.Index.{IsPath, IsPaths, IsEmptyPath, IsSettledOnly}
+use Rattle.claim_book.specs.Index.{IsPath, IsPaths, IsEmptyPath, IsSettledOnly, HasPlace}
 use Rattle.claim_book.proofs.More.{path_more}
 use Rattle.claim_book.proofs.Claims.{may_ask_says, open_says, asked_on_asked}
 use Rattle.claim_book.proofs.Unsettled.{unsettled_settle, unsettled_other, unsettled_kept}
@@ -236,7 +236,7 @@ rises s S cs e = subst (IsStrictlySortedBy (closeness s.target)) (sym e) (each_o
 pub near_rises : (s : Setting) (J : List Entry) (p : ℕ) (x : Path) → IsPath s J p x → IsStrictlySortedBy (closeness s.target) x.near.items
 near_rises s J p x h = rises s (alive p J) x.near.items h.sorted
 
-pub fresh_rises : (s : Setting) (J : List Entry) (p : ℕ) (x : Path) → IsPath s J p x → IsStrictlySortedBy (closeness s.target) x.fresh.items
+fresh_rises : (s : Setting) (J : List Entry) (p : ℕ) (x : Path) → IsPath s J p x → IsStrictlySortedBy (closeness s.target) x.fresh.items
 fresh_rises s J p x h = rises s (fresh_on p J) x.fresh.items h.unasked
 
 near_few : (p : ℕ) (J : List Entry) → length (alive p J) ≤ length (path p J)
@@ -247,8 +247,17 @@ fresh_few : (p : ℕ) (J : List Entry) → length (fresh_on p J) ≤ length (pat
 fresh_few p J = (let a = near_few p J in let b = few_kept (λ c. not (among (asked J) c)) (alive p J) in omega arith)
 
 -- where the path isn't full there is room in both
-pub near_fits : (s : Setting) (J : List Entry) (p : ℕ) (x : Path) → IsPath s J p x → length (path p J) < max_path_contacts → length x.near.items < vec_capacity x.near
+near_fits : (s : Setting) (J : List Entry) (p : ℕ) (x : Path) → IsPath s J p x → length (path p J) < max_path_contacts → length x.near.items < vec_capacity x.near
 near_fits s J p x h few = (let a = ap length h.sorted in let b = once_few (closeness s.target) (alive p J) in let d = near_few p J in let r = h.near_room in omega arith)
 
-pub fresh_fits : (s : Setting) (J : List Entry) (p : ℕ) (x : Path) → IsPath s J p x → length (path p J) < max_path_contacts → length x.fresh.items < vec_capacity x.fresh
+fresh_fits : (s : Setting) (J : List Entry) (p : ℕ) (x : Path) → IsPath s J p x → length (path p J) < max_path_contacts → length x.fresh.items < vec_capacity x.fresh
 fresh_fits s J p x h few = (let a = ap length h.unasked in let b = once_few (closeness s.target) (fresh_on p J) in let d = fresh_few p J in let r = h.fresh_room in omega arith)
+
+pub has_place : (s : Setting) (J : List Entry) (p : ℕ) (x : Path) → IsPath s J p x → length (path p J) < max_path_contacts → HasPlace s x
+has_place s J p x h few = record {
+  near_sorted = near_rises s J p x h;
+  fresh_sorted = fresh_rises s J p x h;
+  near_room = near_fits s J p x h few;
+  fresh_room = fresh_fits s J p x h few;
+  few = (let a = h.counted in omega arith);
+}

@@ -13,7 +13,7 @@ use Rattle.claim_book.specs.declared.plain.Setting.{Setting}
 use Rattle.claim_book.specs.declared.plain.Thing.{Thing}
 use Rattle.claim_book.specs.declared.plain.Entry.{Entry}
 use Rattle.claim_book.specs.declared.path.Path.{Path}
-use Rattle.claim_book.specs.Journal.{path, asked, answered, failed, open_any, open_on, alive, unsettled, first_unsettled, may_ask, askers, holders}
+use Rattle.claim_book.specs.Journal.{path, asked, answered, failed, open_any, open_on, alive, unsettled, first_unsettled, first_unasked, may_ask, askers, holders}
 use Rattle.claim_book.specs.Legal.{Legal}
 use Rattle.claim_book.specs.RunOut.{RunOut}
 use Rattle.claim_book.specs.Calls.{asker}
@@ -37,9 +37,13 @@ fresh_of s J p x h = h.unasked ∙ once_filter s.target (unasked J) (alive p J) 
 pub near_k : (s : Setting) (J : List Entry) (p : ℕ) (x : Path) → IsPath s J p x → take s.k x.near.items ≡ k_closest s.target s.k (alive p J)
 near_k s J p x h = ap (take s.k) h.sorted ∙ sym (least_take (closeness_total s.target) s.k (alive p J))
 
--- the first fresh one among the k nearest is whom the path may ask, where fewer are open than may be
-pub asks : (s : Setting) (J : List Entry) (p : ℕ) (x : Path) → IsPath s J p x → x.opens < s.alpha → find (λ c. not (among (asked J) c)) (take s.k x.near.items) ≡ may_ask s p J
-asks s J p x h few = ap (find (unasked J)) (near_k s J p x h) ∙ may_ask_near s p J (let a = h.opened in omega arith)
+-- the first fresh one among the k nearest is the first that nobody asked
+pub first_of : (s : Setting) (J : List Entry) (p : ℕ) (x : Path) → IsPath s J p x → find (λ c. not (among (asked J) c)) (take s.k x.near.items) ≡ first_unasked s p J
+first_of s J p x h = ap (find (unasked J)) (near_k s J p x h)
+
+-- it is whom the path may ask, where fewer are open than may be
+pub asks : (s : Setting) (J : List Entry) (p : ℕ) (x : Path) → IsPath s J p x → x.opens < s.alpha → first_unasked s p J ≡ may_ask s p J
+asks s J p x h few = may_ask_near s p J (let a = h.opened in omega arith)
 
 pub asks_full : (s : Setting) (J : List Entry) (p : ℕ) (x : Path) → IsPath s J p x → s.alpha ≤ x.opens → None ≡ may_ask s p J
 asks_full s J p x h le = sym (may_ask_full s p J (let a = h.opened in omega arith))
@@ -95,10 +99,10 @@ runs_out s p J (Some c) l none_open none_left e = (
     clash true e f = absurd cc
     clash false e f = absurd cc
 
-pub path_runs_out : (s : Setting) (J : List Entry) (p : ℕ) (x : Path) (o : Option Contact) → Legal s J → IsPath s J p x → x.opens ≤ 0 → (f : Option Thing) → f ≡ slice_get x.queue.items 0 → is_some f ≡ false → o ≡ find (λ c. not (among (asked J) c)) (take s.k x.near.items) → (is_none o ≡ true → RunOut s p J) × (RunOut s p J → is_none o ≡ true)
+pub path_runs_out : (s : Setting) (J : List Entry) (p : ℕ) (x : Path) (o : Option Contact) → Legal s J → IsPath s J p x → x.opens ≤ 0 → (f : Option Thing) → f ≡ slice_get x.queue.items 0 → is_some f ≡ false → o ≡ first_unasked s p J → (is_none o ≡ true → RunOut s p J) × (RunOut s p J → is_none o ≡ true)
 path_runs_out s J p x o l h shut f is none e =
     let few = h.opened in
-    runs_out s p J o l (nil_from_length (open_on p J) (omega arith)) (sym h.queued ∙ none_first x.queue.items (sym is ∙ no_one f none)) (e ∙ ap (find (unasked J)) (near_k s J p x h))
+    runs_out s p J o l (nil_from_length (open_on p J) (omega arith)) (sym h.queued ∙ none_first x.queue.items (sym is ∙ no_one f none)) e
   where
     no_one : (f : Option Thing) → is_some f ≡ false → f ≡ None
     no_one None e = refl

@@ -57,6 +57,10 @@ ask_within s J owed room m xs counts p c w f =
     let enough = w.paths.enough in
     omega arith
 
+-- what is kept of a path that is there
+pub path_here : (s : Setting) (J : List Entry) (owed room : ℕ) (m : Claims) (xs : List Path) (counts : Counts) (p : ℕ) (x : Path) → IsWhole s J owed room m xs counts → p < s.paths → x ≡ get_or xs p x → IsPath s J p x
+path_here s J owed room m xs counts p x w lt is = path_at s J xs p x w.paths (let n = w.paths.enough in omega arith) is
+
 pub open_within : (s : Setting) (J : List Entry) (owed room : ℕ) (m : Claims) (xs : List Path) (counts : Counts) (p : ℕ) (c : Contact) → IsWhole s J owed room m xs counts → among (open_on p J) c ≡ true → p < length xs
 open_within s J owed room m xs counts p c w f =
     let below = path_below s J p c w.book.some_path w.book.legal (asked_on_path s J w.book.legal p c (open_says p J c f).0) in
@@ -173,6 +177,16 @@ whole_wider s J K p owed room room' m n xs x y counts w lt is has same kept at n
   paths = paths_like s J p xs y lt w.paths (path_wider s J p x y (path_at s J xs p x w.paths lt at) near fresh count opens queue);
   counted = w.counted;
 })
+
+-- the same where a contact of the path is open, which it stays
+pub wider_open : (s : Setting) (J K : List Entry) (p : ℕ) (c : Contact) (owed room room' : ℕ) (m n : Claims) (xs : List Path) (x y : Path) (counts : Counts)
+    → IsWhole s J owed room m xs counts → among (open_on p J) c ≡ true → K ≡ J → length K + owed ≤ room' → ((c : Contact) → shown n c ≡ shown m c) → Keeps m n
+    → x ≡ get_or xs p x → y.near ≡ x.near → y.fresh ≡ x.fresh → y.count ≡ x.count → y.opens ≡ x.opens → y.queue.items ≡ x.queue.items
+    → IsWhole s K owed room' n (set xs p y) counts × (among (open_on p K) c ≡ true)
+wider_open s J K p c owed room room' m n xs x y counts w open_ is has same kept at near fresh count opens queue = (
+  whole_wider s J K p owed room room' m n xs x y counts w (open_within s J owed room m xs counts p c w open_) is has same kept at near fresh count opens queue,
+  subst (λ j. among (open_on p j) c ≡ true) (sym is) open_,
+)
 
 pub whole_heard : (s : Setting) (J K : List Entry) (p : ℕ) (c : Contact) (reports : List Report) (owed owed' room room' : ℕ) (m n : Claims) (xs : List Path) (x y : Path) (counts : Counts)
     → IsWhole s J owed room m xs counts → Fits s J (Heard p c reports) → K ≡ J ++ Heard p c reports ∷ [] → owed' + 1 ≡ owed + (3 * length reports + 1) → length K + owed' ≤ room'

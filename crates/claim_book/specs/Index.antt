@@ -1,8 +1,10 @@
 -- What a book keeps to answer without its journal: each part is a filter of the journal.
-use Rattle.std.specs.Prelude.{◌≡◌, ℕ, ◌<◌, ◌≤◌, List, [], length, get_or, vec_capacity}
+use Rattle.std.specs.Prelude.{◌≡◌, ℕ, ◌+◌, ◌<◌, ◌≤◌, List, [], length, get_or, vec_capacity}
+use Rattle.std.specs.List.Sorted.{IsStrictlySortedBy}
+use Rattle.kad_base.specs.declared.plain.Contact.{Contact}
 use Rattle.kad_base.specs.Limits.{max_path_contacts}
 use Rattle.kad_distance.specs.Order.{closeness}
-use Rattle.kad_distance.specs.KClosest.{each_once}
+use Rattle.kad_distance.specs.KClosest.{put, each_once}
 use Rattle.kad_base.specs.Contacts.{without}
 use Rattle.claim_book.specs.declared.plain.Setting.{Setting}
 use Rattle.claim_book.specs.declared.plain.Counts.{Counts}
@@ -36,6 +38,23 @@ pub record IsWhole (s : Setting) (J : List Entry) (owed room : ℕ) (m : Claims)
   pub map : IsMap s J m
   pub paths : IsPaths s J xs
   pub counted : Counted J counts
+
+-- the path is in order, and has room for one contact more
+pub record HasPlace (s : Setting) (x : Path) : Type 0 where
+  pub near_sorted : IsStrictlySortedBy (closeness s.target) x.near.items
+  pub fresh_sorted : IsStrictlySortedBy (closeness s.target) x.fresh.items
+  pub near_room : length x.near.items < vec_capacity x.near
+  pub fresh_room : length x.fresh.items < vec_capacity x.fresh
+  pub few : x.count < max_path_contacts
+
+-- the path has one contact more, which nobody asked, in its place
+pub record Gains (s : Setting) (c : Contact) (x y : Path) : Type 0 where
+  pub near : y.near.items ≡ put (closeness s.target) x.near.items c
+  pub near_room : vec_capacity x.near ≤ vec_capacity y.near
+  pub fresh : y.fresh.items ≡ put (closeness s.target) x.fresh.items c
+  pub fresh_room : vec_capacity x.fresh ≤ vec_capacity y.fresh
+  pub count : y.count ≡ x.count + 1
+  pub opens : y.opens ≡ x.opens
 
 -- the entry settles the first thing of path p, and no more comes of it
 abbrev pub IsSettledOnly : ℕ → Entry → Type 0

@@ -149,9 +149,10 @@ unsettled p J = drop (length (settled p J)) (things p J)
 unfoldable pub first_unsettled : ℕ → List Entry → Option Thing
 first_unsettled p J = slice_get (unsettled p J) 0
 
--- the closest of the k closest alive contacts of path p that was never asked, while fewer than alpha are open
+-- the closest of the k closest alive contacts of path p that was never asked
+abbrev pub first_unasked : Setting → ℕ → List Entry → Option Contact
+first_unasked s p J = find (λ c. not (among (asked J) c)) (k_closest s.target s.k (alive p J))
+
+-- the same, while fewer than alpha are open
 unfoldable pub may_ask : Setting → ℕ → List Entry → Option Contact
-may_ask s p J =
-    if nat_lt (length (open_on p J)) s.alpha
-    then find (λ c. not (among (asked J) c)) (k_closest s.target s.k (alive p J))
-    else None
+may_ask s p J = if nat_lt (length (open_on p J)) s.alpha then first_unasked s p J else None

@@ -2,13 +2,12 @@
 ghost use Rattle.std.specs.Prelude.{◌≡◌, ◌≤◌, ◌<◌, ◌+◌, ◌++◌, ◌∷◌, [], List, length, take, drop, filter, find, slice_get, IfOk, OnOk, vec_capacity, not, Bool};
 ghost use Rattle.std.specs.List.Sorted.{IsStrictlySortedBy};
 ghost use Rattle.std.specs.VecDeque.{deque_capacity};
-ghost use Rattle.kad_base.specs.Limits.{max_path_contacts};
 ghost use Rattle.kad_base.specs.declared.plain.Contact.{Contact};
 ghost use Rattle.kad_base.specs.Contacts.{same, among, without};
 ghost use Rattle.kad_distance.specs.Order.{closeness};
 ghost use Rattle.kad_distance.specs.KClosest.{put};
 ghost use Rattle.claim_book.specs.Journal.{things_in};
-ghost use Rattle.claim_book.specs.Index.{IsEmptyPath};
+ghost use Rattle.claim_book.specs.Index.{IsEmptyPath, HasPlace, Gains};
 
 use crate::plain::{Setting, Thing};
 use kad_base::limits::MAX_PATH_CONTACTS;
@@ -135,17 +134,8 @@ pub(crate) fn pass_one(path: &mut Path)
 
 /// The path has one contact more, in room that is there.
 pub(crate) fn add_one(path: &mut Path, setting: &Setting, contact: &Contact)
-    requires near_sorted { IsStrictlySortedBy (closeness setting.now.target) path.old.near.items }
-    requires fresh_sorted { IsStrictlySortedBy (closeness setting.now.target) path.old.fresh.items }
-    requires near_room { length path.old.near.items < vec_capacity path.old.near }
-    requires fresh_room { length path.old.fresh.items < vec_capacity path.old.fresh }
-    requires few { path.old.count < max_path_contacts }
-    ensures near { path.new.near.items ≡ put (closeness setting.now.target) path.old.near.items contact.now }
-    ensures near_room { vec_capacity path.old.near ≤ vec_capacity path.new.near }
-    ensures fresh { path.new.fresh.items ≡ put (closeness setting.now.target) path.old.fresh.items contact.now }
-    ensures fresh_room { vec_capacity path.old.fresh ≤ vec_capacity path.new.fresh }
-    ensures count { path.new.count ≡ path.old.count + 1 }
-    ensures opens { path.new.opens ≡ path.old.opens }
+    requires { HasPlace setting.now path.old }
+    ensures gains { Gains setting.now contact.now path.old path.new }
     ensures queue { path.new.queue ≡ path.old.queue }
 {
     put_near(&mut path.near, setting, contact);
@@ -155,17 +145,8 @@ pub(crate) fn add_one(path: &mut Path, setting: &Setting, contact: &Contact)
 
 /// The reported contact that stood first is now the path's, in room that is there.
 pub(crate) fn take_one(path: &mut Path, setting: &Setting, contact: &Contact)
-    requires near_sorted { IsStrictlySortedBy (closeness setting.now.target) path.old.near.items }
-    requires fresh_sorted { IsStrictlySortedBy (closeness setting.now.target) path.old.fresh.items }
-    requires near_room { length path.old.near.items < vec_capacity path.old.near }
-    requires fresh_room { length path.old.fresh.items < vec_capacity path.old.fresh }
-    requires few { path.old.count < max_path_contacts }
-    ensures near { path.new.near.items ≡ put (closeness setting.now.target) path.old.near.items contact.now }
-    ensures near_room { vec_capacity path.old.near ≤ vec_capacity path.new.near }
-    ensures fresh { path.new.fresh.items ≡ put (closeness setting.now.target) path.old.fresh.items contact.now }
-    ensures fresh_room { vec_capacity path.old.fresh ≤ vec_capacity path.new.fresh }
-    ensures count { path.new.count ≡ path.old.count + 1 }
-    ensures opens { path.new.opens ≡ path.old.opens }
+    requires { HasPlace setting.now path.old }
+    ensures gains { Gains setting.now contact.now path.old path.new }
     ensures queue { path.new.queue.items ≡ drop 1 path.old.queue.items }
 {
     pass_one(path);

@@ -3,10 +3,10 @@ ghost use Rattle.std.specs.Prelude.{◌≡◌, ◌↔◌, ◌<◌, ℕ, IsTrue, 
 ghost use Rattle.kad_base.specs.Limits.{max_path_contacts};
 ghost use Rattle.kad_base.specs.Contacts.{among};
 ghost use Rattle.claim_book.specs.declared.plain.Thing.TheVariants.{Responder, Told};
-ghost use Rattle.claim_book.specs.Journal.{holders, path as path_of_journal, open_any, first_unsettled, may_ask};
+ghost use Rattle.claim_book.specs.Journal.{holders, path as path_of_journal, open_any, first_unsettled, first_unasked, may_ask};
 ghost use Rattle.claim_book.specs.RunOut.{RunOut};
 ghost use Rattle.claim_book.specs.Result.{result_of};
-ghost use Rattle.claim_book.specs.Calls.{asker, Counted, IsNotYet, SettleStep};
+ghost use Rattle.claim_book.specs.Calls.{asker, Counted, IsNotYet, IsSound, SettleStep};
 
 use crate::calls::BookReply;
 use crate::claim_map::claim_at;
@@ -48,10 +48,18 @@ impl Book {
         if path >= self.setting.paths {
             return None;
         }
-        let here = &self.paths[path as usize];
-        if here.opens >= self.setting.alpha as usize {
+        if self.paths[path as usize].opens >= self.setting.alpha as usize {
             return None;
         }
+        self.first_unasked(path)
+    }
+
+    /// Of the k closest contacts of the path that were not lost, the first that nobody asked.
+    fn first_unasked(&self, path: u8) -> Option<Contact>
+        requires { path < self.now.setting.paths }
+        ensures { result ≡ first_unasked self.now.setting path self.now.journal }
+    {
+        let here = &self.paths[path as usize];
         first_fresh(
             &self.setting.target,
             here.near.as_slice(),
@@ -74,13 +82,7 @@ impl Book {
         if first_thing(here).is_some() {
             return false;
         }
-        let first = first_fresh(
-            &self.setting.target,
-            here.near.as_slice(),
-            here.fresh.as_slice(),
-            self.setting.k as usize,
-        );
-        first.is_none()
+        self.first_unasked(path).is_none()
     }
 
     /// The first path that has not run out.
@@ -151,7 +153,8 @@ impl Book {
 
     /// Whether the path has as many contacts as a path can have, those that were lost among them.
     fn is_full(&self, path: u8) -> bool
-        ensures { IsTrue result ↔ (length (path_of_journal path self.now.journal) ≡ max_path_contacts) }
+        ensures full { result ≡ true → length (path_of_journal path self.now.journal) ≡ max_path_contacts }
+        ensures room { result ≡ false → length (path_of_journal path self.now.journal) < max_path_contacts }
     {
         if path >= self.setting.paths {
             return false;
@@ -173,6 +176,15 @@ impl Book {
         if !checked.passes() {
             return BookReply::Rejected;
         }
+        self.judge_sound(path, checked)
+    }
+
+    /// The first rule that fits a report that may be believed.
+    fn judge_sound(&self, path: u8, checked: &Checked) -> BookReply
+        requires { IsSound self.now.setting self.now.journal path checked.now }
+        ensures { SettleStep self.now.setting self.now.journal path checked.now result }
+    {
+        let report = checked.report();
         match self.holder(&report.contact) {
             Some(by) => BookReply::Held { path: by },
             None => {

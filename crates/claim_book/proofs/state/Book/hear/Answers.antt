@@ -12,7 +12,7 @@ use Rattle.claim_book.specs.Claims.{IsKnown}
 use Rattle.claim_book.proofs.Mapped.{knows_open}
 use Rattle.claim_book.proofs.Filters.{some_open}
 use Rattle.claim_book.proofs.Pathed.{path_at}
-use Rattle.claim_book.proofs.Whole.{open_within, whole_wider, whole_heard}
+use Rattle.claim_book.proofs.Whole.{open_within, wider_open, whole_heard}
 use Rattle.claim_book.proofs.state.Book.hear.Goals as goal
 
 pub index_mut-requires : goal.index_mut-requires
@@ -23,24 +23,17 @@ index_mut-requires c =
 
 pub invariant_of-self : goal.invariant_of-self
 invariant_of-self c =
-    let s = c.self.inside.setting in
-    let J = c.self.inside.journal.items in
     let e = c.make_room.ensures in
     let fits = subst (λ (b : BookState). among (open_on c.args.path b.journal) c.args.contact ≡ true) (sym c.self.view_is) c.requires.asks in
-    let lt = open_within s J _ _ _ _ _ c.args.path c.args.contact c.self.invariant fits in
-    whole_wider s J _ c.args.path _ _ _ _ _ _ _ _ _ c.self.invariant lt e.journal e.room e.shown e.kept c.index_mut.ensures.value e.near e.fresh e.count e.opens e.queue
+    let w = wider_open _ _ c.make_room.new.journal.items c.args.path _ _ _ (vec_capacity c.make_room.new.journal) _ c.make_room.new.claims _ c.index_mut.result.now c.make_room.new.path _ c.self.invariant fits e.journal e.room e.shown e.kept c.index_mut.ensures.value e.near e.fresh e.count e.opens e.queue in
+    w.0
 
 pub mark_ended-requires : goal.mark_ended-requires
 mark_ended-requires c =
-    let s = c.self.inside.setting in
-    let J = c.self.inside.journal.items in
-    let p = c.args.path in
     let e = c.make_room.ensures in
     let fits = subst (λ (b : BookState). among (open_on c.args.path b.journal) c.args.contact ≡ true) (sym c.self.view_is) c.requires.asks in
-    let lt = open_within s J _ _ _ _ _ p c.args.contact c.self.invariant fits in
-    let w = whole_wider s J c.make_room.new.journal.items p _ _ (vec_capacity c.make_room.new.journal) _ c.make_room.new.claims _ c.index_mut.result.now c.make_room.new.path _ c.self.invariant lt e.journal e.room e.shown e.kept c.index_mut.ensures.value e.near e.fresh e.count e.opens e.queue in
-    let there = subst (λ j. among (open_on p j) c.args.contact ≡ true) (sym e.journal) fits in
-    record { known = knows_open s p c.make_room.new.journal.items c.make_room.new.claims c.args.contact w.book.legal w.map there }
+    let w = wider_open _ _ c.make_room.new.journal.items c.args.path _ _ _ (vec_capacity c.make_room.new.journal) _ c.make_room.new.claims _ c.index_mut.result.now c.make_room.new.path _ c.self.invariant fits e.journal e.room e.shown e.kept c.index_mut.ensures.value e.near e.fresh e.count e.opens e.queue in
+    record { known = knows_open c.self.inside.setting c.args.path c.make_room.new.journal.items c.make_room.new.claims c.args.contact w.0.book.legal w.0.map w.1 }
 
 pub index_mut-requires-2 : goal.index_mut-requires-2
 index_mut-requires-2 c =
@@ -51,18 +44,14 @@ index_mut-requires-2 c =
 
 pub hear_one-requires-clause-some : goal.hear_one-requires-clause-some
 hear_one-requires-clause-some c =
-    let s = c.self.inside.setting in
-    let J = c.self.inside.journal.items in
-    let p = c.args.path in
     let e = c.make_room.ensures in
     let fits = subst (λ (b : BookState). among (open_on c.args.path b.journal) c.args.contact ≡ true) (sym c.self.view_is) c.requires.asks in
-    let lt = open_within s J _ _ _ _ _ p c.args.contact c.self.invariant fits in
-    let w = whole_wider s J c.make_room.new.journal.items p _ _ (vec_capacity c.make_room.new.journal) _ c.make_room.new.claims _ c.index_mut.result.now c.make_room.new.path _ c.self.invariant lt e.journal e.room e.shown e.kept c.index_mut.ensures.value e.near e.fresh e.count e.opens e.queue in
-    let there = subst (λ j. among (open_on p j) c.args.contact ≡ true) (sym e.journal) fits in
-    let n = length-set c.self.inside.paths.items p c.make_room.new.path in
-    let x = path_at s c.make_room.new.journal.items _ p c.index_mut-2.result.now w.paths (omega arith) c.index_mut-2.ensures.value in
+    let w = wider_open _ _ c.make_room.new.journal.items c.args.path _ _ _ (vec_capacity c.make_room.new.journal) _ c.make_room.new.claims _ c.index_mut.result.now c.make_room.new.path _ c.self.invariant fits e.journal e.room e.shown e.kept c.index_mut.ensures.value e.near e.fresh e.count e.opens e.queue in
+    let lt = open_within _ _ _ _ _ _ _ c.args.path c.args.contact c.self.invariant fits in
+    let n = length-set c.self.inside.paths.items c.args.path c.make_room.new.path in
+    let x = path_at _ c.make_room.new.journal.items _ c.args.path c.index_mut-2.result.now w.0.paths (omega arith) c.index_mut-2.ensures.value in
     let opens = x.opened in
-    let some = some_open p c.make_room.new.journal.items c.args.contact there in
+    let some = some_open c.args.path c.make_room.new.journal.items c.args.contact w.1 in
     omega arith
 
 pub hear_one-requires-clause-room : goal.hear_one-requires-clause-room
@@ -75,16 +64,11 @@ hear_one-requires-clause-room c =
 
 pub invariant_of-self-2 : goal.invariant_of-self-2
 invariant_of-self-2 c =
-    let s = c.self.inside.setting in
-    let J = c.self.inside.journal.items in
-    let p = c.args.path in
     let e = c.make_room.ensures in
     let fits = subst (λ (b : BookState). among (open_on c.args.path b.journal) c.args.contact ≡ true) (sym c.self.view_is) c.requires.asks in
-    let lt = open_within s J _ _ _ _ _ p c.args.contact c.self.invariant fits in
-    let w = whole_wider s J c.make_room.new.journal.items p _ _ (vec_capacity c.make_room.new.journal) _ c.make_room.new.claims _ c.index_mut.result.now c.make_room.new.path _ c.self.invariant lt e.journal e.room e.shown e.kept c.index_mut.ensures.value e.near e.fresh e.count e.opens e.queue in
-    let there = subst (λ j. among (open_on p j) c.args.contact ≡ true) (sym e.journal) fits in
+    let w = wider_open _ _ c.make_room.new.journal.items c.args.path _ _ _ (vec_capacity c.make_room.new.journal) _ c.make_room.new.claims _ c.index_mut.result.now c.make_room.new.path _ c.self.invariant fits e.journal e.room e.shown e.kept c.index_mut.ensures.value e.near e.fresh e.count e.opens e.queue in
     let h = c.hear_one.ensures in
     let more : c.put.new.owed + 1 ≡ c.self.inside.owed + (3 * length c.args.reports + 1) = omega (arith, c.put.ensures.owed, c.len.ensures) in
-    let knows = subst (All (λ r. IsKnown s.own c.make_room.new.claims (Told r))) c.as_slice.ensures c.in-Ok.ensures.known in
+    let knows = subst (All (λ r. IsKnown c.self.inside.setting.own c.make_room.new.claims (Told r))) c.as_slice.ensures c.in-Ok.ensures.known in
     let gives = h.queue ∙ ap (λ l. c.index_mut-2.result.now.queue.items ++ things_in c.args.contact l) c.as_slice-2.ensures in
-    whole_heard s c.make_room.new.journal.items _ p c.args.contact c.args.reports _ _ _ _ _ _ _ _ _ _ w (there, c.requires.few) c.put.ensures.items more c.put.ensures.room knows c.mark_ended.ensures.each c.index_mut-2.ensures.value h.near h.fresh h.count h.opens gives
+    whole_heard _ c.make_room.new.journal.items _ c.args.path c.args.contact c.args.reports _ _ _ _ _ _ _ _ _ _ w.0 (w.1, c.requires.few) c.put.ensures.items more c.put.ensures.room knows c.mark_ended.ensures.each c.index_mut-2.ensures.value h.near h.fresh h.count h.opens gives

@@ -5,7 +5,7 @@ use Rattle.claim_book.specs.State.{BookState}
 use Rattle.claim_book.specs.Legal.{Fits}
 use Rattle.claim_book.proofs.Kept.{some_owed}
 use Rattle.claim_book.proofs.Mapped.{knows_front}
-use Rattle.claim_book.proofs.Pathed.{path_at, near_rises, fresh_rises, near_fits, fresh_fits}
+use Rattle.claim_book.proofs.Pathed.{path_at, has_place}
 use Rattle.claim_book.proofs.Whole.{settles_within, whole_taken}
 use Rattle.claim_book.proofs.state.Book.take.Goals as goal
 
@@ -25,54 +25,18 @@ index_mut-requires c =
     let lt = settles_within c.self.inside.setting c.self.inside.journal.items _ _ _ _ _ c.args.path (Taken c.args.path c.args.contact) c.self.invariant fits (eq-eqb c.args.path c.args.path refl) in
     omega arith
 
-pub take_one-requires-clause-near_sorted : goal.take_one-requires-clause-near_sorted
-take_one-requires-clause-near_sorted c =
+pub take_one-requires : goal.take_one-requires
+take_one-requires c =
     let s = c.self.inside.setting in
     let J = c.self.inside.journal.items in
     let fits = subst (λ (b : BookState). Fits b.setting b.journal (Taken c.args.path c.args.contact)) (sym c.self.view_is) c.requires in
     let lt = settles_within s J _ _ _ _ _ c.args.path (Taken c.args.path c.args.contact) c.self.invariant fits (eq-eqb c.args.path c.args.path refl) in
     let x = path_at s J _ c.args.path c.index_mut.result.now c.self.invariant.paths lt c.index_mut.ensures.value in
-    near_rises s J c.args.path c.index_mut.result.now x
-
-pub take_one-requires-clause-fresh_sorted : goal.take_one-requires-clause-fresh_sorted
-take_one-requires-clause-fresh_sorted c =
-    let s = c.self.inside.setting in
-    let J = c.self.inside.journal.items in
-    let fits = subst (λ (b : BookState). Fits b.setting b.journal (Taken c.args.path c.args.contact)) (sym c.self.view_is) c.requires in
-    let lt = settles_within s J _ _ _ _ _ c.args.path (Taken c.args.path c.args.contact) c.self.invariant fits (eq-eqb c.args.path c.args.path refl) in
-    let x = path_at s J _ c.args.path c.index_mut.result.now c.self.invariant.paths lt c.index_mut.ensures.value in
-    fresh_rises s J c.args.path c.index_mut.result.now x
-
-pub take_one-requires-clause-near_room : goal.take_one-requires-clause-near_room
-take_one-requires-clause-near_room c =
-    let s = c.self.inside.setting in
-    let J = c.self.inside.journal.items in
-    let fits = subst (λ (b : BookState). Fits b.setting b.journal (Taken c.args.path c.args.contact)) (sym c.self.view_is) c.requires in
-    let lt = settles_within s J _ _ _ _ _ c.args.path (Taken c.args.path c.args.contact) c.self.invariant fits (eq-eqb c.args.path c.args.path refl) in
-    let x = path_at s J _ c.args.path c.index_mut.result.now c.self.invariant.paths lt c.index_mut.ensures.value in
-    near_fits s J c.args.path c.index_mut.result.now x fits.2
-
-pub take_one-requires-clause-fresh_room : goal.take_one-requires-clause-fresh_room
-take_one-requires-clause-fresh_room c =
-    let s = c.self.inside.setting in
-    let J = c.self.inside.journal.items in
-    let fits = subst (λ (b : BookState). Fits b.setting b.journal (Taken c.args.path c.args.contact)) (sym c.self.view_is) c.requires in
-    let lt = settles_within s J _ _ _ _ _ c.args.path (Taken c.args.path c.args.contact) c.self.invariant fits (eq-eqb c.args.path c.args.path refl) in
-    let x = path_at s J _ c.args.path c.index_mut.result.now c.self.invariant.paths lt c.index_mut.ensures.value in
-    fresh_fits s J c.args.path c.index_mut.result.now x fits.2
-
-pub take_one-requires-clause-few : goal.take_one-requires-clause-few
-take_one-requires-clause-few c =
-    let s = c.self.inside.setting in
-    let J = c.self.inside.journal.items in
-    let fits = subst (λ (b : BookState). Fits b.setting b.journal (Taken c.args.path c.args.contact)) (sym c.self.view_is) c.requires in
-    let lt = settles_within s J _ _ _ _ _ c.args.path (Taken c.args.path c.args.contact) c.self.invariant fits (eq-eqb c.args.path c.args.path refl) in
-    let x = path_at s J _ c.args.path c.index_mut.result.now c.self.invariant.paths lt c.index_mut.ensures.value in
-    (let a = x.counted in let b = fits.2 in omega arith)
+    has_place s J c.args.path c.index_mut.result.now x fits.2
 
 pub invariant_of-self : goal.invariant_of-self
 invariant_of-self c =
     let fits = subst (λ (b : BookState). Fits b.setting b.journal (Taken c.args.path c.args.contact)) (sym c.self.view_is) c.requires in
-    let e = c.take_one.ensures in
+    let e = c.take_one.ensures.gains in
     whole_taken c.self.inside.setting c.self.inside.journal.items _ c.args.path c.args.contact _ _ _ _ _ _ _ _ _ _ c.self.invariant fits
-    c.put.ensures.items c.put.ensures.owed c.put.ensures.room c.mark_taken.ensures.each c.index_mut.ensures.value e.near e.near_room e.fresh e.fresh_room e.count e.opens e.queue
+    c.put.ensures.items c.put.ensures.owed c.put.ensures.room c.mark_taken.ensures.each c.index_mut.ensures.value e.near e.near_room e.fresh e.fresh_room e.count e.opens c.take_one.ensures.queue
