@@ -363,32 +363,26 @@ is_done book after o same found journal legal =
 
 -- ---- the whole
 
--- a lookup that goes its rounds from its opening to where it is over
-pub done_from : (look : LookSetting) (words words' : WordsState) (table table' : TableState) (book : BookState) (moment : ℕ) (begun_ work : Work) (told mid told' : Option (List Event)) (o : Outcome) → Opening look words table table' book moment begun_ told mid → IsOver look words words' begun_ work mid told' → IsDone work.book o
-    → Done look words words' table work told told' o
-done_from look words words' table table' book moment begun_ work told mid told' o opening over done = record {
-  keeps = over.keeps;
-  none_open = over.none_open;
-  settled = over.settled;
-  none_asks = over.none_asks;
-  along = over.goes words table told (along_of look words table table' book moment begun_ told mid opening);
-  done = done;
-}
-
 pub opening_of : (look : LookSetting) (words : WordsState) (table table' : TableState) (book : BookState) (moment : ℕ) (work : Work) (told told' : Option (List Event)) → IsBookOf look table book → TableTold (asks_seeds look) table table' → IsBegun book table' moment work → Grows told told' (λ es. es ≡ Now moment ∷ []) → words.place < 2 ^ 59
     → Opening look words table table' book moment work told told'
 opening_of look words table table' book moment work told told' b t w g lt = record { book_of = b; tabled = t; begun_at = w; grows = g; place = lt }
 
--- a lookup that was over, and for which there was no memory
-pub over_left : (look : LookSetting) (words words' : WordsState) (table table' : TableState) (book : BookState) (moment : ℕ) (begun_ work : Work) (told mid told' : Option (List Event)) → Opening look words table table' book moment begun_ told mid → IsOver look words words' begun_ work mid told' → Legal work.book.setting work.book.journal
-    → Ended look words table told words' work.table told'
-over_left look words words' table table' book moment begun_ work told mid told' opening over legal =
-    over_ended look words words' table work told told' look.paths look.paths (subst (λ (s : Setting). Legal s work.book.journal) over.keeps.setting legal) (over.goes words table told (along_of look words table table' book moment begun_ told mid opening))
+-- what a lookup that is over leaves, whether or not there is memory for what it found
+pub record Ends (look : LookSetting) (words words' : WordsState) (table : TableState) (work : Work) (told told' : Option (List Event)) : Type 0 where
+  pub done : (o : Outcome) → IsDone work.book o → Done look words words' table work told told' o
+  pub left : Ended look words table told words' work.table told'
+  pub few : Grows told told' (λ events. ¬ EndsAtStray (given_of look words) events max_strays)
 
-pub few_over : (look : LookSetting) (words words' : WordsState) (table table' : TableState) (book : BookState) (moment : ℕ) (begun_ work : Work) (told mid told' : Option (List Event)) → Opening look words table table' book moment begun_ told mid → IsOver look words words' begun_ work mid told'
-    → Grows told told' (λ events. ¬ EndsAtStray (given_of look words) events max_strays)
-few_over look words words' table table' book moment begun_ work told mid told' opening over =
-    few_along look words table told words' work look.paths look.paths told' over.keeps.few_strays (over.goes words table told (along_of look words table table' book moment begun_ told mid opening))
+-- it went its rounds from its opening
+pub ends_of : (look : LookSetting) (words words' : WordsState) (table table' : TableState) (book : BookState) (moment : ℕ) (begun_ work : Work) (told mid told' : Option (List Event)) → Opening look words table table' book moment begun_ told mid → IsOver look words words' begun_ work mid told'
+    → Legal work.book.setting work.book.journal → Ends look words words' table work told told'
+ends_of look words words' table table' book moment begun_ work told mid told' opening over legal =
+    let along = over.goes words table told (along_of look words table table' book moment begun_ told mid opening) in
+    record {
+      done = λ o d. record { keeps = over.keeps; none_open = over.none_open; settled = over.settled; none_asks = over.none_asks; along = along; done = d };
+      left = over_ended look words words' table work told told' look.paths look.paths (subst (λ (s : Setting). Legal s work.book.journal) over.keeps.setting legal) along;
+      few = few_along look words table told words' work look.paths look.paths told' over.keeps.few_strays along;
+    }
 
 pub ok_three : {T F : Type 0} (r : Result T F) (P Q R S : T → Type 0) → IfOk r P → IfOk r Q → IfOk r R → ((x : T) → P x → Q x → R x → S x) → IfOk r S
 ok_three (Ok x) P Q R S a b c k = k x a b c
