@@ -35,7 +35,7 @@ use Rattle.lookup_run.specs.declared.plain.Work.{Work}
 use Rattle.lookup_run.specs.Tells.{OpenQuery, Seen, driven, gives, deadline_of, query_message, query_of}
 use Rattle.lookup_run.specs.Rounds.{path_number, AllSettled, NoneAsks}
 use Rattle.lookup_run.specs.Lookup.{setting_of, given_of, drawn_for, IsWithinLimits}
-use Rattle.lookup_run.specs.Standing.{as_open, IsBare, Keeps, HasWords, weight_of, Stands}
+use Rattle.lookup_run.specs.Standing.{as_open, IsBare, Keeps, HasWords, max_asks, weight_of, Stands}
 use Rattle.lookup_run.specs.Steps.{Asks, AsksNone}
 use Rattle.lookup_run.proofs.Walking.{OneEvent, NextStep, along_next, along_later, table_same}
 use Rattle.lookup_run.proofs.Opens.{opens_ask, opens_lost, opens_kept, each_asked, asker_new, without_one, opens_distinct}
@@ -189,7 +189,7 @@ unsent_step look p c tx words words' old new a rest book queries =
       next = λ start is s st asc. unsent_event look p c tx words words' start old new s a rest book queries is st asc;
     }
 
-few_asks : (look : LookSetting) (J : List Entry) → IsWithinLimits look → Legal (setting_of look) J → length (asked J) ≤ 2048
+few_asks : (look : LookSetting) (J : List Entry) → IsWithinLimits look → Legal (setting_of look) J → length (asked J) ≤ max_asks
 few_asks look J limits l =
     let few = asked_few (setting_of look) J (let a = limits.some_path in omega arith) (let a = limits.few in omega arith) l in
     let paths = limits.few_paths in
@@ -210,7 +210,7 @@ sent_asks look p c tx words words' old new told told' a rest book queries grows 
     let q = the_query look c tx old in
     let k = a.keeps in
     let one : length (asked new.book.journal) ≡ length (asked J) + 1 = ap (λ K. length (asked K)) journal ∙ ask_counts p J c in
-    let few : length (asked new.book.journal) ≤ 2048 = subst (λ K. length (asked K) ≤ 2048) (sym journal) (few_asks look J' a.limits (legal_more (setting_of look) J (Ask p c) a.legal a.may)) in
+    let few : length (asked new.book.journal) ≤ max_asks = subst (λ K. length (asked K) ≤ max_asks) (sym journal) (few_asks look J' a.limits (legal_more (setting_of look) J (Ask p c) a.legal a.may)) in
     let longer : length new.queries ≡ length old.queries + 1 = ap length queries ∙ length-append old.queries (q ∷ []) in
     let same_strays : new.stand.strays ≡ old.stand.strays = ap (λ (x : Stand). x.strays) rest.stand in
     let less : weight_of new < weight_of old = omega (arith, one, few, longer, same_strays) in
@@ -259,7 +259,7 @@ unsent_asks look p c tx words words' old new told told' a rest book queries grow
     let l1 = legal_more (setting_of look) J (Ask p c) a.legal a.may in
     let on : among (path p J1) c ≡ true = on_path_still p J c (may_ask_on_path (setting_of look) p J c a.may) in
     let one : length (asked new.book.journal) ≡ length (asked J) + 1 = ap (λ K. length (asked K)) journal ∙ lost_counts p p J c c in
-    let few : length (asked new.book.journal) ≤ 2048 = (let x = few_asks look J1 a.limits l1 in let y = ask_counts p J c in omega (arith, x, y, one)) in
+    let few : length (asked new.book.journal) ≤ max_asks = (let x = few_asks look J1 a.limits l1 in let y = ask_counts p J c in omega (arith, x, y, one)) in
     let same_queries : length new.queries ≡ length old.queries = ap length queries in
     let same_strays : new.stand.strays ≡ old.stand.strays = ap (λ (x : Stand). x.strays) rest.stand in
     let less : weight_of new < weight_of old = omega (arith, one, few, same_queries, same_strays) in

@@ -36,7 +36,7 @@ use Rattle.lookup_run.specs.Tells.{Given, OpenQuery, Seen, is_driven, driven, de
 use Rattle.lookup_run.specs.Rounds.{WaitsInTurn, InTurn}
 use Rattle.lookup_run.specs.Gathered.{Answered, HeardIn, Hears}
 use Rattle.lookup_run.specs.Lookup.{setting_of, given_of, told_of, TableTold}
-use Rattle.lookup_run.specs.Standing.{IsBare, IsReply, as_open, Keeps, Stands}
+use Rattle.lookup_run.specs.Standing.{IsBare, IsReply, as_open, Keeps, max_asks, Stands}
 use Rattle.lookup_run.specs.Steps.{query_to, IsDue, WaitsFor, goes_round, RepliesToNone, HearsIn, KeepsFor, Expires, IsStrayFor, IsMatchFor, TakesDatagram, MayReceive, ReceivesOne}
 use Rattle.lookup_run.proofs.Walking.{OneEvent, NextStep, along_next, seeds_append}
 use Rattle.lookup_run.proofs.Opens.{opens_heard, opens_lost, opens_distinct, opens_kept, without_one, each_asked}
@@ -379,10 +379,10 @@ receives_one look at old new first left e told told' l keeps strays round bare l
       goes = λ words b a. along_next look words words old new b 0 a 0 e told told' (next_of look words at old new first left a e l (next words)) grows;
     }
   where
-    lighter : (n m x y : ℕ) → n ≡ m → x < y → 2 * (2048 - n) + x < 2 * (2048 - m) + y
+    lighter : (n m x y : ℕ) → n ≡ m → x < y → 2 * (max_asks - n) + x < 2 * (max_asks - m) + y
     lighter n m x y e lt = omega (arith, e, lt)
 
-    no_heavier : (n m x y : ℕ) → n ≡ m → x ≤ y → 2 * (2048 - n) + x ≤ 2 * (2048 - m) + y
+    no_heavier : (n m x y : ℕ) → n ≡ m → x ≤ y → 2 * (max_asks - n) + x ≤ 2 * (max_asks - m) + y
     no_heavier n m x y e le = omega (arith, e, le)
 
 -- nothing is kept where no peers are asked for
@@ -401,8 +401,8 @@ stray_of work s from bytes queries none q has r h =
     let found = in_map (as_open work.book.journal) work.queries q (subst (λ l. Contains l q) queries has) in
     none found.0 found.1 r (subst (λ y. Replies bytes from y r) found.2 h)
 
-light_stray : (a b c d : ℕ) → a ≤ b → d ≡ c + 1 → d < 1000000 → a + (1000000 - d) < b + (1000000 - c)
-light_stray a b c d le is lt = omega (arith, le, is, lt)
+light_stray : (a b c d most : ℕ) → a ≤ b → d ≡ c + 1 → d < most → a + (most - d) < b + (most - c)
+light_stray a b c d most le is lt = omega (arith, le, is, lt)
 
 fewer_left : (look : LookSetting) (at : ℕ) (old new : Work) (first : List Entry) (left : List Query) → Left look at old new first left → length new.queries ≤ length left
 fewer_left look at old new first left l = subst (λ qs. length qs ≤ length left) (sym l.queries) (fewer_still at left)
@@ -446,7 +446,7 @@ stray_receives look from bytes until at n old mid late told told' r t e is grows
     let strays : late.stand.strays ≡ old.stand.strays + 1 = ap (λ (x : Stand). x.strays) (e.stand ∙ t.takes.after) in
     let few : late.stand.strays < max_strays = subst (λ (x : Stand). x.strays < max_strays) (sym e.stand) t.takes.few in
     let receives : old.stand.receives ≡ late.stand.receives = sym (ap (λ (x : Stand). x.receives) (e.stand ∙ t.takes.after)) in
-    let light = light_stray (length late.queries) (length old.queries) old.stand.strays late.stand.strays (fewer_left look at old new [] old.queries l) strays few in
+    let light = light_stray (length late.queries) (length old.queries) old.stand.strays late.stand.strays max_strays (fewer_left look at old new [] old.queries l) strays few in
     receives_one look at old new [] old.queries (Got from bytes until at) told told' l keeps few (round_goes late.stand.receives old.stand stand late.queries receives is) (λ k. e.gathered ∙ t.gathered)
     (omega (arith, light)) (λ z. light)
     (λ words start s st. one_quiet look words start at old new s (Got from bytes until at) (s.strays + 1) (goes_on s.receives (open_at at s.queries)) l st (e.gathered ∙ t.gathered)

@@ -6,7 +6,7 @@ use Rattle.id_puzzles.specs.Drawn.{WordsState}
 use Rattle.claim_book.specs.Journal.{asked}
 use Rattle.lookup_run.specs.declared.plain.LookSetting.{LookSetting}
 use Rattle.lookup_run.specs.declared.plain.Work.{Work}
-use Rattle.lookup_run.specs.Standing.{weight_of, Goes}
+use Rattle.lookup_run.specs.Standing.{max_asks, weight_of, Goes}
 use Rattle.lookup_run.specs.Steps.{Asks, ReceivesAll, SettlesPaths, Begins, GoesRound, IsOver, Stops, StopsRound, EndsByStray, RoundEndsByStray, FewStrays, RoundFewStrays}
 
 pub round_over : (look : LookSetting) (words words' : WordsState) (old new : Work) (told told' : Option (List Event)) → Asks look 0 look.paths words words' old new told told' → new.queries ≡ [] → IsOver look words words' old new told told'
@@ -20,9 +20,9 @@ round_over look words words' old new told told' a none = record {
 
 weight_same : (old new : Work) → length (asked new.book.journal) ≡ length (asked old.book.journal) → new.queries ≡ old.queries → new.stand ≡ old.stand → weight_of new ≡ weight_of old
 weight_same old new asks queries stand =
-    ap (λ n. 2 * (2048 - n) + (length new.queries + (max_strays - new.stand.strays))) asks
-    ∙ ap (λ l. 2 * (2048 - length (asked old.book.journal)) + (length l + (max_strays - new.stand.strays))) queries
-    ∙ ap (λ s. 2 * (2048 - length (asked old.book.journal)) + (length old.queries + (max_strays - s.strays))) stand
+    ap (λ n. 2 * (max_asks - n) + (length new.queries + (max_strays - new.stand.strays))) asks
+    ∙ ap (λ l. 2 * (max_asks - length (asked old.book.journal)) + (length l + (max_strays - new.stand.strays))) queries
+    ∙ ap (λ s. 2 * (max_asks - length (asked old.book.journal)) + (length old.queries + (max_strays - s.strays))) stand
 
 pub round_more : (look : LookSetting) (words words' : WordsState) (a b c d : Work) (t u v : Option (List Event)) → Asks look 0 look.paths words words' a b t u → ReceivesAll look b c u v → SettlesPaths look 0 look.paths c d v → GoesRound look words words' a d t v
 round_more look words words' a b c d t u v asks receives settles =

@@ -3,7 +3,7 @@ use Rattle.std.specs.Prelude.{◌≡◌, ◌≢◌, ℕ, ◌+◌, ◌-◌, ◌*�
 use Rattle.std.specs.List.{AllByRecursion, flat_map}
 use Rattle.kad_base.specs.declared.plain.Event.{Event}
 use Rattle.kad_base.specs.declared.plain.Event.TheVariants.{Now}
-use Rattle.kad_base.specs.Limits.{max_datagram, max_strays, max_round_receives}
+use Rattle.kad_base.specs.Limits.{max_paths, max_path_contacts, max_datagram, max_strays, max_round_receives}
 use Rattle.kad_base.specs.Outside.{Grows}
 use Rattle.kad_base.specs.Words.{word_bytes}
 use Rattle.kad_krpc.specs.declared.message.Message.{Message}
@@ -85,10 +85,14 @@ pub record Keeps (look : LookSetting) (work : Work) : Type 0 where
 abbrev pub HasWords : WordsState → List Entry → Type 0
 HasWords words J = words.place < 2 ^ 59 + length (asked J)
 
+-- the most asks of a lookup: a path asks none but its contacts, and none twice
+abbrev pub max_asks : ℕ
+max_asks = max_paths * max_path_contacts
+
 -- how far a lookup is from its end: an ask takes two and may give one back, a reply or a timeout takes one, and so does a
 -- stray
 abbrev pub weight_of : Work → ℕ
-weight_of work = 2 * (2048 - length (asked work.book.journal)) + (length work.queries + (max_strays - work.stand.strays))
+weight_of work = 2 * (max_asks - length (asked work.book.journal)) + (length work.queries + (max_strays - work.stand.strays))
 
 -- ---- what was told
 
