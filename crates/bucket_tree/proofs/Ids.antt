@@ -1,5 +1,5 @@
 -- Identifiers of 20 bytes are told apart by their 160 bits.
-use Rattle.std.proofs.Common.{◌≡◌, ℕ, zero, suc, ◌+◌, ◌-◌, ◌*◌, ◌/◌, ◌%◌, ◌<◌, List, length, get_or, Bool, true, false, refl, sym, ap, ◌∙◌, arith}
+use Rattle.std.proofs.Common.{◌≡◌, ◌≢◌, ℕ, zero, suc, ◌+◌, ◌-◌, ◌*◌, ◌/◌, ◌%◌, ◌<◌, List, length, get_or, Bool, true, false, refl, sym, ap, ◌∙◌, arith}
 use Rattle.std.specs.Prelude.{nat_eq}
 use Rattle.std.specs.Int.{bit_at}
 use Rattle.std.specs.Ordering.{is_eq, nat_cmp}
@@ -73,3 +73,19 @@ same_bits-id x y lx ly bx by e =
     let f : bits_from 160 0 x.0 ≡ bits_from 160 0 y.0 = sym (id_bits-is x) ∙ e ∙ id_bits-is y in
     let bytes : x.0 ≡ y.0 = ext_get_or 0 x.0 y.0 (lx ∙ sym ly) (λ i lt. same_from_bits_below 8 _ _ (bx i) (by i) (same-byte x.0 y.0 i f (omega (arith, lx)))) in
     ap (λ (l : List ℕ). is_eq (slice_cmp nat_cmp l y.0)) bytes ∙ same_id-itself y
+
+-- identifiers that differ in a byte are two
+pub differ-id : (x y : Id) (i : ℕ) → get_or x.0 i 0 ≢ get_or y.0 i 0 → false ≡ same_id x y
+differ-id x y i ne = go (same_id x y) refl
+  where
+    go : (t : Bool) → same_id x y ≡ t → false ≡ same_id x y
+    go false e = sym e
+    go true e = absurd (ne (ap (λ (l : List ℕ). get_or l i 0) (same_id-bytes x y e)))
+
+-- so are contacts whose identifiers do
+pub differ-contact : (x y : Contact) (i : ℕ) → get_or x.id.0 i 0 ≢ get_or y.id.0 i 0 → false ≡ same x y
+differ-contact x y i ne = go (same x y) refl
+  where
+    go : (t : Bool) → same x y ≡ t → false ≡ same x y
+    go false e = sym e
+    go true e = absurd (ne (ap (λ (c : Contact). get_or c.id.0 i 0) (same_exact x y e)))

@@ -49,7 +49,7 @@ later_bit a bytes i =
 later_none : (i : ℕ) → bit [] (i + 8) ≡ bit [] i
 later_none i = let f : (i + 8) % 8 ≡ i % 8 = omega arith in ap (λ (j : ℕ). nat_eq (bit_at 0 (7 - j)) 1) f
 
-pub cmp_first : (x y : ℕ) (xs ys : List ℕ) → x < y → slice_cmp nat_cmp (x ∷ xs) (y ∷ ys) ≡ Less
+cmp_first : (x y : ℕ) (xs ys : List ℕ) → x < y → slice_cmp nat_cmp (x ∷ xs) (y ∷ ys) ≡ Less
 cmp_first x y xs ys lt = grind (arith, lt)
 
 cmp_next : (x y : ℕ) (xs ys : List ℕ) → x ≡ y → slice_cmp nat_cmp xs ys ≡ Less → slice_cmp nat_cmp (x ∷ xs) (y ∷ ys) ≡ Less

@@ -87,7 +87,7 @@ impl Buckets {
             return Ok(Seen::Own);
         }
         is_whole(&contact);
-        see(&mut self.root, self.alloc, &self.setting, contact, 0)
+        see(&mut self.root, self.alloc, &self.setting, &contact, 0)
     }
 
     /// Tells the buckets that a contact didn't answer. The second failure since it was last seen removes it, and the

@@ -11,17 +11,23 @@ use crate::prefix::Prefix;
 use kad_base::{Contact, Id, NoMemory};
 use std::alloc::Global;
 
-/// The two are one contact.
+/// The two are one contact. Those of one bucket begin alike, so that most differ in the last byte of the identifier.
 fn is_same(a: &Contact, b: &Contact) -> bool
     ensures { result ≡ same a.now b.now }
 {
+    if a.id.0[19] != b.id.0[19] {
+        return false;
+    }
     a.cmp(b).is_eq()
 }
 
-/// The two are one identifier.
+/// The two are one identifier. Those of one bucket begin alike, so that most differ in the last byte.
 pub(crate) fn is_same_id(a: &Id, b: &Id) -> bool
     ensures { result ≡ same_id a.now b.now }
 {
+    if a.0[19] != b.0[19] {
+        return false;
+    }
     a.cmp(b).is_eq()
 }
 

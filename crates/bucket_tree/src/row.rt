@@ -168,13 +168,13 @@ impl Row {
         ensures needs { IsTrue result ↔ NeedsSplit setting.now.own setting.now.k setting.now.b id.now self.now }
         ensures two { IsTrue result → length self.now.prefix < 160 }
     {
-        if has_id(self.live.as_slice(), id) {
-            return false;
-        }
         if self.live.len() < setting.k as usize {
             return false;
         }
-        self.splits(setting)
+        if !self.splits(setting) {
+            return false;
+        }
+        !has_id(self.live.as_slice(), id)
     }
 
     /// Half of a bucket that splits: one bit more, and the live entries that it covers, with room for k.
@@ -192,24 +192,24 @@ impl Row {
     }
 
     /// Takes in a contact that was seen, where the bucket needn't split for it.
-    pub(crate) fn take(&mut self, k: u8, contact: Contact) -> Result<Seen, NoMemory>
+    pub(crate) fn take(&mut self, k: u8, contact: &Contact) -> Result<Seen, NoMemory>
         requires some { 0 < k }
         requires spares { length self.old.spares ≤ k }
-        ensures ok { IfOk result (λ seen. RowSeen k contact self.old seen self.new) }
+        ensures ok { IfOk result (λ seen. RowSeen k contact.now self.old seen self.new) }
         ensures err { OnErr result (self.new ≡ self.old) }
     {
-        if has(self.live.as_slice(), &contact) {
-            renew(&mut self.live, contact);
+        if has(self.live.as_slice(), contact) {
+            renew(&mut self.live, *contact);
             return Ok(Seen::Moved);
         }
         if has_id(self.live.as_slice(), &contact.id) {
             return Ok(Seen::Conflict);
         }
         if self.live.len() < k as usize {
-            append(&mut self.live, fresh(contact))?;
+            append(&mut self.live, fresh(*contact))?;
             return Ok(Seen::Added);
         }
-        spare(&mut self.spares, k, contact)?;
+        spare(&mut self.spares, k, *contact)?;
         Ok(Seen::Spared)
     }
 

@@ -19,16 +19,16 @@ fn grown(
     alloc: Global,
     setting: &Setting,
     mut row: Row,
-    contact: Contact,
+    contact: &Contact,
 ) -> Result<(Node, Seen), NoMemory>
     requires some_live { 0 < setting.now.k }
     requires few_live { setting.now.k ≤ 20 }
     requires some_bits { 0 < setting.now.b }
-    requires others { same_id contact.id setting.now.own ≡ false }
+    requires others { same_id contact.now.id setting.now.own ≡ false }
     requires short { length row.prefix ≤ 160 }
-    requires covers { begins row.prefix (id_bits contact.id) ≡ true }
+    requires covers { begins row.prefix (id_bits contact.now.id) ≡ true }
     requires each { IsRow setting.now.own setting.now.k setting.now.b row }
-    ensures step { IfOk result (λ r. SeenStep setting.now.own setting.now.k setting.now.b contact (row ∷ []) r.1 (rows_of r.0)) }
+    ensures step { IfOk result (λ r. SeenStep setting.now.own setting.now.k setting.now.b contact.now (row ∷ []) r.1 (rows_of r.0)) }
     ensures under { IfOk result (λ r. IsUnder row.prefix r.0) }
 {
     if row.needs_split(setting, &contact.id) {
@@ -45,17 +45,17 @@ fn forked(
     alloc: Global,
     setting: &Setting,
     row: &Row,
-    contact: Contact,
+    contact: &Contact,
 ) -> Result<(Node, Seen), NoMemory>
     requires some_live { 0 < setting.now.k }
     requires few_live { setting.now.k ≤ 20 }
     requires some_bits { 0 < setting.now.b }
-    requires others { same_id contact.id setting.now.own ≡ false }
+    requires others { same_id contact.now.id setting.now.own ≡ false }
     requires short { length row.now.prefix < 160 }
-    requires covers { begins row.now.prefix (id_bits contact.id) ≡ true }
+    requires covers { begins row.now.prefix (id_bits contact.now.id) ≡ true }
     requires each { IsRow setting.now.own setting.now.k setting.now.b row.now }
-    requires needs { NeedsSplit setting.now.own setting.now.k setting.now.b contact.id row.now }
-    ensures step { IfOk result (λ r. SeenStep setting.now.own setting.now.k setting.now.b contact (row.now ∷ []) r.1 (rows_of r.0)) }
+    requires needs { NeedsSplit setting.now.own setting.now.k setting.now.b contact.now.id row.now }
+    ensures step { IfOk result (λ r. SeenStep setting.now.own setting.now.k setting.now.b contact.now (row.now ∷ []) r.1 (rows_of r.0)) }
     ensures under { IfOk result (λ r. IsUnder row.now.prefix r.0) }
 {
     let low = row.half(alloc, setting.k, false)?;
@@ -77,18 +77,18 @@ pub(crate) fn see(
     node: &mut Node,
     alloc: Global,
     setting: &Setting,
-    contact: Contact,
+    contact: &Contact,
     at: u8,
 ) -> Result<Seen, NoMemory>
     requires some_live { 0 < setting.now.k }
     requires few_live { setting.now.k ≤ 20 }
     requires some_bits { 0 < setting.now.b }
-    requires others { same_id contact.id setting.now.own ≡ false }
-    requires under { IsUnder (path at contact.id) node.old }
+    requires others { same_id contact.now.id setting.now.own ≡ false }
+    requires under { IsUnder (path at contact.now.id) node.old }
     requires short { All IsShort (rows_of node.old) }
     requires each { All (IsRow setting.now.own setting.now.k setting.now.b) (rows_of node.old) }
-    ensures ok { IfOk result (λ seen. SeenStep setting.now.own setting.now.k setting.now.b contact (rows_of node.old) seen (rows_of node.new)) }
-    ensures under { IsUnder (path at contact.id) node.new }
+    ensures ok { IfOk result (λ seen. SeenStep setting.now.own setting.now.k setting.now.b contact.now (rows_of node.old) seen (rows_of node.new)) }
+    ensures under { IsUnder (path at contact.now.id) node.new }
     ensures err { OnErr result (rows_of node.new ≡ rows_of node.old) }
 {
     match node {

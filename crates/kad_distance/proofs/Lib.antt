@@ -2,3 +2,4 @@ pub mod Orders
 pub mod Least
 pub mod Members
 pub mod Chosen
+pub mod ByByte

@@ -2,6 +2,8 @@
 #![tactic(auto)]
 
 ghost use Rattle.std.specs.Prelude.{◌≡◌, ◌↔◌, ◌+◌, ◌<◌, ◌≤◌, IsTrue};
+ghost use Rattle.std.specs.Ordering.{nat_cmp};
+ghost use Rattle.std.specs.Cmp.Lexicographic.{slice_cmp};
 ghost use Rattle.kad_base.specs.Bits.{xor_bytes, BeginsWithZeros};
 ghost use Rattle.kad_distance.specs.Order.{closeness, IsCloser};
 
@@ -32,13 +34,33 @@ pub fn shared_bits(a: &Id, b: &Id) -> u8
     leading_zeros(&distance(a, b).0)
 }
 
+/// Which of two identifiers is nearer to the target: by the first byte in which their distances differ. It is mostly one
+/// of the first, so that neither distance is made whole.
+fn compare_distances(target: &Id, a: &Id, b: &Id) -> Ordering
+    ensures { result ≡ slice_cmp nat_cmp (xor_bytes target.now.0 a.now.0) (xor_bytes target.now.0 b.now.0) }
+{
+    for at in 0..20usize {
+        let one = target.0[at] ^ a.0[at];
+        let two = target.0[at] ^ b.0[at];
+        if one < two {
+            return Ordering::Less;
+        }
+        if one > two {
+            return Ordering::Greater;
+        }
+    }
+    Ordering::Equal
+}
+
 /// Which of two contacts is closer to the target: by distance, then by address, IPv4 before IPv6, then by port.
 pub fn compare(target: &Id, a: &Contact, b: &Contact) -> Ordering
     ensures { result ≡ closeness target.now a.now b.now }
 {
-    distance(target, &a.id)
-        .cmp(&distance(target, &b.id))
-        .then(a.addr.cmp(&b.addr))
+    match compare_distances(target, &a.id, &b.id) {
+        Ordering::Less => Ordering::Less,
+        Ordering::Equal => a.addr.cmp(&b.addr),
+        Ordering::Greater => Ordering::Greater,
+    }
 }
 
 /// Whether `a` is closer to the target than `b`. No contact is closer than itself.

@@ -1,6 +1,6 @@
 use Rattle.std.proofs.Common.{◌≡◌, get_or, ◌∙◌, arith}
 use Rattle.std.specs.Prelude.{bit_xor}
-use Rattle.bucket_tree.proofs.Distances.{same_byte, less_byte}
+use Rattle.kad_distance.proofs.ByByte.{same_byte, less_byte}
 use Rattle.bucket_tree.proofs.nearest.is_nearer.Goals as goal
 
 pub loop-at-preserved : goal.loop-at-preserved

@@ -27,7 +27,7 @@ pub forked-grown-requires-else-covers : goal.forked-grown-requires-else-covers
 forked-grown-requires-else-covers t c =
     let long = half_long false c.args.row.now c.in_ok-low.low c.in_ok-low.ensures in
     let lt = c.requires.short in
-    let covers = low_covers c.args.contact.id c.args.row.now _ _ _ c.in_ok-low.ensures c.in_ok-high.ensures c.requires.covers lt c.covers.ensures c.if-covers.false in (
+    let covers = low_covers c.args.contact.now.id c.args.row.now _ _ _ c.in_ok-low.ensures c.in_ok-high.ensures c.requires.covers lt c.covers.ensures c.if-covers.false in (
       grown_falls _ _ _ lt long c.decreases,
       (
         c.requires.some_live,
@@ -47,17 +47,17 @@ forked-grown-requires-else-covers t c =
 pub forked-returns-in_ok-fork-clause-step : goal.forked-returns-in_ok-fork-clause-step
 forked-returns-in_ok-fork-clause-step t c =
     let s = c.args.setting.now in
-    subst (SeenStep s.own s.k s.b c.args.contact (c.args.row.now ∷ []) c.in_ok-high-2.seen) (sym c.in_ok-fork.ensures.rows)
-    (split_on_high s.own s.k s.b c.args.contact c.args.row.now c.requires.others c.requires.covers c.requires.needs _ _ _ _ _ c.in_ok-low.ensures c.in_ok-high.ensures c.in_ok-low-2.ensures.rows c.in_ok-high-2.ensures.step)
+    subst (SeenStep s.own s.k s.b c.args.contact.now (c.args.row.now ∷ []) c.in_ok-high-2.seen) (sym c.in_ok-fork.ensures.rows)
+    (split_on_high s.own s.k s.b c.args.contact.now c.args.row.now c.requires.others c.requires.covers c.requires.needs _ _ _ _ _ c.in_ok-low.ensures c.in_ok-high.ensures c.in_ok-low-2.ensures.rows c.in_ok-high-2.ensures.step)
 
 pub forked-returns-in_ok-fork-2-clause-step : goal.forked-returns-in_ok-fork-2-clause-step
 forked-returns-in_ok-fork-2-clause-step t c =
     let s = c.args.setting.now in
-    subst (SeenStep s.own s.k s.b c.args.contact (c.args.row.now ∷ []) c.in_ok-low-3.seen) (sym c.in_ok-fork-2.ensures.rows)
-    (split_on_low s.own s.k s.b c.args.contact c.args.row.now c.requires.others c.requires.covers c.requires.needs _ _ _ _ _ c.in_ok-low.ensures c.in_ok-high.ensures c.in_ok-high-3.ensures.rows c.in_ok-low-3.ensures.step)
+    subst (SeenStep s.own s.k s.b c.args.contact.now (c.args.row.now ∷ []) c.in_ok-low-3.seen) (sym c.in_ok-fork-2.ensures.rows)
+    (split_on_low s.own s.k s.b c.args.contact.now c.args.row.now c.requires.others c.requires.covers c.requires.needs _ _ _ _ _ c.in_ok-low.ensures c.in_ok-high.ensures c.in_ok-high-3.ensures.rows c.in_ok-low-3.ensures.step)
 
 pub grown-returns-clause-step : goal.grown-returns-clause-step
 grown-returns-clause-step t c =
     let s = c.args.setting.now in
-    subst (SeenStep s.own s.k s.b c.args.contact (c.args.row ∷ []) c.in_ok-seen.seen) (sym c.in_ok-node.ensures.rows)
-    (step_one s.own s.k s.b c.args.contact c.args.row c.take.new.self c.in_ok-seen.seen c.requires.others c.requires.covers (no_split _ _ c.if-needs_split.false c.needs_split.ensures.needs) c.in_ok-seen.ensures.ok)
+    subst (SeenStep s.own s.k s.b c.args.contact.now (c.args.row ∷ []) c.in_ok-seen.seen) (sym c.in_ok-node.ensures.rows)
+    (step_one s.own s.k s.b c.args.contact.now c.args.row c.take.new.self c.in_ok-seen.seen c.requires.others c.requires.covers (no_split _ _ c.if-needs_split.false c.needs_split.ensures.needs) c.in_ok-seen.ensures.ok)

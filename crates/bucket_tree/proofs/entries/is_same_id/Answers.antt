@@ -1,0 +1,5 @@
+use Rattle.bucket_tree.proofs.Ids.{differ-id}
+use Rattle.bucket_tree.proofs.entries.is_same_id.Goals as goal
+
+pub returns-then-a-b : goal.returns-then-a-b
+returns-then-a-b c = differ-id c.args.a.now c.args.b.now 19 c.if-a-b.true
