@@ -13,7 +13,7 @@ use Rattle.bucket_tree.specs.Partition.{bit, id_bits, begins}
 use Rattle.bucket_tree.specs.Rows.{RowState, IsRow, same_id}
 use Rattle.bucket_tree.specs.Steps.{SeenStep, NeedsSplit, RowSeen, half, is_own, in_row, split}
 use Rattle.bucket_tree.proofs.Begun.{begins-halves}
-use Rattle.bucket_tree.proofs.Every.{all-left, all-right}
+use Rattle.bucket_tree.proofs.Every.{all-left, all-right, all-one}
 use Rattle.bucket_tree.proofs.OneBit.{id_bits-length}
 use Rattle.bucket_tree.proofs.RowKept.{half-kept}
 use Rattle.bucket_tree.specs.declared.node.Node.{Node}
@@ -146,3 +146,7 @@ leaf_seen own k b c at node row r r' result e u s er others n is =
 
 pub leaf_all : (P : RowState → Type 0) (node : Node) (row : _) (r : RowState) → node ≡ Leaf row → r ≡ row.value → All P (rows_of node) → P r
 leaf_all P node row r e er all = subst P (sym er) (All-head P row.value [] (subst (λ (n : Node). All P (rows_of n)) e all))
+
+-- what holds of one row
+pub one_row : (P : RowState → Type 0) (row r : RowState) → r ≡ row → P r → All P (row ∷ [])
+one_row P row r e p = all-one P row (subst P e p)

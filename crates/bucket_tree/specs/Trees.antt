@@ -14,6 +14,11 @@ abbrev pub rows_of : Node → List RowState
 rows_of (Leaf row) = row.value ∷ []
 rows_of (Fork' a low b high) = rows_of low ++ rows_of high
 
+-- a tree of one row
+abbrev pub IsLeaf : Node → Type 0
+IsLeaf (Leaf row) = Unit {0}
+IsLeaf (Fork' a low b high) = ⊥
+
 -- the prefixes of its rows are that prefix and the way down to each
 abbrev pub IsUnder : List Bool → Node → Type 0
 IsUnder p (Leaf row) = row.value.prefix ≡ p

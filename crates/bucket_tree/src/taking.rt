@@ -1,10 +1,10 @@
 //! A contact that was seen: its bucket takes it in, split as often as it needs.
-ghost use Rattle.std.specs.Prelude.{◌≡◌, ◌<◌, ◌≤◌, ◌∷◌, [], length, IfOk, OnErr, false, true};
+ghost use Rattle.std.specs.Prelude.{◌≡◌, ◌<◌, ◌≤◌, Bool, List, ◌∷◌, [], length, IfOk, OnErr, false, true};
 ghost use Rattle.std.specs.List.{All};
 ghost use Rattle.bucket_tree.specs.Partition.{begins, id_bits};
 ghost use Rattle.bucket_tree.specs.Rows.{IsRow, same_id};
 ghost use Rattle.bucket_tree.specs.Steps.{SeenStep, NeedsSplit};
-ghost use Rattle.bucket_tree.specs.Trees.{rows_of, IsUnder, IsShort, path};
+ghost use Rattle.bucket_tree.specs.Trees.{rows_of, IsLeaf, IsUnder, IsShort, path};
 
 use crate::bits::bit;
 use crate::node::{Node, fork, leaf};
@@ -71,8 +71,40 @@ fn forked(
     }
 }
 
-/// Tells the tree that a contact was seen. A row that splits is left until the whole tree that takes its place stands, so
-/// that without memory all is as before.
+/// Puts the tree that has taken a contact in, in the place of a leaf whose row needs a split for it. The row is left until
+/// the whole tree stands, so that without memory all is as before.
+#[inline(never)]
+fn split(
+    node: &mut Node,
+    alloc: Global,
+    setting: &Setting,
+    contact: &Contact,
+) -> Result<Seen, NoMemory>
+    requires leaf { IsLeaf node.old }
+    requires some_live { 0 < setting.now.k }
+    requires few_live { setting.now.k ≤ 20 }
+    requires some_bits { 0 < setting.now.b }
+    requires others { same_id contact.now.id setting.now.own ≡ false }
+    requires short { All (λ row. length row.prefix < 160) (rows_of node.old) }
+    requires covers { All (λ row. begins row.prefix (id_bits contact.now.id) ≡ true) (rows_of node.old) }
+    requires each { All (IsRow setting.now.own setting.now.k setting.now.b) (rows_of node.old) }
+    requires needs { All (NeedsSplit setting.now.own setting.now.k setting.now.b contact.now.id) (rows_of node.old) }
+    ensures ok { IfOk result (λ seen. SeenStep setting.now.own setting.now.k setting.now.b contact.now (rows_of node.old) seen (rows_of node.new)) }
+    ensures under { (p : List Bool) → IsUnder p node.old → IsUnder p node.new }
+    ensures err { OnErr result (rows_of node.new ≡ rows_of node.old) }
+{
+    match node {
+        Node::Leaf(row) => {
+            let (tree, seen) = forked(alloc, setting, row, contact)?;
+            *node = tree;
+            Ok(seen)
+        }
+        Node::Fork(_, _) => unreachable!(),
+    }
+}
+
+/// Tells the tree that a contact was seen. The splitting stands in a function of its own, so that the way down needs no
+/// room on the stack and is compiled to a loop.
 pub(crate) fn see(
     node: &mut Node,
     alloc: Global,
@@ -96,9 +128,7 @@ pub(crate) fn see(
             if !row.needs_split(setting, &contact.id) {
                 return row.take(setting.k, contact);
             }
-            let (tree, seen) = forked(alloc, setting, row, contact)?;
-            *node = tree;
-            Ok(seen)
+            split(node, alloc, setting, contact)
         }
         Node::Fork(low, high) => {
             if bit(&contact.id, at) {

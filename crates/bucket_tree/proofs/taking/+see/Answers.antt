@@ -1,19 +1,14 @@
-use Rattle.std.proofs.Common.{◌≡◌, ◌<◌, true, false, sym, subst, ◌∙◌, arith}
+use Rattle.std.proofs.Common.{◌≡◌, ◌<◌, length, true, false, sym, subst, ◌∙◌, arith}
+use Rattle.bucket_tree.specs.Partition.{id_bits, begins}
 use Rattle.bucket_tree.specs.Rows.{RowState, IsRow}
 use Rattle.bucket_tree.specs.Steps.{NeedsSplit}
 use Rattle.bucket_tree.specs.Trees.{IsShort, IsUnder, path}
 use Rattle.bucket_tree.proofs.Ways.{under_short, way_on, falls}
-use Rattle.bucket_tree.proofs.SeenRows.{no_split, leaf_covers, leaf_seen, leaf_all, low_step, high_step, low_all, high_all, low_way, high_way}
+use Rattle.bucket_tree.proofs.SeenRows.{no_split, leaf_covers, leaf_seen, one_row, low_step, high_step, low_all, high_all, low_way, high_way}
 use Rattle.bucket_tree.proofs.taking.+see.Goals as goal
 
 pub needs_split-requires-clause-covers : goal.needs_split-requires-clause-covers
 needs_split-requires-clause-covers t c = leaf_covers c.args.contact.now.id c.args.at c.args.node.now c.in-Leaf.row _ c.in-Leaf.is c.requires.under c.requires.short c.deref.ensures
-
-pub forked-requires-clause-covers : goal.forked-requires-clause-covers
-forked-requires-clause-covers t c = leaf_covers c.args.contact.now.id c.args.at c.args.node.now c.in-Leaf.row _ c.in-Leaf.is c.requires.under c.requires.short c.deref-in-Leaf.ensures
-
-pub forked-requires-clause-each : goal.forked-requires-clause-each
-forked-requires-clause-each t c = let s = c.args.setting.now in leaf_all (IsRow s.own s.k s.b) c.args.node.now _ _ c.in-Leaf.is c.deref-in-Leaf.ensures c.requires.each
 
 pub returns-then-not-needs_split-clause-ok : goal.returns-then-not-needs_split-clause-ok
 returns-then-not-needs_split-clause-ok t c =
@@ -22,6 +17,24 @@ returns-then-not-needs_split-clause-ok t c =
     let n : NeedsSplit s.own s.k s.b c.args.contact.now.id c.deref.result.now → ⊥ = no_split _ _ c.if-not-needs_split.true c.needs_split.ensures.needs in
     leaf_seen s.own s.k s.b c.args.contact.now c.args.at c.args.node.now c.in-Leaf.row _ _ _ c.in-Leaf.is c.requires.under c.requires.short c.deref_mut.ensures.value c.requires.others
     (subst (λ (r : RowState). NeedsSplit s.own s.k s.b c.args.contact.now.id r → ⊥) same n) c.take.ensures.ok
+
+pub split-requires-clause-leaf : goal.split-requires-clause-leaf
+split-requires-clause-leaf t c = tt
+
+pub split-requires-clause-short : goal.split-requires-clause-short
+split-requires-clause-short t c =
+    one_row (λ (r : RowState). length r.prefix < 160) _ _ c.deref.ensures (c.needs_split.ensures.two c.if-not-needs_split.false)
+
+pub split-requires-clause-covers : goal.split-requires-clause-covers
+split-requires-clause-covers t c =
+    let id = c.args.contact.now.id in
+    one_row (λ (r : RowState). begins r.prefix (id_bits id) ≡ true) _ _ c.deref.ensures
+    (leaf_covers id c.args.at c.args.node.now c.in-Leaf.row _ c.in-Leaf.is c.requires.under c.requires.short c.deref.ensures)
+
+pub split-requires-clause-needs : goal.split-requires-clause-needs
+split-requires-clause-needs t c =
+    let s = c.args.setting.now in
+    one_row (NeedsSplit s.own s.k s.b c.args.contact.now.id) _ _ c.deref.ensures (c.needs_split.ensures.needs.0 c.if-not-needs_split.false)
 
 pub bit-requires : goal.bit-requires
 bit-requires t c = under_short c.args.contact.now.id c.args.at c.args.node.now _ _ _ _ c.in-Fork.is c.requires.under c.requires.short
