@@ -18,4 +18,4 @@ pub mod Pieces
 pub mod Listing
 pub mod Putting
 pub mod Paired
-pub mod Marked
+pub mod Filing

@@ -16,7 +16,7 @@ use Rattle.kad_bencode.proofs.Limits.{all_push}
 pub turned : (a b : List ℕ) → key_cmp a b ≡ Less → key_cmp b a ≡ Greater
 turned a b h = nat_list_cmp_total.antisymm b a ∙ ap ordering_reverse h
 
-turned_back : (a b : List ℕ) → key_cmp a b ≡ Greater → key_cmp b a ≡ Less
+pub turned_back : (a b : List ℕ) → key_cmp a b ≡ Greater → key_cmp b a ≡ Less
 turned_back a b h = nat_list_cmp_total.antisymm b a ∙ ap ordering_reverse h
 
 module _ (V : Type 0) where

@@ -6,6 +6,6 @@ pub mod Written
 pub mod Parts
 pub mod Scanning
 pub mod Finding
-pub mod Marking
+pub mod Filing
 pub mod Naming
 pub mod formers

@@ -3,10 +3,10 @@
 #![tactic(auto)]
 
 pub mod entries;
+mod filed;
 mod find;
 pub mod into;
 pub mod laws;
-mod marks;
 pub mod pairs;
 pub mod parts;
 pub mod piece;

@@ -8,13 +8,12 @@ ghost use Rattle.kad_bencode.specs.declared.entries.Pair.{Pair};
 ghost use Rattle.kad_bencode.specs.declared.value.Value.{Value};
 ghost use Rattle.kad_bencode.specs.declared.value.Bad.{Bad};
 ghost use Rattle.kad_bencode.specs.Scanning.{Scans};
-ghost use Rattle.kad_bencode.specs.Finding.{IsAbove, IsNext};
+ghost use Rattle.kad_bencode.specs.Finding.{IsNext};
 
-use crate::marks::{MOST, add, is_new, mark_all};
+use crate::filed::{MOST, file, file_all, is_above, is_new};
 use crate::reader::MAX_DEPTH;
 use crate::scan::{has_byte, integer_at, string_at};
 use crate::value::Bad;
-use std::cmp::Ordering;
 
 /// Whether the bytes spell a value, all of them, or the fault that is seen first.
 pub fn check(bytes: &[u8]) -> Result<(), Bad>
@@ -104,8 +103,8 @@ fn dictionary_at(bytes: &[u8], from: usize, depth: usize) -> Result<usize, Bad>
     Ok(at + 1)
 }
 
-/// Where a dictionary ends that has pairs from `from` to `start`, and whose next key isn't above all of theirs. It marks
-/// its keys, so that a new one is known without a look at the others.
+/// Where a dictionary ends that has pairs from `from` to `start`, and whose next key isn't above all of theirs. It files
+/// its keys in order, so that a new one is known by its neighbours alone.
 #[cycle(checking)]
 fn unsorted_at(bytes: &[u8], from: usize, start: usize, depth: usize) -> Result<usize, Bad>
     requires order { from ≤ start }
@@ -115,15 +114,15 @@ fn unsorted_at(bytes: &[u8], from: usize, start: usize, depth: usize) -> Result<
     ensures reads { (os : List Open) (pairs : List (Pair Value)) → suc (length os) ≡ depth → Reached bytes.now from (Keyless os []) → FitsOpen os → Reached bytes.now start (Keyless os pairs) → FitsPairs os pairs
         → Scans bytes.now result (λ next. (v : Value) × ReadsValue bytes.now from os v next) }
 {
-    let mut marks = [0u64; MOST];
-    let mut count = mark_all(&bytes[from..start], &mut marks);
+    let mut places = [0u16; MOST];
+    let mut count = file_all(bytes, from, start, &mut places);
     let mut at = start;
     'loose: while !has_byte(bytes, at, b'e') {
         let (key, behind) = string_at(bytes, at)?;
-        if !is_new(&bytes[from..at], &marks, count, key) {
+        count = file(bytes, &mut places, count, at, key);
+        if !is_new(&bytes[from..at], count, key) {
             return Err(Bad::KeyTwice { at });
         }
-        count = add(&mut marks, count, key);
         at = value_at(bytes, behind, depth)?;
     }
     Ok(at + 1)
@@ -134,15 +133,4 @@ fn is_next(first: bool, greatest: &[u8], key: &[u8]) -> bool
     ensures { IsNext first (key_cmp key.now greatest.now) result }
 {
     first || is_above(key, greatest)
-}
-
-/// Whether a key comes after another.
-fn is_above(a: &[u8], b: &[u8]) -> bool
-    ensures { IsAbove (key_cmp a.now b.now) result }
-{
-    match a.cmp(b) {
-        Ordering::Greater => true,
-        Ordering::Equal => false,
-        Ordering::Less => false,
-    }
 }

@@ -6,11 +6,11 @@ use Rattle.kad_bencode.specs.Machine.{AsKey, AsValue}
 use Rattle.kad_bencode.specs.declared.value.Value.TheVariants as value
 use Rattle.kad_bencode.proofs.Nested.{awaits_integer, integer_value, deep_list, deep_dictionary, list_opened, dictionary_opened, opened_value, awaits_text, text_value, list_awaits, list_more, list_ends, PairsSoFar, pairs_await, key_twice, key_new, pairs_more, pairs_end}
 use Rattle.kad_bencode.proofs.Verifying.{handed, widened, key_known, are_pairs, up_to_more, same_pairs, next_key, not_new, is_fresh, from_eq}
-use Rattle.kad_bencode.proofs.Marked.{all_more}
 use Rattle.kad_bencode.proofs.Limits.{keys_push}
+use Rattle.kad_bencode.proofs.Reading.{stands_between}
+use Rattle.kad_bencode.specs.Spelling.{put_all, string_text}
 use Rattle.kad_bencode.proofs.Folds.{ordered_pairs}
-use Rattle.kad_bencode.specs.Spelling.{put_all}
-use Rattle.kad_bencode.specs.Marking.{AreAll}
+use Rattle.kad_bencode.specs.Filing.{AreFiled}
 use Rattle.kad_bencode.specs.declared.entries.Pair.{Pair}
 use Rattle.kad_bencode.specs.declared.value.Value.{Value}
 use Rattle.kad_bencode.specs.Finding.{IsUpTo}
@@ -125,7 +125,7 @@ unsorted_at-loose-init t c = record {
   within = c.requires.within;
   so_far = λ os ps d r f g h.
       let so : PairsSoFar c.args.bytes.now c.args.start os (put_all [] (ordered_pairs ps)) = record { pairs = ps; reached = g; fits = h; names = refl } in
-      (put_all [] (ordered_pairs ps), so, c.mark_all-count.ensures ps (are_pairs c.args.bytes.now c.args.from c.args.start os (put_all [] (ordered_pairs ps)) so c.requires.order c.requires.within r));
+      (put_all [] (ordered_pairs ps), so, c.file_all-count.ensures ps (are_pairs c.args.bytes.now c.args.from c.args.start os (put_all [] (ordered_pairs ps)) so c.requires.order c.requires.within r));
 }
 
 pub unsorted_at-returns-in_err-key-clause-reads : goal.unsorted_at-returns-in_err-key-clause-reads
@@ -138,7 +138,7 @@ pub unsorted_at-returns-then-not-is_new-clause-reads : goal.unsorted_at-returns-
 unsorted_at-returns-then-not-is_new-clause-reads t c os ps d r f g h =
     let e = c.loose.invariant.so_far os ps d r f g h in
     let after : c.args.from ≤ c.loose.at = omega (arith, c.requires.order, c.loose.invariant.after) in
-    let told = c.is_new.ensures e.1.pairs (are_pairs c.args.bytes.now c.args.from c.loose.at os e.0 e.1 after c.loose.invariant.within r) e.2 in
+    let told = c.is_new.ensures e.1.pairs (are_pairs c.args.bytes.now c.args.from c.loose.at os e.0 e.1 after c.loose.invariant.within r) (c.file-count.ensures.new (keys_of e.1.pairs) e.2) in
     key_twice c.args.bytes.now c.loose.at os e.0 c.in_ok-key.key.now c.in_ok-key.behind e.1 c.loose.invariant.within
     (c.in_ok-key.ensures.reads (AsKey os e.1.pairs) (pairs_await c.args.bytes.now c.loose.at os e.0 e.1 f c.loose.invariant.within c.loose-test.ensures))
     (key_known c.args.bytes.now c.args.from c.loose.at os e.0 e.1 after c.loose.invariant.within r c.in_ok-key.key.now true (not_new _ c.is_new.result told (let t = c.if-not-is_new.true in cc)))
@@ -148,7 +148,7 @@ unsorted_at-returns-in_err-at-clause-reads t c os ps d r f g h =
     let e = c.loose.invariant.so_far os ps d r f g h in
     let after : c.args.from ≤ c.loose.at = omega (arith, c.requires.order, c.loose.invariant.after) in
     let s = c.in_ok-key.ensures.reads (AsKey os e.1.pairs) (pairs_await c.args.bytes.now c.loose.at os e.0 e.1 f c.loose.invariant.within c.loose-test.ensures) in
-    let told = c.is_new.ensures e.1.pairs (are_pairs c.args.bytes.now c.args.from c.loose.at os e.0 e.1 after c.loose.invariant.within r) e.2 in
+    let told = c.is_new.ensures e.1.pairs (are_pairs c.args.bytes.now c.args.from c.loose.at os e.0 e.1 after c.loose.invariant.within r) (c.file-count.ensures.new (keys_of e.1.pairs) e.2) in
     let new = key_known c.args.bytes.now c.args.from c.loose.at os e.0 e.1 after c.loose.invariant.within r c.in_ok-key.key.now false (is_fresh _ c.is_new.result told (let t = c.if-not-is_new.false in cc)) in
     let p = err_from_is_err_and c.from_residual-in_err-at.result c.from_residual-in_err-at.ensures.1 in
     handed c.args.bytes.now c.from_residual-in_err-at.result _ p.0 _ p.1 p.2 (c.in_err-at.ensures.reads (InPair e.1.pairs c.in_ok-key.key.now ∷ os) d (key_new c.args.bytes.now c.loose.at os e.0 c.in_ok-key.key.now c.in_ok-key.behind e.1 f s new))
@@ -161,13 +161,14 @@ unsorted_at-loose-preserved t c = record {
       let e = c.loose.invariant.so_far os ps d r f g h in
       let after : c.args.from ≤ c.loose.at = omega (arith, c.requires.order, c.loose.invariant.after) in
       let s = c.in_ok-key.ensures.reads (AsKey os e.1.pairs) (pairs_await c.args.bytes.now c.loose.at os e.0 e.1 f c.loose.invariant.within c.loose-test.ensures) in
-      let told = c.is_new.ensures e.1.pairs (are_pairs c.args.bytes.now c.args.from c.loose.at os e.0 e.1 after c.loose.invariant.within r) e.2 in
+      let told = c.is_new.ensures e.1.pairs (are_pairs c.args.bytes.now c.args.from c.loose.at os e.0 e.1 after c.loose.invariant.within r) (c.file-count.ensures.new (keys_of e.1.pairs) e.2) in
       let new = key_known c.args.bytes.now c.args.from c.loose.at os e.0 e.1 after c.loose.invariant.within r c.in_ok-key.key.now false (is_fresh _ c.is_new.result told (let t = c.if-not-is_new.false in cc)) in
       let v = c.in_ok-at.ensures.reads (InPair e.1.pairs c.in_ok-key.key.now ∷ os) d (key_new c.args.bytes.now c.loose.at os e.0 c.in_ok-key.key.now c.in_ok-key.behind e.1 f s new) in
       let more : PairsSoFar c.args.bytes.now c.in_ok-at.at os (put e.0 c.in_ok-key.key.now v.0) = pairs_more c.args.bytes.now c.loose.at os e.0 c.in_ok-key.key.now c.in_ok-key.behind v.0 c.in_ok-at.at e.1 new v.1 in
       let added : List (Pair Value) = e.1.pairs ++ record { key = c.in_ok-key.key.now; value = v.1.tree } ∷ [] in
-      let marked : AreAll c.add-count.result c.add-count.new.marks (keys_of added) = subst (AreAll c.add-count.result c.add-count.new.marks) (sym (keys_push e.1.pairs c.in_ok-key.key.now v.1.tree)) (all_more c.loose.count c.add-count.result c.loose.marks c.add-count.new.marks (keys_of e.1.pairs) c.in_ok-key.key.now e.2 c.add-count.ensures) in
-      (put e.0 c.in_ok-key.key.now v.0, more, subst (λ qs. AreAll c.add-count.result c.add-count.new.marks (keys_of qs)) (same_pairs c.args.bytes.now c.in_ok-at.at os added more.pairs v.1.reached more.reached) marked);
+      let stands = stands_between c.args.bytes.now c.loose.at c.in_ok-key.behind (string_text c.in_ok-key.key.now) c.loose.invariant.within s.text in
+      let filed : AreFiled c.args.bytes.now c.file-count.result c.file-count.new.places (keys_of added) = subst (AreFiled c.args.bytes.now c.file-count.result c.file-count.new.places) (sym (keys_push e.1.pairs c.in_ok-key.key.now v.1.tree)) (c.file-count.ensures.files (keys_of e.1.pairs) e.2 stands) in
+      (put e.0 c.in_ok-key.key.now v.0, more, subst (λ qs. AreFiled c.args.bytes.now c.file-count.result c.file-count.new.places (keys_of qs)) (same_pairs c.args.bytes.now c.in_ok-at.at os added more.pairs v.1.reached more.reached) filed);
 }
 
 pub unsorted_at-returns-clause-reads : goal.unsorted_at-returns-clause-reads

@@ -6,7 +6,7 @@ use Rattle.kad_bencode.specs.declared.entries.Pair.{Pair}
 use Rattle.kad_bencode.specs.declared.value.Value.{Value}
 use Rattle.kad_bencode.specs.Keys.{keys_of}
 use Rattle.kad_bencode.specs.Finding.{IsUpTo}
-use Rattle.kad_bencode.specs.Marking.{AreAll}
+use Rattle.kad_bencode.specs.Filing.{AreFiled}
 use Rattle.kad_bencode.proofs.verify.+checking.Given as goal
 
 -- the lists and dictionaries that may still be opened
@@ -46,7 +46,7 @@ abbrev pub invariant-unsorted_at-loose : goal.invariant-unsorted_at-loose
 invariant-unsorted_at-loose l = record {
   after : l.start ≤ l.at;
   within : l.at ≤ length l.bytes;
-  so_far : (os : List Open) (pairs : List (Pair Value)) → suc (length os) ≡ l.depth → Reached l.bytes l.from (Keyless os []) → FitsOpen os → Reached l.bytes l.start (Keyless os pairs) → FitsPairs os pairs → (entries : List (Pair Value)) × (so : PairsSoFar l.bytes l.at os entries) × AreAll l.count l.marks (keys_of so.pairs);
+  so_far : (os : List Open) (pairs : List (Pair Value)) → suc (length os) ≡ l.depth → Reached l.bytes l.from (Keyless os []) → FitsOpen os → Reached l.bytes l.start (Keyless os pairs) → FitsPairs os pairs → (entries : List (Pair Value)) × (so : PairsSoFar l.bytes l.at os entries) × AreFiled l.bytes l.count l.places (keys_of so.pairs);
 }
 
 abbrev pub decreases-unsorted_at-loose : goal.decreases-unsorted_at-loose

@@ -1,0 +1,161 @@
+//! A dictionary's keys, filed by the places where they stand, the lowest first. A key is known for new by its two
+//! neighbours there, whatever the others are: some ten comparisons a key, and a move of the places behind its own.
+ghost use Rattle.std.specs.Prelude.{◌≡◌, ◌↔◌, ℕ, ◌+◌, ◌-◌, ◌<◌, ◌≤◌, List, [], ◌∷◌, ◌++◌, length, take, drop, not, false};
+ghost use Rattle.std.specs.List.{insert};
+ghost use Rattle.kad_bencode.specs.Keys.{keys_of, key_cmp};
+ghost use Rattle.kad_bencode.specs.Spelling.{has_key, string_text};
+ghost use Rattle.kad_bencode.specs.Faults.{Stands};
+ghost use Rattle.kad_bencode.specs.Finding.{ArePairs, IsAbove};
+ghost use Rattle.kad_bencode.specs.Filing.{AreAt, AreFiled, IsBehind, IsBefore};
+ghost use Rattle.kad_bencode.specs.declared.entries.Pair.{Pair};
+ghost use Rattle.kad_bencode.specs.declared.value.Value.{Value};
+
+use crate::find::{find, first_pair, string_in};
+use std::cmp::Ordering;
+
+/// How many keys are filed at most: more than a datagram of 4,096 bytes has room for.
+pub(crate) const MOST: usize = 768;
+
+/// Whether a key comes after another.
+pub(crate) fn is_above(a: &[u8], b: &[u8]) -> bool
+    ensures { IsAbove (key_cmp a.now b.now) result }
+{
+    match a.cmp(b) {
+        Ordering::Greater => true,
+        Ordering::Equal => false,
+        Ordering::Less => false,
+    }
+}
+
+/// The key whose text stands at a place.
+fn key_at(bytes: &[u8], place: usize) -> &[u8]
+    ensures { (key : List ℕ) → Stands bytes.now place (string_text key) → result.now ≡ key }
+{
+    if place >= bytes.len() {
+        return &bytes[..0];
+    }
+    match string_in(&bytes[place..]) {
+        Some((key, _)) => key,
+        None => &bytes[..0],
+    }
+}
+
+/// Where a key belongs among those filed, by halving. Nothing rests on it: its neighbours are looked at.
+fn place_of(bytes: &[u8], places: &[u16], key: &[u8]) -> usize
+    ensures { result ≤ length places.now }
+{
+    let mut low = 0;
+    let mut high = places.len();
+    while low < high {
+        let middle = low + (high - low) / 2;
+        if is_above(key, key_at(bytes, places[middle] as usize)) {
+            low = middle + 1;
+        } else {
+            high = middle;
+        }
+    }
+    low
+}
+
+/// Whether a key is above the one in front of a place, if there is one.
+fn is_behind(bytes: &[u8], places: &[u16], i: usize, key: &[u8]) -> bool
+    requires { i ≤ length places.now }
+    ensures { (keys : List (List ℕ)) → AreAt bytes.now places.now keys
+        → IsBehind keys i key.now result }
+{
+    if i == 0 {
+        return true;
+    }
+    is_above(key, key_at(bytes, places[i - 1] as usize))
+}
+
+/// Whether a key is below the one at a place, if there is one.
+fn is_before(bytes: &[u8], places: &[u16], i: usize, key: &[u8]) -> bool
+    ensures { (keys : List (List ℕ)) → AreAt bytes.now places.now keys
+        → IsBefore keys i key.now result }
+{
+    if i >= places.len() {
+        return true;
+    }
+    is_above(key_at(bytes, places[i] as usize), key)
+}
+
+/// Puts a place in among so many.
+fn put_in(places: &mut [u16; MOST], count: usize, i: usize, at: u16)
+    requires order { i ≤ count }
+    requires room { count < 768 }
+    ensures { take (count + 1) places.new ≡ insert (take count places.old) i at }
+{
+    places.copy_within(i..count, i + 1);
+    places[i] = at;
+}
+
+/// Files a key that stands at a place, and answers how many are filed, or one more than `MOST` where the key isn't known for
+/// new: one like it is filed, there is no room, or the place is beyond 16 bits.
+pub(crate) fn file(
+    bytes: &[u8],
+    places: &mut [u16; MOST],
+    count: usize,
+    at: usize,
+    key: &[u8],
+) -> usize
+    ensures files { (keys : List (List ℕ)) → AreFiled bytes.now count places.old keys
+        → Stands bytes.now at (string_text key.now)
+        → AreFiled bytes.now result places.new (keys ++ key.now ∷ []) }
+    ensures new { (keys : List (List ℕ)) → AreFiled bytes.now count places.old keys
+        → result ≤ 768 → has_key keys key.now ≡ false }
+{
+    if count >= MOST || at > 65535 {
+        return MOST + 1;
+    }
+    let i = place_of(bytes, &places[..count], key);
+    if !is_behind(bytes, &places[..count], i, key) {
+        return MOST + 1;
+    }
+    if !is_before(bytes, &places[..count], i, key) {
+        return MOST + 1;
+    }
+    put_in(places, count, i, at as u16);
+    count + 1
+}
+
+/// Files the keys of the pairs between two places, and answers how many are filed.
+pub(crate) fn file_all(bytes: &[u8], from: usize, to: usize, places: &mut [u16; MOST]) -> usize
+    requires order { from ≤ to }
+    requires within { to ≤ length bytes.now }
+    ensures { (ps : List (Pair Value)) → ArePairs (take (to - from) (drop from bytes.now)) ps
+        → AreFiled bytes.now result places.new (keys_of ps) }
+{
+    let mut rest = &bytes[from..to];
+    let mut count = 0;
+    while rest.len() > 0 {
+        match first_pair(rest) {
+            Some((key, _, others)) => {
+                count = file(bytes, places, count, to - rest.len(), key);
+                rest = others;
+            }
+            None => return MOST + 1,
+        }
+    }
+    count
+}
+
+/// Whether a key is among pairs.
+fn has_key(pairs: &[u8], key: &[u8]) -> bool
+    ensures { (ps : List (Pair Value)) → ArePairs pairs.now ps
+        → result ≡ has_key (keys_of ps) key.now }
+{
+    find(pairs, key).is_some()
+}
+
+/// Whether a key is new among pairs. It looks through them only where it isn't known for new by how many are filed.
+pub(crate) fn is_new(pairs: &[u8], filed: usize, key: &[u8]) -> bool
+    ensures { (ps : List (Pair Value)) → ArePairs pairs.now ps
+        → (filed ≤ 768 → has_key (keys_of ps) key.now ≡ false)
+        → result ≡ not (has_key (keys_of ps) key.now) }
+{
+    if filed <= MOST {
+        return true;
+    }
+    !has_key(pairs, key)
+}
