@@ -20,7 +20,7 @@ use Rattle.kad_krpc.specs.declared.message.Key.TheVariants as key
 use Rattle.kad_krpc.specs.declared.message.KrpcFault.{KrpcFault}
 use Rattle.kad_krpc.specs.declared.message.KrpcFault.TheVariants.{Bad, Missing, Shape, Records, NoMemory}
 use Rattle.kad_krpc.specs.Records.{node_in, proved_in, records_in}
-use Rattle.kad_krpc.specs.Reading.{Step, then, of_kind, needed, optional, as_some, records, id_of, port_of, kind_of, code_text_of, is_implied, port_by, rest_at, ask_by, ask_of, method_in, nodes_by, snodes_by, values_by, answer_by, answer_at, body_at, said, Says, Fails, Refuses, Gives, IfRefused}
+use Rattle.kad_krpc.specs.Reading.{Step, then, of_kind, needed, optional, as_some, records, id_of, port_of, kind_of, code_text_of, is_implied, port_by, rest_at, ask_by, ask_of, method_in, nodes_by, snodes_by, values_by, answer_by, answer_at, body_at, said, Says, Fails, Refuses, Gives}
 use Rattle.kad_krpc.specs.declared.borrowed.View.{View}
 use Rattle.kad_krpc.specs.Telling.{told}
 use Rattle.kad_krpc.specs.Views.{message_seen, viewed}

@@ -1,16 +1,14 @@
 -- What is told of a value is what it says.
-use Rattle.std.proofs.Common.{◌≡◌, ℕ, is_some, cond, List, Option, Some, None, Result, Ok, Err, IfOk, IfErr, refl, sym, ap, ◌∙◌, subst}
+use Rattle.std.proofs.Common.{◌≡◌, ℕ, is_some, cond, List, Option, Some, None, Ok, Err, refl, ap, ◌∙◌}
 use Rattle.std.specs.Prelude.{codes}
 use Rattle.kad_base.specs.declared.plain.Id.{Id}
 use Rattle.kad_bencode.specs.Keys.{value_of}
 use Rattle.kad_bencode.specs.Parts.{bytes_of, dict_of, dict_in, member_of, member_in}
-use Rattle.kad_bencode.specs.Spelling.{Spells}
 use Rattle.kad_bencode.specs.declared.entries.Pair.{Pair}
 use Rattle.kad_bencode.specs.declared.value.Value.{Value}
 use Rattle.kad_bencode.specs.declared.value.Value.TheOpen as layer
 use Rattle.kad_bencode.specs.declared.value.Value.TheOpen.{Value-F}
 use Rattle.kad_bencode.specs.declared.value.Value.TheViews.{out-Value}
-use Rattle.kad_krpc.specs.declared.message.Message.{Message}
 use Rattle.kad_krpc.specs.declared.message.Message.TheVariants as message
 use Rattle.kad_krpc.specs.declared.message.Ask.TheVariants.{FindNode, GetPeers}
 use Rattle.kad_krpc.specs.declared.message.Key.{Key}
@@ -20,8 +18,8 @@ use Rattle.kad_krpc.specs.declared.message.Kind.{Kind}
 use Rattle.kad_krpc.specs.declared.message.Kind.TheVariants as kind
 use Rattle.kad_krpc.specs.declared.message.Method.{Method}
 use Rattle.kad_krpc.specs.declared.message.Method.TheVariants as method
-use Rattle.kad_krpc.specs.Reading.{Step, then, of_kind, needed, id_of, kind_of, announced_by, method_in, is_read_only, rest_at, arguments_at, ask_by, ask_of, query_at, query_by, answer_by, answer_at, answer_message_at, fault_at, body_at, said}
-use Rattle.kad_krpc.specs.Telling.{as_dict, rest_from, arguments_from, ask_told, ask_from, query_told, answer_from, answer_told, fault_told, body_from, told}
+use Rattle.kad_krpc.specs.Reading.{Step, then, of_kind, needed, id_of, kind_of, announced_by, method_in, is_read_only, rest_at, arguments_at, ask_by, ask_of, query_by, answer_by, answer_at, body_at, said}
+use Rattle.kad_krpc.specs.Telling.{as_dict, rest_from, arguments_from, ask_told, query_told, answer_from, answer_told, fault_told, body_from, told}
 
 -- ---- a dictionary's members
 

@@ -1,5 +1,5 @@
 -- The steps of `said` over the members of values; no public contract speaks of them.
-use Rattle.std.specs.Prelude.{ℕ, ℤ, Bool, cond, is_some, List, codes, Option, Some, None, Result, Ok, Err}
+use Rattle.std.specs.Prelude.{ℕ, cond, is_some, List, codes, Option, Some, None, Ok, Err}
 use Rattle.kad_base.specs.declared.plain.Id.{Id}
 use Rattle.kad_bencode.specs.Parts.{bytes_of, dict_of, member_of}
 use Rattle.kad_bencode.specs.declared.value.Value.{Value}

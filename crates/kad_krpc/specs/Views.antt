@@ -1,7 +1,6 @@
 -- What a view of a message says, as the message that it would be in memory of its own.
 use Rattle.std.specs.Prelude.{ℕ, ℤ, List, Option, Some, None, option_copied, Result, Ok, Err}
 use Rattle.std.specs.Borrow.{Bor}
-use Rattle.kad_bencode.specs.Parts.{list_of}
 use Rattle.kad_krpc.specs.declared.message.Message.{Message}
 use Rattle.kad_krpc.specs.declared.message.Message.TheVariants as message
 use Rattle.kad_krpc.specs.declared.message.Ask.{Ask}

@@ -15,6 +15,7 @@ mod reader;
 mod record;
 mod records;
 mod step;
+mod well;
 mod writer;
 
 pub use borrowed::{AnswerView, AskView, View};
@@ -25,6 +26,7 @@ pub use query::{find_node_into, get_peers_into};
 pub use reader::{decode, decode_view};
 pub use record::split_record;
 pub use records::{Nodes, ProvedNodes};
+pub use well::message_is_well;
 pub use writer::encode;
 
 #[cfg(test)]

@@ -1,6 +1,6 @@
 //! Compact records (BEP 5): nodes of 26 bytes and peers of 6, and this project's nodes with their proofs, of 78.
 ghost use Rattle.std.specs.Prelude.{◌≡◌, ◌+◌, ◌<◌, ◌≤◌, ◌↔◌, length, IfSome, IsNone};
-ghost use Rattle.kad_krpc.specs.Records.{part, port_at, addr_at, node_in, proved_in, record_at};
+ghost use Rattle.kad_krpc.specs.Records.{part, port_at, addr_at, proved_in, record_at};
 
 use kad_base::{Addr, Contact, Id, Ip, Proof, Report};
 
@@ -53,17 +53,6 @@ pub fn split_record<const A: usize>(bytes: &[u8], at: usize) -> Option<([u8; 20]
     let address = array_at(bytes, at + 20);
     let port = read_port(bytes, at + (20 + A));
     Some((id, address, port))
-}
-
-/// The contact of a compact node.
-pub(crate) fn read_node(bytes: &[u8]) -> Contact
-    requires { length bytes.now ≡ 26 }
-    ensures { result ≡ node_in bytes.now }
-{
-    Contact {
-        id: Id(array_at(bytes, 0)),
-        addr: read_addr(bytes, 20),
-    }
 }
 
 /// The report of a node with its proof.

@@ -1,11 +1,21 @@
 //! Compact records that stay in their datagram: nodes (BEP 5), and this project's nodes with their proofs.
-ghost use Rattle.std.specs.Prelude.{◌≡◌, ◌≢◌, ◌%◌, length, slice_get, IfOk, MatchOption};
+ghost use Rattle.std.specs.Prelude.{◌≡◌, ◌≢◌, ◌%◌, [], length, slice_get, IfOk, MatchOption};
 ghost use Rattle.kad_krpc.specs.Records.{node_in, proved_in, records_in};
 
-use crate::record::{NODE, PROVED, read_node, read_proved};
-use kad_base::{Contact, Contacts, List, NoMemory, Report, Reports};
+use crate::record::{NODE, PROVED, read_proved, split_record};
+use kad_base::{Addr, Contact, Contacts, Id, Ip, List, NoMemory, Report, Reports};
 use std::alloc::Global;
 use std::marker::Model;
+
+/// An empty list with room for so many items.
+fn with_room<T>(alloc: Global, room: usize) -> Result<List<T>, NoMemory>
+    ensures { IfOk result (λ list. list ≡ []) }
+{
+    match Vec::with_capacity(alloc, room) {
+        Ok(items) => Ok(List::from_vec(items)),
+        Err(_) => Err(NoMemory),
+    }
+}
 
 /// Compact nodes, one after another; contracts see the list of contacts.
 #[derive(Drop)]
@@ -54,7 +64,7 @@ impl<'a> Nodes<'a> {
     pub fn to_list(&self, alloc: Global) -> Result<Contacts, NoMemory>
         ensures { IfOk result (λ contacts. contacts ≡ self.now) }
     {
-        let mut contacts = List::new(alloc);
+        let mut contacts = with_room(alloc, self.len())?;
         for i in 0..self.len() {
             match self.contact_at(i) {
                 Some(contact) => contacts.push(contact)?,
@@ -80,8 +90,14 @@ fn node_at(bytes: &[u8], i: usize) -> Option<Contact>
     if i >= bytes.len() / NODE {
         return None;
     }
-    let at = i * NODE;
-    Some(read_node(&bytes[at..at + NODE]))
+    let (id, ip, port) = split_record(bytes, i * NODE)?;
+    Some(Contact {
+        id: Id(id),
+        addr: Addr {
+            ip: Ip::V4(ip),
+            port,
+        },
+    })
 }
 
 /// Nodes with their proofs, one after another; contracts see the list of reports.
@@ -131,7 +147,7 @@ impl<'a> ProvedNodes<'a> {
     pub fn to_list(&self, alloc: Global) -> Result<Reports, NoMemory>
         ensures { IfOk result (λ reports. reports ≡ self.now) }
     {
-        let mut reports = List::new(alloc);
+        let mut reports = with_room(alloc, self.len())?;
         for i in 0..self.len() {
             match self.report_at(i) {
                 Some(report) => reports.push(report)?,

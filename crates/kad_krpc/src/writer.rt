@@ -5,8 +5,10 @@ ghost use Rattle.kad_bencode.specs.Keys.{put};
 ghost use Rattle.kad_krpc.specs.Records.{addr_bytes, node_bytes, proof_bytes, proved_bytes};
 ghost use Rattle.kad_krpc.specs.Form.{IsWritable, nodes_value, snodes_value, peers_value, answer_pairs, announced, arguments_of, name_of, message_pairs, form};
 ghost use Rattle.kad_krpc.specs.Filing.{put_maybe, put_read_only};
+ghost use Rattle.kad_krpc.specs.Reading.{Says};
 
 use crate::message::{Answer, Ask, Message, Port};
+use crate::well::message_is_well;
 use kad_base::{
     Addr, Addrs, Bytes, Contact, Contacts, Id, Ip, List, NoMemory, Proof, Report, Reports,
 };
@@ -303,11 +305,13 @@ fn pairs_of(alloc: Global, message: &Message) -> Result<Entries, NoMemory>
     }
 }
 
-/// The written form of a message.
+/// The written form of a message, which says that message and no other: `decode` gives it back.
 pub fn encode(alloc: Global, message: &Message) -> Result<Bytes, NoMemory>
     requires { IsWritable message.now }
-    ensures { IfOk result (λ bytes. bytes ≡ form message.now) }
+    ensures form { IfOk result (λ bytes. bytes ≡ form message.now) }
+    ensures says { IfOk result (λ bytes. Says bytes message.now) }
 {
+    message_is_well(message);
     let value = Value::Dict(pairs_of(alloc, message)?);
     let mut bytes = Vec::new(alloc);
     write(&value, &mut bytes)?;

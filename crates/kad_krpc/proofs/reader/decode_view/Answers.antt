@@ -1,4 +1,3 @@
-use Rattle.std.proofs.Common.{ap}
 use Rattle.kad_krpc.proofs.Decoding.{says, refuses, only, refused, bad_only, bad_refused}
 use Rattle.kad_krpc.proofs.reader.decode_view.Goals as goal
 
