@@ -9,7 +9,8 @@ use Rattle.kad_bencode.proofs.filed.file_all.Given as goal
 abbrev pub invariant-loop-rest : goal.invariant-loop-rest
 invariant-loop-rest l = record {
   within : length l.rest ≤ l.to;
-  so_far : (ps : List (Pair Value)) → ArePairs (take (l.to - l.from) (drop l.from l.bytes)) ps → FiledSoFar l.bytes l.to l.rest l.count l.places ps;
+  so_far : (ps : List (Pair Value)) → ArePairs (take (l.to - l.from) (drop l.from l.bytes)) ps
+      → FiledSoFar l.bytes l.to l.rest l.count l.places ps;
 }
 
 abbrev pub decreases-loop-rest : goal.decreases-loop-rest

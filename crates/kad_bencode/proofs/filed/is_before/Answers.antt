@@ -4,7 +4,8 @@ use Rattle.kad_bencode.proofs.filed.is_before.Goals as goal
 
 pub returns-then-i-places : goal.returns-then-i-places
 returns-then-i-places c keys a h =
-    absurd (let n = as_many c.args.bytes.now c.args.places.now keys a in let t = c.if-i-places.true in omega (arith, n, h, t))
+    absurd
+    (let n = as_many c.args.bytes.now c.args.places.now keys a in let t = c.if-i-places.true in omega (arith, n, h, t))
 
 pub returns : goal.returns
 returns c keys a =
