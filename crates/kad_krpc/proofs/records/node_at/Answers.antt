@@ -8,5 +8,6 @@ returns-then-i-bytes c = sym (no_record 26 node_in c.args.bytes.now c.args.i (om
 
 pub returns : goal.returns
 returns c =
-    ap Some (node_split c.args.bytes.now (c.args.i * 26) (omega arith) (c.in_ok-id.id, c.in_ok-id.ip, c.in_ok-id.port) c.in_ok-id.ensures.record)
+    ap Some (node_split c.args.bytes.now (c.args.i * 26) (omega arith)
+    (c.in_ok-id.id, c.in_ok-id.ip, c.in_ok-id.port) c.in_ok-id.ensures.record)
     ∙ sym (record_there 26 node_in c.args.bytes.now c.args.i (omega arith))
