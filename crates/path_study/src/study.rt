@@ -4,6 +4,7 @@ ghost use Rattle.std.specs.List.{All};
 ghost use Rattle.kad_base.specs.Contacts.{IsUsable};
 ghost use Rattle.contact_table.specs.TableStep.{contacts_of};
 ghost use Rattle.lookup_run.specs.Lookup.{IsWithinLimits};
+ghost use Rattle.path_study.specs.declared.study.StudyFault.{StudyFault};
 
 use crate::draws::Draws;
 use crate::link::StudyLink;
@@ -33,7 +34,11 @@ pub enum StudyFault {
 
 impl StudyFault {
     /// The exit status of the program.
-    pub fn status(self) -> u8 {
+    pub fn status(self) -> u8
+        ensures start { self ≡ StudyFault.Start → result ≡ 1 }
+        ensures usage { self ≡ StudyFault.Usage → result ≡ 2 }
+        ensures memory { self ≡ StudyFault.Memory → result ≡ 9 }
+    {
         match self {
             StudyFault::Start => 1,
             StudyFault::Usage => 2,
