@@ -1,15 +1,12 @@
 //! The link of one lookup: a query to a node is answered as that node answers, after its time.
 ghost use Rattle.std.specs.Prelude.{◌≡◌, ◌≤◌, length, None, IfSome, IfOk};
 
+use crate::answers::{MISLEADING, invented, query_tx, write_answer};
 use crate::network::{Network, Node};
 use crate::words::Attack;
-use kad_base::{Addr, Came, Contact, Contacts, Failed, Id, Ip, Link, List, NoMemory};
+use kad_base::{Addr, Came, Contact, Contacts, Failed, Id, Link, List, NoMemory};
 use kad_distance::k_least;
-use kad_krpc::{Answer, Message, View, decode_view, encode_into};
 use std::alloc::Global;
-
-/// How many contacts a hostile node names, which is how many of an answer a lookup reads.
-const MISLEADING: u8 = 16;
 
 /// An answer on its way: when it comes, from where, and to which query.
 #[derive(Clone, Copy, Debug, Drop)]
@@ -39,17 +36,6 @@ pub struct StudyLink<'a> {
     recv_faults: u64,
 }
 
-/// The transaction id of a query of four bytes, as a lookup's are.
-fn query_tx(bytes: &[u8]) -> Option<[u8; 4]> {
-    match decode_view(bytes) {
-        Ok(View::Query { tx, .. }) => match tx {
-            [a, b, c, d] => Some([*a, *b, *c, *d]),
-            _ => None,
-        },
-        _ => None,
-    }
-}
-
 /// Puts an answer behind those that come no later.
 fn put(waiting: &mut Vec<Waiting>, answer: Waiting) -> Result<(), Failed> {
     let place = waiting.partition_point(|other| other.at <= answer.at);
@@ -66,56 +52,6 @@ fn take_due(waiting: &mut Vec<Waiting>, until: u64) -> Option<Waiting> {
         return None;
     }
     Some(waiting.remove(0))
-}
-
-/// The contacts that a hostile node invents: each next to the target, and at an address of its own where nobody is.
-fn invented(alloc: Global, target: &Id, number: u32) -> Result<Contacts, NoMemory> {
-    let [_, x, y, z] = number.to_be_bytes();
-    let mut contacts = List::new(alloc);
-    for at in 1..=u32::from(MISLEADING) {
-        let apart = number.wrapping_mul(u32::from(MISLEADING)).wrapping_add(at);
-        let mut id = *target;
-        for (byte, change) in id.0[16..].iter_mut().zip(apart.to_be_bytes()) {
-            *byte ^= change;
-        }
-        contacts.push(Contact {
-            id,
-            addr: Addr {
-                ip: Ip::V4([11, x, y, z]),
-                port: at as u16,
-            },
-        })?;
-    }
-    Ok(contacts)
-}
-
-/// Writes an answer in front of the buffer, as much of it as there is room for, and answers how much that is.
-fn write_answer(
-    alloc: Global,
-    id: Id,
-    nodes: Contacts,
-    tx: &[u8; 4],
-    buf: &mut [u8],
-) -> Result<usize, Failed>
-    ensures room { IfOk result (λ n. n ≤ length buf.old) }
-{
-    let answer = Answer {
-        id,
-        nodes: Some(nodes),
-        snodes: None,
-        token: None,
-        values: None,
-    };
-    let Ok(tx) = List::from_slice(alloc, tx) else {
-        return Err(Failed);
-    };
-    let mut form = [0; 4096];
-    let Some(len) = encode_into(&Message::Answer { tx, answer }, &mut form) else {
-        return Err(Failed);
-    };
-    let len = len.min(form.len()).min(buf.len());
-    buf[..len].copy_from_slice(&form[..len]);
-    Ok(len)
 }
 
 impl<'a> StudyLink<'a> {

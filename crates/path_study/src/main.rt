@@ -3,6 +3,7 @@
 //! here from a seed. It opens no socket and reads no clock: time passes only where the link says so.
 #![tactic(auto)]
 
+mod answers;
 mod draws;
 mod link;
 mod network;
