@@ -1,0 +1,95 @@
+-- A datagram has one answer.
+use Rattle.std.proofs.Common.{◌≡◌, ◌≢◌, ℕ, Bool, List, Option, Some, None, refl, sym, ap, subst, ◌∙◌}
+use Rattle.kad_base.specs.declared.plain.Id.{Id}
+use Rattle.kad_base.specs.declared.plain.Addr.{Addr}
+use Rattle.kad_base.specs.declared.plain.Contact.{Contact}
+use Rattle.kad_krpc.specs.declared.message.Ask.{Ask}
+use Rattle.kad_krpc.specs.declared.message.Ask.TheVariants.{Ping, FindNode, GetPeers, AnnouncePeer, Other}
+use Rattle.kad_krpc.specs.declared.message.Message.{Message}
+use Rattle.kad_krpc.specs.declared.message.Message.TheVariants as message
+use Rattle.contact_table.specs.declared.calls.TableCall.TheVariants.{Seen}
+use Rattle.contact_table.specs.declared.calls.TableReply.{TableReply}
+use Rattle.contact_table.specs.declared.calls.TableReply.TheVariants as reply
+use Rattle.contact_table.specs.TableState.{TableState, SoundTable}
+use Rattle.contact_table.specs.Told.{HasMemory}
+use Rattle.node_serve.specs.AnswerOf.{AnswerOf, IsTold, told_by}
+use Rattle.node_serve.specs.NodeState.{NodeState, with_parts}
+use Rattle.node_serve.specs.Replies.{Announces, Outcome, RepliesWith, refused, full, added}
+use Rattle.kad_krpc.proofs.ReadBack.{one_said}
+use Rattle.contact_table.proofs.Outcome.{one-state}
+
+-- ---- the query
+
+same_tx : (t u : List ℕ) (r q : Bool) (a b : Ask) → message.Query t r a ≡ message.Query u q b → t ≡ u
+same_tx t u r q a b e = cc
+
+same_mark : (t u : List ℕ) (r q : Bool) (a b : Ask) → message.Query t r a ≡ message.Query u q b → r ≡ q
+same_mark t u r q a b e = cc
+
+same_ask : (t u : List ℕ) (r q : Bool) (a b : Ask) → message.Query t r a ≡ message.Query u q b → a ≡ b
+same_ask t u r q a b e = cc
+
+-- ---- the reply
+
+announced_once : (s : NodeState) (from : Addr) (at : ℕ) (tx : List ℕ) (key : Id) (peer : Addr) (token : List ℕ) (o p : Outcome) → Announces s from at tx key peer token o → Announces s from at tx key peer token p → o ≡ p
+announced_once s from at tx key peer token o p (refused h e) (refused k f) = e ∙ sym f
+announced_once s from at tx key peer token o p (refused h e) (full k n f) = absurd (h k)
+announced_once s from at tx key peer token o p (refused h e) (added k n f) = absurd (h k)
+announced_once s from at tx key peer token o p (full h m e) (refused k f) = absurd (k h)
+announced_once s from at tx key peer token o p (full h m e) (full k n f) = e ∙ sym f
+announced_once s from at tx key peer token o p (full h m e) (added k n f) = absurd (n m)
+announced_once s from at tx key peer token o p (added h m e) (refused k f) = absurd (k h)
+announced_once s from at tx key peer token o p (added h m e) (full k n f) = absurd (m n)
+announced_once s from at tx key peer token o p (added h m e) (added k n f) = e ∙ sym f
+
+replies_once : (s : NodeState) (from : Addr) (at : ℕ) (tx : List ℕ) (ask : Ask) (o p : Outcome) → RepliesWith s from at tx ask o → RepliesWith s from at tx ask p → o ≡ p
+replies_once s from at tx (Ping id) o p h k = h ∙ sym k
+replies_once s from at tx (FindNode id target) o p h k = h ∙ sym k
+replies_once s from at tx (GetPeers id key) o p h k = h ∙ sym k
+replies_once s from at tx (AnnouncePeer id key port token) o p h k = announced_once s from at tx key _ token o p h k
+replies_once s from at tx (Other method) o p h k = h ∙ sym k
+
+-- ---- the table
+
+has_memory : (x : TableReply) → x ≢ reply.NoMemory → HasMemory x
+has_memory (reply.Seen seen) h = tt
+has_memory (reply.Gone gone) h = tt
+has_memory (reply.List list) h = tt
+has_memory reply.NoMemory h = absurd (h refl)
+
+told_once : (o : Option Contact) (t x y : TableState) → SoundTable t → IsTold o t x → IsTold o t y → x ≡ y
+told_once None t x y sound h k = h ∙ sym k
+told_once (Some c) t x y sound h k =
+    h.leaves ∙ one-state t 0 0 (Seen c) h.reply k.reply sound h.step k.step (has_memory h.reply h.kept) (has_memory k.reply k.kept) ∙ sym k.leaves
+
+-- ---- the answer
+
+module _ (s : NodeState) (from : Addr) (bytes : List ℕ) (at : ℕ) (m n : Message) (x y : NodeState) (a : AnswerOf s from bytes at m x) (b : AnswerOf s from bytes at n y) where
+  query_same : message.Query a.tx a.read_only a.ask ≡ message.Query b.tx b.read_only b.ask
+  query_same = one_said bytes (message.Query a.tx a.read_only a.ask) (message.Query b.tx b.read_only b.ask) a.query.says b.query.says
+
+  outcome_same : ◌≡◌ {A = Outcome} (record { message = m; peers = x.peers }) (record { message = n; peers = y.peers })
+  outcome_same =
+      let t = same_tx a.tx b.tx a.read_only b.read_only a.ask b.ask query_same in
+      let q = same_ask a.tx b.tx a.read_only b.read_only a.ask b.ask query_same in
+      replies_once s from at b.tx b.ask (record { message = m; peers = x.peers }) (record { message = n; peers = y.peers })
+      (subst (λ ask. RepliesWith s from at b.tx ask (record { message = m; peers = x.peers })) q
+      (subst (λ tx. RepliesWith s from at tx a.ask (record { message = m; peers = x.peers })) t a.replies))
+      b.replies
+
+  pub one_reply : m ≡ n
+  one_reply = ap (λ (o : Outcome). o.message) outcome_same
+
+  pub one_next : SoundTable s.table → x ≡ y
+  one_next sound =
+      let r = same_mark a.tx b.tx a.read_only b.read_only a.ask b.ask query_same in
+      let q = same_ask a.tx b.tx a.read_only b.read_only a.ask b.ask query_same in
+      let told : IsTold (told_by s.policy b.read_only b.ask from) s.table x.table =
+      subst (λ mark. IsTold (told_by s.policy mark b.ask from) s.table x.table) r
+      (subst (λ ask. IsTold (told_by s.policy a.read_only ask from) s.table x.table) q a.told) in
+      let table = told_once (told_by s.policy b.read_only b.ask from) s.table x.table y.table sound told b.told in
+      let peers = ap (λ (o : Outcome). o.peers) outcome_same in
+      a.rest
+      ∙ ap (λ t. with_parts s t x.peers) table
+      ∙ ap (λ p. with_parts s y.table p) peers
+      ∙ sym b.rest

@@ -1,0 +1,11 @@
+use Rattle.node_serve.proofs.Ending.{ends_of}
+use Rattle.node_serve.proofs.node.Node.answer.Goals as goal
+
+pub returns-in-Ok-clause-silent : goal.returns-in-Ok-clause-silent
+returns-in-Ok-clause-silent c = (λ e. absurd cc, λ h. let n = c.in-Some.ensures.silent h in absurd cc)
+
+pub returns-in-Err-clause-silent : goal.returns-in-Err-clause-silent
+returns-in-Err-clause-silent c = (λ e. absurd cc, λ h. let n = c.in-Some.ensures.silent h in absurd cc)
+
+pub returns-in-Err-clause-no_memory : goal.returns-in-Err-clause-no_memory
+returns-in-Err-clause-no_memory c e = ends_of c.args.self.now c.args.from c.args.bytes.now c.in-Some.asked c.args.at c.answer_query.new.self c.in-Some.ensures.query c.in-Err.ensures.err

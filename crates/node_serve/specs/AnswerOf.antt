@@ -1,0 +1,103 @@
+-- The answer to a datagram: its reply, made from the state before it, and the state after it. Whoever asks in the open is
+-- told to the routing table afterwards (Kademlia, 2002, section 2.2), but who is read-only isn't (BEP 43).
+use Rattle.std.specs.Prelude.{◌≡◌, ◌≢◌, ℕ, Bool, true, false, List, Option, Some, None}
+use Rattle.kad_base.specs.declared.plain.Id.{Id}
+use Rattle.kad_base.specs.declared.plain.Addr.{Addr}
+use Rattle.kad_base.specs.declared.plain.Contact.{Contact}
+use Rattle.kad_base.specs.declared.plain.Policy.{Policy}
+use Rattle.kad_base.specs.declared.plain.Policy.TheVariants.{Plain, Puzzled}
+use Rattle.kad_krpc.specs.declared.message.Ask.{Ask}
+use Rattle.kad_krpc.specs.declared.message.Ask.TheVariants.{Ping, FindNode, GetPeers, AnnouncePeer, Other}
+use Rattle.kad_krpc.specs.declared.message.Message.{Message}
+use Rattle.kad_krpc.specs.Form.{form}
+use Rattle.kad_krpc.specs.Records.{ip_bytes}
+use Rattle.contact_table.specs.declared.calls.TableCall.TheVariants.{Seen}
+use Rattle.contact_table.specs.declared.calls.TableReply.{TableReply}
+use Rattle.contact_table.specs.declared.calls.TableReply.TheVariants.{NoMemory}
+use Rattle.contact_table.specs.TableState.{TableState}
+use Rattle.contact_table.specs.TableStep.{TableStep, table_after}
+use Rattle.peer_store.specs.Peers.{Held, purged}
+use Rattle.peer_store.specs.Tokens.{IsAccepted}
+use Rattle.node_serve.specs.declared.node.Answered.{Answered}
+use Rattle.node_serve.specs.declared.node.Answered.TheVariants as answered
+use Rattle.node_serve.specs.NodeState.{NodeState, with_parts}
+use Rattle.node_serve.specs.Queries.{IsQuery}
+use Rattle.node_serve.specs.Replies.{RepliesWith}
+
+-- ---- who is told to the table
+
+abbrev pub asker_of : Ask → Option Id
+asker_of (Ping id) = Some id
+asker_of (FindNode id target) = Some id
+asker_of (GetPeers id key) = Some id
+asker_of (AnnouncePeer id key port token) = Some id
+asker_of (Other method) = None
+
+abbrev pub contact_at : Addr → Option Id → Option Contact
+contact_at from None = None
+contact_at from (Some id) = Some (record { id = id; addr = from })
+
+-- the asker, unless it is read-only or the node asks for puzzles, which a query can't show to be solved
+abbrev pub told_by : Policy → Bool → Ask → Addr → Option Contact
+told_by Plain false ask from = contact_at from (asker_of ask)
+told_by Plain true ask from = None
+told_by (Puzzled c1 c2) read_only ask from = None
+
+-- the table was told that the contact was seen, and had the memory for it
+pub record IsSeen (c : Contact) (before after : TableState) : Type 0 where
+  pub reply : TableReply
+  pub step : TableStep before 0 (Seen c) reply
+  pub kept : reply ≢ NoMemory
+  pub leaves : after ≡ table_after before 0 (Seen c) reply
+
+abbrev pub IsTold : Option Contact → TableState → TableState → Type 0
+IsTold None before after = after ≡ before
+IsTold (Some c) before after = IsSeen c before after
+
+-- ---- the answer
+
+-- the datagram is a query, this is its reply, and this the node after it
+pub record AnswerOf (s : NodeState) (from : Addr) (bytes : List ℕ) (at : ℕ) (reply : Message) (next : NodeState) : Type 0 where
+  pub tx : List ℕ
+  pub read_only : Bool
+  pub ask : Ask
+  pub query : IsQuery from bytes tx read_only ask
+  pub replies : RepliesWith s from at tx ask (record { message = reply; peers = next.peers })
+  pub told : IsTold (told_by s.policy read_only ask from) s.table next.table
+  pub rest : next ≡ with_parts s next.table next.peers
+
+-- the text is the written form of the reply
+pub record Answers (s : NodeState) (from : Addr) (bytes : List ℕ) (at : ℕ) (text : List ℕ) (next : NodeState) : Type 0 where
+  pub reply : Message
+  pub answer : AnswerOf s from bytes at reply next
+  pub written : text ≡ form reply
+
+-- ---- want of memory
+
+-- an announcement whose token is accepted
+abbrev pub IsAdmitted : NodeState → Addr → ℕ → Ask → Type 0
+IsAdmitted s from at (AnnouncePeer id key port token) = IsAccepted s.tokens (ip_bytes from.ip) at token
+IsAdmitted s from at other = ⊥
+
+-- what it may leave of the peers: all; those that a purge leaves, where a peer was to be added; or those of the whole
+-- answer, where only the table had no memory for the asker
+pub data LeavesPeers (s : NodeState) (from : Addr) (at : ℕ) (tx : List ℕ) (ask : Ask) (told : Option Contact) (peers : List Held) : Type 0 where
+  all : peers ≡ s.peers → LeavesPeers s from at tx ask told peers
+  purged_only : IsAdmitted s from at ask → peers ≡ purged s.peers at → LeavesPeers s from at tx ask told peers
+  whole : (reply : Message) → told ≢ None → RepliesWith s from at tx ask (record { message = reply; peers = peers }) → LeavesPeers s from at tx ask told peers
+
+-- the datagram is a query whose answer found no memory: the table is as it was
+pub record EndsEarly (s : NodeState) (from : Addr) (bytes : List ℕ) (at : ℕ) (next : NodeState) : Type 0 where
+  pub tx : List ℕ
+  pub read_only : Bool
+  pub ask : Ask
+  pub query : IsQuery from bytes tx read_only ask
+  pub peers : LeavesPeers s from at tx ask (told_by s.policy read_only ask from) next.peers
+  pub rest : next ≡ with_parts s s.table next.peers
+
+-- ---- by what was answered
+
+abbrev pub IfReply : Answered → (ℕ → Type 0) → Type 0
+IfReply (answered.Reply n) P = P n
+IfReply answered.Silent P = Unit {0}
+IfReply answered.NoMemory P = Unit {0}

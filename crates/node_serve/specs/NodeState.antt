@@ -1,0 +1,53 @@
+-- What callers see of a node that answers.
+use Rattle.std.specs.Prelude.{◌≡◌, ℕ, ◌<◌, ◌≤◌, List, []}
+use Rattle.std.specs.List.{All}
+use Rattle.kad_base.specs.declared.plain.Id.{Id}
+use Rattle.kad_base.specs.declared.plain.Report.{Report}
+use Rattle.kad_base.specs.declared.plain.Policy.{Policy}
+use Rattle.kad_base.specs.Limits.{max_k}
+use Rattle.kad_base.specs.Puzzles.{Passes}
+use Rattle.contact_table.specs.TableState.{TableState}
+use Rattle.peer_store.specs.Peers.{Held}
+use Rattle.peer_store.specs.Tokens.{TokensState}
+
+-- its identifier, how many contacts a reply names, under which policy it answers, its routing table, the peers that were
+-- announced to it, the proofs that it keeps, and its tokens
+pub record NodeState : Type 0 where
+  pub own : Id
+  pub k : ℕ
+  pub policy : Policy
+  pub table : TableState
+  pub peers : List Held
+  pub proofs : List Report
+  pub tokens : TokensState
+
+-- the table is the node's own, k is within its limits, and each proof passes
+pub record IsNode (s : NodeState) : Type 0 where
+  pub own : s.table.own ≡ s.own
+  pub some_nodes : 0 < s.k
+  pub few_nodes : s.k ≤ max_k
+  pub proofs : All (Passes s.policy) s.proofs
+
+-- a node that begins at the moment: nobody has announced a peer to it, and its tokens are drawn from the random bytes
+abbrev pub new_node : Id → ℕ → Policy → TableState → List Report → List ℕ → ℕ → NodeState
+new_node own k policy table proofs random began = record {
+  own = own;
+  k = k;
+  policy = policy;
+  table = table;
+  peers = [];
+  proofs = proofs;
+  tokens = record { seed = random; began = began };
+}
+
+-- the node with another table and other peers
+abbrev pub with_parts : NodeState → TableState → List Held → NodeState
+with_parts s table peers = record {
+  own = s.own;
+  k = s.k;
+  policy = s.policy;
+  table = table;
+  peers = peers;
+  proofs = s.proofs;
+  tokens = s.tokens;
+}

@@ -1,0 +1,131 @@
+-- What a node replies to a query, and the peers that it holds then, by the first rule that fits (BEP 5). The nodes that it
+-- names are Kademlia's (2002, section 2.3). `snodes`, the limit of peers and the text of a refusal are this project's own.
+use Rattle.std.specs.Prelude.{◌≡◌, ℕ, Bool, true, false, List, [], ◌∷◌, filter, find, flat_map, codes, pos, Option, Some, None, option_to_list}
+use Rattle.kad_base.specs.declared.plain.Id.{Id}
+use Rattle.kad_base.specs.declared.plain.Ip.{Ip}
+use Rattle.kad_base.specs.declared.plain.Ip.TheVariants.{V4, V6}
+use Rattle.kad_base.specs.declared.plain.Addr.{Addr}
+use Rattle.kad_base.specs.declared.plain.Contact.{Contact}
+use Rattle.kad_base.specs.declared.plain.Report.{Report}
+use Rattle.kad_base.specs.declared.plain.Policy.{Policy}
+use Rattle.kad_base.specs.declared.plain.Policy.TheVariants.{Plain, Puzzled}
+use Rattle.kad_base.specs.Contacts.{same}
+use Rattle.kad_distance.specs.KClosest.{k_closest}
+use Rattle.kad_krpc.specs.declared.message.Ask.{Ask}
+use Rattle.kad_krpc.specs.declared.message.Ask.TheVariants.{Ping, FindNode, GetPeers, AnnouncePeer, Other}
+use Rattle.kad_krpc.specs.declared.message.Port.{Port}
+use Rattle.kad_krpc.specs.declared.message.Port.TheVariants.{Given, Implied}
+use Rattle.kad_krpc.specs.declared.message.Message.{Message}
+use Rattle.kad_krpc.specs.declared.message.Message.TheVariants as message
+use Rattle.kad_krpc.specs.Records.{ip_bytes}
+use Rattle.contact_table.specs.TableStep.{contacts_of}
+use Rattle.peer_store.specs.Peers.{Held, HasNoPlace, with_add, purged, listed}
+use Rattle.peer_store.specs.Tokens.{IsAccepted, epoch_at, token_of}
+use Rattle.node_serve.specs.NodeState.{NodeState}
+
+-- ---- the parts of a reply
+
+abbrev pub is_v4 : Ip → Bool
+is_v4 (V4 bytes) = true
+is_v4 (V6 bytes) = false
+
+abbrev pub of_ipv4 : List Contact → List Contact
+of_ipv4 contacts = filter (λ c. is_v4 c.addr.ip) contacts
+
+-- the k closest of the table to the target, without those that a compact record has no place for
+abbrev pub nodes_for : NodeState → Id → List Contact
+nodes_for s target = of_ipv4 (k_closest target s.k (contacts_of s.table))
+
+-- the kept proof of a contact: that of the first kept report with this contact
+abbrev pub kept_proof : List Report → Contact → Option Report
+kept_proof proofs c = find (λ r. same c r.contact) proofs
+
+-- those that have a kept proof, in order, with it
+abbrev pub proved : List Report → List Contact → List Report
+proved proofs nodes = flat_map (λ c. option_to_list (kept_proof proofs c)) nodes
+
+-- where the node asks for puzzles it names proofs too
+abbrev pub snodes_by : Policy → List Report → List Contact → Option (List Report)
+snodes_by Plain proofs nodes = None
+snodes_by (Puzzled c1 c2) proofs nodes = Some (proved proofs nodes)
+
+abbrev pub snodes_for : NodeState → Id → Option (List Report)
+snodes_for s target = snodes_by s.policy s.proofs (nodes_for s target)
+
+-- the token of the address that asks
+abbrev pub token_for : NodeState → Addr → ℕ → List ℕ
+token_for s from at = token_of s.tokens.seed (epoch_at s.tokens at) (ip_bytes from.ip)
+
+-- the peers, where there is one
+abbrev pub where_some : List Addr → Option (List Addr)
+where_some [] = None
+where_some (peer ∷ peers) = Some (peer ∷ peers)
+
+abbrev pub values_for : NodeState → Id → ℕ → Option (List Addr)
+values_for s key at = where_some (listed s.peers key at)
+
+-- ---- replies
+
+-- the node's identifier alone
+abbrev pub named : List ℕ → Id → Message
+named tx own = message.Answer tx (record { id = own; nodes = None; snodes = None; token = None; values = None })
+
+abbrev pub found : List ℕ → NodeState → Id → Message
+found tx s target = message.Answer tx (record {
+  id = s.own;
+  nodes = Some (nodes_for s target);
+  snodes = snodes_for s target;
+  token = None;
+  values = None;
+})
+
+abbrev pub peers_found : List ℕ → NodeState → Addr → ℕ → Id → Message
+peers_found tx s from at key = message.Answer tx (record {
+  id = s.own;
+  nodes = Some (nodes_for s key);
+  snodes = snodes_for s key;
+  token = Some (token_for s from at);
+  values = values_for s key at;
+})
+
+-- the error messages of BEP 5: a server error, a protocol error and a method that isn't known
+abbrev pub server_error : List ℕ → Message
+server_error tx = message.Fault tx (pos 202) (codes "Server Error")
+
+abbrev pub bad_token : List ℕ → Message
+bad_token tx = message.Fault tx (pos 203) (codes "Bad Token")
+
+abbrev pub method_unknown : List ℕ → Message
+method_unknown tx = message.Fault tx (pos 204) (codes "Method Unknown")
+
+-- ---- which one comes
+
+-- the peer that is announced: the address that asks, with the port that it names or, where that is implied, its own
+abbrev pub port_for : Addr → Port → ℕ
+port_for from (Given port) = port
+port_for from Implied = from.port
+
+abbrev pub peer_for : Addr → Port → Addr
+peer_for from port = record { ip = from.ip; port = port_for from port }
+
+-- a reply, and the peers that the node holds when it is given
+pub record Outcome : Type 0 where
+  pub message : Message
+  pub peers : List Held
+
+-- An announced peer is held where its token is accepted and, after what is old was purged, it has a place. Where it has
+-- none the purge stands.
+pub data Announces (s : NodeState) (from : Addr) (at : ℕ) (tx : List ℕ) (key : Id) (peer : Addr) (token : List ℕ) (o : Outcome) : Type 0 where
+  refused : ¬ IsAccepted s.tokens (ip_bytes from.ip) at token
+      → o ≡ record { message = bad_token tx; peers = s.peers } → Announces s from at tx key peer token o
+  full : IsAccepted s.tokens (ip_bytes from.ip) at token → HasNoPlace (purged s.peers at) (key, peer)
+      → o ≡ record { message = server_error tx; peers = purged s.peers at } → Announces s from at tx key peer token o
+  added : IsAccepted s.tokens (ip_bytes from.ip) at token → ¬ HasNoPlace (purged s.peers at) (key, peer)
+      → o ≡ record { message = named tx s.own; peers = with_add (purged s.peers at) (key, peer) at } → Announces s from at tx key peer token o
+
+abbrev pub RepliesWith : NodeState → Addr → ℕ → List ℕ → Ask → Outcome → Type 0
+RepliesWith s from at tx (Ping id) o = o ≡ record { message = named tx s.own; peers = s.peers }
+RepliesWith s from at tx (FindNode id target) o = o ≡ record { message = found tx s target; peers = s.peers }
+RepliesWith s from at tx (GetPeers id key) o = o ≡ record { message = peers_found tx s from at key; peers = s.peers }
+RepliesWith s from at tx (AnnouncePeer id key port token) o = Announces s from at tx key (peer_for from port) token o
+RepliesWith s from at tx (Other method) o = o ≡ record { message = method_unknown tx; peers = s.peers }
