@@ -23,7 +23,7 @@ read_only bytes tx m only q =
     sym (ap query_tx same)
 
 -- bytes that are refused say none
-refused_none : (bytes tx : List ℕ) (fault : KrpcFault) → fault ≢ NoMemory → ((n : Message) → Says bytes n → Gives (Ok n) (Err fault)) → SaysQuery bytes tx → ⊥
+pub refused_none : (bytes tx : List ℕ) (fault : KrpcFault) → fault ≢ NoMemory → ((n : Message) → Says bytes n → Gives (Ok n) (Err fault)) → SaysQuery bytes tx → ⊥
 refused_none bytes tx NoMemory not only q = not refl
 refused_none bytes tx (Bad bad) not only q = let e = only _ q.says in absurd cc
 refused_none bytes tx (Missing key) not only q = let e = only _ q.says in absurd cc

@@ -1,3 +1,9 @@
 pub mod Spending
+pub mod Numbering
+pub mod Sharing
+pub mod Knowing
+pub mod Standing
+pub mod Choosing
+pub mod Answering
 pub mod Asking
 pub mod Nexts

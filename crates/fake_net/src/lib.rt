@@ -1,13 +1,24 @@
-//! Networks in memory: a link that plays a script, and tells what it did. It opens no socket and reads no clock.
+//! Networks in memory, which tell what they did: a link that plays a script, and a whole network that follows from a seed.
+//! They open no socket and read no clock.
 #![tactic(auto)]
 
 mod laws;
 mod link;
+mod nodes;
+mod replies;
 mod script;
+mod sim_net;
+#[cfg(test)]
+mod sim_tests;
+mod telling;
+mod waiting;
 
 pub use laws::{none_next, one_next};
 pub use link::ScriptLink;
+pub use replies::Conduct;
 pub use script::{Asked, Script, ScriptEvent};
+pub use sim_net::SimNet;
+pub use waiting::Waiting;
 
 #[cfg(test)]
 mod tests;

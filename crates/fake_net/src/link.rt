@@ -2,9 +2,10 @@
 ghost use Rattle.std.specs.Prelude.{◌≡◌, ◌≤◌, ◌⊎◌, ◌++◌, ◌∷◌, [], ◌↔◌, length, All, Contains, Some, None, IfOk, OnOk, OnErr, IsErr, IsTrue, MatchOption};
 ghost use Rattle.kad_base.specs.declared.plain.Event.{Event};
 ghost use Rattle.kad_base.specs.Outside.{Grows, EventOf, Arrives, came_at};
-ghost use Rattle.fake_net.specs.Scripts.{one_more, SameSends, SameReceives, Asks, IsWithin, IsWritableEvent, AnswerNext, Receives};
+ghost use Rattle.fake_net.specs.Scripts.{one_more, SameSends, SameReceives, Asks, IsWritableEvent, AnswerNext, Receives};
 
 use crate::script::{Asked, Script, ScriptEvent, ask, come};
+use crate::telling::{came_at, telling, telling_came, telling_sent, telling_unsent};
 use kad_base::{Addr, Came, Event, Failed, Link, List, NoMemory, Numbers};
 use std::alloc::Global;
 use std::marker::Model;
@@ -58,96 +59,6 @@ fn is_in(numbers: &[u64], number: u64) -> bool
     ensures { IsTrue result ↔ Contains numbers.now number }
 {
     numbers.contains(&number)
-}
-
-/// The transcript and one event more, while there is memory for it.
-fn telling(told: Option<List<Event>>, event: Event) -> Option<List<Event>>
-    ensures { Grows told result (λ t. t ≡ event ∷ []) }
-{
-    let mut events = told?;
-    match events.push(event) {
-        Ok(()) => Some(events),
-        Err(_) => None,
-    }
-}
-
-fn telling_sent(
-    alloc: Global,
-    told: Option<List<Event>>,
-    to: Addr,
-    bytes: &[u8],
-) -> Option<List<Event>>
-    ensures { Grows told result (λ t. t ≡ Event.Sent to bytes.now ∷ []) }
-{
-    let Ok(bytes) = List::from_slice(alloc, bytes) else {
-        return None;
-    };
-    telling(told, Event::Sent { to, bytes })
-}
-
-fn telling_unsent(
-    alloc: Global,
-    told: Option<List<Event>>,
-    to: Addr,
-    bytes: &[u8],
-) -> Option<List<Event>>
-    ensures { Grows told result (λ t. t ≡ Event.Unsent to bytes.now ∷ []) }
-{
-    let Ok(bytes) = List::from_slice(alloc, bytes) else {
-        return None;
-    };
-    telling(told, Event::Unsent { to, bytes })
-}
-
-fn telling_got(
-    alloc: Global,
-    told: Option<List<Event>>,
-    from: Addr,
-    bytes: &[u8],
-    until: u64,
-    at: u64,
-) -> Option<List<Event>>
-    ensures { Grows told result (λ t. t ≡ Event.Got from bytes.now until at ∷ []) }
-{
-    let Ok(bytes) = List::from_slice(alloc, bytes) else {
-        return None;
-    };
-    telling(
-        told,
-        Event::Got {
-            from,
-            bytes,
-            until,
-            at,
-        },
-    )
-}
-
-/// The transcript after a receive that answered.
-fn telling_came(
-    alloc: Global,
-    told: Option<List<Event>>,
-    came: &Came,
-    buf: &[u8],
-    until: u64,
-) -> Option<List<Event>>
-    requires { IsWithin came.now (length buf.now) }
-    ensures { Grows told result (λ t. t ≡ EventOf came.now until buf.now ∷ []) }
-{
-    match *came {
-        Came::Packet { from, len, at } => telling_got(alloc, told, from, &buf[..len], until, at),
-        Came::Quiet { at } => telling(told, Event::Quiet { until, at }),
-    }
-}
-
-/// The moment that a receive tells.
-fn came_at(came: &Came) -> u64
-    ensures { result ≡ came_at came.now }
-{
-    match *came {
-        Came::Packet { at, .. } => at,
-        Came::Quiet { at } => at,
-    }
 }
 
 impl ScriptLink {

@@ -218,7 +218,7 @@ fn written(alloc: Global, asked: &[Asked], to: &Addr, message: &Message) -> Resu
 }
 
 /// Puts the bytes in front of the buffer, as many as there is room for.
-fn fill(buf: &mut [u8], bytes: &[u8]) -> usize
+pub(crate) fn fill(buf: &mut [u8], bytes: &[u8]) -> usize
     ensures len { result ≡ min (length bytes.now) (length buf.old) }
     ensures cut { take result buf.new ≡ take result bytes.now }
     ensures room { length buf.new ≡ length buf.old }
