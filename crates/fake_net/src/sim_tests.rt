@@ -52,7 +52,7 @@ fn fails(rt: &impl Abort, net: &mut SimNet, from: Addr, until: u64, moment: u64)
     assert_eq!(rt; &buf[..len], SERVER_ERROR);
 }
 
-/// The last two bytes of who answers, and those of the first and the last contact that it names, with their ports.
+/// Who answers, how many contacts the answer names, and the first and the last of them.
 fn named(alloc: Global, bytes: &[u8]) -> Option<(Id, usize, Contact, Contact)> {
     match decode(alloc, bytes) {
         Ok(Message::Answer { answer, .. }) => {
@@ -65,7 +65,7 @@ fn named(alloc: Global, bytes: &[u8]) -> Option<(Id, usize, Contact, Contact)> {
     }
 }
 
-/// The query is answered at that moment in that name, with so many contacts, the first and the last at these places.
+/// The query is answered at that moment in that name, with so many contacts, the first and the last at these addresses.
 fn answers(
     rt: &impl Abort,
     alloc: Global,
