@@ -35,32 +35,33 @@ asks_built words command h asks = command_built words command h (asks_begins wor
 
 -- ---- the commands that are built
 
-built_word : (w : Word) → Contains built w → (lookup ≡ w) ⊎ ((check ≡ w) ⊎ (mint ≡ w))
+built_word : (w : Word) → Contains built w → (lookup ≡ w) ⊎ ((check ≡ w) ⊎ ((mint ≡ w) ⊎ (peers ≡ w)))
 built_word w h = go h.0 h.1 h.2
   where
-    go : (k : ℕ) → k < 3 → slice_index_or built k w ≡ w → (lookup ≡ w) ⊎ ((check ≡ w) ⊎ (mint ≡ w))
+    go : (k : ℕ) → k < 4 → slice_index_or built k w ≡ w → (lookup ≡ w) ⊎ ((check ≡ w) ⊎ ((mint ≡ w) ⊎ (peers ≡ w)))
     go zero lt e = inl e
     go (suc zero) lt e = inr (inl e)
-    go (suc (suc zero)) lt e = inr (inr e)
-    go (suc (suc (suc k))) lt e = absurd (omega arith)
+    go (suc (suc zero)) lt e = inr (inr (inl e))
+    go (suc (suc (suc zero))) lt e = inr (inr (inr e))
+    go (suc (suc (suc (suc k)))) lt e = absurd (omega arith)
 
 differ : (a w : Word) → bytes_eq a w ≡ false → a ≡ w → bytes_eq a a ≡ true → ⊥
 differ a w no_ e same = true≢false (sym same ∙ ap (bytes_eq a) e ∙ no_)
 
-other_word : (w : Word) → bytes_eq lookup w ≡ false → bytes_eq check w ≡ false → bytes_eq mint w ≡ false → Contains built w → ⊥
-other_word w a b d h = elim (built_word w h) [
+other_word : (w : Word) → bytes_eq lookup w ≡ false → bytes_eq check w ≡ false → bytes_eq mint w ≡ false → bytes_eq peers w ≡ false → Contains built w → ⊥
+other_word w a b d f h = elim (built_word w h) [
   | inl e ↦ differ lookup w a e refl
-  | inr more ↦ elim more [ inl e ↦ differ check w b e refl | inr e ↦ differ mint w d e refl ]
+  | inr more ↦ elim more [
+    | inl e ↦ differ check w b e refl
+    | inr rest ↦ elim rest [ inl e ↦ differ mint w d e refl | inr e ↦ differ peers w f e refl ]
+  ]
 ]
 
-pub peers_not : (look : LookWords) (announce : Option ℕ) → Contains built (word_of (Peers look announce)) → ⊥
-peers_not look announce h = other_word peers refl refl refl h
-
 pub serve_not : (own : Option Id) (k bits : ℕ) (policy : Policy) (receives : ℕ) → Contains built (word_of (Serve own k bits policy receives)) → ⊥
-serve_not own k bits policy receives h = other_word serve refl refl refl h
+serve_not own k bits policy receives h = other_word serve refl refl refl refl h
 
 pub sim_not : (seed : Option (List ℕ)) (nodes hostile k paths alpha timeout : ℕ) → Contains built (word_of (Sim seed nodes hostile k paths alpha timeout)) → ⊥
-sim_not seed nodes hostile k paths alpha timeout h = other_word sim refl refl refl h
+sim_not seed nodes hostile k paths alpha timeout h = other_word sim refl refl refl refl h
 
 -- ---- the commands that take a link
 
@@ -91,6 +92,12 @@ mint_links words seed c1 c2 tries h t = no_link mint refl refl refl (takes words
 pub lookup_links : (words : List Word) (look : LookWords) → CommandOf words (Lookup look) → (TakesLink words → ⊥) → ⊥
 lookup_links words look h none_ = none_ (subst TakesLink (sym h.begins) (0, lit< tt, refl))
 
+pub peers_links : (words : List Word) (look : LookWords) (announce : Option ℕ) → CommandOf words (Peers look announce) → (TakesLink words → ⊥) → ⊥
+peers_links words look announce h none_ = none_ (subst TakesLink (sym h.begins) (1, lit< tt, refl))
+
+pub peers_asks : (words : List Word) (look : LookWords) (announce : Option ℕ) → CommandOf words (Peers look announce) → Asks words
+peers_asks words look announce h = command_asks words (Peers look announce) h (3, lit< tt, refl)
+
 pub lookup_asks : (words : List Word) (look : LookWords) → CommandOf words (Lookup look) → Asks words
 lookup_asks words look h = command_asks words (Lookup look) h (0, lit< tt, refl)
 
@@ -105,3 +112,13 @@ check_plain words policy h = record { asks = check_asks words policy h; no_link 
 
 pub mint_plain : (words : List Word) (seed : Option (List ℕ)) (c1 c2 tries : ℕ) → CommandOf words (Mint seed c1 c2 tries) → AsksPlain words
 mint_plain words seed c1 c2 tries h = record { asks = mint_asks words seed c1 c2 tries h; no_link = λ takes. mint_links words seed c1 c2 tries h takes }
+
+-- a command that neither takes a link nor is one of those that are built without one is not asked for
+pub plain_alone : (words : List Word) (command : Command) → CommandOf words command → (TakesLink words → ⊥) → ((policy : Policy) → command ≡ Check policy → ⊥)
+    → ((seed : Option (List ℕ)) (c1 c2 tries : ℕ) → command ≡ Mint seed c1 c2 tries → ⊥) → AsksPlain words → ⊥
+plain_alone words (Lookup look) c none_ no_check no_mint h = lookup_links words look c none_
+plain_alone words (Peers look announce) c none_ no_check no_mint h = peers_links words look announce c none_
+plain_alone words (Serve own k bits policy receives) c none_ no_check no_mint h = serve_not own k bits policy receives (asks_built words (Serve own k bits policy receives) c h.asks)
+plain_alone words (Check policy) c none_ no_check no_mint h = no_check policy refl
+plain_alone words (Mint seed c1 c2 tries) c none_ no_check no_mint h = no_mint seed c1 c2 tries refl
+plain_alone words (Sim seed nodes hostile k paths alpha timeout) c none_ no_check no_mint h = sim_not seed nodes hostile k paths alpha timeout (asks_built words (Sim seed nodes hostile k paths alpha timeout) c h.asks)

@@ -5,7 +5,7 @@ use Rattle.kad_base.specs.declared.plain.Id.{Id}
 use Rattle.kad_base.specs.declared.plain.Policy.{Policy}
 use Rattle.kad_base.specs.declared.plain.Event.{Event}
 use Rattle.kad_base.specs.Outside.{Grows}
-use Rattle.lookup_run.specs.declared.plain.AskKind.TheVariants.{FindNode}
+use Rattle.lookup_run.specs.declared.plain.AskKind.TheVariants.{FindNode, GetPeers}
 use Rattle.kad_words.specs.Table.{Word}
 use Rattle.kad_words.specs.Plain.{CommandOf}
 use Rattle.kad_words.specs.Bound.{TakesLink}
@@ -19,6 +19,7 @@ use Rattle.node_top.specs.Shown.{Shown, HasFailed}
 use Rattle.node_top.specs.Input.{ReadsTooMuch, HasBadLine}
 use Rattle.node_top.specs.Started.{Start}
 use Rattle.node_top.specs.Looked.{Begun, LookCause, ReportsCause, InputCause, EndsByStrays}
+use Rattle.node_top.specs.Peered.{PeersBegun}
 use Rattle.node_top.specs.Minted.{seed_of, MintCause, FindsNothing}
 use Rattle.node_top.specs.Plainly.{PlainText, HasPlainText, HasPlainCause, ReadsInput, HasNothing, ReadsWell}
 use Rattle.node_top.specs.Commands.{Sought, Seeks, SeeksWell, Needs, GoesWell, TextOf, HasText, HasNoSeeds, HasSeeds, HasStrays, HasFewStrays, HasBegun, HasCause, IsDone}
@@ -38,35 +39,40 @@ lookup_reads words look c = record { command = Lookup look; asked = c; reads = t
 pub check_reads : (words : List Word) (policy : Policy) → CommandOf words (Check policy) → ReadsInput words
 check_reads words policy c = record { command = Check policy; asked = c; reads = tt }
 
+pub peers_seeks : (words : List Word) (look : LookWords) (announce : Option ℕ) → CommandOf words (Peers look announce) → Seeks words (record { kind = GetPeers; look = look })
+peers_seeks words look announce c = record { command = Peers look announce; asked = c; looks = refl }
+
+pub peers_reads : (words : List Word) (look : LookWords) (announce : Option ℕ) → CommandOf words (Peers look announce) → ReadsInput words
+peers_reads words look announce c = record { command = Peers look announce; asked = c; reads = tt }
+
 start_seeds : (words : List Word) (random : List ℕ) (source : Shown ℕ) (sought : Sought) → Seeks words sought → Start sought.look random source → HasSeeds words random source
 start_seeds words random source sought c s = record { sought = sought; seeks = c; reads = record { contacts = s.contacts; reads = s.reads; some_one = s.some_one } }
 
 pub begun_by : (words : List Word) (random : List ℕ) (source : Shown ℕ) (link : Shown Event) (look : LookWords) → CommandOf words (Lookup look) → Begun FindNode look random source link → HasBegun words random source link
 begun_by words random source link look c b = record { command = Lookup look; asked = c; begun = b }
 
--- the cause of a lookup is that of its command
+pub peers_begun_by : (words : List Word) (random : List ℕ) (source : Shown ℕ) (link : Shown Event) (look : LookWords) (announce : Option ℕ) → CommandOf words (Peers look announce) → PeersBegun look announce random source link → HasBegun words random source link
+peers_begun_by words random source link look announce c b = record { command = Peers look announce; asked = c; begun = b }
+
+-- the cause of a lookup is that of the command that asked for it
+seek_cause : (words : List Word) (sought : Sought) (random : List ℕ) (source : Shown ℕ) (link : Shown Event) (status : Status) → Seeks words sought → ReadsInput words
+    → (Begun sought.kind sought.look random source link → HasBegun words random source link) → LookCause sought.kind sought.look random source link status → HasCause words random source link status
+seek_cause words sought random source link Usage seeks input begun h = absurd h
+seek_cause words sought random source link (BadLine line) seeks input begun h = (input, h)
+seek_cause words sought random source link LinkFault seeks input begun h = (h.0, start_seeds words random source sought seeks h.1.start, begun h.1, record { sought = sought; seeks = seeks; few = h.2 })
+seek_cause words sought random source link SourceFault seeks input begun h = (input, h.0, h.1)
+seek_cause words sought random source link Strays seeks input begun h = (record { sought = sought; seeks = seeks; ends = h.0 }, start_seeds words random source sought seeks h.1.start, begun h.1)
+seek_cause words sought random source link NoSeeds seeks input begun h = record { sought = sought; seeks = seeks; reads = h }
+seek_cause words sought random source link NoMemory seeks input begun h = tt
+seek_cause words sought random source link Unminted seeks input begun h = absurd h
+seek_cause words sought random source link TooLong seeks input begun h = (input, h)
+
 pub cause_of : (words : List Word) (look : LookWords) (random : List ℕ) (source : Shown ℕ) (link : Shown Event) (status : Status) → CommandOf words (Lookup look) → LookCause FindNode look random source link status → HasCause words random source link status
-cause_of words look random source link status c h = by_status status h
-  where
-    sought : Sought
-    sought = record { kind = FindNode; look = look }
+cause_of words look random source link status c h = seek_cause words (record { kind = FindNode; look = look }) random source link status (lookup_seeks words look c) (lookup_reads words look c) (begun_by words random source link look c) h
 
-    seeks : Seeks words sought
-    seeks = lookup_seeks words look c
-
-    input : ReadsInput words
-    input = lookup_reads words look c
-
-    by_status : (status : Status) → LookCause FindNode look random source link status → HasCause words random source link status
-    by_status Usage h = absurd h
-    by_status (BadLine line) h = (input, h)
-    by_status LinkFault h = (h.0, start_seeds words random source sought seeks h.1.start, begun_by words random source link look c h.1, record { sought = sought; seeks = seeks; few = h.2 })
-    by_status SourceFault h = (input, h.0, h.1)
-    by_status Strays h = (record { sought = sought; seeks = seeks; ends = h.0 }, start_seeds words random source sought seeks h.1.start, begun_by words random source link look c h.1)
-    by_status NoSeeds h = record { sought = sought; seeks = seeks; reads = h }
-    by_status NoMemory h = tt
-    by_status Unminted h = absurd h
-    by_status TooLong h = (input, h)
+pub peers_cause_of : (words : List Word) (look : LookWords) (announce : Option ℕ) (random : List ℕ) (source : Shown ℕ) (link : Shown Event) (status : Status) → CommandOf words (Peers look announce) → LookCause GetPeers look random source link status → HasCause words random source link status
+peers_cause_of words look announce random source link status c h =
+    seek_cause words (record { kind = GetPeers; look = look }) random source link status (peers_seeks words look announce c) (peers_reads words look announce c) (λ begun. peers_begun_by words random source link look announce c (inl begun)) h
 
 -- why an input gave no contacts, where it gave no reports
 pub input_cause_of : (own : Id) (policy : Policy) (source : Shown ℕ) (status : Status) → ReportsCause source status → InputCause own policy source status
@@ -126,7 +132,7 @@ linked_cause words random source link TooLong n c = c
 
 text_linked : (random : List ℕ) (source : Shown ℕ) (link : Shown Event) (text : List ℕ) (command : Command) → PlainText command random source text → TextOf command random source link text
 text_linked random source link text (Lookup look) t = absurd t
-text_linked random source link text (Peers look announce) t = t
+text_linked random source link text (Peers look announce) t = absurd t
 text_linked random source link text (Serve own k bits policy receives) t = t
 text_linked random source link text (Check policy) t = t
 text_linked random source link text (Mint seed c1 c2 tries) t = t
@@ -167,9 +173,11 @@ found_seeds words random source link s few = record {
 
 found_by : (words : List Word) (random : List ℕ) (source : Shown ℕ) (link : Shown Event) (text : List ℕ) (command : Command) → CommandOf words command → TextOf command random source link text → Found words random source link
 found_by words random source link text (Lookup look) h t =
-    found_seeds words random source link (start_seeds words random source (record { kind = FindNode; look = look }) (lookup_seeks words look h) t.start)
+    found_seeds words random source link (start_seeds words random source (record { kind = FindNode; look = look }) (lookup_seeks words look h) t.ran.start)
     (record { sought = record { kind = FindNode; look = look }; seeks = lookup_seeks words look h; few = t.few_strays })
-found_by words random source link text (Peers look announce) h t = absurd t
+found_by words random source link text (Peers look announce) h t =
+    found_seeds words random source link (start_seeds words random source (record { kind = GetPeers; look = look }) (peers_seeks words look announce h) t.ran.start)
+    (record { sought = record { kind = GetPeers; look = look }; seeks = peers_seeks words look announce h; few = t.few_strays })
 found_by words random source link text (Serve own k bits policy receives) h t = absurd t
 found_by words random source link text (Check policy) h t = record {
   asks = check_asks words policy h;
@@ -325,7 +333,7 @@ mint_completes words random source link TooLong c seed c1 c2 tries a finds = abs
 
 completes_by : (words : List Word) (random : List ℕ) (source : Shown ℕ) (link : Shown Event) (status : Status) → HasCause words random source link status → (command : Command) → CommandOf words command → Needs command random source link → OrNoMemory (number_of status) 0
 completes_by words random source link status c (Lookup look) a needs = seeking_completes words random source link status c (record { kind = FindNode; look = look }) (lookup_seeks words look a) needs
-completes_by words random source link status c (Peers look announce) a needs = absurd needs
+completes_by words random source link status c (Peers look announce) a needs = seeking_completes words random source link status c (record { kind = GetPeers; look = look }) (peers_seeks words look announce a) needs
 completes_by words random source link status c (Serve own k bits policy receives) a needs = absurd needs
 completes_by words random source link status c (Check policy) a needs = check_completes words random source link status c policy a needs
 completes_by words random source link status c (Mint seed c1 c2 tries) a needs = mint_completes words random source link status c seed c1 c2 tries a needs

@@ -11,7 +11,6 @@ use Rattle.kad_base.specs.declared.plain.Event.{Event}
 use Rattle.kad_base.specs.Contacts.{IsUsable}
 use Rattle.kad_base.specs.Limits.{max_strays}
 use Rattle.kad_base.specs.Outside.{Grows}
-use Rattle.kad_base.proofs.Grown.{grows_weaker}
 use Rattle.id_puzzles.specs.Drawn.{WordsState}
 use Rattle.contact_table.specs.TableState.{TableState}
 use Rattle.contact_table.specs.TableStep.{contacts_of}
@@ -20,22 +19,20 @@ use Rattle.claim_book.specs.declared.plain.Setting.{Setting}
 use Rattle.claim_book.specs.declared.plain.Entry.{Entry}
 use Rattle.claim_book.specs.Journal.{asked, failed, turned}
 use Rattle.claim_book.specs.Result.{result_of}
-use Rattle.claim_book.proofs.Claims.{took_distinct, asked_distinct}
-use Rattle.claim_book.proofs.Ends.{found_answered}
+use Rattle.claim_book.proofs.Claims.{asked_distinct}
 use Rattle.lookup_run.specs.declared.plain.LookSetting.{LookSetting}
 use Rattle.lookup_run.specs.declared.plain.AskKind.{AskKind}
 use Rattle.lookup_run.specs.declared.plain.Outcome.{Outcome}
 use Rattle.lookup_run.specs.Tells.{Given, Tells, EndsAtStray}
-use Rattle.lookup_run.specs.Rounds.{Rounds}
-use Rattle.lookup_run.specs.Lookup.{IsWithinLimits, given_of, LooksUp, TableTold, TellsEarly, Unfinished}
+use Rattle.lookup_run.specs.Lookup.{IsWithinLimits, given_of, TableTold, TellsEarly, Unfinished}
 use Rattle.kad_words.specs.declared.command.LookWords.{LookWords}
 use Rattle.node_top.specs.declared.status.Status.{Status}
 use Rattle.node_top.specs.declared.status.Status.TheVariants.{NoMemory}
 use Rattle.node_top.specs.Printed.{printed}
 use Rattle.node_top.specs.Shown.{Shown}
 use Rattle.node_top.specs.Input.{Admits, Reads}
-use Rattle.node_top.specs.Started.{look_of, book_of, drawn_of, lookup_of, IsInRange, seen_call, Start}
-use Rattle.node_top.specs.Looked.{printed_of, LooksAt, Begun, EndsByStrays, MeetsFewStrays}
+use Rattle.node_top.specs.Started.{look_of, book_of, drawn_of, IsInRange, seen_call, Start}
+use Rattle.node_top.specs.Looked.{printed_of, Begun, EndsByStrays, MeetsFewStrays}
 use Rattle.node_top.proofs.Starting.{usable_told}
 
 pub admits_usable : (own : Id) (policy : Policy) (rs : List Report) (cs : List Contact) → Admits own policy rs cs → All (IsUsable own) cs
@@ -49,51 +46,19 @@ admits_usable own policy (r ∷ rs) cs h =
 pub within_limits : (kind : AskKind) (look : LookWords) (random : List ℕ) → IsInRange look → IsWithinLimits (look_of kind look random)
 within_limits kind look random h = record { few = h.few_live; some_path = h.some_path; few_paths = h.few_paths; some_query = h.some_query; few_queries = h.few_queries }
 
-text_is : (s : Setting) (o : Outcome) (text : List ℕ) → o.found ≡ result_of s o.journal → o.counts.asked ≡ length (asked o.journal) → o.counts.failed ≡ length (failed o.journal) → o.counts.turned ≡ length (turned o.journal) → text ≡ printed o.found o.counts.asked o.counts.failed o.counts.turned → text ≡ printed_of s o.journal
+pub text_is : (s : Setting) (o : Outcome) (text : List ℕ) → o.found ≡ result_of s o.journal → o.counts.asked ≡ length (asked o.journal) → o.counts.failed ≡ length (failed o.journal) → o.counts.turned ≡ length (turned o.journal) → text ≡ printed o.found o.counts.asked o.counts.failed o.counts.turned → text ≡ printed_of s o.journal
 text_is s o text a b c d is =
     is ∙ ap (λ l. printed l o.counts.asked o.counts.failed o.counts.turned) a
     ∙ ap (λ n. printed (result_of s o.journal) n o.counts.failed o.counts.turned) b
     ∙ ap (λ n. printed (result_of s o.journal) (length (asked o.journal)) n o.counts.turned) c
     ∙ ap (λ n. printed (result_of s o.journal) (length (asked o.journal)) (length (failed o.journal)) n) d
 
-pub looks_at : (kind : AskKind) (look : LookWords) (random : List ℕ) (source : Shown ℕ) (link : Shown Event) (start : Start look random source) (left : WordsState) (o : Outcome) (text : List ℕ) → IsInRange look
-    → LooksUp (look_of kind look random) start.table (drawn_of random) left link.before link.after o → Grows link.before link.after (λ events. Rounds (lookup_of kind look random) o.journal events)
-    → MeetsFewStrays kind look random link → text ≡ printed o.found o.counts.asked o.counts.failed o.counts.turned → LooksAt kind look random source link text
-looks_at kind look random source link start left o text range up rounds few is =
-    let set = book_of kind look random in
-    record {
-      start = start;
-      journal = o.journal;
-      legal = up.legal;
-      seeds_are = up.seeds_are;
-      tells = up.tells;
-      rounds = rounds;
-      few_strays = few;
-      run_out = up.run_out;
-      taken_once = took_distinct set o.journal up.legal;
-      asked_once = asked_distinct set o.journal up.legal;
-      have_answered = λ c has. found_answered set o.journal c range.some_path up.legal up.run_out has;
-      text_is = text_is set o text up.found up.counted.asked up.counted.failed up.counted.turned is;
-    }
-
 pub begun_of : (kind : AskKind) (look : LookWords) (random : List ℕ) (source : Shown ℕ) (link : Shown Event) (start : Start look random source) (left : WordsState) → Unfinished (look_of kind look random) start.table (drawn_of random) left link.before link.after
     → Begun kind look random source link
 begun_of kind look random source link start left h = record { start = start; left = left; so_far = h; asked_once = asked_distinct (book_of kind look random) h.journal h.legal }
 
-tells_early : (g : Given) (J : List Entry) (events : List Event) → Tells g J events → TellsEarly g J events
+pub tells_early : (g : Given) (J : List Entry) (events : List Event) → Tells g J events → TellsEarly g J events
 tells_early g J events h = record { front = events; end = h.end; so_far = h.so_far; whole = inl refl }
-
--- a lookup that has run out had begun
-pub begun_whole : (kind : AskKind) (look : LookWords) (random : List ℕ) (source : Shown ℕ) (link : Shown Event) (start : Start look random source) (left : WordsState) (o : Outcome) → LooksUp (look_of kind look random) start.table (drawn_of random) left link.before link.after o
-    → Begun kind look random source link
-begun_whole kind look random source link start left o up =
-    begun_of kind look random source link start left (record {
-      journal = o.journal;
-      legal = up.legal;
-      seeds_are = up.seeds_are;
-      tells = grows_weaker link.before link.after (λ events. Tells (lookup_of kind look random) o.journal events) (λ events. TellsEarly (lookup_of kind look random) o.journal events) up.tells (λ events h. tells_early (lookup_of kind look random) o.journal events h);
-      drawn = up.drawn;
-    })
 
 -- ---- the same over the values that the code has
 
@@ -119,7 +84,7 @@ has kind look random source setting words table contacts xs e f range reads some
   told = subst (λ (l : List Contact). TableTold (map seen_call l) (new_table setting.own look.k look.bits) table) same told;
 }
 
-abbrev start_of : (kind : AskKind) (look : LookWords) (random : List ℕ) (source : Shown ℕ) (setting : LookSetting) (words : WordsState) (table : TableState) → Has kind look random source setting words table → Start look random source
+abbrev pub start_of : (kind : AskKind) (look : LookWords) (random : List ℕ) (source : Shown ℕ) (setting : LookSetting) (words : WordsState) (table : TableState) → Has kind look random source setting words table → Start look random source
 start_of kind look random source setting words table h = record {
   contacts = h.contacts;
   reads = subst (λ (s : LookSetting). Reads s.own s.policy source h.contacts) h.setting_is h.reads;
@@ -129,7 +94,7 @@ start_of kind look random source setting words table h = record {
 }
 
 -- what holds of the setting and the words holds of those that they are
-moved : (kind : AskKind) (look : LookWords) (random : List ℕ) (source : Shown ℕ) (setting : LookSetting) (words : WordsState) (table : TableState) (P : LookSetting → WordsState → Type 0) → Has kind look random source setting words table → P setting words → P (look_of kind look random) (drawn_of random)
+pub moved : (kind : AskKind) (look : LookWords) (random : List ℕ) (source : Shown ℕ) (setting : LookSetting) (words : WordsState) (table : TableState) (P : LookSetting → WordsState → Type 0) → Has kind look random source setting words table → P setting words → P (look_of kind look random) (drawn_of random)
 moved kind look random source setting words table P h p = subst (P (look_of kind look random)) h.words_are (subst (λ (s : LookSetting). P s words) h.setting_is p)
 
 pub limits_of : (kind : AskKind) (look : LookWords) (random : List ℕ) (source : Shown ℕ) (setting : LookSetting) (words : WordsState) (table : TableState) → Has kind look random source setting words table → IsWithinLimits setting
@@ -143,27 +108,11 @@ pub few_from : (kind : AskKind) (look : LookWords) (random : List ℕ) (source :
     → Grows link.before link.after (λ events. ¬ EndsAtStray (given_of setting words) events max_strays) → MeetsFewStrays kind look random link
 few_from kind look random source link setting words table h few = moved kind look random source setting words table (λ s w. Grows link.before link.after (λ events. ¬ EndsAtStray (given_of s w) events max_strays)) h few
 
-pub looks_from : (kind : AskKind) (look : LookWords) (random : List ℕ) (source : Shown ℕ) (link : Shown Event) (setting : LookSetting) (words left : WordsState) (table : TableState) (o : Outcome) (text : List ℕ) → Has kind look random source setting words table
-    → LooksUp setting table words left link.before link.after o → Grows link.before link.after (λ events. Rounds (given_of setting words) o.journal events)
-    → Grows link.before link.after (λ events. ¬ EndsAtStray (given_of setting words) events max_strays)
-    → text ≡ printed o.found o.counts.asked o.counts.failed o.counts.turned → LooksAt kind look random source link text
-looks_from kind look random source link setting words left table o text h up rounds few is =
-    looks_at kind look random source link (start_of kind look random source setting words table h) left o text h.range
-    (moved kind look random source setting words table (λ s w. LooksUp s table w left link.before link.after o) h up)
-    (moved kind look random source setting words table (λ s w. Grows link.before link.after (λ events. Rounds (given_of s w) o.journal events)) h rounds)
-    (few_from kind look random source link setting words table h few) is
-
 pub begun_from : (kind : AskKind) (look : LookWords) (random : List ℕ) (source : Shown ℕ) (link : Shown Event) (setting : LookSetting) (words left : WordsState) (table : TableState) → Has kind look random source setting words table
     → Unfinished setting table words left link.before link.after → Begun kind look random source link
 begun_from kind look random source link setting words left table h so_far =
     begun_of kind look random source link (start_of kind look random source setting words table h) left
     (moved kind look random source setting words table (λ s w. Unfinished s table w left link.before link.after) h so_far)
-
-pub begun_whole_from : (kind : AskKind) (look : LookWords) (random : List ℕ) (source : Shown ℕ) (link : Shown Event) (setting : LookSetting) (words left : WordsState) (table : TableState) (o : Outcome) → Has kind look random source setting words table
-    → LooksUp setting table words left link.before link.after o → Begun kind look random source link
-begun_whole_from kind look random source link setting words left table o h up =
-    begun_whole kind look random source link (start_of kind look random source setting words table h) left o
-    (moved kind look random source setting words table (λ s w. LooksUp s table w left link.before link.after o) h up)
 
 pub strays_from : (kind : AskKind) (look : LookWords) (random : List ℕ) (source : Shown ℕ) (link : Shown Event) (setting : LookSetting) (words : WordsState) (table : TableState) → Has kind look random source setting words table
     → Grows link.before link.after (λ events. EndsAtStray (given_of setting words) events max_strays) → EndsByStrays kind look random link

@@ -147,7 +147,7 @@ seeds_few words random source s = all_few source.before source.after s.reads.rea
 -- a command that looks up is built
 sought_built : (command : Command) (sought : Sought) → sought_by command ≡ Some sought → Contains built (word_of command)
 sought_built (Lookup look) sought e = (0, lit< tt, refl)
-sought_built (Peers look announce) sought e = absurd cc
+sought_built (Peers look announce) sought e = (3, lit< tt, refl)
 sought_built (Serve own k bits policy receives) sought e = absurd cc
 sought_built (Check policy) sought e = absurd cc
 sought_built (Mint seed c1 c2 tries) sought e = absurd cc
@@ -171,6 +171,9 @@ check_not_nothing words random policy c h = let e = command_once words (Check po
 
 pub lookup_not_nothing : (words : List Word) (random : List ℕ) (look : LookWords) → CommandOf words (Lookup look) → HasNothing words random → ⊥
 lookup_not_nothing words random look c h = let e = command_once words (Lookup look) (Mint h.seed h.c1 h.c2 h.tries) c h.asked in absurd cc
+
+pub peers_not_nothing : (words : List Word) (random : List ℕ) (look : LookWords) (announce : Option ℕ) → CommandOf words (Peers look announce) → HasNothing words random → ⊥
+peers_not_nothing words random look announce c h = let e = command_once words (Peers look announce) (Mint h.seed h.c1 h.c2 h.tries) c h.asked in absurd cc
 
 -- ---- whether the last stray came
 

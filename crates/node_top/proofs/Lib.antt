@@ -13,3 +13,6 @@ pub mod Causes
 pub mod MayEnd
 pub mod Linkless
 pub mod Nodes
+pub mod Announcing
+pub mod Reaching
+pub mod Peering

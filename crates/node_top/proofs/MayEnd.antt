@@ -11,8 +11,8 @@ use Rattle.node_top.specs.Asked.{Asks}
 use Rattle.node_top.specs.Shown.{Shown}
 use Rattle.node_top.specs.Commands.{HasCause}
 use Rattle.node_top.specs.Endings.{number_of, MayEnd}
-use Rattle.node_top.proofs.Asking.{asks_built, peers_not, serve_not, sim_not}
-use Rattle.node_top.proofs.Exactly.{not_sought, mint_not_input, check_not_nothing, lookup_not_nothing}
+use Rattle.node_top.proofs.Asking.{asks_built, serve_not, sim_not}
+use Rattle.node_top.proofs.Exactly.{not_sought, mint_not_input, check_not_nothing, lookup_not_nothing, peers_not_nothing}
 
 pub may_end : (words : List Word) (random : List ℕ) (source : Shown ℕ) (link : Shown Event) (status : Status) (command : Command) → HasCause words random source link status → CommandOf words command → Asks words → MayEnd command (number_of status)
 may_end words random source link Usage (Lookup look) c h asks = absurd (c.0 asks)
@@ -24,15 +24,15 @@ may_end words random source link NoSeeds (Lookup look) c h asks = (6, lit< tt, r
 may_end words random source link NoMemory (Lookup look) c h asks = (7, lit< tt, refl)
 may_end words random source link Unminted (Lookup look) c h asks = absurd (lookup_not_nothing words random look h c.0)
 may_end words random source link TooLong (Lookup look) c h asks = (8, lit< tt, refl)
-may_end words random source link Usage (Peers look announce) c h asks = absurd (peers_not look announce (asks_built words (Peers look announce) h asks))
-may_end words random source link (BadLine line) (Peers look announce) c h asks = absurd (peers_not look announce (asks_built words (Peers look announce) h asks))
-may_end words random source link LinkFault (Peers look announce) c h asks = absurd (peers_not look announce (asks_built words (Peers look announce) h asks))
-may_end words random source link SourceFault (Peers look announce) c h asks = absurd (peers_not look announce (asks_built words (Peers look announce) h asks))
-may_end words random source link Strays (Peers look announce) c h asks = absurd (peers_not look announce (asks_built words (Peers look announce) h asks))
-may_end words random source link NoSeeds (Peers look announce) c h asks = absurd (peers_not look announce (asks_built words (Peers look announce) h asks))
-may_end words random source link NoMemory (Peers look announce) c h asks = absurd (peers_not look announce (asks_built words (Peers look announce) h asks))
-may_end words random source link Unminted (Peers look announce) c h asks = absurd (peers_not look announce (asks_built words (Peers look announce) h asks))
-may_end words random source link TooLong (Peers look announce) c h asks = absurd (peers_not look announce (asks_built words (Peers look announce) h asks))
+may_end words random source link Usage (Peers look announce) c h asks = absurd (c.0 asks)
+may_end words random source link (BadLine line) (Peers look announce) c h asks = (1, lit< tt, refl)
+may_end words random source link LinkFault (Peers look announce) c h asks = (2, lit< tt, refl)
+may_end words random source link SourceFault (Peers look announce) c h asks = (4, lit< tt, refl)
+may_end words random source link Strays (Peers look announce) c h asks = (5, lit< tt, refl)
+may_end words random source link NoSeeds (Peers look announce) c h asks = (6, lit< tt, refl)
+may_end words random source link NoMemory (Peers look announce) c h asks = (7, lit< tt, refl)
+may_end words random source link Unminted (Peers look announce) c h asks = absurd (peers_not_nothing words random look announce h c.0)
+may_end words random source link TooLong (Peers look announce) c h asks = (8, lit< tt, refl)
 may_end words random source link Usage (Serve own k bits policy receives) c h asks = absurd (serve_not own k bits policy receives (asks_built words (Serve own k bits policy receives) h asks))
 may_end words random source link (BadLine line) (Serve own k bits policy receives) c h asks = absurd (serve_not own k bits policy receives (asks_built words (Serve own k bits policy receives) h asks))
 may_end words random source link LinkFault (Serve own k bits policy receives) c h asks = absurd (serve_not own k bits policy receives (asks_built words (Serve own k bits policy receives) h asks))
@@ -72,7 +72,7 @@ may_end words random source link TooLong (Sim seed nodes hostile k paths alpha t
 
 pub done_end : (words : List Word) (status : ℕ) (command : Command) → (status ≡ 0) ⊎ (status ≡ 5) → CommandOf words command → Asks words → MayEnd command status
 done_end words status (Lookup look) e h asks = elim e [ inl zero_ ↦ subst (MayEnd (Lookup look)) (sym zero_) (0, lit< tt, refl) | inr five ↦ subst (MayEnd (Lookup look)) (sym five) (3, lit< tt, refl) ]
-done_end words status (Peers look announce) e h asks = absurd (peers_not look announce (asks_built words (Peers look announce) h asks))
+done_end words status (Peers look announce) e h asks = elim e [ inl zero_ ↦ subst (MayEnd (Peers look announce)) (sym zero_) (0, lit< tt, refl) | inr five ↦ subst (MayEnd (Peers look announce)) (sym five) (3, lit< tt, refl) ]
 done_end words status (Serve own k bits policy receives) e h asks = absurd (serve_not own k bits policy receives (asks_built words (Serve own k bits policy receives) h asks))
 done_end words status (Check policy) e h asks = elim e [ inl zero_ ↦ subst (MayEnd (Check policy)) (sym zero_) (0, lit< tt, refl) | inr five ↦ subst (MayEnd (Check policy)) (sym five) (2, lit< tt, refl) ]
 done_end words status (Mint seed c1 c2 tries) e h asks = elim e [ inl zero_ ↦ subst (MayEnd (Mint seed c1 c2 tries)) (sym zero_) (0, lit< tt, refl) | inr five ↦ subst (MayEnd (Mint seed c1 c2 tries)) (sym five) (1, lit< tt, refl) ]

@@ -1,9 +1,9 @@
 -- The values of a lookup's words are within the limits.
 use Rattle.std.proofs.Common.{ℕ, ◌≤◌, List, Option, Some, None, arith}
-use Rattle.kad_words.specs.Table.{Word}
+use Rattle.kad_words.specs.Table.{Word, Entry}
 use Rattle.kad_words.specs.Text.{SpellsNumber}
-use Rattle.kad_words.specs.Plain.{CommandOf, IsGivenOr}
-use Rattle.kad_words.specs.declared.command.Command.TheVariants.{Lookup}
+use Rattle.kad_words.specs.Plain.{Values, CommandOf, IsGivenOr, IsLook}
+use Rattle.kad_words.specs.declared.command.Command.TheVariants.{Lookup, Peers}
 use Rattle.kad_words.specs.declared.command.LookWords.{LookWords}
 use Rattle.node_top.specs.Started.{IsInRange}
 
@@ -15,12 +15,13 @@ within : (least most default : ℕ) → least ≤ default → default ≤ most �
 within least most default low high None n is = record { above = omega (arith, is, low); below = omega (arith, is, high) }
 within least most default low high (Some value) n is = record { above = is.above; below = is.below }
 
-pub in_range : (words : List Word) (look : LookWords) → CommandOf words (Lookup look) → IsInRange look
-in_range words look h =
-    let k = within 1 20 8 (omega arith) (omega arith) _ look.k h.says.k in
-    let paths = within 1 8 4 (omega arith) (omega arith) _ look.paths h.says.paths in
-    let alpha = within 1 4 3 (omega arith) (omega arith) _ look.alpha h.says.alpha in
-    let bits = within 1 5 1 (omega arith) (omega arith) _ look.bits h.says.bits in
+-- the options of a lookup are, whatever names its target
+look_in_range : (target : Entry) (value : Values) (look : LookWords) → IsLook target value look → IsInRange look
+look_in_range target value look h =
+    let k = within 1 20 8 (omega arith) (omega arith) _ look.k h.k in
+    let paths = within 1 8 4 (omega arith) (omega arith) _ look.paths h.paths in
+    let alpha = within 1 4 3 (omega arith) (omega arith) _ look.alpha h.alpha in
+    let bits = within 1 5 1 (omega arith) (omega arith) _ look.bits h.bits in
     record {
       some_live = k.above;
       few_live = k.below;
@@ -31,3 +32,9 @@ in_range words look h =
       some_bits = bits.above;
       few_bits = bits.below;
     }
+
+pub in_range : (words : List Word) (look : LookWords) → CommandOf words (Lookup look) → IsInRange look
+in_range words look h = look_in_range _ _ look h.says
+
+pub peers_in_range : (words : List Word) (look : LookWords) (announce : Option ℕ) → CommandOf words (Peers look announce) → IsInRange look
+peers_in_range words look announce h = look_in_range _ _ look h.says.0

@@ -4,17 +4,18 @@ use Rattle.std.specs.Prelude.{◌≡◌, ℕ, List, [], Option, Some, None}
 use Rattle.kad_base.specs.declared.plain.Event.{Event}
 use Rattle.kad_base.specs.Outside.{Grows}
 use Rattle.lookup_run.specs.declared.plain.AskKind.{AskKind}
-use Rattle.lookup_run.specs.declared.plain.AskKind.TheVariants.{FindNode}
+use Rattle.lookup_run.specs.declared.plain.AskKind.TheVariants.{FindNode, GetPeers}
 use Rattle.kad_words.specs.Table.{Word}
 use Rattle.kad_words.specs.Plain.{CommandOf}
 use Rattle.kad_words.specs.declared.command.Command.{Command}
-use Rattle.kad_words.specs.declared.command.Command.TheVariants.{Lookup}
+use Rattle.kad_words.specs.declared.command.Command.TheVariants.{Lookup, Peers}
 use Rattle.kad_words.specs.declared.command.LookWords.{LookWords}
 use Rattle.node_top.specs.declared.status.Status.{Status}
 use Rattle.node_top.specs.declared.status.Status.TheVariants.{Usage, BadLine, LinkFault, SourceFault, Strays, NoSeeds, NoMemory, Unminted, TooLong}
 use Rattle.node_top.specs.Asked.{Asks}
 use Rattle.node_top.specs.Input.{ReadsFew, ReadsTooMuch, Reads, ReadsSome, IsBadLine}
 use Rattle.node_top.specs.Looked.{LooksAt, Begun, EndsByStrays, MeetsFewStrays}
+use Rattle.node_top.specs.Peered.{PeersAt, PeersBegun}
 use Rattle.node_top.specs.Plainly.{PlainText, PlainNeeds, ReadsInput, HasNothing}
 use Rattle.node_top.specs.Shown.{Shown, IsTold, HasFailed}
 use Rattle.node_top.specs.Started.{own_of}
@@ -29,6 +30,7 @@ pub record Sought : Type 0 where
 -- what the command looks up, if it does
 abbrev pub sought_by : Command → Option Sought
 sought_by (Lookup look) = Some (record { kind = FindNode; look = look })
+sought_by (Peers look announce) = Some (record { kind = GetPeers; look = look })
 sought_by other = None
 
 -- the words ask for a command that looks this up
@@ -42,11 +44,13 @@ pub record Seeks (words : List Word) (sought : Sought) : Type 0 where
 -- the text of a command
 abbrev pub TextOf : Command → List ℕ → Shown ℕ → Shown Event → List ℕ → Type 0
 TextOf (Lookup look) random source link text = LooksAt FindNode look random source link text
+TextOf (Peers look announce) random source link text = PeersAt look announce random source link text
 TextOf other random source link text = PlainText other random source text
 
 -- what a command's lookup was when it ended early
 abbrev pub BegunBy : Command → List ℕ → Shown ℕ → Shown Event → Type 0
 BegunBy (Lookup look) random source link = Begun FindNode look random source link
+BegunBy (Peers look announce) random source link = PeersBegun look announce random source link
 BegunBy other random source link = ⊥
 
 -- the words ask for a command, and this is its text
@@ -116,6 +120,7 @@ pub record SeeksWell (sought : Sought) (random : List ℕ) (source : Shown ℕ) 
 -- what a command needs
 abbrev pub Needs : Command → List ℕ → Shown ℕ → Shown Event → Type 0
 Needs (Lookup look) random source link = SeeksWell (record { kind = FindNode; look = look }) random source link
+Needs (Peers look announce) random source link = SeeksWell (record { kind = GetPeers; look = look }) random source link
 Needs other random source link = PlainNeeds other random source
 
 -- what a command that ends well goes by

@@ -11,3 +11,6 @@ pub mod Plainly
 pub mod Commands
 pub mod Written
 pub mod Endings
+pub mod Reached
+pub mod Announced
+pub mod Peered

@@ -1,32 +1,29 @@
--- What a lookup promises: that its text is that of a legal journal which begins with the table's closest contacts, which
--- the link's events tell, and whose paths have all run out (S/Kademlia, 2007, section 4.4, over Kademlia, 2002, section
--- 2.3).
-use Rattle.std.specs.Prelude.{◌≡◌, ℕ, ◌<◌, List, [], length, true}
+-- What the command `lookup` promises: that its text is that of the journal of a lookup that has run out, which the link's
+-- events tell (S/Kademlia, 2007, section 4.4, over Kademlia, 2002, section 2.3); and what any lookup is that ended early.
+use Rattle.std.specs.Prelude.{◌≡◌, ℕ, List, [], length}
 use Rattle.std.specs.List.{IsDistinct}
 use Rattle.kad_base.specs.declared.plain.Id.{Id}
-use Rattle.kad_base.specs.declared.plain.Contact.{Contact}
 use Rattle.kad_base.specs.declared.plain.Policy.{Policy}
 use Rattle.kad_base.specs.declared.plain.Event.{Event}
-use Rattle.kad_base.specs.Contacts.{same, among}
+use Rattle.kad_base.specs.Contacts.{same}
 use Rattle.kad_base.specs.Limits.{max_strays}
 use Rattle.kad_base.specs.Outside.{Grows}
 use Rattle.id_puzzles.specs.Drawn.{WordsState}
 use Rattle.claim_book.specs.declared.plain.Setting.{Setting}
 use Rattle.claim_book.specs.declared.plain.Entry.{Entry}
-use Rattle.claim_book.specs.Journal.{seeds, took, asked, answered, failed, turned}
-use Rattle.claim_book.specs.Legal.{Legal}
-use Rattle.claim_book.specs.RunOut.{RunOut}
+use Rattle.claim_book.specs.Journal.{asked, failed, turned}
 use Rattle.claim_book.specs.Result.{result_of}
 use Rattle.lookup_run.specs.declared.plain.AskKind.{AskKind}
 use Rattle.lookup_run.specs.Tells.{Tells, EndsAtStray}
 use Rattle.lookup_run.specs.Rounds.{Rounds}
-use Rattle.lookup_run.specs.Lookup.{seeds_in, Unfinished}
+use Rattle.lookup_run.specs.Lookup.{Unfinished}
 use Rattle.kad_words.specs.declared.command.LookWords.{LookWords}
 use Rattle.node_top.specs.declared.status.Status.{Status}
 use Rattle.node_top.specs.declared.status.Status.TheVariants.{Usage, BadLine, LinkFault, SourceFault, Strays, NoSeeds, NoMemory, Unminted, TooLong}
 use Rattle.node_top.specs.Printed.{printed}
 use Rattle.node_top.specs.Shown.{Shown, HasFailed}
 use Rattle.node_top.specs.Input.{ReadsFew, ReadsTooMuch, Reads, IsBadLine}
+use Rattle.node_top.specs.Reached.{HasRunOut}
 use Rattle.node_top.specs.Started.{own_of, look_of, book_of, drawn_of, lookup_of, Start}
 
 -- the text of a journal
@@ -41,21 +38,14 @@ EndsByStrays kind look random link = Grows link.before link.after (λ events. En
 abbrev pub MeetsFewStrays : AskKind → LookWords → List ℕ → Shown Event → Type 0
 MeetsFewStrays kind look random link = Grows link.before link.after (λ events. ¬ EndsAtStray (lookup_of kind look random) events max_strays)
 
--- A lookup that was asked for. Its journal is legal and begins with the k closest contacts of the table that the input
--- gives; the link's events tell it, and go by rounds; every path has run out in it; and the text is its own. So no contact
--- is taken or asked twice, and each that is printed has answered.
+-- A lookup that was asked for: its journal has run out, the link's events tell it and go by rounds, and the text is its
+-- own. So each that is printed has answered.
 pub record LooksAt (kind : AskKind) (look : LookWords) (random : List ℕ) (source : Shown ℕ) (link : Shown Event) (text : List ℕ) : Type 0 where
-  pub start : Start look random source
   pub journal : List Entry
-  pub legal : Legal (book_of kind look random) journal
-  pub seeds_are : seeds journal ≡ seeds_in (look_of kind look random) start.table
+  pub ran : HasRunOut kind look random source journal
   pub tells : Grows link.before link.after (λ events. Tells (lookup_of kind look random) journal events)
   pub rounds : Grows link.before link.after (λ events. Rounds (lookup_of kind look random) journal events)
   pub few_strays : MeetsFewStrays kind look random link
-  pub run_out : (p : ℕ) → p < look.paths → RunOut (book_of kind look random) p journal
-  pub taken_once : IsDistinct same (took journal)
-  pub asked_once : IsDistinct same (asked journal)
-  pub have_answered : (c : Contact) → among (result_of (book_of kind look random) journal) c ≡ true → among (answered journal) c ≡ true
   pub text_is : text ≡ printed_of (book_of kind look random) journal
 
 -- A lookup that ended early: there is a legal journal that begins with the same contacts, which the events tell so far. So

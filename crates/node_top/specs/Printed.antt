@@ -1,6 +1,7 @@
 -- What is printed. The lines are this project's own.
 use Rattle.std.specs.Prelude.{ℕ, List, ◌++◌, length, codes, decimal, flat_map}
 use Rattle.hex.specs.Hex.{encode_lower}
+use Rattle.kad_base.specs.declared.plain.Addr.{Addr}
 use Rattle.kad_base.specs.declared.plain.Contact.{Contact}
 use Rattle.kad_words.specs.Text.{addr_text}
 
@@ -20,3 +21,12 @@ counts_text found asked failed turned = codes "found " ++ decimal found ++ codes
 -- the output of a lookup: a line for each contact found, in order, and the counts
 abbrev pub printed : List Contact → ℕ → ℕ → ℕ → List ℕ
 printed found asked failed turned = flat_map (λ contact. line_of (contact_text contact)) found ++ line_of (counts_text (length found) asked failed turned)
+
+-- the last line of a search for peers: how many different ones there were, the counts of its lookup, and how many
+-- announcements were sent
+abbrev pub peers_text : ℕ → ℕ → ℕ → ℕ → ℕ → ℕ → List ℕ
+peers_text peers found asked failed turned announced = codes "peers " ++ decimal peers ++ codes " " ++ counts_text found asked failed turned ++ codes " announced " ++ decimal announced
+
+-- the output of a search for peers: a line for each peer, in order, and the counts
+abbrev pub printed_peers : List Addr → ℕ → ℕ → ℕ → ℕ → ℕ → List ℕ
+printed_peers peers found asked failed turned announced = flat_map (λ peer. line_of (addr_text peer)) peers ++ line_of (peers_text (length peers) found asked failed turned announced)

@@ -2,6 +2,7 @@
 //! and no socket: the source, the sink and the link are handed in.
 #![tactic(auto)]
 
+mod announce;
 mod asked;
 mod check;
 mod input;
@@ -9,8 +10,10 @@ mod lines;
 mod lookup;
 mod mint;
 mod output;
+mod peers;
 mod plain;
 mod printed;
+mod seek;
 mod start;
 mod status;
 #[cfg(test)]

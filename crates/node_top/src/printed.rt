@@ -3,11 +3,12 @@ ghost use Rattle.std.specs.Prelude.{◌≡◌, ◌++◌, ◌^◌, ◌<◌, IfOk,
 ghost use Rattle.hex.specs.Hex.{IsBytes};
 ghost use Rattle.kad_base.specs.declared.plain.Contact.{Contact};
 ghost use Rattle.kad_base.specs.declared.plain.Ip.TheVariants.{V6};
-ghost use Rattle.kad_words.specs.Text.{IsV4, ip_text};
+ghost use Rattle.kad_words.specs.Text.{IsV4, addr_text, ip_text};
 ghost use Rattle.node_top.specs.Lines.{IsContactLine};
-ghost use Rattle.node_top.specs.Printed.{printed, contact_text, counts_text, line_of};
+ghost use Rattle.node_top.specs.Printed.{printed, contact_text, counts_text, line_of, peers_text, printed_peers};
 
-use kad_base::{Bytes, Contact, Ip, List, NoMemory};
+use claim_book::Counts;
+use kad_base::{Addr, Bytes, Contact, Ip, List, NoMemory};
 use std::alloc::{AllocError, Global};
 use std::net::Ipv4Addr;
 
@@ -49,6 +50,47 @@ fn print_counts(
     format!(in alloc; "found {found} asked {asked} failed {failed} turned {turned}")
 }
 
+/// The output of a search for peers: each peer, on a line of its own and in order, and a last line with how many there are,
+/// the counts of the lookup, and how many announcements were sent.
+pub(crate) fn print_peers(
+    alloc: Global,
+    peers: &[Addr],
+    found: usize,
+    counts: &Counts,
+    announced: usize,
+) -> Result<Bytes, NoMemory>
+    ensures { let c = counts.now in
+        IfOk result (λ text. text ≡ printed_peers peers.now found c.asked c.failed c.turned announced) }
+{
+    let mut output = List::new(alloc);
+    for peer in peers {
+        let Ok(line) = print_addr(alloc, peer) else {
+            return Err(NoMemory);
+        };
+        add_line(&mut output, line.as_str())?;
+    }
+    let Ok(line) = print_peer_counts(alloc, peers.len(), found, counts, announced) else {
+        return Err(NoMemory);
+    };
+    add_line(&mut output, line.as_str())?;
+    Ok(output)
+}
+
+/// The last line of a search for peers.
+fn print_peer_counts(
+    alloc: Global,
+    peers: usize,
+    found: usize,
+    counts: &Counts,
+    announced: usize,
+) -> Result<String, AllocError>
+    ensures { let c = counts.now in
+        IfOk result (λ text. string_bytes text ≡ peers_text peers found c.asked c.failed c.turned announced) }
+{
+    let counts = print_counts(alloc, found, counts.asked, counts.failed, counts.turned)?;
+    format!(in alloc; "peers {peers} {counts} announced {announced}")
+}
+
 /// Adds a text to an output, as a line.
 pub(crate) fn add_line(output: &mut Bytes, text: &str) -> Result<(), NoMemory>
     ensures { OnOk result (output.new ≡ output.old ++ line_of text.now) }
@@ -62,9 +104,17 @@ fn print_contact(alloc: Global, contact: &Contact) -> Result<String, AllocError>
     ensures { IfOk result (λ text. string_bytes text ≡ contact_text contact.now) }
 {
     let id = hex::encode(alloc, contact.id.0)?;
-    let ip = print_ip(alloc, &contact.addr.ip)?;
-    let port = contact.addr.port;
-    format!(in alloc; "{id} {ip}:{port}")
+    let addr = print_addr(alloc, &contact.addr)?;
+    format!(in alloc; "{id} {addr}")
+}
+
+/// An address as it is printed.
+fn print_addr(alloc: Global, addr: &Addr) -> Result<String, AllocError>
+    ensures { IfOk result (λ text. string_bytes text ≡ addr_text addr.now) }
+{
+    let ip = print_ip(alloc, &addr.ip)?;
+    let port = addr.port;
+    format!(in alloc; "{ip}:{port}")
 }
 
 /// An IP address as it is printed.

@@ -15,7 +15,7 @@ use std::alloc::Global;
 const DRIVER: u8 = 0;
 
 /// The node's own identifier: the one of the words, or the first drawn bytes.
-fn own_id(own: Option<Id>, random: &[u8; 32]) -> Id
+pub(crate) fn own_id(own: Option<Id>, random: &[u8; 32]) -> Id
     ensures { result ≡ own_of own random.now }
 {
     match own {

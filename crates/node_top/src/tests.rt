@@ -1,6 +1,7 @@
 //! Whole lookups over a scripted link.
 mod crowd;
 mod paths;
+mod peering;
 mod plain;
 mod puzzled;
 mod replies;

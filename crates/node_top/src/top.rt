@@ -11,6 +11,7 @@ ghost use Rattle.node_top.specs.Endings.{number_of, WritesLine, CutShort, EndsBy
 use crate::asked::asked;
 use crate::lookup::lookup;
 use crate::output::{write_line, write_output};
+use crate::peers::peers;
 use crate::plain::plain_output_of;
 use crate::status::Status;
 use kad_base::{Bytes, Check, Link, Sink, Source};
@@ -46,6 +47,9 @@ fn linked_output_of<S: Source, L: Link, C: Check>(
 {
     match asked(alloc, words)? {
         Command::Lookup { look } => lookup(alloc, &look, source, link, random, check, hasher),
+        Command::Peers { look, announce } => {
+            peers(alloc, &look, announce, source, link, random, check, hasher)
+        }
         _ => Err(Status::Usage),
     }
 }
@@ -88,7 +92,8 @@ fn output_of<S: Source, L: Link, C: Check>(
 /// Strangers choose what the lookup keeps an index of, so its `hasher` is handed in; nothing that is written depends on it.
 ///
 /// `lookup` tells a new routing table of the contact lines of the source, asks the closest contacts of the table on several
-/// disjoint paths, and writes the closest contacts that answered, nearest first. The commands that take no link are done as
+/// disjoint paths, and writes the closest contacts that answered, nearest first. `peers` does the same with `get_peers`,
+/// announces a port where it is told one, and writes the peers that the answers named. The commands that take no link are done as
 /// by `run_plain`. What words a command has is the business of `kad_words`.
 ///
 /// | Status | Line | When |

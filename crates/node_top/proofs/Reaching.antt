@@ -1,0 +1,103 @@
+-- From a lookup over a link to what its command reaches, and to what each command says of it.
+use Rattle.std.proofs.Common.{◌≡◌, ℕ, List, ◌++◌, Option, Some, None, sym, ap, subst, ◌∙◌}
+use Rattle.std.proofs.lemmas.List.{append_cancel_left}
+use Rattle.kad_base.specs.declared.plain.Event.{Event}
+use Rattle.kad_base.specs.Limits.{max_strays}
+use Rattle.kad_base.specs.Outside.{Grows}
+use Rattle.kad_base.proofs.Grown.{grows_weaker}
+use Rattle.id_puzzles.specs.Drawn.{WordsState}
+use Rattle.contact_table.specs.TableState.{TableState}
+use Rattle.claim_book.proofs.Claims.{took_distinct, asked_distinct}
+use Rattle.claim_book.proofs.Ends.{found_answered}
+use Rattle.lookup_run.specs.declared.plain.AskKind.{AskKind}
+use Rattle.lookup_run.specs.declared.plain.LookSetting.{LookSetting}
+use Rattle.lookup_run.specs.declared.plain.Outcome.{Outcome}
+use Rattle.lookup_run.specs.Tells.{Given, Tells, EndsAtStray}
+use Rattle.lookup_run.specs.Rounds.{Rounds}
+use Rattle.lookup_run.specs.Gathered.{Gathers}
+use Rattle.lookup_run.specs.Lookup.{given_of, LooksUp, TellsEarly}
+use Rattle.kad_words.specs.declared.command.LookWords.{LookWords}
+use Rattle.node_top.specs.declared.seek.Reached.{Reached}
+use Rattle.node_top.specs.Printed.{printed}
+use Rattle.node_top.specs.Shown.{Shown}
+use Rattle.node_top.specs.Started.{look_of, book_of, drawn_of, lookup_of, IsInRange, Start}
+use Rattle.node_top.specs.Looked.{LooksAt, Begun, MeetsFewStrays}
+use Rattle.node_top.specs.Reached.{HasRunOut, TellsAll, Reaches}
+use Rattle.node_top.proofs.Commands.{Has, start_of, moved, begun_of, tells_early, text_is}
+
+-- two things that hold of what was added hold of one list
+pub grows_both : {A : Type 0} (a b : Option (List A)) (P Q R : List A → Type 0) → Grows a b P → Grows a b Q → ((t : List A) → P t → Q t → R t) → Grows a b R
+grows_both a None P Q R g h f = tt
+grows_both {A} a (Some after) P Q R g h f =
+    let before : h.before ≡ g.before = (let x = g.was in let y = h.was in cc) in
+    let same : g.before ++ h.added ≡ g.before ++ g.added = ap (λ (l : List A). l ++ h.added) (sym before) ∙ sym h.sum_is ∙ g.sum_is in
+    record { before = g.before; added = g.added; was = g.was; sum_is = g.sum_is; holds = f g.added g.holds (subst Q (append_cancel_left g.before h.added g.added same) h.holds) }
+
+-- ---- what a lookup reaches
+
+ran_out : (kind : AskKind) (look : LookWords) (random : List ℕ) (source : Shown ℕ) (start : Start look random source) (words left : WordsState) (told told' : Option (List Event)) (o : Outcome) → IsInRange look
+    → LooksUp (look_of kind look random) start.table words left told told' o → HasRunOut kind look random source o.journal
+ran_out kind look random source start words left told told' o range up =
+    let set = book_of kind look random in
+    record {
+      start = start;
+      legal = up.legal;
+      seeds_are = up.seeds_are;
+      run_out = up.run_out;
+      taken_once = took_distinct set o.journal up.legal;
+      asked_once = asked_distinct set o.journal up.legal;
+      have_answered = λ c has. found_answered set o.journal c range.some_path up.legal up.run_out has;
+    }
+
+all_told : (g : Given) (o : Outcome) (a b : Option (List Event)) → Grows a b (λ events. Tells g o.journal events) → Grows a b (λ events. Rounds g o.journal events) → Grows a b (λ events. Gathers g o.journal events o.peers o.tokens)
+    → Grows a b (λ events. ¬ EndsAtStray g events max_strays) → Grows a b (TellsAll g o.journal o.peers o.tokens)
+all_told g o a b tells rounds gathers few =
+    let half = grows_both a b _ _ (λ events. Tells g o.journal events × Rounds g o.journal events) tells rounds (λ t p q. (p, q)) in
+    let rest = grows_both a b _ _ (λ events. Gathers g o.journal events o.peers o.tokens × ¬ EndsAtStray g events max_strays) gathers few (λ t p q. (p, q)) in
+    grows_both a b _ _ (TellsAll g o.journal o.peers o.tokens) half rest (λ t p q. record { tells = p.0; rounds = p.1; gathers = q.0; few_strays = q.1 })
+
+pub reaches : (kind : AskKind) (look : LookWords) (random : List ℕ) (source : Shown ℕ) (link : Shown Event) (setting : LookSetting) (words left : WordsState) (table : TableState) (o : Outcome) → Has kind look random source setting words table
+    → LooksUp setting table words left link.before link.after o → Grows link.before link.after (λ events. Rounds (given_of setting words) o.journal events)
+    → Grows link.before link.after (λ events. Gathers (given_of setting words) o.journal events o.peers o.tokens)
+    → Grows link.before link.after (λ events. ¬ EndsAtStray (given_of setting words) events max_strays)
+    → Reaches kind look random source link (record { outcome = o; words = left })
+reaches kind look random source link setting words left table o h up rounds gathers few =
+    let up' : LooksUp (look_of kind look random) table (drawn_of random) left link.before link.after o = moved kind look random source setting words table (λ s w. LooksUp s table w left link.before link.after o) h up in
+    let rounds' = moved kind look random source setting words table (λ s w. Grows link.before link.after (λ events. Rounds (given_of s w) o.journal events)) h rounds in
+    let gathers' = moved kind look random source setting words table (λ s w. Grows link.before link.after (λ events. Gathers (given_of s w) o.journal events o.peers o.tokens)) h gathers in
+    let few' = moved kind look random source setting words table (λ s w. Grows link.before link.after (λ events. ¬ EndsAtStray (given_of s w) events max_strays)) h few in
+    record {
+      ran = ran_out kind look random source (start_of kind look random source setting words table h) (drawn_of random) left link.before link.after o h.range up';
+      tells = all_told (lookup_of kind look random) o link.before link.after up'.tells rounds' gathers' few';
+      found = up'.found;
+      counted = up'.counted;
+      drawn = up'.drawn;
+    }
+
+-- ---- and what follows
+
+-- a lookup that has run out had begun
+pub begun_reached : (kind : AskKind) (look : LookWords) (random : List ℕ) (source : Shown ℕ) (link : Shown Event) (r : Reached) → Reaches kind look random source link r → Begun kind look random source link
+begun_reached kind look random source link r h =
+    begun_of kind look random source link h.ran.start r.words (record {
+      journal = r.outcome.journal;
+      legal = h.ran.legal;
+      seeds_are = h.ran.seeds_are;
+      tells = grows_weaker link.before link.after _ (λ events. TellsEarly (lookup_of kind look random) r.outcome.journal events) h.tells (λ events t. tells_early (lookup_of kind look random) r.outcome.journal events t.tells);
+      drawn = h.drawn;
+    })
+
+pub few_reached : (kind : AskKind) (look : LookWords) (random : List ℕ) (source : Shown ℕ) (link : Shown Event) (r : Reached) → Reaches kind look random source link r → MeetsFewStrays kind look random link
+few_reached kind look random source link r h = grows_weaker link.before link.after _ _ h.tells (λ events t. t.few_strays)
+
+pub looks_reached : (kind : AskKind) (look : LookWords) (random : List ℕ) (source : Shown ℕ) (link : Shown Event) (r : Reached) (text : List ℕ) → Reaches kind look random source link r
+    → text ≡ printed r.outcome.found r.outcome.counts.asked r.outcome.counts.failed r.outcome.counts.turned → LooksAt kind look random source link text
+looks_reached kind look random source link r text h is =
+    record {
+      journal = r.outcome.journal;
+      ran = h.ran;
+      tells = grows_weaker link.before link.after _ _ h.tells (λ events t. t.tells);
+      rounds = grows_weaker link.before link.after _ _ h.tells (λ events t. t.rounds);
+      few_strays = few_reached kind look random source link r h;
+      text_is = text_is (book_of kind look random) r.outcome text h.found h.counted.asked h.counted.failed h.counted.turned is;
+    }

@@ -1,0 +1,6 @@
+use Rattle.std.specs.Prelude.{All}
+use Rattle.fake_net.specs.Scripts.{IsWritableEvent}
+use Rattle.node_top.proofs.tests.script.link_from.Given as goal
+
+abbrev pub invariant-loop-0 : goal.invariant-loop-0
+invariant-loop-0 l = All IsWritableEvent l.script

@@ -1,0 +1,78 @@
+-- Announcements: whoever gave a token is told that this node is a peer of the key (BEP 5, `announce_peer`), by messages
+-- that say that their sender answers no queries (BEP 43).
+use Rattle.std.specs.Prelude.{◌≡◌, ℕ, zero, suc, ◌+◌, List, [], ◌∷◌, length, take, map, filter, Option, Some, None, Bool, true, false}
+use Rattle.std.specs.List.{flat_map}
+use Rattle.kad_base.specs.declared.plain.Id.{Id}
+use Rattle.kad_base.specs.declared.plain.Addr.{Addr}
+use Rattle.kad_base.specs.declared.plain.Contact.{Contact}
+use Rattle.kad_base.specs.declared.plain.Event.{Event}
+use Rattle.kad_base.specs.declared.plain.Event.TheVariants.{Sent, Unsent}
+use Rattle.kad_base.specs.Contacts.{same}
+use Rattle.kad_base.specs.Words.{word, word_bytes}
+use Rattle.kad_krpc.specs.declared.message.Ask.{Ask}
+use Rattle.kad_krpc.specs.declared.message.Ask.TheVariants.{AnnouncePeer}
+use Rattle.kad_krpc.specs.declared.message.Message.TheVariants as message
+use Rattle.kad_krpc.specs.declared.message.Port.{Port}
+use Rattle.kad_krpc.specs.declared.message.Port.TheVariants.{Given, Implied}
+use Rattle.kad_krpc.specs.Form.{form}
+use Rattle.lookup_run.specs.declared.plain.Token.{Token}
+
+-- the port 0 stands for the one that the datagram comes from
+abbrev pub port_of : ℕ → Port
+port_of zero = Implied
+port_of (suc n) = Given (suc n)
+
+-- what is asked, and of which address
+pub record Announcement : Type 0 where
+  pub to : Addr
+  pub ask : Ask
+
+-- to the contact of the token: the sender is a peer of the key, at the port
+abbrev pub announcement : Id → Id → ℕ → Token → Announcement
+announcement own key port t = record { to = t.contact.addr; ask = AnnouncePeer own key (port_of port) t.token }
+
+-- the first of the tokens that the contact gave; none where it gave none
+abbrev pub first_from : List Token → Contact → List Token
+first_from tokens c = take 1 (filter (λ t. same t.contact c) tokens)
+
+-- one token of each contact that was found and gave some, in order
+abbrev pub tokens_for : List Contact → List Token → List Token
+tokens_for found tokens = flat_map (first_from tokens) found
+
+abbrev pub announcements : Id → Id → ℕ → List Contact → List Token → List Announcement
+announcements own key port found tokens = map (announcement own key port) (tokens_for found tokens)
+
+-- what is owed to those that were found: nothing where no port was told
+abbrev pub owed : Option ℕ → Id → Id → List Contact → List Token → List Announcement
+owed None own key found tokens = []
+owed (Some port) own key found tokens = announcements own key port found tokens
+
+-- a datagram was sent, or the link refused it
+abbrev pub tried : Bool → Addr → List ℕ → Event
+tried true to bytes = Sent to bytes
+tried false to bytes = Unsent to bytes
+
+-- the read-only query under this transaction id
+abbrev pub asking : ℕ → Ask → List ℕ
+asking tx ask = form (message.Query (word_bytes tx) true ask)
+
+-- each was sent or refused, in order, and nothing else happened; their transaction ids are the words of the seed from this
+-- place on
+abbrev pub Announces : List ℕ → ℕ → List Announcement → List Event → Type 0
+Announces seed place [] events = events ≡ []
+Announces seed place (a ∷ rest) events =
+    (was_sent : Bool) × (later : List Event)
+    × (events ≡ tried was_sent a.to (asking (word seed place) a.ask) ∷ later)
+    × Announces seed (place + 1) rest later
+
+-- a front of them was, and then no more
+abbrev pub AnnouncesSome : List ℕ → ℕ → List Announcement → List Event → Type 0
+AnnouncesSome seed place all events = (n : ℕ) × Announces seed place (take n all) events
+
+abbrev pub is_sent : Event → Bool
+is_sent (Sent to bytes) = true
+is_sent other = false
+
+-- how many datagrams were sent and not refused
+abbrev pub sent_in : List Event → ℕ
+sent_in events = length (filter is_sent events)

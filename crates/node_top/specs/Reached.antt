@@ -1,0 +1,54 @@
+-- What a lookup is, whatever it asks for: its journal is legal and begins with the table's closest contacts, the link's
+-- events tell it, and all its paths have run out (S/Kademlia, 2007, section 4.4, over Kademlia, 2002, section 2.3).
+use Rattle.std.specs.Prelude.{◌≡◌, ℕ, ◌<◌, List, true}
+use Rattle.std.specs.List.{IsDistinct}
+use Rattle.kad_base.specs.declared.plain.Addr.{Addr}
+use Rattle.kad_base.specs.declared.plain.Contact.{Contact}
+use Rattle.kad_base.specs.declared.plain.Event.{Event}
+use Rattle.kad_base.specs.Contacts.{same, among}
+use Rattle.kad_base.specs.Limits.{max_strays}
+use Rattle.kad_base.specs.Outside.{Grows}
+use Rattle.claim_book.specs.declared.plain.Entry.{Entry}
+use Rattle.claim_book.specs.Journal.{seeds, took, asked, answered}
+use Rattle.claim_book.specs.Legal.{Legal}
+use Rattle.claim_book.specs.RunOut.{RunOut}
+use Rattle.claim_book.specs.Result.{result_of}
+use Rattle.claim_book.specs.Calls.{Counted}
+use Rattle.lookup_run.specs.declared.plain.AskKind.{AskKind}
+use Rattle.lookup_run.specs.declared.plain.Token.{Token}
+use Rattle.lookup_run.specs.Tells.{Given, Tells, EndsAtStray}
+use Rattle.lookup_run.specs.Rounds.{Rounds}
+use Rattle.lookup_run.specs.Gathered.{Gathers}
+use Rattle.lookup_run.specs.Lookup.{seeds_in, drawn_for}
+use Rattle.kad_words.specs.declared.command.LookWords.{LookWords}
+use Rattle.node_top.specs.declared.seek.Reached.{Reached}
+use Rattle.node_top.specs.Shown.{Shown}
+use Rattle.node_top.specs.Started.{look_of, book_of, drawn_of, lookup_of, Start}
+
+-- The journal of a lookup that was asked for: it is legal and begins with the k closest contacts of the table that the
+-- input gives, and every path has run out in it. So no contact is taken or asked twice, and each of the result has
+-- answered.
+pub record HasRunOut (kind : AskKind) (look : LookWords) (random : List ℕ) (source : Shown ℕ) (J : List Entry) : Type 0 where
+  pub start : Start look random source
+  pub legal : Legal (book_of kind look random) J
+  pub seeds_are : seeds J ≡ seeds_in (look_of kind look random) start.table
+  pub run_out : (p : ℕ) → p < look.paths → RunOut (book_of kind look random) p J
+  pub taken_once : IsDistinct same (took J)
+  pub asked_once : IsDistinct same (asked J)
+  pub have_answered : (c : Contact) → among (result_of (book_of kind look random) J) c ≡ true → among (answered J) c ≡ true
+
+-- what the events of a whole lookup tell: its journal, by rounds, and the peers and tokens that its answers gave; and they
+-- don't end with the last stray that a lookup takes
+pub record TellsAll (g : Given) (J : List Entry) (peers : List Addr) (tokens : List Token) (events : List Event) : Type 0 where
+  pub tells : Tells g J events
+  pub rounds : Rounds g J events
+  pub gathers : Gathers g J events peers tokens
+  pub few_strays : ¬ EndsAtStray g events max_strays
+
+-- a lookup that was asked for has run out; this is what it found, and so far were its words drawn
+pub record Reaches (kind : AskKind) (look : LookWords) (random : List ℕ) (source : Shown ℕ) (link : Shown Event) (reached : Reached) : Type 0 where
+  pub ran : HasRunOut kind look random source reached.outcome.journal
+  pub tells : Grows link.before link.after (TellsAll (lookup_of kind look random) reached.outcome.journal reached.outcome.peers reached.outcome.tokens)
+  pub found : reached.outcome.found ≡ result_of (book_of kind look random) reached.outcome.journal
+  pub counted : Counted reached.outcome.journal reached.outcome.counts
+  pub drawn : reached.words ≡ drawn_for (drawn_of random) reached.outcome.journal

@@ -1,0 +1,98 @@
+//! The command `peers`: looks for peers of a key, makes the text of those that the answers named, and where it is told a
+//! port announces it to the contacts of the result.
+ghost use Rattle.std.specs.Prelude.{◌≡◌, ◌≤◌, ◌⊎◌, ◌+◌, ◌^◌, length, IfOk, IfErr, OnErr};
+ghost use Rattle.kad_base.specs.Outside.{Grows};
+ghost use Rattle.lookup_run.specs.declared.plain.AskKind.TheVariants.{GetPeers};
+ghost use Rattle.node_top.specs.Announced.{owed, Announces, AnnouncesSome, sent_in};
+ghost use Rattle.node_top.specs.Endings.{EndsEarly, number_of};
+ghost use Rattle.node_top.specs.Looked.{LookCause};
+ghost use Rattle.node_top.specs.Peered.{PeersAt, PeersBegun};
+ghost use Rattle.node_top.specs.Started.{own_of, IsInRange};
+ghost use Rattle.node_top.specs.Shown.{shown};
+
+use crate::announce::{Announced, announce};
+use crate::printed::print_peers;
+use crate::seek::{Reached, seek};
+use crate::start::own_id;
+use crate::status::Status;
+use id_puzzles::Words;
+use kad_base::{Bytes, Check, Link, NoMemory, Source};
+use kad_words::LookWords;
+use lookup_run::{AskKind, Outcome};
+use std::alloc::Global;
+use std::hash::RandomState;
+
+/// Announces what the words tell to announce, and answers how many datagrams were sent: none where no port was told.
+fn announce_told<L: Link>(
+    alloc: Global,
+    link: &mut L,
+    words: &mut Words,
+    look: &LookWords,
+    port: Option<u16>,
+    random: &[u8; 32],
+    outcome: &Outcome,
+) -> Result<usize, NoMemory>
+    requires { words.old.place + length outcome.now.found ≤ 2 ^ 60 }
+    ensures ok { let all = owed port (own_of look.now.own random.now) look.now.target outcome.now.found outcome.now.tokens in
+        IfOk result (λ sent. Grows (L.told link.old) (L.told link.new) (λ es. Announces words.old.seed words.old.place all es × (sent ≡ sent_in es))) }
+    ensures err { let all = owed port (own_of look.now.own random.now) look.now.target outcome.now.found outcome.now.tokens in
+        OnErr result (Grows (L.told link.old) (L.told link.new) (AnnouncesSome words.old.seed words.old.place all)) }
+    ensures recv_faults { L.recv_faults link.old ≤ L.recv_faults link.new }
+{
+    let Some(port) = port else {
+        return Ok(0);
+    };
+    let announced = Announced {
+        own: own_id(look.own, random),
+        key: look.target,
+        port,
+    };
+    let found = outcome.found.as_slice();
+    announce(
+        alloc,
+        link,
+        words,
+        &announced,
+        found,
+        outcome.tokens.as_slice(),
+    )
+}
+
+/// Looks for peers, announces, and makes the text of what was found, or says why there is none. Nothing is written yet.
+pub(crate) fn peers<S: Source, L: Link, C: Check>(
+    alloc: Global,
+    look: &LookWords,
+    port: Option<u16>,
+    source: &mut S,
+    link: &mut L,
+    random: &[u8; 32],
+    check: &C,
+    hasher: RandomState,
+) -> Result<Bytes, Status>
+    requires { IsInRange look.now }
+    ensures ok { IfOk result (PeersAt look.now port random.now
+        (shown S.left S.faults source.old source.new)
+        (shown L.told L.recv_faults link.old link.new)) }
+    ensures cause { IfErr result (LookCause GetPeers look.now random.now
+        (shown S.left S.faults source.old source.new)
+        (shown L.told L.recv_faults link.old link.new)) }
+    ensures no_memory { IfErr result (λ status. status ≡ Status.NoMemory →
+        PeersBegun look.now port random.now
+        (shown S.left S.faults source.old source.new)
+        (shown L.told L.recv_faults link.old link.new) ⊎ (link.new ≡ link.old)) }
+    ensures early { IfErr result (λ status. EndsEarly (number_of status) → link.new ≡ link.old) }
+    ensures source_faults { S.faults source.old ≤ S.faults source.new }
+    ensures recv_faults { L.recv_faults link.old ≤ L.recv_faults link.new }
+{
+    let kind = AskKind::GetPeers;
+    let reached = seek(alloc, kind, look, source, link, random, check, hasher)?;
+    let Reached { outcome, mut words } = reached;
+    let announced = announce_told(alloc, link, &mut words, look, port, random, &outcome)?;
+    Ok(print_peers(
+        alloc,
+        outcome.peers.as_slice(),
+        outcome.found.len(),
+        &outcome.counts,
+        announced,
+    )?)
+}

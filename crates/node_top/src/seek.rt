@@ -1,0 +1,89 @@
+//! What every command that looks up does first: it reads the contacts of the input, tells a new routing table of them, and
+//! looks up from its closest until every path has run out.
+ghost use Rattle.std.specs.Prelude.{◌≡◌, ◌≢◌, ◌≤◌, ◌⊎◌, [], IfOk, IfErr};
+ghost use Rattle.node_top.specs.Endings.{EndsEarly, number_of};
+ghost use Rattle.node_top.specs.Input.{Reads};
+ghost use Rattle.node_top.specs.Looked.{LookCause, InputCause, Begun};
+ghost use Rattle.node_top.specs.Reached.{Reaches};
+ghost use Rattle.node_top.specs.Started.{IsInRange};
+ghost use Rattle.node_top.specs.Shown.{shown};
+
+use crate::input::{admitted, read_reports};
+use crate::start::{setting_for, table_of};
+use crate::status::Status;
+use id_puzzles::Words;
+use kad_base::{Check, Contacts, Id, Link, Policy, Source};
+use kad_words::LookWords;
+use lookup_run::{AskKind, LookFault, Outcome, look_up_alone};
+use std::alloc::Global;
+use std::hash::RandomState;
+
+/// The place of the first drawn word that is a transaction id: those before it are the node's identifier.
+const FIRST_TX: u64 = 5;
+
+/// What a lookup found, and the words from which its transaction ids were drawn, as far as they were.
+#[derive(Drop)]
+pub(crate) struct Reached {
+    pub outcome: Outcome,
+    pub words: Words,
+}
+
+/// The contacts that the input gives, where there are some.
+pub(crate) fn read_contacts<S: Source, C: Check>(
+    alloc: Global,
+    source: &mut S,
+    own: &Id,
+    policy: Policy,
+    check: &C,
+) -> Result<Contacts, Status>
+    ensures ok { IfOk result (Reads own.now policy (shown S.left S.faults source.old source.new)) }
+    ensures some_one { IfOk result (λ contacts. contacts ≢ []) }
+    ensures cause { IfErr result (InputCause own.now policy (shown S.left S.faults source.old source.new)) }
+    ensures faults { S.faults source.old ≤ S.faults source.new }
+{
+    let reports = read_reports(alloc, source)?;
+    let contacts = admitted(alloc, own, policy, check, reports.as_slice())?;
+    if contacts.as_slice().is_empty() {
+        return Err(Status::NoSeeds);
+    }
+    Ok(contacts)
+}
+
+/// Looks the target up by this query, or says why it was not found out.
+pub(crate) fn seek<S: Source, L: Link, C: Check>(
+    alloc: Global,
+    kind: AskKind,
+    look: &LookWords,
+    source: &mut S,
+    link: &mut L,
+    random: &[u8; 32],
+    check: &C,
+    hasher: RandomState,
+) -> Result<Reached, Status>
+    requires { IsInRange look.now }
+    ensures ok { IfOk result (Reaches kind look.now random.now
+        (shown S.left S.faults source.old source.new)
+        (shown L.told L.recv_faults link.old link.new)) }
+    ensures cause { IfErr result (LookCause kind look.now random.now
+        (shown S.left S.faults source.old source.new)
+        (shown L.told L.recv_faults link.old link.new)) }
+    ensures no_memory { IfErr result (λ status. status ≡ Status.NoMemory →
+        Begun kind look.now random.now
+        (shown S.left S.faults source.old source.new)
+        (shown L.told L.recv_faults link.old link.new) ⊎ (link.new ≡ link.old)) }
+    ensures early { IfErr result (λ status. EndsEarly (number_of status) → link.new ≡ link.old) }
+    ensures source_faults { S.faults source.old ≤ S.faults source.new }
+    ensures recv_faults { L.recv_faults link.old ≤ L.recv_faults link.new }
+{
+    let setting = setting_for(kind, look, random);
+    let contacts = read_contacts(alloc, source, &setting.own, setting.policy, check)?;
+    let table = table_of(alloc, setting.own, look, contacts.as_slice())?;
+    let mut words = Words::new(random, FIRST_TX);
+    let (_, ended) = look_up_alone(alloc, link, &mut words, table, &setting, check, hasher);
+    match ended {
+        Ok(outcome) => Ok(Reached { outcome, words }),
+        Err(LookFault::LinkFault) => Err(Status::LinkFault),
+        Err(LookFault::Strays) => Err(Status::Strays),
+        Err(LookFault::NoMemory) => Err(Status::NoMemory),
+    }
+}

@@ -1,0 +1,209 @@
+//! Searches for peers over a scripted link: which peers are printed, and who is told of this node. The bytes of the answers
+//! and of the announcements were written by hand from BEP 5.
+use crate::tests::script::link_from;
+use crate::tests::{LINE_1, lines, play, sent, shows};
+use fake_net::ScriptLink;
+use std::test::Fail;
+
+/// A search for peers of the key of zeros by the node of ones, on one path.
+const PEERS: &[&str] = &[
+    "peers",
+    "--key",
+    "0000000000000000000000000000000000000000",
+    "--own",
+    "ffffffffffffffffffffffffffffffffffffffff",
+    "--paths",
+    "1",
+];
+
+/// The same, which announces the port 6882.
+const ANNOUNCE: &[&str] = &[
+    "peers",
+    "--key",
+    "0000000000000000000000000000000000000000",
+    "--own",
+    "ffffffffffffffffffffffffffffffffffffffff",
+    "--paths",
+    "1",
+    "--announce",
+    "6882",
+];
+
+/// The same, which announces the port that the datagram comes from.
+const IMPLY: &[&str] = &[
+    "peers",
+    "--key",
+    "0000000000000000000000000000000000000000",
+    "--own",
+    "ffffffffffffffffffffffffffffffffffffffff",
+    "--paths",
+    "1",
+    "--announce",
+    "0",
+];
+
+/// The same as the one with port 6882, which looks for one contact.
+const ONE_FOUND: &[&str] = &[
+    "peers",
+    "--key",
+    "0000000000000000000000000000000000000000",
+    "--own",
+    "ffffffffffffffffffffffffffffffffffffffff",
+    "--paths",
+    "1",
+    "--announce",
+    "6882",
+    "--k",
+    "1",
+];
+
+/// The peers of the answers of contacts 1 and 2.
+const THREE_PEERS: &str =
+    "10.0.0.9:1\n127.0.0.1:80\n127.0.0.1:6881\npeers 3 found 2 asked 2 failed 0 turned 0 announced 2\n";
+
+/// Contact 1 answers the first query with the token `aoeusnth` and one peer, 127.0.0.1 and port 6881.
+const ONE_PEER: &[u8] =
+    b"d1:rd2:id20:\0\0\0\0\0\0\0\0\0\0\0\0\0\0\0\0\0\0\0\x015:token8:aoeusnth6:valuesl6:\x7f\0\0\x01\x1a\xe1ee1:t4:\xa0\x8d\xed\x1a1:y1:re";
+
+/// Contact 2 answers the second query with another token and four peers: 127.0.0.1:6881, 10.0.0.9:1, 127.0.0.1:80 and the
+/// first again.
+const FOUR_PEERS: &[u8] =
+    b"d1:rd2:id20:\0\0\0\0\0\0\0\0\0\0\0\0\0\0\0\0\0\0\0\x025:token3:abc6:valuesl6:\x7f\0\0\x01\x1a\xe16:\x0a\0\0\x09\0\x016:\x7f\0\0\x01\0\x506:\x7f\0\0\x01\x1a\xe1ee1:t4:\xa8\x36\xef\xcc1:y1:re";
+
+/// Contact 1 gives a peer with port 0, one of five bytes and one of seven, a number, and no token.
+const ODD_PEERS: &[u8] =
+    b"d1:rd2:id20:\0\0\0\0\0\0\0\0\0\0\0\0\0\0\0\0\0\0\0\x016:valuesl6:\x7f\0\0\x01\0\x005:\x7f\0\0\x01\x1a7:\x7f\0\0\x01\x1a\xe1\0i7eee1:t4:\xa0\x8d\xed\x1a1:y1:re";
+
+/// Contact 2 answers the first query with a token and names contact 1.
+const NAMING_1: &[u8] =
+    b"d1:rd2:id20:\0\0\0\0\0\0\0\0\0\0\0\0\0\0\0\0\0\0\0\x025:nodes26:\0\0\0\0\0\0\0\0\0\0\0\0\0\0\0\0\0\0\0\x01\x7f\0\0\x01\x17\x715:token3:abce1:t4:\xa0\x8d\xed\x1a1:y1:re";
+
+/// Contact 1 answers the second query with a token.
+const SECOND_ANSWER: &[u8] =
+    b"d1:rd2:id20:\0\0\0\0\0\0\0\0\0\0\0\0\0\0\0\0\0\0\0\x015:token8:aoeusnthe1:t4:\xa8\x36\xef\xcc1:y1:re";
+
+/// The query to contact 1, under the sixth word of the generator of 32 zero bytes.
+const QUERY: &[u8] =
+    b"d1:ad2:id20:\xff\xff\xff\xff\xff\xff\xff\xff\xff\xff\xff\xff\xff\xff\xff\xff\xff\xff\xff\xff9:info_hash20:\0\0\0\0\0\0\0\0\0\0\0\0\0\0\0\0\0\0\0\0e1:q9:get_peers2:roi1e1:t4:\xa0\x8d\xed\x1a1:y1:qe";
+
+/// The announcement to contact 1, under the seventh word.
+const ANNOUNCED: &[u8] =
+    b"d1:ad2:id20:\xff\xff\xff\xff\xff\xff\xff\xff\xff\xff\xff\xff\xff\xff\xff\xff\xff\xff\xff\xff9:info_hash20:\0\0\0\0\0\0\0\0\0\0\0\0\0\0\0\0\0\0\0\x004:porti6882e5:token8:aoeusnthe1:q13:announce_peer2:roi1e1:t4:\xa8\x36\xef\xcc1:y1:qe";
+
+/// The same of the port that the datagram comes from.
+const IMPLIED: &[u8] =
+    b"d1:ad2:id20:\xff\xff\xff\xff\xff\xff\xff\xff\xff\xff\xff\xff\xff\xff\xff\xff\xff\xff\xff\xff12:implied_porti1e9:info_hash20:\0\0\0\0\0\0\0\0\0\0\0\0\0\0\0\0\0\0\0\x004:porti1e5:token8:aoeusnthe1:q13:announce_peer2:roi1e1:t4:\xa8\x36\xef\xcc1:y1:qe";
+
+/// The announcement to contact 1 where two queries came before, under the eighth word.
+const THIRD: &[u8] =
+    b"d1:ad2:id20:\xff\xff\xff\xff\xff\xff\xff\xff\xff\xff\xff\xff\xff\xff\xff\xff\xff\xff\xff\xff9:info_hash20:\0\0\0\0\0\0\0\0\0\0\0\0\0\0\0\0\0\0\0\x004:porti6882e5:token8:aoeusnthe1:q13:announce_peer2:roi1e1:t4:\x8b\x77\x0d\xc71:y1:qe";
+
+/// The announcement to contact 2 after that one, under the ninth word.
+const FOURTH: &[u8] =
+    b"d1:ad2:id20:\xff\xff\xff\xff\xff\xff\xff\xff\xff\xff\xff\xff\xff\xff\xff\xff\xff\xff\xff\xff9:info_hash20:\0\0\0\0\0\0\0\0\0\0\0\0\0\0\0\0\0\0\0\x004:porti6882e5:token3:abce1:q13:announce_peer2:roi1e1:t4:\xda\x41\x59\x7c1:y1:qe";
+
+/// The datagrams that the command sends over the link where it ends well with this text.
+fn sends(
+    rt: &HostRuntime,
+    texts: &[&str],
+    input: &str,
+    link: ScriptLink,
+    text: &str,
+) -> Result<Vec<Vec<u8>>, Fail> {
+    let played = play(rt, texts, input, link)?;
+    if played.status != 0 {
+        return Err(Fail::new("another status"));
+    }
+    if played.text.as_str() != text {
+        return Err(Fail::new("another text"));
+    }
+    sent(rt.alloc(), &played.link)
+}
+
+/// Whether the datagram of this number, from 0, has these bytes.
+fn is_at(sent: &[Vec<u8>], place: usize, wanted: &[u8]) -> bool {
+    match sent.get(place) {
+        Some(bytes) => bytes.as_slice() == wanted,
+        None => false,
+    }
+}
+
+#[test]
+fn a_peer_is_printed(rt: HostRuntime) -> Result<(), Fail> {
+    let link = link_from(rt.alloc(), &[(1, ONE_PEER)], &[])?;
+    let text = "127.0.0.1:6881\npeers 1 found 1 asked 1 failed 0 turned 0 announced 0\n";
+    let sent = sends(&rt, PEERS, LINE_1, link, text)?;
+    assert_eq!(rt; sent.len(), 1);
+    assert!(rt; is_at(&sent, 0, QUERY));
+    Ok(())
+}
+
+#[test]
+fn a_port_is_announced_with_the_token(rt: HostRuntime) -> Result<(), Fail> {
+    let link = link_from(rt.alloc(), &[(1, ONE_PEER)], &[])?;
+    let text = "127.0.0.1:6881\npeers 1 found 1 asked 1 failed 0 turned 0 announced 1\n";
+    let sent = sends(&rt, ANNOUNCE, LINE_1, link, text)?;
+    assert_eq!(rt; sent.len(), 2);
+    assert!(rt; is_at(&sent, 1, ANNOUNCED));
+    Ok(())
+}
+
+#[test]
+fn port_0_announces_the_one_that_the_datagram_comes_from(rt: HostRuntime) -> Result<(), Fail> {
+    let link = link_from(rt.alloc(), &[(1, ONE_PEER)], &[])?;
+    let text = "127.0.0.1:6881\npeers 1 found 1 asked 1 failed 0 turned 0 announced 1\n";
+    let sent = sends(&rt, IMPLY, LINE_1, link, text)?;
+    assert_eq!(rt; sent.len(), 2);
+    assert!(rt; is_at(&sent, 1, IMPLIED));
+    Ok(())
+}
+
+#[test]
+fn a_refused_announcement_is_not_counted(rt: HostRuntime) -> Result<(), Fail> {
+    let link = link_from(rt.alloc(), &[(1, ONE_PEER)], &[1])?;
+    let text = "127.0.0.1:6881\npeers 1 found 1 asked 1 failed 0 turned 0 announced 0\n";
+    let sent = sends(&rt, ANNOUNCE, LINE_1, link, text)?;
+    assert_eq!(rt; sent.len(), 1);
+    Ok(())
+}
+
+/// Two contacts give the same peer, one of them twice and among others: each stands once, in the order of addresses, and
+/// both contacts are told, in the order of the result.
+#[test]
+fn peers_of_several_answers_stand_once_and_in_order(rt: HostRuntime) -> Result<(), Fail> {
+    let input = lines(rt.alloc(), 1, 2)?;
+    let link = link_from(rt.alloc(), &[(1, ONE_PEER), (2, FOUR_PEERS)], &[])?;
+    let sent = sends(&rt, ANNOUNCE, input.as_str(), link, THREE_PEERS)?;
+    assert_eq!(rt; sent.len(), 4);
+    assert!(rt; is_at(&sent, 2, THIRD));
+    assert!(rt; is_at(&sent, 3, FOURTH));
+    Ok(())
+}
+
+/// A peer with port 0 is a peer; members of another length, and a number, are passed over. No token, no announcement.
+#[test]
+fn odd_peers_and_no_token(rt: HostRuntime) -> Result<(), Fail> {
+    let link = link_from(rt.alloc(), &[(1, ODD_PEERS)], &[])?;
+    let text = "127.0.0.1:0\npeers 1 found 1 asked 1 failed 0 turned 0 announced 0\n";
+    let sent = sends(&rt, ANNOUNCE, LINE_1, link, text)?;
+    assert_eq!(rt; sent.len(), 1);
+    Ok(())
+}
+
+/// Contact 2 gave a token, and contact 1 is closer: of one contact to find only contact 1 is told.
+#[test]
+fn a_token_of_a_contact_that_is_not_found_is_not_used(rt: HostRuntime) -> Result<(), Fail> {
+    let input = lines(rt.alloc(), 2, 2)?;
+    let link = link_from(rt.alloc(), &[(2, NAMING_1), (1, SECOND_ANSWER)], &[])?;
+    let text = "peers 0 found 1 asked 2 failed 0 turned 0 announced 1\n";
+    let sent = sends(&rt, ONE_FOUND, input.as_str(), link, text)?;
+    assert_eq!(rt; sent.len(), 3);
+    assert!(rt; is_at(&sent, 2, THIRD));
+    Ok(())
+}
+
+#[test]
+fn peers_begin_with_a_contact(rt: HostRuntime) -> Result<(), Fail> {
+    let link = link_from(rt.alloc(), &[(1, ONE_PEER)], &[])?;
+    shows(&rt, PEERS, "", link, 8, "no seeds\n")
+}
