@@ -35,33 +35,35 @@ asks_built words command h asks = command_built words command h (asks_begins wor
 
 -- ---- the commands that are built
 
-built_word : (w : Word) → Contains built w → (lookup ≡ w) ⊎ ((check ≡ w) ⊎ ((mint ≡ w) ⊎ (peers ≡ w)))
+built_word : (w : Word) → Contains built w → (lookup ≡ w) ⊎ ((check ≡ w) ⊎ ((mint ≡ w) ⊎ ((peers ≡ w) ⊎ (sim ≡ w))))
 built_word w h = go h.0 h.1 h.2
   where
-    go : (k : ℕ) → k < 4 → slice_index_or built k w ≡ w → (lookup ≡ w) ⊎ ((check ≡ w) ⊎ ((mint ≡ w) ⊎ (peers ≡ w)))
+    go : (k : ℕ) → k < 5 → slice_index_or built k w ≡ w → (lookup ≡ w) ⊎ ((check ≡ w) ⊎ ((mint ≡ w) ⊎ ((peers ≡ w) ⊎ (sim ≡ w))))
     go zero lt e = inl e
     go (suc zero) lt e = inr (inl e)
     go (suc (suc zero)) lt e = inr (inr (inl e))
-    go (suc (suc (suc zero))) lt e = inr (inr (inr e))
-    go (suc (suc (suc (suc k)))) lt e = absurd (omega arith)
+    go (suc (suc (suc zero))) lt e = inr (inr (inr (inl e)))
+    go (suc (suc (suc (suc zero)))) lt e = inr (inr (inr (inr e)))
+    go (suc (suc (suc (suc (suc k))))) lt e = absurd (omega arith)
 
 differ : (a w : Word) → bytes_eq a w ≡ false → a ≡ w → bytes_eq a a ≡ true → ⊥
 differ a w no_ e same = true≢false (sym same ∙ ap (bytes_eq a) e ∙ no_)
 
-other_word : (w : Word) → bytes_eq lookup w ≡ false → bytes_eq check w ≡ false → bytes_eq mint w ≡ false → bytes_eq peers w ≡ false → Contains built w → ⊥
-other_word w a b d f h = elim (built_word w h) [
+other_word : (w : Word) → bytes_eq lookup w ≡ false → bytes_eq check w ≡ false → bytes_eq mint w ≡ false → bytes_eq peers w ≡ false
+    → bytes_eq sim w ≡ false → Contains built w → ⊥
+other_word w a b d f g h = elim (built_word w h) [
   | inl e ↦ differ lookup w a e refl
   | inr more ↦ elim more [
     | inl e ↦ differ check w b e refl
-    | inr rest ↦ elim rest [ inl e ↦ differ mint w d e refl | inr e ↦ differ peers w f e refl ]
+    | inr rest ↦ elim rest [
+      | inl e ↦ differ mint w d e refl
+      | inr last ↦ elim last [ inl e ↦ differ peers w f e refl | inr e ↦ differ sim w g e refl ]
+    ]
   ]
 ]
 
 pub serve_not : (own : Option Id) (k bits : ℕ) (policy : Policy) (receives : ℕ) → Contains built (word_of (Serve own k bits policy receives)) → ⊥
-serve_not own k bits policy receives h = other_word serve refl refl refl refl h
-
-pub sim_not : (seed : Option (List ℕ)) (nodes hostile k paths alpha timeout : ℕ) → Contains built (word_of (Sim seed nodes hostile k paths alpha timeout)) → ⊥
-sim_not seed nodes hostile k paths alpha timeout h = other_word sim refl refl refl refl h
+serve_not own k bits policy receives h = other_word serve refl refl refl refl refl h
 
 -- ---- the commands that take a link
 
@@ -113,12 +115,22 @@ check_plain words policy h = record { asks = check_asks words policy h; no_link 
 pub mint_plain : (words : List Word) (seed : Option (List ℕ)) (c1 c2 tries : ℕ) → CommandOf words (Mint seed c1 c2 tries) → AsksPlain words
 mint_plain words seed c1 c2 tries h = record { asks = mint_asks words seed c1 c2 tries h; no_link = λ takes. mint_links words seed c1 c2 tries h takes }
 
+pub sim_links : (words : List Word) (seed : Option (List ℕ)) (nodes hostile k paths alpha timeout : ℕ) → CommandOf words (Sim seed nodes hostile k paths alpha timeout) → TakesLink words → ⊥
+sim_links words seed nodes hostile k paths alpha timeout h t = no_link sim refl refl refl (takes words (Sim seed nodes hostile k paths alpha timeout) h t)
+
+pub sim_asks : (words : List Word) (seed : Option (List ℕ)) (nodes hostile k paths alpha timeout : ℕ) → CommandOf words (Sim seed nodes hostile k paths alpha timeout) → Asks words
+sim_asks words seed nodes hostile k paths alpha timeout h = command_asks words (Sim seed nodes hostile k paths alpha timeout) h (4, lit< tt, refl)
+
+pub sim_plain : (words : List Word) (seed : Option (List ℕ)) (nodes hostile k paths alpha timeout : ℕ) → CommandOf words (Sim seed nodes hostile k paths alpha timeout) → AsksPlain words
+sim_plain words seed nodes hostile k paths alpha timeout h = record { asks = sim_asks words seed nodes hostile k paths alpha timeout h; no_link = λ takes. sim_links words seed nodes hostile k paths alpha timeout h takes }
+
 -- a command that neither takes a link nor is one of those that are built without one is not asked for
 pub plain_alone : (words : List Word) (command : Command) → CommandOf words command → (TakesLink words → ⊥) → ((policy : Policy) → command ≡ Check policy → ⊥)
-    → ((seed : Option (List ℕ)) (c1 c2 tries : ℕ) → command ≡ Mint seed c1 c2 tries → ⊥) → AsksPlain words → ⊥
-plain_alone words (Lookup look) c none_ no_check no_mint h = lookup_links words look c none_
-plain_alone words (Peers look announce) c none_ no_check no_mint h = peers_links words look announce c none_
-plain_alone words (Serve own k bits policy receives) c none_ no_check no_mint h = serve_not own k bits policy receives (asks_built words (Serve own k bits policy receives) c h.asks)
-plain_alone words (Check policy) c none_ no_check no_mint h = no_check policy refl
-plain_alone words (Mint seed c1 c2 tries) c none_ no_check no_mint h = no_mint seed c1 c2 tries refl
-plain_alone words (Sim seed nodes hostile k paths alpha timeout) c none_ no_check no_mint h = sim_not seed nodes hostile k paths alpha timeout (asks_built words (Sim seed nodes hostile k paths alpha timeout) c h.asks)
+    → ((seed : Option (List ℕ)) (c1 c2 tries : ℕ) → command ≡ Mint seed c1 c2 tries → ⊥)
+    → ((seed : Option (List ℕ)) (nodes hostile k paths alpha timeout : ℕ) → command ≡ Sim seed nodes hostile k paths alpha timeout → ⊥) → AsksPlain words → ⊥
+plain_alone words (Lookup look) c none_ no_check no_mint no_sim h = lookup_links words look c none_
+plain_alone words (Peers look announce) c none_ no_check no_mint no_sim h = peers_links words look announce c none_
+plain_alone words (Serve own k bits policy receives) c none_ no_check no_mint no_sim h = serve_not own k bits policy receives (asks_built words (Serve own k bits policy receives) c h.asks)
+plain_alone words (Check policy) c none_ no_check no_mint no_sim h = no_check policy refl
+plain_alone words (Mint seed c1 c2 tries) c none_ no_check no_mint no_sim h = no_mint seed c1 c2 tries refl
+plain_alone words (Sim seed nodes hostile k paths alpha timeout) c none_ no_check no_mint no_sim h = no_sim seed nodes hostile k paths alpha timeout refl

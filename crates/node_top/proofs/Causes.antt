@@ -25,8 +25,8 @@ use Rattle.node_top.specs.Plainly.{PlainText, HasPlainText, HasPlainCause, Reads
 use Rattle.node_top.specs.Commands.{Sought, Seeks, SeeksWell, Needs, GoesWell, TextOf, HasText, HasNoSeeds, HasSeeds, HasStrays, HasFewStrays, HasBegun, HasCause, IsDone}
 use Rattle.node_top.specs.Endings.{number_of, EndsEarly, OrNoMemory, Names, CutShort}
 use Rattle.node_top.specs.Written.{IsFront}
-use Rattle.node_top.proofs.Asking.{check_asks, mint_asks}
-use Rattle.node_top.proofs.Exactly.{all_few, unread_few, few_not_much, unread_not_bad, lists_not_bad, same_sought, not_sought, seeds_not_none, seeds_not_bad, none_not_bad, seeds_few, seeks_asks, nothing_asks, mint_not_sought, mint_not_input, check_not_nothing, few_not_last, unasked_not_last, minted_not_nothing, mint_not_nothing}
+use Rattle.node_top.proofs.Asking.{sim_asks, check_asks, mint_asks}
+use Rattle.node_top.proofs.Exactly.{all_few, unread_few, few_not_much, unread_not_bad, lists_not_bad, same_sought, not_sought, seeds_not_none, seeds_not_bad, none_not_bad, seeds_few, seeks_asks, nothing_asks, mint_not_sought, mint_not_input, check_not_nothing, sim_not_nothing, sim_not_input, few_not_last, unasked_not_last, minted_not_nothing, mint_not_nothing}
 
 -- ---- from what a command's own module says
 
@@ -195,7 +195,14 @@ found_by words random source link text (Mint seed c1 c2 tries) h t = record {
   strays = λ told strays. not_sought words (Mint seed c1 c2 tries) strays.sought h refl strays.seeks;
   nothing = λ n. mint_not_nothing words random seed c1 c2 tries h (λ f. minted_not_nothing (seed_of seed random) c1 c2 tries text t.0 f) n;
 }
-found_by words random source link text (Sim seed nodes hostile k paths alpha timeout) h t = absurd t
+found_by words random source link text (Sim seed nodes hostile k paths alpha timeout) h t = record {
+  asks = sim_asks words seed nodes hostile k paths alpha timeout h;
+  bad_line = λ told bad. unread_not_bad source told t.1 bad;
+  no_seeds = λ told none. not_sought words (Sim seed nodes hostile k paths alpha timeout) none.sought h refl none.seeks;
+  too_long = λ told much. few_not_much source.before source.after told (unread_few source.before source.after t.1) much;
+  strays = λ told strays. not_sought words (Sim seed nodes hostile k paths alpha timeout) strays.sought h refl strays.seeks;
+  nothing = λ n. sim_not_nothing words random seed nodes hostile k paths alpha timeout h n;
+}
 
 pub found : (words : List Word) (random : List ℕ) (source : Shown ℕ) (link : Shown Event) (text : List ℕ) → HasText words random source link text → Found words random source link
 found words random source link text h = found_by words random source link text h.command h.asked h.text_of
@@ -331,13 +338,24 @@ mint_completes words random source link NoMemory c seed c1 c2 tries a finds = in
 mint_completes words random source link Unminted c seed c1 c2 tries a finds = absurd (mint_not_nothing words random seed c1 c2 tries a finds c.0)
 mint_completes words random source link TooLong c seed c1 c2 tries a finds = absurd (mint_not_input words seed c1 c2 tries a c.0)
 
+sim_completes : (words : List Word) (random : List ℕ) (source : Shown ℕ) (link : Shown Event) (status : Status) → HasCause words random source link status → (seed : Option (List ℕ)) (nodes hostile k paths alpha timeout : ℕ) → CommandOf words (Sim seed nodes hostile k paths alpha timeout) → OrNoMemory (number_of status) 0
+sim_completes words random source link Usage c seed nodes hostile k paths alpha timeout a = absurd (c.0 (sim_asks words seed nodes hostile k paths alpha timeout a))
+sim_completes words random source link (BadLine line) c seed nodes hostile k paths alpha timeout a = absurd (sim_not_input words seed nodes hostile k paths alpha timeout a c.0)
+sim_completes words random source link LinkFault c seed nodes hostile k paths alpha timeout a = absurd (not_sought words (Sim seed nodes hostile k paths alpha timeout) c.1.sought a refl c.1.seeks)
+sim_completes words random source link SourceFault c seed nodes hostile k paths alpha timeout a = absurd (sim_not_input words seed nodes hostile k paths alpha timeout a c.0)
+sim_completes words random source link Strays c seed nodes hostile k paths alpha timeout a = absurd (not_sought words (Sim seed nodes hostile k paths alpha timeout) c.1.sought a refl c.1.seeks)
+sim_completes words random source link NoSeeds c seed nodes hostile k paths alpha timeout a = absurd (not_sought words (Sim seed nodes hostile k paths alpha timeout) c.sought a refl c.seeks)
+sim_completes words random source link NoMemory c seed nodes hostile k paths alpha timeout a = inr refl
+sim_completes words random source link Unminted c seed nodes hostile k paths alpha timeout a = absurd (sim_not_nothing words random seed nodes hostile k paths alpha timeout a c.0)
+sim_completes words random source link TooLong c seed nodes hostile k paths alpha timeout a = absurd (sim_not_input words seed nodes hostile k paths alpha timeout a c.0)
+
 completes_by : (words : List Word) (random : List ℕ) (source : Shown ℕ) (link : Shown Event) (status : Status) → HasCause words random source link status → (command : Command) → CommandOf words command → Needs command random source link → OrNoMemory (number_of status) 0
 completes_by words random source link status c (Lookup look) a needs = seeking_completes words random source link status c (record { kind = FindNode; look = look }) (lookup_seeks words look a) needs
 completes_by words random source link status c (Peers look announce) a needs = seeking_completes words random source link status c (record { kind = GetPeers; look = look }) (peers_seeks words look announce a) needs
 completes_by words random source link status c (Serve own k bits policy receives) a needs = absurd needs
 completes_by words random source link status c (Check policy) a needs = check_completes words random source link status c policy a needs
 completes_by words random source link status c (Mint seed c1 c2 tries) a needs = mint_completes words random source link status c seed c1 c2 tries a needs
-completes_by words random source link status c (Sim seed nodes hostile k paths alpha timeout) a needs = absurd needs
+completes_by words random source link status c (Sim seed nodes hostile k paths alpha timeout) a needs = sim_completes words random source link status c seed nodes hostile k paths alpha timeout a
 
 pub completes : (words : List Word) (random : List ℕ) (source : Shown ℕ) (link : Shown Event) (sink : Shown ℕ) (status : Status) → HasCause words random source link status → GoesWell words random source link sink → OrNoMemory (number_of status) 0
 completes words random source link sink status c well = completes_by words random source link status c well.command well.asked well.needs

@@ -166,6 +166,12 @@ mint_not_sought words random sought h s = not_sought words (Mint h.seed h.c1 h.c
 pub mint_not_input : (words : List Word) (seed : Option (List ℕ)) (c1 c2 tries : ℕ) → CommandOf words (Mint seed c1 c2 tries) → ReadsInput words → ⊥
 mint_not_input words seed c1 c2 tries c h = subst HasInput (sym (command_once words (Mint seed c1 c2 tries) h.command c h.asked)) h.reads
 
+pub sim_not_nothing : (words : List Word) (random : List ℕ) (seed : Option (List ℕ)) (nodes hostile k paths alpha timeout : ℕ) → CommandOf words (Sim seed nodes hostile k paths alpha timeout) → HasNothing words random → ⊥
+sim_not_nothing words random seed nodes hostile k paths alpha timeout c h = let e = command_once words (Sim seed nodes hostile k paths alpha timeout) (Mint h.seed h.c1 h.c2 h.tries) c h.asked in absurd cc
+
+pub sim_not_input : (words : List Word) (seed : Option (List ℕ)) (nodes hostile k paths alpha timeout : ℕ) → CommandOf words (Sim seed nodes hostile k paths alpha timeout) → ReadsInput words → ⊥
+sim_not_input words seed nodes hostile k paths alpha timeout c h = subst HasInput (sym (command_once words (Sim seed nodes hostile k paths alpha timeout) h.command c h.asked)) h.reads
+
 pub check_not_nothing : (words : List Word) (random : List ℕ) (policy : Policy) → CommandOf words (Check policy) → HasNothing words random → ⊥
 check_not_nothing words random policy c h = let e = command_once words (Check policy) (Mint h.seed h.c1 h.c2 h.tries) c h.asked in absurd cc
 

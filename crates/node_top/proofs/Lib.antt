@@ -16,3 +16,4 @@ pub mod Nodes
 pub mod Announcing
 pub mod Reaching
 pub mod Peering
+pub mod Simulating

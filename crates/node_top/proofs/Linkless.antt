@@ -16,7 +16,7 @@ use Rattle.node_top.specs.Plainly.{PlainText, PlainNeeds, HasPlainText, HasPlain
 use Rattle.node_top.specs.Written.{IsFront}
 use Rattle.node_top.specs.Commands.{Needs}
 use Rattle.node_top.specs.Endings.{number_of, MayEnd, OrNoMemory, Names}
-use Rattle.node_top.proofs.Asking.{check_links, mint_links}
+use Rattle.node_top.proofs.Asking.{check_links, mint_links, sim_links}
 use Rattle.node_top.proofs.Exactly.{all_few, unread_few, few_not_much}
 use Rattle.node_top.proofs.Causes as linked
 use Rattle.node_top.proofs.MayEnd.{may_end as linked_end}
@@ -31,7 +31,7 @@ text_takes_none words random source text (Peers look announce) h t = absurd t
 text_takes_none words random source text (Serve own k bits policy receives) h t = absurd t
 text_takes_none words random source text (Check policy) h t = λ takes. check_links words policy h takes
 text_takes_none words random source text (Mint seed c1 c2 tries) h t = λ takes. mint_links words seed c1 c2 tries h takes
-text_takes_none words random source text (Sim seed nodes hostile k paths alpha timeout) h t = absurd t
+text_takes_none words random source text (Sim seed nodes hostile k paths alpha timeout) h t = λ takes. sim_links words seed nodes hostile k paths alpha timeout h takes
 
 pub done_of : (words : List Word) (random : List ℕ) (source sink : Shown ℕ) (text t : List ℕ) → t ≡ text → HasPlainText words random source text → Grows sink.before sink.after (λ added. added ≡ t) → IsPlainDone words random source sink
 done_of words random source sink text t e h w = record { text = text; has_text = h; writes = subst (λ (l : List ℕ). Grows sink.before sink.after (λ added. added ≡ l)) e w }
@@ -82,7 +82,7 @@ needs_none words random source (Peers look announce) h t = absurd t
 needs_none words random source (Serve own k bits policy receives) h t = absurd t
 needs_none words random source (Check policy) h t = λ takes. check_links words policy h takes
 needs_none words random source (Mint seed c1 c2 tries) h t = λ takes. mint_links words seed c1 c2 tries h takes
-needs_none words random source (Sim seed nodes hostile k paths alpha timeout) h t = absurd t
+needs_none words random source (Sim seed nodes hostile k paths alpha timeout) h t = λ takes. sim_links words seed nodes hostile k paths alpha timeout h takes
 
 linked_needs : (random : List ℕ) (source : Shown ℕ) (command : Command) → PlainNeeds command random source → Needs command random source no_link
 linked_needs random source (Lookup look) t = absurd t

@@ -7,6 +7,7 @@ pub mod Started
 pub mod Looked
 pub mod Checked
 pub mod Minted
+pub mod Simulated
 pub mod Plainly
 pub mod Commands
 pub mod Written

@@ -13,13 +13,29 @@ use Rattle.node_top.specs.Asked.{AsksPlain}
 use Rattle.node_top.specs.Input.{ReadsFew, ReadsTooMuch, Lists, IsBadLine}
 use Rattle.node_top.specs.Checked.{Checks}
 use Rattle.node_top.specs.Minted.{seed_of, MintPrinted, FindsNothing}
+use Rattle.node_top.specs.declared.sim.Simulation.{Simulation}
+use Rattle.node_top.specs.Simulated.{Simulates}
 use Rattle.node_top.specs.Shown.{Shown, IsTold, HasFailed}
 use Rattle.node_top.specs.Written.{IsFront}
+
+-- the simulation of the words
+abbrev pub simulation_of : Option (List ℕ) → ℕ → ℕ → ℕ → ℕ → ℕ → ℕ → List ℕ → Simulation
+simulation_of seed nodes hostile k paths alpha timeout random = record {
+  seed = seed_of seed random;
+  nodes = nodes;
+  hostile = hostile;
+  k = k;
+  paths = paths;
+  alpha = alpha;
+  timeout = timeout;
+}
 
 -- the text of a command that takes no link
 abbrev pub PlainText : Command → List ℕ → Shown ℕ → List ℕ → Type 0
 PlainText (Check policy) random source text = Checks policy source text
 PlainText (Mint seed c1 c2 tries) random source text = MintPrinted (seed_of seed random) c1 c2 tries text × (source.after ≡ source.before)
+PlainText (Sim seed nodes hostile k paths alpha timeout) random source text =
+    Simulates (simulation_of seed nodes hostile k paths alpha timeout random) text × (source.after ≡ source.before)
 PlainText other random source text = ⊥
 
 -- the words ask for such a command, and this is its text
@@ -82,10 +98,11 @@ pub record ReadsWell (source : Shown ℕ) : Type 0 where
   pub reports : List Report
   pub lists : Lists source reports
 
--- what such a command needs: `check` a good input, `mint` that there is something to be found
+-- what such a command needs: `check` a good input, `mint` that there is something to be found, `sim` nothing
 abbrev pub PlainNeeds : Command → List ℕ → Shown ℕ → Type 0
 PlainNeeds (Check policy) random source = ReadsWell source
 PlainNeeds (Mint seed c1 c2 tries) random source = ¬ FindsNothing (seed_of seed random) c1 c2 tries
+PlainNeeds (Sim seed nodes hostile k paths alpha timeout) random source = Unit {0}
 PlainNeeds other random source = ⊥
 
 -- what one that ends well goes by

@@ -14,6 +14,7 @@ mod peers;
 mod plain;
 mod printed;
 mod seek;
+mod sim;
 mod start;
 mod status;
 #[cfg(test)]

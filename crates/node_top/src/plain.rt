@@ -10,6 +10,7 @@ use crate::asked::asked;
 use crate::check::check;
 use crate::mint::{mint, seed_for};
 use crate::output::{write_line, write_output};
+use crate::sim::{Simulation, sim};
 use crate::status::Status;
 use kad_base::{Bytes, Check, Sink, Source};
 use kad_words::{Command, takes_link};
@@ -23,6 +24,7 @@ pub(crate) fn plain_output_of<S: Source, C: Check>(
     source: &mut S,
     random: &[u8; 32],
     judge: &C,
+    hasher: RandomState,
 ) -> Result<Bytes, Status>
     ensures ok { IfOk result (HasPlainText (bytes_of words.now) random.now
         (shown S.left S.faults source.old source.new)) }
@@ -43,16 +45,40 @@ pub(crate) fn plain_output_of<S: Source, C: Check>(
             c2,
             tries,
         } => mint(alloc, &seed_for(seed, random), c1, c2, tries),
+        Command::Sim {
+            seed,
+            nodes,
+            hostile,
+            k,
+            paths,
+            alpha,
+            timeout,
+        } => {
+            let seed = seed_for(seed, random);
+            let simulation = Simulation {
+                seed,
+                nodes,
+                hostile,
+                k,
+                paths,
+                alpha,
+                timeout,
+            };
+            sim(alloc, &simulation, judge, hasher)
+        }
         _ => Err(Status::Usage),
     }
 }
 
 /// Does the command that the words ask for, if it takes no link, and answers the status that the program ends with: what
 /// `run` does for these commands, without a link. `words` are those after the program's name; `random` are 32 bytes that
-/// nobody else knows. It waits for nobody. `hasher` is for commands that keep an index; none does so far.
+/// nobody else knows. It waits for nobody. A command that keeps an index, as `sim` does, takes the `hasher` for it; nothing
+/// that is written depends on it.
 ///
 /// `check` writes of each contact line of the source whether its contact passes the puzzles, and then how many do.
 /// `mint` reads nothing, and writes an identifier that solves both puzzles, with its key and X.
+/// `sim` reads nothing, looks up in a network in memory that is made from a seed, and writes the counts of the lookup and how
+/// many of the closest nodes that aren't hostile it found. It waits by the network's own clock, which takes no time.
 ///
 /// | Status | Line | When |
 /// |---|---|---|
@@ -71,7 +97,7 @@ pub fn run_plain<S: Source, K: Sink, C: Check>(
     sink: &mut K,
     random: &[u8; 32],
     check: &C,
-    _hasher: RandomState,
+    hasher: RandomState,
 ) -> u8
     // The text that was written is the command's own.
     ensures done { result ≡ 0 → IsPlainDone (bytes_of words.now) random.now
@@ -119,7 +145,7 @@ pub fn run_plain<S: Source, K: Sink, C: Check>(
     ensures by_command { AsksPlain (bytes_of words.now) → EndsByCommand (bytes_of words.now) result }
     ensures statuses { (result ≤ 11) × (result ≢ 1) × (result ≢ 4) × (result ≢ 7) × (result ≢ 8) }
 {
-    match plain_output_of(alloc, words, source, random, check) {
+    match plain_output_of(alloc, words, source, random, check, hasher) {
         Ok(output) => write_output(sink, output.as_slice()),
         Err(status) => write_line(sink, &status),
     }

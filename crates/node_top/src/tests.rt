@@ -6,6 +6,7 @@ mod plain;
 mod puzzled;
 mod replies;
 mod script;
+mod simulated;
 
 use crate::run;
 use fake_net::ScriptLink;

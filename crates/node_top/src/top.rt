@@ -83,7 +83,7 @@ fn output_of<S: Source, L: Link, C: Check>(
     if takes_link(words) {
         return linked_output_of(alloc, words, source, link, random, check, hasher);
     }
-    plain_output_of(alloc, words, source, random, check)
+    plain_output_of(alloc, words, source, random, check, hasher)
 }
 
 /// Does the command that the words ask for, and answers the status that the program ends with. `words` are those after

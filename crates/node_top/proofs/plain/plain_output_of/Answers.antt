@@ -1,11 +1,12 @@
 use Rattle.std.proofs.Common.{rules, refl, subst}
 use Rattle.std.proofs.lemmas.Result.{err_from_is_err_and}
 use Rattle.kad_words.specs.Plain.{CommandOf}
-use Rattle.kad_words.specs.declared.command.Command.TheVariants.{Check, Mint}
+use Rattle.kad_words.specs.declared.command.Command.TheVariants.{Check, Mint, Sim}
 use Rattle.kad_words.specs.Bound.{TakesLink}
 use Rattle.node_top.specs.Asked.{bytes_of}
 use Rattle.node_top.specs.Minted.{MintPrinted, MintCause}
-use Rattle.node_top.proofs.Asking.{check_plain, mint_plain, plain_alone}
+use Rattle.node_top.specs.Simulated.{Simulates}
+use Rattle.node_top.proofs.Asking.{check_plain, mint_plain, sim_plain, plain_alone}
 use Rattle.node_top.proofs.Commands.{ok_then, err_then}
 use Rattle.node_top.proofs.Causes.{refused, check_reads, check_cause_of, mint_cause_of}
 use Rattle.node_top.proofs.plain.plain_output_of.Goals as goal
@@ -49,12 +50,24 @@ returns-in-Mint-clause-cause g c =
 pub returns-in-Mint-clause-plain : goal.returns-in-Mint-clause-plain
 returns-in-Mint-clause-plain g c = λ none_. absurd (none_ (mint_plain _ c.in-Mint.seed c.in-Mint.c1 c.in-Mint.c2 c.in-Mint.tries (subst (CommandOf _) c.in-Mint.is c.in_ok-policy.ensures.command)))
 
+pub returns-in-Sim-clause-ok : goal.returns-in-Sim-clause-ok
+returns-in-Sim-clause-ok g c =
+    ok_then c.sim.result _ _ c.sim.ensures.ok
+    (λ text t. record {
+      command = Sim c.in-Sim.seed c.in-Sim.nodes c.in-Sim.hostile c.in-Sim.k c.in-Sim.paths c.in-Sim.alpha c.in-Sim.timeout;
+      asked = subst (CommandOf _) c.in-Sim.is c.in_ok-policy.ensures.command;
+      text_of = (subst (λ seed. Simulates (record { seed = seed; nodes = c.in-Sim.nodes; hostile = c.in-Sim.hostile; k = c.in-Sim.k; paths = c.in-Sim.paths; alpha = c.in-Sim.alpha; timeout = c.in-Sim.timeout }) text) c.seed_for-seed.ensures t, refl);
+    })
+
+pub returns-in-Sim-clause-plain : goal.returns-in-Sim-clause-plain
+returns-in-Sim-clause-plain g c = λ none_. absurd (none_ (sim_plain _ c.in-Sim.seed c.in-Sim.nodes c.in-Sim.hostile c.in-Sim.k c.in-Sim.paths c.in-Sim.alpha c.in-Sim.timeout (subst (CommandOf _) c.in-Sim.is c.in_ok-policy.ensures.command)))
+
 pub returns-in_default : goal.returns-in_default
 returns-in_default g c =
     let none_ : TakesLink (bytes_of c.args.words.now) → ⊥ = search rules in
     record {
       ok = tt;
-      cause = ((λ asks. plain_alone _ c.in_ok-policy.field-0 c.in_ok-policy.ensures.command none_ c.in_default.not-Check c.in_default.not-Mint asks), refl);
+      cause = ((λ asks. plain_alone _ c.in_ok-policy.field-0 c.in_ok-policy.ensures.command none_ c.in_default.not-Check c.in_default.not-Mint c.in_default.not-Sim asks), refl);
       unread = λ e. refl;
       plain = λ e. refl;
       no_input = λ e. refl;

@@ -1,0 +1,141 @@
+-- From a lookup in a network to what `sim` makes.
+use Rattle.std.proofs.Common.{◌≡◌, ℕ, List, [], ◌++◌, length, Option, Some, None, refl, sym, ap, subst, ◌∙◌, arith}
+use Rattle.std.specs.Prelude.{min, map, codes, decimal}
+use Rattle.std.specs.List.{All}
+use Rattle.std.proofs.lemmas.List.{append_assoc}
+use Rattle.kad_base.specs.declared.plain.Id.{Id}
+use Rattle.kad_base.specs.declared.plain.Contact.{Contact}
+use Rattle.kad_base.specs.declared.plain.Report.{Report}
+use Rattle.kad_base.specs.declared.plain.Policy.TheVariants.{Plain}
+use Rattle.kad_base.specs.declared.plain.Event.{Event}
+use Rattle.kad_base.specs.Contacts.{IsUsable}
+use Rattle.kad_base.specs.Outside.{Grows}
+use Rattle.kad_distance.specs.KClosest.{k_closest}
+use Rattle.fake_net.specs.Network.{Network, numbers, target_of, honest}
+use Rattle.id_puzzles.specs.Drawn.{WordsState}
+use Rattle.contact_table.specs.TableState.{TableState}
+use Rattle.contact_table.specs.TableStep.{contacts_of}
+use Rattle.contact_table.specs.Told.{new_table}
+use Rattle.claim_book.specs.Journal.{asked, failed, turned}
+use Rattle.claim_book.specs.Result.{result_of}
+use Rattle.lookup_run.specs.declared.plain.LookSetting.{LookSetting}
+use Rattle.lookup_run.specs.declared.plain.AskKind.TheVariants.{FindNode}
+use Rattle.lookup_run.specs.declared.plain.Outcome.{Outcome}
+use Rattle.lookup_run.specs.Rounds.{Rounds}
+use Rattle.lookup_run.specs.Lookup.{IsWithinLimits, given_of, LooksUp, TableTold}
+use Rattle.node_top.specs.declared.sim.Simulation.{Simulation}
+use Rattle.kad_words.specs.declared.command.LookWords.{LookWords}
+use Rattle.node_top.specs.declared.sim.Start.{Start}
+use Rattle.node_top.specs.Input.{Admits}
+use Rattle.node_top.specs.Printed.{line_of}
+use Rattle.node_top.specs.Started.{own_of, look_of, book_of, drawn_of, lookup_of, IsInRange, seen_call, StartsWith}
+use Rattle.node_top.specs.Simulated.{network_of, look_to, sim_look, IsSimulable, report_of, first_nodes, Begins, count_among, sought_in, sim_text, Simulates}
+use Rattle.node_top.proofs.Commands.{admits_usable, within_limits}
+use Rattle.node_top.proofs.Starting.{usable_told}
+
+pub sim_range : (s : Simulation) → IsSimulable s → IsInRange (sim_look s)
+sim_range s h = record {
+  some_live = h.some_live;
+  few_live = h.few_live;
+  some_path = h.some_path;
+  few_paths = h.few_paths;
+  some_query = h.some_query;
+  few_queries = h.few_queries;
+  some_bits = omega arith;
+  few_bits = omega arith;
+}
+
+pub look_range : (s : Simulation) (net : Network) (target : Id) (look : LookWords) → IsSimulable s → look ≡ look_to target s → IsInRange look
+look_range s net target look h e = subst IsInRange (sym e) (record {
+  some_live = h.some_live;
+  few_live = h.few_live;
+  some_path = h.some_path;
+  few_paths = h.few_paths;
+  some_query = h.some_query;
+  few_queries = h.few_queries;
+  some_bits = omega arith;
+  few_bits = omega arith;
+})
+
+-- what it begins with
+pub begins : (s : Simulation) (net : Network) (target : Id) (look : LookWords) (setting : LookSetting) (near : List Contact) (count : ℕ) (reports : List Report) (contacts xs : List Contact) (table : TableState)
+    → net ≡ network_of s → target ≡ target_of net.seed → look ≡ look_to target s → setting ≡ look_of FindNode look s.seed
+    → near ≡ k_closest setting.target look.k (honest net) → count ≡ min s.nodes s.k → reports ≡ map (report_of net.seed) (numbers count)
+    → Admits setting.own setting.policy reports contacts → xs ≡ contacts → TableTold (map seen_call xs) (new_table setting.own look.k look.bits) table
+    → Begins s (record { setting = setting; table = table; near = near })
+begins s net target look setting near count reports contacts xs table e_net e_target e_look e_setting e_near e_count e_reports admits same told =
+    let look_is : look ≡ sim_look s = e_look ∙ ap (λ (t : Id). look_to t s) (e_target ∙ ap (λ (n : Network). target_of n.seed) e_net) in
+    let setting_is : setting ≡ look_of FindNode (sim_look s) s.seed = e_setting ∙ ap (λ (l : LookWords). look_of FindNode l s.seed) look_is in
+    let reports_are : reports ≡ first_nodes s = e_reports ∙ ap (λ (n : Network). map (report_of n.seed) (numbers count)) e_net ∙ ap (λ (m : ℕ). map (report_of s.seed) (numbers m)) e_count in
+    record {
+      setting_is = setting_is;
+      near_is =
+          e_near
+          ∙ ap (λ (st : LookSetting). k_closest st.target look.k (honest net)) setting_is
+          ∙ ap (λ (l : LookWords). k_closest (target_of s.seed) l.k (honest net)) look_is
+          ∙ ap (λ (n : Network). k_closest (target_of s.seed) s.k (honest n)) e_net;
+      contacts = contacts;
+      admits = subst (λ (st : LookSetting). Admits st.own st.policy (first_nodes s) contacts) setting_is (subst (λ (l : List Report). Admits setting.own setting.policy l contacts) reports_are admits);
+      told =
+          subst (λ (l : List Contact). StartsWith (sim_look s) s.seed l table) same
+          (subst (λ (st : LookSetting). TableTold (map seen_call xs) (new_table st.own s.k 1) table) setting_is
+          (subst (λ (l : LookWords). TableTold (map seen_call xs) (new_table setting.own l.k l.bits) table) look_is told));
+    }
+
+pub sim_limits : (s : Simulation) (start : Start) → IsSimulable s → Begins s start → IsWithinLimits start.setting
+sim_limits s start h b = subst IsWithinLimits (sym b.setting_is) (within_limits FindNode (sim_look s) s.seed (sim_range s h))
+
+pub sim_usable : (s : Simulation) (start : Start) → Begins s start → All (IsUsable start.setting.own) (contacts_of start.table)
+sim_usable s start b =
+    let own = own_of None s.seed in
+    subst (λ (st : LookSetting). All (IsUsable st.own) (contacts_of start.table)) (sym b.setting_is)
+    (usable_told own s.k 1 b.contacts start.table (admits_usable own Plain (first_nodes s) b.contacts b.admits) b.told)
+
+simulates_at : (s : Simulation) (left : WordsState) (contacts : List Contact) (table : TableState) (near : List Contact) (o : Outcome) (events : List Event) (text : List ℕ)
+    → Admits (own_of None s.seed) Plain (first_nodes s) contacts → StartsWith (sim_look s) s.seed contacts table → near ≡ sought_in s
+    → LooksUp (look_of FindNode (sim_look s) s.seed) table (drawn_of s.seed) left (Some []) (Some events) o
+    → Grows (Some []) (Some events) (λ events. Rounds (lookup_of FindNode (sim_look s) s.seed) o.journal events)
+    → text ≡ line_of (sim_text (length o.found) o.counts.asked o.counts.failed o.counts.turned (count_among near o.found)) → Simulates s text
+simulates_at s left contacts table near o events text admits told near_is up rounds is =
+    let R = result_of (book_of FindNode (sim_look s) s.seed) o.journal in
+    record {
+      contacts = contacts;
+      admits = admits;
+      table = table;
+      told = told;
+      events = events;
+      journal = o.journal;
+      legal = up.legal;
+      seeds_are = up.seeds_are;
+      tells = up.tells;
+      rounds = rounds;
+      run_out = up.run_out;
+      text_is =
+          is
+          ∙ ap (λ (l : List Contact). line_of (sim_text (length l) o.counts.asked o.counts.failed o.counts.turned (count_among near l))) up.found
+          ∙ ap (λ (n : ℕ). line_of (sim_text (length R) n o.counts.failed o.counts.turned (count_among near R))) up.counted.asked
+          ∙ ap (λ (n : ℕ). line_of (sim_text (length R) (length (asked o.journal)) n o.counts.turned (count_among near R))) up.counted.failed
+          ∙ ap (λ (n : ℕ). line_of (sim_text (length R) (length (asked o.journal)) (length (failed o.journal)) n (count_among near R))) up.counted.turned
+          ∙ ap (λ (l : List Contact). line_of (sim_text (length R) (length (asked o.journal)) (length (failed o.journal)) (length (turned o.journal)) (count_among l R))) near_is;
+    }
+
+-- the same over the values that the code has
+pub simulates : (s : Simulation) (start : Start) (words left : WordsState) (o : Outcome) (before after : Option (List Event)) (text : List ℕ)
+    → Begins s start → words ≡ drawn_of s.seed → before ≡ Some [] → (after ≡ None → ⊥)
+    → LooksUp start.setting start.table words left before after o → Grows before after (λ events. Rounds (given_of start.setting words) o.journal events)
+    → text ≡ line_of (sim_text (length o.found) o.counts.asked o.counts.failed o.counts.turned (count_among start.near o.found)) → Simulates s text
+simulates s start words left o before None text begun f began goes_on up rounds is = absurd (goes_on refl)
+simulates s start words left o before (Some events) text begun f began goes_on up rounds is =
+    let setting = look_of FindNode (sim_look s) s.seed in
+    simulates_at s left begun.contacts start.table start.near o events text begun.admits begun.told begun.near_is
+    (subst (λ (st : LookSetting). LooksUp st start.table (drawn_of s.seed) left (Some []) (Some events) o) begun.setting_is
+    (subst (λ (w : WordsState). LooksUp start.setting start.table w left (Some []) (Some events) o) f
+    (subst (λ (b : Option (List Event)). LooksUp start.setting start.table words left b (Some events) o) began up)))
+    (subst (λ (st : LookSetting). Grows (Some []) (Some events) (λ events. Rounds (given_of st (drawn_of s.seed)) o.journal events)) begun.setting_is
+    (subst (λ (w : WordsState). Grows (Some []) (Some events) (λ events. Rounds (given_of start.setting w) o.journal events)) f
+    (subst (λ (b : Option (List Event)). Grows b (Some events) (λ events. Rounds (given_of start.setting words) o.journal events)) began rounds)))
+    is
+
+pub sim_pieces : (found asked failed turned honest : ℕ)
+    → codes "found " ++ (decimal found ++ (codes " asked " ++ (decimal asked ++ (codes " failed " ++ (decimal failed ++ (codes " turned " ++ (decimal turned ++ (codes " honest " ++ decimal honest)))))))) ≡ sim_text found asked failed turned honest
+sim_pieces found asked failed turned honest = sym (simp append_assoc refl)
