@@ -85,7 +85,7 @@ unfolding asked IsDistinct
 asked_distinct s = along (λ J. IsDistinct same (asked J)) s tt (λ J e l d f. subst (IsDistinct same) (sym (asked_more J e)) (asked_step s J e d f))
 
 -- what is among the one path is among all
-on_path_in : (p q : ℕ) (xs : List Contact) (c : Contact) → among (on_path p q xs) c ≡ true → (q ≡ p) × (among xs c ≡ true)
+pub on_path_in : (p q : ℕ) (xs : List Contact) (c : Contact) → among (on_path p q xs) c ≡ true → (q ≡ p) × (among xs c ≡ true)
 on_path_in p q xs c h = by_test (eqb q p) refl h
   where
     by_test : (b : Bool) → eqb q p ≡ b → among (cond b xs []) c ≡ true → (q ≡ p) × (among xs c ≡ true)

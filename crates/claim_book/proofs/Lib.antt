@@ -2,6 +2,7 @@ pub mod More
 pub mod Among
 pub mod Closest
 pub mod Claims
+pub mod Descent
 pub mod Ends
 pub mod Unsettled
 pub mod Kept

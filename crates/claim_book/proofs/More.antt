@@ -70,16 +70,20 @@ pub legal_more : (s : Setting) (J : List Entry) (e : Entry) → Legal s J → Fi
 unfolding Legal
 legal_more s J e h f = legal_after_more s [] J e h f
 
-last_after : (s : Setting) (P J : List Entry) (e : Entry) → LegalAfter s P (J ++ e ∷ []) → LegalAfter s P J × Fits s (P ++ J) e
-last_after s P [] e h = (tt, subst (λ l. Fits s l e) (sym (append-nil P)) h.0)
-last_after s P (x ∷ J) e h =
-    let r = last_after s (P ++ x ∷ []) J e h.1 in
+fits_after : (s : Setting) (P J : List Entry) (e : Entry) (es : List Entry) → LegalAfter s P (J ++ e ∷ es) → LegalAfter s P J × Fits s (P ++ J) e
+fits_after s P [] e es h = (tt, subst (λ l. Fits s l e) (sym (append-nil P)) h.0)
+fits_after s P (x ∷ J) e es h =
+    let r = fits_after s (P ++ x ∷ []) J e es h.1 in
     ((h.0, r.0), subst (λ l. Fits s l e) (append_assoc P (x ∷ []) J) r.1)
 
--- the last entry fits what is before it, which is legal
-pub last_fits : (s : Setting) (J : List Entry) (e : Entry) → Legal s (J ++ e ∷ []) → Legal s J × Fits s J e
+-- each entry fits what is before it, which is legal
+pub fits_in : (s : Setting) (J : List Entry) (e : Entry) (es : List Entry) → Legal s (J ++ e ∷ es) → Legal s J × Fits s J e
 unfolding Legal
-last_fits s J e h = last_after s [] J e h
+fits_in s J e es h = fits_after s [] J e es h
+
+-- the last one too
+pub last_fits : (s : Setting) (J : List Entry) (e : Entry) → Legal s (J ++ e ∷ []) → Legal s J × Fits s J e
+last_fits s J e h = fits_in s J e [] h
 
 along_after : (P : List Entry → Type 0) (s : Setting) → ((J : List Entry) (e : Entry) → Legal s J → P J → Fits s J e → P (J ++ e ∷ [])) → (J es : List Entry) → Legal s J → P J → LegalAfter s J es → P (J ++ es)
 along_after P s step J [] l p h = subst P (sym (append-nil J)) p

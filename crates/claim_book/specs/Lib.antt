@@ -1,6 +1,7 @@
 pub mod Journal
 pub mod Legal
 pub mod RunOut
+pub mod Lineage
 pub mod Result
 pub mod CheckedState
 pub mod State

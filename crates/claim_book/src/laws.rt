@@ -9,6 +9,7 @@ ghost use Rattle.claim_book.specs.declared.plain.Entry.{Entry};
 ghost use Rattle.claim_book.specs.Journal.{seeds, took, path, asked, asked_on, answered, open_any, open_on, unsettled, may_ask};
 ghost use Rattle.claim_book.specs.Legal.{Legal, is_of, IsSeed};
 ghost use Rattle.claim_book.specs.RunOut.{RunOut};
+ghost use Rattle.claim_book.specs.Lineage.{HasLineage, IsContained, TakesUnlessHeld, DropsNone};
 ghost use Rattle.claim_book.specs.Result.{result_of};
 ghost use Rattle.claim_book.specs.Calls.{asker};
 
@@ -64,4 +65,25 @@ pub fn open_on_asker()
     ensures there { (s : Setting) (J : List Entry) (c : Contact) → Legal s J → among (open_any J) c ≡ true → among (open_on (asker c J) J) c ≡ true }
     ensures any { (s : Setting) (J : List Entry) (p : ℕ) (c : Contact) → Legal s J → among (open_on p J) c ≡ true → among (open_any J) c ≡ true }
     ensures only { (s : Setting) (J : List Entry) (p : ℕ) (c : Contact) → Legal s J → among (open_on p J) c ≡ true → p ≡ asker c J }
+{}
+
+/// Lineage: whatever a path took, an earlier answer to that same path had named, in a report that may be believed; and it
+/// was that path which had asked for the answer (S/Kademlia, section 4.4).
+pub fn lineage()
+    ensures { (s : Setting) (J : List Entry) → Legal s J → HasLineage s J }
+{}
+
+/// Containment: what a path holds and asks is in every list of contacts that has the path's seeds and whatever contacts of
+/// the list named to that path. So a path whose seeds are honest, and whose honest contacts name honest ones alone, asks
+/// honest contacts alone, whatever other paths met.
+pub fn contained()
+    ensures { (s : Setting) (J : List Entry) → Legal s J → IsContained s J }
+{}
+
+/// A report that may be believed is kept off a path only by that very contact on some path, or where the path is full: not
+/// by another contact with the same identifier or the same address. So none is dropped: once all is settled its contact is
+/// on a path, or the path is full.
+pub fn taken_unless_held()
+    ensures settled { (s : Setting) (J : List Entry) → Legal s J → TakesUnlessHeld s J }
+    ensures none_dropped { (s : Setting) (J : List Entry) → Legal s J → DropsNone s J }
 {}

@@ -20,7 +20,8 @@ mod verdict;
 
 pub use calls::{BookCall, BookReply};
 pub use laws::{
-    answered, bounded, disjoint, lively, one_path, open_on_asker, past_the_last, stable,
+    answered, bounded, contained, disjoint, lineage, lively, one_path, open_on_asker,
+    past_the_last, stable, taken_unless_held,
 };
 pub use plain::{Cause, Counts, Entry, Journal, Setting, Thing};
 pub use state::Book;

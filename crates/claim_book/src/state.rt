@@ -48,6 +48,7 @@ impl Model for Book {
 
 impl Book {
     ghost use Rattle.claim_book.specs.Legal.{Legal, seeded};
+    ghost use Rattle.claim_book.specs.Lineage.{GoesByOwnAnswers};
     ghost use Rattle.claim_book.specs.Calls.{NextStep, EndStep, HeardStep, FinishStep, PullStep, NoteStep, SettleStep, after_next, after_kept, after_settle, asker};
 
     /// A book of a lookup that starts with these contacts, the closest that the routing table has. It takes the memory
@@ -111,10 +112,12 @@ impl Book {
         let _ = &self.owed;
     }
 
-    /// Ends the book. Takes no memory.
+    /// Ends the book. In its journal what a path holds and asks came from that path's own seeds and answers, and nothing that
+    /// may be believed was dropped. Takes no memory.
     pub fn into_journal(self) -> Journal
         ensures journal { result ≡ self.journal }
         ensures legal { Legal self.setting self.journal }
+        ensures own_answers { GoesByOwnAnswers self.setting self.journal }
     {
         List::from_vec(self.journal)
     }

@@ -1,0 +1,73 @@
+-- Where the contacts of a path come from (S/Kademlia, 2007, section 4.4: the paths are disjoint, so that hostile nodes which
+-- one path meets don't misdirect the others): from its own seeds, and from the answers to its own queries.
+use Rattle.std.specs.Prelude.{◌≡◌, ◌⊎◌, ℕ, ◌≤◌, List, [], ◌∷◌, ◌++◌, length, Some, true, Contains}
+use Rattle.kad_base.specs.Limits.{max_path_contacts}
+use Rattle.kad_base.specs.declared.plain.Contact.{Contact}
+use Rattle.kad_base.specs.declared.plain.Report.{Report}
+use Rattle.kad_base.specs.Contacts.{among, IsUsable}
+use Rattle.kad_base.specs.Puzzles.{Passes}
+use Rattle.claim_book.specs.declared.plain.Setting.{Setting}
+use Rattle.claim_book.specs.declared.plain.Thing.TheVariants.{Told}
+use Rattle.claim_book.specs.declared.plain.Entry.{Entry}
+use Rattle.claim_book.specs.declared.plain.Entry.TheVariants.{Seed, Heard, Taken}
+use Rattle.claim_book.specs.Journal.{settles_on, took, path, asked_on, unsettled, first_unsettled}
+
+-- The responder named the contact to path p: its answer to that path has a report of it, which passes the policy, and the
+-- node may ask the contact.
+pub record Names (s : Setting) (J : List Entry) (p : ℕ) (responder c : Contact) : Type 0 where
+  pub reports : List Report
+  pub answer : Contains J (Heard p responder reports)
+  pub report : Report
+  pub named : Contains reports report
+  pub of_it : report.contact ≡ c
+  pub usable : IsUsable s.own c
+  pub passes : Passes s.policy report
+
+-- a contact that path p itself had asked named this one to it
+pub record Descends (s : Setting) (J : List Entry) (p : ℕ) (c : Contact) : Type 0 where
+  pub responder : Contact
+  pub asked : among (asked_on p J) responder ≡ true
+  pub named : Names s J p responder c
+
+-- Lineage: each contact that a path took descends from an earlier answer to that same path.
+unfoldable pub HasLineage : Setting → List Entry → Type 0
+HasLineage s J = (before behind : List Entry) (p : ℕ) (c : Contact) → J ≡ before ++ Taken p c ∷ behind → Descends s before p c
+
+-- the list is closed for path p: it has the path's seeds, and whatever its contacts named to that path
+pub record Closed (s : Setting) (J : List Entry) (p : ℕ) (H : List Contact) : Type 0 where
+  pub seeds : (c : Contact) → Contains J (Seed p c) → among H c ≡ true
+  pub named : (responder c : Contact) → among H responder ≡ true → Names s J p responder c → among H c ≡ true
+
+-- path p holds and asks contacts of the list alone
+pub record StaysIn (J : List Entry) (p : ℕ) (H : List Contact) : Type 0 where
+  pub holds : (c : Contact) → among (path p J) c ≡ true → among H c ≡ true
+  pub asks : (c : Contact) → among (asked_on p J) c ≡ true → among H c ≡ true
+
+-- Containment: a path stays in every list that is closed for it, whatever the other paths met.
+unfoldable pub IsContained : Setting → List Entry → Type 0
+IsContained s J = (p : ℕ) (H : List Contact) → Closed s J p H → StaysIn J p H
+
+-- the entry settles the report on path p, where it stood first
+pub record SettlesReport (before : List Entry) (e : Entry) (p : ℕ) (r : Report) : Type 0 where
+  pub settles : settles_on p e ≡ true
+  pub first : first_unsettled p before ≡ Some (Told r)
+
+-- A report that may be believed is settled otherwise than by taking its contact only where some path has that very contact
+-- or the path has as many as a path may.
+unfoldable pub TakesUnlessHeld : Setting → List Entry → Type 0
+TakesUnlessHeld s J = (before behind : List Entry) (e : Entry) (p : ℕ) (r : Report) → J ≡ before ++ e ∷ behind
+    → SettlesReport before e p r → IsUsable s.own r.contact → Passes s.policy r
+    → (e ≡ Taken p r.contact) ⊎ (among (took before) r.contact ≡ true) ⊎ (length (path p before) ≡ max_path_contacts)
+
+-- So nothing that may be believed is dropped: once a path has settled all that it was told, each contact that was named to it
+-- is on some path, or this path has as many as a path may.
+unfoldable pub DropsNone : Setting → List Entry → Type 0
+DropsNone s J = (p : ℕ) (responder c : Contact) → unsettled p J ≡ [] → Names s J p responder c
+    → (among (took J) c ≡ true) ⊎ (max_path_contacts ≤ length (path p J))
+
+-- Each path goes by its own seeds and answers: what disjoint paths are for.
+pub record GoesByOwnAnswers (s : Setting) (J : List Entry) : Type 0 where
+  pub lineage : HasLineage s J
+  pub contained : IsContained s J
+  pub taken_unless_held : TakesUnlessHeld s J
+  pub none_dropped : DropsNone s J
