@@ -330,3 +330,19 @@ string_read bytes at p n end s e a d h fits small =
           (body_part p d.digits.number 1 [] front (omega arith) (omega arith)));
       fits = a.fits;
     }
+
+-- ---- a string of six bytes
+
+-- the digit 6, and none behind it
+six_digits : (bytes : List ℕ) (at : ℕ) → at < length bytes → get_or bytes at 0 ≡ 54 → get_or bytes (at + 1) 0 ≡ 58 → ReadsDigits bytes at 6 (at + 1)
+six_digits bytes at h six colon = record {
+  digits = subst (λ n. DigitsSoFar bytes at n (at + 1)) (ap (λ b. b - 48) six) (digits_begin bytes at h (ap is_nonzero six));
+  ends = λ k. ap is_digit colon;
+}
+
+pub six_read : (bytes : List ℕ) (at : ℕ) (p : Place) (s : List ℕ) → s ≡ take 6 (drop (at + 2) bytes) → AwaitsString bytes at p → at + 8 ≤ length bytes → get_or bytes at 0 ≡ 54 → get_or bytes (at + 1) 0 ≡ 58 → length bytes < 2 ^ 64 → ReadsString bytes at p s (at + 8)
+six_read bytes at p s e a long six colon small =
+    let from : at + 2 ≡ at + 1 + 1 = omega arith in
+    let to : at + 1 + 1 + 6 ≡ at + 8 = omega arith in
+    subst (ReadsString bytes at p s) to
+    (string_read bytes at p 6 (at + 1) s (e ∙ ap (λ n. take 6 (drop n bytes)) from) a (six_digits bytes at (omega arith) six colon) (omega arith, colon) (omega arith) small)

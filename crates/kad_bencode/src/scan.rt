@@ -16,6 +16,9 @@ pub(crate) fn string_at(bytes: &[u8], at: usize) -> Result<(&[u8], usize), Bad>
     ensures reads { (p : Place) → AwaitsString bytes.now at p
         → Scans bytes.now result (λ x. ReadsString bytes.now at p x.0.now x.1) }
 {
+    if has_six(bytes, at) {
+        return Ok((&bytes[at + 2..at + 8], at + 8));
+    }
     if has_byte(bytes, at, b'0') {
         if !has_byte(bytes, at + 1, b':') {
             return Err(Bad::NotBencode { at: at + 1 });
@@ -35,6 +38,23 @@ pub(crate) fn string_at(bytes: &[u8], at: usize) -> Result<(&[u8], usize), Bad>
     }
     let next = end + 1 + length as usize;
     Ok((&bytes[end + 1..next], next))
+}
+
+/// Whether a string of six bytes stands at a place, as peers are written (BEP 5). Most strings of a long answer are such,
+/// and where the next one begins needn't be computed from a length that was just read.
+fn has_six(bytes: &[u8], at: usize) -> bool
+    requires { at ≤ length bytes.now }
+    ensures long { IsTrue result → at + 8 ≤ length bytes.now }
+    ensures six { IsTrue result → get_or bytes.now at 0 ≡ 54 }
+    ensures colon { IsTrue result → get_or bytes.now (at + 1) 0 ≡ 58 }
+{
+    if bytes.len() - at < 8 {
+        return false;
+    }
+    if bytes[at] != b'6' {
+        return false;
+    }
+    bytes[at + 1] == b':'
 }
 
 /// The integer at a place, where its `i` stands, and where it ends.
