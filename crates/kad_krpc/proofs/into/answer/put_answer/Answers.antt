@@ -1,0 +1,19 @@
+use Rattle.std.specs.Prelude.{codes}
+use Rattle.kad_bencode.specs.declared.value.Value.TheVariants.{Text}
+use Rattle.kad_bencode.proofs.Putting.{puts_more, puts_closed}
+use Rattle.kad_krpc.specs.Form.{maybe, nodes_value, snodes_value, peers_value, answer_pairs}
+use Rattle.kad_krpc.proofs.Filed.{one, two, three, four}
+use Rattle.kad_krpc.proofs.into.answer.put_answer.Goals as goal
+
+pub returns : goal.returns
+returns c =
+    let a = c.args.answer.now in
+    puts_closed (answer_pairs a)
+    (puts_more (four a) (maybe (codes "values") peers_value a.values)
+    (puts_more (three a) (maybe (codes "token") Text a.token)
+    (puts_more (two a) (maybe (codes "snodes") snodes_value a.snodes)
+    (puts_more (one a) (maybe (codes "nodes") nodes_value a.nodes) c.put_id-at.ensures c.put_maybe_nodes-at.ensures)
+    c.put_maybe_snodes-at.ensures)
+    c.put_maybe_token-at.ensures)
+    c.put_maybe_values-at.ensures)
+    c.put_part.ensures
