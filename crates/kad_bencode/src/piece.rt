@@ -1,7 +1,8 @@
 //! A value of bencode where its text stands: it borrows the text, and takes no memory.
-ghost use Rattle.std.specs.Prelude.{◌≡◌, IfErr, IfOk, option_copied, is_some, Ok, Err, None, List, [], ◌∷◌, MatchOption};
+ghost use Rattle.std.specs.Prelude.{◌≡◌, IfErr, IfOk, option_copied, is_some, Ok, Err, None, List, [], ◌∷◌, map, length, MatchOption};
 ghost use Rattle.kad_bencode.specs.Parts.{bytes_of, integer_of, list_of, dict_of, member_of};
-ghost use Rattle.kad_bencode.specs.Spelling.{Spells};
+ghost use Rattle.kad_bencode.specs.Spelling.{Spells, in_order, text_of};
+ghost use Rattle.std.specs.List.{concat};
 ghost use Rattle.kad_bencode.specs.Faults.{IsFirstFault};
 ghost use Rattle.kad_bencode.specs.declared.value.Bad.{Bad};
 ghost use Rattle.kad_bencode.specs.declared.value.Value.{Value};
@@ -141,6 +142,21 @@ impl<'a> Items<'a> {
             None => None,
         }
     }
+
+    /// How many bytes the texts of the values take together.
+    pub fn text_len(&self) -> usize
+        ensures { (trees : List Value) × (self.now ≡ map in_order trees)
+            × (result ≡ length (concat (map text_of trees))) }
+    {
+        texts_length(self.bytes)
+    }
+}
+
+/// How long the texts of values are together.
+fn texts_length(bytes: &[u8]) -> usize
+    ensures { (ts : List Value) → AreItems bytes.now ts → result ≡ length (concat (map text_of ts)) }
+{
+    bytes.len()
 }
 
 /// The text of the first value, and the texts behind it.

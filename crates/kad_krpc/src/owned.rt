@@ -7,10 +7,13 @@ ghost use Rattle.kad_krpc.specs.Views.{ask_seen, answer_seen, message_seen};
 use crate::borrowed::{AnswerView, AskView, View};
 use crate::message::{Answer, Ask, Message};
 use crate::record::read_addr;
-use crate::records::{Nodes, ProvedNodes};
+use crate::records::{Nodes, ProvedNodes, with_room};
 use kad_base::{Addrs, Bytes, Contacts, List, NoMemory, Reports};
 use kad_bencode::{Items, Piece};
 use std::alloc::Global;
+
+/// How long the text of a peer is: `6:` and six bytes.
+const PEER: usize = 8;
 
 /// Appends the peer of a value, where it is a string of 6 bytes.
 fn push_peer(peers: &mut Addrs, value: &Piece) -> Result<(), NoMemory>
@@ -27,11 +30,11 @@ fn push_peer(peers: &mut Addrs, value: &Piece) -> Result<(), NoMemory>
     }
 }
 
-/// The peers among the values, in order.
+/// The peers among the values, in order. There is room for as many as their text may hold.
 fn peers_of(alloc: Global, mut values: Items) -> Result<Addrs, NoMemory>
     ensures { IfOk result (λ peers. Some peers ≡ peers_in (Some values.entry)) }
 {
-    let mut peers = List::new(alloc);
+    let mut peers = with_room(alloc, values.text_len() / PEER)?;
     while let Some(value) = values.next() {
         push_peer(&mut peers, &value)?;
     }

@@ -8,7 +8,7 @@ use std::alloc::Global;
 use std::marker::Model;
 
 /// An empty list with room for so many items.
-fn with_room<T>(alloc: Global, room: usize) -> Result<List<T>, NoMemory>
+pub(crate) fn with_room<T>(alloc: Global, room: usize) -> Result<List<T>, NoMemory>
     ensures { IfOk result (λ list. list ≡ []) }
 {
     match Vec::with_capacity(alloc, room) {
