@@ -38,6 +38,7 @@ fn whole(bytes: &[u8]) -> Result<(), Bad>
 
 /// Where the value at a place ends, where that many lists and dictionaries are open.
 #[cycle(checking)]
+#[inline(always)]
 fn value_at(bytes: &[u8], at: usize, depth: usize) -> Result<usize, Bad>
     requires within { at ≤ length bytes.now }
     requires depth { depth ≤ 16 }
