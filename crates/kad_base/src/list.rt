@@ -62,10 +62,7 @@ impl<T: Drop> List<T> {
         ensures ok { OnOk result (self.new ≡ self.old ++ item ∷ []) }
         ensures err { OnErr result (self.new ≡ self.old) }
     {
-        match self.items.push(item) {
-            Ok(()) => Ok(()),
-            Err(_) => Err(NoMemory),
-        }
+        Ok(self.items.push(item)?)
     }
 }
 
@@ -73,10 +70,8 @@ impl<T: Copy + Drop> List<T> {
     pub fn from_slice(alloc: Global, items: &[T]) -> Result<Self, NoMemory>
         ensures { IfOk result (λ list. list ≡ items.now) }
     {
-        match Vec::from_slice(alloc, items) {
-            Ok(items) => Ok(List { items }),
-            Err(_) => Err(NoMemory),
-        }
+        let items = Vec::from_slice(alloc, items)?;
+        Ok(List { items })
     }
 
     /// Appends items, or leaves the list.
@@ -84,10 +79,7 @@ impl<T: Copy + Drop> List<T> {
         ensures ok { OnOk result (self.new ≡ self.old ++ items.now) }
         ensures err { OnErr result (self.new ≡ self.old) }
     {
-        match self.items.extend_from_slice(items) {
-            Ok(()) => Ok(()),
-            Err(_) => Err(NoMemory),
-        }
+        Ok(self.items.extend_from_slice(items)?)
     }
 }
 

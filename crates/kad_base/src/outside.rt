@@ -46,6 +46,11 @@ pub trait Sink {
 
 /// A datagram socket with a clock.
 pub trait Link {
+    /// What of a link no call changes: of a whole network in memory which one it is, and of others nothing.
+    ghost Kept: { Type 0 } = { Unit {0} };
+
+    ghost kept: { Self → Self.Kept };
+
     /// The transcript, where it is told.
     ghost told: { Self → Option (List Event) };
 
@@ -60,6 +65,7 @@ pub trait Link {
         ensures told { Grows (told self.old) (told self.new) (λ t. t ≡ Event.Now result ∷ []) }
         ensures later { moment self.old ≤ result }
         ensures moment { moment self.new ≡ result }
+        ensures kept { kept self.new ≡ kept self.old }
         ensures send_faults { send_faults self.old ≤ send_faults self.new }
         ensures recv_faults { recv_faults self.old ≤ recv_faults self.new };
 
@@ -67,6 +73,7 @@ pub trait Link {
         ensures ok { OnOk result (Grows (told self.old) (told self.new) (λ t. t ≡ Event.Sent to bytes.now ∷ [])) }
         ensures err { OnErr result (Grows (told self.old) (told self.new) (λ t. t ≡ Event.Unsent to bytes.now ∷ [])) }
         ensures moment { moment self.new ≡ moment self.old }
+        ensures kept { kept self.new ≡ kept self.old }
         ensures send_faults { send_faults self.old ≤ send_faults self.new }
         ensures recv_faults { recv_faults self.old ≤ recv_faults self.new }
         ensures failed { OnErr result (Rose (send_faults self.old) (send_faults self.new)) };
@@ -78,6 +85,7 @@ pub trait Link {
         ensures told_moment { IfOk result (λ came. moment self.new ≡ came_at came) }
         ensures err { OnErr result (Grows (told self.old) (told self.new) (λ t. t ≡ [])) }
         ensures err_moment { OnErr result (moment self.new ≡ moment self.old) }
+        ensures kept { kept self.new ≡ kept self.old }
         ensures send_faults { send_faults self.old ≤ send_faults self.new }
         ensures recv_faults { recv_faults self.old ≤ recv_faults self.new }
         ensures failed { OnErr result (Rose (recv_faults self.old) (recv_faults self.new)) };

@@ -3,6 +3,7 @@ ghost use Rattle.std.specs.Prelude.{◌↔◌, IsTrue};
 ghost use Rattle.kad_base.specs.Contacts.{IsUsable};
 
 use crate::list::Bytes;
+use std::alloc::{AllocError, AllocFailed};
 
 /// A Kademlia identifier: 160 bits as 20 bytes, the highest bit first.
 #[derive(Clone, Copy, Debug, PartialEq, Eq, PartialOrd, Ord, Hash)]
@@ -56,6 +57,18 @@ pub enum Policy {
 /// The allocator gave no memory.
 #[derive(Clone, Copy, Debug, PartialEq, Eq)]
 pub struct NoMemory;
+
+impl From<AllocError> for NoMemory {
+    fn from(_: AllocError) -> Self {
+        NoMemory
+    }
+}
+
+impl<T: Drop> From<AllocFailed<T>> for NoMemory {
+    fn from(_: AllocFailed<T>) -> Self {
+        NoMemory
+    }
+}
 
 /// A source, a sink or a link failed, and counted it.
 #[derive(Clone, Copy, Debug, PartialEq, Eq)]

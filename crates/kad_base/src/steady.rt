@@ -82,14 +82,11 @@ impl SteadySink {
         ensures whole { IfOk result (λ sink. sink.whole ≡ true) }
         ensures room { IfOk result (λ sink. sink.room ≡ len) }
     {
-        match vec![in alloc; 0u8; len] {
-            Ok(room) => Ok(SteadySink {
-                room,
-                kept: 0,
-                whole: true,
-            }),
-            Err(_) => Err(NoMemory),
-        }
+        Ok(SteadySink {
+            room: vec![in alloc; 0u8; len]?,
+            kept: 0,
+            whole: true,
+        })
     }
 
     /// The bytes that were kept.
