@@ -82,10 +82,7 @@ pub(crate) fn covered(
     ensures items { IfOk result (λ kept. kept.items ≡ filter (λ e. begins prefix.now (id_bits e.contact.id)) entries.now) }
     ensures room { IfOk result (λ kept. length kept.items ≤ vec_capacity kept) }
 {
-    let mut kept = match Vec::with_capacity(alloc, k as usize) {
-        Ok(kept) => kept,
-        Err(_) => return Err(NoMemory),
-    };
+    let mut kept = Vec::with_capacity(alloc, k as usize)?;
     for entry in entries {
         if prefix.begins(&entry.contact.id) {
             append(&mut kept, *entry)?;
@@ -103,10 +100,7 @@ pub(crate) fn append(entries: &mut Vec<Entry>, entry: Entry) -> Result<(), NoMem
     if entries.reserve(1).is_err() {
         return Err(NoMemory);
     }
-    match entries.push(entry) {
-        Ok(()) => Ok(()),
-        Err(_) => Err(NoMemory),
-    }
+    Ok(entries.push(entry)?)
 }
 
 /// The entry isn't the contact's.

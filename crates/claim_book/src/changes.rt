@@ -48,17 +48,14 @@ impl Book {
         ensures ok { OnOk result (self.new ≡ added self.old (Heard path contact reports)) }
         ensures err { OnErr result (self.new ≡ self.old) }
     {
-        match make_room(
+        make_room(
             &mut self.journal,
             self.owed,
             &mut self.claims,
             &mut self.paths[path as usize],
             &self.setting.own,
             reports.as_slice(),
-        ) {
-            Ok(()) => {}
-            Err(NoMemory) => return Err(NoMemory),
-        }
+        )?;
         mark_ended(&mut self.claims, &contact);
         hear_one(&mut self.paths[path as usize], &contact, reports.as_slice());
         self.owed += 3 * reports.len() + 1;
@@ -189,13 +186,7 @@ fn make_room(
         Some(all) => all,
         None => return Err(NoMemory),
     };
-    match journal.reserve(all) {
-        Ok(()) => {}
-        Err(_) => return Err(NoMemory),
-    }
-    match widen(path, reports.len() + 1) {
-        Ok(()) => {}
-        Err(NoMemory) => return Err(NoMemory),
-    }
+    journal.reserve(all)?;
+    widen(path, reports.len() + 1)?;
     learn(claims, own, reports)
 }

@@ -151,10 +151,7 @@ pub(crate) fn learn(claims: &mut Claims, own: &Id, reports: &[Report]) -> Result
     ensures known { OnOk result (All (λ r. IsKnown own.now claims.new (Told r)) reports.now) }
 {
     for report in reports {
-        match learn_report(claims, own, report) {
-            Ok(()) => {}
-            Err(NoMemory) => return Err(NoMemory),
-        }
+        learn_report(claims, own, report)?;
     }
     Ok(())
 }

@@ -35,14 +35,8 @@ pub struct Path {
 pub(crate) fn new_path(alloc: Global) -> Result<Path, NoMemory>
     ensures { IfOk result IsEmptyPath }
 {
-    let near = match Vec::with_capacity(alloc, MAX_PATH_CONTACTS) {
-        Ok(near) => near,
-        Err(_) => return Err(NoMemory),
-    };
-    let fresh = match Vec::with_capacity(alloc, MAX_PATH_CONTACTS) {
-        Ok(fresh) => fresh,
-        Err(_) => return Err(NoMemory),
-    };
+    let near = Vec::with_capacity(alloc, MAX_PATH_CONTACTS)?;
+    let fresh = Vec::with_capacity(alloc, MAX_PATH_CONTACTS)?;
     Ok(Path {
         near,
         fresh,
@@ -162,10 +156,7 @@ pub(crate) fn widen(path: &mut Path, more: usize) -> Result<(), NoMemory>
     ensures queue { path.new.queue.items ≡ path.old.queue.items }
     ensures room { OnOk result (length path.new.queue.items + more ≤ deque_capacity path.new.queue) }
 {
-    match path.queue.reserve(more) {
-        Ok(()) => Ok(()),
-        Err(_) => Err(NoMemory),
-    }
+    Ok(path.queue.reserve(more)?)
 }
 
 /// Puts a contact in its place, in room that is there.

@@ -109,10 +109,7 @@ impl Book {
         ensures { IfOk result (λ found. found ≡ result_of self.now.setting self.now.journal) }
     {
         let alloc = *self.journal.allocator();
-        let lists = match nearest_lists(alloc, self.paths.as_slice(), self.setting.k as usize) {
-            Ok(lists) => lists,
-            Err(NoMemory) => return Err(NoMemory),
-        };
+        let lists = nearest_lists(alloc, self.paths.as_slice(), self.setting.k as usize)?;
         merge(
             alloc,
             &self.setting.target,

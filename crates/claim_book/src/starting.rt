@@ -21,19 +21,10 @@ pub(crate) fn new_paths(alloc: Global, count: u8) -> Result<Vec<Path>, NoMemory>
     ensures len { IfOk result (λ paths. length paths.items ≡ count) }
     ensures empty { IfOk result (λ paths. All IsEmptyPath paths.items) }
 {
-    let mut paths = match Vec::with_capacity(alloc, count as usize) {
-        Ok(paths) => paths,
-        Err(_) => return Err(NoMemory),
-    };
+    let mut paths = Vec::with_capacity(alloc, count as usize)?;
     for _ in 0..count {
-        let path = match new_path(alloc) {
-            Ok(path) => path,
-            Err(NoMemory) => return Err(NoMemory),
-        };
-        match paths.push(path) {
-            Ok(()) => {}
-            Err(_) => return Err(NoMemory),
-        }
+        let path = new_path(alloc)?;
+        paths.push(path)?;
     }
     Ok(paths)
 }
@@ -62,10 +53,7 @@ pub(crate) fn seed(
 {
     for (i, contact) in seeds.iter().enumerate() {
         let path = (i % setting.paths as usize) as u8;
-        match enter(claims, path, contact) {
-            Ok(()) => {}
-            Err(NoMemory) => return Err(NoMemory),
-        }
+        enter(claims, path, contact)?;
         add_one(&mut paths[path as usize], setting, contact);
         put_seed(
             journal,
@@ -98,19 +86,10 @@ pub(crate) fn nearest_lists(
 ) -> Result<Vec<Contacts>, NoMemory>
     ensures { IfOk result (λ lists. lists.items ≡ map (λ x. take k x.near.items) paths.now) }
 {
-    let mut lists = match Vec::with_capacity(alloc, paths.len()) {
-        Ok(lists) => lists,
-        Err(_) => return Err(NoMemory),
-    };
+    let mut lists = Vec::with_capacity(alloc, paths.len())?;
     for path in paths {
-        let list = match List::from_slice(alloc, nearest(path.near.as_slice(), k)) {
-            Ok(list) => list,
-            Err(NoMemory) => return Err(NoMemory),
-        };
-        match lists.push(list) {
-            Ok(()) => {}
-            Err(_) => return Err(NoMemory),
-        }
+        let list = List::from_slice(alloc, nearest(path.near.as_slice(), k))?;
+        lists.push(list)?;
     }
     Ok(lists)
 }

@@ -69,19 +69,10 @@ impl Book {
         ensures legal { IfOk result (λ book. Legal book.setting book.journal) }
     {
         let owed = 2 * seeds.len();
-        let mut journal = match Vec::with_capacity(alloc, seeds.len() + owed) {
-            Ok(journal) => journal,
-            Err(_) => return Err(NoMemory),
-        };
+        let mut journal = Vec::with_capacity(alloc, seeds.len() + owed)?;
         let mut claims = IndexMap::with_hasher(alloc, hasher);
-        let mut paths = match new_paths(alloc, setting.paths) {
-            Ok(paths) => paths,
-            Err(NoMemory) => return Err(NoMemory),
-        };
-        match seed(&mut journal, &mut claims, &mut paths, &setting, seeds) {
-            Ok(()) => {}
-            Err(NoMemory) => return Err(NoMemory),
-        }
+        let mut paths = new_paths(alloc, setting.paths)?;
+        seed(&mut journal, &mut claims, &mut paths, &setting, seeds)?;
         Ok(Book {
             setting,
             journal,

@@ -91,16 +91,10 @@ impl Nodes {
         requires { count ≤ 20000 }
         ensures { IfOk result (λ nodes. nodes ≡ record { seed = seed.now; count = count; hostile = hostile }) }
     {
-        let mut ids = match Vec::with_capacity(alloc, count as usize) {
-            Ok(ids) => ids,
-            Err(_) => return Err(NoMemory),
-        };
+        let mut ids = Vec::with_capacity(alloc, count as usize)?;
         for i in 0..count {
             let id = drawn_id(seed, FIRST_NODE + 5 * u64::from(i));
-            match ids.push(id) {
-                Ok(()) => {}
-                Err(_) => return Err(NoMemory),
-            }
+            ids.push(id)?;
         }
         Ok(Nodes {
             seed: *seed,
@@ -206,10 +200,7 @@ impl Nodes {
         requires { i < self.now.count }
         ensures { IfOk result (λ found. found ≡ k_closest target.now 8 (known self.now i)) }
     {
-        let mut found = match Vec::with_capacity(alloc, BUCKET as usize) {
-            Ok(found) => found,
-            Err(_) => return Err(NoMemory),
-        };
+        let mut found = Vec::with_capacity(alloc, BUCKET as usize)?;
         let mut counts = [0; BUCKETS];
         for j in 0..self.count() {
             if self.knows(i, j, &mut counts) {
@@ -228,10 +219,7 @@ impl Nodes {
     ) -> Result<Contacts, NoMemory>
         ensures { IfOk result (λ found. found ≡ k_closest target.now k (honest self.now)) }
     {
-        let mut found = match Vec::with_capacity(alloc, k as usize) {
-            Ok(found) => found,
-            Err(_) => return Err(NoMemory),
-        };
+        let mut found = Vec::with_capacity(alloc, k as usize)?;
         for i in 0..self.count() {
             if !self.is_hostile(i) {
                 put_closest(&mut found, target, k as usize, &self.contact(i));

@@ -44,10 +44,7 @@ pub fn put_closest(near: &mut Vec<Contact>, target: &Id, k: usize, contact: &Con
 pub fn k_least(alloc: Global, target: &Id, k: u8, list: &[Contact]) -> Result<Contacts, NoMemory>
     ensures { IfOk result (λ found. found ≡ k_closest target.now k list.now) }
 {
-    let mut found = match Vec::with_capacity(alloc, k as usize) {
-        Ok(found) => found,
-        Err(_) => return Err(NoMemory),
-    };
+    let mut found = Vec::with_capacity(alloc, k as usize)?;
     for contact in list {
         put_closest(&mut found, target, k as usize, contact);
     }

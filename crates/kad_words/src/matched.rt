@@ -43,10 +43,7 @@ fn command_of<'a>(alloc: Global, choices: &'a [Choice]) -> Result<Command<'a>, N
     let mut command = Command::new(alloc, "nolzavirt").disable_help_flag(true);
     for choice in choices {
         let arg = Arg::new(alloc, choice.name).long(choice.name);
-        command = match command.arg(arg) {
-            Ok(command) => command,
-            Err(_) => return Err(NoMemory),
-        };
+        command = command.arg(arg)?;
     }
     Ok(command)
 }

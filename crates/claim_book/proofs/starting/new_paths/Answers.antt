@@ -11,6 +11,6 @@ one_more xs ys x is all one = All-same IsEmptyPath ys (xs ++ x ∷ []) is (All-a
 
 pub loop-preserved : goal.loop-preserved
 loop-preserved c = record {
-  len = (let a = c.loop.invariant.len in let b = ap length c.in-Ok-push.ensures.items in omega (arith, length-append c.loop.paths.items (c.in-Ok-new_path.path ∷ [])));
-  empty = one_more c.loop.paths.items c.push.new.self.items c.in-Ok-new_path.path c.in-Ok-push.ensures.items c.loop.invariant.empty c.in-Ok-new_path.ensures;
+  len = (let a = c.loop.invariant.len in let b = ap length c.in_ok-push.ensures.items in omega (arith, length-append c.loop.paths.items (c.in_ok-path.path ∷ [])));
+  empty = one_more c.loop.paths.items c.push.new.self.items c.in_ok-path.path c.in_ok-push.ensures.items c.loop.invariant.empty c.in_ok-path.ensures;
 }

@@ -33,6 +33,6 @@ loop-i-preserved c =
     record {
       items = seeded_step s.paths cs i _ c.loop-i.journal.items c.put_seed.new.journal.items c.loop-i-test.true c.loop-i.invariant.items c.put_seed.ensures.items;
       room = (let a = c.put_seed.ensures.room in let b = c.loop-i.invariant.room in omega arith);
-      claims = dealt_map s cs i _ c.loop-i.claims c.enter.new.claims d c.loop-i.invariant.claims c.in-Ok.ensures;
+      claims = dealt_map s cs i _ c.loop-i.claims c.enter.new.claims d c.loop-i.invariant.claims c.in_ok-enter.ensures;
       paths = dealt_paths s cs i _ c.loop-i.paths.items c.index_mut.result.now c.add_one.new.path d c.loop-i.invariant.paths c.index_mut.ensures.value e.near e.near_room e.fresh e.fresh_room e.count e.opens c.add_one.ensures.queue;
     }

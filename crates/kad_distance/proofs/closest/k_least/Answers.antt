@@ -8,8 +8,8 @@ use Rattle.kad_distance.proofs.closest.k_least.Goals as goal
 
 pub loop-contact-init : goal.loop-contact-init
 loop-contact-init c = record {
-  items = c.in-Ok.ensures.items ∙ sym (closest_nil c.args.target.now c.args.k);
-  room = (let exact = c.in-Ok.ensures.exact in omega arith);
+  items = c.in_ok-found.ensures.items ∙ sym (closest_nil c.args.target.now c.args.k);
+  room = (let exact = c.in_ok-found.ensures.exact in omega arith);
 }
 
 pub put_closest-requires-clause-sorted : goal.put_closest-requires-clause-sorted

@@ -59,7 +59,7 @@ hear_one-requires-clause-room c =
     let fits = subst (λ (b : BookState). among (open_on c.args.path b.journal) c.args.contact ≡ true) (sym c.self.view_is) c.requires.asks in
     let lt = open_within c.self.inside.setting c.self.inside.journal.items _ _ _ _ _ c.args.path c.args.contact c.self.invariant fits in
     let is : c.index_mut-2.result.now ≡ c.make_room.new.path = c.index_mut-2.ensures.value ∙ get_or-set_same c.self.inside.paths.items c.args.path c.make_room.new.path c.index_mut-2.result.now lt in
-    let wide = subst (λ (l : List Report). length c.make_room.new.path.queue.items + (length l + 1) ≤ deque_capacity c.make_room.new.path.queue) (c.as_slice.ensures ∙ sym c.as_slice-2.ensures) c.in-Ok.ensures.wide in
+    let wide = subst (λ (l : List Report). length c.make_room.new.path.queue.items + (length l + 1) ≤ deque_capacity c.make_room.new.path.queue) (c.as_slice.ensures ∙ sym c.as_slice-2.ensures) c.in_ok-make_room.ensures.wide in
     subst (λ (x : Path). length x.queue.items + (length c.as_slice-2.result.now + 1) ≤ deque_capacity x.queue) (sym is) wide
 
 pub invariant_of-self-2 : goal.invariant_of-self-2
@@ -69,6 +69,6 @@ invariant_of-self-2 c =
     let w = wider_open _ _ c.make_room.new.journal.items c.args.path _ _ _ (vec_capacity c.make_room.new.journal) _ c.make_room.new.claims _ c.index_mut.result.now c.make_room.new.path _ c.self.invariant fits e.journal e.room e.shown e.kept c.index_mut.ensures.value e.near e.fresh e.count e.opens e.queue in
     let h = c.hear_one.ensures in
     let more : c.put.new.owed + 1 ≡ c.self.inside.owed + (3 * length c.args.reports + 1) = omega (arith, c.put.ensures.owed, c.len.ensures) in
-    let knows = subst (All (λ r. IsKnown c.self.inside.setting.own c.make_room.new.claims (Told r))) c.as_slice.ensures c.in-Ok.ensures.known in
+    let knows = subst (All (λ r. IsKnown c.self.inside.setting.own c.make_room.new.claims (Told r))) c.as_slice.ensures c.in_ok-make_room.ensures.known in
     let gives = h.queue ∙ ap (λ l. c.index_mut-2.result.now.queue.items ++ things_in c.args.contact l) c.as_slice-2.ensures in
     whole_heard _ c.make_room.new.journal.items _ c.args.path c.args.contact c.args.reports _ _ _ _ _ _ _ _ _ _ w.0 (w.1, c.requires.few) c.put.ensures.items more c.put.ensures.room knows c.mark_ended.ensures.each c.index_mut-2.ensures.value h.near h.fresh h.count h.opens gives

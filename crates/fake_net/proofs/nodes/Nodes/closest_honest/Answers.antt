@@ -11,8 +11,8 @@ use Rattle.fake_net.proofs.nodes.Nodes.closest_honest.Goals as goal
 
 pub loop-i-init : goal.loop-i-init
 loop-i-init c = record {
-  items = c.in-Ok.ensures.items ∙ sym (closest_nil c.args.target.now c.args.k);
-  room = (let exact = c.in-Ok.ensures.exact in omega arith);
+  items = c.in_ok-found.ensures.items ∙ sym (closest_nil c.args.target.now c.args.k);
+  room = (let exact = c.in_ok-found.ensures.exact in omega arith);
 }
 
 pub put_closest-requires-clause-sorted : goal.put_closest-requires-clause-sorted

@@ -11,8 +11,8 @@ use Rattle.fake_net.proofs.nodes.Nodes.closest_known.Goals as goal
 
 pub loop-j-init : goal.loop-j-init
 loop-j-init c = record {
-  items = c.in-Ok.ensures.items ∙ sym (closest_nil c.args.target.now 8);
-  room = (let exact = c.in-Ok.ensures.exact in omega arith);
+  items = c.in_ok-found.ensures.items ∙ sym (closest_nil c.args.target.now 8);
+  room = (let exact = c.in_ok-found.ensures.exact in omega arith);
   counts = counts_start c.args.self.now.seed c.args.i _ refl;
 }
 

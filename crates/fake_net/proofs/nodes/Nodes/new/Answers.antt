@@ -6,8 +6,8 @@ use Rattle.fake_net.proofs.nodes.Nodes.new.Goals as goal
 
 pub loop-i-preserved : goal.loop-i-preserved
 loop-i-preserved c = record {
-  ids = ids_one c.args.seed.now c.loop-i.i c.from.result c.loop-i.ids.items c.push.new.self.items c.drawn_id-id.result c.loop-i.invariant.ids c.from.ensures c.drawn_id-id.ensures c.in-Ok-push.ensures.items;
-  long = c.in-Ok-push.ensures.len ∙ ap (λ (n : ℕ). n + 1) c.loop-i.invariant.long;
+  ids = ids_one c.args.seed.now c.loop-i.i c.from.result c.loop-i.ids.items c.push.new.self.items c.drawn_id-id.result c.loop-i.invariant.ids c.from.ensures c.drawn_id-id.ensures c.in_ok-push.ensures.items;
+  long = c.in_ok-push.ensures.len ∙ ap (λ (n : ℕ). n + 1) c.loop-i.invariant.long;
 }
 
 pub invariant_of-result : goal.invariant_of-result
