@@ -5,7 +5,8 @@ ghost use Rattle.kad_krpc.specs.Form.{IsV4, IsProved, IsWritable};
 
 use crate::message::{Answer, Ask, Key, KrpcFault, Message, Port};
 use crate::{
-    decode, decode_view, encode, encode_into, find_node_into, get_peers_into, split_record,
+    decode, decode_view, encode, encode_into, find_node_into, get_peers_into, said_is_writable,
+    split_record,
 };
 use kad_base::{Addr, Addrs, Bytes, Contact, Id, Ip, List, Proof, Report, Reports};
 use kad_bencode::Bad;
@@ -440,6 +441,21 @@ fn answer_text(
     Ok(text)
 }
 
+/// That a message is read, and written again in both ways.
+fn again(rt: &impl Abort, alloc: Global, text: &[u8]) {
+    match decode(alloc, text) {
+        Ok(message) => {
+            puts(rt, &message, text);
+            said_is_writable();
+            match encode(alloc, &message) {
+                Ok(written) => assert_eq!(rt; written.as_slice(), text),
+                Err(_) => assert!(rt; false, "no memory"),
+            }
+        }
+        Err(_) => assert!(rt; false, "refused"),
+    }
+}
+
 fn given(alloc: Global, answer: Answer) -> Result<Message, Fail> {
     let tx = bytes(alloc, b"aa")?;
     Ok(Message::Answer { tx, answer })
@@ -459,7 +475,7 @@ fn nodes_are_read(rt: &impl Abort, alloc: Global, key: &[u8], count: usize) -> R
     answer.nodes = Some(nodes);
     let message = given(alloc, answer)?;
     reads(rt, alloc, text.as_slice(), &message);
-    puts(rt, &message, text.as_slice());
+    again(rt, alloc, text.as_slice());
     Ok(())
 }
 
@@ -477,10 +493,7 @@ fn sixteen_nodes_with_proofs_are_read(rt: HostRuntime) -> Result<(), Fail> {
     let record =
         b"mnopqrstuvwxyz123456kkkkkkkkkkkkkkkkkkkkkkkkkkkkkkkkxxxxxxxxxxxxxxxxxxxx\x7f\x00\x00\x01\x1a\xe1";
     let text = answer_text(alloc, b"6:snodes1248:", record, 16, b"")?;
-    match decode(alloc, text.as_slice()) {
-        Ok(message) => puts(&rt, &message, text.as_slice()),
-        Err(_) => assert!(rt; false, "refused"),
-    }
+    again(&rt, alloc, text.as_slice());
     Ok(())
 }
 
@@ -489,10 +502,7 @@ fn fifty_peers_are_read(rt: HostRuntime) -> Result<(), Fail> {
     let alloc = rt.alloc();
     let record = b"6:\x7f\x00\x00\x01\x1a\xe1";
     let text = answer_text(alloc, b"6:valuesl", record, 50, b"e")?;
-    match decode(alloc, text.as_slice()) {
-        Ok(message) => puts(&rt, &message, text.as_slice()),
-        Err(_) => assert!(rt; false, "refused"),
-    }
+    again(&rt, alloc, text.as_slice());
     Ok(())
 }
 
@@ -502,10 +512,7 @@ fn a_datagram_of_4096_bytes_fits(rt: HostRuntime) -> Result<(), Fail> {
     let alloc = rt.alloc();
     let text = answer_text(alloc, b"5:token4037:", b"x", 4037, b"")?;
     assert_eq!(rt; text.len(), 4096);
-    match decode(alloc, text.as_slice()) {
-        Ok(message) => puts(&rt, &message, text.as_slice()),
-        Err(_) => assert!(rt; false, "refused"),
-    }
+    again(&rt, alloc, text.as_slice());
     let more = answer_text(alloc, b"5:token4038:", b"x", 4038, b"")?;
     match decode(alloc, more.as_slice()) {
         Ok(message) => assert!(rt; encode_into(&message, &mut [0u8; 4096]).is_none()),
@@ -523,9 +530,6 @@ fn an_error_text_of_1000_bytes_is_read_and_written(rt: HostRuntime) -> Result<()
         text.push(b'x')?;
     }
     text.extend_from_slice(b"e1:t2:aa1:y1:ee")?;
-    match decode(alloc, text.as_slice()) {
-        Ok(message) => puts(&rt, &message, text.as_slice()),
-        Err(_) => assert!(rt; false, "refused"),
-    }
+    again(&rt, alloc, text.as_slice());
     Ok(())
 }
