@@ -528,6 +528,41 @@ class Libtorrent(Client):
         return self.process.stop(signal.SIGKILL)
 
 
+class Many:
+    """Nodes of libtorrent that know each other."""
+
+    def __init__(self, host, port, count):
+        words = [libtorrent_python(), LIBTORRENT_NODES, "--host", host, "--port", str(port), "--count", str(count)]
+        self.process = Process(words, stdin=subprocess.PIPE, stdout=subprocess.PIPE)
+        self.addresses = [(host, port + place) for place in range(count)]
+        self.hear("up")
+
+    def say(self, line):
+        self.process.child.stdin.write(line.encode() + b"\n")
+        self.process.child.stdin.flush()
+
+    def hear(self, word):
+        while True:
+            words = self.process.child.stdout.readline().decode().split()
+            if not words:
+                raise Refusal("the nodes of libtorrent ended: %s" % self.process.said())
+            if words[0] == word:
+                return words[1:]
+
+    def names(self, asker):
+        """The identifiers, once each node names eight others."""
+
+        def ready():
+            answers = [asker.answer(address, b"find_node", {b"target": os.urandom(20)}) for address in self.addresses]
+            has_eight = all(len(answer.get(b"nodes", b"")) == 8 * RECORD for answer in answers)
+            return has_eight and [answer[b"id"] for answer in answers]
+
+        found = wait_for(60, ready, 1)
+        if not found:
+            raise Refusal("the nodes of libtorrent didn't all name eight others within 60 s")
+        return found
+
+
 CLIENTS = (Aria2, Transmission, Rtorrent, Libtorrent)
 
 
