@@ -21,20 +21,14 @@ pub(crate) fn leaf(alloc: Global, row: Row) -> Result<Node, NoMemory>
     ensures rows { IfOk result (λ node. rows_of node ≡ row ∷ []) }
     ensures under { IfOk result (λ node. IsUnder row.prefix node) }
 {
-    match Box::new(alloc, row) {
-        Ok(row) => Ok(Node::Leaf(row)),
-        Err(_) => Err(NoMemory),
-    }
+    Ok(Node::Leaf(Box::new(alloc, row)?))
 }
 
 /// A tree on the heap.
 fn boxed(alloc: Global, node: Node) -> Result<Box<Node>, NoMemory>
     ensures { IfOk result (λ whole. whole.value ≡ node) }
 {
-    match Box::new(alloc, node) {
-        Ok(node) => Ok(node),
-        Err(_) => Err(NoMemory),
-    }
+    Ok(Box::new(alloc, node)?)
 }
 
 /// The tree of two halves.

@@ -111,14 +111,12 @@ impl Row {
     pub(crate) fn whole(alloc: Global, k: u8) -> Result<Row, NoMemory>
         ensures { IfOk result (λ row. row ≡ record { prefix = []; live = []; spares = [] }) }
     {
-        match Vec::with_capacity(alloc, k as usize) {
-            Ok(live) => Ok(Row {
-                prefix: Prefix::empty(),
-                live,
-                spares: Vec::new(alloc),
-            }),
-            Err(_) => Err(NoMemory),
-        }
+        let live = Vec::with_capacity(alloc, k as usize)?;
+        Ok(Row {
+            prefix: Prefix::empty(),
+            live,
+            spares: Vec::new(alloc),
+        })
     }
 
     pub(crate) fn covers(&self, id: &Id) -> bool

@@ -111,10 +111,8 @@ pub(crate) fn enter(claims: &mut Claims, path: u8, contact: &Contact) -> Result<
         by: Some(path),
         ..claim
     };
-    match claims.insert(*contact, claim) {
-        Ok(_) => Ok(()),
-        Err(_) => Err(NoMemory),
-    }
+    claims.insert(*contact, claim)?;
+    Ok(())
 }
 
 /// Enters the contact as one that no path has, where the map doesn't have it.
@@ -126,10 +124,8 @@ fn learn_one(claims: &mut Claims, contact: &Contact) -> Result<(), NoMemory>
     if claims.contains_key(contact) {
         return Ok(());
     }
-    match claims.insert(*contact, unclaimed()) {
-        Ok(_) => Ok(()),
-        Err(_) => Err(NoMemory),
-    }
+    claims.insert(*contact, unclaimed())?;
+    Ok(())
 }
 
 /// Enters the report's contact where it is usable.

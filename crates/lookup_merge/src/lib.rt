@@ -39,10 +39,7 @@ pub fn merge(alloc: Global, target: &Id, k: u8, lists: &[Contacts]) -> Result<Co
 fn starts(alloc: Global, count: usize) -> Result<Vec<usize>, NoMemory>
     ensures { IfOk result (λ places. places.items ≡ replicate count 0) }
 {
-    match vec![in alloc; 0usize; count] {
-        Ok(places) => Ok(places),
-        Err(_) => Err(NoMemory),
-    }
+    Ok(vec![in alloc; 0usize; count]?)
 }
 
 /// The closest of the contacts that stand at the places of the lists, and none where each place is its list's end.

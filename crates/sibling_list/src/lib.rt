@@ -39,10 +39,8 @@ impl Siblings {
     pub fn new(alloc: Global, own: Id) -> Result<Siblings, NoMemory>
         ensures { IfOk result (λ s. s ≡ record { own = own; list = [] }) }
     {
-        match Vec::with_capacity(alloc, MAX_SIBLINGS) {
-            Ok(contacts) => Ok(Siblings { own, contacts }),
-            Err(_) => Err(NoMemory),
-        }
+        let contacts = Vec::with_capacity(alloc, MAX_SIBLINGS)?;
+        Ok(Siblings { own, contacts })
     }
 
     /// The siblings, nearest first.
