@@ -1,2 +1,5 @@
 pub mod Steps
 pub mod Joined
+mod Fronts
+mod Counts
+mod Bursts

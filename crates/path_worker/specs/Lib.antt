@@ -1,2 +1,4 @@
 pub mod Settling
 pub mod Steps
+pub mod Hand
+pub mod Burst

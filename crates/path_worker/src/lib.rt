@@ -1,9 +1,13 @@
 //! The worker of one path of a lookup: it settles what the answers to the path gave (a path is one of S/Kademlia's
-//! disjoint lookups). It opens no socket, reads no clock and starts no thread.
+//! disjoint lookups), on the caller's own thread, or beside the workers of the other paths over one book and one routing
+//! table behind a turn each. It opens no socket and reads no clock.
 #![tactic(auto)]
 
 mod alone;
+mod calls;
 #[cfg(test)]
 mod tests;
+mod worker;
 
 pub use alone::settle_alone;
+pub use worker::Worker;
