@@ -7,6 +7,7 @@ ghost use Rattle.kad_base.specs.Limits.{max_strays};
 ghost use Rattle.kad_base.specs.Outside.{Grows, Rose};
 ghost use Rattle.contact_table.specs.TableStep.{contacts_of};
 ghost use Rattle.claim_book.specs.RunOut.{RunOut};
+ghost use Rattle.claim_book.specs.Lineage.{GoesByOwnAnswers};
 ghost use Rattle.lookup_run.specs.declared.plain.AskKind.{AskKind};
 ghost use Rattle.lookup_run.specs.Tells.{EndsAtStray};
 ghost use Rattle.lookup_run.specs.Rounds.{Rounds};
@@ -99,9 +100,9 @@ fn begin<L: Link>(alloc: Global, link: &mut L, table: Table, book: Book) -> Work
 }
 
 /// Looks the target up from the k closest contacts of the table, and tells the table who answered and who didn't: asks,
-/// receives and settles in rounds until every path has run out. The table comes back on every answer. It waits for
-/// nobody but the link, and returns for every link. Strangers choose the contacts, so the hasher of the book's index is
-/// handed in; no answer depends on it.
+/// receives and settles in rounds until every path has run out. What a path asks comes from its own seeds and answers
+/// (S/Kademlia, section 4.4). The table comes back on every answer. It waits for nobody but the link, and returns for every
+/// link. Strangers choose the contacts, so the hasher of the book's index is handed in; no answer depends on it.
 pub fn look_up_alone<L: Link, C: Check>(
     alloc: Global,
     link: &mut L,
@@ -116,6 +117,7 @@ pub fn look_up_alone<L: Link, C: Check>(
     requires place { words.old.place < 2 ^ 59 }
     ensures lookup { IfOk result.1 (LooksUp setting.now table words.old words.new (L.told link.old) (L.told link.new)) }
     ensures rounds { IfOk result.1 (λ outcome. Grows (L.told link.old) (L.told link.new) (λ events. Rounds (given_of setting.now words.old) outcome.journal events)) }
+    ensures own_answers { IfOk result.1 (λ outcome. GoesByOwnAnswers (setting_of setting.now) outcome.journal) }
     ensures gathered { IfOk result.1 (λ outcome. Grows (L.told link.old) (L.told link.new) (λ events. Gathers (given_of setting.now words.old) outcome.journal events outcome.peers outcome.tokens)) }
     ensures none_gathered { IfOk result.1 (λ outcome. setting.now.kind ≡ AskKind.FindNode → (outcome.peers ≡ []) × (outcome.tokens ≡ [])) }
     ensures table { IfOk result.1 (λ outcome. TableTold (table_calls setting.now outcome.journal) table result.0) }

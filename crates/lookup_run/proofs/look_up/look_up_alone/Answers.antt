@@ -1,5 +1,7 @@
 use Rattle.std.proofs.Common.{◌≡◌, Err, ap}
+use Rattle.claim_book.proofs.Descent.{own_answers}
 use Rattle.lookup_run.specs.declared.plain.LookFault.TheVariants.{LinkFault, Strays}
+use Rattle.lookup_run.specs.Lookup.{setting_of}
 use Rattle.lookup_run.proofs.Looking.{opening_of, begins_of, along_of, all_over, ends_of, never_began, looks_up, goes_by_rounds, gathered_all, none_gathered, table_told, ok_then, ok_three, ok_any, err_any}
 use Rattle.lookup_run.proofs.look_up.look_up_alone.Goals as goal
 
@@ -25,6 +27,12 @@ returns-in-Ok-ended-clause-rounds g c =
     let o = opening_of c.args.setting.now c.args.words.now c.args.table _ _ _ _ (g.L.Link.told c.args.link.now) (g.L.Link.told c.begin-work.new.link) c.in-Ok.ensures.book c.in-Ok.ensures.told c.begin-work.ensures.begun c.begin-work.ensures.told c.requires.place in
     let ends = ends_of _ _ _ _ _ _ _ _ _ _ _ (g.L.Link.told c.go_rounds-ended.new.link) o c.in-Ok-ended.ensures.over c.legal.ensures in
     ok_then c.finish.result _ _ c.finish.ensures.done (λ x d. goes_by_rounds _ _ _ _ _ _ _ x (ends.done x d))
+
+pub returns-in-Ok-ended-clause-own_answers : goal.returns-in-Ok-ended-clause-own_answers
+returns-in-Ok-ended-clause-own_answers g c =
+    let o = opening_of c.args.setting.now c.args.words.now c.args.table _ _ _ _ (g.L.Link.told c.args.link.now) (g.L.Link.told c.begin-work.new.link) c.in-Ok.ensures.book c.in-Ok.ensures.told c.begin-work.ensures.begun c.begin-work.ensures.told c.requires.place in
+    let ends = ends_of _ _ _ _ _ _ _ _ _ _ _ (g.L.Link.told c.go_rounds-ended.new.link) o c.in-Ok-ended.ensures.over c.legal.ensures in
+    ok_then c.finish.result _ _ c.finish.ensures.done (λ x d. own_answers (setting_of c.args.setting.now) x.journal (looks_up _ _ _ _ _ _ _ x (ends.done x d)).legal)
 
 pub returns-in-Ok-ended-clause-gathered : goal.returns-in-Ok-ended-clause-gathered
 returns-in-Ok-ended-clause-gathered g c =
