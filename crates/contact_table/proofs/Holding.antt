@@ -6,6 +6,7 @@ use Rattle.std.specs.Str.{bytes_eq}
 use Rattle.std.proofs.lemmas.List.{map-append}
 use Rattle.std.proofs.lemmas.List.Concat.{flat_map-cons}
 use Rattle.std.proofs.lemmas.List.Elements.{All-head, All-tail, All-append, All-cons, All-nil, All-filter, All-take, All-drop, All-contains_itself, Contains-append_left, Contains-append_right}
+use Rattle.kad_base.specs.Limits.{max_siblings}
 use Rattle.kad_base.specs.declared.plain.Id.{Id}
 use Rattle.kad_base.specs.declared.plain.Contact.{Contact}
 use Rattle.kad_base.specs.declared.serial.Made.{Made}
@@ -126,9 +127,9 @@ module _ (P : Contact → Type 0) where
   with-keeps : (own : Id) (S : List Contact) (c : Contact) → P c → All P S → All P (with_one (record { own = own; list = S }) c)
   with-keeps own S c p a = go (bytes_eq c.id.0 own.0)
     where
-      go : (t : Bool) → All P (cond t S (k_closest own 16 (S ++ c ∷ [])))
+      go : (t : Bool) → All P (cond t S (k_closest own max_siblings (S ++ c ∷ [])))
       go true = a
-      go false = closest_all own 16 (S ++ c ∷ []) P (All-append P S (c ∷ []) a (all-one P c p))
+      go false = closest_all own max_siblings (S ++ c ∷ []) P (All-append P S (c ∷ []) a (all-one P c p))
 
   without-keeps : (own : Id) (S : List Contact) (c : Contact) → All P S → All P (without_one (record { own = own; list = S }) c)
   without-keeps own S c a = All-filter (λ other. not (same other c)) P S a

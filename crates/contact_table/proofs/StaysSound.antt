@@ -1,6 +1,7 @@
 -- A sound table stays sound.
 use Rattle.std.proofs.Common.{◌≡◌, ℕ, ◌<◌, ◌≤◌, List, [], ◌∷◌, ◌++◌, Bool, true, false, cond, refl, sym, subst, arith}
 use Rattle.std.specs.Str.{bytes_eq}
+use Rattle.kad_base.specs.Limits.{max_siblings}
 use Rattle.kad_base.specs.declared.plain.Id.{Id}
 use Rattle.kad_base.specs.declared.plain.Contact.{Contact}
 use Rattle.kad_base.specs.declared.serial.Made.{Made}
@@ -63,12 +64,12 @@ list_of own list = record { own = own; list = list }
 with-sound : (own : Id) (S : List Contact) (c : Contact) → IsSiblings (record { own = own; list = S }) → IsSiblings (record { own = own; list = with_one (record { own = own; list = S }) c })
 with-sound own S c s = go (bytes_eq c.id.0 own.0) refl
   where
-    go : (t : Bool) → bytes_eq c.id.0 own.0 ≡ t → IsSiblings (record { own = own; list = cond t S (k_closest own 16 (S ++ c ∷ [])) })
+    go : (t : Bool) → bytes_eq c.id.0 own.0 ≡ t → IsSiblings (record { own = own; list = cond t S (k_closest own max_siblings (S ++ c ∷ [])) })
     go true e = s
-    go false e = (grows own S (k_closest own 16 (S ++ c ∷ [])) 16 c (sym e) refl s (omega arith)).0
+    go false e = (grows own S (k_closest own max_siblings (S ++ c ∷ [])) max_siblings c (sym e) refl s (omega arith)).0
 
 without-sound : (own : Id) (S : List Contact) (c : Contact) → IsSiblings (record { own = own; list = S }) → IsSiblings (record { own = own; list = without_one (record { own = own; list = S }) c })
-without-sound own S c s = (stays own S (without_one (record { own = own; list = S }) c) 16 16 c refl (s, omega arith) refl).0
+without-sound own S c s = (stays own S (without_one (record { own = own; list = S }) c) max_siblings max_siblings c refl (s, omega arith) refl).0
 
 seen-siblings : (own : Id) (S : List Contact) (c : Contact) (seen : Seen) → IsSiblings (record { own = own; list = S }) → IsSiblings (record { own = own; list = seen_siblings (record { own = own; list = S }) c seen })
 seen-siblings own S c Added s = with-sound own S c s

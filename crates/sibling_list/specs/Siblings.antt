@@ -16,14 +16,14 @@ pub record SiblingList : Type 0 where
   pub own : Id
   pub list : List Contact
 
--- none has the own identifier, at most 16 are there, and each is closer to it than those behind it
+-- none has the own identifier, they are no more than the list may have, and each is closer to it than those behind it
 pub record IsSiblings (s : SiblingList) : Type 0 where
   pub sorted : IsStrictlySortedBy (closeness s.own) s.list
   pub few : length s.list ≤ max_siblings
   pub others : All (λ (c : Contact). c.id ≢ s.own) s.list
 
--- a contact more: of those that are there and this one the 16 closest to the own identifier, which itself is never
--- among them
+-- a contact more: of those that are there and this one as many as the list may have, the closest to the own identifier,
+-- which itself is never among them
 abbrev pub with_one : SiblingList → Contact → List Contact
 with_one s c = cond (bytes_eq c.id.0 s.own.0) s.list (k_closest s.own max_siblings (s.list ++ c ∷ []))
 

@@ -1,4 +1,5 @@
-//! The siblings of a node: the 16 contacts closest to its own identifier, which answer for it (S/Kademlia, section 4.2).
+//! The siblings of a node: the contacts closest to its own identifier, at most `MAX_SIBLINGS`, which answer for it
+//! (S/Kademlia, section 4.2).
 //! After `new` it takes no memory, and it knows no bucket and no socket.
 #![tactic(auto)]
 
@@ -25,17 +26,18 @@ pub struct Siblings {
 
 impl Model for Siblings {
     ghost use Rattle.std.specs.Prelude.{◌≤◌, vec_capacity};
+    ghost use Rattle.kad_base.specs.Limits.{max_siblings};
     ghost use Rattle.sibling_list.specs.Siblings.{SiblingList, IsSiblings};
 
     ghost Value = { SiblingList };
 
     ghost view = { λ s. record { own = s.own; list = s.contacts.items } };
 
-    ghost invariant = { λ s. IsSiblings (record { own = s.own; list = s.contacts.items }) × (16 ≤ vec_capacity s.contacts) };
+    ghost invariant = { λ s. IsSiblings (record { own = s.own; list = s.contacts.items }) × (max_siblings ≤ vec_capacity s.contacts) };
 }
 
 impl Siblings {
-    /// No siblings of the node with this identifier. Takes 16 places.
+    /// No siblings of the node with this identifier. Takes all places at once.
     pub fn new(alloc: Global, own: Id) -> Result<Siblings, NoMemory>
         ensures { IfOk result (λ s. s ≡ record { own = own; list = [] }) }
     {
@@ -51,8 +53,8 @@ impl Siblings {
         self.contacts.as_slice()
     }
 
-    /// Puts a contact in its place. Where there are 17 then, the last is dropped. A contact that is there, or that has
-    /// the own identifier, changes nothing. Takes no memory.
+    /// Puts a contact in its place. Where there is one too many then, the last is dropped. A contact that is there, or
+    /// that has the own identifier, changes nothing. Takes no memory.
     pub fn insert(&mut self, contact: Contact)
         ensures own { self.new.own ≡ self.old.own }
         ensures list { self.new.list ≡ with_one self.old contact }
