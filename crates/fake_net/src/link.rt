@@ -109,6 +109,8 @@ impl ScriptLink {
 }
 
 impl Link for ScriptLink {
+    ghost kept = { λ _. tt };
+
     ghost told = { λ s. s.told };
 
     ghost moment = { λ s. s.moment };

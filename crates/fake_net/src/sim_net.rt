@@ -112,6 +112,12 @@ fn queue(
 }
 
 impl Link for SimNet {
+    ghost use Rattle.fake_net.specs.Network.{Network};
+
+    ghost Kept = { Network };
+
+    ghost kept = { λ s. s.network };
+
     ghost told = { λ s. s.told };
 
     ghost moment = { λ s. s.moment };

@@ -75,6 +75,7 @@ fn ask_one<L: Link>(
     ensures none { result ≡ false → AsksNone look.now path words.old words.new work.old work.new (L.told link.old) (L.told link.new) }
     ensures moment { L.moment link.new ≡ L.moment link.old }
     ensures recv_faults { L.recv_faults link.old ≤ L.recv_faults link.new }
+    ensures kept { L.kept link.new ≡ L.kept link.old }
 {
     let contact = match next(&mut work.book, path) {
         Some(contact) => contact,
@@ -101,6 +102,7 @@ fn ask_path<L: Link>(link: &mut L, work: &mut Work, words: &mut Words, look: &Lo
     ensures asks { Asks look.now path (path + 1) words.old words.new work.old work.new (L.told link.old) (L.told link.new) }
     ensures moment { L.moment link.new ≡ L.moment link.old }
     ensures recv_faults { L.recv_faults link.old ≤ L.recv_faults link.new }
+    ensures kept { L.kept link.new ≡ L.kept link.old }
 {
     'asking: while ask_one(link, work, words, look, path) {}
 }
@@ -112,6 +114,7 @@ pub(crate) fn ask_all<L: Link>(link: &mut L, work: &mut Work, words: &mut Words,
     ensures asks { Asks look.now 0 look.now.paths words.old words.new work.old work.new (L.told link.old) (L.told link.new) }
     ensures moment { L.moment link.new ≡ L.moment link.old }
     ensures recv_faults { L.recv_faults link.old ≤ L.recv_faults link.new }
+    ensures kept { L.kept link.new ≡ L.kept link.old }
 {
     for path in 0..look.paths {
         ask_path(link, work, words, look, path);

@@ -85,6 +85,7 @@ fn begin<L: Link>(alloc: Global, link: &mut L, table: Table, book: Book) -> Work
     ensures begun { IsBegun book table (L.moment link.new) result }
     ensures told { Grows (L.told link.old) (L.told link.new) (λ es. es ≡ Now (L.moment link.new) ∷ []) }
     ensures recv_faults { L.recv_faults link.old ≤ L.recv_faults link.new }
+    ensures kept { L.kept link.new ≡ L.kept link.old }
 {
     Work {
         book,
@@ -128,6 +129,7 @@ pub fn look_up_alone<L: Link, C: Check>(
     ensures few_at_fault { IsErrOf result.1 LookFault.LinkFault → Grows (L.told link.old) (L.told link.new) (λ events. ¬ EndsAtStray (given_of setting.now words.old) events max_strays) }
     ensures link { IsErrOf result.1 LookFault.LinkFault → Rose (L.recv_faults link.old) (L.recv_faults link.new) }
     ensures recv_faults { L.recv_faults link.old ≤ L.recv_faults link.new }
+    ensures kept { L.kept link.new ≡ L.kept link.old }
 {
     let mut table = table;
     let book = match open_book(alloc, &mut table, setting, hasher) {

@@ -107,6 +107,7 @@ pub(crate) fn receive<L: Link>(
     ensures few { IsErrOf result LookFault.LinkFault → (words : WordsState) → FewStrays look.now words work.old (L.told link.old) (L.told link.new) }
     ensures link { IsErrOf result LookFault.LinkFault → Rose (L.recv_faults link.old) (L.recv_faults link.new) }
     ensures recv_faults { L.recv_faults link.old ≤ L.recv_faults link.new }
+    ensures kept { L.kept link.new ≡ L.kept link.old }
 {
     work.book.legal();
     let until = wait_until(&work.stand, &work.queries);
@@ -148,6 +149,7 @@ pub(crate) fn receive_round<L: Link>(
     ensures few { IsErrOf result LookFault.LinkFault → (words : WordsState) → FewStrays look.now words work.old (L.told link.old) (L.told link.new) }
     ensures link { IsErrOf result LookFault.LinkFault → Rose (L.recv_faults link.old) (L.recv_faults link.new) }
     ensures recv_faults { L.recv_faults link.old ≤ L.recv_faults link.new }
+    ensures kept { L.kept link.new ≡ L.kept link.old }
 {
     receive(alloc, link, work, buf, look)?;
     'receiving: while work.stand.receives != 0 {

@@ -35,6 +35,7 @@ fn go_round<L: Link, C: Check>(
     ensures few { IsErrOf result LookFault.LinkFault → RoundFewStrays look.now words.old work.old (L.told link.old) (L.told link.new) }
     ensures link { IsErrOf result LookFault.LinkFault → Rose (L.recv_faults link.old) (L.recv_faults link.new) }
     ensures recv_faults { L.recv_faults link.old ≤ L.recv_faults link.new }
+    ensures kept { L.kept link.new ≡ L.kept link.old }
 {
     ask_all(link, work, words, look);
     if work.queries.is_empty() {
@@ -68,6 +69,7 @@ pub(crate) fn go_rounds<L: Link, C: Check>(
     ensures few { IsErrOf result LookFault.LinkFault → RoundFewStrays look.now words.old work.old (L.told link.old) (L.told link.new) }
     ensures link { IsErrOf result LookFault.LinkFault → Rose (L.recv_faults link.old) (L.recv_faults link.new) }
     ensures recv_faults { L.recv_faults link.old ≤ L.recv_faults link.new }
+    ensures kept { L.kept link.new ≡ L.kept link.old }
 {
     let mut buf = [0u8; RECEIVE_ROOM];
     'rounds: loop {

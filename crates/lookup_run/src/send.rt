@@ -31,6 +31,7 @@ pub(crate) fn send_query<L: Link>(
     ensures unsent { result ≡ false → Grows (L.told link.old) (L.told link.new) (λ es. es ≡ Unsent contact.now.addr (form (query_message look.now.kind look.now.own look.now.target tx)) ∷ []) }
     ensures moment { L.moment link.new ≡ L.moment link.old }
     ensures recv_faults { L.recv_faults link.old ≤ L.recv_faults link.new }
+    ensures kept { L.kept link.new ≡ L.kept link.old }
 {
     let mut buf = [0u8; 160];
     let len = query_into(&mut buf, look, tx);

@@ -138,6 +138,8 @@ impl<'a> StudyLink<'a> {
 }
 
 impl<'a> Link for StudyLink<'a> {
+    ghost kept = { λ _. tt };
+
     ghost told = { λ _. None };
 
     ghost moment = { λ l. l.moment };

@@ -117,6 +117,8 @@ impl<'a, R: Clock> UdpLink<'a, R> {
 }
 
 impl<'a, R: Clock> Link for UdpLink<'a, R> {
+    ghost kept = { λ _. tt };
+
     ghost told = { λ _. None };
 
     ghost moment = { λ l. l.moment };

@@ -10,6 +10,7 @@ loop-path-init g c =
       asks = asks_not c.args.look.now 0 c.args.words.now c.args.work.now _ b.keeps b.has_words b.settled (λ q lt. absurd (omega (arith, lt)));
       moment = refl;
       faults = omega arith;
+      kept = refl;
     }
 
 pub loop-path-preserved : goal.loop-path-preserved
@@ -20,6 +21,7 @@ loop-path-preserved g c =
       asks = asks_then c.args.look.now 0 p (p + 1) c.args.words.now c.loop-path.words c.ask_path.new.words c.args.work.now c.loop-path.work c.ask_path.new.work _ _ _ i.asks c.ask_path.ensures.asks;
       moment = c.ask_path.ensures.moment ∙ i.moment;
       faults = (let a = i.faults in let b = c.ask_path.ensures.recv_faults in omega (arith, a, b));
+      kept = c.ask_path.ensures.kept ∙ i.kept;
     }
 
 pub ask_path-requires-clause-round_over : goal.ask_path-requires-clause-round_over

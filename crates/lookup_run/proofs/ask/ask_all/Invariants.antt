@@ -7,4 +7,5 @@ invariant-loop-path g l = record {
   asks : Asks l.look 0 l.path l.fn.words l.words l.fn.work l.work (g.L.Link.told l.fn.link) (g.L.Link.told l.link);
   moment : g.L.Link.moment l.link ≡ g.L.Link.moment l.fn.link;
   faults : g.L.Link.recv_faults l.fn.link ≤ g.L.Link.recv_faults l.link;
+  kept : g.L.Link.kept l.link ≡ g.L.Link.kept l.fn.link;
 }

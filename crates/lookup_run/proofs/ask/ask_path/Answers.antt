@@ -10,6 +10,7 @@ asking-preserved g c =
       asks = asks_then c.args.look.now p p p c.args.words.now c.asking.words c.ask_one.new.words c.args.work.now c.asking.work c.ask_one.new.work _ _ _ i.asks (c.asking-test.ensures.some refl);
       moment = c.ask_one.ensures.moment ∙ i.moment;
       faults = (let a = i.faults in let b = c.ask_one.ensures.recv_faults in omega (arith, a, b));
+      kept = c.ask_one.ensures.kept ∙ i.kept;
     }
 
 pub returns-clause-asks : goal.returns-clause-asks

@@ -11,6 +11,7 @@ receiving-preserved g c = record {
   room = search rules;
   moment = search rules;
   faults = search rules;
+  kept = search rules;
 }
 
 pub returns-in_err-receive-2-clause-stops : goal.returns-in_err-receive-2-clause-stops

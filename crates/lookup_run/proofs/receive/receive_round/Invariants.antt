@@ -8,6 +8,7 @@ invariant-receiving g l = record {
   room : length l.buf ≡ 4097;
   moment : g.L.Link.moment l.link ≡ l.work.stand.moment;
   faults : g.L.Link.recv_faults l.fn.link ≤ g.L.Link.recv_faults l.link;
+  kept : g.L.Link.kept l.link ≡ g.L.Link.kept l.fn.link;
 }
 
 abbrev pub decreases-receiving : goal.decreases-receiving

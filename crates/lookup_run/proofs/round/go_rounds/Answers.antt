@@ -1,4 +1,4 @@
-use Rattle.std.proofs.Common.{◌≡◌, Err, refl, arith, ap, rules}
+use Rattle.std.proofs.Common.{◌≡◌, ◌∙◌, Err, refl, arith, ap, rules}
 use Rattle.lookup_run.specs.declared.plain.LookFault.TheVariants.{Strays, LinkFault}
 use Rattle.lookup_run.proofs.Rounding.{rounds_none, rounds_then, rounds_over, rounds_stop, rounds_stray, rounds_few}
 use Rattle.lookup_run.proofs.round.go_rounds.Goals as goal
@@ -9,6 +9,7 @@ rounds-init g c = record {
   moment = c.requires.moment;
   room = refl;
   faults = omega arith;
+  kept = refl;
 }
 
 pub rounds-preserved : goal.rounds-preserved
@@ -19,6 +20,7 @@ rounds-preserved g c =
       moment = c.in-Ok-true.ensures.moment;
       room = search rules;
       faults = (let a = i.faults in let b = c.go_round.ensures.recv_faults in omega (arith, a, b));
+      kept = c.go_round.ensures.kept ∙ i.kept;
     }
 
 pub returns-in-Ok-false-clause-over : goal.returns-in-Ok-false-clause-over

@@ -9,6 +9,7 @@ invariant-rounds g l = record {
   moment : g.L.Link.moment l.link ≡ l.work.stand.moment;
   room : length l.buf ≡ 4097;
   faults : g.L.Link.recv_faults l.fn.link ≤ g.L.Link.recv_faults l.link;
+  kept : g.L.Link.kept l.link ≡ g.L.Link.kept l.fn.link;
 }
 
 abbrev pub decreases-rounds : goal.decreases-rounds
