@@ -9,7 +9,7 @@ ghost use Rattle.node_top.specs.Started.{IsInRange};
 ghost use Rattle.node_top.specs.Shown.{shown};
 
 use crate::input::{admitted, read_reports};
-use crate::start::{setting_for, table_of};
+use crate::start::{FIRST_TX, setting_for, table_of};
 use crate::status::Status;
 use id_puzzles::Words;
 use kad_base::{Check, Contacts, Id, Link, Policy, Source};
@@ -17,9 +17,6 @@ use kad_words::LookWords;
 use lookup_run::{AskKind, LookFault, Outcome, look_up_alone};
 use std::alloc::Global;
 use std::hash::RandomState;
-
-/// The place of the first drawn word that is a transaction id: those before it are the node's identifier.
-const FIRST_TX: u64 = 5;
 
 /// What a lookup found, and the words from which its transaction ids were drawn, as far as they were.
 #[derive(Drop)]

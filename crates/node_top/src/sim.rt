@@ -8,7 +8,7 @@ ghost use Rattle.node_top.specs.Simulated.{network_of, look_to, IsSimulable, rep
 
 use crate::input::admitted;
 use crate::printed::add_line;
-use crate::start::{setting_for, table_of};
+use crate::start::{FIRST_TX, setting_for, table_of};
 use crate::status::Status;
 use contact_table::Table;
 use fake_net::SimNet;
@@ -18,9 +18,6 @@ use kad_words::LookWords;
 use lookup_run::{AskKind, LookSetting, Outcome, look_up_alone};
 use std::alloc::{AllocError, Global};
 use std::hash::RandomState;
-
-/// The place of the first drawn word that is a transaction id: those before it are the node's identifier.
-const FIRST_TX: u64 = 5;
 
 /// What a network is made from, and how is looked up in it.
 #[derive(Clone, Copy, Debug)]

@@ -14,6 +14,9 @@ use std::alloc::Global;
 /// The role of the driver of a lookup, which tells the table.
 const DRIVER: u8 = 0;
 
+/// The place of the first drawn word that is a transaction id: those before it are the node's identifier.
+pub(crate) const FIRST_TX: u64 = 5;
+
 /// The node's own identifier: the one of the words, or the first drawn bytes.
 pub(crate) fn own_id(own: Option<Id>, random: &[u8; 32]) -> Id
     ensures { result ≡ own_of own random.now }

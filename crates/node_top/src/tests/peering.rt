@@ -3,6 +3,7 @@
 use crate::tests::script::link_from;
 use crate::tests::{LINE_1, lines, play, sent, shows};
 use fake_net::ScriptLink;
+use std::alloc::Global;
 use std::test::Fail;
 
 /// A search for peers of the key of zeros by the node of ones, on one path.
@@ -16,46 +17,14 @@ const PEERS: &[&str] = &[
     "1",
 ];
 
-/// The same, which announces the port 6882.
-const ANNOUNCE: &[&str] = &[
-    "peers",
-    "--key",
-    "0000000000000000000000000000000000000000",
-    "--own",
-    "ffffffffffffffffffffffffffffffffffffffff",
-    "--paths",
-    "1",
-    "--announce",
-    "6882",
-];
+/// Further words: the port 6882 is announced.
+const ANNOUNCE: &[&str] = &["--announce", "6882"];
 
-/// The same, which announces the port that the datagram comes from.
-const IMPLY: &[&str] = &[
-    "peers",
-    "--key",
-    "0000000000000000000000000000000000000000",
-    "--own",
-    "ffffffffffffffffffffffffffffffffffffffff",
-    "--paths",
-    "1",
-    "--announce",
-    "0",
-];
+/// Further words: the port that the datagram comes from is announced.
+const IMPLY: &[&str] = &["--announce", "0"];
 
-/// The same as the one with port 6882, which looks for one contact.
-const ONE_FOUND: &[&str] = &[
-    "peers",
-    "--key",
-    "0000000000000000000000000000000000000000",
-    "--own",
-    "ffffffffffffffffffffffffffffffffffffffff",
-    "--paths",
-    "1",
-    "--announce",
-    "6882",
-    "--k",
-    "1",
-];
+/// Further words: the port 6882 is announced, and one contact is looked for.
+const ONE_FOUND: &[&str] = &["--announce", "6882", "--k", "1"];
 
 /// The peers of the answers of contacts 1 and 2.
 const THREE_PEERS: &str =
@@ -102,15 +71,24 @@ const THIRD: &[u8] =
 const FOURTH: &[u8] =
     b"d1:ad2:id20:\xff\xff\xff\xff\xff\xff\xff\xff\xff\xff\xff\xff\xff\xff\xff\xff\xff\xff\xff\xff9:info_hash20:\0\0\0\0\0\0\0\0\0\0\0\0\0\0\0\0\0\0\0\x004:porti6882e5:token3:abce1:q13:announce_peer2:roi1e1:t4:\xda\x41\x59\x7c1:y1:qe";
 
-/// The datagrams that the command sends over the link where it ends well with this text.
+/// The words of the search, and further ones.
+fn search(alloc: Global, further: &[&'static str]) -> Result<Vec<&'static str>, Fail> {
+    let mut words = Vec::new(alloc);
+    words.extend_from_slice(PEERS)?;
+    words.extend_from_slice(further)?;
+    Ok(words)
+}
+
+/// The datagrams that the search with these further words sends over the link where it ends well with this text.
 fn sends(
     rt: &HostRuntime,
-    texts: &[&str],
+    further: &[&'static str],
     input: &str,
     link: ScriptLink,
     text: &str,
 ) -> Result<Vec<Vec<u8>>, Fail> {
-    let played = play(rt, texts, input, link)?;
+    let words = search(rt.alloc(), further)?;
+    let played = play(rt, words.as_slice(), input, link)?;
     if played.status != 0 {
         return Err(Fail::new("another status"));
     }
@@ -132,7 +110,7 @@ fn is_at(sent: &[Vec<u8>], place: usize, wanted: &[u8]) -> bool {
 fn a_peer_is_printed(rt: HostRuntime) -> Result<(), Fail> {
     let link = link_from(rt.alloc(), &[(1, ONE_PEER)], &[])?;
     let text = "127.0.0.1:6881\npeers 1 found 1 asked 1 failed 0 turned 0 announced 0\n";
-    let sent = sends(&rt, PEERS, LINE_1, link, text)?;
+    let sent = sends(&rt, &[], LINE_1, link, text)?;
     assert_eq!(rt; sent.len(), 1);
     assert!(rt; is_at(&sent, 0, QUERY));
     Ok(())
