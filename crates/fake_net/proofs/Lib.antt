@@ -7,3 +7,5 @@ pub mod Choosing
 pub mod Answering
 pub mod Asking
 pub mod Nexts
+pub mod Playing
+pub mod Answered

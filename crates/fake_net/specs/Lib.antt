@@ -4,3 +4,4 @@ pub mod Network
 pub mod Replies
 pub mod Queue
 pub mod Counting
+pub mod Plays

@@ -6,6 +6,7 @@ ghost use Rattle.kad_distance.specs.KClosest.{k_closest};
 ghost use Rattle.fake_net.specs.Network.{own_of, target_of, node, honest};
 ghost use Rattle.fake_net.specs.Replies.{BringsAbout};
 ghost use Rattle.fake_net.specs.Queue.{Gets, QueuedBy};
+ghost use Rattle.fake_net.specs.Plays.{Plays};
 
 use crate::nodes::Nodes;
 use crate::replies::answer;
@@ -28,11 +29,16 @@ pub struct SimNet {
 }
 
 impl Model for SimNet {
+    ghost use Rattle.std.specs.Prelude.{IfSome};
     ghost use Rattle.fake_net.specs.Queue.{SimState};
+    ghost use Rattle.fake_net.specs.Plays.{PlaysTo};
 
     ghost Value = { SimState };
 
     ghost view = { λ s. record { network = s.nodes; moment = s.moment; told = s.told; waiting = s.waiting.items } };
+
+    // What it tells is what its network plays.
+    ghost invariant = { λ s. IfSome s.told (λ events. PlaysTo s.nodes events s.moment s.waiting.items) };
 }
 
 impl SimNet {
@@ -83,9 +89,10 @@ impl SimNet {
         self.nodes.closest_honest(self.alloc, target, k)
     }
 
-    /// Whether it ran out of memory. Takes none.
+    /// Whether it ran out of memory. Takes none. What it tells is what its network plays.
     pub fn short(&self) -> bool
-        ensures { IsTrue result ↔ (self.now.told ≡ None) }
+        ensures short { IsTrue result ↔ (self.now.told ≡ None) }
+        ensures plays { IfSome self.now.told (Plays self.now.network) }
     {
         self.told.is_none()
     }
@@ -157,11 +164,13 @@ impl Link for SimNet {
             bytes,
         );
         let told = self.told.take();
-        self.told = match queued {
-            Ok(()) => telling_sent(self.alloc, told, to, bytes),
-            Err(_) => None,
-        };
-        Ok(())
+        match queued {
+            Ok(()) => {
+                self.told = telling_sent(self.alloc, told, to, bytes);
+                Ok(())
+            }
+            Err(_) => Ok(()),
+        }
     }
 
     /// Never fails. Gives the answer that comes first, where it comes at or before `until`, cut to the buffer; of two that
