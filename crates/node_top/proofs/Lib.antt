@@ -17,3 +17,4 @@ pub mod Announcing
 pub mod Reaching
 pub mod Peering
 pub mod Simulating
+pub mod Unstrayed

@@ -1,6 +1,6 @@
 -- From a lookup in a network to what `sim` makes.
 use Rattle.std.proofs.Common.{◌≡◌, ℕ, List, [], ◌++◌, length, Option, Some, None, refl, sym, ap, subst, ◌∙◌, arith}
-use Rattle.std.specs.Prelude.{min, map, codes, decimal}
+use Rattle.std.specs.Prelude.{min, map, codes, decimal, IfSome}
 use Rattle.std.specs.List.{All}
 use Rattle.std.proofs.lemmas.List.{append_assoc}
 use Rattle.kad_base.specs.declared.plain.Id.{Id}
@@ -12,6 +12,7 @@ use Rattle.kad_base.specs.Contacts.{IsUsable}
 use Rattle.kad_base.specs.Outside.{Grows}
 use Rattle.kad_distance.specs.KClosest.{k_closest}
 use Rattle.fake_net.specs.Network.{Network, numbers, target_of, honest}
+use Rattle.fake_net.specs.Plays.{Plays}
 use Rattle.id_puzzles.specs.Drawn.{WordsState}
 use Rattle.contact_table.specs.TableState.{TableState}
 use Rattle.contact_table.specs.TableStep.{contacts_of}
@@ -92,11 +93,11 @@ sim_usable s start b =
     (usable_told own s.k 1 b.contacts start.table (admits_usable own Plain (first_nodes s) b.contacts b.admits) b.told)
 
 simulates_at : (s : Simulation) (left : WordsState) (contacts : List Contact) (table : TableState) (near : List Contact) (o : Outcome) (events : List Event) (text : List ℕ)
-    → Admits (own_of None s.seed) Plain (first_nodes s) contacts → StartsWith (sim_look s) s.seed contacts table → near ≡ sought_in s
+    → Admits (own_of None s.seed) Plain (first_nodes s) contacts → StartsWith (sim_look s) s.seed contacts table → near ≡ sought_in s → Plays (network_of s) events
     → LooksUp (look_of FindNode (sim_look s) s.seed) table (drawn_of s.seed) left (Some []) (Some events) o
     → Grows (Some []) (Some events) (λ events. Rounds (lookup_of FindNode (sim_look s) s.seed) o.journal events)
     → text ≡ line_of (sim_text (length o.found) o.counts.asked o.counts.failed o.counts.turned (count_among near o.found)) → Simulates s text
-simulates_at s left contacts table near o events text admits told near_is up rounds is =
+simulates_at s left contacts table near o events text admits told near_is plays up rounds is =
     let R = result_of (book_of FindNode (sim_look s) s.seed) o.journal in
     record {
       contacts = contacts;
@@ -104,6 +105,7 @@ simulates_at s left contacts table near o events text admits told near_is up rou
       table = table;
       told = told;
       events = events;
+      plays = plays;
       journal = o.journal;
       legal = up.legal;
       seeds_are = up.seeds_are;
@@ -120,14 +122,14 @@ simulates_at s left contacts table near o events text admits told near_is up rou
     }
 
 -- the same over the values that the code has
-pub simulates : (s : Simulation) (start : Start) (words left : WordsState) (o : Outcome) (before after : Option (List Event)) (text : List ℕ)
-    → Begins s start → words ≡ drawn_of s.seed → before ≡ Some [] → (after ≡ None → ⊥)
+pub simulates : (s : Simulation) (start : Start) (words left : WordsState) (o : Outcome) (net : Network) (before after : Option (List Event)) (text : List ℕ)
+    → Begins s start → words ≡ drawn_of s.seed → net ≡ network_of s → before ≡ Some [] → (after ≡ None → ⊥) → IfSome after (Plays net)
     → LooksUp start.setting start.table words left before after o → Grows before after (λ events. Rounds (given_of start.setting words) o.journal events)
     → text ≡ line_of (sim_text (length o.found) o.counts.asked o.counts.failed o.counts.turned (count_among start.near o.found)) → Simulates s text
-simulates s start words left o before None text begun f began goes_on up rounds is = absurd (goes_on refl)
-simulates s start words left o before (Some events) text begun f began goes_on up rounds is =
+simulates s start words left o net before None text begun f net_is began goes_on plays up rounds is = absurd (goes_on refl)
+simulates s start words left o net before (Some events) text begun f net_is began goes_on plays up rounds is =
     let setting = look_of FindNode (sim_look s) s.seed in
-    simulates_at s left begun.contacts start.table start.near o events text begun.admits begun.told begun.near_is
+    simulates_at s left begun.contacts start.table start.near o events text begun.admits begun.told begun.near_is (subst (λ (n : Network). Plays n events) net_is plays)
     (subst (λ (st : LookSetting). LooksUp st start.table (drawn_of s.seed) left (Some []) (Some events) o) begun.setting_is
     (subst (λ (w : WordsState). LooksUp start.setting start.table w left (Some []) (Some events) o) f
     (subst (λ (b : Option (List Event)). LooksUp start.setting start.table words left b (Some events) o) began up)))

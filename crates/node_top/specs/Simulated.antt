@@ -11,6 +11,7 @@ use Rattle.kad_base.specs.Limits.{max_k, max_paths, max_alpha}
 use Rattle.kad_base.specs.Outside.{Grows}
 use Rattle.kad_distance.specs.KClosest.{k_closest}
 use Rattle.fake_net.specs.Network.{Network, numbers, node, target_of, honest}
+use Rattle.fake_net.specs.Plays.{Plays}
 use Rattle.contact_table.specs.TableState.{TableState}
 use Rattle.claim_book.specs.declared.plain.Entry.{Entry}
 use Rattle.claim_book.specs.Journal.{seeds, asked, failed, turned}
@@ -95,14 +96,16 @@ pub record Begins (s : Simulation) (start : Start) : Type 0 where
   pub told : StartsWith (sim_look s) s.seed contacts start.table
 
 -- A lookup in the network. The table is told of its first nodes, in order, but for one with the identifier of the node that
--- looks up; the journal is legal and begins with the k closest of that table; the network tells all that happened, from its
--- first event on, and that tells the journal and goes by rounds; every path has run out; and the line is the journal's.
+-- looks up; the journal is legal and begins with the k closest of that table; the events, from the first on, are those
+-- that this network plays, and they tell the journal and go by rounds; every path has run out; and the line is the
+-- journal's.
 pub record Simulates (s : Simulation) (text : List ℕ) : Type 0 where
   pub contacts : List Contact
   pub admits : Admits (own_of None s.seed) Plain (first_nodes s) contacts
   pub table : TableState
   pub told : StartsWith (sim_look s) s.seed contacts table
   pub events : List Event
+  pub plays : Plays (network_of s) events
   pub journal : List Entry
   pub legal : Legal (book_of FindNode (sim_look s) s.seed) journal
   pub seeds_are : seeds journal ≡ seeds_in (look_of FindNode (sim_look s) s.seed) table

@@ -15,7 +15,7 @@ use fake_net::SimNet;
 use id_puzzles::Words;
 use kad_base::{Bytes, Check, Contact, Contacts, Id, List, NoMemory, Policy, Report, Reports};
 use kad_words::LookWords;
-use lookup_run::{AskKind, LookSetting, Outcome, look_up_alone};
+use lookup_run::{AskKind, LookFault, LookSetting, Outcome, look_up_alone};
 use std::alloc::{AllocError, Global};
 use std::hash::RandomState;
 
@@ -164,8 +164,8 @@ fn begin<C: Check>(
 }
 
 /// Looks the network's target up from its first k nodes, or from all where there are fewer, and makes the line of what was
-/// found. Nothing is written yet. The network never fails and gives one datagram a query at most, so that only want of
-/// memory ends it early. A network that is short has lost events, and so gives no line.
+/// found. Nothing is written yet. The network never fails, and gives fewer datagrams than a lookup takes strays, so that
+/// only want of memory ends it early. A network that is short has lost events, and so gives no line.
 pub(crate) fn sim<C: Check>(
     alloc: Global,
     simulation: &Simulation,
@@ -195,6 +195,8 @@ pub(crate) fn sim<C: Check>(
     }
     match ended {
         Ok(outcome) => Ok(line_for(alloc, &outcome, near.as_slice())?),
-        Err(_) => Err(Status::NoMemory),
+        Err(LookFault::NoMemory) => Err(Status::NoMemory),
+        Err(LookFault::LinkFault) => unreachable!(),
+        Err(LookFault::Strays) => unreachable!(),
     }
 }
