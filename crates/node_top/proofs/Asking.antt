@@ -30,42 +30,10 @@ command_asks words command h b =
     let first : word_of command ≡ plain.command = (let e = h.begins in let f = plain.begins in cc) in
     record { plain = plain; is_built = subst (λ (w : Word). Contains built w) first b }
 
-pub asks_built : (words : List Word) (command : Command) → CommandOf words command → Asks words → Contains built (word_of command)
-asks_built words command h asks = command_built words command h (asks_begins words asks)
-
--- ---- the commands that are built
-
-built_word : (w : Word) → Contains built w → (lookup ≡ w) ⊎ ((check ≡ w) ⊎ ((mint ≡ w) ⊎ ((peers ≡ w) ⊎ (sim ≡ w))))
-built_word w h = go h.0 h.1 h.2
-  where
-    go : (k : ℕ) → k < 5 → slice_index_or built k w ≡ w → (lookup ≡ w) ⊎ ((check ≡ w) ⊎ ((mint ≡ w) ⊎ ((peers ≡ w) ⊎ (sim ≡ w))))
-    go zero lt e = inl e
-    go (suc zero) lt e = inr (inl e)
-    go (suc (suc zero)) lt e = inr (inr (inl e))
-    go (suc (suc (suc zero))) lt e = inr (inr (inr (inl e)))
-    go (suc (suc (suc (suc zero)))) lt e = inr (inr (inr (inr e)))
-    go (suc (suc (suc (suc (suc k))))) lt e = absurd (omega arith)
+-- ---- the commands that take a link
 
 differ : (a w : Word) → bytes_eq a w ≡ false → a ≡ w → bytes_eq a a ≡ true → ⊥
 differ a w no_ e same = true≢false (sym same ∙ ap (bytes_eq a) e ∙ no_)
-
-other_word : (w : Word) → bytes_eq lookup w ≡ false → bytes_eq check w ≡ false → bytes_eq mint w ≡ false → bytes_eq peers w ≡ false
-    → bytes_eq sim w ≡ false → Contains built w → ⊥
-other_word w a b d f g h = elim (built_word w h) [
-  | inl e ↦ differ lookup w a e refl
-  | inr more ↦ elim more [
-    | inl e ↦ differ check w b e refl
-    | inr rest ↦ elim rest [
-      | inl e ↦ differ mint w d e refl
-      | inr last ↦ elim last [ inl e ↦ differ peers w f e refl | inr e ↦ differ sim w g e refl ]
-    ]
-  ]
-]
-
-pub serve_not : (own : Option Id) (k bits : ℕ) (policy : Policy) (receives : ℕ) → Contains built (word_of (Serve own k bits policy receives)) → ⊥
-serve_not own k bits policy receives h = other_word serve refl refl refl refl refl h
-
--- ---- the commands that take a link
 
 link_word : (w : Word) → Contains links w → (lookup ≡ w) ⊎ ((peers ≡ w) ⊎ (serve ≡ w))
 link_word w h = go h.0 h.1 h.2
@@ -96,6 +64,12 @@ lookup_links words look h none_ = none_ (subst TakesLink (sym h.begins) (0, lit<
 
 pub peers_links : (words : List Word) (look : LookWords) (announce : Option ℕ) → CommandOf words (Peers look announce) → (TakesLink words → ⊥) → ⊥
 peers_links words look announce h none_ = none_ (subst TakesLink (sym h.begins) (1, lit< tt, refl))
+
+pub serve_links : (words : List Word) (own : Option Id) (k bits : ℕ) (policy : Policy) (receives : ℕ) → CommandOf words (Serve own k bits policy receives) → (TakesLink words → ⊥) → ⊥
+serve_links words own k bits policy receives h none_ = none_ (subst TakesLink (sym h.begins) (2, lit< tt, refl))
+
+pub serve_asks : (words : List Word) (own : Option Id) (k bits : ℕ) (policy : Policy) (receives : ℕ) → CommandOf words (Serve own k bits policy receives) → Asks words
+serve_asks words own k bits policy receives h = command_asks words (Serve own k bits policy receives) h (5, lit< tt, refl)
 
 pub peers_asks : (words : List Word) (look : LookWords) (announce : Option ℕ) → CommandOf words (Peers look announce) → Asks words
 peers_asks words look announce h = command_asks words (Peers look announce) h (3, lit< tt, refl)
@@ -130,7 +104,17 @@ pub plain_alone : (words : List Word) (command : Command) → CommandOf words co
     → ((seed : Option (List ℕ)) (nodes hostile k paths alpha timeout : ℕ) → command ≡ Sim seed nodes hostile k paths alpha timeout → ⊥) → AsksPlain words → ⊥
 plain_alone words (Lookup look) c none_ no_check no_mint no_sim h = lookup_links words look c none_
 plain_alone words (Peers look announce) c none_ no_check no_mint no_sim h = peers_links words look announce c none_
-plain_alone words (Serve own k bits policy receives) c none_ no_check no_mint no_sim h = serve_not own k bits policy receives (asks_built words (Serve own k bits policy receives) c h.asks)
+plain_alone words (Serve own k bits policy receives) c none_ no_check no_mint no_sim h = serve_links words own k bits policy receives c none_
 plain_alone words (Check policy) c none_ no_check no_mint no_sim h = no_check policy refl
 plain_alone words (Mint seed c1 c2 tries) c none_ no_check no_mint no_sim h = no_mint seed c1 c2 tries refl
 plain_alone words (Sim seed nodes hostile k paths alpha timeout) c none_ no_check no_mint no_sim h = no_sim seed nodes hostile k paths alpha timeout refl
+
+-- a command that takes a link is one of those that are built with one
+pub linked_alone : (words : List Word) (command : Command) → CommandOf words command → TakesLink words → ((look : LookWords) → command ≡ Lookup look → ⊥) → ((look : LookWords) (announce : Option ℕ) → command ≡ Peers look announce → ⊥)
+    → ((own : Option Id) (k bits : ℕ) (policy : Policy) (receives : ℕ) → command ≡ Serve own k bits policy receives → ⊥) → ⊥
+linked_alone words (Lookup look) c takes no_lookup no_peers no_serve = no_lookup look refl
+linked_alone words (Peers look announce) c takes no_lookup no_peers no_serve = no_peers look announce refl
+linked_alone words (Serve own k bits policy receives) c takes no_lookup no_peers no_serve = no_serve own k bits policy receives refl
+linked_alone words (Check policy) c takes no_lookup no_peers no_serve = check_links words policy c takes
+linked_alone words (Mint seed c1 c2 tries) c takes no_lookup no_peers no_serve = mint_links words seed c1 c2 tries c takes
+linked_alone words (Sim seed nodes hostile k paths alpha timeout) c takes no_lookup no_peers no_serve = sim_links words seed nodes hostile k paths alpha timeout c takes

@@ -17,16 +17,17 @@ use Rattle.node_top.specs.declared.status.Status.TheVariants.{Usage, BadLine, Li
 use Rattle.node_top.specs.Asked.{Asks}
 use Rattle.node_top.specs.Shown.{Shown, HasFailed}
 use Rattle.node_top.specs.Input.{ReadsTooMuch, HasBadLine}
+use Rattle.node_top.specs.Served.{ServeBegun, ServeCause}
 use Rattle.node_top.specs.Started.{Start}
 use Rattle.node_top.specs.Looked.{Begun, LookCause, ReportsCause, InputCause, EndsByStrays}
 use Rattle.node_top.specs.Peered.{PeersBegun}
 use Rattle.node_top.specs.Minted.{seed_of, MintCause, FindsNothing}
 use Rattle.node_top.specs.Plainly.{PlainText, HasPlainText, HasPlainCause, ReadsInput, HasNothing, ReadsWell}
-use Rattle.node_top.specs.Commands.{Sought, Seeks, SeeksWell, Needs, GoesWell, TextOf, HasText, HasNoSeeds, HasSeeds, HasStrays, HasFewStrays, HasBegun, HasCause, IsDone}
+use Rattle.node_top.specs.Commands.{Sought, Seeks, SeeksWell, ServesWell, Needs, GoesWell, TextOf, HasText, service_of, HasStart, HasNoSeeds, HasSeeds, HasStrays, HasFewStrays, HasBegun, HasCause, IsDone}
 use Rattle.node_top.specs.Endings.{number_of, EndsEarly, OrNoMemory, Names, CutShort}
 use Rattle.node_top.specs.Written.{IsFront}
-use Rattle.node_top.proofs.Asking.{sim_asks, check_asks, mint_asks}
-use Rattle.node_top.proofs.Exactly.{all_few, unread_few, few_not_much, unread_not_bad, lists_not_bad, same_sought, not_sought, seeds_not_none, seeds_not_bad, none_not_bad, seeds_few, seeks_asks, nothing_asks, mint_not_sought, mint_not_input, check_not_nothing, sim_not_nothing, sim_not_input, few_not_last, unasked_not_last, minted_not_nothing, mint_not_nothing}
+use Rattle.node_top.proofs.Asking.{sim_asks, check_asks, mint_asks, serve_asks}
+use Rattle.node_top.proofs.Exactly.{all_few, unread_few, few_not_much, unread_not_bad, lists_not_bad, same_sought, not_sought, not_started, started_by, start_not_bad, start_not_none, start_few, few_for, serve_not_nothing, seeds_not_none, seeds_not_bad, none_not_bad, seeds_few, seeks_asks, nothing_asks, mint_not_sought, mint_not_input, check_not_nothing, sim_not_nothing, sim_not_input, few_not_last, unasked_not_last, minted_not_nothing, mint_not_nothing}
 
 -- ---- from what a command's own module says
 
@@ -54,12 +55,21 @@ begun_by words random source link look c b = record { command = Lookup look; ask
 pub peers_begun_by : (words : List Word) (random : List ℕ) (source : Shown ℕ) (link : Shown Event) (look : LookWords) (announce : Option ℕ) → CommandOf words (Peers look announce) → PeersBegun look announce random source link → HasBegun words random source link
 peers_begun_by words random source link look announce c b = record { command = Peers look announce; asked = c; begun = b }
 
+pub serve_reads : (words : List Word) (own : Option Id) (k bits : ℕ) (policy : Policy) (receives : ℕ) → CommandOf words (Serve own k bits policy receives) → ReadsInput words
+serve_reads words own k bits policy receives c = record { command = Serve own k bits policy receives; asked = c; reads = tt }
+
+pub serve_begun_by : (words : List Word) (random : List ℕ) (source : Shown ℕ) (link : Shown Event) (own : Option Id) (k bits : ℕ) (policy : Policy) (receives : ℕ) → CommandOf words (Serve own k bits policy receives) → ServeBegun (service_of own k bits policy receives) random source link → HasBegun words random source link
+serve_begun_by words random source link own k bits policy receives c b = record { command = Serve own k bits policy receives; asked = c; begun = b }
+
+has_start : (words : List Word) (random : List ℕ) (source : Shown ℕ) (sought : Sought) → Seeks words sought → Start sought.look random source → HasStart words random source
+has_start words random source sought c s = record { command = c.command; asked = c.asked; started = started_by c.command sought random source c.looks (record { contacts = s.contacts; reads = s.reads; some_one = s.some_one }) }
+
 -- the cause of a lookup is that of the command that asked for it
 seek_cause : (words : List Word) (sought : Sought) (random : List ℕ) (source : Shown ℕ) (link : Shown Event) (status : Status) → Seeks words sought → ReadsInput words
     → (Begun sought.kind sought.look random source link → HasBegun words random source link) → LookCause sought.kind sought.look random source link status → HasCause words random source link status
 seek_cause words sought random source link Usage seeks input begun h = absurd h
 seek_cause words sought random source link (BadLine line) seeks input begun h = (input, h)
-seek_cause words sought random source link LinkFault seeks input begun h = (h.0, start_seeds words random source sought seeks h.1.start, begun h.1, record { sought = sought; seeks = seeks; few = h.2 })
+seek_cause words sought random source link LinkFault seeks input begun h = (h.0, has_start words random source sought seeks h.1.start, begun h.1, few_for words random link sought seeks h.2)
 seek_cause words sought random source link SourceFault seeks input begun h = (input, h.0, h.1)
 seek_cause words sought random source link Strays seeks input begun h = (record { sought = sought; seeks = seeks; ends = h.0 }, start_seeds words random source sought seeks h.1.start, begun h.1)
 seek_cause words sought random source link NoSeeds seeks input begun h = record { sought = sought; seeks = seeks; reads = h }
@@ -73,6 +83,18 @@ cause_of words look random source link status c h = seek_cause words (record { k
 pub peers_cause_of : (words : List Word) (look : LookWords) (announce : Option ℕ) (random : List ℕ) (source : Shown ℕ) (link : Shown Event) (status : Status) → CommandOf words (Peers look announce) → LookCause GetPeers look random source link status → HasCause words random source link status
 peers_cause_of words look announce random source link status c h =
     seek_cause words (record { kind = GetPeers; look = look }) random source link status (peers_seeks words look announce c) (peers_reads words look announce c) (λ begun. peers_begun_by words random source link look announce c (inl begun)) h
+
+-- that of a node that serves too
+pub serve_cause_of : (words : List Word) (own : Option Id) (k bits : ℕ) (policy : Policy) (receives : ℕ) (random : List ℕ) (source : Shown ℕ) (link : Shown Event) (status : Status) → CommandOf words (Serve own k bits policy receives) → ServeCause (service_of own k bits policy receives) random source link status → HasCause words random source link status
+serve_cause_of words own k bits policy receives random source link Usage c h = absurd h
+serve_cause_of words own k bits policy receives random source link (BadLine line) c h = (serve_reads words own k bits policy receives c, h)
+serve_cause_of words own k bits policy receives random source link LinkFault c h = (h.0, record { command = Serve own k bits policy receives; asked = c; started = record { reports = h.1.hosts.reports; lists = h.1.hosts.lists } }, serve_begun_by words random source link own k bits policy receives c h.1, (λ sought s. absurd (not_sought words (Serve own k bits policy receives) sought c refl s)))
+serve_cause_of words own k bits policy receives random source link SourceFault c h = (serve_reads words own k bits policy receives c, h.0, h.1)
+serve_cause_of words own k bits policy receives random source link Strays c h = absurd h
+serve_cause_of words own k bits policy receives random source link NoSeeds c h = absurd h
+serve_cause_of words own k bits policy receives random source link NoMemory c h = tt
+serve_cause_of words own k bits policy receives random source link Unminted c h = absurd h
+serve_cause_of words own k bits policy receives random source link TooLong c h = (serve_reads words own k bits policy receives c, h)
 
 -- why an input gave no contacts, where it gave no reports
 pub input_cause_of : (own : Id) (policy : Policy) (source : Shown ℕ) (status : Status) → ReportsCause source status → InputCause own policy source status
@@ -133,7 +155,7 @@ linked_cause words random source link TooLong n c = c
 text_linked : (random : List ℕ) (source : Shown ℕ) (link : Shown Event) (text : List ℕ) (command : Command) → PlainText command random source text → TextOf command random source link text
 text_linked random source link text (Lookup look) t = absurd t
 text_linked random source link text (Peers look announce) t = absurd t
-text_linked random source link text (Serve own k bits policy receives) t = t
+text_linked random source link text (Serve own k bits policy receives) t = absurd t
 text_linked random source link text (Check policy) t = t
 text_linked random source link text (Mint seed c1 c2 tries) t = t
 text_linked random source link text (Sim seed nodes hostile k paths alpha timeout) t = t
@@ -174,11 +196,18 @@ found_seeds words random source link s few = record {
 found_by : (words : List Word) (random : List ℕ) (source : Shown ℕ) (link : Shown Event) (text : List ℕ) (command : Command) → CommandOf words command → TextOf command random source link text → Found words random source link
 found_by words random source link text (Lookup look) h t =
     found_seeds words random source link (start_seeds words random source (record { kind = FindNode; look = look }) (lookup_seeks words look h) t.ran.start)
-    (record { sought = record { kind = FindNode; look = look }; seeks = lookup_seeks words look h; few = t.few_strays })
+    (few_for words random link (record { kind = FindNode; look = look }) (lookup_seeks words look h) t.few_strays)
 found_by words random source link text (Peers look announce) h t =
     found_seeds words random source link (start_seeds words random source (record { kind = GetPeers; look = look }) (peers_seeks words look announce h) t.ran.start)
-    (record { sought = record { kind = GetPeers; look = look }; seeks = peers_seeks words look announce h; few = t.few_strays })
-found_by words random source link text (Serve own k bits policy receives) h t = absurd t
+    (few_for words random link (record { kind = GetPeers; look = look }) (peers_seeks words look announce h) t.few_strays)
+found_by words random source link text (Serve own k bits policy receives) h t = record {
+  asks = serve_asks words own k bits policy receives h;
+  bad_line = λ told bad. lists_not_bad source t.hosts.reports told t.hosts.lists bad;
+  no_seeds = λ told none. not_sought words (Serve own k bits policy receives) none.sought h refl none.seeks;
+  too_long = λ told much. few_not_much source.before source.after told (all_few source.before source.after t.hosts.lists.input t.hosts.lists.read) much;
+  strays = λ told strays. not_sought words (Serve own k bits policy receives) strays.sought h refl strays.seeks;
+  nothing = λ n. serve_not_nothing words random own k bits policy receives h n;
+}
 found_by words random source link text (Check policy) h t = record {
   asks = check_asks words policy h;
   bad_line = λ told bad. lists_not_bad source t.reports told t.lists bad;
@@ -212,7 +241,7 @@ found words random source link text h = found_by words random source link text h
 pub bad_line_comes : (words : List Word) (random : List ℕ) (source : Shown ℕ) (link : Shown Event) (status : Status) → HasCause words random source link status → Asks words → source.after ≢ None → ¬ HasFailed source → HasBadLine source → OrNoMemory (number_of status) 3
 bad_line_comes words random source link Usage c asks told quiet bad = absurd (c.0 asks)
 bad_line_comes words random source link (BadLine line) c asks told quiet bad = inl refl
-bad_line_comes words random source link LinkFault c asks told quiet bad = absurd (seeds_not_bad words random source told c.1 bad)
+bad_line_comes words random source link LinkFault c asks told quiet bad = absurd (start_not_bad words random source told c.1 bad)
 bad_line_comes words random source link SourceFault c asks told quiet bad = absurd (quiet c.1)
 bad_line_comes words random source link Strays c asks told quiet bad = absurd (seeds_not_bad words random source told c.1 bad)
 bad_line_comes words random source link NoSeeds c asks told quiet bad = absurd (none_not_bad words random source told c bad)
@@ -223,7 +252,7 @@ bad_line_comes words random source link TooLong c asks told quiet bad = absurd (
 pub no_seeds_come : (words : List Word) (random : List ℕ) (source : Shown ℕ) (link : Shown Event) (status : Status) → HasCause words random source link status → source.after ≢ None → ¬ HasFailed source → HasNoSeeds words random source → OrNoMemory (number_of status) 8
 no_seeds_come words random source link Usage c told quiet none_ = absurd (c.0 (seeks_asks words none_.sought none_.seeks))
 no_seeds_come words random source link (BadLine line) c told quiet none_ = absurd (none_not_bad words random source told none_ (line, c.1))
-no_seeds_come words random source link LinkFault c told quiet none_ = absurd (seeds_not_none words random source told c.1 none_)
+no_seeds_come words random source link LinkFault c told quiet none_ = absurd (start_not_none words random source told c.1 none_)
 no_seeds_come words random source link SourceFault c told quiet none_ = absurd (quiet c.1)
 no_seeds_come words random source link Strays c told quiet none_ = absurd (seeds_not_none words random source told c.1 none_)
 no_seeds_come words random source link NoSeeds c told quiet none_ = inl refl
@@ -234,7 +263,7 @@ no_seeds_come words random source link TooLong c told quiet none_ = absurd (few_
 pub unminted_comes : (words : List Word) (random : List ℕ) (source : Shown ℕ) (link : Shown Event) (status : Status) → HasCause words random source link status → HasNothing words random → OrNoMemory (number_of status) 10
 unminted_comes words random source link Usage c none_ = absurd (c.0 (nothing_asks words random none_))
 unminted_comes words random source link (BadLine line) c none_ = absurd (mint_not_input words none_.seed none_.c1 none_.c2 none_.tries none_.asked c.0)
-unminted_comes words random source link LinkFault c none_ = absurd (mint_not_sought words random c.1.sought none_ c.1.seeks)
+unminted_comes words random source link LinkFault c none_ = absurd (not_started words (Mint none_.seed none_.c1 none_.c2 none_.tries) random source none_.asked (λ s. s) c.1)
 unminted_comes words random source link SourceFault c none_ = absurd (mint_not_input words none_.seed none_.c1 none_.c2 none_.tries none_.asked c.0)
 unminted_comes words random source link Strays c none_ = absurd (mint_not_sought words random c.1.sought none_ c.1.seeks)
 unminted_comes words random source link NoSeeds c none_ = absurd (mint_not_sought words random c.sought none_ c.seeks)
@@ -245,7 +274,7 @@ unminted_comes words random source link TooLong c none_ = absurd (mint_not_input
 pub too_long_comes : (words : List Word) (random : List ℕ) (source : Shown ℕ) (link : Shown Event) (status : Status) → HasCause words random source link status → source.after ≢ None → ReadsTooMuch source.before source.after → OrNoMemory (number_of status) 11
 too_long_comes words random source link Usage c told much = absurd (few_not_much source.before source.after told (unread_few source.before source.after c.1) much)
 too_long_comes words random source link (BadLine line) c told much = absurd (few_not_much source.before source.after told (all_few source.before source.after c.1.input c.1.read) much)
-too_long_comes words random source link LinkFault c told much = absurd (few_not_much source.before source.after told (seeds_few words random source c.1) much)
+too_long_comes words random source link LinkFault c told much = absurd (few_not_much source.before source.after told (start_few words random source c.1) much)
 too_long_comes words random source link SourceFault c told much = absurd (few_not_much source.before source.after told c.2 much)
 too_long_comes words random source link Strays c told much = absurd (few_not_much source.before source.after told (seeds_few words random source c.1) much)
 too_long_comes words random source link NoSeeds c told much = absurd (few_not_much source.before source.after told (all_few source.before source.after c.reads.input c.reads.read) much)
@@ -316,10 +345,23 @@ seeking_completes words random source link NoMemory c sought s well = inr refl
 seeking_completes words random source link Unminted c sought s well = absurd (mint_not_sought words random sought c.0 s)
 seeking_completes words random source link TooLong c sought s well = absurd (few_not_much source.before source.after well.told (seeds_few words random source (seeds_of words random source link sought s well)) c.1)
 
+-- a node that serves
+serve_completes : (words : List Word) (random : List ℕ) (source : Shown ℕ) (link : Shown Event) (status : Status) → HasCause words random source link status → (own : Option Id) (k bits : ℕ) (policy : Policy) (receives : ℕ) → CommandOf words (Serve own k bits policy receives) → ServesWell source link → OrNoMemory (number_of status) 0
+serve_completes words random source link Usage c own k bits policy receives a well = absurd (c.0 (serve_asks words own k bits policy receives a))
+serve_completes words random source link (BadLine line) c own k bits policy receives a well = absurd (lists_not_bad source well.good.reports well.told well.good.lists (line, c.1))
+serve_completes words random source link LinkFault c own k bits policy receives a well = absurd (well.hears c.0)
+serve_completes words random source link SourceFault c own k bits policy receives a well = absurd (well.reads c.1)
+serve_completes words random source link Strays c own k bits policy receives a well = absurd (not_sought words (Serve own k bits policy receives) c.0.sought a refl c.0.seeks)
+serve_completes words random source link NoSeeds c own k bits policy receives a well = absurd (not_sought words (Serve own k bits policy receives) c.sought a refl c.seeks)
+serve_completes words random source link NoMemory c own k bits policy receives a well = inr refl
+serve_completes words random source link Unminted c own k bits policy receives a well = absurd (serve_not_nothing words random own k bits policy receives a c.0)
+serve_completes words random source link TooLong c own k bits policy receives a well = absurd (few_not_much source.before source.after well.told (all_few source.before source.after well.good.lists.input well.good.lists.read) c.1)
+
+-- a command that takes no link
 check_completes : (words : List Word) (random : List ℕ) (source : Shown ℕ) (link : Shown Event) (status : Status) → HasCause words random source link status → (policy : Policy) → CommandOf words (Check policy) → ReadsWell source → OrNoMemory (number_of status) 0
 check_completes words random source link Usage c policy a well = absurd (c.0 (check_asks words policy a))
 check_completes words random source link (BadLine line) c policy a well = absurd (lists_not_bad source well.reports well.told well.lists (line, c.1))
-check_completes words random source link LinkFault c policy a well = absurd (not_sought words (Check policy) c.1.sought a refl c.1.seeks)
+check_completes words random source link LinkFault c policy a well = absurd (not_started words (Check policy) random source a (λ s. s) c.1)
 check_completes words random source link SourceFault c policy a well = absurd (well.reads c.1)
 check_completes words random source link Strays c policy a well = absurd (not_sought words (Check policy) c.1.sought a refl c.1.seeks)
 check_completes words random source link NoSeeds c policy a well = absurd (not_sought words (Check policy) c.sought a refl c.seeks)
@@ -330,7 +372,7 @@ check_completes words random source link TooLong c policy a well = absurd (few_n
 mint_completes : (words : List Word) (random : List ℕ) (source : Shown ℕ) (link : Shown Event) (status : Status) → HasCause words random source link status → (seed : Option (List ℕ)) (c1 c2 tries : ℕ) → CommandOf words (Mint seed c1 c2 tries) → ¬ FindsNothing (seed_of seed random) c1 c2 tries → OrNoMemory (number_of status) 0
 mint_completes words random source link Usage c seed c1 c2 tries a finds = absurd (c.0 (mint_asks words seed c1 c2 tries a))
 mint_completes words random source link (BadLine line) c seed c1 c2 tries a finds = absurd (mint_not_input words seed c1 c2 tries a c.0)
-mint_completes words random source link LinkFault c seed c1 c2 tries a finds = absurd (not_sought words (Mint seed c1 c2 tries) c.1.sought a refl c.1.seeks)
+mint_completes words random source link LinkFault c seed c1 c2 tries a finds = absurd (not_started words (Mint seed c1 c2 tries) random source a (λ s. s) c.1)
 mint_completes words random source link SourceFault c seed c1 c2 tries a finds = absurd (mint_not_input words seed c1 c2 tries a c.0)
 mint_completes words random source link Strays c seed c1 c2 tries a finds = absurd (not_sought words (Mint seed c1 c2 tries) c.1.sought a refl c.1.seeks)
 mint_completes words random source link NoSeeds c seed c1 c2 tries a finds = absurd (not_sought words (Mint seed c1 c2 tries) c.sought a refl c.seeks)
@@ -341,7 +383,7 @@ mint_completes words random source link TooLong c seed c1 c2 tries a finds = abs
 sim_completes : (words : List Word) (random : List ℕ) (source : Shown ℕ) (link : Shown Event) (status : Status) → HasCause words random source link status → (seed : Option (List ℕ)) (nodes hostile k paths alpha timeout : ℕ) → CommandOf words (Sim seed nodes hostile k paths alpha timeout) → OrNoMemory (number_of status) 0
 sim_completes words random source link Usage c seed nodes hostile k paths alpha timeout a = absurd (c.0 (sim_asks words seed nodes hostile k paths alpha timeout a))
 sim_completes words random source link (BadLine line) c seed nodes hostile k paths alpha timeout a = absurd (sim_not_input words seed nodes hostile k paths alpha timeout a c.0)
-sim_completes words random source link LinkFault c seed nodes hostile k paths alpha timeout a = absurd (not_sought words (Sim seed nodes hostile k paths alpha timeout) c.1.sought a refl c.1.seeks)
+sim_completes words random source link LinkFault c seed nodes hostile k paths alpha timeout a = absurd (not_started words (Sim seed nodes hostile k paths alpha timeout) random source a (λ s. s) c.1)
 sim_completes words random source link SourceFault c seed nodes hostile k paths alpha timeout a = absurd (sim_not_input words seed nodes hostile k paths alpha timeout a c.0)
 sim_completes words random source link Strays c seed nodes hostile k paths alpha timeout a = absurd (not_sought words (Sim seed nodes hostile k paths alpha timeout) c.1.sought a refl c.1.seeks)
 sim_completes words random source link NoSeeds c seed nodes hostile k paths alpha timeout a = absurd (not_sought words (Sim seed nodes hostile k paths alpha timeout) c.sought a refl c.seeks)
@@ -352,7 +394,7 @@ sim_completes words random source link TooLong c seed nodes hostile k paths alph
 completes_by : (words : List Word) (random : List ℕ) (source : Shown ℕ) (link : Shown Event) (status : Status) → HasCause words random source link status → (command : Command) → CommandOf words command → Needs command random source link → OrNoMemory (number_of status) 0
 completes_by words random source link status c (Lookup look) a needs = seeking_completes words random source link status c (record { kind = FindNode; look = look }) (lookup_seeks words look a) needs
 completes_by words random source link status c (Peers look announce) a needs = seeking_completes words random source link status c (record { kind = GetPeers; look = look }) (peers_seeks words look announce a) needs
-completes_by words random source link status c (Serve own k bits policy receives) a needs = absurd needs
+completes_by words random source link status c (Serve own k bits policy receives) a needs = serve_completes words random source link status c own k bits policy receives a needs
 completes_by words random source link status c (Check policy) a needs = check_completes words random source link status c policy a needs
 completes_by words random source link status c (Mint seed c1 c2 tries) a needs = mint_completes words random source link status c seed c1 c2 tries a needs
 completes_by words random source link status c (Sim seed nodes hostile k paths alpha timeout) a needs = sim_completes words random source link status c seed nodes hostile k paths alpha timeout a

@@ -14,6 +14,7 @@ use Rattle.kad_base.specs.Outside.{Grows, Rose}
 use Rattle.kad_base.specs.Puzzles.{hash}
 use Rattle.kad_base.proofs.Grown.{grows_none}
 use Rattle.id_puzzles.specs.Minting.{key_at, IsFirstKey, HasNoFirstValue}
+use Rattle.lookup_run.specs.declared.plain.AskKind.TheVariants.{FindNode, GetPeers}
 use Rattle.lookup_run.specs.Tells.{Given, EndsAtStray}
 use Rattle.kad_words.specs.Table.{Word}
 use Rattle.kad_words.specs.Plain.{CommandOf, word_of}
@@ -24,12 +25,12 @@ use Rattle.kad_words.proofs.OneCommand.{command_once}
 use Rattle.node_top.specs.Asked.{Asks, built}
 use Rattle.node_top.specs.Lines.{lines, Reporting, IsBad, IsFirstBad}
 use Rattle.node_top.specs.Shown.{Shown}
-use Rattle.node_top.specs.Input.{ReadsAll, ReadsFew, ReadsTooMuch, Admits, Reads, Lists, HasBadLine}
+use Rattle.node_top.specs.Input.{ReadsAll, ReadsFew, ReadsTooMuch, Admits, Reads, ReadsSome, IsGood, Lists, HasBadLine}
 use Rattle.node_top.specs.Started.{own_of, lookup_of}
 use Rattle.node_top.specs.Looked.{MeetsFewStrays}
 use Rattle.node_top.specs.Minted.{seed_of, MintPrinted, FindsNothing}
 use Rattle.node_top.specs.Plainly.{HasInput, ReadsInput, HasNothing}
-use Rattle.node_top.specs.Commands.{Sought, sought_by, Seeks, HasNoSeeds, HasSeeds, HasStrays, HasFewStrays}
+use Rattle.node_top.specs.Commands.{Sought, sought_by, Seeks, StartedBy, HasStart, HasNoSeeds, HasSeeds, HasStrays, HasFewStrays}
 use Rattle.node_top.proofs.Asking.{command_asks, mint_asks}
 use Rattle.node_top.proofs.TextLaws.{read_or_bad, reading_once}
 
@@ -142,6 +143,50 @@ none_not_bad words random source told s bad = reads_not_bad (own_of s.sought.loo
 pub seeds_few : (words : List Word) (random : List ℕ) (source : Shown ℕ) → HasSeeds words random source → ReadsFew source.before source.after
 seeds_few words random source s = all_few source.before source.after s.reads.reads.input s.reads.reads.read
 
+-- ---- what a command over a link had read
+
+-- a command that starts is none of those that don't
+pub not_started : (words : List Word) (command : Command) (random : List ℕ) (source : Shown ℕ) → CommandOf words command → (StartedBy command random source → ⊥) → HasStart words random source → ⊥
+not_started words command random source c none_ h = none_ (subst (λ (k : Command). StartedBy k random source) (command_once words h.command command h.asked c) h.started)
+
+-- a lookup had read some contacts
+pub started_by : (command : Command) (sought : Sought) (random : List ℕ) (source : Shown ℕ) → sought_by command ≡ Some sought → ReadsSome (own_of sought.look.own random) sought.look.policy source → StartedBy command random source
+started_by (Lookup look) sought random source e r = let same : sought.look ≡ look = cc in subst (λ (l : LookWords). ReadsSome (own_of l.own random) l.policy source) same r
+started_by (Peers look announce) sought random source e r = let same : sought.look ≡ look = cc in subst (λ (l : LookWords). ReadsSome (own_of l.own random) l.policy source) same r
+started_by (Serve own k bits policy receives) sought random source e r = absurd cc
+started_by (Check policy) sought random source e r = absurd cc
+started_by (Mint seed c1 c2 tries) sought random source e r = absurd cc
+started_by (Sim seed nodes hostile k paths alpha timeout) sought random source e r = absurd cc
+
+-- whatever it is, the lines were good
+reads_good : (own : Id) (policy : Policy) (source : Shown ℕ) → ReadsSome own policy source → IsGood source
+reads_good own policy source r = record { reports = r.reads.reports; lists = record { input = r.reads.input; read = r.reads.read; good_lines = r.reads.good_lines } }
+
+good_by : (command : Command) (random : List ℕ) (source : Shown ℕ) → StartedBy command random source → IsGood source
+good_by (Lookup look) random source s = reads_good (own_of look.own random) look.policy source s
+good_by (Peers look announce) random source s = reads_good (own_of look.own random) look.policy source s
+good_by (Serve own k bits policy receives) random source s = s
+good_by (Check policy) random source s = absurd s
+good_by (Mint seed c1 c2 tries) random source s = absurd s
+good_by (Sim seed nodes hostile k paths alpha timeout) random source s = absurd s
+
+pub start_not_bad : (words : List Word) (random : List ℕ) (source : Shown ℕ) → source.after ≢ None → HasStart words random source → HasBadLine source → ⊥
+start_not_bad words random source told s bad = let good = good_by s.command random source s.started in lists_not_bad source good.reports told good.lists bad
+
+pub start_few : (words : List Word) (random : List ℕ) (source : Shown ℕ) → HasStart words random source → ReadsFew source.before source.after
+start_few words random source s = let good = good_by s.command random source s.started in all_few source.before source.after good.lists.input good.lists.read
+
+start_none_by : (words : List Word) (command : Command) (random : List ℕ) (source : Shown ℕ) → source.after ≢ None → CommandOf words command → StartedBy command random source → HasNoSeeds words random source → ⊥
+start_none_by words (Lookup look) random source told c s t = seeds_not_none words random source told (record { sought = record { kind = FindNode; look = look }; seeks = record { command = Lookup look; asked = c; looks = refl }; reads = s }) t
+start_none_by words (Peers look announce) random source told c s t = seeds_not_none words random source told (record { sought = record { kind = GetPeers; look = look }; seeks = record { command = Peers look announce; asked = c; looks = refl }; reads = s }) t
+start_none_by words (Serve own k bits policy receives) random source told c s t = not_sought words (Serve own k bits policy receives) t.sought c refl t.seeks
+start_none_by words (Check policy) random source told c s t = absurd s
+start_none_by words (Mint seed c1 c2 tries) random source told c s t = absurd s
+start_none_by words (Sim seed nodes hostile k paths alpha timeout) random source told c s t = absurd s
+
+pub start_not_none : (words : List Word) (random : List ℕ) (source : Shown ℕ) → source.after ≢ None → HasStart words random source → HasNoSeeds words random source → ⊥
+start_not_none words random source told s t = start_none_by words s.command random source told s.asked s.started t
+
 -- ---- which words ask
 
 -- a command that looks up is built
@@ -178,6 +223,9 @@ check_not_nothing words random policy c h = let e = command_once words (Check po
 pub lookup_not_nothing : (words : List Word) (random : List ℕ) (look : LookWords) → CommandOf words (Lookup look) → HasNothing words random → ⊥
 lookup_not_nothing words random look c h = let e = command_once words (Lookup look) (Mint h.seed h.c1 h.c2 h.tries) c h.asked in absurd cc
 
+pub serve_not_nothing : (words : List Word) (random : List ℕ) (own : Option Id) (k bits : ℕ) (policy : Policy) (receives : ℕ) → CommandOf words (Serve own k bits policy receives) → HasNothing words random → ⊥
+serve_not_nothing words random own k bits policy receives c h = let e = command_once words (Serve own k bits policy receives) (Mint h.seed h.c1 h.c2 h.tries) c h.asked in absurd cc
+
 pub peers_not_nothing : (words : List Word) (random : List ℕ) (look : LookWords) (announce : Option ℕ) → CommandOf words (Peers look announce) → HasNothing words random → ⊥
 peers_not_nothing words random look announce c h = let e = command_once words (Peers look announce) (Mint h.seed h.c1 h.c2 h.tries) c h.asked in absurd cc
 
@@ -191,11 +239,13 @@ added_once {A} old (Some after) P told g h =
     let same : g.before ++ g.added ≡ g.before ++ h.added = sym g.sum_is ∙ h.sum_is ∙ ap (λ (l : List A). l ++ h.added) (sym before) in
     h.holds (subst P (append_cancel_left g.before g.added h.added same) g.holds)
 
+-- the words ask for one lookup, whose events don't end so
+pub few_for : (words : List Word) (random : List ℕ) (link : Shown Event) (sought : Sought) → Seeks words sought → MeetsFewStrays sought.kind sought.look random link → HasFewStrays words random link
+few_for words random link sought seeks few = λ other s. subst (λ (g : Sought). MeetsFewStrays g.kind g.look random link) (same_sought words sought other seeks s) few
+
 pub few_not_last : (words : List Word) (random : List ℕ) (link : Shown Event) → link.after ≢ None → HasFewStrays words random link → HasStrays words random link → ⊥
-few_not_last words random link told s t =
-    let same = same_sought words s.sought t.sought s.seeks t.seeks in
-    let few = subst (λ (g : Sought). MeetsFewStrays g.kind g.look random link) same s.few in
-    added_once link.before link.after (λ events. EndsAtStray (lookup_of t.sought.kind t.sought.look random) events max_strays) told t.ends few
+few_not_last words random link told few t =
+    added_once link.before link.after (λ events. EndsAtStray (lookup_of t.sought.kind t.sought.look random) events max_strays) told t.ends (few t.sought t.seeks)
 
 none_last : (g : Given) (number : ℕ) → ¬ EndsAtStray g [] number
 none_last g number e = nothing_more e.before (Got e.from e.bytes e.until e.at) e.last

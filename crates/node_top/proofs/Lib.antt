@@ -17,4 +17,5 @@ pub mod Announcing
 pub mod Reaching
 pub mod Peering
 pub mod Simulating
+pub mod Serving
 pub mod Unstrayed

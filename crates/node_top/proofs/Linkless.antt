@@ -87,7 +87,7 @@ needs_none words random source (Sim seed nodes hostile k paths alpha timeout) h 
 linked_needs : (random : List ℕ) (source : Shown ℕ) (command : Command) → PlainNeeds command random source → Needs command random source no_link
 linked_needs random source (Lookup look) t = absurd t
 linked_needs random source (Peers look announce) t = absurd t
-linked_needs random source (Serve own k bits policy receives) t = t
+linked_needs random source (Serve own k bits policy receives) t = absurd t
 linked_needs random source (Check policy) t = t
 linked_needs random source (Mint seed c1 c2 tries) t = t
 linked_needs random source (Sim seed nodes hostile k paths alpha timeout) t = t

@@ -8,7 +8,7 @@ use Rattle.kad_base.specs.declared.plain.Report.{Report}
 use Rattle.kad_base.specs.declared.plain.Policy.{Policy}
 use Rattle.kad_base.specs.Outside.{Shrinks}
 use Rattle.node_top.specs.Written.{IsFront}
-use Rattle.node_top.specs.Input.{ReadsTooMuch, IsAdmitted, Admits, AdmitsOne}
+use Rattle.node_top.specs.Input.{ReadsTooMuch, IsAdmitted, Admits, AdmitsOne, IsKept, Keeps, KeepsOne}
 
 pub front : (all : List ℕ) (n : ℕ) (t u : List ℕ) → t ≡ take n all → u ≡ [] → IsFront (t ++ u) all
 front all n t u p q = (drop n all, ap (λ l. (t ++ l) ++ drop n all) q ∙ ap (λ l. l ++ drop n all) (append-nil t ∙ p) ∙ take-append-drop n all)
@@ -45,4 +45,29 @@ admits_one own policy rs i d old new lt h one =
     (elim one [
       | inl a ↦ subst (λ l. Admits own policy (take i rs ++ get_or rs i d ∷ []) l) (sym a.1) (admits_more own policy (take i rs) old (get_or rs i d) h a.0)
       | inr b ↦ subst (λ l. Admits own policy (take i rs ++ get_or rs i d ∷ []) l) (sym b.1) (admits_not own policy (take i rs) old (get_or rs i d) h b.0)
+    ])
+
+-- the same of the reports that are kept
+keeps_more : (own : Id) (policy : Policy) (rs kept : List Report) (r : Report) → Keeps own policy rs kept → IsKept own policy r → Keeps own policy (rs ++ r ∷ []) (kept ++ r ∷ [])
+keeps_more own policy [] kept r h ok = inl ([], ap (λ (l : List Report). l ++ r ∷ []) h, ok, refl)
+keeps_more own policy (x ∷ rs) kept r h ok =
+    elim h [
+      | inl a ↦ inl (a.0 ++ r ∷ [], ap (λ (l : List Report). l ++ r ∷ []) a.1, a.2, keeps_more own policy rs a.0 r a.3 ok)
+      | inr b ↦ inr (b.0, keeps_more own policy rs kept r b.1 ok)
+    ]
+
+keeps_not : (own : Id) (policy : Policy) (rs kept : List Report) (r : Report) → Keeps own policy rs kept → ¬ IsKept own policy r → Keeps own policy (rs ++ r ∷ []) kept
+keeps_not own policy [] kept r h n = inr (n, h)
+keeps_not own policy (x ∷ rs) kept r h n =
+    elim h [
+      | inl a ↦ inl (a.0, a.1, a.2, keeps_not own policy rs a.0 r a.3 n)
+      | inr b ↦ inr (b.0, keeps_not own policy rs kept r b.1 n)
+    ]
+
+pub keeps_one : (own : Id) (policy : Policy) (rs : List Report) (i : ℕ) (d : Report) (old new : List Report) → i < length rs → Keeps own policy (take i rs) old → KeepsOne own policy (get_or rs i d) old new → Keeps own policy (take (i + 1) rs) new
+keeps_one own policy rs i d old new lt h one =
+    subst (λ l. Keeps own policy l new) (sym (take_more rs i d lt))
+    (elim one [
+      | inl a ↦ subst (λ l. Keeps own policy (take i rs ++ get_or rs i d ∷ []) l) (sym a.1) (keeps_more own policy (take i rs) old (get_or rs i d) h a.0)
+      | inr b ↦ subst (λ l. Keeps own policy (take i rs ++ get_or rs i d ∷ []) l) (sym b.1) (keeps_not own policy (take i rs) old (get_or rs i d) h b.0)
     ])

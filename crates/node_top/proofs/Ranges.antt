@@ -1,11 +1,13 @@
--- The values of a lookup's words are within the limits.
+-- The values of the words are within the limits.
 use Rattle.std.proofs.Common.{ℕ, ◌≤◌, List, Option, Some, None, arith}
+use Rattle.kad_base.specs.declared.plain.Id.{Id}
+use Rattle.kad_base.specs.declared.plain.Policy.{Policy}
 use Rattle.kad_words.specs.Table.{Word, Entry}
 use Rattle.kad_words.specs.Text.{SpellsNumber}
 use Rattle.kad_words.specs.Plain.{Values, CommandOf, IsGivenOr, IsLook}
-use Rattle.kad_words.specs.declared.command.Command.TheVariants.{Lookup, Peers}
+use Rattle.kad_words.specs.declared.command.Command.TheVariants.{Lookup, Peers, Serve}
 use Rattle.kad_words.specs.declared.command.LookWords.{LookWords}
-use Rattle.node_top.specs.Started.{IsInRange}
+use Rattle.node_top.specs.Started.{AreTableBounds, IsInRange}
 
 record Within (least most n : ℕ) : Type 0 where
   pub above : least ≤ n
@@ -38,3 +40,9 @@ in_range words look h = look_in_range _ _ look h.says
 
 pub peers_in_range : (words : List Word) (look : LookWords) (announce : Option ℕ) → CommandOf words (Peers look announce) → IsInRange look
 peers_in_range words look announce h = look_in_range _ _ look h.says.0
+
+pub serve_in_range : (words : List Word) (own : Option Id) (k bits : ℕ) (policy : Policy) (receives : ℕ) → CommandOf words (Serve own k bits policy receives) → AreTableBounds k bits
+serve_in_range words own k bits policy receives h =
+    let live = within 1 20 8 (omega arith) (omega arith) _ k h.says.1 in
+    let split = within 1 5 1 (omega arith) (omega arith) _ bits h.says.2 in
+    record { some_live = live.above; few_live = live.below; some_bits = split.above; few_bits = split.below }

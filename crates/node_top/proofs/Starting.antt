@@ -11,15 +11,16 @@ use Rattle.kad_base.specs.declared.serial.Made.{Made}
 use Rattle.kad_base.specs.Contacts.{IsUsable}
 use Rattle.kad_base.specs.Serial.{left_by, IsRun, made}
 use Rattle.contact_table.specs.declared.calls.TableCall.{TableCall}
-use Rattle.contact_table.specs.declared.calls.TableCall.TheVariants.{Seen as Seen_call}
+use Rattle.contact_table.specs.declared.calls.TableCall.TheVariants.{Seen as Seen_call, Failed, Closest}
 use Rattle.contact_table.specs.declared.calls.TableReply.{TableReply}
-use Rattle.contact_table.specs.declared.calls.TableReply.TheVariants.{NoMemory}
+use Rattle.contact_table.specs.declared.calls.TableReply.TheVariants.{Seen as Seen_reply, Gone as Gone_reply, List as List_reply, NoMemory}
 use Rattle.contact_table.specs.TableState.{TableState}
 use Rattle.contact_table.specs.TableStep.{TableMay, TableStep, table_after, contacts_of}
 use Rattle.contact_table.specs.Told.{new_table, told_by, told_in as contacts_in}
 use Rattle.contact_table.proofs.Holding.{since-new}
 use Rattle.lookup_run.specs.Lookup.{Told, told_in, TableTold}
-use Rattle.node_top.specs.Started.{IsSeen, seen_call}
+use Rattle.node_serve.specs.AnswerOf.{IsSeen}
+use Rattle.node_top.specs.Started.{seen_call}
 
 -- ---- one run after another
 
@@ -58,6 +59,29 @@ pub told_more : (cs : List Contact) (i : ℕ) (c : Contact) (t u v : TableState)
 told_more cs i c t u v lt a b =
     subst (λ (l : List Told). TableTold l t v) (sym (map-append seen_call (take i cs) (get_or cs i c ∷ [])) ∙ ap (map seen_call) (sym (take_more cs i c lt)))
     (told_then (map seen_call (take i cs)) (seen_call (get_or cs i c) ∷ []) t u v a (told_one (get_or cs i c) u v b))
+
+-- ---- whose table it is
+
+own_after : (s : TableState) (role : ℕ) (call : TableCall) (reply : TableReply) → (table_after s role call reply).own ≡ s.own
+own_after s role (Seen_call c) (Seen_reply seen) = refl
+own_after s role (Seen_call c) (Gone_reply gone) = refl
+own_after s role (Seen_call c) (List_reply list) = refl
+own_after s role (Seen_call c) NoMemory = refl
+own_after s role (Failed c) (Seen_reply seen) = refl
+own_after s role (Failed c) (Gone_reply gone) = refl
+own_after s role (Failed c) (List_reply list) = refl
+own_after s role (Failed c) NoMemory = refl
+own_after s role (Closest target n) (Seen_reply seen) = refl
+own_after s role (Closest target n) (Gone_reply gone) = refl
+own_after s role (Closest target n) (List_reply list) = refl
+own_after s role (Closest target n) NoMemory = refl
+
+own_left : (s : TableState) (run : List (Made TableCall TableReply)) → (left_by table_after s run).own ≡ s.own
+own_left s [] = refl
+own_left s (e ∷ run) = own_left (table_after s e.role e.call e.reply) run ∙ own_after s e.role e.call e.reply
+
+pub own_told : (calls : List Told) (t u : TableState) → TableTold calls t u → u.own ≡ t.own
+own_told calls t u h = ap (λ (s : TableState). s.own) h.leaves ∙ own_left t h.run
 
 -- ---- what the table has
 

@@ -1,7 +1,7 @@
 -- Which words ask for something: those of the plain form whose command is built. The form is this project's own.
 use Rattle.std.specs.Prelude.{List, [], ◌∷◌, map, string_bytes, Contains}
 use Rattle.std.specs.declared.string.String.{String}
-use Rattle.kad_words.specs.Table.{Word, lookup, check, mint, peers, sim}
+use Rattle.kad_words.specs.Table.{Word, lookup, check, mint, peers, sim, serve}
 use Rattle.kad_words.specs.Plain.{IsPlain}
 use Rattle.kad_words.specs.Bound.{TakesLink}
 
@@ -11,7 +11,7 @@ bytes_of words = map (λ w. string_bytes w) words
 
 -- the commands that are built so far
 abbrev pub built : List Word
-built = lookup ∷ check ∷ mint ∷ peers ∷ sim ∷ []
+built = lookup ∷ check ∷ mint ∷ peers ∷ sim ∷ serve ∷ []
 
 -- the words are of the plain form, and their command is built
 pub record Asks (words : List Word) : Type 0 where

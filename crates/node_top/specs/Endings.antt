@@ -7,7 +7,7 @@ use Rattle.node_top.specs.declared.status.Status.TheVariants.{Usage, BadLine, Li
 use Rattle.kad_words.specs.Table.{Word}
 use Rattle.kad_words.specs.Plain.{CommandOf}
 use Rattle.kad_words.specs.declared.command.Command.{Command}
-use Rattle.kad_words.specs.declared.command.Command.TheVariants.{Lookup, Peers, Check, Mint, Sim}
+use Rattle.kad_words.specs.declared.command.Command.TheVariants.{Lookup, Peers, Serve, Check, Mint, Sim}
 use Rattle.node_top.specs.Asked.{Asks}
 use Rattle.node_top.specs.Written.{IsFront}
 use Rattle.node_top.specs.Shown.{Shown, HasFailed}
@@ -62,14 +62,14 @@ pub record CutShort (words : List Word) (random : List ℕ) (source : Shown ℕ)
   pub has_text : HasText words random source link text
   pub writes : Grows sink.before sink.after (λ added. IsFront added text)
 
--- the statuses with which a command may end that is built
+-- the statuses with which a command may end
 abbrev pub MayEnd : Command → ℕ → Type 0
 MayEnd (Lookup look) status = Contains (0 ∷ 3 ∷ 4 ∷ 5 ∷ 6 ∷ 7 ∷ 8 ∷ 9 ∷ 11 ∷ []) status
 MayEnd (Peers look announce) status = Contains (0 ∷ 3 ∷ 4 ∷ 5 ∷ 6 ∷ 7 ∷ 8 ∷ 9 ∷ 11 ∷ []) status
+MayEnd (Serve own k bits policy receives) status = Contains (0 ∷ 3 ∷ 4 ∷ 5 ∷ 6 ∷ 9 ∷ 11 ∷ []) status
 MayEnd (Check policy) status = Contains (0 ∷ 3 ∷ 5 ∷ 6 ∷ 9 ∷ 11 ∷ []) status
 MayEnd (Mint seed c1 c2 tries) status = Contains (0 ∷ 5 ∷ 9 ∷ 10 ∷ []) status
 MayEnd (Sim seed nodes hostile k paths alpha timeout) status = Contains (0 ∷ 5 ∷ 9 ∷ []) status
-MayEnd other status = ⊥
 
 -- the status is one of those of the command that the words ask for
 abbrev pub EndsByCommand : List Word → ℕ → Type 0

@@ -1,5 +1,5 @@
 -- What was read of an input, and the contacts that it gives.
-use Rattle.std.specs.Prelude.{◌≡◌, ◌≢◌, ◌⊎◌, ℕ, ◌+◌, ◌≤◌, List, [], ◌∷◌, ◌++◌, length, Option, Some, IfSome}
+use Rattle.std.specs.Prelude.{◌≡◌, ◌≢◌, ◌⊎◌, ℕ, ◌+◌, ◌≤◌, List, [], ◌∷◌, ◌++◌, length, Option, Some, None, IfSome}
 use Rattle.kad_base.specs.declared.plain.Id.{Id}
 use Rattle.kad_base.specs.declared.plain.Contact.{Contact}
 use Rattle.kad_base.specs.declared.plain.Report.{Report}
@@ -37,11 +37,30 @@ Admits own policy (r ∷ reports) contacts =
 abbrev pub AdmitsOne : Id → Policy → Report → List Contact → List Contact → Type 0
 AdmitsOne own policy r old new = (IsAdmitted own policy r × (new ≡ old ++ r.contact ∷ [])) ⊎ (¬ IsAdmitted own policy r × (new ≡ old))
 
+-- the report's contact may be told to a table, and the report has a proof
+abbrev pub IsKept : Id → Policy → Report → Type 0
+IsKept own policy report = (report.proof ≢ None) × IsAdmitted own policy report
+
+-- these are the reports that have a proof and whose contacts are admitted, in order
+abbrev pub Keeps : Id → Policy → List Report → List Report → Type 0
+Keeps own policy [] kept = kept ≡ []
+Keeps own policy (r ∷ reports) kept =
+    ((rest : List Report) × (kept ≡ r ∷ rest) × IsKept own policy r × Keeps own policy reports rest)
+    ⊎ (¬ IsKept own policy r × Keeps own policy reports kept)
+
+-- one report more: it is kept, or it is none of them
+abbrev pub KeepsOne : Id → Policy → Report → List Report → List Report → Type 0
+KeepsOne own policy r old new = (IsKept own policy r × (new ≡ old ++ r ∷ [])) ⊎ (¬ IsKept own policy r × (new ≡ old))
+
 -- the input was read to its end, each of its lines is good, and these are the reports of its contact lines, in order
 pub record Lists (source : Shown ℕ) (reports : List Report) : Type 0 where
   pub input : List ℕ
   pub read : ReadsAll source.before source.after input
   pub good_lines : Reporting (lines input) reports
+
+pub record IsGood (source : Shown ℕ) : Type 0 where
+  pub reports : List Report
+  pub lists : Lists source reports
 
 -- the input was read to its end, each of its lines is good, and a node with this identifier and policy admits these
 -- contacts of it

@@ -15,3 +15,5 @@ pub mod Endings
 pub mod Reached
 pub mod Announced
 pub mod Peered
+pub mod Served
+pub mod Responded

@@ -30,3 +30,10 @@ peers_text peers found asked failed turned announced = codes "peers " ++ decimal
 -- the output of a search for peers: a line for each peer, in order, and the counts
 abbrev pub printed_peers : List Addr → ℕ → ℕ → ℕ → ℕ → ℕ → List ℕ
 printed_peers peers found asked failed turned announced = flat_map (λ peer. line_of (addr_text peer)) peers ++ line_of (peers_text (length peers) found asked failed turned announced)
+
+-- the output of a node that served, one line: how many datagrams came, and how many replies were sent
+abbrev pub served_text : ℕ → ℕ → List ℕ
+served_text received replied = codes "received " ++ decimal received ++ codes " replied " ++ decimal replied
+
+abbrev pub printed_served : ℕ → ℕ → List ℕ
+printed_served received replied = line_of (served_text received replied)

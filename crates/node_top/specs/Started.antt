@@ -7,10 +7,7 @@ use Rattle.kad_base.specs.Limits.{max_k, max_paths, max_alpha, max_bits}
 use Rattle.kad_base.specs.Words.{drawn_bytes}
 use Rattle.id_puzzles.specs.Drawn.{WordsState}
 use Rattle.contact_table.specs.declared.calls.TableCall.TheVariants.{Seen}
-use Rattle.contact_table.specs.declared.calls.TableReply.{TableReply}
-use Rattle.contact_table.specs.declared.calls.TableReply.TheVariants.{NoMemory}
 use Rattle.contact_table.specs.TableState.{TableState}
-use Rattle.contact_table.specs.TableStep.{TableStep, table_after}
 use Rattle.contact_table.specs.Told.{new_table}
 use Rattle.claim_book.specs.declared.plain.Setting.{Setting}
 use Rattle.lookup_run.specs.declared.plain.LookSetting.{LookSetting}
@@ -62,16 +59,16 @@ pub record IsInRange (look : LookWords) : Type 0 where
   pub some_bits : 1 ≤ look.bits
   pub few_bits : look.bits ≤ max_bits
 
--- the driver of a lookup tells the table that a contact was seen
+-- k and b are within the limits of a table
+pub record AreTableBounds (k bits : ℕ) : Type 0 where
+  pub some_live : 1 ≤ k
+  pub few_live : k ≤ max_k
+  pub some_bits : 1 ≤ bits
+  pub few_bits : bits ≤ max_bits
+
+-- the table is told that a contact was seen
 abbrev pub seen_call : Contact → Told
 seen_call c = record { role = 0; call = Seen c }
-
--- the table was told of the contact, and had the memory for it
-pub record IsSeen (c : Contact) (before after : TableState) : Type 0 where
-  pub reply : TableReply
-  pub step : TableStep before 0 (Seen c) reply
-  pub kept : reply ≢ NoMemory
-  pub leaves : after ≡ table_after before 0 (Seen c) reply
 
 -- the table is what a new one becomes that is told of these contacts, in order, where none of its replies is want of
 -- memory

@@ -22,7 +22,10 @@ fn begins_built(words: &[String]) -> bool
 fn is_built(command: &str) -> bool
     ensures { IsTrue result ↔ Contains built command.now }
 {
-    matches!(command, "lookup" | "check" | "mint" | "peers" | "sim")
+    matches!(
+        command,
+        "lookup" | "check" | "mint" | "peers" | "sim" | "serve"
+    )
 }
 
 /// The command that the words ask for. Words that ask for none are told apart without memory.

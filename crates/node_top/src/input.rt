@@ -1,7 +1,7 @@
 //! The input of a command: its bytes, and the reports and contacts that its lines give.
 ghost use Rattle.std.specs.Prelude.{◌≡◌, ◌≤◌, OnOk, IfOk, IfErr, IsErrOf, IsTrue, ◌↔◌};
 ghost use Rattle.kad_base.specs.Outside.{Rose};
-ghost use Rattle.node_top.specs.Input.{ReadsAll, ReadsFew, ReadsTooMuch, Lists, IsAdmitted, Admits, AdmitsOne};
+ghost use Rattle.node_top.specs.Input.{ReadsAll, ReadsFew, ReadsTooMuch, Lists, IsAdmitted, Admits, AdmitsOne, IsKept, Keeps, KeepsOne};
 ghost use Rattle.node_top.specs.Looked.{ReportsCause};
 ghost use Rattle.node_top.specs.Shown.{shown};
 
@@ -115,4 +115,44 @@ pub(crate) fn admitted<C: Check>(
         admit(&mut contacts, own, policy, check, report)?;
     }
     Ok(contacts)
+}
+
+/// Whether the report has a proof, and its contact may be told to a table.
+fn is_kept<C: Check>(own: &Id, policy: Policy, check: &C, report: &Report) -> bool
+    ensures { IsTrue result ↔ IsKept own.now policy report.now }
+{
+    report.proof.is_some() && is_admitted(own, policy, check, report)
+}
+
+/// Keeps the report, if it has a proof and its contact may be told to a table.
+fn keep<C: Check>(
+    kept: &mut Reports,
+    own: &Id,
+    policy: Policy,
+    check: &C,
+    report: &Report,
+) -> Result<(), NoMemory>
+    ensures { OnOk result (KeepsOne own.now policy report.now kept.old kept.new) }
+{
+    if is_kept(own, policy, check, report) {
+        return kept.push(*report);
+    }
+    Ok(())
+}
+
+/// The reports that have a proof and whose contacts are usable and pass, in order.
+pub(crate) fn kept<C: Check>(
+    alloc: Global,
+    own: &Id,
+    policy: Policy,
+    check: &C,
+    reports: &[Report],
+) -> Result<Reports, NoMemory>
+    ensures { IfOk result (Keeps own.now policy reports.now) }
+{
+    let mut kept = List::new(alloc);
+    for report in reports {
+        keep(&mut kept, own, policy, check, report)?;
+    }
+    Ok(kept)
 }

@@ -74,7 +74,7 @@ pub(crate) fn seek<S: Source, L: Link, C: Check>(
 {
     let setting = setting_for(kind, look, random);
     let contacts = read_contacts(alloc, source, &setting.own, setting.policy, check)?;
-    let table = table_of(alloc, setting.own, look, contacts.as_slice())?;
+    let table = table_of(alloc, setting.own, look.k, look.bits, contacts.as_slice())?;
     let mut words = Words::new(random, FIRST_TX);
     let (_, ended) = look_up_alone(alloc, link, &mut words, table, &setting, check, hasher);
     match ended {

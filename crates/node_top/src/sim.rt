@@ -155,7 +155,7 @@ fn begin<C: Check>(
         check,
         reports.as_slice(),
     )?;
-    let table = table_of(alloc, setting.own, &look, contacts.as_slice())?;
+    let table = table_of(alloc, setting.own, look.k, look.bits, contacts.as_slice())?;
     Ok(Start {
         setting,
         table,

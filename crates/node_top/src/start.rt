@@ -2,7 +2,8 @@
 ghost use Rattle.std.specs.Prelude.{◌≡◌, map, IfOk, OnOk};
 ghost use Rattle.contact_table.specs.Told.{new_table};
 ghost use Rattle.lookup_run.specs.Lookup.{TableTold};
-ghost use Rattle.node_top.specs.Started.{own_of, look_of, IsInRange, IsSeen, seen_call};
+ghost use Rattle.node_serve.specs.AnswerOf.{IsSeen};
+ghost use Rattle.node_top.specs.Started.{own_of, look_of, AreTableBounds, seen_call};
 
 use contact_table::{Table, TableCall, TableReply};
 use id_puzzles::Words;
@@ -63,14 +64,14 @@ fn tell_seen(table: &mut Table, contact: &Contact) -> Result<(), NoMemory>
 pub(crate) fn table_of(
     alloc: Global,
     own: Id,
-    look: &LookWords,
+    k: u8,
+    bits: u8,
     contacts: &[Contact],
 ) -> Result<Table, NoMemory>
-    requires { IsInRange look.now }
-    ensures { let empty = new_table own look.now.k look.now.bits in
-        IfOk result (TableTold (map seen_call contacts.now) empty) }
+    requires { AreTableBounds k bits }
+    ensures { IfOk result (TableTold (map seen_call contacts.now) (new_table own k bits)) }
 {
-    let mut table = Table::new(alloc, own, look.k, look.bits)?;
+    let mut table = Table::new(alloc, own, k, bits)?;
     for contact in contacts {
         tell_seen(&mut table, contact)?;
     }

@@ -6,6 +6,7 @@ mod plain;
 mod puzzled;
 mod replies;
 mod script;
+mod serving;
 mod simulated;
 
 use crate::run;
@@ -340,13 +341,13 @@ fn too_long_an_input_is_named(rt: HostRuntime) -> Result<(), Fail> {
     Ok(())
 }
 
-/// No words at all, a command that there is not, and one that is not built.
+/// No words at all, a command that there is not, and what no command takes.
 #[test]
 fn words_that_ask_for_nothing(rt: HostRuntime) -> Result<(), Fail> {
     let zeros = "0000000000000000000000000000000000000000";
     refuses(&rt, &[])?;
     refuses(&rt, &["find"])?;
-    refuses(&rt, &["serve"])?;
+    refuses(&rt, &["serve", "--receives", "0"])?;
     refuses(&rt, &["lookup"])?;
     refuses(&rt, &["lookup", "--target", &zeros[1..]])?;
     refuses(&rt, &["lookup", "--target", zeros, "--k", "21"])?;

@@ -5,7 +5,7 @@ ghost use Rattle.node_top.specs.Asked.{Asks, AsksPlain, bytes_of};
 ghost use Rattle.node_top.specs.Shown.{shown, IsTold, HasFailed};
 ghost use Rattle.node_top.specs.Input.{HasBadLine, ReadsTooMuch};
 ghost use Rattle.node_top.specs.Plainly.{HasNothing, ReadsInput};
-ghost use Rattle.node_top.specs.Commands.{IsDone, HasText, HasCause, HasBegun, HasNoSeeds, HasSeeds, HasStrays, GoesWell};
+ghost use Rattle.node_top.specs.Commands.{IsDone, HasText, HasCause, HasBegun, HasNoSeeds, HasSeeds, HasStart, HasStrays, GoesWell};
 ghost use Rattle.node_top.specs.Endings.{number_of, WritesLine, CutShort, EndsByCommand, EndsEarly, OrNoMemory};
 
 use crate::asked::asked;
@@ -13,6 +13,7 @@ use crate::lookup::lookup;
 use crate::output::{write_line, write_output};
 use crate::peers::peers;
 use crate::plain::plain_output_of;
+use crate::serve::{Service, serve};
 use crate::status::Status;
 use kad_base::{Bytes, Check, Link, Sink, Source};
 use kad_words::{Command, takes_link};
@@ -49,6 +50,22 @@ fn linked_output_of<S: Source, L: Link, C: Check>(
         Command::Lookup { look } => lookup(alloc, &look, source, link, random, check, hasher),
         Command::Peers { look, announce } => {
             peers(alloc, &look, announce, source, link, random, check, hasher)
+        }
+        Command::Serve {
+            own,
+            k,
+            bits,
+            policy,
+            receives,
+        } => {
+            let service = Service {
+                own,
+                k,
+                bits,
+                policy,
+                receives,
+            };
+            serve(alloc, &service, source, link, random, check)
         }
         _ => Err(Status::Usage),
     }
@@ -93,13 +110,14 @@ fn output_of<S: Source, L: Link, C: Check>(
 ///
 /// `lookup` tells a new routing table of the contact lines of the source, asks the closest contacts of the table on several
 /// disjoint paths, and writes the closest contacts that answered, nearest first. `peers` does the same with `get_peers`,
-/// announces a port where it is told one, and writes the peers that the answers named. The commands that take no link are done as
-/// by `run_plain`. What words a command has is the business of `kad_words`.
+/// announces a port where it is told one, and writes the peers that the answers named. `serve` tells its table the same, answers
+/// the queries that come in a stated number of receive calls (BEP 5), and writes how many datagrams came and how many replies
+/// were sent. The commands that take no link are done as by `run_plain`. What words a command has is the business of `kad_words`.
 ///
 /// | Status | Line | When |
 /// |---|---|---|
 /// | 0 | the output | done |
-/// | 2 | `usage` | the words are not of the plain form, or their command isn't built |
+/// | 2 | `usage` | the words are not of the plain form |
 /// | 3 | `bad line n` | line n is the first that is no contact line |
 /// | 4 | `link fault` | a receive failed |
 /// | 5 | none | a write failed |
@@ -121,13 +139,13 @@ pub fn run<R, S: Source, K: Sink, L: Link, C: Check>(
     hasher: RandomState,
 ) -> u8
     // The text that was written is the command's own: a lookup's is that of a legal journal which the link's events tell
-    // and whose paths have run out.
+    // and whose paths have run out, and that of a node which served counts what they tell.
     ensures done { result ≡ 0 → IsDone (bytes_of words.now) random.now
         (shown S.left S.faults source.old source.new)
         (shown L.told L.recv_faults link.old link.new)
         (shown K.written K.faults sink.old sink.new) }
 
-    // Words that ask for no command that is built end with 2, and only they.
+    // Words that ask for no command end with 2, and only they.
     ensures usage { result ≡ 2 ↔ ¬ Asks (bytes_of words.now) }
 
     // Each other status but 9 comes only with its cause.
@@ -139,7 +157,9 @@ pub fn run<R, S: Source, K: Sink, L: Link, C: Check>(
         × HasFailed (shown S.left S.faults source.old source.new) }
     ensures strays { result ≡ 7 → HasStrays (bytes_of words.now) random.now
         (shown L.told L.recv_faults link.old link.new) }
-    ensures begun { (result ≡ 4) ⊎ (result ≡ 7) → HasSeeds (bytes_of words.now) random.now
+    ensures begun { result ≡ 4 → HasStart (bytes_of words.now) random.now
+        (shown S.left S.faults source.old source.new) }
+    ensures seeded { result ≡ 7 → HasSeeds (bytes_of words.now) random.now
         (shown S.left S.faults source.old source.new) }
     ensures unfinished { (result ≡ 4) ⊎ (result ≡ 7) → HasBegun (bytes_of words.now) random.now
         (shown S.left S.faults source.old source.new)
@@ -183,7 +203,7 @@ pub fn run<R, S: Source, K: Sink, L: Link, C: Check>(
         (shown K.written K.faults sink.old sink.new) }
 
     // What was not called: the source at 2, and for a command that reads no input; and the link at each status that comes
-    // before a lookup begins, and for a command that takes none.
+    // before it is first called, and for a command that takes none.
     ensures unread { result ≡ 2 → source.new ≡ source.old }
     ensures no_input { ¬ ReadsInput (bytes_of words.now) → source.new ≡ source.old }
     ensures unasked { EndsEarly result → link.new ≡ link.old }

@@ -108,7 +108,7 @@ fn is_at(sent: &[Vec<u8>], place: usize, wanted: &[u8]) -> bool {
 
 #[test]
 fn a_peer_is_printed(rt: HostRuntime) -> Result<(), Fail> {
-    let link = link_from(rt.alloc(), &[(1, ONE_PEER)], &[])?;
+    let link = link_from(rt.alloc(), &[(6001, ONE_PEER)], &[], &[])?;
     let text = "127.0.0.1:6881\npeers 1 found 1 asked 1 failed 0 turned 0 announced 0\n";
     let sent = sends(&rt, &[], LINE_1, link, text)?;
     assert_eq!(rt; sent.len(), 1);
@@ -118,7 +118,7 @@ fn a_peer_is_printed(rt: HostRuntime) -> Result<(), Fail> {
 
 #[test]
 fn a_port_is_announced_with_the_token(rt: HostRuntime) -> Result<(), Fail> {
-    let link = link_from(rt.alloc(), &[(1, ONE_PEER)], &[])?;
+    let link = link_from(rt.alloc(), &[(6001, ONE_PEER)], &[], &[])?;
     let text = "127.0.0.1:6881\npeers 1 found 1 asked 1 failed 0 turned 0 announced 1\n";
     let sent = sends(&rt, ANNOUNCE, LINE_1, link, text)?;
     assert_eq!(rt; sent.len(), 2);
@@ -128,7 +128,7 @@ fn a_port_is_announced_with_the_token(rt: HostRuntime) -> Result<(), Fail> {
 
 #[test]
 fn port_0_announces_the_one_that_the_datagram_comes_from(rt: HostRuntime) -> Result<(), Fail> {
-    let link = link_from(rt.alloc(), &[(1, ONE_PEER)], &[])?;
+    let link = link_from(rt.alloc(), &[(6001, ONE_PEER)], &[], &[])?;
     let text = "127.0.0.1:6881\npeers 1 found 1 asked 1 failed 0 turned 0 announced 1\n";
     let sent = sends(&rt, IMPLY, LINE_1, link, text)?;
     assert_eq!(rt; sent.len(), 2);
@@ -138,7 +138,7 @@ fn port_0_announces_the_one_that_the_datagram_comes_from(rt: HostRuntime) -> Res
 
 #[test]
 fn a_refused_announcement_is_not_counted(rt: HostRuntime) -> Result<(), Fail> {
-    let link = link_from(rt.alloc(), &[(1, ONE_PEER)], &[1])?;
+    let link = link_from(rt.alloc(), &[(6001, ONE_PEER)], &[1], &[])?;
     let text = "127.0.0.1:6881\npeers 1 found 1 asked 1 failed 0 turned 0 announced 0\n";
     let sent = sends(&rt, ANNOUNCE, LINE_1, link, text)?;
     assert_eq!(rt; sent.len(), 1);
@@ -150,7 +150,12 @@ fn a_refused_announcement_is_not_counted(rt: HostRuntime) -> Result<(), Fail> {
 #[test]
 fn peers_of_several_answers_stand_once_and_in_order(rt: HostRuntime) -> Result<(), Fail> {
     let input = lines(rt.alloc(), 1, 2)?;
-    let link = link_from(rt.alloc(), &[(1, ONE_PEER), (2, FOUR_PEERS)], &[])?;
+    let link = link_from(
+        rt.alloc(),
+        &[(6001, ONE_PEER), (6002, FOUR_PEERS)],
+        &[],
+        &[],
+    )?;
     let sent = sends(&rt, ANNOUNCE, input.as_str(), link, THREE_PEERS)?;
     assert_eq!(rt; sent.len(), 4);
     assert!(rt; is_at(&sent, 2, THIRD));
@@ -161,7 +166,7 @@ fn peers_of_several_answers_stand_once_and_in_order(rt: HostRuntime) -> Result<(
 /// A peer with port 0 is a peer; members of another length, and a number, are passed over. No token, no announcement.
 #[test]
 fn odd_peers_and_no_token(rt: HostRuntime) -> Result<(), Fail> {
-    let link = link_from(rt.alloc(), &[(1, ODD_PEERS)], &[])?;
+    let link = link_from(rt.alloc(), &[(6001, ODD_PEERS)], &[], &[])?;
     let text = "127.0.0.1:0\npeers 1 found 1 asked 1 failed 0 turned 0 announced 0\n";
     let sent = sends(&rt, ANNOUNCE, LINE_1, link, text)?;
     assert_eq!(rt; sent.len(), 1);
@@ -172,7 +177,12 @@ fn odd_peers_and_no_token(rt: HostRuntime) -> Result<(), Fail> {
 #[test]
 fn a_token_of_a_contact_that_is_not_found_is_not_used(rt: HostRuntime) -> Result<(), Fail> {
     let input = lines(rt.alloc(), 2, 2)?;
-    let link = link_from(rt.alloc(), &[(2, NAMING_1), (1, SECOND_ANSWER)], &[])?;
+    let link = link_from(
+        rt.alloc(),
+        &[(6002, NAMING_1), (6001, SECOND_ANSWER)],
+        &[],
+        &[],
+    )?;
     let text = "peers 0 found 1 asked 2 failed 0 turned 0 announced 1\n";
     let sent = sends(&rt, ONE_FOUND, input.as_str(), link, text)?;
     assert_eq!(rt; sent.len(), 3);
@@ -182,6 +192,6 @@ fn a_token_of_a_contact_that_is_not_found_is_not_used(rt: HostRuntime) -> Result
 
 #[test]
 fn peers_begin_with_a_contact(rt: HostRuntime) -> Result<(), Fail> {
-    let link = link_from(rt.alloc(), &[(1, ONE_PEER)], &[])?;
+    let link = link_from(rt.alloc(), &[(6001, ONE_PEER)], &[], &[])?;
     shows(&rt, PEERS, "", link, 8, "no seeds\n")
 }

@@ -143,13 +143,19 @@ fn with_replies(alloc: Global, script: Script, replies: &[Reply]) -> Result<Scri
     Ok(script)
 }
 
-/// The bytes from contact n at this moment, that many times.
-fn datagram(alloc: Global, n: u8, bytes: &[u8], at: u64, times: u32) -> Result<ScriptEvent, Fail>
+/// The bytes from this port at this moment, that many times.
+fn delivered(
+    alloc: Global,
+    port: u16,
+    bytes: &[u8],
+    at: u64,
+    times: u32,
+) -> Result<ScriptEvent, Fail>
     ensures { IfOk result IsWritableEvent }
 {
     Ok(ScriptEvent::Deliver {
         at,
-        from: contact(n).addr,
+        from: local(port),
         bytes: List::from_slice(alloc, bytes)?,
         times,
     })
@@ -182,28 +188,30 @@ pub fn link_with(
     replies: &[Reply],
 ) -> Result<ScriptLink, Fail> {
     let mut script = List::new(alloc);
-    let datagram = datagram(alloc, 1, bytes, at, times)?;
+    let datagram = delivered(alloc, port(1), bytes, at, times)?;
     script.push(datagram)?;
     let script = with_replies(alloc, script, replies)?;
     Ok(link_over(alloc, script))
 }
 
-/// A link over these datagrams from contacts of these numbers, ten milliseconds one after the other from moment 10 on,
-/// where the sends of these numbers, from 0, fail.
+/// A link over these datagrams from these ports, ten milliseconds one after the other from moment 10 on, where the sends and
+/// the receives of these numbers, from 0, fail.
 pub fn link_from(
     alloc: Global,
-    datagrams: &[(u8, &[u8])],
+    datagrams: &[(u16, &[u8])],
     sends: &[u64],
+    receives: &[u64],
 ) -> Result<ScriptLink, Fail> {
     let mut script = List::new(alloc);
     let mut at = 0u64;
-    for (n, bytes) in datagrams {
+    for (port, bytes) in datagrams {
         at = at.saturating_add(10);
-        let event = datagram(alloc, *n, bytes, at, 1)?;
+        let event = delivered(alloc, *port, bytes, at, 1)?;
         script.push(event)?;
     }
     let sends = List::from_slice(alloc, sends)?;
-    Ok(ScriptLink::new(alloc, 0, script, sends, List::new(alloc)))
+    let receives = List::from_slice(alloc, receives)?;
+    Ok(ScriptLink::new(alloc, 0, script, sends, receives))
 }
 
 /// A link over this script, whose first moment is 0.
