@@ -20,6 +20,7 @@ use Rattle.claim_book.specs.declared.plain.Entry.{Entry}
 use Rattle.claim_book.specs.Journal.{asked, failed, turned}
 use Rattle.claim_book.specs.Result.{result_of}
 use Rattle.claim_book.proofs.Claims.{asked_distinct}
+use Rattle.claim_book.proofs.Descent.{own_answers}
 use Rattle.lookup_run.specs.declared.plain.LookSetting.{LookSetting}
 use Rattle.lookup_run.specs.declared.plain.AskKind.{AskKind}
 use Rattle.lookup_run.specs.declared.plain.Outcome.{Outcome}
@@ -55,7 +56,13 @@ text_is s o text a b c d is =
 
 pub begun_of : (kind : AskKind) (look : LookWords) (random : List ℕ) (source : Shown ℕ) (link : Shown Event) (start : Start look random source) (left : WordsState) → Unfinished (look_of kind look random) start.table (drawn_of random) left link.before link.after
     → Begun kind look random source link
-begun_of kind look random source link start left h = record { start = start; left = left; so_far = h; asked_once = asked_distinct (book_of kind look random) h.journal h.legal }
+begun_of kind look random source link start left h = record {
+  start = start;
+  left = left;
+  so_far = h;
+  asked_once = asked_distinct (book_of kind look random) h.journal h.legal;
+  own_answers = own_answers (book_of kind look random) h.journal h.legal;
+}
 
 pub tells_early : (g : Given) (J : List Entry) (events : List Event) → Tells g J events → TellsEarly g J events
 tells_early g J events h = record { front = events; end = h.end; so_far = h.so_far; whole = inl refl }

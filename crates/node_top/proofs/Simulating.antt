@@ -19,6 +19,7 @@ use Rattle.contact_table.specs.TableStep.{contacts_of}
 use Rattle.contact_table.specs.Told.{new_table}
 use Rattle.claim_book.specs.Journal.{asked, failed, turned}
 use Rattle.claim_book.specs.Result.{result_of}
+use Rattle.claim_book.proofs.Descent.{own_answers}
 use Rattle.lookup_run.specs.declared.plain.LookSetting.{LookSetting}
 use Rattle.lookup_run.specs.declared.plain.AskKind.TheVariants.{FindNode}
 use Rattle.lookup_run.specs.declared.plain.Outcome.{Outcome}
@@ -112,6 +113,7 @@ simulates_at s left contacts table near o events text admits told near_is plays 
       tells = up.tells;
       rounds = rounds;
       run_out = up.run_out;
+      own_answers = own_answers (book_of FindNode (sim_look s) s.seed) o.journal up.legal;
       text_is =
           is
           ∙ ap (λ (l : List Contact). line_of (sim_text (length l) o.counts.asked o.counts.failed o.counts.turned (count_among near l))) up.found

@@ -12,6 +12,7 @@ use Rattle.id_puzzles.specs.Drawn.{WordsState}
 use Rattle.claim_book.specs.declared.plain.Setting.{Setting}
 use Rattle.claim_book.specs.declared.plain.Entry.{Entry}
 use Rattle.claim_book.specs.Journal.{asked, failed, turned}
+use Rattle.claim_book.specs.Lineage.{GoesByOwnAnswers}
 use Rattle.claim_book.specs.Result.{result_of}
 use Rattle.lookup_run.specs.declared.plain.AskKind.{AskKind}
 use Rattle.lookup_run.specs.Tells.{Tells, EndsAtStray}
@@ -49,12 +50,13 @@ pub record LooksAt (kind : AskKind) (look : LookWords) (random : List ℕ) (sour
   pub text_is : text ≡ printed_of (book_of kind look random) journal
 
 -- A lookup that ended early: there is a legal journal that begins with the same contacts, which the events tell so far. So
--- no contact was asked twice either.
+-- no contact was asked twice either, and what a path asked came from its own seeds and answers.
 pub record Begun (kind : AskKind) (look : LookWords) (random : List ℕ) (source : Shown ℕ) (link : Shown Event) : Type 0 where
   pub start : Start look random source
   pub left : WordsState
   pub so_far : Unfinished (look_of kind look random) start.table (drawn_of random) left link.before link.after
   pub asked_once : IsDistinct same (asked so_far.journal)
+  pub own_answers : GoesByOwnAnswers (book_of kind look random) so_far.journal
 
 -- why a lookup ended with no output
 abbrev pub LookCause : AskKind → LookWords → List ℕ → Shown ℕ → Shown Event → Status → Type 0

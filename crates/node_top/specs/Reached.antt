@@ -13,6 +13,7 @@ use Rattle.claim_book.specs.Journal.{seeds, took, asked, answered}
 use Rattle.claim_book.specs.Legal.{Legal}
 use Rattle.claim_book.specs.RunOut.{RunOut}
 use Rattle.claim_book.specs.Result.{result_of}
+use Rattle.claim_book.specs.Lineage.{GoesByOwnAnswers}
 use Rattle.claim_book.specs.Calls.{Counted}
 use Rattle.lookup_run.specs.declared.plain.AskKind.{AskKind}
 use Rattle.lookup_run.specs.declared.plain.Token.{Token}
@@ -26,8 +27,8 @@ use Rattle.node_top.specs.Shown.{Shown}
 use Rattle.node_top.specs.Started.{look_of, book_of, drawn_of, lookup_of, Start}
 
 -- The journal of a lookup that was asked for: it is legal and begins with the k closest contacts of the table that the
--- input gives, and every path has run out in it. So no contact is taken or asked twice, and each of the result has
--- answered.
+-- input gives, and every path has run out in it. So no contact is taken or asked twice, what a path asks comes from its own
+-- seeds and answers, and each of the result has answered.
 pub record HasRunOut (kind : AskKind) (look : LookWords) (random : List ℕ) (source : Shown ℕ) (J : List Entry) : Type 0 where
   pub start : Start look random source
   pub legal : Legal (book_of kind look random) J
@@ -35,6 +36,7 @@ pub record HasRunOut (kind : AskKind) (look : LookWords) (random : List ℕ) (so
   pub run_out : (p : ℕ) → p < look.paths → RunOut (book_of kind look random) p J
   pub taken_once : IsDistinct same (took J)
   pub asked_once : IsDistinct same (asked J)
+  pub own_answers : GoesByOwnAnswers (book_of kind look random) J
   pub have_answered : (c : Contact) → among (result_of (book_of kind look random) J) c ≡ true → among (answered J) c ≡ true
 
 -- what the events of a whole lookup tell: its journal, by rounds, and the peers and tokens that its answers gave; and they

@@ -17,6 +17,7 @@ use Rattle.claim_book.specs.declared.plain.Entry.{Entry}
 use Rattle.claim_book.specs.Journal.{seeds, asked, failed, turned}
 use Rattle.claim_book.specs.Legal.{Legal}
 use Rattle.claim_book.specs.RunOut.{RunOut}
+use Rattle.claim_book.specs.Lineage.{GoesByOwnAnswers}
 use Rattle.claim_book.specs.Result.{result_of}
 use Rattle.lookup_run.specs.declared.plain.AskKind.TheVariants.{FindNode}
 use Rattle.lookup_run.specs.Tells.{Tells}
@@ -97,8 +98,8 @@ pub record Begins (s : Simulation) (start : Start) : Type 0 where
 
 -- A lookup in the network. The table is told of its first nodes, in order, but for one with the identifier of the node that
 -- looks up; the journal is legal and begins with the k closest of that table; the events, from the first on, are those
--- that this network plays, and they tell the journal and go by rounds; every path has run out; and the line is the
--- journal's.
+-- that this network plays, and they tell the journal and go by rounds; every path has run out; what a path asked came from
+-- its own seeds and answers; and the line is the journal's.
 pub record Simulates (s : Simulation) (text : List ℕ) : Type 0 where
   pub contacts : List Contact
   pub admits : Admits (own_of None s.seed) Plain (first_nodes s) contacts
@@ -112,4 +113,5 @@ pub record Simulates (s : Simulation) (text : List ℕ) : Type 0 where
   pub tells : Grows (Some []) (Some events) (λ events. Tells (lookup_of FindNode (sim_look s) s.seed) journal events)
   pub rounds : Grows (Some []) (Some events) (λ events. Rounds (lookup_of FindNode (sim_look s) s.seed) journal events)
   pub run_out : (p : ℕ) → p < s.paths → RunOut (book_of FindNode (sim_look s) s.seed) p journal
+  pub own_answers : GoesByOwnAnswers (book_of FindNode (sim_look s) s.seed) journal
   pub text_is : text ≡ line_of (sim_text_of s journal)
