@@ -5,4 +5,4 @@ use Rattle.node_top.specs.Started.{seen_call}
 use Rattle.node_top.proofs.start.table_of.Given as goal
 
 abbrev pub invariant-loop-contact : goal.invariant-loop-contact
-invariant-loop-contact l = TableTold (map seen_call (take l.contact-index l.contacts)) (new_table l.fn.own l.fn.look.k l.look.bits) l.table
+invariant-loop-contact l = TableTold (map seen_call (take l.contact-index l.contacts)) (new_table l.fn.own l.fn.k l.fn.bits) l.table
