@@ -26,8 +26,8 @@ unreachable-requires g c =
     let is : IsErrOf c.look_up_alone-ended.result.1 fault.LinkFault = search rules in
     absurd (no_rise (c.look_up_alone-ended.ensures.link is))
 
-pub unreachable-2-requires : goal.unreachable-2-requires
-unreachable-2-requires g c =
+pub unreachable-requires-in-Err-Strays : goal.unreachable-requires-in-Err-Strays
+unreachable-requires-in-Err-Strays g c =
     let is : IsErrOf c.look_up_alone-ended.result.1 fault.Strays = search rules in
     absurd
         (no_strays c.in_ok-start.start.setting c.in_ok-start.start.table c.new-words.result c.look_up_alone-ended.new.words c.look_up_alone-ended.new.link.network c.in_ok-net.net.told c.look_up_alone-ended.new.link.told
