@@ -6,6 +6,7 @@ ghost use Rattle.kad_base.specs.Contacts.{IsUsable};
 ghost use Rattle.contact_table.specs.TableStep.{contacts_of};
 ghost use Rattle.lookup_run.specs.Lookup.{IsWithinLimits};
 
+mod hostile;
 mod script;
 
 use crate::{AskKind, LookSetting, Outcome, look_up_alone};

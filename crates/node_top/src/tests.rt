@@ -1,5 +1,7 @@
 //! Whole lookups over a scripted link.
 mod crowd;
+mod drawn;
+mod hostile;
 mod paths;
 mod peering;
 mod plain;

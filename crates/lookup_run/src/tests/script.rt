@@ -150,6 +150,30 @@ pub fn peers_link(alloc: Global) -> Result<ScriptLink, Fail> {
 
 /// A link over these replies, whose first moment is 0.
 pub fn link(alloc: Global, replies: &[Reply]) -> Result<ScriptLink, Fail> {
+    failing_link(alloc, replies, &[], &[])
+}
+
+/// The same, where the sends and the receives of these numbers, from 0, fail.
+pub fn failing_link(
+    alloc: Global,
+    replies: &[Reply],
+    sends: &[u64],
+    receives: &[u64],
+) -> Result<ScriptLink, Fail> {
     let script = with_replies(alloc, List::new(alloc), replies)?;
+    let sends = List::from_slice(alloc, sends)?;
+    let receives = List::from_slice(alloc, receives)?;
+    Ok(ScriptLink::new(alloc, 0, script, sends, receives))
+}
+
+/// A link over these bytes from contact 1 at moment 10.
+pub fn link_of(alloc: Global, bytes: &[u8]) -> Result<ScriptLink, Fail> {
+    let mut script = List::new(alloc);
+    script.push(ScriptEvent::Deliver {
+        at: 10,
+        from: contact(1).addr,
+        bytes: List::from_slice(alloc, bytes)?,
+        times: 1,
+    })?;
     Ok(ScriptLink::new(alloc, 0, script, List::new(alloc), List::new(alloc)))
 }

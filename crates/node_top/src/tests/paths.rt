@@ -4,7 +4,7 @@ use crate::tests::{FOUND_1, LINE_1, ONE_PATH, lines, shows};
 use std::test::Fail;
 
 /// A lookup of zeros by the node of ones, on two paths.
-const TWO_PATHS: &[&str] = &[
+pub(crate) const TWO_PATHS: &[&str] = &[
     "lookup",
     "--target",
     "0000000000000000000000000000000000000000",

@@ -11,7 +11,7 @@ const NODES_OF_27_BYTES: &[u8] =
     b"d1:rd2:id20:\0\0\0\0\0\0\0\0\0\0\0\0\0\0\0\0\0\0\0\x015:nodes27:\0\0\0\0\0\0\0\0\0\0\0\0\0\0\0\0\0\0\0\x02\x7f\0\0\x01\x17\x72\0e1:t4:\xa0\x8d\xed\x1a1:y1:re";
 
 /// Contact 1 says who asked (BEP 42), its port and its client beside what BEP 5 asks for, and names contact 2.
-const A_USUAL_ANSWER: &[u8] =
+pub(crate) const A_USUAL_ANSWER: &[u8] =
     b"d2:ip6:\x7f\0\0\x01\x1a\xe11:rd2:id20:\0\0\0\0\0\0\0\0\0\0\0\0\0\0\0\0\0\0\0\x015:nodes26:\0\0\0\0\0\0\0\0\0\0\0\0\0\0\0\0\0\0\0\x02\x7f\0\0\x01\x17\x721:pi6881ee1:t4:\xa0\x8d\xed\x1a1:v4:LT011:y1:re";
 
 /// Contact 1 would be found by its later answer, if the error message were a stray.
