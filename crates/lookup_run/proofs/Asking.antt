@@ -364,7 +364,7 @@ asks_not look p words work told keeps has settled none = record {
   none_below = none;
   stand = refl;
   lighter = omega arith;
-  goes = λ b start table began h. h;
+  goes = λ b manner start table began h. h;
 }
 
 none_more : (s : Setting) (p : ℕ) (J : List Entry) → NoneAsks s p J → may_ask s p J ≡ None → NoneAsks s (p + 1) J
@@ -379,7 +379,7 @@ asks_then look p q r words words' words'' old mid new a b c h k = record {
   none_below = k.none_below;
   stand = k.stand ∙ h.stand;
   lighter = (let x = h.lighter in let y = k.lighter in omega (arith, x, y));
-  goes = λ d start table began x. k.goes d start table began (h.goes d start table began x);
+  goes = λ d manner start table began x. k.goes d manner start table began (h.goes d manner start table began x);
 }
 
 -- the path may ask nothing more
@@ -393,7 +393,7 @@ asks_over look p words words' words'' old mid new a b c h k =
       none_below = none;
       stand = h.stand;
       lighter = h.lighter;
-      goes = λ d start table began x. along_later look start table began words' mid d p (p + 1) b (omega arith) (h.goes d start table began x);
+      goes = λ d manner start table began x. along_later manner look start table began words' mid d p (p + 1) b (omega arith) (h.goes d manner start table began x);
     } in
     subst (λ (w : WordsState). Asks look p (p + 1) words w old new a c) (sym k.same_words)
     (subst (λ (x : Work). Asks look p (p + 1) words words' old x a c) (sym k.same_work)

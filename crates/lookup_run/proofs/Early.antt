@@ -1,6 +1,6 @@
 -- A lookup that ends early: its events tell the journal so far.
 use Rattle.std.proofs.Common.{◌≡◌, ◌⊎◌, ℕ, ◌+◌, List, [], ◌∷◌, ◌++◌, Option, Result, Ok, Err, inl, inr, refl, sym, ap, subst, ◌∙◌}
-use Rattle.std.specs.Prelude.{map, OnErr, IsErrOf}
+use Rattle.std.specs.Prelude.{map, IfOk, IfErr, OnOk, OnErr, IsErrOf}
 use Rattle.std.proofs.lemmas.List.{append-nil}
 use Rattle.kad_base.specs.declared.plain.Addr.{Addr}
 use Rattle.kad_base.specs.declared.plain.Event.{Event}
@@ -17,52 +17,53 @@ use Rattle.lookup_run.specs.declared.plain.LookFault.{LookFault}
 use Rattle.lookup_run.specs.declared.plain.LookSetting.{LookSetting}
 use Rattle.lookup_run.specs.declared.plain.Work.{Work}
 use Rattle.lookup_run.specs.Tells.{Given, Seen, TellsFrom, TellsSoFar, IsStray, begun}
+use Rattle.lookup_run.specs.Rounds.{Manner}
 use Rattle.lookup_run.specs.Gathered.{Answered}
-use Rattle.lookup_run.specs.Lookup.{setting_of, given_of, TellsEarly, Told, TableTold, TableRan}
+use Rattle.lookup_run.specs.Lookup.{setting_of, given_of, TellsEarly, Told, TableToldBy, TableRan}
 use Rattle.lookup_run.specs.Standing.{as_open, Walk, Shows}
 use Rattle.lookup_run.specs.Steps.{Stops, EndsByStray}
 
-pub tells_of : (g : Given) (J P : List Entry) (s : Seen) (es : List Event) (t : Seen) (Q : List Entry) (heard : List Answered) → Walk g J P s es t Q heard → TellsFrom g J s es t
-tells_of g J P s [] t Q heard h = h.0
-tells_of g J P s (e ∷ es) t Q heard h = (h.0.mid, h.0.gives, tells_of g J ((P ++ h.0.between) ++ h.0.gave) h.0.mid es t Q h.1 h.2)
+pub tells_of : (manner : Manner) (g : Given) (J P : List Entry) (s : Seen) (es : List Event) (t : Seen) (Q : List Entry) (heard : List Answered) → Walk manner g J P s es t Q heard → TellsFrom g J s es t
+tells_of manner g J P s [] t Q heard h = h.0
+tells_of manner g J P s (e ∷ es) t Q heard h = (h.0.mid, h.0.gives, tells_of manner g J ((P ++ h.0.between) ++ h.0.gave) h.0.mid es t Q h.1 h.2)
 
-pub so_far_of : (g : Given) (work : Work) (place b a : ℕ) (es : List Event) (h : Shows g work place b a es) → TellsSoFar g work.book.journal es h.end
-so_far_of g work place b a es h =
+pub so_far_of : (manner : Manner) (g : Given) (work : Work) (place b a : ℕ) (es : List Event) (h : Shows manner g work place b a es) → TellsSoFar g work.book.journal es h.end
+so_far_of manner g work place b a es h =
     subst (λ l. TellsSoFar g work.book.journal l h.end) (sym h.first)
-    (tells_of g work.book.journal (seeded g.setting.paths (seeds work.book.journal)) (begun h.at) h.rest h.end h.last h.heard h.walk, h.stands.given)
+    (tells_of manner g work.book.journal (seeded g.setting.paths (seeds work.book.journal)) (begun h.at) h.rest h.end h.last h.heard h.walk, h.stands.given)
 
-pub ran_of : (calls : List Told) (t u v : TableState) → v ≡ u → TableTold calls t u → TableRan t v
-ran_of calls t u v same h = record { run = h.run; is_run = h.is_run; leaves = same ∙ h.leaves }
+pub ran_of : (manner : Manner) (calls : List Told) (t u v : TableState) → v ≡ u → TableToldBy manner calls t u → TableRan t v
+ran_of manner calls t u v same h = record { run = h.run; is_run = h.is_run; leaves = same ∙ h.leaves }
 
 -- nothing more was told, or a datagram
 abbrev pub IsEarly : List Event → Type 0
 IsEarly more = (more ≡ []) ⊎ ((from : Addr) × (bytes : List ℕ) × (until : ℕ) × (at : ℕ) × (more ≡ Got from bytes until at ∷ []))
 
-early_of : (g : Given) (work : Work) (place b a : ℕ) (es fs : List Event) → Shows g work place b a es → IsEarly fs → TellsEarly g work.book.journal (es ++ fs)
-early_of g work place b a es fs h (inl is) = record { front = es; end = h.end; so_far = so_far_of g work place b a es h; whole = inl (ap (λ l. es ++ l) is ∙ append-nil es) }
-early_of g work place b a es fs h (inr got) = record { front = es; end = h.end; so_far = so_far_of g work place b a es h; whole = inr (got.0, got.1, got.2, got.3, ap (λ l. es ++ l) got.4) }
+early_of : (manner : Manner) (g : Given) (work : Work) (place b a : ℕ) (es fs : List Event) → Shows manner g work place b a es → IsEarly fs → TellsEarly g work.book.journal (es ++ fs)
+early_of manner g work place b a es fs h (inl is) = record { front = es; end = h.end; so_far = so_far_of manner g work place b a es h; whole = inl (ap (λ l. es ++ l) is ∙ append-nil es) }
+early_of manner g work place b a es fs h (inr got) = record { front = es; end = h.end; so_far = so_far_of manner g work place b a es h; whole = inr (got.0, got.1, got.2, got.3, ap (λ l. es ++ l) got.4) }
 
 -- nothing more was told
-pub early_now : (g : Given) (work : Work) (place b a : ℕ) (es : List Event) → Shows g work place b a es → TellsEarly g work.book.journal es
-early_now g work place b a es h = record { front = es; end = h.end; so_far = so_far_of g work place b a es h; whole = inl refl }
+pub early_now : (manner : Manner) (g : Given) (work : Work) (place b a : ℕ) (es : List Event) → Shows manner g work place b a es → TellsEarly g work.book.journal es
+early_now manner g work place b a es h = record { front = es; end = h.end; so_far = so_far_of manner g work place b a es h; whole = inl refl }
 
 -- the journal is that from before the step
 pub stops_of : (look : LookSetting) (words : WordsState) (old new : Work) (told told' : Option (List Event)) → Legal (setting_of look) old.book.journal → new.table ≡ old.table → Grows told told' IsEarly → Stops look words words old new told told'
-stops_of look words old new told told' legal table grows start from began b a h = record {
+stops_of look words old new told told' legal table grows manner start from began b a h = record {
   unfinished = record {
     journal = old.book.journal;
     legal = legal;
     seeds_are = h.seeds_are;
-    tells = grows_then began told told' _ _ _ h.shows grows (λ es fs p is. early_of (given_of look start) old words.place b a es fs p is);
+    tells = grows_then began told told' _ _ _ h.shows grows (λ es fs p is. early_of manner (given_of look start) old words.place b a es fs p is);
     drawn = h.drawn;
   };
-  ran = ran_of _ from old.table new.table table h.tabled;
+  ran = ran_of manner _ from old.table new.table table h.tabled;
 }
 
 -- the last stray that a lookup takes
 pub ends_by_stray : (look : LookSetting) (words : WordsState) (old : Work) (told told' : Option (List Event)) (source : Addr) (bytes : List ℕ) (until at : ℕ) → ((s : Seen) → s.queries ≡ map (as_open old.book.journal) old.queries → IsStray s source bytes) → Grows told told' (λ es. es ≡ Got source bytes until at ∷ []) → old.stand.strays + 1 ≡ max_strays
     → EndsByStray look words old told told'
-ends_by_stray look words old told told' source bytes until at none grows number start table began b a h =
+ends_by_stray look words old told told' source bytes until at none grows number manner start table began b a h =
     grows_then began told told' _ _ _ h.shows grows (λ es fs p is. record {
       journal = old.book.journal;
       before = es;
@@ -71,7 +72,7 @@ ends_by_stray look words old told told' source bytes until at none grows number 
       bytes = bytes;
       until = until;
       at = at;
-      so_far = so_far_of (given_of look start) old words.place b a es p;
+      so_far = so_far_of manner (given_of look start) old words.place b a es p;
       last = ap (λ l. es ++ l) is;
       stray = none p.end p.stands.queries;
       count = ap (λ n. n + 1) p.stands.strays ∙ number;
@@ -89,3 +90,16 @@ passed_on {T} fault r y x e same is =
     let here : x ≡ fault = sym same ∙ it in
     let passed : ◌≡◌ {A = Result (Unit {0}) LookFault} (Err x) (Err fault) = cc in
     passed
+
+-- what a result that is known promises
+pub ok_of : {T F : Type 0} (r : Result T F) (x : T) (P : T → Type 0) → r ≡ Ok x → IfOk r P → P x
+ok_of r x P is h = subst (λ y. IfOk y P) is h
+
+pub err_of : {T F : Type 0} (r : Result T F) (e : F) (P : F → Type 0) → r ≡ Err e → IfErr r P → P e
+err_of r e P is h = subst (λ y. IfErr y P) is h
+
+pub on_ok : {T F P : Type 0} (r : Result T F) (x : T) → r ≡ Ok x → OnOk r P → P
+on_ok {T} {F} {P} r x is h = subst (λ y. OnOk y P) is h
+
+pub on_err : {T F P : Type 0} (r : Result T F) (e : F) → r ≡ Err e → OnErr r P → P
+on_err {T} {F} {P} r e is h = subst (λ y. OnErr y P) is h

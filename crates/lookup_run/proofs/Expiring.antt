@@ -27,6 +27,7 @@ use Rattle.claim_book.specs.Calls.{asker}
 use Rattle.claim_book.specs.State.{BookState, added}
 use Rattle.lookup_run.specs.declared.plain.Work.{Work}
 use Rattle.lookup_run.specs.Tells.{is_overdue, timed_out, closed_at}
+use Rattle.lookup_run.specs.Rounds.{path_by_path}
 use Rattle.lookup_run.specs.Lookup.{told_of, TableTold}
 use Rattle.lookup_run.specs.Standing.{as_open}
 use Rattle.lookup_run.specs.Steps.{Expires}
@@ -115,7 +116,7 @@ expires_one at old w v q h first due legal book table stand gathered =
       is_open = sym (ap (λ (b : BookState). open_any b.journal) book ∙ opens_lost (asker c w.book.journal) w.book.journal c Timeout ∙ ap (λ l. without l (c ∷ [])) opens
           ∙ without_one c [] (map (λ (x : Query). x.contact) v.queries) (subst (IsDistinct same) opens (opens_distinct w.book.setting w.book.journal legal)));
       table = subst (λ calls. TableTold calls old.table v.table) (sym (ap (flat_map told_of) closed ∙ flat_map-append told_of (map timed_out (map (as_open J) h.gone)) (timed_out (as_open J q) ∷ [])))
-          (table_then (flat_map told_of (map timed_out (map (as_open J) h.gone))) (record { role = 0; call = Failed c } ∷ []) old.table w.table v.table h.table table);
+          (table_then path_by_path (flat_map told_of (map timed_out (map (as_open J) h.gone))) (record { role = 0; call = Failed c } ∷ []) old.table w.table v.table h.table table);
       stand = stand ∙ h.stand;
       gathered = gathered ∙ h.gathered;
     }

@@ -23,3 +23,5 @@ pub mod Looking
 pub mod WholeRound
 pub mod Rounding
 pub mod Trying
+pub mod Closing
+pub mod Shuffled

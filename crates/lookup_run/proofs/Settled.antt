@@ -1,4 +1,4 @@
--- What settling a path leaves: the events show the longer journal, and the table was told of whom it notes.
+-- What settling leaves: the events show the longer journal, and the table was told of whom it notes.
 use Rattle.std.proofs.Common.{◌≡◌, ℕ, zero, suc, ◌+◌, ◌^◌, ◌<◌, ◌≤◌, List, [], ◌∷◌, ◌++◌, length, Option, true, inl, inr, refl, sym, ap, subst, ◌∙◌, arith}
 use Rattle.std.specs.Prelude.{map}
 use Rattle.std.specs.List.{All, AllByRecursion, flat_map}
@@ -27,15 +27,15 @@ use Rattle.path_worker.specs.Settling.{role_of, seen_with, Settling}
 use Rattle.lookup_run.specs.declared.plain.LookSetting.{LookSetting}
 use Rattle.lookup_run.specs.declared.plain.Work.{Work}
 use Rattle.lookup_run.specs.Tells.{Given, driven, begun, deadline_of}
-use Rattle.lookup_run.specs.Rounds.{path_number, SettlesIn, AllSettled}
-use Rattle.lookup_run.specs.Lookup.{setting_of, given_of, drawn_for, Told, told_of, told_in, table_calls, TableTold, TableRan}
+use Rattle.lookup_run.specs.Rounds.{Manner, path_number, SettlesFrom, SettlesIn, AllSettled}
+use Rattle.lookup_run.specs.Lookup.{setting_of, given_of, drawn_for, Told, told_of, told_in, table_calls, TableTold, TableToldBy, TableRan}
 use Rattle.lookup_run.specs.Standing.{IsBare, as_open, Keeps, Keeping, Walk, Shows}
 use Rattle.lookup_run.specs.Steps.{SettlesPaths, Stops}
 use Rattle.lookup_run.proofs.Driven.{driven_append}
 use Rattle.lookup_run.proofs.Early.{early_now}
 use Rattle.lookup_run.proofs.Opens.{opens_kept, each_asked}
-use Rattle.lookup_run.proofs.Quiet.{IsQuiet, each_quiet, no_seeds, none_driven, asked_same, open_same, unsettled_same, settles_from, below_more}
-use Rattle.lookup_run.proofs.Walking.{walk_longer, seeds_same, table_then, calls_more}
+use Rattle.lookup_run.proofs.Quiet.{IsMute, IsQuiet, each_quiet, each_mute, no_seeds, none_driven, asked_same, open_same, unsettled_same, settles_from, below_more}
+use Rattle.lookup_run.proofs.Walking.{walk_longer, seeds_same, told_in_any, table_then, calls_more}
 
 -- ---- the table
 
@@ -88,29 +88,46 @@ ran_then t u v h k = record {
 }
 
 -- a run after calls that were told
-ran_after : (calls : List Told) (t u v : TableState) → TableTold calls t u → TableRan u v → TableRan t v
-ran_after calls t u v h k = ran_then t u v (record { run = h.run; is_run = h.is_run; leaves = h.leaves }) k
+ran_after : (manner : Manner) (calls : List Told) (t u v : TableState) → TableToldBy manner calls t u → TableRan u v → TableRan t v
+ran_after manner calls t u v h k = ran_then t u v (record { run = h.run; is_run = h.is_run; leaves = h.leaves }) k
 
 pub ran_by : (p : ℕ) (old new : Work) → Settling p old.book new.book old.table new.table → TableRan old.table new.table
 ran_by p old new h = record { run = h.run; is_run = h.is_run; leaves = h.leaves }
 
 -- ---- what the events show
 
--- the round is over, so what settles stands in ascending path
-settles_in : (n p : ℕ) (front es : List Entry) → n ≡ 0 → SettlesIn n front → AllByRecursion (λ e. path_number e < p) front → AllByRecursion (IsQuiet p) es → SettlesIn n (front ++ es)
-settles_in zero p front es is s b h = settles_from 0 p front es (omega arith) s b h
-settles_in (suc n) p front es is s b h = absurd (omega (arith, is))
+-- such entries may stand behind what the first b paths settled, and are of the first b' paths
+pub record Continues (manner : Manner) (b b' : ℕ) (more : List Entry) : Type 0 where
+  pub mute : AllByRecursion IsMute more
+  pub settles : (front : List Entry) → SettlesFrom manner 0 front → AllByRecursion (λ e. path_number e < b) front → SettlesFrom manner 0 (front ++ more)
+  pub below : (front : List Entry) → AllByRecursion (λ e. path_number e < b) front → AllByRecursion (λ e. path_number e < b') (front ++ more)
 
-shows_settled : (g : Given) (old new : Work) (more : List Entry) (place p a : ℕ) (es : List Event) → new.book.journal ≡ old.book.journal ++ more → AllByRecursion (IsQuiet p) more → old.stand.receives ≡ 0 → map (λ q. q.contact) old.queries ≡ open_any old.book.journal
-    → new.queries ≡ old.queries → new.stand ≡ old.stand → new.gathered ≡ old.gathered → Shows g old place p a es → Shows g new place (p + 1) a es
-shows_settled g old new more place p a es journal quiet over is_open queries stand gathered h =
+-- what was settled, and what stayed as it was
+pub record SettlesMore (manner : Manner) (b b' : ℕ) (old new : Work) (more : List Entry) : Type 0 where
+  pub setting : new.book.setting ≡ old.book.setting
+  pub journal : new.book.journal ≡ old.book.journal ++ more
+  pub continues : Continues manner b b' more
+  pub tabled : TableToldBy manner (flat_map told_of more) old.table new.table
+  pub queries : new.queries ≡ old.queries
+  pub stand : new.stand ≡ old.stand
+  pub gathered : new.gathered ≡ old.gathered
+
+-- the round is over, so what settles may stand here
+settles_in : (manner : Manner) (n b b' : ℕ) (front es : List Entry) → n ≡ 0 → Continues manner b b' es → SettlesIn manner n front → AllByRecursion (λ e. path_number e < b) front → SettlesIn manner n (front ++ es)
+settles_in manner zero b b' front es is c s below = c.settles front s below
+settles_in manner (suc n) b b' front es is c s below = absurd (omega (arith, is))
+
+shows_settled : (manner : Manner) (g : Given) (old new : Work) (more : List Entry) (place b b' a : ℕ) (es : List Event) → old.stand.receives ≡ 0 → map (λ q. q.contact) old.queries ≡ open_any old.book.journal → SettlesMore manner b b' old new more
+    → Shows manner g old place b a es → Shows manner g new place b' a es
+shows_settled manner g old new more place b b' a es over is_open m h =
     let J = old.book.journal in
     let J' = new.book.journal in
     let st = h.stands in
-    let longer : Walk g J' (seeded g.setting.paths (seeds J)) (begun h.at) h.rest h.end h.last h.heard =
-    subst (λ K. Walk g K (seeded g.setting.paths (seeds J)) (begun h.at) h.rest h.end h.last h.heard) (sym journal) (walk_longer g J more (seeded g.setting.paths (seeds J)) (begun h.at) h.rest h.end h.last h.heard h.walk) in
+    let mute = m.continues.mute in
+    let longer : Walk manner g J' (seeded g.setting.paths (seeds J)) (begun h.at) h.rest h.end h.last h.heard =
+    subst (λ K. Walk manner g K (seeded g.setting.paths (seeds J)) (begun h.at) h.rest h.end h.last h.heard) (sym m.journal) (walk_longer manner g J more (seeded g.setting.paths (seeds J)) (begun h.at) h.rest h.end h.last h.heard h.walk) in
     let paths : map (as_open J') new.queries ≡ map (as_open J) old.queries =
-    ap (map (as_open J')) queries ∙ ap (λ K. map (as_open K) old.queries) journal ∙ opens_kept J more old.queries (each_asked J old.queries is_open) in
+    ap (map (as_open J')) m.queries ∙ ap (λ K. map (as_open K) old.queries) m.journal ∙ opens_kept J more old.queries (each_asked J old.queries is_open) in
     record {
       at = h.at;
       rest = h.rest;
@@ -118,22 +135,57 @@ shows_settled g old new more place p a es journal quiet over is_open queries sta
       end = h.end;
       last = h.last;
       heard = h.heard;
-      walk = subst (λ cs. Walk g J' (seeded g.setting.paths cs) (begun h.at) h.rest h.end h.last h.heard) (sym (seeds_same J more J' journal (no_seeds p more quiet))) longer;
+      walk = subst (λ cs. Walk manner g J' (seeded g.setting.paths cs) (begun h.at) h.rest h.end h.last h.heard) (sym (seeds_same J more J' m.journal (no_seeds more mute))) longer;
       behind = h.behind ++ more;
-      journal = journal ∙ ap (λ l. l ++ more) h.journal ∙ append_assoc h.last h.behind more;
-      settles = settles_in h.end.receives p h.behind more (st.receives ∙ over) h.settles h.below quiet;
-      below = below_more p h.behind more h.below quiet;
+      journal = m.journal ∙ ap (λ l. l ++ more) h.journal ∙ append_assoc h.last h.behind more;
+      settles = settles_in manner h.end.receives b b' h.behind more (st.receives ∙ over) m.continues h.settles h.below;
+      below = m.continues.below h.behind h.below;
       ascends = h.ascends;
       stands = record {
-        moment = st.moment ∙ sym (ap (λ x. x.moment) stand);
+        moment = st.moment ∙ sym (ap (λ x. x.moment) m.stand);
         queries = st.queries ∙ sym paths;
         sends = st.sends;
-        strays = st.strays ∙ sym (ap (λ x. x.strays) stand);
-        receives = st.receives ∙ sym (ap (λ x. x.receives) stand);
-        given = st.given ∙ sym (ap driven journal ∙ driven_append J more ∙ ap (λ l. driven J ++ l) (none_driven p more quiet) ∙ append-nil (driven J));
+        strays = st.strays ∙ sym (ap (λ x. x.strays) m.stand);
+        receives = st.receives ∙ sym (ap (λ x. x.receives) m.stand);
+        given = st.given ∙ sym (ap driven m.journal ∙ driven_append J more ∙ ap (λ l. driven J ++ l) (none_driven more mute) ∙ append-nil (driven J));
       };
-      keeping = subst (λ x. Keeping g.kind h.heard x) (sym gathered) h.keeping;
+      keeping = subst (λ x. Keeping g.kind h.heard x) (sym m.gathered) h.keeping;
     }
+
+drawn_same : (words start : WordsState) (J J' : List Entry) → asked J' ≡ asked J → words ≡ drawn_for start J → words ≡ drawn_for start J'
+drawn_same words start J J' same is = is ∙ ap (λ (cs : List Contact). record { seed = start.seed; place = start.place + length cs }) (sym same)
+
+pub settles_more : (manner : Manner) (look : LookSetting) (b b' : ℕ) (old new : Work) (more : List Entry) (told : Option (List Event)) → Keeps look old → old.stand.receives ≡ 0 → SettlesMore manner b b' old new more → AllSettled b' new.book.journal → SettlesPaths manner look b b' old new told
+settles_more manner look b b' old new more told k over m settled =
+    let J = old.book.journal in
+    let J' = new.book.journal in
+    let mute = m.continues.mute in
+    let same_asked : asked J' ≡ asked J = ap asked m.journal ∙ asked_same J more mute in
+    let same_open : open_any J' ≡ open_any J = ap open_any m.journal ∙ open_same J more mute in
+    record {
+      keeps = record {
+        setting = m.setting ∙ k.setting;
+        is_open = ap (map (λ (q : Query). q.contact)) m.queries ∙ k.is_open ∙ sym same_open;
+        ids = subst (AllByRecursion (λ (q : Query). q.tx < 2 ^ 32)) (sym m.queries) k.ids;
+        deadlines = subst (λ x. AllByRecursion (λ (q : Query). q.deadline ≤ deadline_of x.moment look.timeout) new.queries) (sym m.stand) (subst (AllByRecursion (λ (q : Query). q.deadline ≤ deadline_of old.stand.moment look.timeout)) (sym m.queries) k.deadlines);
+        few_strays = subst (λ x. x.strays < max_strays) (sym m.stand) k.few_strays;
+        few_receives = subst (λ x. x.receives < max_round_receives) (sym m.stand) k.few_receives;
+        no_peers = λ e. subst IsBare (sym m.gathered) (k.no_peers e);
+      };
+      settled = settled;
+      stand = m.stand;
+      same_asks = ap length same_asked;
+      queries = m.queries;
+      ran = record { run = m.tabled.run; is_run = m.tabled.is_run; leaves = m.tabled.leaves };
+      goes = λ words a start table began al. record {
+        drawn = drawn_same words start J J' same_asked al.drawn;
+        seeds_are = seeds_same J more J' m.journal (no_seeds more mute) ∙ al.seeds_are;
+        tabled = subst (λ calls. TableToldBy manner calls table new.table) (calls_more look J more J' m.journal) (table_then manner (table_calls look J) (flat_map told_of more) table old.table new.table al.tabled m.tabled);
+        shows = grows_weaker began told _ _ al.shows (λ es s. shows_settled manner (given_of look start) old new more words.place b b' a es over k.is_open m s);
+      };
+    }
+
+-- ---- one path
 
 settled_more : (p : ℕ) (J more J' : List Entry) → J' ≡ J ++ more → AllByRecursion (IsQuiet p) more → AllSettled p J → unsettled p J' ≡ [] → AllSettled (p + 1) J'
 settled_more p J more J' journal quiet below here q lt = elim (cases_lt q p) [
@@ -141,57 +193,44 @@ settled_more p J more J' journal quiet below here q lt = elim (cases_lt q p) [
   | inr more_than ↦ (let is : q ≡ p = omega (arith, lt, more_than) in ap (λ n. unsettled n J') is ∙ here)
 ]
 
-drawn_same : (words start : WordsState) (J J' : List Entry) → asked J' ≡ asked J → words ≡ drawn_for start J → words ≡ drawn_for start J'
-drawn_same words start J J' same is = is ∙ ap (λ (cs : List Contact). record { seed = start.seed; place = start.place + length cs }) (sym same)
+path_continues : (manner : Manner) (p : ℕ) (more : List Entry) → AllByRecursion (IsQuiet p) more → Continues manner p (p + 1) more
+path_continues manner p more quiet = record {
+  mute = each_mute p more quiet;
+  settles = λ front s below. settles_from manner 0 p front more (omega arith) s below quiet;
+  below = λ front below. below_more p front more below quiet;
+}
 
-pub settles_path : (look : LookSetting) (p : ℕ) (old new : Work) (told : Option (List Event)) → Keeps look old → old.stand.receives ≡ 0 → AllSettled p old.book.journal → (h : Settling p old.book new.book old.table new.table) → unsettled p new.book.journal ≡ []
-    → new.queries ≡ old.queries → new.stand ≡ old.stand → new.gathered ≡ old.gathered → SettlesPaths look p (p + 1) old new told
-settles_path look p old new told k over below h here queries stand gathered =
-    let J = old.book.journal in
-    let J' = new.book.journal in
+pub settles_path : (manner : Manner) (look : LookSetting) (p : ℕ) (old new : Work) (told : Option (List Event)) → Keeps look old → old.stand.receives ≡ 0 → AllSettled p old.book.journal → (h : Settling p old.book new.book old.table new.table) → unsettled p new.book.journal ≡ []
+    → new.queries ≡ old.queries → new.stand ≡ old.stand → new.gathered ≡ old.gathered → SettlesPaths manner look p (p + 1) old new told
+settles_path manner look p old new told k over below h here queries stand gathered =
     let quiet = each_quiet p h.more h.settles in
-    let same_asked : asked J' ≡ asked J = ap asked h.journal ∙ asked_same p J h.more quiet in
-    let same_open : open_any J' ≡ open_any J = ap open_any h.journal ∙ open_same p J h.more quiet in
-    record {
-      keeps = record {
-        setting = h.setting ∙ k.setting;
-        is_open = ap (map (λ (q : Query). q.contact)) queries ∙ k.is_open ∙ sym same_open;
-        ids = subst (AllByRecursion (λ (q : Query). q.tx < 2 ^ 32)) (sym queries) k.ids;
-        deadlines = subst (λ x. AllByRecursion (λ (q : Query). q.deadline ≤ deadline_of x.moment look.timeout) new.queries) (sym stand) (subst (AllByRecursion (λ (q : Query). q.deadline ≤ deadline_of old.stand.moment look.timeout)) (sym queries) k.deadlines);
-        few_strays = subst (λ x. x.strays < max_strays) (sym stand) k.few_strays;
-        few_receives = subst (λ x. x.receives < max_round_receives) (sym stand) k.few_receives;
-        no_peers = λ e. subst IsBare (sym gathered) (k.no_peers e);
-      };
-      settled = settled_more p J h.more J' h.journal quiet below here;
-      stand = stand;
-      same_asks = ap length same_asked;
+    settles_more manner look p (p + 1) old new h.more told k over (record {
+      setting = h.setting;
+      journal = h.journal;
+      continues = path_continues manner p h.more quiet;
+      tabled = told_in_any manner (flat_map told_of h.more) old.table new.table (settling_told p old new h);
       queries = queries;
-      ran = ran_by p old new h;
-      goes = λ words a start table began al. record {
-        drawn = drawn_same words start J J' same_asked al.drawn;
-        seeds_are = seeds_same J h.more J' h.journal (no_seeds p h.more quiet) ∙ al.seeds_are;
-        tabled = subst (λ calls. TableTold calls table new.table) (calls_more look J h.more J' h.journal) (table_then (table_calls look J) (flat_map told_of h.more) table old.table new.table al.tabled (settling_told p old new h));
-        shows = grows_weaker began told _ _ al.shows (λ es s. shows_settled (given_of look start) old new h.more words.place p a es h.journal quiet over k.is_open queries stand gathered s);
-      };
-    }
+      stand = stand;
+      gathered = gathered;
+    }) (settled_more p old.book.journal h.more new.book.journal h.journal quiet below here)
 
 -- where it ends early, the journal is that from before, and the table is what some run leaves
 pub stops_settling : (look : LookSetting) (old new : Work) (told : Option (List Event)) → Legal (setting_of look) old.book.journal → TableRan old.table new.table → (words : WordsState) → Stops look words words old new told told
-stops_settling look old new told legal ran words start table began b a al = record {
+stops_settling look old new told legal ran words manner start table began b a al = record {
   unfinished = record {
     journal = old.book.journal;
     legal = legal;
     seeds_are = al.seeds_are;
-    tells = grows_weaker began told _ _ al.shows (λ es s. early_now (given_of look start) old words.place b a es s);
+    tells = grows_weaker began told _ _ al.shows (λ es s. early_now manner (given_of look start) old words.place b a es s);
     drawn = al.drawn;
   };
-  ran = ran_after (table_calls look old.book.journal) table old.table new.table al.tabled ran;
+  ran = ran_after manner (table_calls look old.book.journal) table old.table new.table al.tabled ran;
 }
 
 -- ---- path by path
 
-pub settles_nothing : (look : LookSetting) (work : Work) (told : Option (List Event)) → Keeps look work → SettlesPaths look 0 0 work work told
-settles_nothing look work told k = record {
+pub settles_nothing : (manner : Manner) (look : LookSetting) (work : Work) (told : Option (List Event)) → Keeps look work → SettlesPaths manner look 0 0 work work told
+settles_nothing manner look work told k = record {
   keeps = k;
   settled = λ p lt. absurd (omega arith);
   stand = refl;
@@ -201,8 +240,8 @@ settles_nothing look work told k = record {
   goes = λ words a start table began al. al;
 }
 
-pub settles_then : (look : LookSetting) (from mid to : ℕ) (a b c : Work) (told : Option (List Event)) → SettlesPaths look from mid a b told → SettlesPaths look mid to b c told → SettlesPaths look from to a c told
-settles_then look from mid to a b c told h k = record {
+pub settles_then : (manner : Manner) (look : LookSetting) (from mid to : ℕ) (a b c : Work) (told : Option (List Event)) → SettlesPaths manner look from mid a b told → SettlesPaths manner look mid to b c told → SettlesPaths manner look from to a c told
+settles_then manner look from mid to a b c told h k = record {
   keeps = k.keeps;
   settled = k.settled;
   stand = k.stand ∙ h.stand;

@@ -1,10 +1,10 @@
 -- What the events show goes on, event by event, while the journal grows.
-use Rattle.std.proofs.Common.{◌≡◌, ◌≢◌, ℕ, zero, suc, ◌≤◌, List, [], ◌∷◌, ◌++◌, Option, refl, sym, ap, subst, ◌∙◌, arith}
+use Rattle.std.proofs.Common.{◌≡◌, ◌≢◌, ◌==◌, ℕ, zero, suc, ◌≤◌, List, [], ◌∷◌, ◌++◌, Option, refl, sym, ap, subst, ◌∙◌, arith}
 use Rattle.std.specs.Prelude.{map}
 use Rattle.std.specs.List.{AllByRecursion, flat_map}
 use Rattle.std.proofs.lemmas.List.{append-nil, append_assoc}
 use Rattle.std.proofs.lemmas.List.Concat.{flat_map-append}
-use Rattle.std.proofs.lemmas.List.Elements.{All-append}
+use Rattle.std.proofs.lemmas.List.Elements.{All-append, filter-append}
 use Rattle.kad_base.specs.declared.plain.Event.{Event}
 use Rattle.kad_base.specs.declared.plain.Event.TheVariants.{Now, Sent, Unsent, Got, Quiet}
 use Rattle.kad_base.specs.declared.serial.Made.{Made}
@@ -27,9 +27,9 @@ use Rattle.lookup_run.specs.declared.plain.LookSetting.{LookSetting}
 use Rattle.lookup_run.specs.declared.plain.Gathered.{Gathered}
 use Rattle.lookup_run.specs.declared.plain.Work.{Work}
 use Rattle.lookup_run.specs.Tells.{Given, Seen, HasAsked, HaveAsked, Receives, Gives, begun}
-use Rattle.lookup_run.specs.Rounds.{path_number, SettlesIn, InTurn}
+use Rattle.lookup_run.specs.Rounds.{Manner, path_by_path, at_once, path_number, SettlesIn, InTurn}
 use Rattle.lookup_run.specs.Gathered.{Answered, Hears, values_of, token_of}
-use Rattle.lookup_run.specs.Lookup.{given_of, drawn_for, told_of, table_calls, told_in, Told, TableTold}
+use Rattle.lookup_run.specs.Lookup.{given_of, drawn_for, told_of, table_calls, told_in, told_by, Told, AreCalls, TableTold, TableToldBy}
 use Rattle.lookup_run.specs.Standing.{Step, Walk, Stands, Keeping, Shows, Along, Goes}
 use Rattle.lookup_run.specs.Steps.{KeepsFor}
 
@@ -62,8 +62,8 @@ gives_longer g J more s t (Unsent to bytes) h = h
 gives_longer g J more s t (Got from bytes until at) h = (receives_longer g J more s until h.0, h.1)
 gives_longer g J more s t (Quiet until at) h = (receives_longer g J more s until h.0, h.1)
 
-step_longer : (g : Given) (J more P : List Entry) (s : Seen) (e : Event) → Step g J P s e → Step g (J ++ more) P s e
-step_longer g J more P s e h = record {
+step_longer : (manner : Manner) (g : Given) (J more P : List Entry) (s : Seen) (e : Event) → Step manner g J P s e → Step manner g (J ++ more) P s e
+step_longer manner g J more P s e h = record {
   mid = h.mid;
   between = h.between;
   gave = h.gave;
@@ -75,25 +75,25 @@ step_longer g J more P s e h = record {
   hears = h.hears;
 }
 
-pub walk_longer : (g : Given) (J more P : List Entry) (s : Seen) (es : List Event) (t : Seen) (Q : List Entry) (heard : List Answered) → Walk g J P s es t Q heard → Walk g (J ++ more) P s es t Q heard
+pub walk_longer : (manner : Manner) (g : Given) (J more P : List Entry) (s : Seen) (es : List Event) (t : Seen) (Q : List Entry) (heard : List Answered) → Walk manner g J P s es t Q heard → Walk manner g (J ++ more) P s es t Q heard
 unfolding step_longer
-walk_longer g J more P s [] t Q heard h = h
-walk_longer g J more P s (e ∷ es) t Q heard h = (step_longer g J more P s e h.0, h.1, walk_longer g J more ((P ++ h.0.between) ++ h.0.gave) h.0.mid es t Q h.1 h.2, h.3)
+walk_longer manner g J more P s [] t Q heard h = h
+walk_longer manner g J more P s (e ∷ es) t Q heard h = (step_longer manner g J more P s e h.0, h.1, walk_longer manner g J more ((P ++ h.0.between) ++ h.0.gave) h.0.mid es t Q h.1 h.2, h.3)
 
 -- ---- one event more
 
-pub walk_on : (g : Given) (J P : List Entry) (s : Seen) (es : List Event) (m : Seen) (Q : List Entry) (heard : List Answered) (e : Event) → Walk g J P s es m Q heard → (step : Step g J Q m e)
-    → Walk g J P s (es ++ e ∷ []) step.mid ((Q ++ step.between) ++ step.gave) (heard ++ step.found)
-walk_on g J P s [] m Q heard e h =
-    let here : (step : Step g J P s e) → Walk g J P s (e ∷ []) step.mid ((P ++ step.between) ++ step.gave) ([] ++ step.found) =
+pub walk_on : (manner : Manner) (g : Given) (J P : List Entry) (s : Seen) (es : List Event) (m : Seen) (Q : List Entry) (heard : List Answered) (e : Event) → Walk manner g J P s es m Q heard → (step : Step manner g J Q m e)
+    → Walk manner g J P s (es ++ e ∷ []) step.mid ((Q ++ step.between) ++ step.gave) (heard ++ step.found)
+walk_on manner g J P s [] m Q heard e h =
+    let here : (step : Step manner g J P s e) → Walk manner g J P s (e ∷ []) step.mid ((P ++ step.between) ++ step.gave) ([] ++ step.found) =
     (λ step. (step, [], (refl, refl, refl), sym (append-nil step.found))) in
-    let there = subst (λ (l : List Answered). (step : Step g J P s e) → Walk g J P s (e ∷ []) step.mid ((P ++ step.between) ++ step.gave) (l ++ step.found)) (sym h.2) here in
-    let these = subst (λ (R : List Entry). (step : Step g J R s e) → Walk g J P s (e ∷ []) step.mid ((R ++ step.between) ++ step.gave) (heard ++ step.found)) (sym h.1) there in
-    subst (λ (x : Seen). (step : Step g J Q x e) → Walk g J P s (e ∷ []) step.mid ((Q ++ step.between) ++ step.gave) (heard ++ step.found)) (sym h.0) these
-walk_on g J P s (x ∷ es) m Q heard e h = λ step. (
+    let there = subst (λ (l : List Answered). (step : Step manner g J P s e) → Walk manner g J P s (e ∷ []) step.mid ((P ++ step.between) ++ step.gave) (l ++ step.found)) (sym h.2) here in
+    let these = subst (λ (R : List Entry). (step : Step manner g J R s e) → Walk manner g J P s (e ∷ []) step.mid ((R ++ step.between) ++ step.gave) (heard ++ step.found)) (sym h.1) there in
+    subst (λ (x : Seen). (step : Step manner g J Q x e) → Walk manner g J P s (e ∷ []) step.mid ((Q ++ step.between) ++ step.gave) (heard ++ step.found)) (sym h.0) these
+walk_on manner g J P s (x ∷ es) m Q heard e h = λ step. (
   h.0,
   h.1 ++ step.found,
-  walk_on g J ((P ++ h.0.between) ++ h.0.gave) h.0.mid es m Q h.1 e h.2 step,
+  walk_on manner g J ((P ++ h.0.between) ++ h.0.gave) h.0.mid es m Q h.1 e h.2 step,
   ap (λ l. l ++ step.found) h.3 ∙ append_assoc h.0.found h.1 step.found,
 )
 
@@ -116,9 +116,9 @@ seeds_append J K = flat_map-append seed_of J K
 pub seeds_same : (J more J' : List Entry) → J' ≡ J ++ more → seeds more ≡ [] → seeds J' ≡ seeds J
 seeds_same J more J' is none = ap seeds is ∙ seeds_append J more ∙ ap (λ l. seeds J ++ l) none ∙ append-nil (seeds J)
 
-settles_none : (n : ℕ) → SettlesIn n []
-settles_none zero = tt
-settles_none (suc n) = refl
+settles_none : (manner : Manner) (n : ℕ) → SettlesIn manner n []
+settles_none manner zero = tt
+settles_none manner (suc n) = refl
 
 keeping_more : (kind : AskKind) (heard found : List Answered) (old new : Gathered) → Keeping kind heard old → KeepsFor kind found old new → Keeping kind (heard ++ found) new
 keeping_more FindNode heard found old new h k = (ap (λ (x : Gathered). x.peers) k ∙ h.0, ap (λ (x : Gathered). x.tokens) k ∙ h.1)
@@ -127,18 +127,18 @@ keeping_more GetPeers heard found old new h k = (
   k.tokens ∙ ap (λ l. l ++ flat_map token_of found) h.1 ∙ sym (flat_map-append token_of heard found),
 )
 
-pub shows_next : (g : Given) (old new : Work) (more : List Entry) (place place' b b' a a' : ℕ) (e : Event) (es fs : List Event) → new.book.journal ≡ old.book.journal ++ more → seeds more ≡ []
+pub shows_next : (manner : Manner) (g : Given) (old new : Work) (more : List Entry) (place place' b b' a a' : ℕ) (e : Event) (es fs : List Event) → new.book.journal ≡ old.book.journal ++ more → seeds more ≡ []
     → ((s : Seen) → Stands g old place s → AllByRecursion (λ (x : Entry). path_number x ≤ a) s.since → OneEvent g old new more place' a' s e)
-    → Shows g old place b a es → fs ≡ e ∷ [] → Shows g new place' b' a' (es ++ fs)
-shows_next g old new more place place' b b' a a' e es fs journal no_seeds next h is =
+    → Shows manner g old place b a es → fs ≡ e ∷ [] → Shows manner g new place' b' a' (es ++ fs)
+shows_next manner g old new more place place' b b' a a' e es fs journal no_seeds next h is =
     let J = old.book.journal in
     let J' = new.book.journal in
     let on = next h.end h.stands h.ascends in
-    let longer : Walk g J' (seeded g.setting.paths (seeds J)) (begun h.at) h.rest h.end h.last h.heard =
-    subst (λ K. Walk g K (seeded g.setting.paths (seeds J)) (begun h.at) h.rest h.end h.last h.heard) (sym journal) (walk_longer g J more (seeded g.setting.paths (seeds J)) (begun h.at) h.rest h.end h.last h.heard h.walk) in
-    let begins : Walk g J' (seeded g.setting.paths (seeds J')) (begun h.at) h.rest h.end h.last h.heard =
-    subst (λ cs. Walk g J' (seeded g.setting.paths cs) (begun h.at) h.rest h.end h.last h.heard) (sym (seeds_same J more J' journal no_seeds)) longer in
-    let step : Step g J' h.last h.end e = record {
+    let longer : Walk manner g J' (seeded g.setting.paths (seeds J)) (begun h.at) h.rest h.end h.last h.heard =
+    subst (λ K. Walk manner g K (seeded g.setting.paths (seeds J)) (begun h.at) h.rest h.end h.last h.heard) (sym journal) (walk_longer manner g J more (seeded g.setting.paths (seeds J)) (begun h.at) h.rest h.end h.last h.heard h.walk) in
+    let begins : Walk manner g J' (seeded g.setting.paths (seeds J')) (begun h.at) h.rest h.end h.last h.heard =
+    subst (λ cs. Walk manner g J' (seeded g.setting.paths cs) (begun h.at) h.rest h.end h.last h.heard) (sym (seeds_same J more J' journal no_seeds)) longer in
+    let step : Step manner g J' h.last h.end e = record {
       mid = on.after;
       between = h.behind;
       gave = more;
@@ -156,10 +156,10 @@ shows_next g old new more place place' b b' a a' e es fs journal no_seeds next h
       end = on.after;
       last = (h.last ++ h.behind) ++ more;
       heard = h.heard ++ on.found;
-      walk = walk_on g J' (seeded g.setting.paths (seeds J')) (begun h.at) h.rest h.end h.last h.heard e begins step;
+      walk = walk_on manner g J' (seeded g.setting.paths (seeds J')) (begun h.at) h.rest h.end h.last h.heard e begins step;
       behind = [];
       journal = journal ∙ ap (λ l. l ++ more) h.journal ∙ sym (append-nil ((h.last ++ h.behind) ++ more));
-      settles = settles_none on.after.receives;
+      settles = settles_none manner on.after.receives;
       below = tt;
       ascends = on.ascends;
       stands = on.stands;
@@ -177,12 +177,27 @@ map-append f [] ys = refl
 map-append f (x ∷ xs) ys = ap (λ l. f x ∷ l) (map-append f xs ys)
 
 -- one run after another
-pub table_then : (xs ys : List Told) (t u v : TableState) → TableTold xs t u → TableTold ys u v → TableTold (xs ++ ys) t v
-table_then xs ys t u v h k = record {
+told_append : (role : ℕ) (xs ys : List Told) → told_by role (xs ++ ys) ≡ told_by role xs ++ told_by role ys
+told_append role xs ys = filter-append (λ t. t.role == role) xs ys
+
+are_both : (manner : Manner) (xs ys made made' : List Told) → AreCalls manner made xs → AreCalls manner made' ys → AreCalls manner (made ++ made') (xs ++ ys)
+are_both path_by_path xs ys made made' h k = ap (λ l. l ++ made') h ∙ ap (λ l. xs ++ l) k
+are_both at_once xs ys made made' h k = λ role. told_append role made made' ∙ ap (λ l. l ++ told_by role made') (h role) ∙ ap (λ l. told_by role xs ++ l) (k role) ∙ sym (told_append role xs ys)
+
+are_exactly : (manner : Manner) (calls made : List Told) → made ≡ calls → AreCalls manner made calls
+are_exactly path_by_path calls made is = is
+are_exactly at_once calls made is = λ role. ap (told_by role) is
+
+-- what was told in an order was told in whatever manner
+pub told_in_any : (manner : Manner) (calls : List Told) (t u : TableState) → TableTold calls t u → TableToldBy manner calls t u
+told_in_any manner calls t u h = record { run = h.run; is_run = h.is_run; leaves = h.leaves; calls_are = are_exactly manner calls (map told_in h.run) h.calls_are; kept = h.kept }
+
+pub table_then : (manner : Manner) (xs ys : List Told) (t u v : TableState) → TableToldBy manner xs t u → TableToldBy manner ys u v → TableToldBy manner (xs ++ ys) t v
+table_then manner xs ys t u v h k = record {
   run = h.run ++ k.run;
   is_run = IsRun-append t h.run k.run h.is_run (subst (λ (s : TableState). IsRun TableMay TableStep table_after s k.run) h.leaves k.is_run);
   leaves = k.leaves ∙ ap (λ (s : TableState). left_by table_after s k.run) h.leaves ∙ sym (left_by-append table_after t h.run k.run);
-  calls_are = map-append told_in h.run k.run ∙ ap (λ l. l ++ map told_in k.run) h.calls_are ∙ ap (λ l. xs ++ l) k.calls_are;
+  calls_are = subst (λ made. AreCalls manner made (xs ++ ys)) (sym (map-append told_in h.run k.run)) (are_both manner xs ys (map told_in h.run) (map told_in k.run) h.calls_are k.calls_are);
   kept = All-append (λ (m : Made TableCall TableReply). m.reply ≢ NoMemory) h.run k.run h.kept k.kept;
 }
 
@@ -206,11 +221,12 @@ pub record NextStep (look : LookSetting) (words words' : WordsState) (old new : 
       → AllByRecursion (λ (x : Entry). path_number x ≤ a) s.since → OneEvent (given_of look start) old new more words'.place a' s e
 
 pub along_next : (look : LookSetting) (words words' : WordsState) (old new : Work) (b b' a a' : ℕ) (e : Event) (told told' : Option (List Event)) → NextStep look words words' old new a a' e → Grows told told' (λ es. es ≡ e ∷ []) → Goes look words words' old new b a b' a' told told'
-along_next look words words' old new b b' a a' e told told' n grows start table began h = record {
+along_next look words words' old new b b' a a' e told told' n grows manner start table began h = record {
   drawn = n.drawn start h.drawn;
   seeds_are = seeds_same old.book.journal n.more new.book.journal n.journal n.no_seeds ∙ h.seeds_are;
-  tabled = subst (λ calls. TableTold calls table new.table) (calls_more look old.book.journal n.more new.book.journal n.journal) (table_then (table_calls look old.book.journal) (flat_map told_of n.more) table old.table new.table h.tabled n.tabled);
-  shows = grows_then began told told' _ _ _ h.shows grows (λ es fs p is. shows_next (given_of look start) old new n.more words.place words'.place b b' a a' e es fs n.journal n.no_seeds (n.next start h.drawn) p is);
+  tabled = subst (λ calls. TableToldBy manner calls table new.table) (calls_more look old.book.journal n.more new.book.journal n.journal)
+      (table_then manner (table_calls look old.book.journal) (flat_map told_of n.more) table old.table new.table h.tabled (told_in_any manner (flat_map told_of n.more) old.table new.table n.tabled));
+  shows = grows_then began told told' _ _ _ h.shows grows (λ es fs p is. shows_next manner (given_of look start) old new n.more words.place words'.place b b' a a' e es fs n.journal n.no_seeds (n.next start h.drawn) p is);
 }
 
 -- ---- weaker bounds
@@ -219,8 +235,8 @@ pub all_weaker : {A : Type 0} (P Q : A → Type 0) → ((x : A) → P x → Q x)
 all_weaker P Q f [] h = tt
 all_weaker P Q f (x ∷ xs) h = (f x h.0, all_weaker P Q f xs h.1)
 
-shows_later : (g : Given) (work : Work) (place b a a' : ℕ) (es : List Event) → a ≤ a' → Shows g work place b a es → Shows g work place b a' es
-shows_later g work place b a a' es le h = record {
+shows_later : (manner : Manner) (g : Given) (work : Work) (place b a a' : ℕ) (es : List Event) → a ≤ a' → Shows manner g work place b a es → Shows manner g work place b a' es
+shows_later manner g work place b a a' es le h = record {
   at = h.at;
   rest = h.rest;
   first = h.first;
@@ -237,10 +253,10 @@ shows_later g work place b a a' es le h = record {
   keeping = h.keeping;
 }
 
-pub along_later : (look : LookSetting) (start : WordsState) (table : TableState) (began : Option (List Event)) (words : WordsState) (work : Work) (b a a' : ℕ) (told : Option (List Event)) → a ≤ a' → Along look start table began words work b a told → Along look start table began words work b a' told
-along_later look start table began words work b a a' told le h = record {
+pub along_later : (manner : Manner) (look : LookSetting) (start : WordsState) (table : TableState) (began : Option (List Event)) (words : WordsState) (work : Work) (b a a' : ℕ) (told : Option (List Event)) → a ≤ a' → Along manner look start table began words work b a told → Along manner look start table began words work b a' told
+along_later manner look start table began words work b a a' told le h = record {
   drawn = h.drawn;
   seeds_are = h.seeds_are;
   tabled = h.tabled;
-  shows = grows_weaker began told _ _ h.shows (λ es x. shows_later (given_of look start) work words.place b a a' es le x);
+  shows = grows_weaker began told _ _ h.shows (λ es x. shows_later manner (given_of look start) work words.place b a a' es le x);
 }

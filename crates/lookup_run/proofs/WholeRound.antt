@@ -23,20 +23,20 @@ next_receive look old w new told mid told' h r = record {
   some_open = r.some_open;
   same_asks = r.same_asks ∙ h.same_asks;
   lighter = (let a = r.lighter in let b = h.lighter in less (weight_of new) (weight_of w) (weight_of old) a b);
-  goes = λ words b a start table began along. r.goes words 0 0 start table began (h.goes words b a start table began along);
+  goes = λ words b a manner start table began along. r.goes words 0 0 manner start table began (h.goes words b a manner start table began along);
 }
   where
     less : (x y z : ℕ) → x ≤ y → y < z → x < z
     less x y z a b = omega (arith, a, b)
 
 pub stops_after : (look : LookSetting) (old w new : Work) (told mid told' : Option (List Event)) → Rounding look old w told mid → ((words : WordsState) → Stops look words words w new mid told') → (words : WordsState) → Stops look words words old new told told'
-stops_after look old w new told mid told' h stops words start table began b a along = stops words start table began 0 0 (h.goes words b a start table began along)
+stops_after look old w new told mid told' h stops words manner start table began b a along = stops words manner start table began 0 0 (h.goes words b a manner start table began along)
 
 pub stray_after : (look : LookSetting) (old w : Work) (told mid told' : Option (List Event)) → Rounding look old w told mid → ((words : WordsState) → EndsByStray look words w mid told') → (words : WordsState) → EndsByStray look words old told told'
-stray_after look old w told mid told' h ends words start table began b a along = ends words start table began 0 0 (h.goes words b a start table began along)
+stray_after look old w told mid told' h ends words manner start table began b a along = ends words manner start table began 0 0 (h.goes words b a manner start table began along)
 
 pub few_after : (look : LookSetting) (old w : Work) (told mid told' : Option (List Event)) → Rounding look old w told mid → ((words : WordsState) → FewStrays look words w mid told') → (words : WordsState) → FewStrays look words old told told'
-few_after look old w told mid told' h few words start table began b a along = few words start table began 0 0 (h.goes words b a start table began along)
+few_after look old w told mid told' h few words manner start table began b a along = few words manner start table began 0 0 (h.goes words b a manner start table began along)
 
 -- how many receives a round may still have
 abbrev pub still_to : ℕ → ℕ

@@ -1,5 +1,5 @@
 -- What a lookup promises: its journal, the table that comes back, and what holds where it ended early.
-use Rattle.std.specs.Prelude.{◌≡◌, ◌≢◌, ◌⊎◌, ℕ, ◌+◌, ◌<◌, ◌≤◌, List, [], ◌∷◌, ◌++◌, length, map, Option}
+use Rattle.std.specs.Prelude.{◌≡◌, ◌≢◌, ◌⊎◌, ℕ, ◌+◌, ◌==◌, filter, ◌<◌, ◌≤◌, List, [], ◌∷◌, ◌++◌, length, map, Option}
 use Rattle.std.specs.List.{All, flat_map}
 use Rattle.kad_base.specs.declared.plain.Addr.{Addr}
 use Rattle.kad_base.specs.declared.plain.Contact.{Contact}
@@ -30,6 +30,7 @@ use Rattle.claim_book.specs.Calls.{Counted}
 use Rattle.lookup_run.specs.declared.plain.LookSetting.{LookSetting}
 use Rattle.lookup_run.specs.declared.plain.Outcome.{Outcome}
 use Rattle.lookup_run.specs.Tells.{Given, Seen, TellsSoFar, Tells}
+use Rattle.lookup_run.specs.Rounds.{Manner, path_by_path, at_once}
 
 -- what the book is set to
 abbrev pub setting_of : LookSetting → Setting
@@ -115,10 +116,23 @@ pub record TableRan (table table' : TableState) : Type 0 where
   pub is_run : IsRun TableMay TableStep table_after table run
   pub leaves : table' ≡ left_by table_after table run
 
--- by the run of these calls, none of which wanted memory
-pub record TableTold (calls : List Told) (table table' : TableState) : Type 0 where
+-- those of a role, in order
+abbrev pub told_by : ℕ → List Told → List Told
+told_by role calls = filter (λ t. t.role == role) calls
+
+-- the calls that were made are these: path by path in this order, and at once those of each role in this order
+abbrev pub AreCalls : Manner → List Told → List Told → Type 0
+AreCalls path_by_path made calls = made ≡ calls
+AreCalls at_once made calls = (role : ℕ) → told_by role made ≡ told_by role calls
+
+-- by a run of these calls, none of which wanted memory
+pub record TableToldBy (manner : Manner) (calls : List Told) (table table' : TableState) : Type 0 where
   pub run : List (Made TableCall TableReply)
   pub is_run : IsRun TableMay TableStep table_after table run
   pub leaves : table' ≡ left_by table_after table run
-  pub calls_are : map told_in run ≡ calls
+  pub calls_are : AreCalls manner (map told_in run) calls
   pub kept : All (λ m. m.reply ≢ NoMemory) run
+
+-- in this very order
+abbrev pub TableTold : List Told → TableState → TableState → Type 0
+TableTold calls table table' = TableToldBy path_by_path calls table table'

@@ -1,5 +1,5 @@
--- The rounds of a lookup on one thread (this project's own): where the settling entries of its journal stand, in which
--- order the paths ask (S/Kademlia, 2007, section 4.4), and that they ask all that they may before the driver waits.
+-- The rounds of a lookup (this project's own): where the settling entries of its journal stand, in which order the paths
+-- ask (S/Kademlia, 2007, section 4.4), and that they ask all that they may before the driver waits.
 use Rattle.std.specs.Prelude.{◌≡◌, ℕ, zero, suc, ◌<◌, ◌≤◌, List, [], ◌∷◌, ◌++◌, None, Bool, true}
 use Rattle.std.specs.List.{AllByRecursion}
 use Rattle.kad_base.specs.declared.plain.Contact.{Contact}
@@ -29,10 +29,20 @@ path_number (Skipped q r) = q
 abbrev pub is_settling : Entry → Bool
 is_settling e = settles_on (path_number e) e
 
--- entries that settle, in ascending path from p on
-abbrev pub SettlesFrom : ℕ → List Entry → Type 0
-SettlesFrom p [] = Unit {0}
-SettlesFrom p (e ∷ es) = (p ≤ path_number e) × (is_settling e ≡ true) × SettlesFrom (path_number e) es
+-- how a round settles what its paths have: one path after another on one thread, or all paths at once
+pub data Manner : Type 0 where
+  path_by_path : Manner
+  at_once : Manner
+
+-- an entry of path q may stand behind one of path p
+abbrev pub MayFollow : Manner → ℕ → ℕ → Type 0
+MayFollow path_by_path p q = p ≤ q
+MayFollow at_once p q = Unit {0}
+
+-- entries that settle: path by path in ascending path from p on, at once in any order of paths
+abbrev pub SettlesFrom : Manner → ℕ → List Entry → Type 0
+SettlesFrom manner p [] = Unit {0}
+SettlesFrom manner p (e ∷ es) = MayFollow manner p (path_number e) × (is_settling e ≡ true) × SettlesFrom manner (path_number e) es
 
 -- nothing is unsettled on the first n paths
 abbrev pub AllSettled : ℕ → List Entry → Type 0
@@ -43,9 +53,9 @@ abbrev pub NoneAsks : Setting → ℕ → List Entry → Type 0
 NoneAsks setting n J = (p : ℕ) → p < n → may_ask setting p J ≡ None
 
 -- Entries that settle stand where a round has ended, and before the next one begins.
-abbrev pub SettlesIn : ℕ → List Entry → Type 0
-SettlesIn zero between = SettlesFrom 0 between
-SettlesIn (suc n) between = between ≡ []
+abbrev pub SettlesIn : Manner → ℕ → List Entry → Type 0
+SettlesIn manner zero between = SettlesFrom manner 0 between
+SettlesIn manner (suc n) between = between ≡ []
 
 -- where a contact is asked, a round begins and nothing is unsettled; the paths before that of the ask may ask nothing,
 -- and none that comes later asked since the last receive
@@ -73,25 +83,25 @@ InTurn setting J s (Got from bytes until at) gave = WaitsInTurn setting J s.rece
 InTurn setting J s (Quiet until at) gave = WaitsInTurn setting J s.receives
 
 -- one event after the part P of the journal J: what was settled before it, and what it gave
-pub record RoundStep (g : Given) (J P : List Entry) (s : Seen) (e : Event) : Type 0 where
+pub record RoundStep (manner : Manner) (g : Given) (J P : List Entry) (s : Seen) (e : Event) : Type 0 where
   pub mid : Seen
   pub between : List Entry
   pub gave : List Entry
   pub gives : Gives g J s e mid
   pub given : mid.given ≡ s.given ++ gave
-  pub settles : SettlesIn s.receives between
+  pub settles : SettlesIn manner s.receives between
   pub in_turn : InTurn g.setting (P ++ between) s e gave
 
 -- the events, one after another, after the part P of the journal J
-abbrev pub RoundsFrom : Given → List Entry → List Entry → Seen → List Event → Type 0
-RoundsFrom g J P s [] = (between : List Entry) × (J ≡ P ++ between) × SettlesIn s.receives between
-RoundsFrom g J P s (e ∷ es) = (step : RoundStep g J P s e) × RoundsFrom g J ((P ++ step.between) ++ step.gave) step.mid es
+abbrev pub RoundsFrom : Manner → Given → List Entry → List Entry → Seen → List Event → Type 0
+RoundsFrom manner g J P s [] = (between : List Entry) × (J ≡ P ++ between) × SettlesIn manner s.receives between
+RoundsFrom manner g J P s (e ∷ es) = (step : RoundStep manner g J P s e) × RoundsFrom manner g J ((P ++ step.between) ++ step.gave) step.mid es
 
 -- The journal goes by rounds: it begins with its seeds, and at the end nothing is unsettled and no path may ask.
-pub record Rounds (g : Given) (J : List Entry) (events : List Event) : Type 0 where
+pub record Rounds (manner : Manner) (g : Given) (J : List Entry) (events : List Event) : Type 0 where
   pub at : ℕ
   pub rest : List Event
   pub first : events ≡ Now at ∷ rest
-  pub goes : RoundsFrom g J (seeded g.setting.paths (seeds J)) (begun at) rest
+  pub goes : RoundsFrom manner g J (seeded g.setting.paths (seeds J)) (begun at) rest
   pub settled : AllSettled g.setting.paths J
   pub none_asks : NoneAsks g.setting g.setting.paths J

@@ -23,9 +23,9 @@ use Rattle.lookup_run.specs.declared.plain.Work.{Work}
 use Rattle.lookup_run.specs.declared.reply.Reply.{Reply}
 use Rattle.lookup_run.specs.declared.reply.Said.{Said}
 use Rattle.lookup_run.specs.Tells.{Given, OpenQuery, Seen, deadline_of, driven, Gives, SaysTo, begun}
-use Rattle.lookup_run.specs.Rounds.{path_number, SettlesIn, InTurn}
+use Rattle.lookup_run.specs.Rounds.{Manner, path_number, SettlesIn, InTurn}
 use Rattle.lookup_run.specs.Gathered.{Answered, Hears, values_of, token_of}
-use Rattle.lookup_run.specs.Lookup.{setting_of, given_of, seeds_in, drawn_for, table_calls, TableTold}
+use Rattle.lookup_run.specs.Lookup.{setting_of, given_of, seeds_in, drawn_for, table_calls, TableToldBy}
 
 -- ---- what a datagram says
 
@@ -97,22 +97,22 @@ weight_of work = 2 * (max_asks - length (asked work.book.journal)) + (length wor
 -- ---- what was told
 
 -- one event after the part P of the journal J, with all that it shows
-pub record Step (g : Given) (J P : List Entry) (s : Seen) (e : Event) : Type 0 where
+pub record Step (manner : Manner) (g : Given) (J P : List Entry) (s : Seen) (e : Event) : Type 0 where
   pub mid : Seen
   pub between : List Entry
   pub gave : List Entry
   pub found : List Answered
   pub gives : Gives g J s e mid
   pub given : mid.given ≡ s.given ++ gave
-  pub settles : SettlesIn s.receives between
+  pub settles : SettlesIn manner s.receives between
   pub in_turn : InTurn g.setting (P ++ between) s e gave
   pub hears : Hears s e found
 
 -- the events, one after another, from the part P of the journal J to its part Q
-abbrev pub Walk : Given → List Entry → List Entry → Seen → List Event → Seen → List Entry → List Answered → Type 0
-Walk g J P s [] t Q heard = (t ≡ s) × (Q ≡ P) × (heard ≡ [])
-Walk g J P s (e ∷ es) t Q heard =
-    (step : Step g J P s e) × (rest : List Answered) × Walk g J ((P ++ step.between) ++ step.gave) step.mid es t Q rest × (heard ≡ step.found ++ rest)
+abbrev pub Walk : Manner → Given → List Entry → List Entry → Seen → List Event → Seen → List Entry → List Answered → Type 0
+Walk manner g J P s [] t Q heard = (t ≡ s) × (Q ≡ P) × (heard ≡ [])
+Walk manner g J P s (e ∷ es) t Q heard =
+    (step : Step manner g J P s e) × (rest : List Answered) × Walk manner g J ((P ++ step.between) ++ step.gave) step.mid es t Q rest × (heard ≡ step.found ++ rest)
 
 -- the driver keeps of the events just this
 pub record Stands (g : Given) (work : Work) (place : ℕ) (s : Seen) : Type 0 where
@@ -130,30 +130,34 @@ Keeping GetPeers heard gathered = (gathered.peers ≡ flat_map values_of heard) 
 
 -- The events show where the lookup stands. What was settled since the last one is on the first b paths, and what was
 -- asked since the last receive on paths up to a.
-pub record Shows (g : Given) (work : Work) (place b a : ℕ) (events : List Event) : Type 0 where
+pub record Shows (manner : Manner) (g : Given) (work : Work) (place b a : ℕ) (events : List Event) : Type 0 where
   pub at : ℕ
   pub rest : List Event
   pub first : events ≡ Now at ∷ rest
   pub end : Seen
   pub last : List Entry
   pub heard : List Answered
-  pub walk : Walk g work.book.journal (seeded g.setting.paths (seeds work.book.journal)) (begun at) rest end last heard
+  pub walk : Walk manner g work.book.journal (seeded g.setting.paths (seeds work.book.journal)) (begun at) rest end last heard
   pub behind : List Entry
   pub journal : work.book.journal ≡ last ++ behind
-  pub settles : SettlesIn end.receives behind
+  pub settles : SettlesIn manner end.receives behind
   pub below : AllByRecursion (λ e. path_number e < b) behind
   pub ascends : AllByRecursion (λ e. path_number e ≤ a) end.since
   pub stands : Stands g work place end
   pub keeping : Keeping g.kind heard work.gathered
 
 -- since the lookup began, with these words and this table
-pub record Along (look : LookSetting) (start : WordsState) (table : TableState) (began : Option (List Event)) (words : WordsState) (work : Work) (b a : ℕ) (told : Option (List Event)) : Type 0 where
+pub record Along (manner : Manner) (look : LookSetting) (start : WordsState) (table : TableState) (began : Option (List Event)) (words : WordsState) (work : Work) (b a : ℕ) (told : Option (List Event)) : Type 0 where
   pub drawn : words ≡ drawn_for start work.book.journal
   pub seeds_are : seeds work.book.journal ≡ seeds_in look table
-  pub tabled : TableTold (table_calls look work.book.journal) table work.table
-  pub shows : Grows began told (λ events. Shows (given_of look start) work words.place b a events)
+  pub tabled : TableToldBy manner (table_calls look work.book.journal) table work.table
+  pub shows : Grows began told (λ events. Shows manner (given_of look start) work words.place b a events)
 
--- whatever holds since a lookup began goes on to hold
+-- whatever holds since a lookup began goes on to hold, where its rounds settle in this manner
+abbrev pub GoesBy : Manner → LookSetting → WordsState → WordsState → Work → Work → ℕ → ℕ → ℕ → ℕ → Option (List Event) → Option (List Event) → Type 0
+GoesBy manner look words words' old new b a b' a' told told' =
+    (start : WordsState) (table : TableState) (began : Option (List Event)) → Along manner look start table began words old b a told → Along manner look start table began words' new b' a' told'
+
+-- in whatever manner
 abbrev pub Goes : LookSetting → WordsState → WordsState → Work → Work → ℕ → ℕ → ℕ → ℕ → Option (List Event) → Option (List Event) → Type 0
-Goes look words words' old new b a b' a' told told' =
-    (start : WordsState) (table : TableState) (began : Option (List Event)) → Along look start table began words old b a told → Along look start table began words' new b' a' told'
+Goes look words words' old new b a b' a' told told' = (manner : Manner) → GoesBy manner look words words' old new b a b' a' told told'

@@ -1,5 +1,5 @@
 -- What each step of a lookup owes.
-use Rattle.std.specs.Prelude.{◌≡◌, ◌≢◌, ◌⊎◌, ℕ, zero, suc, Contains, if◌then◌else◌, ◌+◌, ◌<◌, ◌≤◌, List, [], ◌∷◌, ◌++◌, length, map, Option, Some, None, filter, nat_lt}
+use Rattle.std.specs.Prelude.{◌≡◌, ◌≢◌, ◌⊎◌, ℕ, zero, suc, Contains, if◌then◌else◌, ◌+◌, ◌<◌, ◌≤◌, List, [], ◌∷◌, ◌++◌, length, map, Option, Some, None, Result, IsOk, filter, nat_lt}
 use Rattle.std.specs.List.{AllByRecursion, flat_map}
 use Rattle.kad_base.specs.declared.plain.Addr.{Addr}
 use Rattle.kad_base.specs.declared.plain.Contact.{Contact}
@@ -20,6 +20,7 @@ use Rattle.claim_book.specs.Calls.{Counted, asker}
 use Rattle.claim_book.specs.State.{BookState, added}
 use Rattle.lookup_run.specs.declared.plain.AskKind.{AskKind}
 use Rattle.lookup_run.specs.declared.plain.AskKind.TheVariants.{FindNode, GetPeers}
+use Rattle.lookup_run.specs.declared.plain.LookFault.{LookFault}
 use Rattle.lookup_run.specs.declared.plain.LookSetting.{LookSetting}
 use Rattle.lookup_run.specs.declared.plain.Gathered.{Gathered}
 use Rattle.lookup_run.specs.declared.plain.Outcome.{Outcome}
@@ -28,10 +29,10 @@ use Rattle.lookup_run.specs.declared.plain.Work.{Work}
 use Rattle.lookup_run.specs.declared.reply.Reply.{Reply}
 use Rattle.lookup_run.specs.declared.reply.Reply.TheVariants as reply
 use Rattle.lookup_run.specs.Tells.{OpenQuery, EndsAtStray, Replies, ReplyGives, closed_at}
-use Rattle.lookup_run.specs.Rounds.{AllSettled, NoneAsks, WaitsInTurn}
-use Rattle.lookup_run.specs.Gathered.{Answered, values_of, token_of}
+use Rattle.lookup_run.specs.Rounds.{Manner, path_by_path, AllSettled, NoneAsks, WaitsInTurn}
+use Rattle.lookup_run.specs.Gathered.{Answered, values_of, token_of, IsEachOnce}
 use Rattle.lookup_run.specs.Lookup.{setting_of, given_of, seeds_in, told_of, Unfinished, TableRan, TableTold, Told}
-use Rattle.lookup_run.specs.Standing.{IsReply, as_open, Keeps, HasWords, weight_of, Along, Goes}
+use Rattle.lookup_run.specs.Standing.{IsReply, as_open, Keeps, HasWords, weight_of, Along, GoesBy, Goes}
 
 -- the book after the path was asked what it asks
 abbrev pub asked_more : ℕ → BookState → Option Contact → BookState
@@ -116,32 +117,32 @@ pub record Ended (look : LookSetting) (start : WordsState) (table : TableState) 
 -- a lookup that ends early in this step
 abbrev pub Stops : LookSetting → WordsState → WordsState → Work → Work → Option (List Event) → Option (List Event) → Type 0
 Stops look words words' old new told told' =
-    (start : WordsState) (table : TableState) (began : Option (List Event)) (b a : ℕ) → Along look start table began words old b a told → Ended look start table began words' new.table told'
+    (manner : Manner) (start : WordsState) (table : TableState) (began : Option (List Event)) (b a : ℕ) → Along manner look start table began words old b a told → Ended look start table began words' new.table told'
 
 -- the same from where a round begins
-abbrev pub StopsRound : LookSetting → WordsState → WordsState → Work → Work → Option (List Event) → Option (List Event) → Type 0
-StopsRound look words words' old new told told' =
-    (start : WordsState) (table : TableState) (began : Option (List Event)) → Along look start table began words old look.paths 0 told → Ended look start table began words' new.table told'
+abbrev pub StopsRound : Manner → LookSetting → WordsState → WordsState → Work → Work → Option (List Event) → Option (List Event) → Type 0
+StopsRound manner look words words' old new told told' =
+    (start : WordsState) (table : TableState) (began : Option (List Event)) → Along manner look start table began words old look.paths 0 told → Ended look start table began words' new.table told'
 
 -- the events of a lookup that ends in this round end with the last stray that it takes
-abbrev pub RoundEndsByStray : LookSetting → WordsState → Work → Option (List Event) → Option (List Event) → Type 0
-RoundEndsByStray look words old told told' =
-    (start : WordsState) (table : TableState) (began : Option (List Event)) → Along look start table began words old look.paths 0 told → Grows began told' (λ events. EndsAtStray (given_of look start) events max_strays)
+abbrev pub RoundEndsByStray : Manner → LookSetting → WordsState → Work → Option (List Event) → Option (List Event) → Type 0
+RoundEndsByStray manner look words old told told' =
+    (start : WordsState) (table : TableState) (began : Option (List Event)) → Along manner look start table began words old look.paths 0 told → Grows began told' (λ events. EndsAtStray (given_of look start) events max_strays)
 
 -- the events of a lookup that ends in this step end with the last stray that it takes
 abbrev pub EndsByStray : LookSetting → WordsState → Work → Option (List Event) → Option (List Event) → Type 0
 EndsByStray look words old told told' =
-    (start : WordsState) (table : TableState) (began : Option (List Event)) (b a : ℕ) → Along look start table began words old b a told → Grows began told' (λ events. EndsAtStray (given_of look start) events max_strays)
+    (manner : Manner) (start : WordsState) (table : TableState) (began : Option (List Event)) (b a : ℕ) → Along manner look start table began words old b a told → Grows began told' (λ events. EndsAtStray (given_of look start) events max_strays)
 
 -- the events of a lookup that ends in this step don't end so
 abbrev pub FewStrays : LookSetting → WordsState → Work → Option (List Event) → Option (List Event) → Type 0
 FewStrays look words old told told' =
-    (start : WordsState) (table : TableState) (began : Option (List Event)) (b a : ℕ) → Along look start table began words old b a told → Grows began told' (λ events. ¬ EndsAtStray (given_of look start) events max_strays)
+    (manner : Manner) (start : WordsState) (table : TableState) (began : Option (List Event)) (b a : ℕ) → Along manner look start table began words old b a told → Grows began told' (λ events. ¬ EndsAtStray (given_of look start) events max_strays)
 
 -- the same of a lookup that ends in this round
-abbrev pub RoundFewStrays : LookSetting → WordsState → Work → Option (List Event) → Option (List Event) → Type 0
-RoundFewStrays look words old told told' =
-    (start : WordsState) (table : TableState) (began : Option (List Event)) → Along look start table began words old look.paths 0 told → Grows began told' (λ events. ¬ EndsAtStray (given_of look start) events max_strays)
+abbrev pub RoundFewStrays : Manner → LookSetting → WordsState → Work → Option (List Event) → Option (List Event) → Type 0
+RoundFewStrays manner look words old told told' =
+    (start : WordsState) (table : TableState) (began : Option (List Event)) → Along manner look start table began words old look.paths 0 told → Grows began told' (λ events. ¬ EndsAtStray (given_of look start) events max_strays)
 
 -- ---- receiving
 
@@ -232,14 +233,14 @@ pub record ReceivesAll (look : LookSetting) (old new : Work) (told told' : Optio
 -- ---- settling
 
 -- the paths from the one to the other were settled
-pub record SettlesPaths (look : LookSetting) (from to : ℕ) (old new : Work) (told : Option (List Event)) : Type 0 where
+pub record SettlesPaths (manner : Manner) (look : LookSetting) (from to : ℕ) (old new : Work) (told : Option (List Event)) : Type 0 where
   pub keeps : Keeps look new
   pub settled : AllSettled to new.book.journal
   pub stand : new.stand ≡ old.stand
   pub same_asks : length (asked new.book.journal) ≡ length (asked old.book.journal)
   pub queries : new.queries ≡ old.queries
   pub ran : TableRan old.table new.table
-  pub goes : (words : WordsState) (a : ℕ) → Goes look words words old new from a to a told told
+  pub goes : (words : WordsState) (a : ℕ) → GoesBy manner look words words old new from a to a told told
 
 -- ---- rounds
 
@@ -250,19 +251,27 @@ pub record Begins (look : LookSetting) (words : WordsState) (work : Work) : Type
   pub round_over : work.stand.receives ≡ 0
   pub settled : AllSettled look.paths work.book.journal
 
+-- contacts were asked, and the receives of the round are over
+pub record HasReceived (look : LookSetting) (words words' : WordsState) (old new : Work) (told told' : Option (List Event)) : Type 0 where
+  pub keeps : Keeps look new
+  pub has_words : HasWords words' new.book.journal
+  pub round_over : new.stand.receives ≡ 0
+  pub lighter : weight_of new < weight_of old
+  pub goes : Goes look words words' old new look.paths 0 0 0 told told'
+
 -- one round more, and the next begins
-pub record GoesRound (look : LookSetting) (words words' : WordsState) (old new : Work) (told told' : Option (List Event)) : Type 0 where
+pub record GoesRound (manner : Manner) (look : LookSetting) (words words' : WordsState) (old new : Work) (told told' : Option (List Event)) : Type 0 where
   pub begins : Begins look words' new
   pub lighter : weight_of new < weight_of old
-  pub goes : Goes look words words' old new look.paths 0 look.paths 0 told told'
+  pub goes : GoesBy manner look words words' old new look.paths 0 look.paths 0 told told'
 
 -- no query is open, nothing is unsettled, and no path may ask
-pub record IsOver (look : LookSetting) (words words' : WordsState) (old new : Work) (told told' : Option (List Event)) : Type 0 where
+pub record IsOver (manner : Manner) (look : LookSetting) (words words' : WordsState) (old new : Work) (told told' : Option (List Event)) : Type 0 where
   pub keeps : Keeps look new
   pub none_open : new.queries ≡ []
   pub settled : AllSettled look.paths new.book.journal
   pub none_asks : NoneAsks (setting_of look) look.paths new.book.journal
-  pub goes : Goes look words words' old new look.paths 0 look.paths look.paths told told'
+  pub goes : GoesBy manner look words words' old new look.paths 0 look.paths look.paths told told'
 
 -- what the book that has run out found
 pub record IsDone (book : BookState) (outcome : Outcome) : Type 0 where
@@ -271,6 +280,13 @@ pub record IsDone (book : BookState) (outcome : Outcome) : Type 0 where
   pub run_out : (p : ℕ) → p < book.setting.paths → RunOut book.setting p outcome.journal
   pub found : outcome.found ≡ result_of book.setting outcome.journal
   pub counted : Counted outcome.journal outcome.counts
+
+-- what a lookup answers, where its rounds ended well
+pub record IsClosed (work : Work) (ended : Result (Unit {0}) LookFault) (outcome : Outcome) : Type 0 where
+  pub well : IsOk ended
+  pub done : IsDone work.book outcome
+  pub peers : IsEachOnce work.gathered.peers outcome.peers
+  pub tokens : outcome.tokens ≡ work.gathered.tokens
 
 -- a book that begins with the closest contacts of the table
 pub record IsBookOf (look : LookSetting) (table : TableState) (book : BookState) : Type 0 where

@@ -4,10 +4,10 @@
 #![tactic(auto)]
 
 mod ask;
+mod driver;
 mod gather;
 mod hear;
 mod laws;
-mod look_up;
 mod plain;
 mod receive;
 mod reply;
@@ -16,7 +16,8 @@ mod send;
 mod settle;
 #[cfg(test)]
 mod tests;
+mod together;
 
+pub use driver::{look_up, look_up_alone};
 pub use laws::one_journal;
-pub use look_up::look_up_alone;
 pub use plain::{AskKind, LookFault, LookSetting, Outcome, Token, Tokened};

@@ -1,6 +1,6 @@
 //! One receive call, and what it gave.
 ghost use Rattle.std.specs.Prelude.{◌≡◌, ◌≢◌, ◌≤◌, ◌<◌, ◌+◌, [], length, IfErr, OnOk, OnErr, IsErrOf};
-ghost use Rattle.kad_base.specs.Limits.{max_round_receives, max_strays};
+ghost use Rattle.kad_base.specs.Limits.{max_datagram, max_round_receives, max_strays};
 ghost use Rattle.kad_base.specs.Outside.{Rose};
 ghost use Rattle.id_puzzles.specs.Drawn.{WordsState};
 ghost use Rattle.lookup_run.specs.Lookup.{IsWithinLimits};
@@ -98,7 +98,7 @@ pub(crate) fn receive<L: Link>(
 ) -> Result<(), LookFault>
     requires limits { IsWithinLimits look.now }
     requires may_receive { MayReceive look.now work.old }
-    requires room { length buf.old ≡ 4097 }
+    requires room { length buf.old ≡ max_datagram + 1 }
     requires moment { L.moment link.old ≡ work.old.stand.moment }
     ensures ok { OnOk result (ReceivesOne look.now work.old work.new (L.told link.old) (L.told link.new)) }
     ensures moment { OnOk result (L.moment link.new ≡ work.new.stand.moment) }
@@ -140,7 +140,7 @@ pub(crate) fn receive_round<L: Link>(
     requires limits { IsWithinLimits look.now }
     requires may_receive { MayReceive look.now work.old }
     requires begins { work.old.stand.receives ≡ 0 }
-    requires room { length buf.old ≡ 4097 }
+    requires room { length buf.old ≡ max_datagram + 1 }
     requires moment { L.moment link.old ≡ work.old.stand.moment }
     ensures ok { OnOk result (ReceivesAll look.now work.old work.new (L.told link.old) (L.told link.new)) }
     ensures moment { OnOk result (L.moment link.new ≡ work.new.stand.moment) }

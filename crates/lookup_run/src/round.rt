@@ -1,38 +1,42 @@
 //! The rounds of a lookup.
-ghost use Rattle.std.specs.Prelude.{◌≡◌, ◌≤◌, ◌<◌, length, true, false, IfOk, OnOk, OnErr, IsErrOf};
+ghost use Rattle.std.specs.Prelude.{◌≡◌, ◌≤◌, ◌+◌, length, true, false, IfOk, OnOk, OnErr, IsErrOf};
+ghost use Rattle.kad_base.specs.Limits.{max_datagram};
 ghost use Rattle.kad_base.specs.Outside.{Rose};
 ghost use Rattle.lookup_run.specs.Lookup.{IsWithinLimits};
-ghost use Rattle.lookup_run.specs.Steps.{Begins, GoesRound, IsOver, StopsRound, RoundEndsByStray, RoundFewStrays};
+ghost use Rattle.lookup_run.specs.Rounds.{Manner, at_once, path_by_path};
+ghost use Rattle.lookup_run.specs.Steps.{Begins, HasReceived, IsOver, StopsRound, RoundEndsByStray, RoundFewStrays};
 
 use crate::ask::ask_all;
 use crate::plain::{LookFault, LookSetting, Work};
 use crate::receive::receive_round;
-use crate::settle::settle_all;
+use crate::settle::settle_paths;
+use crate::together::settle_each;
 use id_puzzles::Words;
 use kad_base::limits::RECEIVE_ROOM;
 use kad_base::{Check, Link};
 use std::alloc::Global;
+use std::sync::Wait;
+use std::thread::Threads;
 
-/// Asks what may be asked, receives, and settles; false where nothing was left to wait for.
-fn go_round<L: Link, C: Check>(
+/// Asks what may be asked, and receives; false where nothing was left to wait for.
+fn ask_and_receive<L: Link>(
     alloc: Global,
     link: &mut L,
     work: &mut Work,
     words: &mut Words,
     buf: &mut [u8],
     look: &LookSetting,
-    check: &C,
 ) -> Result<bool, LookFault>
     requires limits { IsWithinLimits look.now }
     requires begins { Begins look.now words.old work.old }
-    requires room { length buf.old ≡ 4097 }
+    requires room { length buf.old ≡ max_datagram + 1 }
     requires moment { L.moment link.old ≡ work.old.stand.moment }
-    ensures more { IfOk result (λ more. more ≡ true → GoesRound look.now words.old words.new work.old work.new (L.told link.old) (L.told link.new)) }
-    ensures over { IfOk result (λ more. more ≡ false → IsOver look.now words.old words.new work.old work.new (L.told link.old) (L.told link.new)) }
+    ensures more { IfOk result (λ more. more ≡ true → HasReceived look.now words.old words.new work.old work.new (L.told link.old) (L.told link.new)) }
+    ensures over { (manner : Manner) → IfOk result (λ more. more ≡ false → IsOver manner look.now words.old words.new work.old work.new (L.told link.old) (L.told link.new)) }
     ensures moment { OnOk result (L.moment link.new ≡ work.new.stand.moment) }
-    ensures stops { OnErr result (StopsRound look.now words.old words.new work.old work.new (L.told link.old) (L.told link.new)) }
-    ensures strays { IsErrOf result LookFault.Strays → RoundEndsByStray look.now words.old work.old (L.told link.old) (L.told link.new) }
-    ensures few { IsErrOf result LookFault.LinkFault → RoundFewStrays look.now words.old work.old (L.told link.old) (L.told link.new) }
+    ensures stops { (manner : Manner) → OnErr result (StopsRound manner look.now words.old words.new work.old work.new (L.told link.old) (L.told link.new)) }
+    ensures strays { (manner : Manner) → IsErrOf result LookFault.Strays → RoundEndsByStray manner look.now words.old work.old (L.told link.old) (L.told link.new) }
+    ensures few { (manner : Manner) → IsErrOf result LookFault.LinkFault → RoundFewStrays manner look.now words.old work.old (L.told link.old) (L.told link.new) }
     ensures link { IsErrOf result LookFault.LinkFault → Rose (L.recv_faults link.old) (L.recv_faults link.new) }
     ensures recv_faults { L.recv_faults link.old ≤ L.recv_faults link.new }
     ensures kept { L.kept link.new ≡ L.kept link.old }
@@ -42,16 +46,12 @@ fn go_round<L: Link, C: Check>(
         return Ok(false);
     }
     match receive_round(alloc, link, work, buf, look) {
-        Ok(()) => {}
-        Err(fault) => return Err(fault),
-    }
-    match settle_all(work, look, check) {
         Ok(()) => Ok(true),
         Err(fault) => Err(fault),
     }
 }
 
-/// Goes round until every path has run out.
+/// Goes round until every path has run out, on the caller's own thread.
 pub(crate) fn go_rounds<L: Link, C: Check>(
     alloc: Global,
     link: &mut L,
@@ -63,20 +63,62 @@ pub(crate) fn go_rounds<L: Link, C: Check>(
     requires limits { IsWithinLimits look.now }
     requires begins { Begins look.now words.old work.old }
     requires moment { L.moment link.old ≡ work.old.stand.moment }
-    ensures over { OnOk result (IsOver look.now words.old words.new work.old work.new (L.told link.old) (L.told link.new)) }
-    ensures stops { OnErr result (StopsRound look.now words.old words.new work.old work.new (L.told link.old) (L.told link.new)) }
-    ensures strays { IsErrOf result LookFault.Strays → RoundEndsByStray look.now words.old work.old (L.told link.old) (L.told link.new) }
-    ensures few { IsErrOf result LookFault.LinkFault → RoundFewStrays look.now words.old work.old (L.told link.old) (L.told link.new) }
+    ensures over { OnOk result (IsOver path_by_path look.now words.old words.new work.old work.new (L.told link.old) (L.told link.new)) }
+    ensures stops { OnErr result (StopsRound path_by_path look.now words.old words.new work.old work.new (L.told link.old) (L.told link.new)) }
+    ensures strays { IsErrOf result LookFault.Strays → RoundEndsByStray path_by_path look.now words.old work.old (L.told link.old) (L.told link.new) }
+    ensures few { IsErrOf result LookFault.LinkFault → RoundFewStrays path_by_path look.now words.old work.old (L.told link.old) (L.told link.new) }
     ensures link { IsErrOf result LookFault.LinkFault → Rose (L.recv_faults link.old) (L.recv_faults link.new) }
     ensures recv_faults { L.recv_faults link.old ≤ L.recv_faults link.new }
     ensures kept { L.kept link.new ≡ L.kept link.old }
 {
     let mut buf = [0u8; RECEIVE_ROOM];
     'rounds: loop {
-        match go_round(alloc, link, work, words, &mut buf, look, check) {
+        match ask_and_receive(alloc, link, work, words, &mut buf, look) {
             Ok(true) => {}
             Ok(false) => return Ok(()),
             Err(fault) => return Err(fault),
+        }
+        match settle_paths(work, look, check) {
+            Ok(()) => {}
+            Err(fault) => return Err(fault),
+        }
+    }
+}
+
+/// Goes round until every path has run out. In each round the paths settle at once.
+pub(crate) fn go_rounds_together<R: Threads + Wait + Sync, L: Link, C: Check + Sync>(
+    rt: &R,
+    alloc: Global,
+    link: &mut L,
+    work: Work,
+    words: &mut Words,
+    look: &LookSetting,
+    check: &C,
+) -> (Work, Result<(), LookFault>)
+    requires limits { IsWithinLimits look.now }
+    requires begins { Begins look.now words.old work }
+    requires moment { L.moment link.old ≡ work.stand.moment }
+    ensures over { OnOk result.1 (IsOver at_once look.now words.old words.new work result.0 (L.told link.old) (L.told link.new)) }
+    ensures stops { OnErr result.1 (StopsRound at_once look.now words.old words.new work result.0 (L.told link.old) (L.told link.new)) }
+    ensures strays { IsErrOf result.1 LookFault.Strays → RoundEndsByStray at_once look.now words.old work (L.told link.old) (L.told link.new) }
+    ensures few { IsErrOf result.1 LookFault.LinkFault → RoundFewStrays at_once look.now words.old work (L.told link.old) (L.told link.new) }
+    ensures link { IsErrOf result.1 LookFault.LinkFault → Rose (L.recv_faults link.old) (L.recv_faults link.new) }
+    ensures recv_faults { L.recv_faults link.old ≤ L.recv_faults link.new }
+    ensures kept { L.kept link.new ≡ L.kept link.old }
+{
+    let mut work = work;
+    let mut buf = [0u8; RECEIVE_ROOM];
+    'rounds: loop {
+        match ask_and_receive(alloc, link, &mut work, words, &mut buf, look) {
+            Ok(true) => {}
+            Ok(false) => return (work, Ok(())),
+            Err(fault) => return (work, Err(fault)),
+        }
+        let (after, settled) = settle_each(rt, alloc, work, look, check);
+        work = after;
+        match settled {
+            Ok(()) => {}
+            Err(fault) => return (work, Err(fault)),
         }
     }
 }

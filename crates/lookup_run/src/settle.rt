@@ -1,8 +1,8 @@
-//! Settling what the answers of a round gave, path by path.
+//! Settling what the answers of a round gave.
 ghost use Rattle.std.specs.Prelude.{◌≡◌, ◌<◌, ◌+◌, List, Option, IfErr, OnOk, OnErr};
 ghost use Rattle.kad_base.specs.declared.plain.Event.{Event};
 ghost use Rattle.id_puzzles.specs.Drawn.{WordsState};
-ghost use Rattle.lookup_run.specs.Rounds.{AllSettled};
+ghost use Rattle.lookup_run.specs.Rounds.{Manner, AllSettled};
 ghost use Rattle.lookup_run.specs.Lookup.{IsWithinLimits, TableRan};
 ghost use Rattle.lookup_run.specs.Standing.{Keeps};
 ghost use Rattle.lookup_run.specs.Steps.{SettlesPaths, Stops};
@@ -23,7 +23,7 @@ fn settle_path<C: Check>(
     requires keeps { Keeps look.now work.old }
     requires round_over { work.old.stand.receives ≡ 0 }
     requires settled { AllSettled path work.old.book.journal }
-    ensures ok { (told : Option (List Event)) → OnOk result (SettlesPaths look.now path (path + 1) work.old work.new told) }
+    ensures ok { (manner : Manner) (told : Option (List Event)) → OnOk result (SettlesPaths manner look.now path (path + 1) work.old work.new told) }
     ensures ran { OnErr result (TableRan work.old.table work.new.table) }
     ensures fault { IfErr result (λ fault. fault ≡ LookFault.NoMemory) }
 {
@@ -34,7 +34,7 @@ fn settle_path<C: Check>(
 }
 
 /// Settles all that the paths have, path by path.
-pub(crate) fn settle_all<C: Check>(
+pub(crate) fn settle_paths<C: Check>(
     work: &mut Work,
     look: &LookSetting,
     check: &C,
@@ -42,7 +42,7 @@ pub(crate) fn settle_all<C: Check>(
     requires limits { IsWithinLimits look.now }
     requires keeps { Keeps look.now work.old }
     requires round_over { work.old.stand.receives ≡ 0 }
-    ensures ok { (told : Option (List Event)) → OnOk result (SettlesPaths look.now 0 look.now.paths work.old work.new told) }
+    ensures ok { (manner : Manner) (told : Option (List Event)) → OnOk result (SettlesPaths manner look.now 0 look.now.paths work.old work.new told) }
     ensures stops { (told : Option (List Event)) → OnErr result ((words : WordsState) → Stops look.now words words work.old work.new told told) }
     ensures fault { IfErr result (λ fault. fault ≡ LookFault.NoMemory) }
 {

@@ -5,9 +5,13 @@
 
 mod alone;
 mod calls;
+mod crew;
+mod deal;
 #[cfg(test)]
 mod tests;
+mod together;
 mod worker;
 
 pub use alone::settle_alone;
+pub use together::settle_together;
 pub use worker::Worker;

@@ -1,9 +1,11 @@
 //! Books worked by hand. `contact(n)` is 19 zero bytes and n at 127.0.0.1, port 6000 + n; the target is 20 zero bytes, and
 //! the node's own identifier 20 bytes of 255. So seed n is dealt to path n - 1.
 ghost use Rattle.std.specs.Prelude.{◌≡◌, ◌<◌, ◌≤◌, IfOk};
+ghost use Rattle.kad_base.specs.Limits.{max_paths};
+ghost use Rattle.kad_base.specs.declared.plain.Policy.TheVariants.{Plain};
 ghost use Rattle.claim_book.specs.State.{BookState};
 
-use super::settle_alone;
+use super::{settle_alone, settle_together};
 use claim_book::{Book, BookCall, BookReply, Entry, Setting};
 use contact_table::{Table, TableCall, TableReply};
 use kad_base::{Addr, Check, Contact, Contacts, Id, Ip, List, Policy, Report, Serial, is_usable};
@@ -11,7 +13,9 @@ use kad_distance::k_least;
 use std::alloc::Global;
 use std::hash::RandomState;
 use std::process::Abort;
+use std::sync::Wait;
 use std::test::Fail;
+use std::thread::Threads;
 
 const OWN: Id = Id([255; 20]);
 
@@ -60,6 +64,7 @@ fn own() -> Contact {
 fn setting(paths: u8, policy: Policy) -> Setting
     ensures paths { result.paths ≡ paths }
     ensures policy { result.policy ≡ policy }
+    ensures k { result.k ≡ 8 }
 {
     Setting {
         own: OWN,
@@ -214,5 +219,89 @@ fn a_report_without_a_proof_is_rejected_where_puzzles_are_asked_for(
     }];
     let journal = book.into_journal();
     assert_eq!(rt; journal.as_slice().get(4..), Some(wanted.as_slice()));
+    Ok(())
+}
+
+/// Knows that a report without a proof passes the plain policy alone, and may be asked from any thread.
+#[derive(Drop)]
+struct Plainly;
+
+impl Check for Plainly {
+    fn check(&self, policy: Policy, report: &Report) -> bool {
+        report.proof.is_none() && matches!(policy, Policy::Plain)
+    }
+}
+
+/// A book each of whose paths has an answer with a report of another contact.
+fn answered(rt: &impl Abort, alloc: Global, hasher: RandomState, paths: u8) -> Result<Book, Fail>
+    requires some { 0 < paths }
+    ensures paths { IfOk result (λ book. book.setting.paths ≡ paths) }
+    ensures policy { IfOk result (λ book. book.setting.policy ≡ Plain) }
+    ensures k { IfOk result (λ book. book.setting.k ≡ 8) }
+{
+    let mut book = begun(rt, alloc, hasher, setting(paths, Policy::Plain))?;
+    for path in 0..paths {
+        let named = report(contact(path.wrapping_add(100)));
+        answer(rt, alloc, &mut book, path, &[named])?;
+    }
+    Ok(book)
+}
+
+/// All its paths settled at once: how many entries the journal has then, and the contacts of the table.
+fn settled_at_once<R: Threads + Wait + Sync>(
+    rt: &R,
+    alloc: Global,
+    paths: u8,
+    book: Book,
+) -> Result<(usize, Option<Contacts>), Fail>
+    requires some { 0 < paths }
+    requires few { paths ≤ max_paths }
+    requires paths { book.setting.paths ≡ paths }
+    requires policy { book.setting.policy ≡ Plain }
+    requires k { book.setting.k ≡ 8 }
+{
+    let (book, mut table, answer) = settle_together(
+        rt,
+        alloc,
+        paths,
+        book,
+        table(alloc)?,
+        Policy::Plain,
+        &Plainly,
+    );
+    answer?;
+    Ok((book.into_journal().as_slice().len(), known(&mut table)))
+}
+
+#[test]
+fn one_path_settles_in_its_thread(rt: HostRuntime) -> Result<(), Fail> {
+    let alloc = rt.alloc();
+    let book = answered(&rt, alloc, RandomState::new(&rt)?, 1)?;
+    let list = List::from_slice(alloc, &[contact(1)])?;
+    let found = settled_at_once(&rt, alloc, 1, book)?;
+    assert_eq!(rt; found, (5, Some(list)));
+    Ok(())
+}
+
+#[test]
+fn two_paths_settle_at_once(rt: HostRuntime) -> Result<(), Fail> {
+    let alloc = rt.alloc();
+    let book = answered(&rt, alloc, RandomState::new(&rt)?, 2)?;
+    let list = List::from_slice(alloc, &[contact(1), contact(2)])?;
+    let found = settled_at_once(&rt, alloc, 2, book)?;
+    assert_eq!(rt; found, (10, Some(list)));
+    Ok(())
+}
+
+#[test]
+fn eight_paths_settle_at_once(rt: HostRuntime) -> Result<(), Fail> {
+    let alloc = rt.alloc();
+    let book = answered(&rt, alloc, RandomState::new(&rt)?, 8)?;
+    let mut list = List::new(alloc);
+    for n in 1..9 {
+        list.push(contact(n))?;
+    }
+    let found = settled_at_once(&rt, alloc, 8, book)?;
+    assert_eq!(rt; found, (40, Some(list)));
     Ok(())
 }

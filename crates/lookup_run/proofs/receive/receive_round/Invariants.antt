@@ -1,11 +1,12 @@
-use Rattle.std.proofs.Common.{◌≡◌, ◌≤◌, length}
+use Rattle.std.proofs.Common.{◌≡◌, ◌≤◌, ◌+◌, length}
+use Rattle.kad_base.specs.Limits.{max_datagram}
 use Rattle.lookup_run.proofs.WholeRound.{Rounding, still_to}
 use Rattle.lookup_run.proofs.receive.receive_round.Given as goal
 
 abbrev pub invariant-receiving : goal.invariant-receiving
 invariant-receiving g l = record {
   so_far : Rounding l.look l.fn.work l.work (g.L.Link.told l.fn.link) (g.L.Link.told l.link);
-  room : length l.buf ≡ 4097;
+  room : length l.buf ≡ max_datagram + 1;
   moment : g.L.Link.moment l.link ≡ l.work.stand.moment;
   faults : g.L.Link.recv_faults l.fn.link ≤ g.L.Link.recv_faults l.link;
   kept : g.L.Link.kept l.link ≡ g.L.Link.kept l.fn.link;

@@ -1,40 +1,57 @@
-use Rattle.std.proofs.Common.{◌≡◌, ◌∙◌, Err, refl, arith, ap, rules}
+use Rattle.std.proofs.Common.{◌≡◌, ◌∙◌, Err, None, refl, sym, arith, ap, rules}
 use Rattle.lookup_run.specs.declared.plain.LookFault.TheVariants.{Strays, LinkFault}
-use Rattle.lookup_run.proofs.Rounding.{rounds_none, rounds_then, rounds_over, rounds_stop, rounds_stray, rounds_few}
+use Rattle.lookup_run.specs.Rounds.{path_by_path}
+use Rattle.lookup_run.proofs.Early.{on_ok, on_err}
+use Rattle.lookup_run.proofs.Rounding.{round_more, stops_settling_round, rounds_none, rounds_then, rounds_over, rounds_stop, rounds_stray, rounds_few}
 use Rattle.lookup_run.proofs.round.go_rounds.Goals as goal
 
 pub rounds-init : goal.rounds-init
 rounds-init g c = record {
-  rounding = rounds_none c.args.look.now c.args.words.now c.args.work.now _ c.requires.begins;
+  rounding = rounds_none path_by_path c.args.look.now c.args.words.now c.args.work.now _ c.requires.begins;
   moment = c.requires.moment;
   room = refl;
   faults = omega arith;
   kept = refl;
 }
 
+pub rounds-smaller : goal.rounds-smaller
+rounds-smaller g c =
+    let told = g.L.Link.told c.ask_and_receive.new.link in
+    (round_more path_by_path c.args.look.now c.rounds.words c.ask_and_receive.new.words c.rounds.work c.ask_and_receive.new.work c.settle_paths.new.work (g.L.Link.told c.rounds.link) told (c.in-Ok-true.ensures.more c.in-Ok-true.field-0-test) (c.in-Ok.ensures.ok path_by_path told)).lighter
+
 pub rounds-preserved : goal.rounds-preserved
 rounds-preserved g c =
     let i = c.rounds.invariant in
+    let told = g.L.Link.told c.ask_and_receive.new.link in
+    let more = round_more path_by_path c.args.look.now c.rounds.words c.ask_and_receive.new.words c.rounds.work c.ask_and_receive.new.work c.settle_paths.new.work _ told (c.in-Ok-true.ensures.more c.in-Ok-true.field-0-test) (c.in-Ok.ensures.ok path_by_path told) in
     record {
-      rounding = rounds_then c.args.look.now c.args.words.now c.rounds.words c.go_round.new.words c.args.work.now c.rounds.work c.go_round.new.work _ _ _ i.rounding (c.in-Ok-true.ensures.more c.in-Ok-true.field-0-test);
-      moment = c.in-Ok-true.ensures.moment;
+      rounding = rounds_then path_by_path c.args.look.now c.args.words.now c.rounds.words c.ask_and_receive.new.words c.args.work.now c.rounds.work c.settle_paths.new.work _ _ _ i.rounding more;
+      moment = c.in-Ok-true.ensures.moment ∙ sym (ap (λ s. s.moment) (c.in-Ok.ensures.ok path_by_path None).stand);
       room = search rules;
-      faults = (let a = i.faults in let b = c.go_round.ensures.recv_faults in omega (arith, a, b));
-      kept = c.go_round.ensures.kept ∙ i.kept;
+      faults = (let a = i.faults in let b = c.ask_and_receive.ensures.recv_faults in omega (arith, a, b));
+      kept = c.ask_and_receive.ensures.kept ∙ i.kept;
     }
 
 pub returns-in-Ok-false-clause-over : goal.returns-in-Ok-false-clause-over
-returns-in-Ok-false-clause-over g c = rounds_over c.args.look.now c.args.words.now c.rounds.words c.go_round.new.words c.args.work.now c.rounds.work c.go_round.new.work _ _ _ c.rounds.invariant.rounding (c.in-Ok-false.ensures.over c.in-Ok-false.field-0-test)
+returns-in-Ok-false-clause-over g c =
+    rounds_over path_by_path c.args.look.now c.args.words.now c.rounds.words c.ask_and_receive.new.words c.args.work.now c.rounds.work c.ask_and_receive.new.work _ _ _ c.rounds.invariant.rounding (c.in-Ok-false.ensures.over path_by_path c.in-Ok-false.field-0-test)
 
 pub returns-in-Err-clause-stops : goal.returns-in-Err-clause-stops
-returns-in-Err-clause-stops g c = rounds_stop c.args.look.now c.args.words.now c.rounds.words c.go_round.new.words c.args.work.now c.rounds.work c.go_round.new.work _ _ _ c.rounds.invariant.rounding c.in-Err.ensures.stops
+returns-in-Err-clause-stops g c =
+    rounds_stop path_by_path c.args.look.now c.args.words.now c.rounds.words c.ask_and_receive.new.words c.args.work.now c.rounds.work c.ask_and_receive.new.work _ _ _ c.rounds.invariant.rounding (c.in-Err.ensures.stops path_by_path)
 
 pub returns-in-Err-clause-strays : goal.returns-in-Err-clause-strays
 returns-in-Err-clause-strays g c is =
     let fault : c.in-Err.fault ≡ Strays = cc in
-    rounds_stray c.args.look.now c.args.words.now c.rounds.words c.args.work.now c.rounds.work _ _ _ c.rounds.invariant.rounding (c.in-Err.ensures.strays (ap (λ x. Err x) fault))
+    rounds_stray path_by_path c.args.look.now c.args.words.now c.rounds.words c.args.work.now c.rounds.work _ _ _ c.rounds.invariant.rounding (c.in-Err.ensures.strays path_by_path (ap (λ x. Err x) fault))
 
 pub returns-in-Err-clause-few : goal.returns-in-Err-clause-few
 returns-in-Err-clause-few g c is =
     let fault : c.in-Err.fault ≡ LinkFault = cc in
-    rounds_few c.args.look.now c.args.words.now c.rounds.words c.args.work.now c.rounds.work _ _ _ c.rounds.invariant.rounding (c.in-Err.ensures.few (ap (λ x. Err x) fault))
+    rounds_few path_by_path c.args.look.now c.args.words.now c.rounds.words c.args.work.now c.rounds.work _ _ _ c.rounds.invariant.rounding (c.in-Err.ensures.few path_by_path (ap (λ x. Err x) fault))
+
+pub returns-in-Err-settle_paths-clause-stops : goal.returns-in-Err-settle_paths-clause-stops
+returns-in-Err-settle_paths-clause-stops g c =
+    let told = g.L.Link.told c.ask_and_receive.new.link in
+    let stop = stops_settling_round path_by_path c.args.look.now c.rounds.words c.ask_and_receive.new.words c.rounds.work c.ask_and_receive.new.work c.settle_paths.new.work _ told (c.in-Ok-true.ensures.more c.in-Ok-true.field-0-test) (c.in-Err-settle_paths.ensures.stops told c.ask_and_receive.new.words) in
+    rounds_stop path_by_path c.args.look.now c.args.words.now c.rounds.words c.ask_and_receive.new.words c.args.work.now c.rounds.work c.settle_paths.new.work _ _ _ c.rounds.invariant.rounding stop

@@ -1,6 +1,6 @@
 use Rattle.std.proofs.Common.{◌∙◌}
 use Rattle.lookup_run.proofs.Looking.{few_seeds, ordered_seeds, all_usable}
-use Rattle.lookup_run.proofs.look_up.open_book.Goals as goal
+use Rattle.lookup_run.proofs.driver.open_book.Goals as goal
 
 pub new-requires-clause-few : goal.new-requires-clause-few
 new-requires-clause-few c = few_seeds c.args.look.now c.args.table.now c.as_slice.result.now c.setting.result c.requires.usable (c.as_slice.ensures ∙ c.in_ok-seeds.ensures.seeds) c.setting.ensures

@@ -1,5 +1,5 @@
 //! A whole lookup, from the seeds of a table to where every path has run out.
-ghost use Rattle.std.specs.Prelude.{◌≡◌, ◌≤◌, ◌<◌, ◌^◌, ◌∷◌, [], ℕ, IfOk, IfErr, OnOk, OnErr, IsErrOf};
+ghost use Rattle.std.specs.Prelude.{◌≡◌, ◌≢◌, ◌≤◌, ◌<◌, ◌^◌, ◌∷◌, [], ℕ, Err, IfOk, IfErr, OnOk, OnErr, IsErrOf};
 ghost use Rattle.std.specs.List.{All};
 ghost use Rattle.kad_base.specs.declared.plain.Event.TheVariants.{Now};
 ghost use Rattle.kad_base.specs.Contacts.{IsUsable};
@@ -10,15 +10,15 @@ ghost use Rattle.claim_book.specs.RunOut.{RunOut};
 ghost use Rattle.claim_book.specs.Lineage.{GoesByOwnAnswers};
 ghost use Rattle.lookup_run.specs.declared.plain.AskKind.{AskKind};
 ghost use Rattle.lookup_run.specs.Tells.{EndsAtStray};
-ghost use Rattle.lookup_run.specs.Rounds.{Rounds};
+ghost use Rattle.lookup_run.specs.Rounds.{Rounds, at_once, path_by_path};
 ghost use Rattle.lookup_run.specs.Gathered.{Gathers, IsEachOnce};
-ghost use Rattle.lookup_run.specs.Lookup.{IsWithinLimits, setting_of, given_of, seeds_in, table_calls, LooksUp, TableTold, TableRan, Unfinished};
-ghost use Rattle.lookup_run.specs.Steps.{IsDone, IsBookOf, asks_seeds, IsBegun};
+ghost use Rattle.lookup_run.specs.Lookup.{IsWithinLimits, setting_of, given_of, seeds_in, table_calls, LooksUp, TableTold, TableToldBy, TableRan, Unfinished};
+ghost use Rattle.lookup_run.specs.Steps.{IsDone, IsClosed, IsBookOf, asks_seeds, IsBegun};
 
 use crate::gather::{in_order, nothing};
 use crate::hear::DRIVER;
 use crate::plain::{Gathered, LookFault, LookSetting, Outcome, Stand, Work};
-use crate::round::go_rounds;
+use crate::round::{go_rounds, go_rounds_together};
 use claim_book::{Book, BookCall, BookReply};
 use contact_table::{Table, TableCall, TableReply};
 use id_puzzles::Words;
@@ -26,6 +26,8 @@ use kad_base::{Check, Contacts, Link, NoMemory, Serial};
 use query_book::Queries;
 use std::alloc::Global;
 use std::hash::RandomState;
+use std::sync::Wait;
+use std::thread::Threads;
 
 /// The contacts that the lookup begins with: the k closest of the table.
 fn seeds_of(table: &mut Table, look: &LookSetting) -> Result<Contacts, NoMemory>
@@ -60,6 +62,26 @@ fn finish(mut book: Book, gathered: Gathered) -> Result<Outcome, LookFault>
             tokens: gathered.tokens,
         }),
         _ => Err(LookFault::NoMemory),
+    }
+}
+
+/// The table and what the lookup found, where its rounds ended well.
+fn close(work: Work, ended: Result<(), LookFault>) -> (Table, Result<Outcome, LookFault>)
+    requires { OnOk ended ((p : ℕ) → p < work.book.setting.paths → RunOut work.book.setting p work.book.journal) }
+    ensures table { result.0 ≡ work.table }
+    ensures done { IfOk result.1 (λ outcome. IsClosed work ended outcome) }
+    ensures fault { IfErr result.1 (λ fault. fault ≢ LookFault.NoMemory → ended ≡ Err fault) }
+{
+    let Work {
+        book,
+        table,
+        gathered,
+        queries: _,
+        stand: _,
+    } = work;
+    match ended {
+        Ok(()) => (table, finish(book, gathered)),
+        Err(fault) => (table, Err(fault)),
     }
 }
 
@@ -117,7 +139,7 @@ pub fn look_up_alone<L: Link, C: Check>(
     requires usable { All (IsUsable setting.now.own) (contacts_of table) }
     requires place { words.old.place < 2 ^ 59 }
     ensures lookup { IfOk result.1 (LooksUp setting.now table words.old words.new (L.told link.old) (L.told link.new)) }
-    ensures rounds { IfOk result.1 (λ outcome. Grows (L.told link.old) (L.told link.new) (λ events. Rounds (given_of setting.now words.old) outcome.journal events)) }
+    ensures rounds { IfOk result.1 (λ outcome. Grows (L.told link.old) (L.told link.new) (λ events. Rounds path_by_path (given_of setting.now words.old) outcome.journal events)) }
     ensures own_answers { IfOk result.1 (λ outcome. GoesByOwnAnswers (setting_of setting.now) outcome.journal) }
     ensures gathered { IfOk result.1 (λ outcome. Grows (L.told link.old) (L.told link.new) (λ events. Gathers (given_of setting.now words.old) outcome.journal events outcome.peers outcome.tokens)) }
     ensures none_gathered { IfOk result.1 (λ outcome. setting.now.kind ≡ AskKind.FindNode → (outcome.peers ≡ []) × (outcome.tokens ≡ [])) }
@@ -139,15 +161,49 @@ pub fn look_up_alone<L: Link, C: Check>(
     let mut work = begin(alloc, link, table, book);
     let ended = go_rounds(alloc, link, &mut work, words, setting, check);
     work.book.legal();
-    let Work {
-        book,
-        table,
-        gathered,
-        queries: _,
-        stand: _,
-    } = work;
-    match ended {
-        Ok(()) => (table, finish(book, gathered)),
-        Err(fault) => (table, Err(fault)),
-    }
+    close(work, ended)
+}
+
+/// Looks the target up from the k closest contacts of the table, and tells the table who answered and who didn't: asks,
+/// receives and settles in rounds until every path has run out. What a path asks comes from its own seeds and answers
+/// (S/Kademlia, section 4.4). In a round the paths settle at once, each on a thread of its own, where more than one has
+/// something to settle; the caller does the work of those that no thread can be made for. The table comes back on every
+/// answer. Strangers choose the contacts, so the hasher of the book's index is handed in; no answer depends on it.
+pub fn look_up<R: Threads + Wait + Sync, L: Link, C: Check + Sync>(
+    rt: &R,
+    alloc: Global,
+    link: &mut L,
+    words: &mut Words,
+    table: Table,
+    setting: &LookSetting,
+    check: &C,
+    hasher: RandomState,
+) -> (Table, Result<Outcome, LookFault>)
+    requires limits { IsWithinLimits setting.now }
+    requires usable { All (IsUsable setting.now.own) (contacts_of table) }
+    requires place { words.old.place < 2 ^ 59 }
+    ensures lookup { IfOk result.1 (LooksUp setting.now table words.old words.new (L.told link.old) (L.told link.new)) }
+    ensures rounds { IfOk result.1 (λ outcome. Grows (L.told link.old) (L.told link.new) (λ events. Rounds at_once (given_of setting.now words.old) outcome.journal events)) }
+    ensures own_answers { IfOk result.1 (λ outcome. GoesByOwnAnswers (setting_of setting.now) outcome.journal) }
+    ensures gathered { IfOk result.1 (λ outcome. Grows (L.told link.old) (L.told link.new) (λ events. Gathers (given_of setting.now words.old) outcome.journal events outcome.peers outcome.tokens)) }
+    ensures none_gathered { IfOk result.1 (λ outcome. setting.now.kind ≡ AskKind.FindNode → (outcome.peers ≡ []) × (outcome.tokens ≡ [])) }
+    ensures table { IfOk result.1 (λ outcome. TableToldBy at_once (table_calls setting.now outcome.journal) table result.0) }
+    ensures unfinished { IfErr result.1 (λ fault. Unfinished setting.now table words.old words.new (L.told link.old) (L.told link.new)) }
+    ensures table_left { IfErr result.1 (λ fault. TableRan table result.0) }
+    ensures strays { IsErrOf result.1 LookFault.Strays → Grows (L.told link.old) (L.told link.new) (λ events. EndsAtStray (given_of setting.now words.old) events max_strays) }
+    ensures few { IfOk result.1 (λ outcome. Grows (L.told link.old) (L.told link.new) (λ events. ¬ EndsAtStray (given_of setting.now words.old) events max_strays)) }
+    ensures few_at_fault { IsErrOf result.1 LookFault.LinkFault → Grows (L.told link.old) (L.told link.new) (λ events. ¬ EndsAtStray (given_of setting.now words.old) events max_strays) }
+    ensures link { IsErrOf result.1 LookFault.LinkFault → Rose (L.recv_faults link.old) (L.recv_faults link.new) }
+    ensures recv_faults { L.recv_faults link.old ≤ L.recv_faults link.new }
+    ensures kept { L.kept link.new ≡ L.kept link.old }
+{
+    let mut table = table;
+    let book = match open_book(alloc, &mut table, setting, hasher) {
+        Ok(book) => book,
+        Err(_) => return (table, Err(LookFault::NoMemory)),
+    };
+    let work = begin(alloc, link, table, book);
+    let (work, ended) = go_rounds_together(rt, alloc, link, work, words, setting, check);
+    work.book.legal();
+    close(work, ended)
 }

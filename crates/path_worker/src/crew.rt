@@ -1,0 +1,92 @@
+//! The workers of all paths, each with its burst in a thread of its own.
+ghost use Rattle.std.specs.Prelude.{◌≡◌, ◌↔◌, IsTrue, IsOk, IfOk, length};
+ghost use Rattle.std.specs.List.{All};
+ghost use Rattle.path_worker.specs.Burst.{IsOpened};
+ghost use Rattle.path_worker.specs.Crew.{CanWork, Worked, AllWorked};
+
+use crate::worker::Worker;
+use claim_book::Book;
+use contact_table::Table;
+use kad_base::{Check, NoMemory};
+use std::sync::Wait;
+use std::thread;
+use std::thread::Threads;
+use turn_book::Turn;
+
+/// At most so many bursts run at once.
+const MOST: usize = 8;
+
+/// A worker, and the answer of its burst.
+#[derive(Drop)]
+pub(crate) struct Shift {
+    pub worker: Worker,
+    pub answer: Result<u32, NoMemory>,
+}
+
+impl Shift {
+    fn work<R: Wait, C: Check>(&mut self, rt: &R, book: &Turn<Book>, table: &Turn<Table>, check: &C)
+        requires can { CanWork book.now table.now self.old.worker }
+        requires opened { IsOpened book.now.start }
+        ensures { Worked book.now self.old self.new }
+    {
+        self.answer = self.worker.burst(rt, book, table, check);
+    }
+}
+
+/// All bursts at once, and joined: each in a thread of its own, or by the caller where no thread can be made.
+fn burst_each<R: Threads + Wait + Sync, C: Check + Sync>(
+    rt: &R,
+    book: &Turn<Book>,
+    table: &Turn<Table>,
+    check: &C,
+    crew: &mut [Shift],
+)
+    requires can { All (λ s. CanWork book.now table.now s.worker) crew.old }
+    requires opened { IsOpened book.now.start }
+    ensures len { length crew.new ≡ length crew.old }
+    ensures each { AllWorked book.now crew.old crew.new }
+{
+    thread::for_each_mut(
+        rt,
+        crew,
+        MOST,
+        &|_: usize, shift: &mut Shift|
+            requires can { CanWork book.now table.now shift.old.worker }
+            requires opened { IsOpened book.now.start }
+            ensures { Worked book.entry.now shift.old shift.new }
+        { shift.work(rt, book, table, check) },
+    );
+}
+
+/// The same over the crew's own list.
+pub(crate) fn burst_all<R: Threads + Wait + Sync, C: Check + Sync>(
+    rt: &R,
+    book: &Turn<Book>,
+    table: &Turn<Table>,
+    check: &C,
+    crew: &mut Vec<Shift>,
+)
+    requires can { All (λ s. CanWork book.now table.now s.worker) crew.old.items }
+    requires opened { IsOpened book.now.start }
+    ensures len { length crew.new.items ≡ length crew.old.items }
+    ensures each { AllWorked book.now crew.old.items crew.new.items }
+{
+    burst_each(rt, book, table, check, crew.as_mut_slice());
+}
+
+/// Whether no worker was without memory.
+fn all_ok(crew: &[Shift]) -> bool
+    ensures { IsTrue result ↔ All (λ s. IsOk s.answer) crew.now }
+{
+    crew.iter().all(|shift| shift.answer.is_ok())
+}
+
+/// The answer of all workers together.
+pub(crate) fn answer_of(crew: &[Shift]) -> Result<(), NoMemory>
+    ensures { IsOk result ↔ All (λ s. IsOk s.answer) crew.now }
+{
+    if all_ok(crew) {
+        return Ok(());
+    }
+    Err(NoMemory)
+}
