@@ -8,6 +8,7 @@ ghost use Rattle.lookup_run.specs.Lookup.{IsWithinLimits};
 
 mod hostile;
 mod script;
+mod together;
 
 use crate::{AskKind, LookSetting, Outcome, look_up_alone};
 use bucket_tree::Gone;

@@ -1,34 +1,19 @@
--- Words ask for a command that is built, or the words of none.
+-- Words ask for a command, or for none; and which commands take a link.
 use Rattle.std.proofs.Common.{◌≡◌, ℕ, zero, suc, ◌<◌, ◌⊎◌, inl, inr, List, ◌∷◌, slice_index_or, Option, true, false, true≢false, refl, sym, ap, subst, ◌∙◌, arith, lit<}
 use Rattle.std.specs.Prelude.{bytes_eq, Contains}
 use Rattle.kad_base.specs.declared.plain.Id.{Id}
 use Rattle.kad_base.specs.declared.plain.Policy.{Policy}
 use Rattle.kad_words.specs.Table.{Word, lookup, peers, serve, check, mint, sim, links}
 use Rattle.kad_words.specs.Bound.{TakesLink}
-use Rattle.kad_words.specs.Plain.{CommandOf, IsPlain, word_of}
+use Rattle.kad_words.specs.Plain.{CommandOf, word_of}
 use Rattle.kad_words.specs.declared.command.Command.{Command}
 use Rattle.kad_words.specs.declared.command.Command.TheVariants.{Lookup, Peers, Serve, Check, Mint, Sim}
 use Rattle.kad_words.specs.declared.command.LookWords.{LookWords}
 use Rattle.kad_words.proofs.OneCommand.{command_plain}
-use Rattle.node_top.specs.Asked.{Asks, AsksPlain, BeginsBuilt, built}
+use Rattle.node_top.specs.Asked.{Asks, AsksPlain}
 
-begins_with : (words rest : List Word) (command : Word) → words ≡ command ∷ rest → BeginsBuilt words → Contains built command
-begins_with words rest command e b = subst BeginsBuilt e b
-
-pub asks_begins : (words : List Word) → Asks words → BeginsBuilt words
-asks_begins words h = subst BeginsBuilt (sym h.plain.begins) h.is_built
-
-pub plain_asks : (words : List Word) → IsPlain words → BeginsBuilt words → Asks words
-plain_asks words h b = record { plain = h; is_built = begins_with words h.rest h.command h.begins b }
-
-pub command_built : (words : List Word) (command : Command) → CommandOf words command → BeginsBuilt words → Contains built (word_of command)
-command_built words command h b = begins_with words h.rest (word_of command) h.begins b
-
-pub command_asks : (words : List Word) (command : Command) → CommandOf words command → Contains built (word_of command) → Asks words
-command_asks words command h b =
-    let plain = command_plain words command h in
-    let first : word_of command ≡ plain.command = (let e = h.begins in let f = plain.begins in cc) in
-    record { plain = plain; is_built = subst (λ (w : Word). Contains built w) first b }
+pub command_asks : (words : List Word) (command : Command) → CommandOf words command → Asks words
+command_asks words command h = command_plain words command h
 
 -- ---- the commands that take a link
 
@@ -69,19 +54,19 @@ pub serve_links : (words : List Word) (own : Option Id) (k bits : ℕ) (policy :
 serve_links words own k bits policy receives h none_ = none_ (subst TakesLink (sym h.begins) (2, lit< tt, refl))
 
 pub serve_asks : (words : List Word) (own : Option Id) (k bits : ℕ) (policy : Policy) (receives : ℕ) → CommandOf words (Serve own k bits policy receives) → Asks words
-serve_asks words own k bits policy receives h = command_asks words (Serve own k bits policy receives) h (5, lit< tt, refl)
+serve_asks words own k bits policy receives h = command_asks words (Serve own k bits policy receives) h
 
 pub peers_asks : (words : List Word) (look : LookWords) (announce : Option ℕ) → CommandOf words (Peers look announce) → Asks words
-peers_asks words look announce h = command_asks words (Peers look announce) h (3, lit< tt, refl)
+peers_asks words look announce h = command_asks words (Peers look announce) h
 
 pub lookup_asks : (words : List Word) (look : LookWords) → CommandOf words (Lookup look) → Asks words
-lookup_asks words look h = command_asks words (Lookup look) h (0, lit< tt, refl)
+lookup_asks words look h = command_asks words (Lookup look) h
 
 pub check_asks : (words : List Word) (policy : Policy) → CommandOf words (Check policy) → Asks words
-check_asks words policy h = command_asks words (Check policy) h (1, lit< tt, refl)
+check_asks words policy h = command_asks words (Check policy) h
 
 pub mint_asks : (words : List Word) (seed : Option (List ℕ)) (c1 c2 tries : ℕ) → CommandOf words (Mint seed c1 c2 tries) → Asks words
-mint_asks words seed c1 c2 tries h = command_asks words (Mint seed c1 c2 tries) h (2, lit< tt, refl)
+mint_asks words seed c1 c2 tries h = command_asks words (Mint seed c1 c2 tries) h
 
 pub check_plain : (words : List Word) (policy : Policy) → CommandOf words (Check policy) → AsksPlain words
 check_plain words policy h = record { asks = check_asks words policy h; no_link = λ takes. check_links words policy h takes }
@@ -93,12 +78,12 @@ pub sim_links : (words : List Word) (seed : Option (List ℕ)) (nodes hostile k 
 sim_links words seed nodes hostile k paths alpha timeout h t = no_link sim refl refl refl (takes words (Sim seed nodes hostile k paths alpha timeout) h t)
 
 pub sim_asks : (words : List Word) (seed : Option (List ℕ)) (nodes hostile k paths alpha timeout : ℕ) → CommandOf words (Sim seed nodes hostile k paths alpha timeout) → Asks words
-sim_asks words seed nodes hostile k paths alpha timeout h = command_asks words (Sim seed nodes hostile k paths alpha timeout) h (4, lit< tt, refl)
+sim_asks words seed nodes hostile k paths alpha timeout h = command_asks words (Sim seed nodes hostile k paths alpha timeout) h
 
 pub sim_plain : (words : List Word) (seed : Option (List ℕ)) (nodes hostile k paths alpha timeout : ℕ) → CommandOf words (Sim seed nodes hostile k paths alpha timeout) → AsksPlain words
 sim_plain words seed nodes hostile k paths alpha timeout h = record { asks = sim_asks words seed nodes hostile k paths alpha timeout h; no_link = λ takes. sim_links words seed nodes hostile k paths alpha timeout h takes }
 
--- a command that neither takes a link nor is one of those that are built without one is not asked for
+-- a command that neither takes a link nor is one of those without one is not asked for
 pub plain_alone : (words : List Word) (command : Command) → CommandOf words command → (TakesLink words → ⊥) → ((policy : Policy) → command ≡ Check policy → ⊥)
     → ((seed : Option (List ℕ)) (c1 c2 tries : ℕ) → command ≡ Mint seed c1 c2 tries → ⊥)
     → ((seed : Option (List ℕ)) (nodes hostile k paths alpha timeout : ℕ) → command ≡ Sim seed nodes hostile k paths alpha timeout → ⊥) → AsksPlain words → ⊥
@@ -109,7 +94,7 @@ plain_alone words (Check policy) c none_ no_check no_mint no_sim h = no_check po
 plain_alone words (Mint seed c1 c2 tries) c none_ no_check no_mint no_sim h = no_mint seed c1 c2 tries refl
 plain_alone words (Sim seed nodes hostile k paths alpha timeout) c none_ no_check no_mint no_sim h = no_sim seed nodes hostile k paths alpha timeout refl
 
--- a command that takes a link is one of those that are built with one
+-- a command that takes a link is one of those with one
 pub linked_alone : (words : List Word) (command : Command) → CommandOf words command → TakesLink words → ((look : LookWords) → command ≡ Lookup look → ⊥) → ((look : LookWords) (announce : Option ℕ) → command ≡ Peers look announce → ⊥)
     → ((own : Option Id) (k bits : ℕ) (policy : Policy) (receives : ℕ) → command ≡ Serve own k bits policy receives → ⊥) → ⊥
 linked_alone words (Lookup look) c takes no_lookup no_peers no_serve = no_lookup look refl

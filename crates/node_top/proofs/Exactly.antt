@@ -22,7 +22,7 @@ use Rattle.kad_words.specs.declared.command.Command.{Command}
 use Rattle.kad_words.specs.declared.command.Command.TheVariants.{Lookup, Peers, Serve, Check, Mint, Sim}
 use Rattle.kad_words.specs.declared.command.LookWords.{LookWords}
 use Rattle.kad_words.proofs.OneCommand.{command_once}
-use Rattle.node_top.specs.Asked.{Asks, built}
+use Rattle.node_top.specs.Asked.{Asks}
 use Rattle.node_top.specs.Lines.{lines, Reporting, IsBad, IsFirstBad}
 use Rattle.node_top.specs.Shown.{Shown}
 use Rattle.node_top.specs.Input.{ReadsAll, ReadsFew, ReadsTooMuch, Admits, Reads, ReadsSome, IsGood, Lists, HasBadLine}
@@ -189,17 +189,8 @@ start_not_none words random source told s t = start_none_by words s.command rand
 
 -- ---- which words ask
 
--- a command that looks up is built
-sought_built : (command : Command) (sought : Sought) → sought_by command ≡ Some sought → Contains built (word_of command)
-sought_built (Lookup look) sought e = (0, lit< tt, refl)
-sought_built (Peers look announce) sought e = (3, lit< tt, refl)
-sought_built (Serve own k bits policy receives) sought e = absurd cc
-sought_built (Check policy) sought e = absurd cc
-sought_built (Mint seed c1 c2 tries) sought e = absurd cc
-sought_built (Sim seed nodes hostile k paths alpha timeout) sought e = absurd cc
-
 pub seeks_asks : (words : List Word) (sought : Sought) → Seeks words sought → Asks words
-seeks_asks words sought h = command_asks words h.command h.asked (sought_built h.command sought h.looks)
+seeks_asks words sought h = command_asks words h.command h.asked
 
 pub nothing_asks : (words : List Word) (random : List ℕ) → HasNothing words random → Asks words
 nothing_asks words random h = mint_asks words h.seed h.c1 h.c2 h.tries h.asked

@@ -14,7 +14,7 @@ use Rattle.lookup_run.specs.declared.plain.AskKind.{AskKind}
 use Rattle.lookup_run.specs.declared.plain.LookSetting.{LookSetting}
 use Rattle.lookup_run.specs.declared.plain.Outcome.{Outcome}
 use Rattle.lookup_run.specs.Tells.{Given, Tells, EndsAtStray}
-use Rattle.lookup_run.specs.Rounds.{Rounds}
+use Rattle.lookup_run.specs.Rounds.{Rounds, at_once}
 use Rattle.lookup_run.specs.Gathered.{Gathers}
 use Rattle.lookup_run.specs.Lookup.{given_of, LooksUp, TellsEarly}
 use Rattle.kad_words.specs.declared.command.LookWords.{LookWords}
@@ -51,21 +51,21 @@ ran_out kind look random source start words left told told' o range up =
       have_answered = λ c has. found_answered set o.journal c range.some_path up.legal up.run_out has;
     }
 
-all_told : (g : Given) (o : Outcome) (a b : Option (List Event)) → Grows a b (λ events. Tells g o.journal events) → Grows a b (λ events. Rounds g o.journal events) → Grows a b (λ events. Gathers g o.journal events o.peers o.tokens)
+all_told : (g : Given) (o : Outcome) (a b : Option (List Event)) → Grows a b (λ events. Tells g o.journal events) → Grows a b (λ events. Rounds at_once g o.journal events) → Grows a b (λ events. Gathers g o.journal events o.peers o.tokens)
     → Grows a b (λ events. ¬ EndsAtStray g events max_strays) → Grows a b (TellsAll g o.journal o.peers o.tokens)
 all_told g o a b tells rounds gathers few =
-    let half = grows_both a b _ _ (λ events. Tells g o.journal events × Rounds g o.journal events) tells rounds (λ t p q. (p, q)) in
+    let half = grows_both a b _ _ (λ events. Tells g o.journal events × Rounds at_once g o.journal events) tells rounds (λ t p q. (p, q)) in
     let rest = grows_both a b _ _ (λ events. Gathers g o.journal events o.peers o.tokens × ¬ EndsAtStray g events max_strays) gathers few (λ t p q. (p, q)) in
     grows_both a b _ _ (TellsAll g o.journal o.peers o.tokens) half rest (λ t p q. record { tells = p.0; rounds = p.1; gathers = q.0; few_strays = q.1 })
 
 pub reaches : (kind : AskKind) (look : LookWords) (random : List ℕ) (source : Shown ℕ) (link : Shown Event) (setting : LookSetting) (words left : WordsState) (table : TableState) (o : Outcome) → Has kind look random source setting words table
-    → LooksUp setting table words left link.before link.after o → Grows link.before link.after (λ events. Rounds (given_of setting words) o.journal events)
+    → LooksUp setting table words left link.before link.after o → Grows link.before link.after (λ events. Rounds at_once (given_of setting words) o.journal events)
     → Grows link.before link.after (λ events. Gathers (given_of setting words) o.journal events o.peers o.tokens)
     → Grows link.before link.after (λ events. ¬ EndsAtStray (given_of setting words) events max_strays)
     → Reaches kind look random source link (record { outcome = o; words = left })
 reaches kind look random source link setting words left table o h up rounds gathers few =
     let up' : LooksUp (look_of kind look random) table (drawn_of random) left link.before link.after o = moved kind look random source setting words table (λ s w. LooksUp s table w left link.before link.after o) h up in
-    let rounds' = moved kind look random source setting words table (λ s w. Grows link.before link.after (λ events. Rounds (given_of s w) o.journal events)) h rounds in
+    let rounds' = moved kind look random source setting words table (λ s w. Grows link.before link.after (λ events. Rounds at_once (given_of s w) o.journal events)) h rounds in
     let gathers' = moved kind look random source setting words table (λ s w. Grows link.before link.after (λ events. Gathers (given_of s w) o.journal events o.peers o.tokens)) h gathers in
     let few' = moved kind look random source setting words table (λ s w. Grows link.before link.after (λ events. ¬ EndsAtStray (given_of s w) events max_strays)) h few in
     record {

@@ -1,5 +1,5 @@
 -- What the top call promises, by the command that the words ask for. A command more that takes a link is a case more in
--- `TextOf`, `BegunBy`, `StartedBy` and `Needs`, where it looks up in `sought_by` too, and a word more in `built`.
+-- `TextOf`, `BegunBy`, `StartedBy` and `Needs`, and where it looks up in `sought_by` too.
 use Rattle.std.specs.Prelude.{◌≡◌, ℕ, List, [], Option, Some, None}
 use Rattle.kad_base.specs.declared.plain.Id.{Id}
 use Rattle.kad_base.specs.declared.plain.Policy.{Policy}

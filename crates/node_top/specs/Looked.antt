@@ -16,7 +16,7 @@ use Rattle.claim_book.specs.Lineage.{GoesByOwnAnswers}
 use Rattle.claim_book.specs.Result.{result_of}
 use Rattle.lookup_run.specs.declared.plain.AskKind.{AskKind}
 use Rattle.lookup_run.specs.Tells.{Tells, EndsAtStray}
-use Rattle.lookup_run.specs.Rounds.{Rounds}
+use Rattle.lookup_run.specs.Rounds.{Rounds, at_once}
 use Rattle.lookup_run.specs.Lookup.{Unfinished}
 use Rattle.kad_words.specs.declared.command.LookWords.{LookWords}
 use Rattle.node_top.specs.declared.status.Status.{Status}
@@ -45,7 +45,7 @@ pub record LooksAt (kind : AskKind) (look : LookWords) (random : List ℕ) (sour
   pub journal : List Entry
   pub ran : HasRunOut kind look random source journal
   pub tells : Grows link.before link.after (λ events. Tells (lookup_of kind look random) journal events)
-  pub rounds : Grows link.before link.after (λ events. Rounds (lookup_of kind look random) journal events)
+  pub rounds : Grows link.before link.after (λ events. Rounds at_once (lookup_of kind look random) journal events)
   pub few_strays : MeetsFewStrays kind look random link
   pub text_is : text ≡ printed_of (book_of kind look random) journal
 

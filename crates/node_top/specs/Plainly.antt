@@ -1,5 +1,5 @@
 -- What the commands promise that take no link, by the command that the words ask for. A command more is a case more in
--- `PlainText` and `PlainNeeds`, a word more in `built`, and one more in `ReadsInput` if it reads none.
+-- `PlainText` and `PlainNeeds`, and a word more in `ReadsInput` if it reads none.
 use Rattle.std.specs.Prelude.{◌≡◌, ℕ, List, Option}
 use Rattle.kad_base.specs.declared.plain.Report.{Report}
 use Rattle.kad_base.specs.Outside.{Grows}

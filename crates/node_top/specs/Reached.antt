@@ -18,7 +18,7 @@ use Rattle.claim_book.specs.Calls.{Counted}
 use Rattle.lookup_run.specs.declared.plain.AskKind.{AskKind}
 use Rattle.lookup_run.specs.declared.plain.Token.{Token}
 use Rattle.lookup_run.specs.Tells.{Given, Tells, EndsAtStray}
-use Rattle.lookup_run.specs.Rounds.{Rounds}
+use Rattle.lookup_run.specs.Rounds.{Rounds, at_once}
 use Rattle.lookup_run.specs.Gathered.{Gathers}
 use Rattle.lookup_run.specs.Lookup.{seeds_in, drawn_for}
 use Rattle.kad_words.specs.declared.command.LookWords.{LookWords}
@@ -43,7 +43,7 @@ pub record HasRunOut (kind : AskKind) (look : LookWords) (random : List ℕ) (so
 -- don't end with the last stray that a lookup takes
 pub record TellsAll (g : Given) (J : List Entry) (peers : List Addr) (tokens : List Token) (events : List Event) : Type 0 where
   pub tells : Tells g J events
-  pub rounds : Rounds g J events
+  pub rounds : Rounds at_once g J events
   pub gathers : Gathers g J events peers tokens
   pub few_strays : ¬ EndsAtStray g events max_strays
 

@@ -21,7 +21,7 @@ use Rattle.claim_book.specs.Lineage.{GoesByOwnAnswers}
 use Rattle.claim_book.specs.Result.{result_of}
 use Rattle.lookup_run.specs.declared.plain.AskKind.TheVariants.{FindNode}
 use Rattle.lookup_run.specs.Tells.{Tells}
-use Rattle.lookup_run.specs.Rounds.{Rounds}
+use Rattle.lookup_run.specs.Rounds.{Rounds, path_by_path}
 use Rattle.lookup_run.specs.Lookup.{seeds_in}
 use Rattle.kad_words.specs.declared.command.LookWords.{LookWords}
 use Rattle.node_top.specs.declared.sim.Simulation.{Simulation}
@@ -111,7 +111,7 @@ pub record Simulates (s : Simulation) (text : List ℕ) : Type 0 where
   pub legal : Legal (book_of FindNode (sim_look s) s.seed) journal
   pub seeds_are : seeds journal ≡ seeds_in (look_of FindNode (sim_look s) s.seed) table
   pub tells : Grows (Some []) (Some events) (λ events. Tells (lookup_of FindNode (sim_look s) s.seed) journal events)
-  pub rounds : Grows (Some []) (Some events) (λ events. Rounds (lookup_of FindNode (sim_look s) s.seed) journal events)
+  pub rounds : Grows (Some []) (Some events) (λ events. Rounds path_by_path (lookup_of FindNode (sim_look s) s.seed) journal events)
   pub run_out : (p : ℕ) → p < s.paths → RunOut (book_of FindNode (sim_look s) s.seed) p journal
   pub own_answers : GoesByOwnAnswers (book_of FindNode (sim_look s) s.seed) journal
   pub text_is : text ≡ line_of (sim_text_of s journal)

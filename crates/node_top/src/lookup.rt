@@ -14,6 +14,8 @@ use kad_words::LookWords;
 use lookup_run::{AskKind, Outcome};
 use std::alloc::Global;
 use std::hash::RandomState;
+use std::sync::Wait;
+use std::thread::Threads;
 
 /// The text of what a lookup found.
 fn text_of(alloc: Global, outcome: &Outcome) -> Result<Bytes, NoMemory>
@@ -31,7 +33,8 @@ fn text_of(alloc: Global, outcome: &Outcome) -> Result<Bytes, NoMemory>
 }
 
 /// Looks the target up and makes the text of what was found, or says why there is none. Nothing is written yet.
-pub(crate) fn lookup<S: Source, L: Link, C: Check>(
+pub(crate) fn lookup<R: Threads + Wait + Sync, S: Source, L: Link, C: Check + Sync>(
+    rt: &R,
     alloc: Global,
     look: &LookWords,
     source: &mut S,
@@ -56,6 +59,6 @@ pub(crate) fn lookup<S: Source, L: Link, C: Check>(
     ensures recv_faults { L.recv_faults link.old ≤ L.recv_faults link.new }
 {
     let kind = AskKind::FindNode;
-    let reached = seek(alloc, kind, look, source, link, random, check, hasher)?;
+    let reached = seek(rt, alloc, kind, look, source, link, random, check, hasher)?;
     Ok(text_of(alloc, &reached.outcome)?)
 }

@@ -21,6 +21,8 @@ use kad_words::LookWords;
 use lookup_run::{AskKind, Outcome};
 use std::alloc::Global;
 use std::hash::RandomState;
+use std::sync::Wait;
+use std::thread::Threads;
 
 /// Announces what the words tell to announce, and answers how many datagrams were sent: none where no port was told.
 fn announce_told<L: Link>(
@@ -59,7 +61,8 @@ fn announce_told<L: Link>(
 }
 
 /// Looks for peers, announces, and makes the text of what was found, or says why there is none. Nothing is written yet.
-pub(crate) fn peers<S: Source, L: Link, C: Check>(
+pub(crate) fn peers<R: Threads + Wait + Sync, S: Source, L: Link, C: Check + Sync>(
+    rt: &R,
     alloc: Global,
     look: &LookWords,
     port: Option<u16>,
@@ -85,7 +88,7 @@ pub(crate) fn peers<S: Source, L: Link, C: Check>(
     ensures recv_faults { L.recv_faults link.old ≤ L.recv_faults link.new }
 {
     let kind = AskKind::GetPeers;
-    let reached = seek(alloc, kind, look, source, link, random, check, hasher)?;
+    let reached = seek(rt, alloc, kind, look, source, link, random, check, hasher)?;
     let Reached { outcome, mut words } = reached;
     let announced = announce_told(alloc, link, &mut words, look, port, random, &outcome)?;
     Ok(print_peers(

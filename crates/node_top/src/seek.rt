@@ -14,9 +14,11 @@ use crate::status::Status;
 use id_puzzles::Words;
 use kad_base::{Check, Contacts, Id, Link, Policy, Source};
 use kad_words::LookWords;
-use lookup_run::{AskKind, LookFault, Outcome, look_up_alone};
+use lookup_run::{AskKind, LookFault, Outcome, look_up};
 use std::alloc::Global;
 use std::hash::RandomState;
+use std::sync::Wait;
+use std::thread::Threads;
 
 /// What a lookup found, and the words from which its transaction ids were drawn, as far as they were.
 #[derive(Drop)]
@@ -47,7 +49,8 @@ pub(crate) fn read_contacts<S: Source, C: Check>(
 }
 
 /// Looks the target up by this query, or says why it was not found out.
-pub(crate) fn seek<S: Source, L: Link, C: Check>(
+pub(crate) fn seek<R: Threads + Wait + Sync, S: Source, L: Link, C: Check + Sync>(
+    rt: &R,
     alloc: Global,
     kind: AskKind,
     look: &LookWords,
@@ -76,7 +79,7 @@ pub(crate) fn seek<S: Source, L: Link, C: Check>(
     let contacts = read_contacts(alloc, source, &setting.own, setting.policy, check)?;
     let table = table_of(alloc, setting.own, look.k, look.bits, contacts.as_slice())?;
     let mut words = Words::new(random, FIRST_TX);
-    let (_, ended) = look_up_alone(alloc, link, &mut words, table, &setting, check, hasher);
+    let (_, ended) = look_up(rt, alloc, link, &mut words, table, &setting, check, hasher);
     match ended {
         Ok(outcome) => Ok(Reached { outcome, words }),
         Err(LookFault::LinkFault) => Err(Status::LinkFault),

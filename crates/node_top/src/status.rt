@@ -11,7 +11,7 @@ pub(crate) const LINE_ROOM: usize = 30;
 /// Why a command ends with no output.
 #[derive(Clone, Copy, Debug, PartialEq, Eq)]
 pub(crate) enum Status {
-    /// The words ask for nothing that is built.
+    /// The words are not of the plain form.
     Usage,
     /// This line of the input, counted from 1, is the first that is no contact line.
     BadLine { line: usize },

@@ -10,12 +10,13 @@ mod replies;
 mod script;
 mod serving;
 mod simulated;
+mod together;
 
 use crate::run;
 use fake_net::ScriptLink;
 use id_puzzles::Sha1Check;
 use kad_base::{
-    BytesSink, BytesSource, Event, List, Numbers, Sink, Source, SteadySink, SteadySource,
+    BytesSink, BytesSource, Check, Event, List, Numbers, Sink, Source, SteadySink, SteadySource,
 };
 use script::{Reply, contact, failing_link, link, port};
 use std::alloc::Global;
@@ -67,6 +68,17 @@ fn words(alloc: Global, texts: &[&str]) -> Result<Vec<String>, Fail> {
 }
 
 fn play(rt: &HostRuntime, texts: &[&str], input: &str, link: ScriptLink) -> Result<Played, Fail> {
+    play_with(rt, texts, input, link, &Sha1Check)
+}
+
+/// The same under a check of the test's own.
+fn play_with<C: Check + Sync>(
+    rt: &HostRuntime,
+    texts: &[&str],
+    input: &str,
+    link: ScriptLink,
+    check: &C,
+) -> Result<Played, Fail> {
     let alloc = rt.alloc();
     let mut link = link;
     let bytes = List::from_slice(alloc, input.as_bytes())?;
@@ -81,7 +93,7 @@ fn play(rt: &HostRuntime, texts: &[&str], input: &str, link: ScriptLink) -> Resu
         &mut link,
         &mut sink,
         &[0; 32],
-        &Sha1Check,
+        check,
         RandomState::new(rt)?,
     );
     let text = String::from_str(alloc, std::str::from_utf8(sink.written())?)?;

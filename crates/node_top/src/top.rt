@@ -19,9 +19,12 @@ use kad_base::{Bytes, Check, Link, Sink, Source};
 use kad_words::{Command, takes_link};
 use std::alloc::Global;
 use std::hash::RandomState;
+use std::sync::Wait;
+use std::thread::Threads;
 
 /// Does the command that the words ask for over a link, and makes its output. Nothing is written yet.
-fn linked_output_of<S: Source, L: Link, C: Check>(
+fn linked_output_of<R: Threads + Wait + Sync, S: Source, L: Link, C: Check + Sync>(
+    rt: &R,
     alloc: Global,
     words: &[String],
     source: &mut S,
@@ -47,9 +50,11 @@ fn linked_output_of<S: Source, L: Link, C: Check>(
     ensures no_input { ¬ ReadsInput (bytes_of words.now) → source.new ≡ source.old }
 {
     match asked(alloc, words)? {
-        Command::Lookup { look } => lookup(alloc, &look, source, link, random, check, hasher),
+        Command::Lookup { look } => lookup(rt, alloc, &look, source, link, random, check, hasher),
         Command::Peers { look, announce } => {
-            peers(alloc, &look, announce, source, link, random, check, hasher)
+            peers(
+                rt, alloc, &look, announce, source, link, random, check, hasher,
+            )
         }
         Command::Serve {
             own,
@@ -72,7 +77,8 @@ fn linked_output_of<S: Source, L: Link, C: Check>(
 }
 
 /// Does the command that the words ask for, and makes its output. Nothing is written yet.
-fn output_of<S: Source, L: Link, C: Check>(
+fn output_of<R: Threads + Wait + Sync, S: Source, L: Link, C: Check + Sync>(
+    rt: &R,
     alloc: Global,
     words: &[String],
     source: &mut S,
@@ -98,14 +104,15 @@ fn output_of<S: Source, L: Link, C: Check>(
     ensures no_link { AsksPlain (bytes_of words.now) → link.new ≡ link.old }
 {
     if takes_link(words) {
-        return linked_output_of(alloc, words, source, link, random, check, hasher);
+        return linked_output_of(rt, alloc, words, source, link, random, check, hasher);
     }
     plain_output_of(alloc, words, source, random, check, hasher)
 }
 
 /// Does the command that the words ask for, and answers the status that the program ends with. `words` are those after
 /// the program's name; `random` are 32 bytes that nobody else knows, from which the node's identifier (unless a word
-/// names it) and the transaction ids are drawn. `rt` is the runtime, for commands that wait; none does so far.
+/// names it) and the transaction ids are drawn. `rt` is the runtime: `lookup` and `peers` settle what a round gave on
+/// several threads, which wait for each other in turn.
 /// Strangers choose what the lookup keeps an index of, so its `hasher` is handed in; nothing that is written depends on it.
 ///
 /// `lookup` tells a new routing table of the contact lines of the source, asks the closest contacts of the table on several
@@ -127,8 +134,8 @@ fn output_of<S: Source, L: Link, C: Check>(
 /// | 9 | `no memory` | there was no memory |
 /// | 10 | `unminted` | no identifier was found within the tries |
 /// | 11 | `too long` | the input is longer than 1,048,576 bytes |
-pub fn run<R, S: Source, K: Sink, L: Link, C: Check>(
-    _rt: &R,
+pub fn run<R: Threads + Wait + Sync, S: Source, K: Sink, L: Link, C: Check + Sync>(
+    rt: &R,
     alloc: Global,
     words: &[String],
     source: &mut S,
@@ -211,7 +218,7 @@ pub fn run<R, S: Source, K: Sink, L: Link, C: Check>(
     ensures by_command { EndsByCommand (bytes_of words.now) result }
     ensures statuses { (result ≤ 11) × (result ≢ 1) }
 {
-    match output_of(alloc, words, source, link, random, check, hasher) {
+    match output_of(rt, alloc, words, source, link, random, check, hasher) {
         Ok(output) => write_output(sink, output.as_slice()),
         Err(status) => write_line(sink, &status),
     }
