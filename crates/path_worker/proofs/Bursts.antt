@@ -1,6 +1,5 @@
 -- A burst grows by one thing at a time.
-use Rattle.std.proofs.Common.{◌≡◌, ◌≢◌, ℕ, ◌+◌, ◌-◌, ◌^◌, ◌<◌, ◌≤◌, List, [], ◌∷◌, ◌++◌, length, refl, sym, ap, subst, ◌∙◌, arith, append_assoc, append-nil, All}
-use Rattle.std.specs.Prelude.{min}
+use Rattle.std.proofs.Common.{◌≡◌, ℕ, ◌+◌, List, [], ◌∷◌, ◌++◌, refl, sym, ap, subst, ◌∙◌, arith, append_assoc, append-nil}
 use Rattle.std.specs.List.{flat_map}
 use Rattle.std.proofs.lemmas.List.{length-append}
 use Rattle.std.proofs.lemmas.List.Elements.{All-push, All-nil}
@@ -18,7 +17,7 @@ use Rattle.contact_table.specs.declared.calls.TableReply.{TableReply}
 use Rattle.contact_table.specs.declared.calls.TableCall.TheVariants.{Seen}
 use Rattle.contact_table.specs.declared.calls.TableReply.TheVariants.{NoMemory}
 use Rattle.path_worker.specs.Hand.{Hand, SameHand}
-use Rattle.path_worker.specs.Burst.{noted, settled, Did, ToldOf, SettledOf, book_calls, table_calls, IsDone, Grew, Going, Emptied, Stopped, DidOne, FoundNothing, FoundNoMemory}
+use Rattle.path_worker.specs.Burst.{noted, settled, ToldOf, SettledOf, book_calls, table_calls, IsDone, Going, Emptied, Stopped, DidOne, FoundNothing, FoundNoMemory}
 
 twice_nil : {A : Type 0} (xs : List A) → xs ≡ (xs ++ []) ++ []
 twice_nil xs = sym (append-nil (xs ++ []) ∙ append-nil xs)

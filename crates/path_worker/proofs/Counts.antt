@@ -1,12 +1,11 @@
 -- What a role settled is settled in the journal, and a legal journal has few settled entries.
-use Rattle.std.proofs.Common.{◌≡◌, ◌≢◌, ℕ, suc, ◌+◌, ◌-◌, ◌*◌, ◌^◌, ◌<◌, ◌≤◌, List, [], ◌∷◌, ◌++◌, length, Bool, true, false, cond, Option, Some, None, refl, sym, ap, subst, ◌∙◌, arith, eqb, All}
+use Rattle.std.proofs.Common.{◌≡◌, ℕ, suc, ◌+◌, ◌-◌, ◌*◌, ◌^◌, ◌<◌, ◌≤◌, List, [], ◌∷◌, ◌++◌, length, Bool, true, false, cond, Option, Some, None, refl, ap, subst, ◌∙◌, arith, eqb, All}
 use Rattle.std.specs.List.{sum_by, flat_map}
 use Rattle.std.proofs.lemmas.Bool.{eqb-true, eq-eqb}
 use Rattle.std.proofs.lemmas.List.{length-append, length-map}
 use Rattle.std.proofs.lemmas.List.Sums.{sum_by-append, sum_by-cons}
 use Rattle.kad_base.specs.declared.serial.Made.{Made}
 use Rattle.kad_base.specs.declared.plain.Policy.{Policy}
-use Rattle.kad_base.specs.declared.plain.Report.{Report}
 use Rattle.kad_base.specs.Serial.{calls_of, left_by, IsRun}
 use Rattle.claim_book.specs.CheckedState.{CheckedState}
 use Rattle.claim_book.specs.declared.plain.Setting.{Setting}
@@ -17,7 +16,7 @@ use Rattle.claim_book.specs.declared.calls.BookCall.{BookCall}
 use Rattle.claim_book.specs.declared.calls.BookCall.TheVariants.{Next, Heard, Lost, Finish, Pull, Note, Settle}
 use Rattle.claim_book.specs.declared.calls.BookReply.{BookReply}
 use Rattle.claim_book.specs.declared.calls.BookReply.TheVariants.{Ask, Kept, Taken, Held, Turned, Rejected, Skipped}
-use Rattle.claim_book.specs.Journal.{settles_on, settled, things, things_of, things_in, on_path, answered, answer_of}
+use Rattle.claim_book.specs.Journal.{settles_on, settled, things, things_of, things_in, answered, answer_of}
 use Rattle.claim_book.specs.Legal.{Fits, Legal}
 use Rattle.claim_book.specs.State.{BookState}
 use Rattle.claim_book.specs.Calls.{BookMay, BookStep, book_after, after_kept, after_next, asker, path_of_role, settle_entry, with_entry}

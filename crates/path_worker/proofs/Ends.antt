@@ -1,6 +1,6 @@
 -- The book and the table as the closed turns leave them.
-use Rattle.std.proofs.Common.{◌≡◌, ◌≢◌, ℕ, suc, ◌+◌, ◌-◌, ◌<◌, ◌≤◌, List, [], ◌∷◌, ◌++◌, length, map, refl, sym, ap, subst, ◌∙◌, arith, append-nil, All}
-use Rattle.std.specs.Prelude.{slice_index_or, filter, Result, Ok, Err, IsOk, IfOk, IfErr}
+use Rattle.std.proofs.Common.{◌≡◌, ◌≢◌, ℕ, ◌+◌, ◌-◌, ◌<◌, List, [], ◌∷◌, ◌++◌, length, map, refl, sym, ap, subst, ◌∙◌, arith, append-nil, All}
+use Rattle.std.specs.Prelude.{slice_index_or, Result, Ok, Err, IsOk, IfOk, IfErr}
 use Rattle.std.specs.List.{flat_map, range_with_len}
 use Rattle.std.proofs.lemmas.List.{length-map, get_or-map}
 use Rattle.std.proofs.lemmas.List.Elements.{All-nil, All-same, All-tail, All-get_or, All-map, filter-append}
@@ -10,8 +10,6 @@ use Rattle.kad_base.specs.declared.serial.Made.{Made}
 use Rattle.kad_base.specs.Serial.{made, calls_of, left_by, IsRun}
 use Rattle.kad_base.proofs.Runs.{left_by-append}
 use Rattle.turn_book.specs.Turns.{TurnState, PassState, IsPrefix, fresh, all_fresh, mine, Closed}
-use Rattle.claim_book.specs.declared.plain.Setting.{Setting}
-use Rattle.claim_book.specs.declared.plain.Entry.{Entry}
 use Rattle.claim_book.specs.declared.calls.BookCall.{BookCall}
 use Rattle.claim_book.specs.declared.calls.BookCall.TheVariants.{Pull}
 use Rattle.claim_book.specs.declared.calls.BookReply.{BookReply}
@@ -26,8 +24,7 @@ use Rattle.contact_table.specs.TableState.{TableState}
 use Rattle.contact_table.specs.TableStep.{TableMay, TableStep, table_after}
 use Rattle.path_worker.specs.declared.crew.Shift.{Shift}
 use Rattle.path_worker.specs.Settling.{role_of, seen_with}
-use Rattle.path_worker.specs.Together.{IsSettling, IsWorkers, StopsTogether, SettlesTogether}
-use Rattle.path_worker.specs.Hand.{Hand}
+use Rattle.path_worker.specs.Together.{IsWorkers, StopsTogether, SettlesTogether}
 use Rattle.path_worker.specs.Burst.{Did, book_calls, table_calls, IsDone, Emptied, HasSettled}
 use Rattle.path_worker.specs.Crew.{Worked}
 use Rattle.path_worker.specs.Deal.{new_shift, CameBack}

@@ -1,7 +1,7 @@
 -- What is at the front of a path stays there until the path's own role takes it away, whatever the others call.
-use Rattle.std.proofs.Common.{◌≡◌, ◌≢◌, ℕ, ◌+◌, ◌-◌, List, [], ◌∷◌, ◌++◌, length, Bool, true, false, cond, Option, Some, None, refl, sym, ap, subst, ◌∙◌, arith, eqb, ne_eqb, append_assoc}
-use Rattle.std.specs.Prelude.{slice_get, filter}
-use Rattle.std.proofs.lemmas.Bool.{eqb-true, eq-eqb}
+use Rattle.std.proofs.Common.{◌≡◌, ◌≢◌, ℕ, ◌-◌, List, [], ◌∷◌, ◌++◌, length, Bool, true, false, cond, Option, Some, None, refl, sym, ap, subst, ◌∙◌, arith, eqb, ne_eqb}
+use Rattle.std.specs.Prelude.{slice_get}
+use Rattle.std.proofs.lemmas.Bool.{eq-eqb}
 use Rattle.std.proofs.lemmas.List.{length-append}
 use Rattle.std.proofs.lemmas.List.Elements.{filter-append}
 use Rattle.kad_base.specs.declared.serial.Made.{Made}
@@ -19,12 +19,12 @@ use Rattle.claim_book.specs.declared.calls.BookCall.TheVariants.{Next, Heard, Lo
 use Rattle.claim_book.specs.declared.calls.BookReply.{BookReply}
 use Rattle.claim_book.specs.declared.calls.BookReply.TheVariants.{Ask, Kept, NotFront, Taken, Held, Turned, Rejected, Skipped}
 use Rattle.claim_book.specs.CheckedState.{CheckedState}
-use Rattle.claim_book.specs.Journal.{settles_on, things_of, unsettled, first_unsettled}
+use Rattle.claim_book.specs.Journal.{settles_on, things_of, first_unsettled}
 use Rattle.claim_book.specs.Legal.{Legal}
-use Rattle.claim_book.specs.State.{BookState, added}
+use Rattle.claim_book.specs.State.{BookState}
 use Rattle.path_worker.specs.Burst.{IsOutcome}
 use Rattle.claim_book.specs.Calls.{IsFront, BookMay, BookStep, PullStep, NoteStep, SettleStep, book_after, after_kept, after_next, asker, path_of_role, settle_entry, with_entry}
-use Rattle.claim_book.proofs.Unsettled.{Front, front_of, unsettled_other}
+use Rattle.claim_book.proofs.Unsettled.{front_of, unsettled_other}
 use Rattle.claim_book.proofs.Progress.{legal_step}
 
 abbrev pub BookCalls : Type 0

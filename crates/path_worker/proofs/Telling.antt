@@ -1,5 +1,5 @@
 -- What the worker of a path told the table is what goes with the entries of its path.
-use Rattle.std.proofs.Common.{◌≡◌, ◌≢◌, ℕ, suc, ◌+◌, ◌<◌, List, [], ◌∷◌, ◌++◌, map, refl, sym, ap, ◌∙◌, arith, append-nil, All}
+use Rattle.std.proofs.Common.{◌≡◌, ◌≢◌, ℕ, List, [], ◌∷◌, ◌++◌, map, refl, sym, ap, ◌∙◌, append-nil, All}
 use Rattle.std.specs.List.{flat_map}
 use Rattle.std.proofs.lemmas.List.{map-append}
 use Rattle.std.proofs.lemmas.List.Concat.{flat_map-append}
@@ -8,7 +8,6 @@ use Rattle.kad_base.specs.declared.plain.Policy.{Policy}
 use Rattle.kad_base.specs.declared.serial.Made.{Made}
 use Rattle.kad_base.specs.Serial.{made}
 use Rattle.claim_book.specs.CheckedState.{CheckedState}
-use Rattle.claim_book.specs.declared.plain.Entry.{Entry}
 use Rattle.claim_book.specs.declared.calls.BookCall.TheVariants.{Pull}
 use Rattle.claim_book.specs.declared.calls.BookReply.{BookReply}
 use Rattle.claim_book.specs.declared.calls.BookReply.TheVariants.{Idle, Taken, Held, Turned, Rejected, Skipped}

@@ -1,5 +1,5 @@
 -- How the passes of two turns are dealt, role p + 1 to the worker of path p, and how they come back.
-use Rattle.std.specs.Prelude.{◌≡◌, ℕ, ◌+◌, ◌<◌, List, [], ◌∷◌, map, length, reverse, slice_index_or, Result, Ok, IsOk, IfOk}
+use Rattle.std.specs.Prelude.{◌≡◌, ℕ, ◌+◌, ◌<◌, List, ◌∷◌, map, length, reverse, slice_index_or, Result, Ok, IsOk, IfOk}
 use Rattle.std.specs.List.{All, range_with_len}
 use Rattle.kad_base.specs.declared.plain.NoMemory.{NoMemory}
 use Rattle.kad_base.specs.declared.plain.Policy.{Policy}

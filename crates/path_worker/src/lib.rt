@@ -1,6 +1,6 @@
 //! The worker of one path of a lookup: it settles what the answers to the path gave (a path is one of S/Kademlia's
-//! disjoint lookups), on the caller's own thread, or beside the workers of the other paths over one book and one routing
-//! table behind a turn each. It opens no socket and reads no clock.
+//! disjoint lookups), on the caller's own thread, or beside the workers of the other paths, each on a thread of its own,
+//! over one book and one routing table behind a turn each. It opens no socket and reads no clock.
 #![tactic(auto)]
 
 mod alone;

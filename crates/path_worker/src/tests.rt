@@ -222,16 +222,6 @@ fn a_report_without_a_proof_is_rejected_where_puzzles_are_asked_for(
     Ok(())
 }
 
-/// Knows that a report without a proof passes the plain policy alone, and may be asked from any thread.
-#[derive(Drop)]
-struct Plainly;
-
-impl Check for Plainly {
-    fn check(&self, policy: Policy, report: &Report) -> bool {
-        report.proof.is_none() && matches!(policy, Policy::Plain)
-    }
-}
-
 /// A book each of whose paths has an answer with a report of another contact.
 fn answered(rt: &impl Abort, alloc: Global, hasher: RandomState, paths: u8) -> Result<Book, Fail>
     requires some { 0 < paths }
@@ -248,7 +238,7 @@ fn answered(rt: &impl Abort, alloc: Global, hasher: RandomState, paths: u8) -> R
 }
 
 /// All its paths settled at once: how many entries the journal has then, and the contacts of the table.
-fn settled_at_once<R: Threads + Wait + Sync>(
+fn settled_at_once<R: Threads + Wait + Abort + Sync>(
     rt: &R,
     alloc: Global,
     paths: u8,
@@ -267,7 +257,7 @@ fn settled_at_once<R: Threads + Wait + Sync>(
         book,
         table(alloc)?,
         Policy::Plain,
-        &Plainly,
+        &Unproved { rt },
     );
     answer?;
     Ok((book.into_journal().as_slice().len(), known(&mut table)))

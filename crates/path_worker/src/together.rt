@@ -51,10 +51,10 @@ fn work<R: Threads + Wait + Sync, C: Check + Sync>(
     answer
 }
 
-/// Settles all that all paths have, at once: each path's worker does in a thread of its own what `settle_alone` does,
-/// and all of them call one book and one table, in turn. `NoMemory` comes where a turn could not be opened, and then
+/// Settles all that all paths have, at once: each path's worker does in a thread of its own what `settle_alone` does, and
+/// all of them call one book and one table, in turn. `NoMemory` comes where there was none to open the turns, and then
 /// nothing changed, or where the table had none for a contact that answered, who stays unsettled; the other paths are
-/// settled first, and what was done stands.
+/// settled before it comes, and what was done stands.
 pub fn settle_together<R: Threads + Wait + Sync, C: Check + Sync>(
     rt: &R,
     alloc: Global,

@@ -1,5 +1,5 @@
-use Rattle.std.proofs.Common.{◌≡◌, ◌++◌, ◌∷◌, [], ap, sym, subst, ◌∙◌}
-use Rattle.kad_base.specs.Serial.{made, calls_of}
+use Rattle.std.proofs.Common.{◌++◌, ◌∷◌, [], ap, ◌∙◌}
+use Rattle.kad_base.specs.Serial.{made}
 use Rattle.turn_book.specs.Turns.{mine}
 use Rattle.claim_book.specs.declared.calls.BookCall.TheVariants.{Note}
 use Rattle.claim_book.specs.declared.plain.Thing.TheVariants.{Responder}

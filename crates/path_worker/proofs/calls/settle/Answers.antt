@@ -1,4 +1,3 @@
-use Rattle.std.proofs.Common.{sym, subst}
 use Rattle.claim_book.specs.declared.calls.BookCall.TheVariants.{Settle}
 use Rattle.claim_book.specs.declared.plain.Thing.TheVariants.{Told}
 use Rattle.path_worker.proofs.Fronts.{finds, settle_fits, own_calls}

@@ -1,4 +1,4 @@
-use Rattle.std.proofs.Common.{◌≡◌, sym, subst}
+use Rattle.std.proofs.Common.{sym, subst}
 use Rattle.claim_book.specs.State.{BookState}
 use Rattle.contact_table.specs.TableState.{TableState}
 use Rattle.path_worker.specs.Together.{StopsTogether}

@@ -1,6 +1,6 @@
 use Rattle.std.proofs.Common.{◌++◌, ◌↔◌, List, ap, subst, ◌∙◌, All, IsOk}
 use Rattle.path_worker.specs.declared.crew.Shift.{Shift}
-use Rattle.path_worker.specs.Deal.{CameBack, book_passes, table_passes}
+use Rattle.path_worker.specs.Deal.{book_passes, table_passes}
 use Rattle.path_worker.proofs.Crews.{came_back, all_books, all_tables}
 use Rattle.path_worker.proofs.together.work.Goals as goal
 

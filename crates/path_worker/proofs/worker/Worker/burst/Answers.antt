@@ -1,5 +1,5 @@
 use Rattle.std.proofs.Common.{◌≡◌, ◌+◌, true, MatchBool, refl, arith, subst}
-use Rattle.path_worker.specs.Burst.{DidOne, FoundNothing, Going}
+use Rattle.path_worker.specs.Burst.{DidOne, FoundNothing}
 use Rattle.path_worker.proofs.Bursts.{going_on, same_hand}
 use Rattle.path_worker.proofs.Counts.{going_few}
 use Rattle.path_worker.proofs.worker.Worker.burst.Goals as goal
