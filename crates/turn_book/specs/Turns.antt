@@ -50,8 +50,9 @@ module _ {C R : Type 0} where
     pub own : All (λ p. p.turn ≡ turn.id) passes
 
 module _ {S C R : Type 0} (may : ℕ → C → Type 0) (step : S → ℕ → C → R → Type 0) (after : S → ℕ → C → R → S) where
-  -- Herlihy and Wing (1990): one sequential run explains all calls. It leads from the opening state to the one handed
-  -- back, each pass has seen a beginning of it, and it has the passes' own calls, each once and each pass's in order
+  -- all calls stand in one legal run (a sequential history of Herlihy and Wing, 1990). It leads from the opening state to
+  -- the one handed back, each pass has seen a beginning of it, and it has the passes' own calls, each once and each pass's
+  -- in its own order
   pub record Closed (turn : TurnState S) (passes : List (PassState C R)) (state : S) (calls : ℕ) : Type 0 where
     pub run : List (Made C R)
     pub legal : IsRun may step after turn.start run

@@ -13,7 +13,7 @@ use std::marker::Model;
 use std::snapshot::Snapshot;
 use std::sync::Wait;
 
-/// An object behind a mutual-exclusion lock, whose calls are linearised.
+/// An object behind a mutual-exclusion lock. Its calls stand in one legal run, each once and each pass's in its own order.
 #[derive(Drop)]
 pub struct Turn<S: Serial> {
     board: Board<S>,
