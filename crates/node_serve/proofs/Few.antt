@@ -3,6 +3,7 @@ use Rattle.std.proofs.Common.{ℕ, ◌<◌, ◌≤◌, Bool, not, List, [], ◌�
 use Rattle.std.specs.Prelude.{option_to_list}
 use Rattle.std.proofs.lemmas.List.{length-take}
 use Rattle.std.proofs.lemmas.List.Filters.{length-filter_both}
+use Rattle.kad_base.specs.Limits.{max_answered_tx, max_k}
 use Rattle.kad_base.specs.declared.plain.Id.{Id}
 use Rattle.kad_base.specs.declared.plain.Addr.{Addr}
 use Rattle.kad_base.specs.declared.plain.Contact.{Contact}
@@ -27,7 +28,7 @@ use Rattle.node_serve.proofs.Small.{numeral_short}
 fewer : {X : Type 0} (p : X → Bool) (xs : List X) (n : ℕ) → length xs ≤ n → length (filter p xs) ≤ n
 fewer p xs n f = let e = length-filter_both p (λ x. not (p x)) (λ x. refl) xs in omega (arith, e, f)
 
-nodes_few : (s : NodeState) (target : Id) → s.k ≤ 20 → length (nodes_for s target) ≤ 20
+nodes_few : (s : NodeState) (target : Id) → s.k ≤ max_k → length (nodes_for s target) ≤ 20
 nodes_few s target k =
     let e = closest_few target s.k (contacts_of s.table) in
     fewer (λ (c : Contact). is_v4 c.addr.ip) (k_closest target s.k (contacts_of s.table)) 20 (omega (arith, e, k))
@@ -67,7 +68,7 @@ code_short n h =
     let f = numeral_short n (omega (arith, h)) in
     omega (arith, e, f)
 
-module _ (s : NodeState) (from : Addr) (at : ℕ) (tx : List ℕ) (k : s.k ≤ 20) (t : length tx ≤ 32) where
+module _ (s : NodeState) (from : Addr) (at : ℕ) (tx : List ℕ) (k : s.k ≤ max_k) (t : length tx ≤ max_answered_tx) where
   announced_small : (key : Id) (peer : Addr) (token : List ℕ) (o : Outcome) → Announces s from at tx key peer token o → IsSmall o.message
   announced_small key peer token o (refused h e) = subst (λ (x : Outcome). IsSmall x.message) (sym e) (t, (code_short 203 (omega arith), omega arith))
   announced_small key peer token o (full h p e) = subst (λ (x : Outcome). IsSmall x.message) (sym e) (t, (code_short 202 (omega arith), omega arith))

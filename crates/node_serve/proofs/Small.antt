@@ -6,6 +6,7 @@ use Rattle.std.specs.Int.Digits.{digits_of}
 use Rattle.std.proofs.lemmas.Int.Digits.{length-digits_of-le}
 use Rattle.std.proofs.lemmas.Grind.{flat_map-append}
 use Rattle.std.proofs.lemmas.List.{map-append, length-map}
+use Rattle.kad_base.specs.Limits.{max_datagram, max_answered_tx}
 use Rattle.kad_base.specs.declared.plain.Addr.{Addr}
 use Rattle.kad_base.specs.declared.plain.Contact.{Contact}
 use Rattle.kad_base.specs.declared.plain.Report.{Report}
@@ -118,7 +119,7 @@ size_answer a f c =
 
 -- ---- messages
 
-size_ends : (first : List (Pair Value)) (tx kind : List ℕ) → length tx ≤ 32 → length kind ≤ 1 → size (first ++ pair (codes "t") (value.Text tx) ++ pair (codes "y") (value.Text kind)) ≤ size first + 59
+size_ends : (first : List (Pair Value)) (tx kind : List ℕ) → length tx ≤ max_answered_tx → length kind ≤ 1 → size (first ++ pair (codes "t") (value.Text tx) ++ pair (codes "y") (value.Text kind)) ≤ size first + 59
 size_ends first tx kind h k =
     let t : size (pair (codes "t") (value.Text tx)) ≤ 45 = size_pair (codes "t") (value.Text tx) 38 (omega arith) (text_short tx 32 h (omega arith)) in
     let y : size (pair (codes "y") (value.Text kind)) ≤ 14 = size_pair (codes "y") (value.Text kind) 7 (omega arith) (text_short kind 1 k (omega arith)) in
@@ -126,7 +127,7 @@ size_ends first tx kind h k =
     let e2 = size_append first (pair (codes "t") (value.Text tx)) in
     omega (arith, t, y, e1, e2)
 
-pub answer_short : (tx : List ℕ) (a : Answer) → length tx ≤ 32 → HasFew a → IsCompact a → length (form (message.Answer tx a)) ≤ 4096
+pub answer_short : (tx : List ℕ) (a : Answer) → length tx ≤ max_answered_tx → HasFew a → IsCompact a → length (form (message.Answer tx a)) ≤ max_datagram
 unfolding form
 answer_short tx a h f c =
     let first = pair (codes "r") (value.Dict (answer_pairs a)) in
@@ -135,7 +136,7 @@ answer_short tx a h f c =
     let d = size_dict (message_pairs (message.Answer tx a)) 3936 (omega (arith, r, e)) in
     omega (arith, d)
 
-pub fault_short : (tx text : List ℕ) (code : ℤ) → length tx ≤ 32 → length (integer_text code) ≤ 7 → length text ≤ 14 → length (form (message.Fault tx code text)) ≤ 4096
+pub fault_short : (tx text : List ℕ) (code : ℤ) → length tx ≤ max_answered_tx → length (integer_text code) ≤ 7 → length text ≤ 14 → length (form (message.Fault tx code text)) ≤ max_datagram
 unfolding form
 fault_short tx text code h i k =
     let listed = value.List (value.Int code ∷ value.Text text ∷ []) in

@@ -2,6 +2,7 @@
 use Rattle.std.proofs.Common.{◌≡◌, ℕ, ◌+◌, ◌-◌, ◌<◌, List, [], ◌∷◌, ◌++◌, length, take, drop, get_or, Option, Some, None, inl, inr, refl, sym, ap, subst, ◌∙◌}
 use Rattle.std.proofs.lemmas.List.{take-append-drop, append-nil, length-drop, take_more}
 use Rattle.std.proofs.Math.Seq.{take-length}
+use Rattle.kad_base.specs.Limits.{max_input}
 use Rattle.kad_base.specs.declared.plain.Id.{Id}
 use Rattle.kad_base.specs.declared.plain.Contact.{Contact}
 use Rattle.kad_base.specs.declared.plain.Report.{Report}
@@ -18,7 +19,7 @@ pub rest_whole : (all : List ℕ) (at : ℕ) → take (length all - at) (drop at
 rest_whole all at = ap (λ n. take n (drop at all)) (sym (length-drop at all)) ∙ take-length (drop at all)
 
 -- more was read than may be
-pub too_much : (a c : Option (List ℕ)) (front : List ℕ) → Shrinks a c front → length front ≡ 1048577 → ReadsTooMuch a c
+pub too_much : (a c : Option (List ℕ)) (front : List ℕ) → Shrinks a c front → length front ≡ max_input + 1 → ReadsTooMuch a c
 too_much a None front h long = tt
 too_much a (Some rest) front h long = (front, long, h)
 

@@ -8,6 +8,7 @@ use Rattle.std.specs.declared.cmp.Ordering.{Ordering}
 use Rattle.std.specs.declared.cmp.Ordering.TheVariants.{Less, Equal, Greater}
 use Rattle.std.proofs.lemmas.Bool.{lt-ltb}
 use Rattle.std.proofs.lemmas.List.Elements.{All-nil, All-cons, All-head, All-tail, All-filter, All-weaker}
+use Rattle.kad_base.specs.Limits.{max_peers}
 use Rattle.kad_base.specs.declared.plain.NoMemory.{NoMemory}
 use Rattle.peer_store.specs.declared.peers.Stored.{Stored}
 use Rattle.peer_store.specs.declared.peers.Stored.TheVariants.{New, Renewed}
@@ -30,7 +31,7 @@ earlier : (held : List Held) (since next : ℕ) → next ≤ since → All (λ (
 earlier held since next le all = All-weaker (λ (h : Held). since ≤ h.1) (λ (h : Held). next ≤ h.1) (λ h f. omega arith) held all
 
 pub kept_add : (held new : List Held) (pair : Pair) (at since next : ℕ) → IsKept held since → IsBetween pair.1 → new ≡ with_add held pair at
-    → IsStrictlySortedBy pair_cmp (keys_of new) → length new ≤ 65536 → next ≡ min since at → IsKept new next
+    → IsStrictlySortedBy pair_cmp (keys_of new) → length new ≤ max_peers → next ≡ min since at → IsKept new next
 kept_add held new pair at since next kept between is sorted few e =
     let le : next ≤ since = omega (arith, e) in
     let le_at : next ≤ at = omega (arith, e) in
@@ -63,7 +64,7 @@ by_values P (h ∷ held) all =
 pub kept_purge : (held new : List Held) (at since next : ℕ) → IsKept held since → new ≡ purged held at → length new ≤ length held
     → IsStrictlySortedBy pair_cmp (keys_of new) → All (λ last. next ≤ last) (values_of new) → IsKept new next
 kept_purge held new at since next kept is fewer sorted first =
-    let few : length new ≤ 65536 = let old : length held ≤ 65536 = kept.peers.few in omega arith in
+    let few : length new ≤ max_peers = let old : length held ≤ max_peers = kept.peers.few in omega arith in
     record {
       peers = record { sorted = sorted; few = few };
       between = subst AreBetween (sym is) (All-filter (is_fresh at) (λ h. IsBetween h.0.1) held kept.between);
@@ -71,13 +72,13 @@ kept_purge held new at since next kept is fewer sorted first =
     }
 
 -- an add leaves no more than may be
-pub few_after : (held : List Held) (pair : Pair) (n : ℕ) (stored : Stored) → n ≤ length held + 1 → length held ≤ 65536
+pub few_after : (held : List Held) (pair : Pair) (n : ℕ) (stored : Stored) → n ≤ length held + 1 → length held ≤ max_peers
     → ¬ (HasNoPlace held pair) → (◌≡◌ {A = Result Stored NoMemory} (Ok stored) (Ok Renewed) → n ≡ length held)
-    → (◌≡◌ {A = Result Stored NoMemory} (Ok stored) (Ok Renewed)) ↔ Holds held pair → n ≤ 65536
+    → (◌≡◌ {A = Result Stored NoMemory} (Ok stored) (Ok Renewed)) ↔ Holds held pair → n ≤ max_peers
 few_after held pair n Renewed le old place same holds = let e : n ≡ length held = same refl in omega arith
 few_after held pair n New le old place same holds =
     let absent : ¬ (Holds held pair) = λ h. absurd (apart (holds.1 h)) in
-    let room : length held ≢ 65536 = λ g. place (absent, g) in
+    let room : length held ≢ max_peers = λ g. place (absent, g) in
     omega arith
   where
     apart : ◌≡◌ {A = Result Stored NoMemory} (Ok New) (Ok Renewed) → ⊥

@@ -1,12 +1,13 @@
 use Rattle.std.proofs.Common.{length, ◌≤◌}
 use Rattle.std.proofs.lemmas.Bool.{false≢true}
+use Rattle.kad_base.specs.Limits.{max_peers}
 use Rattle.peer_store.proofs.Kept.{few_after, kept_add}
 use Rattle.peer_store.proofs.peers.Peers.add.Goals as goal
 
 pub invariant_of-self-2 : goal.invariant_of-self-2
 invariant_of-self-2 c =
     let held = c.self.inside.adds.entries in
-    let few : length c.put.new.adds.entries ≤ 65536 =
+    let few : length c.put.new.adds.entries ≤ max_peers =
     few_after held (c.args.key, c.args.peer) _ c.in-Ok.stored c.in-Ok.ensures.length c.self.invariant.peers.few
     (λ h. false≢true (c.if-has_no_place.ensures.1 h)) c.in-Ok.ensures.same_length c.in-Ok.ensures.renewed in
     kept_add held c.put.new.adds.entries (c.args.key, c.args.peer) c.args.at c.self.inside.since c.min-self-inside.result
