@@ -18,6 +18,8 @@ use std::io::{ErrorKind, Input};
 use std::process::ExitCode;
 use std::random::RandomSource;
 use std::rt::{Clock, Env, Net};
+use std::sync::Wait;
+use std::thread::Threads;
 use std::{env, io};
 use stdin::StandardInput;
 use stdout::StandardOutput;
@@ -82,7 +84,7 @@ fn refusal_of(error: &io::Error) -> Refusal
 /// Takes the words, then draws, then binds where the command takes a link, and runs the node; its status.
 fn started<R>(rt: &R) -> Result<u8, Refusal>
 where
-    R: Env + AllocGlobal + RandomSource + Net + Clock + Input + Print,
+    R: Env + AllocGlobal + RandomSource + Net + Clock + Input + Print + Threads + Wait + Sync,
 {
     let words = words(rt)?;
     let mut random = [0u8; 32];

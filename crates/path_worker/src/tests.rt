@@ -1,11 +1,12 @@
-//! Books worked by hand. `contact(n)` is 19 zero bytes and n at 127.0.0.1, port 6000 + n; the target is 20 zero bytes, and
-//! the node's own identifier 20 bytes of 255. So seed n is dealt to path n - 1.
+//! Books worked by hand, and a routing table behind a turn. `contact(n)` is 19 zero bytes and n at 127.0.0.1, port
+//! 6000 + n; the target is 20 zero bytes, and the node's own identifier 20 bytes of 255. So seed n is dealt to path n - 1.
 ghost use Rattle.std.specs.Prelude.{◌≡◌, ◌<◌, ◌≤◌, IfOk};
 ghost use Rattle.kad_base.specs.Limits.{max_paths};
 ghost use Rattle.kad_base.specs.declared.plain.Policy.TheVariants.{Plain};
 ghost use Rattle.claim_book.specs.State.{BookState};
 
 use super::{settle_alone, settle_together};
+use bucket_tree::Seen;
 use claim_book::{Book, BookCall, BookReply, Entry, Setting};
 use contact_table::{Table, TableCall, TableReply};
 use kad_base::{Addr, Check, Contact, Contacts, Id, Ip, List, Policy, Report, Serial, is_usable};
@@ -15,7 +16,8 @@ use std::hash::RandomState;
 use std::process::Abort;
 use std::sync::Wait;
 use std::test::Fail;
-use std::thread::Threads;
+use std::thread::{Threads, join};
+use turn_book::{Pass, Turn};
 
 const OWN: Id = Id([255; 20]);
 
@@ -293,5 +295,91 @@ fn eight_paths_settle_at_once(rt: HostRuntime) -> Result<(), Fail> {
     }
     let found = settled_at_once(&rt, alloc, 8, book)?;
     assert_eq!(rt; found, (40, Some(list)));
+    Ok(())
+}
+
+/// The routing table is told of a contact by role 1, and asked by role 0. Both replies, what the table has at the end, and
+/// how many calls were told.
+fn told_and_asked<R: Wait>(
+    rt: &R,
+    alloc: Global,
+    table: Table,
+) -> Option<(TableReply, TableReply, Option<Contacts>, u64)> {
+    let Ok((turn, mut passes)) = Turn::new(alloc, table, 2) else {
+        return None;
+    };
+    let mut one = passes.pop()?;
+    let mut zero = passes.pop()?;
+    let contact = contact(1);
+    let target = Id([0; 20]);
+    let seen = turn.call(rt, &mut one, TableCall::Seen { contact });
+    let closest = turn.call(rt, &mut zero, TableCall::Closest { target, n: 1 });
+    passes.push(zero);
+    passes.push(one);
+    let (mut table, told) = turn.close(passes);
+    Some((seen, closest, known(&mut table), told.calls))
+}
+
+#[test]
+fn a_table_behind_a_turn_answers_and_comes_back(rt: HostRuntime) -> Result<(), Fail> {
+    let alloc = rt.alloc();
+    let found = told_and_asked(&rt, alloc, table(alloc)?);
+    let seen = TableReply::Seen { seen: Seen::Added };
+    let list = List::from_slice(alloc, &[contact(1)])?;
+    let closest = TableReply::List { list };
+    let list = List::from_slice(alloc, &[contact(1)])?;
+    assert_eq!(rt; found, Some((seen, closest, Some(list), 2)));
+    Ok(())
+}
+
+/// Tells the table 500 times of a contact, and asks after each.
+fn tell_and_ask<R: Wait>(rt: &R, turn: &Turn<Table>, mut pass: Pass<Table>) -> Pass<Table>
+    requires { pass.turn ≡ turn.now.id }
+    ensures { result.turn ≡ turn.now.id }
+{
+    let contact = contact(1);
+    let target = Id([0; 20]);
+    for _ in 0..500 {
+        turn.call(rt, &mut pass, TableCall::Seen { contact });
+        turn.call(rt, &mut pass, TableCall::Closest { target, n: 1 });
+    }
+    pass
+}
+
+/// Two threads do so at once. What the table has at the end, and how many calls were told.
+fn told_and_asked_at_once<R: Threads + Wait + Sync>(
+    rt: &R,
+    alloc: Global,
+    table: Table,
+) -> Option<(Option<Contacts>, u64)> {
+    let Ok((turn, mut passes)) = Turn::new(alloc, table, 2) else {
+        return None;
+    };
+    let one = passes.pop()?;
+    let zero = passes.pop()?;
+    let there = &turn;
+    let (zero, one) = join(
+        rt,
+        move || -> Pass<Table>
+            requires { zero.turn ≡ there.now.id }
+            ensures { result.turn ≡ there.entry.now.id }
+        { tell_and_ask(rt, there, zero) },
+        move || -> Pass<Table>
+            requires { one.turn ≡ there.now.id }
+            ensures { result.turn ≡ there.entry.now.id }
+        { tell_and_ask(rt, there, one) },
+    );
+    passes.push(zero);
+    passes.push(one);
+    let (mut table, told) = turn.close(passes);
+    Some((known(&mut table), told.calls))
+}
+
+#[test]
+fn two_threads_call_one_table(rt: HostRuntime) -> Result<(), Fail> {
+    let alloc = rt.alloc();
+    let found = told_and_asked_at_once(&rt, alloc, table(alloc)?);
+    let list = List::from_slice(alloc, &[contact(1)])?;
+    assert_eq!(rt; found, Some((Some(list), 2000)));
     Ok(())
 }
