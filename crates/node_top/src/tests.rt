@@ -21,7 +21,10 @@ use kad_base::{
 use script::{Reply, contact, failing_link, link, port};
 use std::alloc::Global;
 use std::hash::RandomState;
+use std::random::RandomSource;
+use std::sync::Wait;
 use std::test::Fail;
+use std::thread::Threads;
 
 /// `#n` is the identifier of nineteen zero bytes and n, and contact n has it at 127.0.0.1 and port 6000 + n.
 const LINE_1: &str = "0000000000000000000000000000000000000001 127.0.0.1:6001\n";
@@ -67,13 +70,18 @@ fn words(alloc: Global, texts: &[&str]) -> Result<Vec<String>, Fail> {
     Ok(words)
 }
 
-fn play(rt: &HostRuntime, texts: &[&str], input: &str, link: ScriptLink) -> Result<Played, Fail> {
+fn play<R: AllocGlobal + RandomSource + Threads + Wait + Sync>(
+    rt: &R,
+    texts: &[&str],
+    input: &str,
+    link: ScriptLink,
+) -> Result<Played, Fail> {
     play_with(rt, texts, input, link, &Sha1Check)
 }
 
 /// The same under a check of the test's own.
-fn play_with<C: Check + Sync>(
-    rt: &HostRuntime,
+fn play_with<R: AllocGlobal + RandomSource + Threads + Wait + Sync, C: Check + Sync>(
+    rt: &R,
     texts: &[&str],
     input: &str,
     link: ScriptLink,
@@ -101,8 +109,8 @@ fn play_with<C: Check + Sync>(
 }
 
 /// The command answers this status and writes this text.
-fn shows(
-    rt: &HostRuntime,
+fn shows<R: AllocGlobal + RandomSource + Threads + Wait + Sync>(
+    rt: &R,
     texts: &[&str],
     input: &str,
     link: ScriptLink,
@@ -297,8 +305,8 @@ fn a_bad_line_is_named(rt: HostRuntime) -> Result<(), Fail> {
 }
 
 /// The status of a lookup over the script in which contact 1 answers.
-fn status_of<S: Source, K: Sink>(
-    rt: &HostRuntime,
+fn status_of<R: AllocGlobal + RandomSource + Threads + Wait + Sync, S: Source, K: Sink>(
+    rt: &R,
     words: &[String],
     source: &mut S,
     sink: &mut K,
@@ -371,7 +379,10 @@ fn words_that_ask_for_nothing(rt: HostRuntime) -> Result<(), Fail> {
     refuses(&rt, &["lookup", "--target", zeros, "--speed", "1"])
 }
 
-fn refuses(rt: &HostRuntime, texts: &[&str]) -> Result<(), Fail> {
+fn refuses<R: AllocGlobal + RandomSource + Threads + Wait + Sync>(
+    rt: &R,
+    texts: &[&str],
+) -> Result<(), Fail> {
     let link = link(rt.alloc(), &[Reply::of(1, 10)])?;
     shows(rt, texts, LINE_1, link, 2, "usage\n")
 }

@@ -11,7 +11,10 @@ use fake_net::{Script, ScriptEvent, ScriptLink};
 use kad_base::{Addr, Bytes, Contact, Contacts, Id, List, Numbers};
 use kad_krpc::{Answer, Message};
 use std::alloc::Global;
+use std::random::RandomSource;
+use std::sync::Wait;
 use std::test::Fail;
+use std::thread::Threads;
 
 /// Targets, and their first eight bytes. The other twelve are zeros, those of the nodes too.
 const TARGETS: [(&str, u64); 3] = [
@@ -471,7 +474,10 @@ fn computed(alloc: Global, plan: Plan) -> Result<String, Fail> {
     lookup.text(alloc)
 }
 
-fn shows_as_computed(rt: &HostRuntime, plan: Plan) -> Result<(), Fail> {
+fn shows_as_computed<R: AllocGlobal + RandomSource + Threads + Wait + Sync>(
+    rt: &R,
+    plan: Plan,
+) -> Result<(), Fail> {
     let text = computed(rt.alloc(), plan)?;
     let input = plan.input(rt.alloc())?;
     let link = plan.link(rt.alloc())?;

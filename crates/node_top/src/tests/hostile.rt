@@ -9,7 +9,10 @@ use crate::tests::{
 };
 use kad_base::{BytesSink, BytesSource, List};
 use std::alloc::Global;
+use std::random::RandomSource;
+use std::sync::Wait;
 use std::test::Fail;
+use std::thread::Threads;
 
 const NOBODY: &str = "found 0 asked 1 failed 1 turned 0\n";
 
@@ -33,7 +36,10 @@ const BOTH: &str =
     "0000000000000000000000000000000000000001 127.0.0.1:6001\n0000000000000000000000000000000000000002 127.0.0.1:6002\nfound 2 asked 2 failed 0 turned 0\n";
 
 /// The answer cut to each length below its own says nothing.
-fn cut(rt: &HostRuntime, answer: &[u8]) -> Result<(), Fail> {
+fn cut<R: AllocGlobal + RandomSource + Threads + Wait + Sync>(
+    rt: &R,
+    answer: &[u8],
+) -> Result<(), Fail> {
     for len in 0..answer.len() {
         let link = link_with(rt.alloc(), &answer[..len], 10, 1, &[])?;
         shows(rt, ONE_PATH, LINE_1, link, 0, NOBODY)?;
@@ -118,7 +124,12 @@ fn text_of(given: u8) -> &'static str {
 }
 
 /// The usual answer with one byte changed, over which contact 2 answers too.
-fn with_one_changed(rt: &HostRuntime, place: usize, value: u8, given: u8) -> Result<(), Fail> {
+fn with_one_changed<R: AllocGlobal + RandomSource + Threads + Wait + Sync>(
+    rt: &R,
+    place: usize,
+    value: u8,
+    given: u8,
+) -> Result<(), Fail> {
     let mut answer = A_USUAL_ANSWER.to_vec(rt.alloc())?;
     if let Some(byte) = answer.get_mut(place) {
         *byte = value;
@@ -233,7 +244,11 @@ fn failing_source(alloc: Global, n: u64) -> Result<BytesSource, Fail> {
     Ok(BytesSource::new(input, 1, List::from_slice(alloc, &[n])?))
 }
 
-fn fails_to_read(rt: &HostRuntime, words: &[String], n: u64) -> Result<(), Fail> {
+fn fails_to_read<R: AllocGlobal + RandomSource + Threads + Wait + Sync>(
+    rt: &R,
+    words: &[String],
+    n: u64,
+) -> Result<(), Fail> {
     let mut source = failing_source(rt.alloc(), n)?;
     let mut sink = BytesSink::new(4096, none(rt.alloc()), List::new(rt.alloc()));
     let status = status_of(rt, words, &mut source, &mut sink)?;
@@ -258,7 +273,12 @@ fn failing_sink(alloc: Global, n: u64) -> Result<BytesSink, Fail> {
     Ok(BytesSink::new(1, List::from_slice(alloc, &[n])?, List::new(alloc)))
 }
 
-fn fails_to_write(rt: &HostRuntime, words: &[String], n: u64, wanted: &[u8]) -> Result<(), Fail> {
+fn fails_to_write<R: AllocGlobal + RandomSource + Threads + Wait + Sync>(
+    rt: &R,
+    words: &[String],
+    n: u64,
+    wanted: &[u8],
+) -> Result<(), Fail> {
     let mut source = failing_source(rt.alloc(), 1000)?;
     let mut sink = failing_sink(rt.alloc(), n)?;
     let status = status_of(rt, words, &mut source, &mut sink)?;
@@ -307,8 +327,8 @@ fn naming(alloc: Global, records: &[[u8; 26]]) -> Result<Vec<u8>, Fail> {
 }
 
 /// Contact 1 begins and names these; over the other replies that gives the text.
-fn names(
-    rt: &HostRuntime,
+fn names<R: AllocGlobal + RandomSource + Threads + Wait + Sync>(
+    rt: &R,
     records: &[[u8; 26]],
     replies: &[Reply],
     text: &str,
@@ -361,7 +381,12 @@ fn two_contacts_at_one_address(rt: HostRuntime) -> Result<(), Fail> {
 }
 
 /// Contacts 1 and 2 begin on these paths; over the replies that gives the text.
-fn two_find(rt: &HostRuntime, texts: &[&str], replies: &[Reply], text: &str) -> Result<(), Fail> {
+fn two_find<R: AllocGlobal + RandomSource + Threads + Wait + Sync>(
+    rt: &R,
+    texts: &[&str],
+    replies: &[Reply],
+    text: &str,
+) -> Result<(), Fail> {
     shows(rt, texts, TWO_LINES, link(rt.alloc(), replies)?, 0, text)
 }
 

@@ -1,7 +1,10 @@
 //! Lookups on one path and on two.
 use crate::tests::script::{Reply, link, link_with};
 use crate::tests::{FOUND_1, LINE_1, ONE_PATH, lines, shows};
+use std::random::RandomSource;
+use std::sync::Wait;
 use std::test::Fail;
+use std::thread::Threads;
 
 /// A lookup of zeros by the node of ones, on two paths.
 pub(crate) const TWO_PATHS: &[&str] = &[
@@ -15,8 +18,8 @@ pub(crate) const TWO_PATHS: &[&str] = &[
 ];
 
 /// Contacts 1 and 2 begin, and the output is the contacts from 1 to this one and these counts.
-fn finds(
-    rt: &HostRuntime,
+fn finds<R: AllocGlobal + RandomSource + Threads + Wait + Sync>(
+    rt: &R,
     texts: &[&str],
     replies: &[Reply],
     last: u8,

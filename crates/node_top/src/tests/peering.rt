@@ -4,7 +4,10 @@ use crate::tests::script::link_from;
 use crate::tests::{LINE_1, lines, play, sent, shows};
 use fake_net::ScriptLink;
 use std::alloc::Global;
+use std::random::RandomSource;
+use std::sync::Wait;
 use std::test::Fail;
+use std::thread::Threads;
 
 /// A search for peers of the key of zeros by the node of ones, on one path.
 const PEERS: &[&str] = &[
@@ -80,8 +83,8 @@ fn search(alloc: Global, further: &[&'static str]) -> Result<Vec<&'static str>, 
 }
 
 /// The datagrams that the search with these further words sends over the link where it ends well with this text.
-fn sends(
-    rt: &HostRuntime,
+fn sends<R: AllocGlobal + RandomSource + Threads + Wait + Sync>(
+    rt: &R,
     further: &[&'static str],
     input: &str,
     link: ScriptLink,

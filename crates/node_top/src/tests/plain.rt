@@ -7,7 +7,10 @@ use id_puzzles::Sha1Check;
 use kad_base::{BytesSink, BytesSource, List, Sink, Source, SteadySource};
 use std::alloc::Global;
 use std::hash::RandomState;
+use std::random::RandomSource;
+use std::sync::Wait;
 use std::test::Fail;
+use std::thread::Threads;
 
 const SEED: &str = "0000000000000000000000000000000000000000000000000000000000000000";
 
@@ -31,8 +34,8 @@ fn silent(alloc: Global) -> Result<ScriptLink, Fail> {
 }
 
 /// The status of the words by the call that takes no link, where the random bytes are zeros.
-fn status_of<S: Source, K: Sink>(
-    rt: &HostRuntime,
+fn status_of<R: AllocGlobal + RandomSource + Threads + Wait + Sync, S: Source, K: Sink>(
+    rt: &R,
     texts: &[&str],
     source: &mut S,
     sink: &mut K,
@@ -50,8 +53,8 @@ fn status_of<S: Source, K: Sink>(
 }
 
 /// The call that takes no link answers this status and writes this text.
-fn shows_plainly(
-    rt: &HostRuntime,
+fn shows_plainly<R: AllocGlobal + RandomSource + Threads + Wait + Sync>(
+    rt: &R,
     texts: &[&str],
     input: &str,
     status: u8,
@@ -71,8 +74,8 @@ fn shows_plainly(
 }
 
 /// Both calls do.
-pub(crate) fn both_show(
-    rt: &HostRuntime,
+pub(crate) fn both_show<R: AllocGlobal + RandomSource + Threads + Wait + Sync>(
+    rt: &R,
     texts: &[&str],
     input: &str,
     status: u8,

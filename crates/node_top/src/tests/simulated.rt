@@ -1,12 +1,15 @@
 //! Lookups in networks from a seed of zeros. The lines were computed by another program, in another language.
 use crate::tests::plain::both_show;
+use std::random::RandomSource;
+use std::sync::Wait;
 use std::test::Fail;
+use std::thread::Threads;
 
 const SEED: &str = "0000000000000000000000000000000000000000000000000000000000000000";
 
 /// The line of a network of so many nodes, with so many of a hundred hostile, on so many paths, with k.
-fn shows_line(
-    rt: &HostRuntime,
+fn shows_line<R: AllocGlobal + RandomSource + Threads + Wait + Sync>(
+    rt: &R,
     nodes: &str,
     hostile: &str,
     paths: &str,
