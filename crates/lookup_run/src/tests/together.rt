@@ -200,7 +200,7 @@ fn a_failing_receive_ends_it(rt: HostRuntime) -> Result<(), Fail> {
         node: Some(4),
         ..Reply::of(2, 10)
     };
-    let mut link = failing_link(rt.alloc(), &[first, second], &[], &[3])?;
+    let mut link = failing_link(rt.alloc(), &[first, second], &[], &[2])?;
     let hasher = RandomState::new(&rt)?;
     let (_table, result) = play(&rt, rt.alloc(), &[1, 2], 2, &mut link, &Sha1Check, hasher)?;
     assert!(rt; matches!(result, Err(LookFault::LinkFault)));
