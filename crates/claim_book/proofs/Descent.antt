@@ -223,17 +223,17 @@ answer_things p (e ∷ J) c reports r h k =
     ]
 
 -- the contact is on some path, or path p is full
-abbrev Stands : List Entry → ℕ → Contact → Type 0
-Stands J p c = (among (took J) c ≡ true) ⊎ (max_path_contacts ≤ length (path p J))
+abbrev IsTakenOrFull : List Entry → ℕ → Contact → Type 0
+IsTakenOrFull J p c = (among (took J) c ≡ true) ⊎ (max_path_contacts ≤ length (path p J))
 
-stands_more : (J : List Entry) (e : Entry) (p : ℕ) (c : Contact) → Stands J p c → Stands (J ++ e ∷ []) p c
+stands_more : (J : List Entry) (e : Entry) (p : ℕ) (c : Contact) → IsTakenOrFull J p c → IsTakenOrFull (J ++ e ∷ []) p c
 stands_more J e p c h =
     elim h [
       | inl a ↦ inl (ap (λ l. among l c) (took_more J e) ∙ among_left (took J) (took_of e) c a)
       | inr b ↦ inr (omega (arith, b, ap length (path_more p J e), length-append (path p J) (path_of p e)))
     ]
 
-taken_stands : (J : List Entry) (e : Entry) (p : ℕ) (c : Contact) → TakenOrHeld J e p c → Stands (J ++ e ∷ []) p c
+taken_stands : (J : List Entry) (e : Entry) (p : ℕ) (c : Contact) → TakenOrHeld J e p c → IsTakenOrFull (J ++ e ∷ []) p c
 taken_stands J e p c h =
     elim h [
       | inl is ↦ inl (ap (λ l. among l c) (took_more J e) ∙ among_right (took J) (took_of e) c (subst (λ x. among (took_of x) c ≡ true) (sym is) (among_itself c)))
@@ -242,7 +242,7 @@ taken_stands J e p c h =
 
 -- the report waits to be settled, or its contact stands
 abbrev Waits : List Entry → ℕ → Report → Type 0
-Waits J p r = Contains (unsettled p J) (Told r) ⊎ Stands J p r.contact
+Waits J p r = Contains (unsettled p J) (Told r) ⊎ IsTakenOrFull J p r.contact
 
 waits_settled : (s : Setting) (J : List Entry) (e : Entry) (p : ℕ) (r : Report) → Fits s J e → settles_on p e ≡ true → IsUsable s.own r.contact → Passes s.policy r → Waits J p r → Waits (J ++ e ∷ []) p r
 waits_settled s J e p r f h u v old =
@@ -288,7 +288,7 @@ drops_none s J l p responder c settled_all n =
     let usable = subst (IsUsable s.own) (sym n.of_it) n.usable in
     elim (all_wait s J l p n.report usable n.passes (answer_things p J responder n.reports n.report n.answer n.named)) [
       | inl waits ↦ absurd (nothing_in (Told n.report) (subst (λ l. Contains l (Told n.report)) settled_all waits))
-      | inr stands ↦ subst (Stands J p) n.of_it stands
+      | inr stands ↦ subst (IsTakenOrFull J p) n.of_it stands
     ]
 
 -- ---- the whole

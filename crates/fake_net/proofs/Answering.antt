@@ -21,7 +21,7 @@ use Rattle.fake_net.specs.Scripts.{SaysQuery}
 use Rattle.fake_net.specs.Network.{Network, numbers, node, address_of, number_at, knows}
 use Rattle.fake_net.specs.Replies.{SaysFindNode, find_node_of, conduct_of, invented, said, reply_of, on_its_way, BringsAbout}
 use Rattle.fake_net.proofs.Asking.{refused_none}
-use Rattle.fake_net.proofs.Standing.{number_back}
+use Rattle.fake_net.proofs.Numbered.{number_back}
 
 -- ---- the query that bytes say
 

@@ -2,7 +2,7 @@ pub mod Spending
 pub mod Numbering
 pub mod Sharing
 pub mod Knowing
-pub mod Standing
+pub mod Numbered
 pub mod Choosing
 pub mod Answering
 pub mod Asking

@@ -2,7 +2,7 @@
 use Rattle.std.proofs.Common.{◌≡◌, ℕ, ◌+◌, ◌<◌, ◌≤◌, List, [], ◌∷◌, ◌++◌, length, take, Some, Result, Ok, Err, IfOk, IsErrOf, refl, sym, ap, ◌∙◌, subst, arith, append-nil, inl, inr, ◌⊎◌, ⊎_elim, length-append, length-drop}
 use Rattle.std.proofs.lemmas.List.{take_all}
 use Rattle.kad_bencode.specs.Spelling.{IsText, integer_text, string_text, pairs_text, in_order, Fits, Spells}
-use Rattle.kad_bencode.specs.Faults.{Open, InList, InPair, pairs_of, Stands, IsNotBencode, IsDeep, IsTooBig, IsTwice, IsTrailing, SeenAt, IsFirstFault, Answers}
+use Rattle.kad_bencode.specs.Faults.{Open, InList, InPair, pairs_of, IsAt, IsNotBencode, IsDeep, IsTooBig, IsTwice, IsTrailing, SeenAt, IsFirstFault, Answers}
 use Rattle.kad_bencode.specs.Machine.{AsKey, State, Ready, Keyless, Whole, filled, run, start, Reached, Outcome}
 use Rattle.kad_bencode.specs.declared.entries.Pair.{Pair}
 use Rattle.kad_bencode.specs.declared.value.Value.{Value}
@@ -19,7 +19,7 @@ use Rattle.kad_bencode.proofs.First.{first, ended, standing, reached_text, front
 pub one_value : (bytes : List ℕ) (v w : Value) → Spells bytes v → Spells bytes w → v ≡ w
 one_value bytes v w a b = a.names ∙ ap in_order (one_tree a.tree b.tree (sym a.text ∙ b.text)) ∙ sym b.names
 
-stands_within : (bytes : List ℕ) (at : ℕ) (text : List ℕ) → 0 < length text → Stands bytes at text → at + length text ≤ length bytes
+stands_within : (bytes : List ℕ) (at : ℕ) (text : List ℕ) → 0 < length text → IsAt bytes at text → at + length text ≤ length bytes
 stands_within bytes at text h t = omega (arith, length-drop at bytes, ap length t.1, length-append text t.0)
 
 whole_reached : (bytes : List ℕ) (v : Value) → (s : Spells bytes v) → Reached bytes (length bytes) (Whole s.tree)
@@ -33,8 +33,8 @@ no_fault bytes v (NotBencode at) seen s d =
 no_fault bytes v (Deep at) seen s d =
     let late : length bytes ≤ seen = first bytes (length bytes) (Whole s.tree) (whole_reached bytes v s) s.fits (omega arith) (Deep at) seen d in
     let same : seen ≡ at = d.1 in
-    ⊎_elim (λ (t : Stands bytes at (108 ∷ [])). let k : at < length bytes = (standing bytes at (108 ∷ []) (omega arith) t).0 in omega arith)
-    (λ (t : Stands bytes at (100 ∷ [])). let k : at < length bytes = (standing bytes at (100 ∷ []) (omega arith) t).0 in omega arith) d.0.begins
+    ⊎_elim (λ (t : IsAt bytes at (108 ∷ [])). let k : at < length bytes = (standing bytes at (108 ∷ []) (omega arith) t).0 in omega arith)
+    (λ (t : IsAt bytes at (100 ∷ [])). let k : at < length bytes = (standing bytes at (100 ∷ []) (omega arith) t).0 in omega arith) d.0.begins
 no_fault bytes v (NumberTooBig at) seen s d =
     let late : length bytes ≤ seen = first bytes (length bytes) (Whole s.tree) (whole_reached bytes v s) s.fits (omega arith) (NumberTooBig at) seen d in
     let last : at + length (integer_text d.number) ≡ seen + 1 = d.last in
@@ -85,11 +85,11 @@ past_deep : (bytes : List ℕ) (at : ℕ) → (d : IsDeep bytes at) → Past byt
 past_deep bytes at d =
     let r : Reached bytes at (Ready d.opens) = front_reached bytes at d.opens d.front in
     ⊎_elim
-    (λ (t : Stands bytes at (108 ∷ [])). inl (let p : Past bytes at (Ready (InList [] ∷ d.opens)) = record {
+    (λ (t : IsAt bytes at (108 ∷ [])). inl (let p : Past bytes at (Ready (InList [] ∷ d.opens)) = record {
       reached = reached_text bytes at (at + 1) (108 ∷ []) (Ready d.opens) (Some (Ready (InList [] ∷ d.opens))) r (standing bytes at (108 ∷ []) (omega arith) t).1 refl;
       within = (standing bytes at (108 ∷ []) (omega arith) t).0;
     } in p))
-    (λ (t : Stands bytes at (100 ∷ [])). inr (let p : Past bytes at (Keyless d.opens []) = record {
+    (λ (t : IsAt bytes at (100 ∷ [])). inr (let p : Past bytes at (Keyless d.opens []) = record {
       reached = reached_text bytes at (at + 1) (100 ∷ []) (Ready d.opens) (Some (Keyless d.opens [])) r (standing bytes at (100 ∷ []) (omega arith) t).1 refl;
       within = (standing bytes at (100 ∷ []) (omega arith) t).0;
     } in p))

@@ -11,7 +11,7 @@ use Rattle.std.proofs.Math.Seq.{take-suc, take-set-lt, set-append_seam, paste}
 use Rattle.std.proofs.Math.ListN.{set}
 use Rattle.kad_bencode.specs.Keys.{key_cmp, keys_of}
 use Rattle.kad_bencode.specs.Spelling.{string_text, text_of, has_key}
-use Rattle.kad_bencode.specs.Faults.{Stands}
+use Rattle.kad_bencode.specs.Faults.{IsAt}
 use Rattle.kad_bencode.specs.Finding.{ArePairs, IsAbove}
 use Rattle.kad_bencode.specs.Filing.{AreAt, Files, AreFiled, IsBehind, IsBefore}
 use Rattle.kad_bencode.specs.declared.entries.Pair.{Pair}
@@ -26,7 +26,7 @@ use Rattle.kad_bencode.proofs.Places.{turned, turned_back}
 
 -- no text stands past the end
 pub stands_inside : (bytes : List ℕ) (place : ℕ) (key : List ℕ)
-    → Stands bytes place (string_text key) → length bytes ≤ place → ⊥
+    → IsAt bytes place (string_text key) → length bytes ≤ place → ⊥
 stands_inside bytes place key s h =
     let l = ap length s.1 in
     let m = length-append (string_text key) s.0 in
@@ -36,7 +36,7 @@ stands_inside bytes place key s h =
 
 pub at_place : (bytes places : List ℕ) (keys : List (List ℕ)) → AreAt bytes places keys
     → (i : ℕ) (d : ℕ) → i < length places
-    → (i < length keys) × Stands bytes (get_or places i d) (string_text (get_or keys i []))
+    → (i < length keys) × IsAt bytes (get_or places i d) (string_text (get_or keys i []))
 at_place bytes [] [] a i d h = absurd (omega arith)
 at_place bytes [] (k ∷ ks) a i d h = absurd a
 at_place bytes (p ∷ ps) [] a i d h = absurd a
@@ -52,7 +52,7 @@ as_many bytes (p ∷ ps) [] a = absurd a
 as_many bytes (p ∷ ps) (k ∷ ks) a = ap suc (as_many bytes ps ks a.1)
 
 at_insert : (bytes places : List ℕ) (keys : List (List ℕ)) (i at : ℕ) (key : List ℕ)
-    → AreAt bytes places keys → Stands bytes at (string_text key)
+    → AreAt bytes places keys → IsAt bytes at (string_text key)
     → AreAt bytes (insert places i at) (insert keys i key)
 at_insert bytes [] [] zero at key a s = (s, tt)
 at_insert bytes [] [] (suc i) at key a s = (s, tt)
@@ -65,14 +65,14 @@ at_insert bytes (p ∷ ps) (k ∷ ks) (suc i) at key a s = (a.0, at_insert bytes
 module _ (bytes places : List ℕ) (keys : List (List ℕ)) (a : AreAt bytes places keys)
     (key found : List ℕ) where
   pub before_is : (b : Bool) (i d : ℕ) → i < length places
-      → ((k : List ℕ) → Stands bytes (get_or places i d) (string_text k) → found ≡ k)
+      → ((k : List ℕ) → IsAt bytes (get_or places i d) (string_text k) → found ≡ k)
       → IsAbove (key_cmp found key) b → IsBefore keys i key b
   before_is true i d h reads above = λ _. ap (λ k. key_cmp k key)
       (sym (reads (get_or keys i []) (at_place bytes places keys a i d h).1)) ∙ above
   before_is false i d h reads above = tt
 
   pub behind_is : (b : Bool) (i d : ℕ) → i < length places + 1
-      → ((k : List ℕ) → Stands bytes (get_or places (i - 1) d) (string_text k) → found ≡ k)
+      → ((k : List ℕ) → IsAt bytes (get_or places (i - 1) d) (string_text k) → found ≡ k)
       → IsAbove (key_cmp key found) b → IsBehind keys i key b
   behind_is true i d h reads above = λ p. ap (key_cmp key)
       (sym (reads (get_or keys (i - 1) [])
@@ -231,7 +231,7 @@ module _ (bytes places : List ℕ) (keys : List (List ℕ)) (s : Files bytes pla
       ] refl
 
   -- and is filed with them
-  pub files_more : (at : ℕ) → Stands bytes at (string_text key)
+  pub files_more : (at : ℕ) → IsAt bytes at (string_text key)
       → Files bytes (insert places i at) (keys ++ key ∷ [])
   files_more at t = record {
     filed = insert s.filed i key;
@@ -273,7 +273,7 @@ module _ (bytes : List ℕ) (to : ℕ) (rest : List ℕ) (count : ℕ) (places :
       (reads : (p : Pair Value) (qs : List (Pair Value)) → ArePairs rest (p ∷ qs)
       → (key ≡ p.key) × (text ≡ text_of p.value) × ArePairs others qs)
       (files : (keys : List (List ℕ)) → AreFiled bytes count places keys
-      → Stands bytes (to - length rest) (string_text key)
+      → IsAt bytes (to - length rest) (string_text key)
       → AreFiled bytes next new (keys ++ key ∷ [])) where
     pub filed_more : FiledSoFar bytes to others next new ps
     filed_more = by_cases s.left s.all s.texts

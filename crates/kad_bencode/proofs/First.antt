@@ -4,7 +4,7 @@ use Rattle.std.proofs.lemmas.Bool.{cases_lt}
 use Rattle.std.proofs.lemmas.List.{take_more, take-append-drop, length-take-le, take_all, take-append-le}
 use Rattle.std.proofs.Math.Seq.{take-append-add}
 use Rattle.kad_bencode.specs.Spelling.{integer_text, string_text, pairs_text, numeral, Fits}
-use Rattle.kad_bencode.specs.Faults.{Open, InList, InPair, fronts, pairs_of, BeginsText, Stands, IsDeep, IsTooBig, IsTwice, SeenAt, IsFirstFault}
+use Rattle.kad_bencode.specs.Faults.{Open, InList, InPair, fronts, pairs_of, BeginsText, IsAt, IsDeep, IsTooBig, IsTwice, SeenAt, IsFirstFault}
 use Rattle.kad_bencode.specs.Machine.{AsKey, State, Ready, Keyless, Whole, filled, step, run, start, Reached, FitsPairs, FitsOpen, FitsState}
 use Rattle.kad_bencode.specs.declared.value.Value.{Value}
 use Rattle.kad_bencode.specs.declared.value.Value.TheVariants as value
@@ -50,7 +50,7 @@ ended bytes i j v s h k r q =
     no_text (take (i + 1) bytes) e (front_begins bytes (i + 1) j s (omega arith) q)
 
 -- bytes that stand at a place are the next ones
-pub standing : (bytes : List ℕ) (at : ℕ) (text : List ℕ) → 0 < length text → Stands bytes at text → (at < length bytes) × (take (at + length text) bytes ≡ take at bytes ++ text)
+pub standing : (bytes : List ℕ) (at : ℕ) (text : List ℕ) → 0 < length text → IsAt bytes at text → (at < length bytes) × (take (at + length text) bytes ≡ take at bytes ++ text)
 standing bytes at text h t =
     let n : length (drop at bytes) ≡ length text + length t.0 = ap length t.1 ∙ length-append text t.0 in
     let k : at < length bytes = omega (arith, length-drop at bytes) in
@@ -76,11 +76,11 @@ module _ (bytes : List ℕ) (s : ℕ) (st : State) (reached : Reached bytes s st
       let r : Reached bytes at (Ready d.opens) = front_reached bytes at d.opens d.front in
       let many : length d.opens ≡ 16 = d.many in
       ⊎_elim
-      (λ (t : Stands bytes at (108 ∷ [])).
+      (λ (t : IsAt bytes at (108 ∷ [])).
       let q : Reached bytes (at + 1) (Ready (InList [] ∷ d.opens)) = reached_text bytes at (at + 1) (108 ∷ []) (Ready d.opens) (Some (Ready (InList [] ∷ d.opens))) r (standing bytes at (108 ∷ []) (omega arith) t).1 refl in
       let f : FitsOpen (InList [] ∷ d.opens) = reached_back bytes (at + 1) s (Ready (InList [] ∷ d.opens)) st (omega arith) reached fits q in
       let o : suc (length d.opens) ≤ 16 = f.0 in omega arith)
-      (λ (t : Stands bytes at (100 ∷ [])).
+      (λ (t : IsAt bytes at (100 ∷ [])).
       let q : Reached bytes (at + 1) (Keyless d.opens []) = reached_text bytes at (at + 1) (100 ∷ []) (Ready d.opens) (Some (Keyless d.opens [])) r (standing bytes at (100 ∷ []) (omega arith) t).1 refl in
       let f : FitsPairs d.opens [] × FitsOpen d.opens = reached_back bytes (at + 1) s (Keyless d.opens []) st (omega arith) reached fits q in
       let o : suc (length d.opens) ≤ 16 = f.0.0 in omega arith)

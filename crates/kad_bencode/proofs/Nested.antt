@@ -9,7 +9,7 @@ use Rattle.std.proofs.lemmas.List.{take_all, map-append}
 use Rattle.std.proofs.Math.Seq.{drop-cons}
 use Rattle.kad_bencode.specs.Keys.{key_cmp, keys_of, put, value_of}
 use Rattle.kad_bencode.specs.Spelling.{string_text, has_key, in_order, put_all, Fits, Spells}
-use Rattle.kad_bencode.specs.Faults.{Open, InList, InPair, Stands, IsFirstFault}
+use Rattle.kad_bencode.specs.Faults.{Open, InList, InPair, IsAt, IsFirstFault}
 use Rattle.kad_bencode.specs.Machine.{Place, AsValue, AsKey, State, Ready, Keyless, Whole, Sign, NoLength, Length, filled, closed, is_digit, is_nonzero, length_begins, step, Reached, FitsPairs, FitsOpen, Awaits, AwaitsInteger, AwaitsString, ReadsValue, ReadsInteger, ReadsString, HasByte, Outcome}
 use Rattle.kad_bencode.specs.declared.entries.Pair.{Pair}
 use Rattle.kad_bencode.specs.declared.value.Value.{Value}
@@ -44,7 +44,7 @@ integer_value bytes at os n next a r = record {
 }
 
 -- a byte that stands at a place
-begun : (bytes : List ℕ) (at b : ℕ) → HasByte bytes at b true → Stands bytes at (b ∷ [])
+begun : (bytes : List ℕ) (at b : ℕ) → HasByte bytes at b true → IsAt bytes at (b ∷ [])
 begun bytes at b h = (drop (suc at) bytes, drop-cons bytes at 0 h.0 ∙ ap (λ x. x ∷ drop (suc at) bytes) h.1)
 
 pub deep_list : (bytes : List ℕ) (at : ℕ) (os : List Open) → Awaits bytes at os → length os ≡ 16 → HasByte bytes at 108 true → IsFirstFault bytes (Deep at)

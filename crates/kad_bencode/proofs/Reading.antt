@@ -7,7 +7,7 @@ use Rattle.std.proofs.lemmas.Int.{to_z-of_z}
 use Rattle.std.proofs.Math.Seq.{drop-append_seam, take-append-add}
 use mir.Val.{SFits, of_z, to_z}
 use Rattle.kad_bencode.specs.Spelling.{numeral, integer_text, string_text, is_i64}
-use Rattle.kad_bencode.specs.Faults.{Open, fronts, Stands, IsFirstFault}
+use Rattle.kad_bencode.specs.Faults.{Open, fronts, IsAt, IsFirstFault}
 use Rattle.kad_bencode.specs.Machine.{Place, AsValue, AsKey, State, Ready, Whole, Sign, Minus, Zero, AwaitsInteger, Digits, NoLength, Length, Body, filled, stored, before, signed, is_digit, is_nonzero, step, run, Reached, FitsOpen, FitsPlace, FitsState, DigitsSoFar, ReadsDigits, sign_state, AwaitsNumber, ReadsInteger, HasByte, HasNumber, AwaitsString, ReadsString}
 use Rattle.kad_bencode.specs.declared.value.Value.{Value}
 use Rattle.kad_bencode.specs.declared.value.Value.TheVariants as value
@@ -122,7 +122,7 @@ number_read bytes at next negative os n end z a d h e i =
     }
 
 -- what comes between two places stands at the first
-pub stands_between : (bytes : List ℕ) (i j : ℕ) (text : List ℕ) → i ≤ length bytes → take j bytes ≡ take i bytes ++ text → Stands bytes i text
+pub stands_between : (bytes : List ℕ) (i j : ℕ) (text : List ℕ) → i ≤ length bytes → take j bytes ≡ take i bytes ++ text → IsAt bytes i text
 stands_between bytes i j text h e =
     let whole : bytes ≡ take i bytes ++ (text ++ drop j bytes) = sym (take-append-drop j bytes) ∙ ap (λ l. l ++ drop j bytes) e ∙ append_assoc (take i bytes) text (drop j bytes) in
     (drop j bytes, ap (λ n. drop n bytes) (sym (length-take-le i bytes h)) ∙ ap (drop (length (take i bytes))) whole ∙ drop-append_seam (take i bytes) (text ++ drop j bytes))

@@ -227,48 +227,48 @@ run_says (b ∷ bs) st s g =
 -- ---- going on
 
 -- a state that some bytes bring to a whole value
-pub record GoesOn (o : Option State) : Type 0 where
+pub record CanBeWhole (o : Option State) : Type 0 where
   pub rest : List ℕ
   pub tree : Value
   pub whole : run o rest ≡ Some (Whole tree)
 
 -- one more byte in front
-after : (st : State) (b : ℕ) → GoesOn (step st b) → GoesOn (Some st)
+after : (st : State) (b : ℕ) → CanBeWhole (step st b) → CanBeWhole (Some st)
 after st b g = record { rest = b ∷ g.rest; tree = g.tree; whole = g.whole }
 
-goes_filled : (os : List Open) (v : Value) → GoesOn (Some (filled os v))
+goes_filled : (os : List Open) (v : Value) → CanBeWhole (Some (filled os v))
 goes_filled [] v = record { rest = []; tree = v; whole = refl }
 goes_filled (InList vs ∷ os) v = after (Ready (InList (vs ++ v ∷ []) ∷ os)) 101 (goes_filled os (value.List (vs ++ v ∷ [])))
 goes_filled (InPair ps key ∷ os) v = after (Keyless os (ps ++ record { key = key; value = v } ∷ [])) 101 (goes_filled os (value.Dict (ps ++ record { key = key; value = v } ∷ [])))
 
-goes_ready : (os : List Open) → GoesOn (Some (Ready os))
+goes_ready : (os : List Open) → CanBeWhole (Some (Ready os))
 goes_ready os = after (Ready os) 48 (after (NoLength (AsValue os)) 58 (goes_filled os (value.Text [])))
 
-goes_stored : (p : Place) (s : List ℕ) → GoesOn (Some (stored p s))
+goes_stored : (p : Place) (s : List ℕ) → CanBeWhole (Some (stored p s))
 goes_stored (AsValue os) s = goes_filled os (value.Text s)
 goes_stored (AsKey os ps) s = goes_ready (InPair ps s ∷ os)
 
-goes_body : (p : Place) (n : ℕ) (s : List ℕ) → 0 < n → GoesOn (Some (Body p n s))
+goes_body : (p : Place) (n : ℕ) (s : List ℕ) → 0 < n → CanBeWhole (Some (Body p n s))
 goes_body p zero s h = absurd (omega arith)
 goes_body p (suc n) s h =
-    let g : GoesOn (Some (stored p (s ++ 0 ∷ replicate n 0))) = goes_stored p (s ++ 0 ∷ replicate n 0) in
+    let g : CanBeWhole (Some (stored p (s ++ 0 ∷ replicate n 0))) = goes_stored p (s ++ 0 ∷ replicate n 0) in
     record {
       rest = (0 ∷ replicate n 0) ++ g.rest;
       tree = g.tree;
       whole = ap (λ m. run (Some (Body p (suc m) s)) ((0 ∷ replicate n 0) ++ g.rest)) (sym (length-replicate n 0)) ∙ body_run p s 0 (replicate n 0) g.rest ∙ g.whole;
     }
 
-pub goes_on : (st : State) → Good st → GoesOn (Some st)
-goes_on (Ready os) g = goes_ready os
-goes_on (Keyless os ps) g = after (Keyless os ps) 101 (goes_filled os (value.Dict ps))
-goes_on (Whole v) g = record { rest = []; tree = v; whole = refl }
-goes_on (Sign os) g = after (Sign os) 48 (after (Zero os) 101 (goes_filled os (value.Int (pos 0))))
-goes_on (Minus os) g = after (Minus os) 49 (after (Digits os true 1) 101 (goes_filled os (value.Int (signed true 1))))
-goes_on (Zero os) g = after (Zero os) 101 (goes_filled os (value.Int (pos 0)))
-goes_on (Digits os s n) g = after (Digits os s n) 101 (goes_filled os (value.Int (signed s n)))
-goes_on (NoLength p) g = after (NoLength p) 58 (goes_stored p [])
-goes_on (Length p n) g = after (Length p n) 58 (goes_body p n [] g)
-goes_on (Body p n s) g = goes_body p n s g
+pub can_be_whole : (st : State) → Good st → CanBeWhole (Some st)
+can_be_whole (Ready os) g = goes_ready os
+can_be_whole (Keyless os ps) g = after (Keyless os ps) 101 (goes_filled os (value.Dict ps))
+can_be_whole (Whole v) g = record { rest = []; tree = v; whole = refl }
+can_be_whole (Sign os) g = after (Sign os) 48 (after (Zero os) 101 (goes_filled os (value.Int (pos 0))))
+can_be_whole (Minus os) g = after (Minus os) 49 (after (Digits os true 1) 101 (goes_filled os (value.Int (signed true 1))))
+can_be_whole (Zero os) g = after (Zero os) 101 (goes_filled os (value.Int (pos 0)))
+can_be_whole (Digits os s n) g = after (Digits os s n) 101 (goes_filled os (value.Int (signed s n)))
+can_be_whole (NoLength p) g = after (NoLength p) 58 (goes_stored p [])
+can_be_whole (Length p n) g = after (Length p n) 58 (goes_body p n [] g)
+can_be_whole (Body p n s) g = goes_body p n s g
 
 -- ---- fronts and texts
 
@@ -282,7 +282,7 @@ run_good bs st h = (run_says bs (Ready []) st tt h).good
 -- some text begins with what the machine takes
 pub begins : (bs : List ℕ) (st : State) → run start bs ≡ Some st → BeginsText bs
 begins bs st h =
-    let g : GoesOn (Some st) = goes_on st (run_good bs st h) in
+    let g : CanBeWhole (Some st) = can_be_whole st (run_good bs st h) in
     (g.rest, (g.tree, run_front (bs ++ g.rest) (Whole g.tree) (run_append start bs g.rest ∙ ap (λ o. run o g.rest) h ∙ g.whole)))
 
 -- what the machine doesn't take begins no text

@@ -4,7 +4,7 @@ use Rattle.std.proofs.lemmas.Bool.{cases_lt}
 use Rattle.std.proofs.lemmas.List.{length-take-le, take_more}
 use Rattle.std.proofs.Math.Seq.{take-append_seam}
 use Rattle.kad_bencode.specs.Spelling.{text_of, integer_text, string_text, pairs_text, put_all}
-use Rattle.kad_bencode.specs.Faults.{Open, InList, InPair, pairs_of, BeginsText, Stands, IsFirstFault, IsTooBig, IsTwice}
+use Rattle.kad_bencode.specs.Faults.{Open, InList, InPair, pairs_of, BeginsText, IsAt, IsFirstFault, IsTooBig, IsTwice}
 use Rattle.kad_bencode.specs.Machine.{Place, AsValue, AsKey, State, Ready, Keyless, Whole, filled, stored, before, step, run, start, Reached, FitsState, HasByte, AwaitsString, AwaitsInteger}
 use Rattle.kad_bencode.specs.declared.entries.Pair.{Pair}
 use Rattle.kad_bencode.specs.declared.value.Value.{Value}
@@ -64,7 +64,7 @@ module _ (bytes : List ℕ) (t : Value) (b : Begins bytes t) where
   no_inside (Deep at) f i =
       let l = late (Deep at) f in
       let same : f.seen ≡ at = f.here.1 in
-      let k : at < length bytes = ⊎_elim (λ (s : Stands bytes at (108 ∷ [])). (standing bytes at (108 ∷ []) (omega arith) s).0) (λ (s : Stands bytes at (100 ∷ [])). (standing bytes at (100 ∷ []) (omega arith) s).0) f.here.0.begins in
+      let k : at < length bytes = ⊎_elim (λ (s : IsAt bytes at (108 ∷ [])). (standing bytes at (108 ∷ []) (omega arith) s).0) (λ (s : IsAt bytes at (100 ∷ [])). (standing bytes at (100 ∷ []) (omega arith) s).0) f.here.0.begins in
       not_ready at f.here.0.opens (omega arith) (omega (arith, l, same)) (front_reached bytes at f.here.0.opens f.here.0.front)
   no_inside (NumberTooBig at) f i =
       let l = late (NumberTooBig at) f in
@@ -78,7 +78,7 @@ module _ (bytes : List ℕ) (t : Value) (b : Begins bytes t) where
       let p = not_past (at + length (integer_text d.number)) (filled d.opens (value.Int d.number)) w q in
       omega (arith, l, p, last)
     where
-      stands_in : (at : ℕ) (text : List ℕ) → 0 < length text → Stands bytes at text → at + length text ≤ length bytes
+      stands_in : (at : ℕ) (text : List ℕ) → 0 < length text → IsAt bytes at text → at + length text ≤ length bytes
       stands_in at text h s = omega (arith, length-drop at bytes, ap length s.1, length-append text s.0)
   no_inside (KeyTwice at) f i =
       let l = late (KeyTwice at) f in
@@ -93,7 +93,7 @@ module _ (bytes : List ℕ) (t : Value) (b : Begins bytes t) where
       let p = not_past (at + length (string_text d.key)) (Ready (InPair d.pairs d.key ∷ d.opens)) w q in
       omega (arith, l, p, last)
     where
-      stands_in : (at : ℕ) (text : List ℕ) → 0 < length text → Stands bytes at text → at + length text ≤ length bytes
+      stands_in : (at : ℕ) (text : List ℕ) → 0 < length text → IsAt bytes at text → at + length text ≤ length bytes
       stands_in at text h s = omega (arith, length-drop at bytes, ap length s.1, length-append text s.0)
   no_inside (Trailing at) f i = i
 

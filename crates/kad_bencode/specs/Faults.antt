@@ -35,8 +35,8 @@ fronts [] = []
 fronts (o ∷ os) = fronts os ++ front_of o
 
 -- the bytes go on so from a place
-abbrev pub Stands : List ℕ → ℕ → List ℕ → Type 0
-Stands bytes at text = (rest : List ℕ) × (drop at bytes ≡ text ++ rest)
+abbrev pub IsAt : List ℕ → ℕ → List ℕ → Type 0
+IsAt bytes at text = (rest : List ℕ) × (drop at bytes ≡ text ++ rest)
 
 -- the longest front that some text begins with ends here, and isn't a whole text
 pub record IsNotBencode (bytes : List ℕ) (at : ℕ) : Type 0 where
@@ -50,14 +50,14 @@ pub record IsDeep (bytes : List ℕ) (at : ℕ) : Type 0 where
   pub opens : List Open
   pub front : take at bytes ≡ fronts opens
   pub many : length opens ≡ 16
-  pub begins : Stands bytes at (108 ∷ []) ⊎ Stands bytes at (100 ∷ [])
+  pub begins : IsAt bytes at (108 ∷ []) ⊎ IsAt bytes at (100 ∷ [])
 
 -- an integer that isn't of 64 bits stands where a value may begin, and its last byte is at `seen`
 pub record IsTooBig (bytes : List ℕ) (at : ℕ) (seen : ℕ) : Type 0 where
   pub opens : List Open
   pub front : take at bytes ≡ fronts opens
   pub number : ℤ
-  pub stands : Stands bytes at (integer_text number)
+  pub stands : IsAt bytes at (integer_text number)
   pub last : at + length (integer_text number) ≡ seen + 1
   pub big : is_i64 number ≡ false
 
@@ -67,7 +67,7 @@ pub record IsTwice (bytes : List ℕ) (at : ℕ) (seen : ℕ) : Type 0 where
   pub pairs : List (Pair Value)
   pub front : take at bytes ≡ fronts opens ++ 100 ∷ pairs_text (pairs_of pairs)
   pub key : List ℕ
-  pub stands : Stands bytes at (string_text key)
+  pub stands : IsAt bytes at (string_text key)
   pub last : at + length (string_text key) ≡ seen + 1
   pub twice : has_key (keys_of pairs) key ≡ true
 

@@ -4,14 +4,14 @@ use Rattle.std.specs.declared.cmp.Ordering.TheVariants.{Greater}
 use Rattle.std.specs.List.Sorted.{IsStrictlySortedBy}
 use Rattle.kad_bencode.specs.Keys.{key_cmp}
 use Rattle.kad_bencode.specs.Spelling.{string_text, has_key}
-use Rattle.kad_bencode.specs.Faults.{Stands}
+use Rattle.kad_bencode.specs.Faults.{IsAt}
 
 -- the texts of these keys stand at these places, one each
 abbrev pub AreAt : List ℕ → List ℕ → List (List ℕ) → Type 0
 AreAt bytes [] [] = Unit {0}
 AreAt bytes [] (k ∷ ks) = ⊥
 AreAt bytes (p ∷ ps) [] = ⊥
-AreAt bytes (p ∷ ps) (k ∷ ks) = Stands bytes p (string_text k) × AreAt bytes ps ks
+AreAt bytes (p ∷ ps) (k ∷ ks) = IsAt bytes p (string_text k) × AreAt bytes ps ks
 
 -- each of the keys is filed under its place, and each key that is filed is below those after it
 pub record Files (bytes places : List ℕ) (keys : List (List ℕ)) : Type 0 where

@@ -4,7 +4,7 @@ ghost use Rattle.std.specs.Prelude.{◌≡◌, ◌↔◌, ℕ, ◌+◌, ◌-◌,
 ghost use Rattle.std.specs.List.{insert};
 ghost use Rattle.kad_bencode.specs.Keys.{keys_of, key_cmp};
 ghost use Rattle.kad_bencode.specs.Spelling.{has_key, string_text};
-ghost use Rattle.kad_bencode.specs.Faults.{Stands};
+ghost use Rattle.kad_bencode.specs.Faults.{IsAt};
 ghost use Rattle.kad_bencode.specs.Finding.{ArePairs, IsAbove};
 ghost use Rattle.kad_bencode.specs.Filing.{AreAt, AreFiled, IsBehind, IsBefore};
 ghost use Rattle.kad_bencode.specs.declared.entries.Pair.{Pair};
@@ -29,7 +29,7 @@ pub(crate) fn is_above(a: &[u8], b: &[u8]) -> bool
 
 /// The key whose text stands at a place.
 fn key_at(bytes: &[u8], place: usize) -> &[u8]
-    ensures { (key : List ℕ) → Stands bytes.now place (string_text key) → result.now ≡ key }
+    ensures { (key : List ℕ) → IsAt bytes.now place (string_text key) → result.now ≡ key }
 {
     if place >= bytes.len() {
         return &bytes[..0];
@@ -100,7 +100,7 @@ pub(crate) fn file(
     key: &[u8],
 ) -> usize
     ensures files { (keys : List (List ℕ)) → AreFiled bytes.now count places.old keys
-        → Stands bytes.now at (string_text key.now)
+        → IsAt bytes.now at (string_text key.now)
         → AreFiled bytes.now result places.new (keys ++ key.now ∷ []) }
     ensures new { (keys : List (List ℕ)) → AreFiled bytes.now count places.old keys
         → result ≤ 768 → has_key keys key.now ≡ false }

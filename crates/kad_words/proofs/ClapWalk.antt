@@ -207,20 +207,20 @@ module _ (s : Shape) (names : List Word) (never : s.args_override_self ≡ false
       rw (p.0, p.1, p.2) refl
 
   -- the rows once what is pending is settled, which passes
-  abbrev Stands : List Row → Held → Type 0
-  Stands rs h = (settled_rows s.rules h.pending h.rows ≡ rs) × (settle_passes s.rules false h ≡ true)
+  abbrev IsHeldAs : List Row → Held → Type 0
+  IsHeldAs rs h = (settled_rows s.rules h.pending h.rows ≡ rs) × (settle_passes s.rules false h ≡ true)
 
-  stands_next : (rs : List Row) (h : Held) (name value : Word) → Stands rs h → has_row name rs ≡ false → has names name ≡ true → Stands (rs ++ row name value ∷ []) (held_after h name value)
+  stands_next : (rs : List Row) (h : Held) (name value : Word) → IsHeldAs rs h → has_row name rs ≡ false → has names name ≡ true → IsHeldAs (rs ++ row name value ∷ []) (held_after h name value)
   stands_next rs h name value st new k =
       let a = ids name k in (
         rw a (ap (used (full name) (value ∷ [])) st.0 ∙ used_once name value rs new),
         rw (a, st.0, new) refl,
       )
 
-  pub walks : (pairs : List (Word × Word)) (h : Held) (rs : List Row) → Stands rs h → New rs pairs → Fine names pairs
-      → (h' : Held) × (fold (walked s.rules []) (walk_from h) (pair_words pairs) ≡ walk_from h') × Stands (rs ++ rows pairs) h' × (walk_passes s [] (walk_from h) (pair_words pairs) ≡ true)
+  pub walks : (pairs : List (Word × Word)) (h : Held) (rs : List Row) → IsHeldAs rs h → New rs pairs → Fine names pairs
+      → (h' : Held) × (fold (walked s.rules []) (walk_from h) (pair_words pairs) ≡ walk_from h') × IsHeldAs (rs ++ rows pairs) h' × (walk_passes s [] (walk_from h) (pair_words pairs) ≡ true)
   unfolding walk_passes
-  walks [] h rs st new fine = (h, refl, subst (λ (l : List Row). Stands l h) (sym (append-nil rs)) st, refl)
+  walks [] h rs st new fine = (h, refl, subst (λ (l : List Row). IsHeldAs l h) (sym (append-nil rs)) st, refl)
   walks (p ∷ pairs) h rs st new fine =
       let named = no_dashes p.0 fine.1 in
       let long = long_name p.0 fine.1 in
@@ -232,7 +232,7 @@ module _ (s : Shape) (names : List Word) (never : s.args_override_self ≡ false
       let second = value_turn h p.0 p.1 fine.2 fine.0 in (
         rest.0,
         ap (λ (w : Walk). fold (walked s.rules []) w (pair_words pairs)) both ∙ rest.1,
-        subst (λ (l : List Row). Stands l rest.0) (append_assoc rs (row p.0 p.1 ∷ []) (rows pairs)) rest.2,
+        subst (λ (l : List Row). IsHeldAs l rest.0) (append_assoc rs (row p.0 p.1 ∷ []) (rows pairs)) rest.2,
         ap₂ (λ (x y : Bool). x && y) first
             (ap₂ (λ (x y : Bool). x && y) (ap (λ (w : Walk). turn_passes s [] w p.1) one ∙ second) (ap (λ (w : Walk). walk_passes s [] w (pair_words pairs)) both ∙ rest.3)),
       )

@@ -11,7 +11,7 @@ use Rattle.query_book.specs.declared.Query.{Query}
 use Rattle.query_book.specs.Queries.{HasId, IsFirstFree}
 use Rattle.claim_book.specs.declared.plain.Entry.{Entry}
 use Rattle.lookup_run.specs.declared.reply.Reply.{Reply}
-use Rattle.lookup_run.specs.Tells.{Given, OpenQuery, Seen, query_of, deadline_of, SentGives, SaysTo, Replies, MatchGives, GotGives, IsStray, is_overdue, open_at, goes_on, after_stray, Gives, TellsFrom, begun, TellsSoFar, EndsAtStray}
+use Rattle.lookup_run.specs.Tells.{Given, OpenQuery, Seen, query_of, deadline_of, SentGives, SaysTo, Replies, MatchGives, GotGives, IsStray, is_overdue, open_at, receives_seen, after_stray, Gives, TellsFrom, begun, TellsSoFar, EndsAtStray}
 use Rattle.lookup_run.proofs.Driven.{map_push}
 use Rattle.lookup_run.proofs.OnceEvents.{Apart, apart_gives, small_there, one_query, reply_once}
 
@@ -75,12 +75,12 @@ open_bare at (q ∷ qs) = elim (is_overdue at q) as (λ b. map bare (cond (not b
 open_alike : (at : ℕ) (qs rs : List OpenQuery) → map bare qs ≡ map bare rs → map bare (open_at at qs) ≡ map bare (open_at at rs)
 open_alike at qs rs e = open_bare at qs ∙ ap (open_at at) e ∙ sym (open_bare at rs)
 
-goes_bare : (n : ℕ) (qs : List OpenQuery) → goes_on n qs ≡ goes_on n (map bare qs)
+goes_bare : (n : ℕ) (qs : List OpenQuery) → receives_seen n qs ≡ receives_seen n (map bare qs)
 goes_bare n [] = refl
 goes_bare n (q ∷ qs) = refl
 
-goes_alike : (n m : ℕ) (qs rs : List OpenQuery) → n ≡ m → map bare qs ≡ map bare rs → goes_on n qs ≡ goes_on m rs
-goes_alike n m qs rs e f = goes_bare n qs ∙ ap (goes_on n) f ∙ ap (λ k. goes_on k (map bare rs)) e ∙ sym (goes_bare m rs)
+goes_alike : (n m : ℕ) (qs rs : List OpenQuery) → n ≡ m → map bare qs ≡ map bare rs → receives_seen n qs ≡ receives_seen m rs
+goes_alike n m qs rs e f = goes_bare n qs ∙ ap (receives_seen n) f ∙ ap (λ k. receives_seen k (map bare rs)) e ∙ sym (goes_bare m rs)
 
 -- ---- who replied
 

@@ -30,12 +30,12 @@ use Rattle.claim_book.proofs.More.{asked_more, path_more, legal_more}
 use Rattle.claim_book.proofs.Bounds.{asked_few}
 use Rattle.claim_book.proofs.Claims.{may_ask_says, may_ask_on_path, among_right}
 use Rattle.lookup_run.specs.declared.plain.LookSetting.{LookSetting}
-use Rattle.lookup_run.specs.declared.plain.Stand.{Stand}
+use Rattle.lookup_run.specs.declared.plain.Progress.{Progress}
 use Rattle.lookup_run.specs.declared.plain.Work.{Work}
 use Rattle.lookup_run.specs.Tells.{OpenQuery, Seen, driven, gives, deadline_of, query_message, query_of}
 use Rattle.lookup_run.specs.Rounds.{path_number, AllSettled, NoneAsks}
 use Rattle.lookup_run.specs.Lookup.{setting_of, given_of, drawn_for, IsWithinLimits}
-use Rattle.lookup_run.specs.Standing.{as_open, IsBare, Keeps, HasWords, max_asks, weight_of, Stands}
+use Rattle.lookup_run.specs.Between.{as_open, IsBare, Keeps, HasWords, max_asks, weight_of, KeepsSeen}
 use Rattle.lookup_run.specs.Steps.{Asks, AsksNone}
 use Rattle.lookup_run.proofs.Walking.{OneEvent, NextStep, along_next, along_later, table_same}
 use Rattle.lookup_run.proofs.Opens.{opens_ask, opens_lost, opens_kept, each_asked, asker_new, without_one, opens_distinct}
@@ -46,7 +46,7 @@ use Rattle.lookup_run.proofs.Driven.{driven_more, keeps_none, query_back, map_pu
 -- nothing but the book and the open queries changed
 pub record SameRest (old new : Work) : Type 0 where
   pub table : new.table ≡ old.table
-  pub stand : new.stand ≡ old.stand
+  pub progress : new.progress ≡ old.progress
   pub gathered : new.gathered ≡ old.gathered
 
 -- what an ask depends on
@@ -55,7 +55,7 @@ pub record Asking (look : LookSetting) (p : ℕ) (c : Contact) (tx : ℕ) (words
   pub path : p < look.paths
   pub keeps : Keeps look old
   pub has_words : HasWords words old.book.journal
-  pub round_over : old.stand.receives ≡ 0
+  pub round_over : old.progress.receives ≡ 0
   pub settled : AllSettled look.paths old.book.journal
   pub none_below : NoneAsks (setting_of look) p old.book.journal
   pub legal : Legal (setting_of look) old.book.journal
@@ -67,7 +67,7 @@ abbrev query_bytes : LookSetting → ℕ → List ℕ
 query_bytes look tx = form (query_message look.kind look.own look.target tx)
 
 abbrev the_query : LookSetting → Contact → ℕ → Work → Query
-the_query look c tx old = record { tx = tx; contact = c; deadline = deadline_of old.stand.moment look.timeout }
+the_query look c tx old = record { tx = tx; contact = c; deadline = deadline_of old.progress.moment look.timeout }
 
 ask_counts : (p : ℕ) (J : List Entry) (c : Contact) → length (asked (J ++ Ask p c ∷ [])) ≡ length (asked J) + 1
 ask_counts p J c = ap length (asked_more J (Ask p c)) ∙ length-append (asked J) (c ∷ [])
@@ -88,7 +88,7 @@ drawn_more words words' start J J' next one is =
     let place : words.place + 1 ≡ start.place + length (asked J') = (let p = ap (λ (w : WordsState). w.place) is in omega (arith, p, one)) in
     next ∙ ap (λ n. record { seed = words.seed; place = n }) place ∙ ap (λ (w : WordsState). record { seed = w.seed; place = start.place + length (asked J') }) is
 
-id_of : (look : LookSetting) (p : ℕ) (c : Contact) (tx : ℕ) (words words' start : WordsState) (old : Work) (s : Seen) → Asking look p c tx words words' old → words ≡ drawn_for start old.book.journal → Stands (given_of look start) old words.place s
+id_of : (look : LookSetting) (p : ℕ) (c : Contact) (tx : ℕ) (words words' start : WordsState) (old : Work) (s : Seen) → Asking look p c tx words words' old → words ≡ drawn_for start old.book.journal → KeepsSeen (given_of look start) old words.place s
     → IsFirstFree (map query_of s.queries) (word start.seed (start.place + s.sends)) tx
 id_of look p c tx words words' start old s a is st =
     let J = old.book.journal in
@@ -98,7 +98,7 @@ id_of look p c tx words words' start old s a is st =
 
 -- the query is open
 sent_event : (look : LookSetting) (p : ℕ) (c : Contact) (tx : ℕ) (words words' start : WordsState) (old new : Work) (s : Seen) → Asking look p c tx words words' old → SameRest old new → new.book ≡ added old.book (Ask p c) → new.queries ≡ old.queries ++ the_query look c tx old ∷ []
-    → words ≡ drawn_for start old.book.journal → Stands (given_of look start) old words.place s → AllByRecursion (λ (x : Entry). path_number x ≤ p) s.since → OneEvent (given_of look start) old new (Ask p c ∷ []) words'.place p s (Sent c.addr (query_bytes look tx))
+    → words ≡ drawn_for start old.book.journal → KeepsSeen (given_of look start) old words.place s → AllByRecursion (λ (x : Entry). path_number x ≤ p) s.since → OneEvent (given_of look start) old new (Ask p c ∷ []) words'.place p s (Sent c.addr (query_bytes look tx))
 sent_event look p c tx words words' start old new s a rest book queries is st asc =
     let J = old.book.journal in
     let J' = J ++ Ask p c ∷ [] in
@@ -106,7 +106,7 @@ sent_event look p c tx words words' start old new s a rest book queries is st as
     let q = the_query look c tx old in
     let oq : OpenQuery = record { path = p; contact = c; tx = tx; deadline = deadline_of s.moment look.timeout } in
     let after : Seen = record (gives s (Ask p c ∷ [])) { queries = s.queries ++ oq ∷ []; sends = s.sends + 1 } in
-    let new_path : as_open J' q ≡ oq = ap (λ n. record { path = n; contact = c; tx = tx; deadline = deadline_of old.stand.moment look.timeout }) (asker_new p J c (may_ask_says (setting_of look) p J c a.may).new)
+    let new_path : as_open J' q ≡ oq = ap (λ n. record { path = n; contact = c; tx = tx; deadline = deadline_of old.progress.moment look.timeout }) (asker_new p J c (may_ask_says (setting_of look) p J c a.may).new)
     ∙ ap (λ m. record { path = p; contact = c; tx = tx; deadline = deadline_of m look.timeout }) (sym st.moment) in
     let opens : s.queries ++ oq ∷ [] ≡ map (as_open new.book.journal) new.queries =
     ap (λ l. l ++ oq ∷ []) (st.queries ∙ sym (opens_kept J (Ask p c ∷ []) old.queries (each_asked J old.queries a.keeps.is_open))) ∙ ap (λ x. map (as_open J') old.queries ++ x ∷ []) (sym new_path)
@@ -117,11 +117,11 @@ sent_event look p c tx words words' start old new s a rest book queries is st as
       given = refl;
       in_turn = record { path = p; contact = c; rest = []; asks = refl; begins = st.receives ∙ a.round_over; settled = a.settled; none_before = a.none_below; ascends = asc };
       stands = record {
-        moment = st.moment ∙ ap (λ (x : Stand). x.moment) (sym rest.stand);
+        moment = st.moment ∙ ap (λ (x : Progress). x.moment) (sym rest.progress);
         queries = opens;
         sends = (let h = st.sends in let d = ap (λ (w : WordsState). w.place) a.drawn in omega (arith, h, d));
-        strays = st.strays ∙ ap (λ (x : Stand). x.strays) (sym rest.stand);
-        receives = st.receives ∙ ap (λ (x : Stand). x.receives) (sym rest.stand);
+        strays = st.strays ∙ ap (λ (x : Progress). x.strays) (sym rest.progress);
+        receives = st.receives ∙ ap (λ (x : Progress). x.receives) (sym rest.progress);
         given = ap (λ l. l ++ Ask p c ∷ []) st.given ∙ sym (driven_more J (Ask p c) refl) ∙ ap driven (sym journal);
       };
       ascends = all_push (λ (x : Entry). path_number x ≤ p) s.since (Ask p c) asc (omega arith);
@@ -146,7 +146,7 @@ sent_step look p c tx words words' old new a rest book queries =
 
 -- it could not be sent
 unsent_event : (look : LookSetting) (p : ℕ) (c : Contact) (tx : ℕ) (words words' start : WordsState) (old new : Work) (s : Seen) → Asking look p c tx words words' old → SameRest old new → new.book ≡ added (added old.book (Ask p c)) (Lost p c SendFault) → new.queries ≡ old.queries
-    → words ≡ drawn_for start old.book.journal → Stands (given_of look start) old words.place s → AllByRecursion (λ (x : Entry). path_number x ≤ p) s.since → OneEvent (given_of look start) old new (Ask p c ∷ Lost p c SendFault ∷ []) words'.place p s (Unsent c.addr (query_bytes look tx))
+    → words ≡ drawn_for start old.book.journal → KeepsSeen (given_of look start) old words.place s → AllByRecursion (λ (x : Entry). path_number x ≤ p) s.since → OneEvent (given_of look start) old new (Ask p c ∷ Lost p c SendFault ∷ []) words'.place p s (Unsent c.addr (query_bytes look tx))
 unsent_event look p c tx words words' start old new s a rest book queries is st asc =
     let J = old.book.journal in
     let J' = (J ++ Ask p c ∷ []) ++ Lost p c SendFault ∷ [] in
@@ -161,11 +161,11 @@ unsent_event look p c tx words words' start old new s a rest book queries is st 
       given = refl;
       in_turn = record { path = p; contact = c; rest = Lost p c SendFault ∷ []; asks = refl; begins = st.receives ∙ a.round_over; settled = a.settled; none_before = a.none_below; ascends = asc };
       stands = record {
-        moment = st.moment ∙ ap (λ (x : Stand). x.moment) (sym rest.stand);
+        moment = st.moment ∙ ap (λ (x : Progress). x.moment) (sym rest.progress);
         queries = opens;
         sends = (let h = st.sends in let d = ap (λ (w : WordsState). w.place) a.drawn in omega (arith, h, d));
-        strays = st.strays ∙ ap (λ (x : Stand). x.strays) (sym rest.stand);
-        receives = st.receives ∙ ap (λ (x : Stand). x.receives) (sym rest.stand);
+        strays = st.strays ∙ ap (λ (x : Progress). x.strays) (sym rest.progress);
+        receives = st.receives ∙ ap (λ (x : Progress). x.receives) (sym rest.progress);
         given = ap (λ l. l ++ Ask p c ∷ Lost p c SendFault ∷ []) st.given ∙ sym (append_assoc (driven J) (Ask p c ∷ []) (Lost p c SendFault ∷ [])) ∙ ap (λ l. l ++ Lost p c SendFault ∷ []) (sym (driven_more J (Ask p c) refl)) ∙ sym (driven_more (J ++ Ask p c ∷ []) (Lost p c SendFault) refl) ∙ ap driven (sym journal);
       };
       ascends = subst (AllByRecursion (λ (x : Entry). path_number x ≤ p)) (append_assoc s.since (Ask p c ∷ []) (Lost p c SendFault ∷ []))
@@ -212,24 +212,24 @@ sent_asks look p c tx words words' old new told told' a rest book queries grows 
     let one : length (asked new.book.journal) ≡ length (asked J) + 1 = ap (λ K. length (asked K)) journal ∙ ask_counts p J c in
     let few : length (asked new.book.journal) ≤ max_asks = subst (λ K. length (asked K) ≤ max_asks) (sym journal) (few_asks look J' a.limits (legal_more (setting_of look) J (Ask p c) a.legal a.may)) in
     let longer : length new.queries ≡ length old.queries + 1 = ap length queries ∙ length-append old.queries (q ∷ []) in
-    let same_strays : new.stand.strays ≡ old.stand.strays = ap (λ (x : Stand). x.strays) rest.stand in
+    let same_strays : new.progress.strays ≡ old.progress.strays = ap (λ (x : Progress). x.strays) rest.progress in
     let less : weight_of new < weight_of old = omega (arith, one, few, longer, same_strays) in
-    let same_deadline : deadline_of new.stand.moment look.timeout ≡ deadline_of old.stand.moment look.timeout = ap (λ (x : Stand). deadline_of x.moment look.timeout) rest.stand in (
+    let same_deadline : deadline_of new.progress.moment look.timeout ≡ deadline_of old.progress.moment look.timeout = ap (λ (x : Progress). deadline_of x.moment look.timeout) rest.progress in (
       record {
         keeps = record {
           setting = ap (λ (b : BookState). b.setting) book ∙ k.setting;
           is_open = ap (map (λ (x : Query). x.contact)) queries ∙ map_push (λ (x : Query). x.contact) old.queries q ∙ ap (λ l. l ++ c ∷ []) k.is_open ∙ sym (opens_ask (setting_of look) p J c a.legal a.may) ∙ ap open_any (sym journal);
           ids = subst (AllByRecursion (λ (x : Query). x.tx < 2 ^ 32)) (sym queries) (all_push (λ (x : Query). x.tx < 2 ^ 32) old.queries q k.ids (small_id old.queries (word words.seed words.place) tx a.id));
           deadlines = subst (λ d. AllByRecursion (λ (x : Query). x.deadline ≤ d) new.queries) (sym same_deadline)
-              (subst (AllByRecursion (λ (x : Query). x.deadline ≤ deadline_of old.stand.moment look.timeout)) (sym queries) (all_push (λ (x : Query). x.deadline ≤ deadline_of old.stand.moment look.timeout) old.queries q k.deadlines (omega arith)));
+              (subst (AllByRecursion (λ (x : Query). x.deadline ≤ deadline_of old.progress.moment look.timeout)) (sym queries) (all_push (λ (x : Query). x.deadline ≤ deadline_of old.progress.moment look.timeout) old.queries q k.deadlines (omega arith)));
           few_strays = (let n = k.few_strays in omega (arith, n, same_strays));
-          few_receives = (let n = k.few_receives in let e = ap (λ (x : Stand). x.receives) rest.stand in omega (arith, n, e));
+          few_receives = (let n = k.few_receives in let e = ap (λ (x : Progress). x.receives) rest.progress in omega (arith, n, e));
           no_peers = λ e. subst IsBare (sym rest.gathered) (k.no_peers e);
         };
         has_words = (let h = a.has_words in let d = ap (λ (w : WordsState). w.place) a.drawn in omega (arith, h, d, one));
         settled = subst (AllSettled look.paths) (sym journal) (all_settled look p J c a.legal a.settled);
         none_below = subst (NoneAsks (setting_of look) p) (sym journal) (none_ask look p J c a.none_below);
-        stand = rest.stand;
+        progress = rest.progress;
         lighter = omega (arith, less);
         goes = λ b. along_next look words words' old new b b p p (Sent c.addr (query_bytes look tx)) told told' (sent_step look p c tx words words' old new a rest book queries) grows;
       },
@@ -261,24 +261,24 @@ unsent_asks look p c tx words words' old new told told' a rest book queries grow
     let one : length (asked new.book.journal) ≡ length (asked J) + 1 = ap (λ K. length (asked K)) journal ∙ lost_counts p p J c c in
     let few : length (asked new.book.journal) ≤ max_asks = (let x = few_asks look J1 a.limits l1 in let y = ask_counts p J c in omega (arith, x, y, one)) in
     let same_queries : length new.queries ≡ length old.queries = ap length queries in
-    let same_strays : new.stand.strays ≡ old.stand.strays = ap (λ (x : Stand). x.strays) rest.stand in
+    let same_strays : new.progress.strays ≡ old.progress.strays = ap (λ (x : Progress). x.strays) rest.progress in
     let less : weight_of new < weight_of old = omega (arith, one, few, same_queries, same_strays) in
-    let same_deadline : deadline_of new.stand.moment look.timeout ≡ deadline_of old.stand.moment look.timeout = ap (λ (x : Stand). deadline_of x.moment look.timeout) rest.stand in (
+    let same_deadline : deadline_of new.progress.moment look.timeout ≡ deadline_of old.progress.moment look.timeout = ap (λ (x : Progress). deadline_of x.moment look.timeout) rest.progress in (
       record {
         keeps = record {
           setting = ap (λ (b : BookState). b.setting) book ∙ k.setting;
           is_open = ap (map (λ (x : Query). x.contact)) queries ∙ k.is_open ∙ sym (opens_back (setting_of look) p J c a.legal a.may) ∙ ap open_any (sym journal);
           ids = subst (AllByRecursion (λ (x : Query). x.tx < 2 ^ 32)) (sym queries) k.ids;
           deadlines = subst (λ d. AllByRecursion (λ (x : Query). x.deadline ≤ d) new.queries) (sym same_deadline)
-              (subst (AllByRecursion (λ (x : Query). x.deadline ≤ deadline_of old.stand.moment look.timeout)) (sym queries) k.deadlines);
+              (subst (AllByRecursion (λ (x : Query). x.deadline ≤ deadline_of old.progress.moment look.timeout)) (sym queries) k.deadlines);
           few_strays = (let n = k.few_strays in omega (arith, n, same_strays));
-          few_receives = (let n = k.few_receives in let e = ap (λ (x : Stand). x.receives) rest.stand in omega (arith, n, e));
+          few_receives = (let n = k.few_receives in let e = ap (λ (x : Progress). x.receives) rest.progress in omega (arith, n, e));
           no_peers = λ e. subst IsBare (sym rest.gathered) (k.no_peers e);
         };
         has_words = (let h = a.has_words in let d = ap (λ (w : WordsState). w.place) a.drawn in omega (arith, h, d, one));
         settled = subst (AllSettled look.paths) (sym journal) (λ q lt. settled_after_lost (setting_of look) p q J1 c SendFault l1 ∙ all_settled look p J c a.legal a.settled q lt);
         none_below = subst (NoneAsks (setting_of look) p) (sym journal) (λ q lt. none_after_lost (setting_of look) p q J1 c SendFault l1 on (λ e. absurd (omega (arith, lt, e))) (none_ask look p J c a.none_below q lt));
-        stand = rest.stand;
+        progress = rest.progress;
         lighter = omega (arith, less);
         goes = λ b. along_next look words words' old new b b p p (Unsent c.addr (query_bytes look tx)) told told' (unsent_step look p c tx words words' old new a rest book queries) grows;
       },
@@ -286,7 +286,7 @@ unsent_asks look p c tx words words' old new told told' a rest book queries grow
     )
 
 -- what the book said is an ask of the lookup
-pub asking_of : (look : LookSetting) (p : ℕ) (c : Contact) (tx : ℕ) (words words' : WordsState) (old : Work) → IsWithinLimits look → p < look.paths → Keeps look old → HasWords words old.book.journal → old.stand.receives ≡ 0 → AllSettled look.paths old.book.journal → NoneAsks (setting_of look) p old.book.journal
+pub asking_of : (look : LookSetting) (p : ℕ) (c : Contact) (tx : ℕ) (words words' : WordsState) (old : Work) → IsWithinLimits look → p < look.paths → Keeps look old → HasWords words old.book.journal → old.progress.receives ≡ 0 → AllSettled look.paths old.book.journal → NoneAsks (setting_of look) p old.book.journal
     → Legal old.book.setting old.book.journal → Some c ≡ may_ask old.book.setting p old.book.journal → IsFirstFree old.queries (word words.seed words.place) tx → words' ≡ record words { place = words.place + 1 } → Asking look p c tx words words' old
 asking_of look p c tx words words' old limits lt keeps has begins settled none l may id drawn = record {
   limits = limits;
@@ -362,7 +362,7 @@ asks_not look p words work told keeps has settled none = record {
   has_words = has;
   settled = settled;
   none_below = none;
-  stand = refl;
+  progress = refl;
   lighter = omega arith;
   goes = λ b manner start table began h. h;
 }
@@ -377,7 +377,7 @@ asks_then look p q r words words' words'' old mid new a b c h k = record {
   has_words = k.has_words;
   settled = k.settled;
   none_below = k.none_below;
-  stand = k.stand ∙ h.stand;
+  progress = k.progress ∙ h.progress;
   lighter = (let x = h.lighter in let y = k.lighter in omega (arith, x, y));
   goes = λ d manner start table began x. k.goes d manner start table began (h.goes d manner start table began x);
 }
@@ -391,7 +391,7 @@ asks_over look p words words' words'' old mid new a b c h k =
       has_words = h.has_words;
       settled = h.settled;
       none_below = none;
-      stand = h.stand;
+      progress = h.progress;
       lighter = h.lighter;
       goes = λ d manner start table began x. along_later manner look start table began words' mid d p (p + 1) b (omega arith) (h.goes d manner start table began x);
     } in

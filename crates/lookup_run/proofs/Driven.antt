@@ -11,7 +11,7 @@ use Rattle.lookup_run.specs.declared.plain.AskKind.{AskKind}
 use Rattle.lookup_run.specs.declared.plain.AskKind.TheVariants.{FindNode, GetPeers}
 use Rattle.lookup_run.specs.declared.plain.Gathered.{Gathered}
 use Rattle.lookup_run.specs.Tells.{is_driven, driven, query_of}
-use Rattle.lookup_run.specs.Standing.{as_open}
+use Rattle.lookup_run.specs.Between.{as_open}
 use Rattle.lookup_run.specs.Steps.{KeepsFor}
 
 pub driven_append : (J K : List Entry) → driven (J ++ K) ≡ driven J ++ driven K

@@ -20,7 +20,7 @@ use Rattle.lookup_run.specs.Tells.{Given, Seen, TellsFrom, TellsSoFar, IsStray, 
 use Rattle.lookup_run.specs.Rounds.{Manner}
 use Rattle.lookup_run.specs.Gathered.{Answered}
 use Rattle.lookup_run.specs.Lookup.{setting_of, given_of, TellsEarly, Told, TableToldBy, TableRan}
-use Rattle.lookup_run.specs.Standing.{as_open, Walk, Shows}
+use Rattle.lookup_run.specs.Between.{as_open, Walk, Shows}
 use Rattle.lookup_run.specs.Steps.{Stops, EndsByStray}
 
 pub tells_of : (manner : Manner) (g : Given) (J P : List Entry) (s : Seen) (es : List Event) (t : Seen) (Q : List Entry) (heard : List Answered) → Walk manner g J P s es t Q heard → TellsFrom g J s es t
@@ -61,7 +61,7 @@ stops_of look words old new told told' legal table grows manner start from began
 }
 
 -- the last stray that a lookup takes
-pub ends_by_stray : (look : LookSetting) (words : WordsState) (old : Work) (told told' : Option (List Event)) (source : Addr) (bytes : List ℕ) (until at : ℕ) → ((s : Seen) → s.queries ≡ map (as_open old.book.journal) old.queries → IsStray s source bytes) → Grows told told' (λ es. es ≡ Got source bytes until at ∷ []) → old.stand.strays + 1 ≡ max_strays
+pub ends_by_stray : (look : LookSetting) (words : WordsState) (old : Work) (told told' : Option (List Event)) (source : Addr) (bytes : List ℕ) (until at : ℕ) → ((s : Seen) → s.queries ≡ map (as_open old.book.journal) old.queries → IsStray s source bytes) → Grows told told' (λ es. es ≡ Got source bytes until at ∷ []) → old.progress.strays + 1 ≡ max_strays
     → EndsByStray look words old told told'
 ends_by_stray look words old told told' source bytes until at none grows number manner start table began b a h =
     grows_then began told told' _ _ _ h.shows grows (λ es fs p is. record {

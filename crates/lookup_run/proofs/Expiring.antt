@@ -29,7 +29,7 @@ use Rattle.lookup_run.specs.declared.plain.Work.{Work}
 use Rattle.lookup_run.specs.Tells.{is_overdue, timed_out, closed_at}
 use Rattle.lookup_run.specs.Rounds.{path_by_path}
 use Rattle.lookup_run.specs.Lookup.{told_of, TableTold}
-use Rattle.lookup_run.specs.Standing.{as_open}
+use Rattle.lookup_run.specs.Between.{as_open}
 use Rattle.lookup_run.specs.Steps.{Expires}
 use Rattle.lookup_run.proofs.Walking.{table_then, table_same}
 use Rattle.lookup_run.proofs.Opens.{opens_lost, opens_distinct, without_one, asker_kept, each_asked}
@@ -60,7 +60,7 @@ pub record Expiring (at : ℕ) (old new : Work) : Type 0 where
   pub was_open : map (λ q. q.contact) old.queries ≡ open_any old.book.journal
   pub is_open : map (λ q. q.contact) new.queries ≡ open_any new.book.journal
   pub table : TableTold (flat_map told_of (map timed_out (map (as_open old.book.journal) gone))) old.table new.table
-  pub stand : new.stand ≡ old.stand
+  pub progress : new.progress ≡ old.progress
   pub gathered : new.gathered ≡ old.gathered
 
 pub none_expired : (at : ℕ) (w : Work) → map (λ q. q.contact) w.queries ≡ open_any w.book.journal → Expiring at w w
@@ -73,7 +73,7 @@ none_expired at w is = record {
   was_open = is;
   is_open = is;
   table = table_same w.table w.table refl;
-  stand = refl;
+  progress = refl;
   gathered = refl;
 }
 
@@ -95,8 +95,8 @@ among_middle (x ∷ before) q behind = either (same q.contact x.contact) (among 
 
 -- one more
 expires_one : (at : ℕ) (old w v : Work) (q : Query) → Expiring at old w → w.queries ≡ q ∷ v.queries → q.deadline ≤ at → Legal w.book.setting w.book.journal
-    → v.book ≡ added w.book (Lost (asker q.contact w.book.journal) q.contact Timeout) → TableTold (record { role = 0; call = Failed q.contact } ∷ []) w.table v.table → v.stand ≡ w.stand → v.gathered ≡ w.gathered → Expiring at old v
-expires_one at old w v q h first due legal book table stand gathered =
+    → v.book ≡ added w.book (Lost (asker q.contact w.book.journal) q.contact Timeout) → TableTold (record { role = 0; call = Failed q.contact } ∷ []) w.table v.table → v.progress ≡ w.progress → v.gathered ≡ w.gathered → Expiring at old v
+expires_one at old w v q h first due legal book table progress gathered =
     let J = old.book.journal in
     let c = q.contact in
     let were : old.queries ≡ h.gone ++ q ∷ v.queries = h.were ∙ ap (λ l. h.gone ++ l) first in
@@ -117,7 +117,7 @@ expires_one at old w v q h first due legal book table stand gathered =
           ∙ without_one c [] (map (λ (x : Query). x.contact) v.queries) (subst (IsDistinct same) opens (opens_distinct w.book.setting w.book.journal legal)));
       table = subst (λ calls. TableTold calls old.table v.table) (sym (ap (flat_map told_of) closed ∙ flat_map-append told_of (map timed_out (map (as_open J) h.gone)) (timed_out (as_open J q) ∷ [])))
           (table_then path_by_path (flat_map told_of (map timed_out (map (as_open J) h.gone))) (record { role = 0; call = Failed c } ∷ []) old.table w.table v.table h.table table);
-      stand = stand ∙ h.stand;
+      progress = progress ∙ h.progress;
       gathered = gathered ∙ h.gathered;
     }
 
@@ -127,11 +127,11 @@ oldest_open at c qs rest J closes is =
     ap (λ l. among l c) (sym is) ∙ ap (λ x. among (map (λ (q : Query). q.contact) qs) x) closes.contact_is ∙ ap (λ l. among (map (λ (q : Query). q.contact) l) closes.oldest.contact) closes.others ∙ among_middle [] closes.oldest rest
 
 pub oldest_expires : (at : ℕ) (old w v : Work) (c : Contact) → Expiring at old w → ClosesOldest at c w.queries v.queries → Legal w.book.setting w.book.journal
-    → v.book ≡ added w.book (Lost (asker c w.book.journal) c Timeout) → TableTold (record { role = 0; call = Failed c } ∷ []) w.table v.table → v.stand ≡ w.stand → v.gathered ≡ w.gathered → Expiring at old v
-oldest_expires at old w v c h closes legal book table stand gathered =
+    → v.book ≡ added w.book (Lost (asker c w.book.journal) c Timeout) → TableTold (record { role = 0; call = Failed c } ∷ []) w.table v.table → v.progress ≡ w.progress → v.gathered ≡ w.gathered → Expiring at old v
+oldest_expires at old w v c h closes legal book table progress gathered =
     expires_one at old w v closes.oldest h closes.others closes.due legal
     (subst (λ (x : Contact). v.book ≡ added w.book (Lost (asker x w.book.journal) x Timeout)) closes.contact_is book)
-    (subst (λ (x : Contact). TableTold (record { role = 0; call = Failed x } ∷ []) w.table v.table) closes.contact_is table) stand gathered
+    (subst (λ (x : Contact). TableTold (record { role = 0; call = Failed x } ∷ []) w.table v.table) closes.contact_is table) progress gathered
 
 -- ---- its end
 
@@ -174,6 +174,6 @@ all_expired at old new h none =
       queries = sym (ap (filter (λ (q : Query). nat_lt at q.deadline)) h.were ∙ kept_are at h.gone new.queries h.overdue none);
       is_open = h.is_open;
       table = subst (λ l. TableTold (flat_map told_of l) old.table new.table) (sym closed) h.table;
-      stand = h.stand;
+      progress = h.progress;
       gathered = h.gathered;
     }

@@ -23,9 +23,9 @@ few_reports (Puzzled c1 c2) answer = (let b = length-take max_reports (part_of a
 
 -- an answer in the contact's own name
 pub own_heard : (look : LookSetting) (c : Contact) (answer : Answer) (reports : List Report) (old new : Work) → answer.id ≡ c.id → reports ≡ reports_of look.policy answer
-    → new.book ≡ added old.book (Heard (asker c old.book.journal) c reports) → KeepsFor look.kind (record { contact = c; answer = answer } ∷ []) old.gathered new.gathered → new.table ≡ old.table → new.queries ≡ old.queries → new.stand ≡ old.stand
+    → new.book ≡ added old.book (Heard (asker c old.book.journal) c reports) → KeepsFor look.kind (record { contact = c; answer = answer } ∷ []) old.gathered new.gathered → new.table ≡ old.table → new.queries ≡ old.queries → new.progress ≡ old.progress
     → HearsReply look c (reply.Answer answer) old new
-own_heard look c answer reports old new own is after keeps table queries stand = record {
+own_heard look c answer reports old new own is after keeps table queries progress = record {
   hears = record {
     entry = Heard (asker c old.book.journal) c (reports_of look.policy answer);
     gives = inl (own, refl);
@@ -36,5 +36,5 @@ own_heard look c answer reports old new own is after keeps table queries stand =
   keeps_for = keeps;
   table = table;
   queries = queries;
-  stand = stand;
+  progress = progress;
 }

@@ -41,14 +41,14 @@ use Rattle.lookup_run.specs.declared.plain.AskKind.TheVariants.{FindNode, GetPee
 use Rattle.lookup_run.specs.declared.plain.LookSetting.{LookSetting}
 use Rattle.lookup_run.specs.declared.plain.Gathered.{Gathered}
 use Rattle.lookup_run.specs.declared.plain.Outcome.{Outcome}
-use Rattle.lookup_run.specs.declared.plain.Stand.{Stand}
+use Rattle.lookup_run.specs.declared.plain.Progress.{Progress}
 use Rattle.lookup_run.specs.declared.plain.Token.{Token}
 use Rattle.lookup_run.specs.declared.plain.Work.{Work}
 use Rattle.lookup_run.specs.Tells.{Given, Seen, driven, begun, deadline_of, Tells, EndsAtStray}
 use Rattle.lookup_run.specs.Rounds.{Manner, SettlesIn, AllSettled, NoneAsks, RoundsFrom, Rounds}
 use Rattle.lookup_run.specs.Gathered.{Answered, HearsFrom, IsEachOnce, GathersOf, Gathers}
-use Rattle.lookup_run.specs.Lookup.{setting_of, given_of, seeds_in, drawn_for, IsWithinLimits, told_of, table_calls, LooksUp, Unfinished, TableTold, TableToldBy}
-use Rattle.lookup_run.specs.Standing.{as_open, Keeps, Walk, Keeping, Along}
+use Rattle.lookup_run.specs.Lookup.{setting_of, given_of, seeds_in, drawn_for, IsWithinLimits, told_of, table_calls, Finished, Unfinished, TableTold, TableToldBy}
+use Rattle.lookup_run.specs.Between.{as_open, Keeps, Walk, Keeping, Along}
 use Rattle.lookup_run.specs.Steps.{Begins, IsOver, IsDone, IsBookOf, asks_seeds, IsBegun, Ended}
 use Rattle.lookup_run.proofs.Early.{so_far_of, ran_of}
 use Rattle.lookup_run.proofs.Fewer.{few_along}
@@ -109,19 +109,19 @@ pub begins_of : (look : LookSetting) (words : WordsState) (table table' : TableS
 begins_of look words table table' book moment work told told' o =
     let b = o.begun_at in
     let journal = journal_of look words table table' book moment work told told' o in
-    let stand = b.stand in
+    let progress = b.progress in
     record {
       keeps = record {
         setting = ap (λ (x : BookState). x.setting) b.book_is ∙ o.book_of.setting;
         is_open = ap (map (λ (q : Query). q.contact)) b.none_open ∙ sym (ap open_any journal ∙ seeds_open look.paths (seeds_in look table));
         ids = subst (AllByRecursion (λ (q : Query). q.tx < 2 ^ 32)) (sym b.none_open) tt;
-        deadlines = subst (AllByRecursion (λ (q : Query). q.deadline ≤ deadline_of work.stand.moment look.timeout)) (sym b.none_open) tt;
-        few_strays = (let z = ap (λ (x : Stand). x.strays) stand in omega (arith, z));
-        few_receives = (let z = ap (λ (x : Stand). x.receives) stand in omega (arith, z));
+        deadlines = subst (AllByRecursion (λ (q : Query). q.deadline ≤ deadline_of work.progress.moment look.timeout)) (sym b.none_open) tt;
+        few_strays = (let z = ap (λ (x : Progress). x.strays) progress in omega (arith, z));
+        few_receives = (let z = ap (λ (x : Progress). x.receives) progress in omega (arith, z));
         no_peers = λ e. record { no_peers = b.no_peers; no_tokens = b.no_tokens };
       };
       has_words = (let lt = o.place in omega (arith, lt));
-      round_over = ap (λ (x : Stand). x.receives) stand;
+      round_over = ap (λ (x : Progress). x.receives) progress;
       settled = λ p lt. ap (unsettled p) journal ∙ seeds_settled p look.paths (seeds_in look table);
     }
 
@@ -156,11 +156,11 @@ along_of manner look words table table' book moment work told told' o =
         below = tt;
         ascends = tt;
         stands = record {
-          moment = sym (ap (λ (x : Stand). x.moment) b.stand);
+          moment = sym (ap (λ (x : Progress). x.moment) b.progress);
           queries = sym (ap (map (as_open work.book.journal)) b.none_open);
           sends = omega arith;
-          strays = sym (ap (λ (x : Stand). x.strays) b.stand);
-          receives = sym (ap (λ (x : Stand). x.receives) b.stand);
+          strays = sym (ap (λ (x : Progress). x.strays) b.progress);
+          receives = sym (ap (λ (x : Progress). x.receives) b.progress);
           given = sym (ap driven journal ∙ seeds_quiet look.paths 0 cs);
         };
         keeping = begun_keeping look.kind work.gathered b.no_peers b.no_tokens;
@@ -263,7 +263,7 @@ pub record Done (manner : Manner) (look : LookSetting) (start words' : WordsStat
   pub along : Along manner look start table began words' work look.paths look.paths told'
   pub done : IsDone work.book o
 
-pub looks_up : (manner : Manner) (look : LookSetting) (start words' : WordsState) (table : TableState) (work : Work) (began told' : Option (List Event)) (o : Outcome) → Done manner look start words' table work began told' o → LooksUp look table start words' began told' o
+pub looks_up : (manner : Manner) (look : LookSetting) (start words' : WordsState) (table : TableState) (work : Work) (began told' : Option (List Event)) (o : Outcome) → Done manner look start words' table work began told' o → Finished look table start words' began told' o
 looks_up manner look start words' table work began told' o d =
     let k = d.keeps in
     let a = d.along in

@@ -20,7 +20,7 @@ use Rattle.lookup_run.specs.declared.plain.Work.{Work}
 use Rattle.lookup_run.specs.declared.reply.Reply.{Reply}
 use Rattle.lookup_run.specs.declared.reply.Said.{Said}
 use Rattle.lookup_run.specs.Tells.{SaysTo, Replies}
-use Rattle.lookup_run.specs.Standing.{RepliesTo, IsReply, IsNoReply, as_open}
+use Rattle.lookup_run.specs.Between.{RepliesTo, IsReply, IsNoReply, as_open}
 use Rattle.lookup_run.specs.Steps.{RepliesToNone, TakesStray, TakesDatagram, IsLastStray, HearsOne, HearsIn, KeepsFor, HearsReply, IsMatchFor}
 use Rattle.lookup_run.proofs.Expiring.{among_middle}
 
@@ -119,8 +119,8 @@ taken_open J tx from c old new is h =
     ∙ among_middle (take h.place old) h.query (drop (suc h.place) old)
 
 pub matches : (look : LookSetting) (from : Addr) (bytes : List ℕ) (said : Said) (c : Contact) (old w new : Work) → IsQueries old.queries → IsReply bytes said → Closes said.tx from c old.queries w.queries
-    → w.book ≡ old.book → w.table ≡ old.table → w.gathered ≡ old.gathered → w.stand ≡ old.stand → HearsReply look c said.reply w new → IsMatchFor look from bytes old new
-matches look from bytes said c old w new is reads closes book table gathered stand hears =
+    → w.book ≡ old.book → w.table ≡ old.table → w.gathered ≡ old.gathered → w.progress ≡ old.progress → HearsReply look c said.reply w new → IsMatchFor look from bytes old new
+matches look from bytes said c old w new is reads closes book table gathered progress hears =
     let q = closes.query in
     let tx : q.tx ≡ said.tx = closes.answers.0 in
     let replies = reads.replies in
@@ -140,15 +140,15 @@ matches look from bytes said c old w new is reads closes book table gathered sta
       hears_in = subst (λ (x : Contact). HearsIn x said.reply hears.heard) closes.contact_is hears.hears_in;
       keeps_for = subst (λ g. KeepsFor look.kind hears.heard g new.gathered) gathered hears.keeps_for;
       table = hears.table ∙ table;
-      stand = hears.stand ∙ stand;
+      progress = hears.progress ∙ progress;
     }
 
 -- a stray is one more, or the last
-pub takes_stray : {F : Type 0} (look : LookSetting) (from : Addr) (bytes : List ℕ) (old new : Work) (result : Result F LookFault) → RepliesToNone from bytes old → OnOk result (TakesStray old.stand new.stand) → new.book ≡ old.book → new.queries ≡ old.queries → new.table ≡ old.table → new.gathered ≡ old.gathered
+pub takes_stray : {F : Type 0} (look : LookSetting) (from : Addr) (bytes : List ℕ) (old new : Work) (result : Result F LookFault) → RepliesToNone from bytes old → OnOk result (TakesStray old.progress new.progress) → new.book ≡ old.book → new.queries ≡ old.queries → new.table ≡ old.table → new.gathered ≡ old.gathered
     → OnOk result (TakesDatagram look from bytes old new)
 takes_stray look from bytes old new (Ok x) none takes book queries table gathered = inr (record { none = none; takes = takes; book = book; queries = queries; table = table; gathered = gathered })
 takes_stray look from bytes old new (Err e) none takes book queries table gathered = tt
 
-pub is_last_stray : {F : Type 0} (from : Addr) (bytes : List ℕ) (old : Work) (result : Result F LookFault) → RepliesToNone from bytes old → IfErr result (λ fault. (fault ≡ Strays) × (old.stand.strays + 1 ≡ max_strays)) → IsErrOf result Strays → IsLastStray from bytes old
+pub is_last_stray : {F : Type 0} (from : Addr) (bytes : List ℕ) (old : Work) (result : Result F LookFault) → RepliesToNone from bytes old → IfErr result (λ fault. (fault ≡ Strays) × (old.progress.strays + 1 ≡ max_strays)) → IsErrOf result Strays → IsLastStray from bytes old
 is_last_stray from bytes old (Ok x) none last is = absurd cc
 is_last_stray from bytes old (Err e) none last is = record { none = none; last = last.1 }

@@ -22,7 +22,7 @@ use Rattle.claim_book.proofs.More.{asked_more, askers_more, answered_more, faile
 use Rattle.claim_book.proofs.Among.{among_without}
 use Rattle.claim_book.proofs.Claims.{may_ask_says, ended_asked, asked_distinct}
 use Rattle.claim_book.proofs.Ends.{asked_by_some}
-use Rattle.lookup_run.specs.Standing.{as_open}
+use Rattle.lookup_run.specs.Between.{as_open}
 
 -- ---- lists of contacts
 

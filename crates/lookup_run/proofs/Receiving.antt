@@ -28,16 +28,16 @@ use Rattle.lookup_run.specs.declared.plain.AskKind.{AskKind}
 use Rattle.lookup_run.specs.declared.plain.AskKind.TheVariants.{FindNode, GetPeers}
 use Rattle.lookup_run.specs.declared.plain.LookSetting.{LookSetting}
 use Rattle.lookup_run.specs.declared.plain.Gathered.{Gathered}
-use Rattle.lookup_run.specs.declared.plain.Stand.{Stand}
+use Rattle.lookup_run.specs.declared.plain.Progress.{Progress}
 use Rattle.lookup_run.specs.declared.plain.Work.{Work}
 use Rattle.lookup_run.specs.declared.reply.Reply.{Reply}
 use Rattle.lookup_run.specs.declared.reply.Reply.TheVariants as reply
-use Rattle.lookup_run.specs.Tells.{Given, OpenQuery, Seen, is_driven, driven, deadline_of, IsEarliest, WaitsUntil, HaveAsked, Receives, Gives, Replies, ReplyGives, IsStray, is_overdue, timed_out, closed_at, open_at, received, goes_on, after_match}
+use Rattle.lookup_run.specs.Tells.{Given, OpenQuery, Seen, is_driven, driven, deadline_of, IsEarliest, WaitsUntil, HaveAsked, Receives, Gives, Replies, ReplyGives, IsStray, is_overdue, timed_out, closed_at, open_at, received, receives_seen, after_match}
 use Rattle.lookup_run.specs.Rounds.{WaitsInTurn, InTurn}
 use Rattle.lookup_run.specs.Gathered.{Answered, HeardIn, Hears}
 use Rattle.lookup_run.specs.Lookup.{setting_of, given_of, told_of, TableTold}
-use Rattle.lookup_run.specs.Standing.{IsBare, IsReply, as_open, Keeps, max_asks, Stands}
-use Rattle.lookup_run.specs.Steps.{query_to, IsDue, WaitsFor, goes_round, RepliesToNone, HearsIn, KeepsFor, Expires, IsStrayFor, IsMatchFor, TakesDatagram, MayReceive, ReceivesOne}
+use Rattle.lookup_run.specs.Between.{IsBare, IsReply, as_open, Keeps, max_asks, KeepsSeen}
+use Rattle.lookup_run.specs.Steps.{query_to, IsDue, WaitsFor, receives_kept, RepliesToNone, HearsIn, KeepsFor, Expires, IsStrayFor, IsMatchFor, TakesDatagram, MayReceive, ReceivesOne}
 use Rattle.lookup_run.proofs.Walking.{OneEvent, NextStep, along_next, seeds_append}
 use Rattle.lookup_run.proofs.Opens.{opens_heard, opens_lost, opens_distinct, opens_kept, without_one, each_asked}
 use Rattle.lookup_run.proofs.Matching.{in_cons, in_map, map_in, in_middle, all_in, none_in, to_reply}
@@ -76,15 +76,15 @@ some_left : (J : List Entry) (qs : List Query) → qs ≢ [] → map (as_open J)
 some_left J [] some e = some refl
 some_left J (q ∷ qs) some e = absurd cc
 
-receives_of : (look : LookSetting) (start : WordsState) (old : Work) (more : List Entry) (place : ℕ) (s : Seen) (until : ℕ) → MayReceive look old → WaitsFor old.stand.receives old.stand.moment old.queries until → Stands (given_of look start) old place s
+receives_of : (look : LookSetting) (start : WordsState) (old : Work) (more : List Entry) (place : ℕ) (s : Seen) (until : ℕ) → MayReceive look old → WaitsFor old.progress.receives old.progress.moment old.queries until → KeepsSeen (given_of look start) old place s
     → Receives (given_of look start) (old.book.journal ++ more) s until
 receives_of look start old more place s until may waits st = record {
   some_open = λ none. some_left old.book.journal old.queries may.some_open (sym st.queries ∙ none);
-  waits = subst (λ n. WaitsUntil n s until) (sym st.receives) (waits_of old.stand.receives old.book.journal old.queries old.stand.moment until s st.queries st.moment waits);
-  asked = subst (λ n. HaveAsked n (given_of look start) (old.book.journal ++ more) s) (sym st.receives) (asked_of old.stand.receives (given_of look start) old.book.journal more s may.in_turn st.given);
+  waits = subst (λ n. WaitsUntil n s until) (sym st.receives) (waits_of old.progress.receives old.book.journal old.queries old.progress.moment until s st.queries st.moment waits);
+  asked = subst (λ n. HaveAsked n (given_of look start) (old.book.journal ++ more) s) (sym st.receives) (asked_of old.progress.receives (given_of look start) old.book.journal more s may.in_turn st.given);
 }
 
-turn_of : (look : LookSetting) (start : WordsState) (old : Work) (place : ℕ) (s : Seen) → MayReceive look old → Stands (given_of look start) old place s → WaitsInTurn (setting_of look) old.book.journal s.receives
+turn_of : (look : LookSetting) (start : WordsState) (old : Work) (place : ℕ) (s : Seen) → MayReceive look old → KeepsSeen (given_of look start) old place s → WaitsInTurn (setting_of look) old.book.journal s.receives
 turn_of look start old place s may st = subst (WaitsInTurn (setting_of look) old.book.journal) (sym st.receives) may.in_turn
 
 -- ---- what is overdue
@@ -241,16 +241,16 @@ pub record Left (look : LookSetting) (at : ℕ) (old new : Work) (first : List E
   pub paths : map (as_open new.book.journal) new.queries ≡ map (as_open old.book.journal) new.queries
   pub is_open : map (λ (q : Query). q.contact) new.queries ≡ open_any new.book.journal
   pub ids : AllByRecursion (λ (q : Query). q.tx < 2 ^ 32) left
-  pub deadlines : AllByRecursion (λ (q : Query). q.deadline ≤ deadline_of old.stand.moment look.timeout) left
+  pub deadlines : AllByRecursion (λ (q : Query). q.deadline ≤ deadline_of old.progress.moment look.timeout) left
   pub table : TableTold (flat_map told_of (closed_at at (map (as_open old.book.journal) left))) old.table new.table
-  pub moment : new.stand.moment ≡ at
-  pub later : old.stand.moment ≤ at
+  pub moment : new.progress.moment ≡ at
+  pub later : old.progress.moment ≤ at
 
-left_of : (look : LookSetting) (at : ℕ) (old mid late : Work) (stand : Stand) (first : List Entry) (left : List Query) → IsEnds first → mid.book.setting ≡ old.book.setting → mid.book.journal ≡ old.book.journal ++ first → mid.queries ≡ left → mid.table ≡ old.table
+left_of : (look : LookSetting) (at : ℕ) (old mid late : Work) (progress : Progress) (first : List Entry) (left : List Query) → IsEnds first → mid.book.setting ≡ old.book.setting → mid.book.journal ≡ old.book.journal ++ first → mid.queries ≡ left → mid.table ≡ old.table
     → ((c : Contact) → among (map (λ (q : Query). q.contact) left) c ≡ true → among (asked old.book.journal) c ≡ true)
-    → AllByRecursion (λ (q : Query). q.tx < 2 ^ 32) left → AllByRecursion (λ (q : Query). q.deadline ≤ deadline_of old.stand.moment look.timeout) left → Expires at mid late → stand.moment ≡ at → old.stand.moment ≤ at
-    → Left look at old (record late { stand = stand }) first left
-left_of look at old mid late stand first left ends setting journal queries table asks ids deadlines e moment later =
+    → AllByRecursion (λ (q : Query). q.tx < 2 ^ 32) left → AllByRecursion (λ (q : Query). q.deadline ≤ deadline_of old.progress.moment look.timeout) left → Expires at mid late → progress.moment ≡ at → old.progress.moment ≤ at
+    → Left look at old (record late { progress = progress }) first left
+left_of look at old mid late progress first left ends setting journal queries table asks ids deadlines e moment later =
     let J = old.book.journal in
     let closed = closed_at at (map (as_open J) left) in
     let opens : map (as_open mid.book.journal) mid.queries ≡ map (as_open J) left = ap (map (as_open mid.book.journal)) queries ∙ ap (λ K. map (as_open K) left) journal ∙ opens_kept J first left asks in
@@ -283,8 +283,8 @@ same_asks : (look : LookSetting) (at : ℕ) (old new : Work) (first : List Entry
 same_asks look at old new first left l =
     ap (λ J. length (asked J)) l.journal ∙ ap length (asks_left old.book.journal first (filter (is_overdue at) (map (as_open old.book.journal) left)) l.ends)
 
-stands_left : (look : LookSetting) (g : Given) (place at : ℕ) (old new : Work) (first : List Entry) (left : List Query) (strays receives : ℕ) (s : Seen) → Left look at old new first left → Stands g old place s → strays ≡ new.stand.strays → receives ≡ new.stand.receives
-    → Stands g new place (received s at first (map (as_open old.book.journal) left) strays receives)
+stands_left : (look : LookSetting) (g : Given) (place at : ℕ) (old new : Work) (first : List Entry) (left : List Query) (strays receives : ℕ) (s : Seen) → Left look at old new first left → KeepsSeen g old place s → strays ≡ new.progress.strays → receives ≡ new.progress.receives
+    → KeepsSeen g new place (received s at first (map (as_open old.book.journal) left) strays receives)
 stands_left look g place at old new first left strays receives s l st is_strays is_receives =
     let J = old.book.journal in
     let more = first ++ closed_at at (map (as_open J) left) in
@@ -297,15 +297,15 @@ stands_left look g place at old new first left strays receives s l st is_strays 
       given = ap (λ k. k ++ more) st.given ∙ sym (ap driven l.journal ∙ driven_append J more ∙ ap (λ k. driven J ++ k) (driven_left first (filter (is_overdue at) (map (as_open J) left)) l.ends));
     }
 
-round_is : (n : ℕ) (J : List Entry) (qs : List Query) → goes_on n (map (as_open J) qs) ≡ goes_round n qs
+round_is : (n : ℕ) (J : List Entry) (qs : List Query) → receives_seen n (map (as_open J) qs) ≡ receives_kept n qs
 round_is n J [] = refl
 round_is n J (q ∷ qs) = refl
 
-round_left : (n m at : ℕ) (J : List Entry) (left new : List Query) → n ≡ m → new ≡ filter (λ (q : Query). nat_lt at q.deadline) left → goes_on n (open_at at (map (as_open J) left)) ≡ goes_round m new
-round_left n m at J left new same is = ap (goes_on n) (open_still at J left ∙ ap (map (as_open J)) (sym is)) ∙ round_is n J new ∙ ap (λ k. goes_round k new) same
+round_left : (n m at : ℕ) (J : List Entry) (left new : List Query) → n ≡ m → new ≡ filter (λ (q : Query). nat_lt at q.deadline) left → receives_seen n (open_at at (map (as_open J) left)) ≡ receives_kept m new
+round_left n m at J left new same is = ap (receives_seen n) (open_still at J left ∙ ap (map (as_open J)) (sym is)) ∙ round_is n J new ∙ ap (λ k. receives_kept k new) same
 
 next_of : (look : LookSetting) (words : WordsState) (at : ℕ) (old new : Work) (first : List Entry) (left : List Query) (a : ℕ) (e : Event) → Left look at old new first left
-    → ((start : WordsState) (s : Seen) → Stands (given_of look start) old words.place s → OneEvent (given_of look start) old new (first ++ closed_at at (map (as_open old.book.journal) left)) words.place 0 s e)
+    → ((start : WordsState) (s : Seen) → KeepsSeen (given_of look start) old words.place s → OneEvent (given_of look start) old new (first ++ closed_at at (map (as_open old.book.journal) left)) words.place 0 s e)
     → NextStep look words words old new a 0 e
 next_of look words at old new first left a e l next =
     let closed = closed_at at (map (as_open old.book.journal) left) in
@@ -320,10 +320,10 @@ next_of look words at old new first left a e l next =
     }
 
 -- how its round goes on
-abbrev pub RoundGoes : Stand → Stand → List Query → Type 0
+abbrev pub RoundGoes : Progress → Progress → List Query → Type 0
 RoundGoes from to queries = (to.receives ≡ 0) ⊎ ((to.receives ≡ from.receives + 1) × (to.receives < max_round_receives) × (queries ≢ []))
 
-round_goes : (n : ℕ) (from to : Stand) (qs : List Query) → from.receives ≡ n → to.receives ≡ goes_round n qs → RoundGoes from to qs
+round_goes : (n : ℕ) (from to : Progress) (qs : List Query) → from.receives ≡ n → to.receives ≡ receives_kept n qs → RoundGoes from to qs
 round_goes n from to [] same is = inl is
 round_goes n from to (q ∷ qs) same is =
     elim (nat_lt (n + 1) max_round_receives) as (λ b. nat_lt (n + 1) max_round_receives ≡ b → to.receives ≡ cond b (n + 1) 0 → RoundGoes from to (q ∷ qs)) [
@@ -338,41 +338,41 @@ later_deadlines : (m at timeout : ℕ) (qs : List Query) → m ≤ at → AllByR
 later_deadlines m at timeout [] le h = tt
 later_deadlines m at timeout (q ∷ qs) le h = ((let a = h.0 in omega (arith, a, le)), later_deadlines m at timeout qs le h.1)
 
-keeps_left : (look : LookSetting) (at : ℕ) (old new : Work) (first : List Entry) (left : List Query) → Left look at old new first left → Keeps look old → new.stand.strays < max_strays → RoundGoes old.stand new.stand new.queries → (look.kind ≡ FindNode → new.gathered ≡ old.gathered) → Keeps look new
+keeps_left : (look : LookSetting) (at : ℕ) (old new : Work) (first : List Entry) (left : List Query) → Left look at old new first left → Keeps look old → new.progress.strays < max_strays → RoundGoes old.progress new.progress new.queries → (look.kind ≡ FindNode → new.gathered ≡ old.gathered) → Keeps look new
 keeps_left look at old new first left l keeps strays round bare = record {
   setting = l.setting ∙ keeps.setting;
   is_open = l.is_open;
   ids = subst (AllByRecursion (λ (q : Query). q.tx < 2 ^ 32)) (sym l.queries) (all_still (λ (q : Query). q.tx < 2 ^ 32) at left l.ids);
-  deadlines = subst (AllByRecursion (λ (q : Query). q.deadline ≤ deadline_of new.stand.moment look.timeout)) (sym l.queries)
-      (all_still (λ (q : Query). q.deadline ≤ deadline_of new.stand.moment look.timeout) at left (later_deadlines old.stand.moment new.stand.moment look.timeout left (subst (λ m. old.stand.moment ≤ m) (sym l.moment) l.later) l.deadlines));
+  deadlines = subst (AllByRecursion (λ (q : Query). q.deadline ≤ deadline_of new.progress.moment look.timeout)) (sym l.queries)
+      (all_still (λ (q : Query). q.deadline ≤ deadline_of new.progress.moment look.timeout) at left (later_deadlines old.progress.moment new.progress.moment look.timeout left (subst (λ m. old.progress.moment ≤ m) (sym l.moment) l.later) l.deadlines));
   few_strays = strays;
   few_receives = few round;
   no_peers = λ e. subst IsBare (sym (bare e)) (keeps.no_peers e);
 }
   where
-    few : RoundGoes old.stand new.stand new.queries → new.stand.receives < max_round_receives
+    few : RoundGoes old.progress new.progress new.queries → new.progress.receives < max_round_receives
     few (inl z) = omega (arith, z)
     few (inr more) = more.1
 
-goes_open : (from to : Stand) (qs : List Query) → RoundGoes from to qs → to.receives ≢ 0 → qs ≢ []
+goes_open : (from to : Progress) (qs : List Query) → RoundGoes from to qs → to.receives ≢ 0 → qs ≢ []
 goes_open from to qs (inl z) some = absurd (some z)
 goes_open from to qs (inr more) some = more.2
 
-goes_count : (from to : Stand) (qs : List Query) → RoundGoes from to qs → (to.receives ≡ 0) ⊎ (to.receives ≡ from.receives + 1)
+goes_count : (from to : Progress) (qs : List Query) → RoundGoes from to qs → (to.receives ≡ 0) ⊎ (to.receives ≡ from.receives + 1)
 goes_count from to qs (inl z) = inl z
 goes_count from to qs (inr more) = inr more.0
 
-receives_one : (look : LookSetting) (at : ℕ) (old new : Work) (first : List Entry) (left : List Query) (e : Event) (told told' : Option (List Event)) → Left look at old new first left → Keeps look old → new.stand.strays < max_strays → RoundGoes old.stand new.stand new.queries → (look.kind ≡ FindNode → new.gathered ≡ old.gathered)
-    → length new.queries + (max_strays - new.stand.strays) ≤ length old.queries + (max_strays - old.stand.strays)
-    → (old.stand.receives ≡ 0 → length new.queries + (max_strays - new.stand.strays) < length old.queries + (max_strays - old.stand.strays))
-    → ((words : WordsState) (start : WordsState) (s : Seen) → Stands (given_of look start) old words.place s → OneEvent (given_of look start) old new (first ++ closed_at at (map (as_open old.book.journal) left)) words.place 0 s e)
+receives_one : (look : LookSetting) (at : ℕ) (old new : Work) (first : List Entry) (left : List Query) (e : Event) (told told' : Option (List Event)) → Left look at old new first left → Keeps look old → new.progress.strays < max_strays → RoundGoes old.progress new.progress new.queries → (look.kind ≡ FindNode → new.gathered ≡ old.gathered)
+    → length new.queries + (max_strays - new.progress.strays) ≤ length old.queries + (max_strays - old.progress.strays)
+    → (old.progress.receives ≡ 0 → length new.queries + (max_strays - new.progress.strays) < length old.queries + (max_strays - old.progress.strays))
+    → ((words : WordsState) (start : WordsState) (s : Seen) → KeepsSeen (given_of look start) old words.place s → OneEvent (given_of look start) old new (first ++ closed_at at (map (as_open old.book.journal) left)) words.place 0 s e)
     → Grows told told' (λ es. es ≡ e ∷ []) → ReceivesOne look old new told told'
 receives_one look at old new first left e told told' l keeps strays round bare light first_light next grows =
     let asks = same_asks look at old new first left l in
     record {
       keeps = keeps_left look at old new first left l keeps strays round bare;
-      some_open = goes_open old.stand new.stand new.queries round;
-      round = goes_count old.stand new.stand new.queries round;
+      some_open = goes_open old.progress new.progress new.queries round;
+      round = goes_count old.progress new.progress new.queries round;
       same_asks = asks;
       first_lighter = λ z. (let lt = first_light z in lighter (length (asked new.book.journal)) (length (asked old.book.journal)) _ _ asks lt);
       lighter = no_heavier (length (asked new.book.journal)) (length (asked old.book.journal)) _ _ asks light;
@@ -408,15 +408,15 @@ fewer_left : (look : LookSetting) (at : ℕ) (old new : Work) (first : List Entr
 fewer_left look at old new first left l = subst (λ qs. length qs ≤ length left) (sym l.queries) (fewer_still at left)
 
 -- the events of a receive that gives no entry at first
-one_quiet : (look : LookSetting) (words start : WordsState) (at : ℕ) (old new : Work) (s : Seen) (e : Event) (strays receives : ℕ) → Left look at old new [] old.queries → Stands (given_of look start) old words.place s → new.gathered ≡ old.gathered
-    → strays ≡ new.stand.strays → receives ≡ new.stand.receives → Gives (given_of look start) new.book.journal s e (received s at [] s.queries strays receives) → InTurn (setting_of look) old.book.journal s e ([] ++ closed_at at (map (as_open old.book.journal) old.queries)) → Hears s e []
+one_quiet : (look : LookSetting) (words start : WordsState) (at : ℕ) (old new : Work) (s : Seen) (e : Event) (strays receives : ℕ) → Left look at old new [] old.queries → KeepsSeen (given_of look start) old words.place s → new.gathered ≡ old.gathered
+    → strays ≡ new.progress.strays → receives ≡ new.progress.receives → Gives (given_of look start) new.book.journal s e (received s at [] s.queries strays receives) → InTurn (setting_of look) old.book.journal s e ([] ++ closed_at at (map (as_open old.book.journal) old.queries)) → Hears s e []
     → OneEvent (given_of look start) old new ([] ++ closed_at at (map (as_open old.book.journal) old.queries)) words.place 0 s e
 one_quiet look words start at old new s e strays receives l st gathered is_strays is_receives gives turn hears = record {
   after = received s at [] s.queries strays receives;
   gives = gives;
   given = ap (λ qs. s.given ++ ([] ++ closed_at at qs)) st.queries;
   in_turn = turn;
-  stands = subst (λ qs. Stands (given_of look start) new words.place (received s at [] qs strays receives)) (sym st.queries)
+  stands = subst (λ qs. KeepsSeen (given_of look start) new words.place (received s at [] qs strays receives)) (sym st.queries)
       (stands_left look (given_of look start) words.place at old new [] old.queries strays receives s l st is_strays is_receives);
   ascends = tt;
   found = [];
@@ -428,30 +428,30 @@ one_quiet look words start at old new s e strays receives l st gathered is_stray
 pub record Receiving (look : LookSetting) (old : Work) (until at : ℕ) : Type 0 where
   pub may : MayReceive look old
   pub legal : Legal old.book.setting old.book.journal
-  pub waits : WaitsFor old.stand.receives old.stand.moment old.queries until
-  pub later : old.stand.moment ≤ at
+  pub waits : WaitsFor old.progress.receives old.progress.moment old.queries until
+  pub later : old.progress.moment ≤ at
 
 no_heard : (work : Work) (s : Seen) (from : Addr) (bytes : List ℕ) → s.queries ≡ map (as_open work.book.journal) work.queries → RepliesToNone from bytes work → (a : Answered) → ¬ HeardIn s from bytes a
 no_heard work s from bytes queries none a h = stray_of work s from bytes queries none h.query h.is_open (reply.Answer a.answer) h.replies
 
-stray_receives : (look : LookSetting) (from : Addr) (bytes : List ℕ) (until at n : ℕ) (old mid late : Work) (told told' : Option (List Event)) → Receiving look old until at → IsStrayFor from bytes old mid → Expires at mid late → n ≡ goes_round late.stand.receives late.queries
-    → Grows told told' (λ es. es ≡ Got from bytes until at ∷ []) → ReceivesOne look old (record late { stand = record { moment = at; receives = n; strays = late.stand.strays } }) told told'
+stray_receives : (look : LookSetting) (from : Addr) (bytes : List ℕ) (until at n : ℕ) (old mid late : Work) (told told' : Option (List Event)) → Receiving look old until at → IsStrayFor from bytes old mid → Expires at mid late → n ≡ receives_kept late.progress.receives late.queries
+    → Grows told told' (λ es. es ≡ Got from bytes until at ∷ []) → ReceivesOne look old (record late { progress = record { moment = at; receives = n; strays = late.progress.strays } }) told told'
 stray_receives look from bytes until at n old mid late told told' r t e is grows =
     let keeps = r.may.keeps in
-    let stand : Stand = record { moment = at; receives = n; strays = late.stand.strays } in
-    let new : Work = record late { stand = stand } in
+    let progress : Progress = record { moment = at; receives = n; strays = late.progress.strays } in
+    let new : Work = record late { progress = progress } in
     let l : Left look at old new [] old.queries =
-    left_of look at old mid late stand [] old.queries ends_none (ap (λ (b : BookState). b.setting) t.book) (ap (λ (b : BookState). b.journal) t.book ∙ sym (append-nil old.book.journal)) t.queries t.table
+    left_of look at old mid late progress [] old.queries ends_none (ap (λ (b : BookState). b.setting) t.book) (ap (λ (b : BookState). b.journal) t.book ∙ sym (append-nil old.book.journal)) t.queries t.table
     (each_asked old.book.journal old.queries keeps.is_open) keeps.ids keeps.deadlines e refl r.later in
-    let strays : late.stand.strays ≡ old.stand.strays + 1 = ap (λ (x : Stand). x.strays) (e.stand ∙ t.takes.after) in
-    let few : late.stand.strays < max_strays = subst (λ (x : Stand). x.strays < max_strays) (sym e.stand) t.takes.few in
-    let receives : old.stand.receives ≡ late.stand.receives = sym (ap (λ (x : Stand). x.receives) (e.stand ∙ t.takes.after)) in
-    let light = light_stray (length late.queries) (length old.queries) old.stand.strays late.stand.strays max_strays (fewer_left look at old new [] old.queries l) strays few in
-    receives_one look at old new [] old.queries (Got from bytes until at) told told' l keeps few (round_goes late.stand.receives old.stand stand late.queries receives is) (λ k. e.gathered ∙ t.gathered)
+    let strays : late.progress.strays ≡ old.progress.strays + 1 = ap (λ (x : Progress). x.strays) (e.progress ∙ t.takes.after) in
+    let few : late.progress.strays < max_strays = subst (λ (x : Progress). x.strays < max_strays) (sym e.progress) t.takes.few in
+    let receives : old.progress.receives ≡ late.progress.receives = sym (ap (λ (x : Progress). x.receives) (e.progress ∙ t.takes.after)) in
+    let light = light_stray (length late.queries) (length old.queries) old.progress.strays late.progress.strays max_strays (fewer_left look at old new [] old.queries l) strays few in
+    receives_one look at old new [] old.queries (Got from bytes until at) told told' l keeps few (round_goes late.progress.receives old.progress progress late.queries receives is) (λ k. e.gathered ∙ t.gathered)
     (omega (arith, light)) (λ z. light)
-    (λ words start s st. one_quiet look words start at old new s (Got from bytes until at) (s.strays + 1) (goes_on s.receives (open_at at s.queries)) l st (e.gathered ∙ t.gathered)
+    (λ words start s st. one_quiet look words start at old new s (Got from bytes until at) (s.strays + 1) (receives_seen s.receives (open_at at s.queries)) l st (e.gathered ∙ t.gathered)
     (ap (λ m. m + 1) st.strays ∙ sym strays)
-    (ap (λ qs. goes_on s.receives (open_at at qs)) st.queries ∙ round_left s.receives late.stand.receives at old.book.journal old.queries late.queries (st.receives ∙ receives) l.queries ∙ sym is)
+    (ap (λ qs. receives_seen s.receives (open_at at qs)) st.queries ∙ round_left s.receives late.progress.receives at old.book.journal old.queries late.queries (st.receives ∙ receives) l.queries ∙ sym is)
     (subst (λ J. Receives (given_of look start) J s until) (sym l.journal) (receives_of look start old ([] ++ closed_at at (map (as_open old.book.journal) old.queries)) words.place s until r.may r.waits st), inr (stray_of old s from bytes st.queries t.none, refl))
     (turn_of look start old words.place s r.may st) (inr (no_heard old s from bytes st.queries t.none, refl)))
     grows
@@ -466,18 +466,18 @@ quiet_light n at until x y qs qs' moment is strays le begins waits =
     omega (arith, few, strays)
 
 pub quiet_receives : (look : LookSetting) (until at : ℕ) (old late : Work) (told told' : Option (List Event)) → Receiving look old until at → until ≤ at → Expires at old late → Grows told told' (λ es. es ≡ Quiet until at ∷ [])
-    → ReceivesOne look old (record late { stand = record { moment = at; receives = 0; strays = late.stand.strays } }) told told'
+    → ReceivesOne look old (record late { progress = record { moment = at; receives = 0; strays = late.progress.strays } }) told told'
 quiet_receives look until at old late told told' r le e grows =
     let keeps = r.may.keeps in
-    let stand : Stand = record { moment = at; receives = 0; strays = late.stand.strays } in
-    let new : Work = record late { stand = stand } in
+    let progress : Progress = record { moment = at; receives = 0; strays = late.progress.strays } in
+    let new : Work = record late { progress = progress } in
     let l : Left look at old new [] old.queries =
-    left_of look at old old late stand [] old.queries ends_none refl (sym (append-nil old.book.journal)) refl refl (each_asked old.book.journal old.queries keeps.is_open) keeps.ids keeps.deadlines e refl r.later in
-    let strays : late.stand.strays ≡ old.stand.strays = ap (λ (x : Stand). x.strays) e.stand in
-    let few : late.stand.strays < max_strays = (let f = keeps.few_strays in omega (arith, f, strays)) in
+    left_of look at old old late progress [] old.queries ends_none refl (sym (append-nil old.book.journal)) refl refl (each_asked old.book.journal old.queries keeps.is_open) keeps.ids keeps.deadlines e refl r.later in
+    let strays : late.progress.strays ≡ old.progress.strays = ap (λ (x : Progress). x.strays) e.progress in
+    let few : late.progress.strays < max_strays = (let f = keeps.few_strays in omega (arith, f, strays)) in
     let fewer = fewer_left look at old new [] old.queries l in
     receives_one look at old new [] old.queries (Quiet until at) told told' l keeps few (inl refl) (λ k. e.gathered) (omega (arith, fewer, strays))
-    (λ z. quiet_light old.stand.receives at until late.stand.strays old.stand.strays old.queries late.queries old.stand.moment l.queries strays le z r.waits)
+    (λ z. quiet_light old.progress.receives at until late.progress.strays old.progress.strays old.queries late.queries old.progress.moment l.queries strays le z r.waits)
     (λ words start s st. one_quiet look words start at old new s (Quiet until at) s.strays 0 l st e.gathered (st.strays ∙ sym strays) refl
     (subst (λ J. Receives (given_of look start) J s until) (sym l.journal) (receives_of look start old ([] ++ closed_at at (map (as_open old.book.journal) old.queries)) words.place s until r.may r.waits st), refl)
     (turn_of look start old words.place s r.may st) refl)
@@ -517,8 +517,8 @@ hears_one J qs q from bytes until at (reply.Error code) heard s queries has ids 
   none,
 )
 
-match_receives : (look : LookSetting) (from : Addr) (bytes : List ℕ) (until at n : ℕ) (old mid late : Work) (told told' : Option (List Event)) → Receiving look old until at → IsMatchFor look from bytes old mid → Expires at mid late → n ≡ goes_round late.stand.receives late.queries
-    → Grows told told' (λ es. es ≡ Got from bytes until at ∷ []) → ReceivesOne look old (record late { stand = record { moment = at; receives = n; strays = late.stand.strays } }) told told'
+match_receives : (look : LookSetting) (from : Addr) (bytes : List ℕ) (until at n : ℕ) (old mid late : Work) (told told' : Option (List Event)) → Receiving look old until at → IsMatchFor look from bytes old mid → Expires at mid late → n ≡ receives_kept late.progress.receives late.queries
+    → Grows told told' (λ es. es ≡ Got from bytes until at ∷ []) → ReceivesOne look old (record late { progress = record { moment = at; receives = n; strays = late.progress.strays } }) told told'
 match_receives look from bytes until at n old mid late told told' r m e is grows =
     let keeps = r.may.keeps in
     let J = old.book.journal in
@@ -526,23 +526,23 @@ match_receives look from bytes until at n old mid late told told' r m e is grows
     let left = m.before ++ m.behind in
     let more = (entry ∷ []) ++ closed_at at (map (as_open J) left) in
     let closing = closing_of look.policy J m.query.contact m.what entry m.hears.gives in
-    let stand : Stand = record { moment = at; receives = n; strays = late.stand.strays } in
-    let new : Work = record late { stand = stand } in
+    let progress : Progress = record { moment = at; receives = n; strays = late.progress.strays } in
+    let new : Work = record late { progress = progress } in
     let l : Left look at old new (entry ∷ []) left =
-    left_of look at old mid late stand (entry ∷ []) left closing.ends (ap (λ (b : BookState). b.setting) m.hears.after) (ap (λ (b : BookState). b.journal) m.hears.after) m.closes m.table
+    left_of look at old mid late progress (entry ∷ []) left closing.ends (ap (λ (b : BookState). b.setting) m.hears.after) (ap (λ (b : BookState). b.journal) m.hears.after) m.closes m.table
     (λ c h. each_asked J old.queries keeps.is_open c (subst (λ qs. among (map (λ (q : Query). q.contact) qs) c ≡ true) (sym m.was_open) (among_dropped m.before m.query m.behind c h)))
     (all_dropped (λ (q : Query). q.tx < 2 ^ 32) m.before m.query m.behind (subst (AllByRecursion (λ (q : Query). q.tx < 2 ^ 32)) m.was_open keeps.ids))
-    (all_dropped (λ (q : Query). q.deadline ≤ deadline_of old.stand.moment look.timeout) m.before m.query m.behind (subst (AllByRecursion (λ (q : Query). q.deadline ≤ deadline_of old.stand.moment look.timeout)) m.was_open keeps.deadlines))
+    (all_dropped (λ (q : Query). q.deadline ≤ deadline_of old.progress.moment look.timeout) m.before m.query m.behind (subst (AllByRecursion (λ (q : Query). q.deadline ≤ deadline_of old.progress.moment look.timeout)) m.was_open keeps.deadlines))
     e refl r.later in
-    let same : late.stand ≡ old.stand = e.stand ∙ m.stand in
-    let strays : late.stand.strays ≡ old.stand.strays = ap (λ (x : Stand). x.strays) same in
-    let receives : old.stand.receives ≡ late.stand.receives = sym (ap (λ (x : Stand). x.receives) same) in
-    let few : late.stand.strays < max_strays = (let f = keeps.few_strays in omega (arith, f, strays)) in
+    let same : late.progress ≡ old.progress = e.progress ∙ m.progress in
+    let strays : late.progress.strays ≡ old.progress.strays = ap (λ (x : Progress). x.strays) same in
+    let receives : old.progress.receives ≡ late.progress.receives = sym (ap (λ (x : Progress). x.receives) same) in
+    let few : late.progress.strays < max_strays = (let f = keeps.few_strays in omega (arith, f, strays)) in
     let fewer = fewer_left look at old new (entry ∷ []) left l in
     let one : length old.queries ≡ length m.before + suc (length m.behind) = ap length m.was_open ∙ length-append m.before (m.query ∷ m.behind) in
     let two : length left ≡ length m.before + length m.behind = length-append m.before m.behind in
-    let light : length late.queries + (max_strays - late.stand.strays) < length old.queries + (max_strays - old.stand.strays) = omega (arith, fewer, strays, one, two) in
-    receives_one look at old new (entry ∷ []) left (Got from bytes until at) told told' l keeps few (round_goes late.stand.receives old.stand stand late.queries receives is) (λ k. e.gathered ∙ kept_find look.kind m.heard old.gathered mid.gathered k m.keeps_for)
+    let light : length late.queries + (max_strays - late.progress.strays) < length old.queries + (max_strays - old.progress.strays) = omega (arith, fewer, strays, one, two) in
+    receives_one look at old new (entry ∷ []) left (Got from bytes until at) told told' l keeps few (round_goes late.progress.receives old.progress progress late.queries receives is) (λ k. e.gathered ∙ kept_find look.kind m.heard old.gathered mid.gathered k m.keeps_for)
     (omega (arith, light)) (λ z. light)
     (λ words start s st. record {
       after = after_match s at entry (map (as_open J) left);
@@ -566,8 +566,8 @@ match_receives look from bytes until at n old mid late told told' r m e is grows
       );
       given = refl;
       in_turn = turn_of look start old words.place s r.may st;
-      stands = stands_left look (given_of look start) words.place at old new (entry ∷ []) left s.strays (goes_on s.receives (open_at at (map (as_open J) left))) s l st (st.strays ∙ sym strays)
-          (round_left s.receives late.stand.receives at J left late.queries (st.receives ∙ receives) l.queries ∙ sym is);
+      stands = stands_left look (given_of look start) words.place at old new (entry ∷ []) left s.strays (receives_seen s.receives (open_at at (map (as_open J) left))) s l st (st.strays ∙ sym strays)
+          (round_left s.receives late.progress.receives at J left late.queries (st.receives ∙ receives) l.queries ∙ sym is);
       ascends = tt;
       found = m.heard;
       hears = hears_one J old.queries m.query from bytes until at m.what m.heard s st.queries (subst (λ qs. Contains qs m.query) (sym m.was_open) (in_middle m.before m.query m.behind)) keeps.ids m.replies m.reads m.alone m.hears_in;
@@ -577,8 +577,8 @@ match_receives look from bytes until at n old mid late told told' r m e is grows
 
 -- ---- a datagram
 
-pub datagram_receives : (look : LookSetting) (from : Addr) (bytes : List ℕ) (until at n : ℕ) (old mid late : Work) (told told' : Option (List Event)) → Receiving look old until at → TakesDatagram look from bytes old mid → Expires at mid late → n ≡ goes_round late.stand.receives late.queries
-    → Grows told told' (λ es. es ≡ Got from bytes until at ∷ []) → ReceivesOne look old (record late { stand = record { moment = at; receives = n; strays = late.stand.strays } }) told told'
+pub datagram_receives : (look : LookSetting) (from : Addr) (bytes : List ℕ) (until at n : ℕ) (old mid late : Work) (told told' : Option (List Event)) → Receiving look old until at → TakesDatagram look from bytes old mid → Expires at mid late → n ≡ receives_kept late.progress.receives late.queries
+    → Grows told told' (λ es. es ≡ Got from bytes until at ∷ []) → ReceivesOne look old (record late { progress = record { moment = at; receives = n; strays = late.progress.strays } }) told told'
 datagram_receives look from bytes until at n old mid late told told' r (inl m) e is grows = match_receives look from bytes until at n old mid late told told' r m e is grows
 datagram_receives look from bytes until at n old mid late told told' r (inr t) e is grows = stray_receives look from bytes until at n old mid late told told' r t e is grows
 

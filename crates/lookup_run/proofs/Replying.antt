@@ -14,7 +14,7 @@ use Rattle.kad_krpc.specs.Reading.{Says, Gives}
 use Rattle.lookup_run.specs.declared.reply.Reply.TheVariants as reply
 use Rattle.lookup_run.specs.declared.reply.Said.{Said}
 use Rattle.lookup_run.specs.Tells.{SaysTo}
-use Rattle.lookup_run.specs.Standing.{SaysAll, SaysNothing, IsReply, IsNoReply}
+use Rattle.lookup_run.specs.Between.{SaysAll, SaysNothing, IsReply, IsNoReply}
 
 -- a word has its own four bytes
 pub word_same : (v w : ℕ) → v < 2 ^ 32 → w < 2 ^ 32 → word_bytes v ≡ word_bytes w → v ≡ w

@@ -7,8 +7,8 @@ use Rattle.claim_book.specs.Journal.{asked}
 use Rattle.lookup_run.specs.declared.plain.LookSetting.{LookSetting}
 use Rattle.lookup_run.specs.declared.plain.Work.{Work}
 use Rattle.lookup_run.specs.Rounds.{Manner}
-use Rattle.lookup_run.specs.Standing.{max_asks, weight_of, GoesBy}
-use Rattle.lookup_run.specs.Steps.{Asks, ReceivesAll, SettlesPaths, Begins, HasReceived, GoesRound, IsOver, Stops, StopsRound, EndsByStray, RoundEndsByStray, FewStrays, RoundFewStrays}
+use Rattle.lookup_run.specs.Between.{max_asks, weight_of, StepsAlongBy}
+use Rattle.lookup_run.specs.Steps.{Asks, ReceivesAll, SettlesPaths, Begins, HasReceived, RoundAlong, IsOver, Stops, StopsRound, EndsByStray, RoundEndsByStray, FewStrays, RoundFewStrays}
 
 pub round_over : (manner : Manner) (look : LookSetting) (words words' : WordsState) (old new : Work) (told told' : Option (List Event)) → Asks look 0 look.paths words words' old new told told' → new.queries ≡ [] → IsOver manner look words words' old new told told'
 round_over manner look words words' old new told told' a none = record {
@@ -19,11 +19,11 @@ round_over manner look words words' old new told told' a none = record {
   goes = a.goes look.paths manner;
 }
 
-weight_same : (old new : Work) → length (asked new.book.journal) ≡ length (asked old.book.journal) → new.queries ≡ old.queries → new.stand ≡ old.stand → weight_of new ≡ weight_of old
-weight_same old new asks queries stand =
-    ap (λ n. 2 * (max_asks - n) + (length new.queries + (max_strays - new.stand.strays))) asks
-    ∙ ap (λ l. 2 * (max_asks - length (asked old.book.journal)) + (length l + (max_strays - new.stand.strays))) queries
-    ∙ ap (λ s. 2 * (max_asks - length (asked old.book.journal)) + (length old.queries + (max_strays - s.strays))) stand
+weight_same : (old new : Work) → length (asked new.book.journal) ≡ length (asked old.book.journal) → new.queries ≡ old.queries → new.progress ≡ old.progress → weight_of new ≡ weight_of old
+weight_same old new asks queries progress =
+    ap (λ n. 2 * (max_asks - n) + (length new.queries + (max_strays - new.progress.strays))) asks
+    ∙ ap (λ l. 2 * (max_asks - length (asked old.book.journal)) + (length l + (max_strays - new.progress.strays))) queries
+    ∙ ap (λ s. 2 * (max_asks - length (asked old.book.journal)) + (length old.queries + (max_strays - s.strays))) progress
 
 pub has_received : (look : LookSetting) (words words' : WordsState) (a b c : Work) (t u v : Option (List Event)) → Asks look 0 look.paths words words' a b t u → ReceivesAll look b c u v → HasReceived look words words' a c t v
 has_received look words words' a b c t u v asks receives = record {
@@ -34,15 +34,15 @@ has_received look words words' a b c t u v asks receives = record {
   goes = λ manner start table began al. receives.goes words' look.paths look.paths manner start table began (asks.goes look.paths manner start table began al);
 }
 
-pub round_more : (manner : Manner) (look : LookSetting) (words words' : WordsState) (a b c : Work) (t u : Option (List Event)) → HasReceived look words words' a b t u → SettlesPaths manner look 0 look.paths b c u → GoesRound manner look words words' a c t u
+pub round_more : (manner : Manner) (look : LookSetting) (words words' : WordsState) (a b c : Work) (t u : Option (List Event)) → HasReceived look words words' a b t u → SettlesPaths manner look 0 look.paths b c u → RoundAlong manner look words words' a c t u
 round_more manner look words words' a b c t u h settles = record {
   begins = record {
     keeps = settles.keeps;
     has_words = subst (λ n. words'.place < 2 ^ 59 + n) (sym settles.same_asks) h.has_words;
-    round_over = ap (λ s. s.receives) settles.stand ∙ h.round_over;
+    round_over = ap (λ s. s.receives) settles.progress ∙ h.round_over;
     settled = settles.settled;
   };
-  lighter = (let w = weight_same b c settles.same_asks settles.queries settles.stand in let x = h.lighter in omega (arith, w, x));
+  lighter = (let w = weight_same b c settles.same_asks settles.queries settles.progress in let x = h.lighter in omega (arith, w, x));
   goes = λ start table began al. settles.goes words' 0 start table began (h.goes manner start table began al);
 }
 
@@ -60,12 +60,12 @@ stops_settling_round manner look words words' a b c t u h stops start table bega
 -- where the rounds so far have come to
 pub record Rounding (manner : Manner) (look : LookSetting) (words words' : WordsState) (old new : Work) (told told' : Option (List Event)) : Type 0 where
   pub begins : Begins look words' new
-  pub goes : GoesBy manner look words words' old new look.paths 0 look.paths 0 told told'
+  pub goes : StepsAlongBy manner look words words' old new look.paths 0 look.paths 0 told told'
 
 pub rounds_none : (manner : Manner) (look : LookSetting) (words : WordsState) (work : Work) (told : Option (List Event)) → Begins look words work → Rounding manner look words words work work told told
 rounds_none manner look words work told b = record { begins = b; goes = λ start table began al. al }
 
-pub rounds_then : (manner : Manner) (look : LookSetting) (w x y : WordsState) (a b c : Work) (t u v : Option (List Event)) → Rounding manner look w x a b t u → GoesRound manner look x y b c u v → Rounding manner look w y a c t v
+pub rounds_then : (manner : Manner) (look : LookSetting) (w x y : WordsState) (a b c : Work) (t u v : Option (List Event)) → Rounding manner look w x a b t u → RoundAlong manner look x y b c u v → Rounding manner look w y a c t v
 rounds_then manner look w x y a b c t u v h k = record { begins = k.begins; goes = λ start table began al. k.goes start table began (h.goes start table began al) }
 
 pub rounds_over : (manner : Manner) (look : LookSetting) (w x y : WordsState) (a b c : Work) (t u v : Option (List Event)) → Rounding manner look w x a b t u → IsOver manner look x y b c u v → IsOver manner look w y a c t v

@@ -29,7 +29,7 @@ use Rattle.lookup_run.specs.declared.plain.Work.{Work}
 use Rattle.lookup_run.specs.Tells.{Given, driven, begun, deadline_of}
 use Rattle.lookup_run.specs.Rounds.{Manner, path_number, SettlesFrom, SettlesIn, AllSettled}
 use Rattle.lookup_run.specs.Lookup.{setting_of, given_of, drawn_for, Told, told_of, told_in, table_calls, TableTold, TableToldBy, TableRan}
-use Rattle.lookup_run.specs.Standing.{IsBare, as_open, Keeps, Keeping, Walk, Shows}
+use Rattle.lookup_run.specs.Between.{IsBare, as_open, Keeps, Keeping, Walk, Shows}
 use Rattle.lookup_run.specs.Steps.{SettlesPaths, Stops}
 use Rattle.lookup_run.proofs.Driven.{driven_append}
 use Rattle.lookup_run.proofs.Early.{early_now}
@@ -109,7 +109,7 @@ pub record SettlesMore (manner : Manner) (b b' : ℕ) (old new : Work) (more : L
   pub continues : Continues manner b b' more
   pub tabled : TableToldBy manner (flat_map told_of more) old.table new.table
   pub queries : new.queries ≡ old.queries
-  pub stand : new.stand ≡ old.stand
+  pub progress : new.progress ≡ old.progress
   pub gathered : new.gathered ≡ old.gathered
 
 -- the round is over, so what settles may stand here
@@ -117,7 +117,7 @@ settles_in : (manner : Manner) (n b b' : ℕ) (front es : List Entry) → n ≡ 
 settles_in manner zero b b' front es is c s below = c.settles front s below
 settles_in manner (suc n) b b' front es is c s below = absurd (omega (arith, is))
 
-shows_settled : (manner : Manner) (g : Given) (old new : Work) (more : List Entry) (place b b' a : ℕ) (es : List Event) → old.stand.receives ≡ 0 → map (λ q. q.contact) old.queries ≡ open_any old.book.journal → SettlesMore manner b b' old new more
+shows_settled : (manner : Manner) (g : Given) (old new : Work) (more : List Entry) (place b b' a : ℕ) (es : List Event) → old.progress.receives ≡ 0 → map (λ q. q.contact) old.queries ≡ open_any old.book.journal → SettlesMore manner b b' old new more
     → Shows manner g old place b a es → Shows manner g new place b' a es
 shows_settled manner g old new more place b b' a es over is_open m h =
     let J = old.book.journal in
@@ -142,11 +142,11 @@ shows_settled manner g old new more place b b' a es over is_open m h =
       below = m.continues.below h.behind h.below;
       ascends = h.ascends;
       stands = record {
-        moment = st.moment ∙ sym (ap (λ x. x.moment) m.stand);
+        moment = st.moment ∙ sym (ap (λ x. x.moment) m.progress);
         queries = st.queries ∙ sym paths;
         sends = st.sends;
-        strays = st.strays ∙ sym (ap (λ x. x.strays) m.stand);
-        receives = st.receives ∙ sym (ap (λ x. x.receives) m.stand);
+        strays = st.strays ∙ sym (ap (λ x. x.strays) m.progress);
+        receives = st.receives ∙ sym (ap (λ x. x.receives) m.progress);
         given = st.given ∙ sym (ap driven m.journal ∙ driven_append J more ∙ ap (λ l. driven J ++ l) (none_driven more mute) ∙ append-nil (driven J));
       };
       keeping = subst (λ x. Keeping g.kind h.heard x) (sym m.gathered) h.keeping;
@@ -155,7 +155,7 @@ shows_settled manner g old new more place b b' a es over is_open m h =
 drawn_same : (words start : WordsState) (J J' : List Entry) → asked J' ≡ asked J → words ≡ drawn_for start J → words ≡ drawn_for start J'
 drawn_same words start J J' same is = is ∙ ap (λ (cs : List Contact). record { seed = start.seed; place = start.place + length cs }) (sym same)
 
-pub settles_more : (manner : Manner) (look : LookSetting) (b b' : ℕ) (old new : Work) (more : List Entry) (told : Option (List Event)) → Keeps look old → old.stand.receives ≡ 0 → SettlesMore manner b b' old new more → AllSettled b' new.book.journal → SettlesPaths manner look b b' old new told
+pub settles_more : (manner : Manner) (look : LookSetting) (b b' : ℕ) (old new : Work) (more : List Entry) (told : Option (List Event)) → Keeps look old → old.progress.receives ≡ 0 → SettlesMore manner b b' old new more → AllSettled b' new.book.journal → SettlesPaths manner look b b' old new told
 settles_more manner look b b' old new more told k over m settled =
     let J = old.book.journal in
     let J' = new.book.journal in
@@ -167,13 +167,13 @@ settles_more manner look b b' old new more told k over m settled =
         setting = m.setting ∙ k.setting;
         is_open = ap (map (λ (q : Query). q.contact)) m.queries ∙ k.is_open ∙ sym same_open;
         ids = subst (AllByRecursion (λ (q : Query). q.tx < 2 ^ 32)) (sym m.queries) k.ids;
-        deadlines = subst (λ x. AllByRecursion (λ (q : Query). q.deadline ≤ deadline_of x.moment look.timeout) new.queries) (sym m.stand) (subst (AllByRecursion (λ (q : Query). q.deadline ≤ deadline_of old.stand.moment look.timeout)) (sym m.queries) k.deadlines);
-        few_strays = subst (λ x. x.strays < max_strays) (sym m.stand) k.few_strays;
-        few_receives = subst (λ x. x.receives < max_round_receives) (sym m.stand) k.few_receives;
+        deadlines = subst (λ x. AllByRecursion (λ (q : Query). q.deadline ≤ deadline_of x.moment look.timeout) new.queries) (sym m.progress) (subst (AllByRecursion (λ (q : Query). q.deadline ≤ deadline_of old.progress.moment look.timeout)) (sym m.queries) k.deadlines);
+        few_strays = subst (λ x. x.strays < max_strays) (sym m.progress) k.few_strays;
+        few_receives = subst (λ x. x.receives < max_round_receives) (sym m.progress) k.few_receives;
         no_peers = λ e. subst IsBare (sym m.gathered) (k.no_peers e);
       };
       settled = settled;
-      stand = m.stand;
+      progress = m.progress;
       same_asks = ap length same_asked;
       queries = m.queries;
       ran = record { run = m.tabled.run; is_run = m.tabled.is_run; leaves = m.tabled.leaves };
@@ -200,9 +200,9 @@ path_continues manner p more quiet = record {
   below = λ front below. below_more p front more below quiet;
 }
 
-pub settles_path : (manner : Manner) (look : LookSetting) (p : ℕ) (old new : Work) (told : Option (List Event)) → Keeps look old → old.stand.receives ≡ 0 → AllSettled p old.book.journal → (h : Settling p old.book new.book old.table new.table) → unsettled p new.book.journal ≡ []
-    → new.queries ≡ old.queries → new.stand ≡ old.stand → new.gathered ≡ old.gathered → SettlesPaths manner look p (p + 1) old new told
-settles_path manner look p old new told k over below h here queries stand gathered =
+pub settles_path : (manner : Manner) (look : LookSetting) (p : ℕ) (old new : Work) (told : Option (List Event)) → Keeps look old → old.progress.receives ≡ 0 → AllSettled p old.book.journal → (h : Settling p old.book new.book old.table new.table) → unsettled p new.book.journal ≡ []
+    → new.queries ≡ old.queries → new.progress ≡ old.progress → new.gathered ≡ old.gathered → SettlesPaths manner look p (p + 1) old new told
+settles_path manner look p old new told k over below h here queries progress gathered =
     let quiet = each_quiet p h.more h.settles in
     settles_more manner look p (p + 1) old new h.more told k over (record {
       setting = h.setting;
@@ -210,7 +210,7 @@ settles_path manner look p old new told k over below h here queries stand gather
       continues = path_continues manner p h.more quiet;
       tabled = told_in_any manner (flat_map told_of h.more) old.table new.table (settling_told p old new h);
       queries = queries;
-      stand = stand;
+      progress = progress;
       gathered = gathered;
     }) (settled_more p old.book.journal h.more new.book.journal h.journal quiet below here)
 
@@ -233,7 +233,7 @@ pub settles_nothing : (manner : Manner) (look : LookSetting) (work : Work) (told
 settles_nothing manner look work told k = record {
   keeps = k;
   settled = λ p lt. absurd (omega arith);
-  stand = refl;
+  progress = refl;
   same_asks = refl;
   queries = refl;
   ran = record { run = []; is_run = tt; leaves = refl };
@@ -244,7 +244,7 @@ pub settles_then : (manner : Manner) (look : LookSetting) (from mid to : ℕ) (a
 settles_then manner look from mid to a b c told h k = record {
   keeps = k.keeps;
   settled = k.settled;
-  stand = k.stand ∙ h.stand;
+  progress = k.progress ∙ h.progress;
   same_asks = k.same_asks ∙ h.same_asks;
   queries = k.queries ∙ h.queries;
   ran = ran_then a.table b.table c.table h.ran k.ran;

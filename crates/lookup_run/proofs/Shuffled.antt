@@ -24,7 +24,7 @@ use Rattle.lookup_run.specs.declared.plain.LookSetting.{LookSetting}
 use Rattle.lookup_run.specs.declared.plain.Work.{Work}
 use Rattle.lookup_run.specs.Rounds.{at_once, path_number}
 use Rattle.lookup_run.specs.Lookup.{Told, told_in, told_of, told_by, TableToldBy, TableRan}
-use Rattle.lookup_run.specs.Standing.{Keeps}
+use Rattle.lookup_run.specs.Between.{Keeps}
 use Rattle.lookup_run.specs.Steps.{SettlesPaths}
 use Rattle.lookup_run.proofs.Quiet.{IsMute, quiet_entry, settles_mixed}
 use Rattle.lookup_run.proofs.Settled.{Continues, settles_more}
@@ -180,9 +180,9 @@ below_zero n (f ∷ front) es h b = (let lt = b.0 in absurd (omega (arith, lt)))
 pub ran_together : (old new : Work) → StopsTogether old.book new.book old.table new.table → TableRan old.table new.table
 ran_together old new h = record { run = h.run; is_run = h.is_run; leaves = h.leaves }
 
-pub settles_together : (look : LookSetting) (old new : Work) (told : Option (List Event)) → Keeps look old → old.stand.receives ≡ 0 → SettlesTogether old.book new.book old.table new.table → new.queries ≡ old.queries → new.stand ≡ old.stand → new.gathered ≡ old.gathered
+pub settles_together : (look : LookSetting) (old new : Work) (told : Option (List Event)) → Keeps look old → old.progress.receives ≡ 0 → SettlesTogether old.book new.book old.table new.table → new.queries ≡ old.queries → new.progress ≡ old.progress → new.gathered ≡ old.gathered
     → SettlesPaths at_once look 0 look.paths old new told
-settles_together look old new told k over h queries stand gathered =
+settles_together look old new told k over h queries progress gathered =
     let s = h.settling in
     let paths : old.book.setting.paths ≡ look.paths = ap (λ (x : Setting). x.paths) k.setting in
     let settles : All (IsSettling look.paths) s.more = subst (λ n. All (IsSettling n) s.more) paths s.settles in
@@ -204,6 +204,6 @@ settles_together look old new told k over h queries stand gathered =
         kept = h.kept;
       };
       queries = queries;
-      stand = stand;
+      progress = progress;
       gathered = gathered;
     }) (λ p lt. h.none_left p (omega (arith, lt, paths)))

@@ -30,7 +30,7 @@ use Rattle.lookup_run.specs.Tells.{Given, Seen, HasAsked, HaveAsked, Receives, G
 use Rattle.lookup_run.specs.Rounds.{Manner, path_by_path, at_once, path_number, SettlesIn, InTurn}
 use Rattle.lookup_run.specs.Gathered.{Answered, Hears, values_of, token_of}
 use Rattle.lookup_run.specs.Lookup.{given_of, drawn_for, told_of, table_calls, told_in, told_by, Told, AreCalls, TableTold, TableToldBy}
-use Rattle.lookup_run.specs.Standing.{Step, Walk, Stands, Keeping, Shows, Along, Goes}
+use Rattle.lookup_run.specs.Between.{Step, Walk, KeepsSeen, Keeping, Shows, Along, StepsAlong}
 use Rattle.lookup_run.specs.Steps.{KeepsFor}
 
 -- ---- a longer journal
@@ -103,7 +103,7 @@ pub record OneEvent (g : Given) (old new : Work) (more : List Entry) (place' a' 
   pub gives : Gives g new.book.journal s e after
   pub given : after.given ≡ s.given ++ more
   pub in_turn : InTurn g.setting old.book.journal s e more
-  pub stands : Stands g new place' after
+  pub stands : KeepsSeen g new place' after
   pub ascends : AllByRecursion (λ (x : Entry). path_number x ≤ a') after.since
   pub found : List Answered
   pub hears : Hears s e found
@@ -128,7 +128,7 @@ keeping_more GetPeers heard found old new h k = (
 )
 
 pub shows_next : (manner : Manner) (g : Given) (old new : Work) (more : List Entry) (place place' b b' a a' : ℕ) (e : Event) (es fs : List Event) → new.book.journal ≡ old.book.journal ++ more → seeds more ≡ []
-    → ((s : Seen) → Stands g old place s → AllByRecursion (λ (x : Entry). path_number x ≤ a) s.since → OneEvent g old new more place' a' s e)
+    → ((s : Seen) → KeepsSeen g old place s → AllByRecursion (λ (x : Entry). path_number x ≤ a) s.since → OneEvent g old new more place' a' s e)
     → Shows manner g old place b a es → fs ≡ e ∷ [] → Shows manner g new place' b' a' (es ++ fs)
 shows_next manner g old new more place place' b b' a a' e es fs journal no_seeds next h is =
     let J = old.book.journal in
@@ -217,10 +217,10 @@ pub record NextStep (look : LookSetting) (words words' : WordsState) (old new : 
   pub no_seeds : seeds more ≡ []
   pub drawn : (start : WordsState) → words ≡ drawn_for start old.book.journal → words' ≡ drawn_for start new.book.journal
   pub tabled : TableTold (flat_map told_of more) old.table new.table
-  pub next : (start : WordsState) → words ≡ drawn_for start old.book.journal → (s : Seen) → Stands (given_of look start) old words.place s
+  pub next : (start : WordsState) → words ≡ drawn_for start old.book.journal → (s : Seen) → KeepsSeen (given_of look start) old words.place s
       → AllByRecursion (λ (x : Entry). path_number x ≤ a) s.since → OneEvent (given_of look start) old new more words'.place a' s e
 
-pub along_next : (look : LookSetting) (words words' : WordsState) (old new : Work) (b b' a a' : ℕ) (e : Event) (told told' : Option (List Event)) → NextStep look words words' old new a a' e → Grows told told' (λ es. es ≡ e ∷ []) → Goes look words words' old new b a b' a' told told'
+pub along_next : (look : LookSetting) (words words' : WordsState) (old new : Work) (b b' a a' : ℕ) (e : Event) (told told' : Option (List Event)) → NextStep look words words' old new a a' e → Grows told told' (λ es. es ≡ e ∷ []) → StepsAlong look words words' old new b a b' a' told told'
 along_next look words words' old new b b' a a' e told told' n grows manner start table began h = record {
   drawn = n.drawn start h.drawn;
   seeds_are = seeds_same old.book.journal n.more new.book.journal n.journal n.no_seeds ∙ h.seeds_are;

@@ -6,16 +6,16 @@ use Rattle.id_puzzles.specs.Drawn.{WordsState}
 use Rattle.claim_book.specs.Journal.{asked}
 use Rattle.lookup_run.specs.declared.plain.LookSetting.{LookSetting}
 use Rattle.lookup_run.specs.declared.plain.Work.{Work}
-use Rattle.lookup_run.specs.Standing.{Keeps, weight_of, Goes}
+use Rattle.lookup_run.specs.Between.{Keeps, weight_of, StepsAlong}
 use Rattle.lookup_run.specs.Steps.{ReceivesOne, Stops, EndsByStray, FewStrays}
 
 -- one receive or more
 pub record Rounding (look : LookSetting) (old new : Work) (told told' : Option (List Event)) : Type 0 where
   pub keeps : Keeps look new
-  pub some_open : new.stand.receives ≢ 0 → new.queries ≢ []
+  pub some_open : new.progress.receives ≢ 0 → new.queries ≢ []
   pub same_asks : length (asked new.book.journal) ≡ length (asked old.book.journal)
   pub lighter : weight_of new < weight_of old
-  pub goes : (words : WordsState) (b a : ℕ) → Goes look words words old new b a 0 0 told told'
+  pub goes : (words : WordsState) (b a : ℕ) → StepsAlong look words words old new b a 0 0 told told'
 
 pub next_receive : (look : LookSetting) (old w new : Work) (told mid told' : Option (List Event)) → Rounding look old w told mid → ReceivesOne look w new mid told' → Rounding look old new told told'
 next_receive look old w new told mid told' h r = record {

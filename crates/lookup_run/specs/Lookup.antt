@@ -59,7 +59,7 @@ drawn_for words J = record { seed = words.seed; place = words.place + length (as
 -- A whole lookup. Its journal is legal, starts with the closest contacts of the table, is what the link's events tell,
 -- goes by rounds, and has run out on every path; what was found is its result; each word that was drawn went to one
 -- contact; and the peers and tokens are those of the answers that were heard.
-pub record LooksUp (look : LookSetting) (table : TableState) (words words' : WordsState) (told told' : Option (List Event)) (outcome : Outcome) : Type 0 where
+pub record Finished (look : LookSetting) (table : TableState) (words words' : WordsState) (told told' : Option (List Event)) (outcome : Outcome) : Type 0 where
   pub legal : Legal (setting_of look) outcome.journal
   pub seeds_are : seeds outcome.journal ≡ seeds_in look table
   pub tells : Grows told told' (λ events. Tells (given_of look words) outcome.journal events)

@@ -24,7 +24,7 @@ use Rattle.lookup_run.specs.declared.plain.LookFault.{LookFault}
 use Rattle.lookup_run.specs.declared.plain.LookSetting.{LookSetting}
 use Rattle.lookup_run.specs.declared.plain.Gathered.{Gathered}
 use Rattle.lookup_run.specs.declared.plain.Outcome.{Outcome}
-use Rattle.lookup_run.specs.declared.plain.Stand.{Stand}
+use Rattle.lookup_run.specs.declared.plain.Progress.{Progress}
 use Rattle.lookup_run.specs.declared.plain.Work.{Work}
 use Rattle.lookup_run.specs.declared.reply.Reply.{Reply}
 use Rattle.lookup_run.specs.declared.reply.Reply.TheVariants as reply
@@ -32,7 +32,7 @@ use Rattle.lookup_run.specs.Tells.{OpenQuery, EndsAtStray, Replies, ReplyGives, 
 use Rattle.lookup_run.specs.Rounds.{Manner, path_by_path, AllSettled, NoneAsks, WaitsInTurn}
 use Rattle.lookup_run.specs.Gathered.{Answered, values_of, token_of, IsEachOnce}
 use Rattle.lookup_run.specs.Lookup.{setting_of, given_of, seeds_in, told_of, Unfinished, TableRan, TableTold, Told}
-use Rattle.lookup_run.specs.Standing.{IsReply, as_open, Keeps, HasWords, weight_of, Along, GoesBy, Goes}
+use Rattle.lookup_run.specs.Between.{IsReply, as_open, Keeps, HasWords, weight_of, Along, StepsAlongBy, StepsAlong}
 
 -- the book after the path was asked what it asks
 abbrev pub asked_more : ℕ → BookState → Option Contact → BookState
@@ -47,9 +47,9 @@ pub record Asks (look : LookSetting) (from to : ℕ) (words words' : WordsState)
   pub has_words : HasWords words' new.book.journal
   pub settled : AllSettled look.paths new.book.journal
   pub none_below : NoneAsks (setting_of look) to new.book.journal
-  pub stand : new.stand ≡ old.stand
+  pub progress : new.progress ≡ old.progress
   pub lighter : weight_of new ≤ weight_of old
-  pub goes : (b : ℕ) → Goes look words words' old new b from b to told told'
+  pub goes : (b : ℕ) → StepsAlong look words words' old new b from b to told told'
 
 -- the path may ask nothing, and nothing changed
 pub record AsksNone (look : LookSetting) (path : ℕ) (words words' : WordsState) (old new : Work) (told told' : Option (List Event)) : Type 0 where
@@ -95,7 +95,7 @@ pub record HearsReply (look : LookSetting) (c : Contact) (r : Reply) (old new : 
   pub keeps_for : KeepsFor look.kind heard old.gathered new.gathered
   pub table : new.table ≡ old.table
   pub queries : new.queries ≡ old.queries
-  pub stand : new.stand ≡ old.stand
+  pub progress : new.progress ≡ old.progress
 
 -- those overdue at the moment are lost, oldest first, and the table was told so
 pub record Expires (at : ℕ) (old new : Work) : Type 0 where
@@ -104,7 +104,7 @@ pub record Expires (at : ℕ) (old new : Work) : Type 0 where
   pub queries : new.queries ≡ filter (λ q. nat_lt at q.deadline) old.queries
   pub is_open : map (λ q. q.contact) new.queries ≡ open_any new.book.journal
   pub table : TableTold (flat_map told_of (closed_at at (map (as_open old.book.journal) old.queries))) old.table new.table
-  pub stand : new.stand ≡ old.stand
+  pub progress : new.progress ≡ old.progress
   pub gathered : new.gathered ≡ old.gathered
 
 -- ---- ending early
@@ -157,23 +157,23 @@ WaitsFor zero moment queries until = IsDue queries until
 WaitsFor (suc n) moment queries until = until ≡ moment
 
 -- the receives of the round after a datagram: none where it is over
-abbrev pub goes_round : ℕ → List Query → ℕ
-goes_round n [] = 0
-goes_round n (q ∷ queries) = if nat_lt (n + 1) max_round_receives then n + 1 else 0
+abbrev pub receives_kept : ℕ → List Query → ℕ
+receives_kept n [] = 0
+receives_kept n (q ∷ queries) = if nat_lt (n + 1) max_round_receives then n + 1 else 0
 
 -- the datagram replies to no open query
 abbrev pub RepliesToNone : Addr → List ℕ → Work → Type 0
 RepliesToNone from bytes work = (q : Query) → Contains work.queries q → (r : Reply) → ¬ Replies bytes from (as_open work.book.journal q) r
 
 -- one stray more
-pub record TakesStray (old new : Stand) : Type 0 where
+pub record TakesStray (old new : Progress) : Type 0 where
   pub after : new ≡ record { moment = old.moment; receives = old.receives; strays = old.strays + 1 }
   pub few : new.strays < max_strays
 
 -- the datagram is a stray: it replies to no open query, and only the count of strays changes
 pub record IsStrayFor (from : Addr) (bytes : List ℕ) (old new : Work) : Type 0 where
   pub none : RepliesToNone from bytes old
-  pub takes : TakesStray old.stand new.stand
+  pub takes : TakesStray old.progress new.progress
   pub book : new.book ≡ old.book
   pub queries : new.queries ≡ old.queries
   pub table : new.table ≡ old.table
@@ -182,7 +182,7 @@ pub record IsStrayFor (from : Addr) (bytes : List ℕ) (old new : Work) : Type 0
 -- the last stray that a lookup takes
 pub record IsLastStray (from : Addr) (bytes : List ℕ) (work : Work) : Type 0 where
   pub none : RepliesToNone from bytes work
-  pub last : work.stand.strays + 1 ≡ max_strays
+  pub last : work.progress.strays + 1 ≡ max_strays
 
 -- it replies to one of the open queries and to no other, which is closed, and the reply is heard
 pub record IsMatchFor (look : LookSetting) (from : Addr) (bytes : List ℕ) (old new : Work) : Type 0 where
@@ -200,7 +200,7 @@ pub record IsMatchFor (look : LookSetting) (from : Addr) (bytes : List ℕ) (old
   pub hears_in : HearsIn query.contact what heard
   pub keeps_for : KeepsFor look.kind heard old.gathered new.gathered
   pub table : new.table ≡ old.table
-  pub stand : new.stand ≡ old.stand
+  pub progress : new.progress ≡ old.progress
 
 -- a datagram is matched to the open query that it replies to (BEP 5), or is a stray
 abbrev pub TakesDatagram : LookSetting → Addr → List ℕ → Work → Work → Type 0
@@ -210,25 +210,25 @@ TakesDatagram look from bytes old new = IsMatchFor look from bytes old new ⊎ I
 pub record MayReceive (look : LookSetting) (work : Work) : Type 0 where
   pub keeps : Keeps look work
   pub some_open : work.queries ≢ []
-  pub in_turn : WaitsInTurn (setting_of look) work.book.journal work.stand.receives
+  pub in_turn : WaitsInTurn (setting_of look) work.book.journal work.progress.receives
 
 -- a receive gave a datagram, or the moment that was waited for
 pub record ReceivesOne (look : LookSetting) (old new : Work) (told told' : Option (List Event)) : Type 0 where
   pub keeps : Keeps look new
-  pub some_open : new.stand.receives ≢ 0 → new.queries ≢ []
-  pub round : (new.stand.receives ≡ 0) ⊎ (new.stand.receives ≡ old.stand.receives + 1)
+  pub some_open : new.progress.receives ≢ 0 → new.queries ≢ []
+  pub round : (new.progress.receives ≡ 0) ⊎ (new.progress.receives ≡ old.progress.receives + 1)
   pub same_asks : length (asked new.book.journal) ≡ length (asked old.book.journal)
-  pub first_lighter : old.stand.receives ≡ 0 → weight_of new < weight_of old
+  pub first_lighter : old.progress.receives ≡ 0 → weight_of new < weight_of old
   pub lighter : weight_of new ≤ weight_of old
-  pub goes : (words : WordsState) (b a : ℕ) → Goes look words words old new b a 0 0 told told'
+  pub goes : (words : WordsState) (b a : ℕ) → StepsAlong look words words old new b a 0 0 told told'
 
 -- the receives of a whole round
 pub record ReceivesAll (look : LookSetting) (old new : Work) (told told' : Option (List Event)) : Type 0 where
   pub keeps : Keeps look new
-  pub round_over : new.stand.receives ≡ 0
+  pub round_over : new.progress.receives ≡ 0
   pub same_asks : length (asked new.book.journal) ≡ length (asked old.book.journal)
   pub lighter : weight_of new < weight_of old
-  pub goes : (words : WordsState) (b a : ℕ) → Goes look words words old new b a 0 0 told told'
+  pub goes : (words : WordsState) (b a : ℕ) → StepsAlong look words words old new b a 0 0 told told'
 
 -- ---- settling
 
@@ -236,11 +236,11 @@ pub record ReceivesAll (look : LookSetting) (old new : Work) (told told' : Optio
 pub record SettlesPaths (manner : Manner) (look : LookSetting) (from to : ℕ) (old new : Work) (told : Option (List Event)) : Type 0 where
   pub keeps : Keeps look new
   pub settled : AllSettled to new.book.journal
-  pub stand : new.stand ≡ old.stand
+  pub progress : new.progress ≡ old.progress
   pub same_asks : length (asked new.book.journal) ≡ length (asked old.book.journal)
   pub queries : new.queries ≡ old.queries
   pub ran : TableRan old.table new.table
-  pub goes : (words : WordsState) (a : ℕ) → GoesBy manner look words words old new from a to a told told
+  pub goes : (words : WordsState) (a : ℕ) → StepsAlongBy manner look words words old new from a to a told told
 
 -- ---- rounds
 
@@ -248,22 +248,22 @@ pub record SettlesPaths (manner : Manner) (look : LookSetting) (from to : ℕ) (
 pub record Begins (look : LookSetting) (words : WordsState) (work : Work) : Type 0 where
   pub keeps : Keeps look work
   pub has_words : HasWords words work.book.journal
-  pub round_over : work.stand.receives ≡ 0
+  pub round_over : work.progress.receives ≡ 0
   pub settled : AllSettled look.paths work.book.journal
 
 -- contacts were asked, and the receives of the round are over
 pub record HasReceived (look : LookSetting) (words words' : WordsState) (old new : Work) (told told' : Option (List Event)) : Type 0 where
   pub keeps : Keeps look new
   pub has_words : HasWords words' new.book.journal
-  pub round_over : new.stand.receives ≡ 0
+  pub round_over : new.progress.receives ≡ 0
   pub lighter : weight_of new < weight_of old
-  pub goes : Goes look words words' old new look.paths 0 0 0 told told'
+  pub goes : StepsAlong look words words' old new look.paths 0 0 0 told told'
 
 -- one round more, and the next begins
-pub record GoesRound (manner : Manner) (look : LookSetting) (words words' : WordsState) (old new : Work) (told told' : Option (List Event)) : Type 0 where
+pub record RoundAlong (manner : Manner) (look : LookSetting) (words words' : WordsState) (old new : Work) (told told' : Option (List Event)) : Type 0 where
   pub begins : Begins look words' new
   pub lighter : weight_of new < weight_of old
-  pub goes : GoesBy manner look words words' old new look.paths 0 look.paths 0 told told'
+  pub goes : StepsAlongBy manner look words words' old new look.paths 0 look.paths 0 told told'
 
 -- no query is open, nothing is unsettled, and no path may ask
 pub record IsOver (manner : Manner) (look : LookSetting) (words words' : WordsState) (old new : Work) (told told' : Option (List Event)) : Type 0 where
@@ -271,7 +271,7 @@ pub record IsOver (manner : Manner) (look : LookSetting) (words words' : WordsSt
   pub none_open : new.queries ≡ []
   pub settled : AllSettled look.paths new.book.journal
   pub none_asks : NoneAsks (setting_of look) look.paths new.book.journal
-  pub goes : GoesBy manner look words words' old new look.paths 0 look.paths look.paths told told'
+  pub goes : StepsAlongBy manner look words words' old new look.paths 0 look.paths look.paths told told'
 
 -- what the book that has run out found
 pub record IsDone (book : BookState) (outcome : Outcome) : Type 0 where
@@ -303,6 +303,6 @@ pub record IsBegun (book : BookState) (table : TableState) (moment : ℕ) (work 
   pub book_is : work.book ≡ book
   pub table_is : work.table ≡ table
   pub none_open : work.queries ≡ []
-  pub stand : work.stand ≡ record { moment = moment; receives = 0; strays = 0 }
+  pub progress : work.progress ≡ record { moment = moment; receives = 0; strays = 0 }
   pub no_peers : work.gathered.peers ≡ []
   pub no_tokens : work.gathered.tokens ≡ []

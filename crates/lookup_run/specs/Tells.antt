@@ -234,17 +234,17 @@ received s at entries left strays receives = record {
 }
 
 -- the round goes on after a datagram while a query is open and it has had fewer receives than a round may have
-abbrev pub goes_on : ℕ → List OpenQuery → ℕ
-goes_on n [] = 0
-goes_on n (q ∷ queries) = if nat_lt (n + 1) max_round_receives then n + 1 else 0
+abbrev pub receives_seen : ℕ → List OpenQuery → ℕ
+receives_seen n [] = 0
+receives_seen n (q ∷ queries) = if nat_lt (n + 1) max_round_receives then n + 1 else 0
 
 -- what the events show after a datagram that replied to an open query
 abbrev pub after_match : Seen → ℕ → Entry → List OpenQuery → Seen
-after_match s at e left = received s at (e ∷ []) left s.strays (goes_on s.receives (open_at at left))
+after_match s at e left = received s at (e ∷ []) left s.strays (receives_seen s.receives (open_at at left))
 
 -- the same after a stray
 abbrev pub after_stray : Seen → ℕ → Seen
-after_stray s at = received s at [] s.queries (s.strays + 1) (goes_on s.receives (open_at at s.queries))
+after_stray s at = received s at [] s.queries (s.strays + 1) (receives_seen s.receives (open_at at s.queries))
 
 -- the same after a receive that gave no datagram: the round is over
 abbrev pub after_quiet : Seen → ℕ → Seen

@@ -9,7 +9,7 @@ ghost use Rattle.claim_book.specs.Legal.{Legal};
 ghost use Rattle.lookup_run.specs.Tells.{deadline_of};
 ghost use Rattle.lookup_run.specs.Rounds.{AllSettled, NoneAsks};
 ghost use Rattle.lookup_run.specs.Lookup.{IsWithinLimits, setting_of};
-ghost use Rattle.lookup_run.specs.Standing.{Keeps, HasWords, weight_of};
+ghost use Rattle.lookup_run.specs.Between.{Keeps, HasWords, weight_of};
 ghost use Rattle.lookup_run.specs.Steps.{asked_more, Asks, AsksNone, Begins};
 
 use crate::hear::{DRIVER, lose};
@@ -67,7 +67,7 @@ fn ask_one<L: Link>(
     requires path { path < look.now.paths }
     requires keeps { Keeps look.now work.old }
     requires has_words { HasWords words.old work.old.book.journal }
-    requires round_over { work.old.stand.receives ≡ 0 }
+    requires round_over { work.old.progress.receives ≡ 0 }
     requires settled { AllSettled look.now.paths work.old.book.journal }
     requires none_below { NoneAsks (setting_of look.now) path work.old.book.journal }
     ensures some { result ≡ true → Asks look.now path path words.old words.new work.old work.new (L.told link.old) (L.told link.new) }
@@ -81,7 +81,13 @@ fn ask_one<L: Link>(
         Some(contact) => contact,
         None => return false,
     };
-    let tx = open(&mut work.queries, words, look, work.stand.moment, contact);
+    let tx = open(
+        &mut work.queries,
+        words,
+        look,
+        work.progress.moment,
+        contact,
+    );
     if send_query(link, look, &contact, tx) {
         return true;
     }
@@ -96,7 +102,7 @@ fn ask_path<L: Link>(link: &mut L, work: &mut Work, words: &mut Words, look: &Lo
     requires path { path < look.now.paths }
     requires keeps { Keeps look.now work.old }
     requires has_words { HasWords words.old work.old.book.journal }
-    requires round_over { work.old.stand.receives ≡ 0 }
+    requires round_over { work.old.progress.receives ≡ 0 }
     requires settled { AllSettled look.now.paths work.old.book.journal }
     requires none_below { NoneAsks (setting_of look.now) path work.old.book.journal }
     ensures asks { Asks look.now path (path + 1) words.old words.new work.old work.new (L.told link.old) (L.told link.new) }

@@ -12,12 +12,12 @@ ghost use Rattle.lookup_run.specs.declared.plain.AskKind.{AskKind};
 ghost use Rattle.lookup_run.specs.Tells.{EndsAtStray};
 ghost use Rattle.lookup_run.specs.Rounds.{Rounds, at_once, path_by_path};
 ghost use Rattle.lookup_run.specs.Gathered.{Gathers, IsEachOnce};
-ghost use Rattle.lookup_run.specs.Lookup.{IsWithinLimits, setting_of, given_of, seeds_in, table_calls, LooksUp, TableTold, TableToldBy, TableRan, Unfinished};
+ghost use Rattle.lookup_run.specs.Lookup.{IsWithinLimits, setting_of, given_of, seeds_in, table_calls, Finished, TableTold, TableToldBy, TableRan, Unfinished};
 ghost use Rattle.lookup_run.specs.Steps.{IsDone, IsClosed, IsBookOf, asks_seeds, IsBegun};
 
 use crate::gather::{in_order, nothing};
 use crate::hear::DRIVER;
-use crate::plain::{Gathered, LookFault, LookSetting, Outcome, Stand, Work};
+use crate::plain::{Gathered, LookFault, LookSetting, Outcome, Progress, Work};
 use crate::round::{go_rounds, go_rounds_together};
 use claim_book::{Book, BookCall, BookReply};
 use contact_table::{Table, TableCall, TableReply};
@@ -77,7 +77,7 @@ fn close(work: Work, ended: Result<(), LookFault>) -> (Table, Result<Outcome, Lo
         table,
         gathered,
         queries: _,
-        stand: _,
+        progress: _,
     } = work;
     match ended {
         Ok(()) => (table, finish(book, gathered)),
@@ -113,7 +113,7 @@ fn begin<L: Link>(alloc: Global, link: &mut L, table: Table, book: Book) -> Work
         book,
         table,
         queries: Queries::new(),
-        stand: Stand {
+        progress: Progress {
             moment: link.now(),
             receives: 0,
             strays: 0,
@@ -138,7 +138,7 @@ pub fn look_up_alone<L: Link, C: Check>(
     requires limits { IsWithinLimits setting.now }
     requires usable { All (IsUsable setting.now.own) (contacts_of table) }
     requires place { words.old.place < 2 ^ 59 }
-    ensures lookup { IfOk result.1 (LooksUp setting.now table words.old words.new (L.told link.old) (L.told link.new)) }
+    ensures lookup { IfOk result.1 (Finished setting.now table words.old words.new (L.told link.old) (L.told link.new)) }
     ensures rounds { IfOk result.1 (λ outcome. Grows (L.told link.old) (L.told link.new) (λ events. Rounds path_by_path (given_of setting.now words.old) outcome.journal events)) }
     ensures own_answers { IfOk result.1 (λ outcome. GoesByOwnAnswers (setting_of setting.now) outcome.journal) }
     ensures gathered { IfOk result.1 (λ outcome. Grows (L.told link.old) (L.told link.new) (λ events. Gathers (given_of setting.now words.old) outcome.journal events outcome.peers outcome.tokens)) }
@@ -182,7 +182,7 @@ pub fn look_up<R: Threads + Wait + Sync, L: Link, C: Check + Sync>(
     requires limits { IsWithinLimits setting.now }
     requires usable { All (IsUsable setting.now.own) (contacts_of table) }
     requires place { words.old.place < 2 ^ 59 }
-    ensures lookup { IfOk result.1 (LooksUp setting.now table words.old words.new (L.told link.old) (L.told link.new)) }
+    ensures lookup { IfOk result.1 (Finished setting.now table words.old words.new (L.told link.old) (L.told link.new)) }
     ensures rounds { IfOk result.1 (λ outcome. Grows (L.told link.old) (L.told link.new) (λ events. Rounds at_once (given_of setting.now words.old) outcome.journal events)) }
     ensures own_answers { IfOk result.1 (λ outcome. GoesByOwnAnswers (setting_of setting.now) outcome.journal) }
     ensures gathered { IfOk result.1 (λ outcome. Grows (L.told link.old) (L.told link.new) (λ events. Gathers (given_of setting.now words.old) outcome.journal events outcome.peers outcome.tokens)) }

@@ -85,7 +85,7 @@ pub enum LookFault {
 /// Where a lookup stands between two calls on its link: the last told moment, how many receives its round has had (0
 /// where the next one begins a round), and how many datagrams were strays.
 #[derive(Clone, Copy, Debug)]
-pub(crate) struct Stand {
+pub(crate) struct Progress {
     pub moment: u64,
     pub receives: u32,
     pub strays: u32,
@@ -104,6 +104,6 @@ pub(crate) struct Work {
     pub book: Book,
     pub table: Table,
     pub queries: Queries,
-    pub stand: Stand,
+    pub progress: Progress,
     pub gathered: Gathered,
 }

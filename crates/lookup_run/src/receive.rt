@@ -4,11 +4,11 @@ ghost use Rattle.kad_base.specs.Limits.{max_datagram, max_round_receives, max_st
 ghost use Rattle.kad_base.specs.Outside.{Rose};
 ghost use Rattle.id_puzzles.specs.Drawn.{WordsState};
 ghost use Rattle.lookup_run.specs.Lookup.{IsWithinLimits};
-ghost use Rattle.lookup_run.specs.Standing.{Keeps};
-ghost use Rattle.lookup_run.specs.Steps.{WaitsFor, goes_round, TakesStray, TakesDatagram, IsLastStray, MayReceive, ReceivesOne, ReceivesAll, Stops, EndsByStray, FewStrays};
+ghost use Rattle.lookup_run.specs.Between.{Keeps};
+ghost use Rattle.lookup_run.specs.Steps.{WaitsFor, receives_kept, TakesStray, TakesDatagram, IsLastStray, MayReceive, ReceivesOne, ReceivesAll, Stops, EndsByStray, FewStrays};
 
 use crate::hear::{expire, hear};
-use crate::plain::{LookFault, LookSetting, Stand, Work};
+use crate::plain::{LookFault, LookSetting, Progress, Work};
 use crate::reply::read_reply;
 use kad_base::limits::{MAX_ROUND_RECEIVES, MAX_STRAYS};
 use kad_base::{Addr, Came, Link};
@@ -16,12 +16,12 @@ use query_book::Queries;
 use std::alloc::Global;
 
 /// How long the next receive waits: to the earliest deadline where it begins a round, and else not at all.
-fn wait_until(stand: &Stand, queries: &Queries) -> u64
+fn wait_until(progress: &Progress, queries: &Queries) -> u64
     requires { queries.now ≢ [] }
-    ensures { WaitsFor stand.now.receives stand.now.moment queries.now result }
+    ensures { WaitsFor progress.now.receives progress.now.moment queries.now result }
 {
-    if stand.receives != 0 {
-        return stand.moment;
+    if progress.receives != 0 {
+        return progress.moment;
     }
     match queries.next_deadline() {
         Some(deadline) => deadline,
@@ -32,7 +32,7 @@ fn wait_until(stand: &Stand, queries: &Queries) -> u64
 /// The receives of the round after a datagram: none where it ends, as it does with no query open and at the 32nd.
 fn round_after(receives: u32, queries: &Queries) -> u32
     requires { receives < max_round_receives }
-    ensures { result ≡ goes_round receives queries.now }
+    ensures { result ≡ receives_kept receives queries.now }
 {
     if queries.is_empty() {
         return 0;
@@ -44,16 +44,16 @@ fn round_after(receives: u32, queries: &Queries) -> u32
 }
 
 /// Takes a stray: only the last that a lookup takes is a fault.
-fn take_stray(stand: &mut Stand) -> Result<(), LookFault>
-    requires { stand.old.strays < max_strays }
-    ensures ok { OnOk result (TakesStray stand.old stand.new) }
-    ensures err { IfErr result (λ fault. (fault ≡ LookFault.Strays) × (stand.old.strays + 1 ≡ max_strays)) }
+fn take_stray(progress: &mut Progress) -> Result<(), LookFault>
+    requires { progress.old.strays < max_strays }
+    ensures ok { OnOk result (TakesStray progress.old progress.new) }
+    ensures err { IfErr result (λ fault. (fault ≡ LookFault.Strays) × (progress.old.strays + 1 ≡ max_strays)) }
 {
-    let strays = stand.strays + 1;
+    let strays = progress.strays + 1;
     if strays == MAX_STRAYS {
         return Err(LookFault::Strays);
     }
-    stand.strays = strays;
+    progress.strays = strays;
     Ok(())
 }
 
@@ -75,7 +75,7 @@ fn take_datagram(
     let _ = work.queries.len();
     let said = match read_reply(alloc, bytes) {
         Ok(Some(said)) => said,
-        Ok(None) => return take_stray(&mut work.stand),
+        Ok(None) => return take_stray(&mut work.progress),
         Err(_) => return Err(LookFault::NoMemory),
     };
     match work.queries.take(said.tx, from) {
@@ -83,7 +83,7 @@ fn take_datagram(
             Ok(()) => Ok(()),
             Err(_) => Err(LookFault::NoMemory),
         },
-        None => take_stray(&mut work.stand),
+        None => take_stray(&mut work.progress),
     }
 }
 
@@ -99,9 +99,9 @@ pub(crate) fn receive<L: Link>(
     requires limits { IsWithinLimits look.now }
     requires may_receive { MayReceive look.now work.old }
     requires room { length buf.old ≡ max_datagram + 1 }
-    requires moment { L.moment link.old ≡ work.old.stand.moment }
+    requires moment { L.moment link.old ≡ work.old.progress.moment }
     ensures ok { OnOk result (ReceivesOne look.now work.old work.new (L.told link.old) (L.told link.new)) }
-    ensures moment { OnOk result (L.moment link.new ≡ work.new.stand.moment) }
+    ensures moment { OnOk result (L.moment link.new ≡ work.new.progress.moment) }
     ensures stops { OnErr result ((words : WordsState) → Stops look.now words words work.old work.new (L.told link.old) (L.told link.new)) }
     ensures strays { IsErrOf result LookFault.Strays → (words : WordsState) → EndsByStray look.now words work.old (L.told link.old) (L.told link.new) }
     ensures few { IsErrOf result LookFault.LinkFault → (words : WordsState) → FewStrays look.now words work.old (L.told link.old) (L.told link.new) }
@@ -110,19 +110,19 @@ pub(crate) fn receive<L: Link>(
     ensures kept { L.kept link.new ≡ L.kept link.old }
 {
     work.book.legal();
-    let until = wait_until(&work.stand, &work.queries);
+    let until = wait_until(&work.progress, &work.queries);
     match link.recv(buf, until) {
         Ok(Came::Packet { from, len, at }) => {
             take_datagram(alloc, work, look, from, &buf[..len])?;
             expire(work, at);
-            work.stand.moment = at;
-            work.stand.receives = round_after(work.stand.receives, &work.queries);
+            work.progress.moment = at;
+            work.progress.receives = round_after(work.progress.receives, &work.queries);
             Ok(())
         }
         Ok(Came::Quiet { at }) => {
             expire(work, at);
-            work.stand.moment = at;
-            work.stand.receives = 0;
+            work.progress.moment = at;
+            work.progress.receives = 0;
             Ok(())
         }
         Err(_) => Err(LookFault::LinkFault),
@@ -139,11 +139,11 @@ pub(crate) fn receive_round<L: Link>(
 ) -> Result<(), LookFault>
     requires limits { IsWithinLimits look.now }
     requires may_receive { MayReceive look.now work.old }
-    requires begins { work.old.stand.receives ≡ 0 }
+    requires begins { work.old.progress.receives ≡ 0 }
     requires room { length buf.old ≡ max_datagram + 1 }
-    requires moment { L.moment link.old ≡ work.old.stand.moment }
+    requires moment { L.moment link.old ≡ work.old.progress.moment }
     ensures ok { OnOk result (ReceivesAll look.now work.old work.new (L.told link.old) (L.told link.new)) }
-    ensures moment { OnOk result (L.moment link.new ≡ work.new.stand.moment) }
+    ensures moment { OnOk result (L.moment link.new ≡ work.new.progress.moment) }
     ensures stops { OnErr result ((words : WordsState) → Stops look.now words words work.old work.new (L.told link.old) (L.told link.new)) }
     ensures strays { IsErrOf result LookFault.Strays → (words : WordsState) → EndsByStray look.now words work.old (L.told link.old) (L.told link.new) }
     ensures few { IsErrOf result LookFault.LinkFault → (words : WordsState) → FewStrays look.now words work.old (L.told link.old) (L.told link.new) }
@@ -152,7 +152,7 @@ pub(crate) fn receive_round<L: Link>(
     ensures kept { L.kept link.new ≡ L.kept link.old }
 {
     receive(alloc, link, work, buf, look)?;
-    'receiving: while work.stand.receives != 0 {
+    'receiving: while work.progress.receives != 0 {
         receive(alloc, link, work, buf, look)?;
     }
     Ok(())

@@ -3,7 +3,7 @@ ghost use Rattle.std.specs.Prelude.{◌≡◌, ◌≢◌, ◌≤◌, ◌<◌, �
 ghost use Rattle.kad_base.specs.Limits.{max_datagram};
 ghost use Rattle.kad_base.specs.Words.{word_bytes};
 ghost use Rattle.kad_krpc.specs.declared.message.KrpcFault.{KrpcFault};
-ghost use Rattle.lookup_run.specs.Standing.{SaysAll, SaysNothing, IsReply, IsNoReply, IsNoId};
+ghost use Rattle.lookup_run.specs.Between.{SaysAll, SaysNothing, IsReply, IsNoReply, IsNoId};
 
 use kad_base::NoMemory;
 use kad_base::limits::MAX_DATAGRAM;

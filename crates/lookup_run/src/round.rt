@@ -30,10 +30,10 @@ fn ask_and_receive<L: Link>(
     requires limits { IsWithinLimits look.now }
     requires begins { Begins look.now words.old work.old }
     requires room { length buf.old ≡ max_datagram + 1 }
-    requires moment { L.moment link.old ≡ work.old.stand.moment }
+    requires moment { L.moment link.old ≡ work.old.progress.moment }
     ensures more { IfOk result (λ more. more ≡ true → HasReceived look.now words.old words.new work.old work.new (L.told link.old) (L.told link.new)) }
     ensures over { (manner : Manner) → IfOk result (λ more. more ≡ false → IsOver manner look.now words.old words.new work.old work.new (L.told link.old) (L.told link.new)) }
-    ensures moment { OnOk result (L.moment link.new ≡ work.new.stand.moment) }
+    ensures moment { OnOk result (L.moment link.new ≡ work.new.progress.moment) }
     ensures stops { (manner : Manner) → OnErr result (StopsRound manner look.now words.old words.new work.old work.new (L.told link.old) (L.told link.new)) }
     ensures strays { (manner : Manner) → IsErrOf result LookFault.Strays → RoundEndsByStray manner look.now words.old work.old (L.told link.old) (L.told link.new) }
     ensures few { (manner : Manner) → IsErrOf result LookFault.LinkFault → RoundFewStrays manner look.now words.old work.old (L.told link.old) (L.told link.new) }
@@ -62,7 +62,7 @@ pub(crate) fn go_rounds<L: Link, C: Check>(
 ) -> Result<(), LookFault>
     requires limits { IsWithinLimits look.now }
     requires begins { Begins look.now words.old work.old }
-    requires moment { L.moment link.old ≡ work.old.stand.moment }
+    requires moment { L.moment link.old ≡ work.old.progress.moment }
     ensures over { OnOk result (IsOver path_by_path look.now words.old words.new work.old work.new (L.told link.old) (L.told link.new)) }
     ensures stops { OnErr result (StopsRound path_by_path look.now words.old words.new work.old work.new (L.told link.old) (L.told link.new)) }
     ensures strays { IsErrOf result LookFault.Strays → RoundEndsByStray path_by_path look.now words.old work.old (L.told link.old) (L.told link.new) }
@@ -97,7 +97,7 @@ pub(crate) fn go_rounds_together<R: Threads + Wait + Sync, L: Link, C: Check + S
 ) -> (Work, Result<(), LookFault>)
     requires limits { IsWithinLimits look.now }
     requires begins { Begins look.now words.old work }
-    requires moment { L.moment link.old ≡ work.stand.moment }
+    requires moment { L.moment link.old ≡ work.progress.moment }
     ensures over { OnOk result.1 (IsOver at_once look.now words.old words.new work result.0 (L.told link.old) (L.told link.new)) }
     ensures stops { OnErr result.1 (StopsRound at_once look.now words.old words.new work result.0 (L.told link.old) (L.told link.new)) }
     ensures strays { IsErrOf result.1 LookFault.Strays → RoundEndsByStray at_once look.now words.old work (L.told link.old) (L.told link.new) }

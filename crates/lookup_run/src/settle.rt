@@ -4,7 +4,7 @@ ghost use Rattle.kad_base.specs.declared.plain.Event.{Event};
 ghost use Rattle.id_puzzles.specs.Drawn.{WordsState};
 ghost use Rattle.lookup_run.specs.Rounds.{Manner, AllSettled};
 ghost use Rattle.lookup_run.specs.Lookup.{IsWithinLimits, TableRan};
-ghost use Rattle.lookup_run.specs.Standing.{Keeps};
+ghost use Rattle.lookup_run.specs.Between.{Keeps};
 ghost use Rattle.lookup_run.specs.Steps.{SettlesPaths, Stops};
 
 use crate::plain::{LookFault, LookSetting, Work};
@@ -21,7 +21,7 @@ fn settle_path<C: Check>(
     requires limits { IsWithinLimits look.now }
     requires path { path < look.now.paths }
     requires keeps { Keeps look.now work.old }
-    requires round_over { work.old.stand.receives ≡ 0 }
+    requires round_over { work.old.progress.receives ≡ 0 }
     requires settled { AllSettled path work.old.book.journal }
     ensures ok { (manner : Manner) (told : Option (List Event)) → OnOk result (SettlesPaths manner look.now path (path + 1) work.old work.new told) }
     ensures ran { OnErr result (TableRan work.old.table work.new.table) }
@@ -41,7 +41,7 @@ pub(crate) fn settle_paths<C: Check>(
 ) -> Result<(), LookFault>
     requires limits { IsWithinLimits look.now }
     requires keeps { Keeps look.now work.old }
-    requires round_over { work.old.stand.receives ≡ 0 }
+    requires round_over { work.old.progress.receives ≡ 0 }
     ensures ok { (manner : Manner) (told : Option (List Event)) → OnOk result (SettlesPaths manner look.now 0 look.now.paths work.old work.new told) }
     ensures stops { (told : Option (List Event)) → OnErr result ((words : WordsState) → Stops look.now words words work.old work.new told told) }
     ensures fault { IfErr result (λ fault. fault ≡ LookFault.NoMemory) }

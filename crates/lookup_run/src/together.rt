@@ -5,7 +5,7 @@ ghost use Rattle.kad_base.specs.Limits.{max_paths};
 ghost use Rattle.id_puzzles.specs.Drawn.{WordsState};
 ghost use Rattle.lookup_run.specs.Rounds.{at_once};
 ghost use Rattle.lookup_run.specs.Lookup.{IsWithinLimits};
-ghost use Rattle.lookup_run.specs.Standing.{Keeps};
+ghost use Rattle.lookup_run.specs.Between.{Keeps};
 ghost use Rattle.lookup_run.specs.Steps.{SettlesPaths, Stops};
 
 use crate::plain::{LookFault, LookSetting, Work};
@@ -54,7 +54,7 @@ fn settle_at_once<R: Threads + Wait + Sync, C: Check + Sync>(
 ) -> (Work, Result<(), LookFault>)
     requires limits { IsWithinLimits look.now }
     requires keeps { Keeps look.now work }
-    requires round_over { work.stand.receives ≡ 0 }
+    requires round_over { work.progress.receives ≡ 0 }
     ensures ok { (told : Option (List Event)) → OnOk result.1 (SettlesPaths at_once look.now 0 look.now.paths work result.0 told) }
     ensures stops { (told : Option (List Event)) → OnErr result.1 ((words : WordsState) → Stops look.now words words work result.0 told told) }
     ensures fault { IfErr result.1 (λ fault. fault ≡ LookFault.NoMemory) }
@@ -64,7 +64,7 @@ fn settle_at_once<R: Threads + Wait + Sync, C: Check + Sync>(
         book,
         table,
         queries,
-        stand,
+        progress,
         gathered,
     } = work;
     let (book, table, settled) = settle_together(
@@ -80,7 +80,7 @@ fn settle_at_once<R: Threads + Wait + Sync, C: Check + Sync>(
         book,
         table,
         queries,
-        stand,
+        progress,
         gathered,
     };
     match settled {
@@ -99,7 +99,7 @@ pub(crate) fn settle_each<R: Threads + Wait + Sync, C: Check + Sync>(
 ) -> (Work, Result<(), LookFault>)
     requires limits { IsWithinLimits look.now }
     requires keeps { Keeps look.now work }
-    requires round_over { work.stand.receives ≡ 0 }
+    requires round_over { work.progress.receives ≡ 0 }
     ensures ok { (told : Option (List Event)) → OnOk result.1 (SettlesPaths at_once look.now 0 look.now.paths work result.0 told) }
     ensures stops { (told : Option (List Event)) → OnErr result.1 ((words : WordsState) → Stops look.now words words work result.0 told told) }
     ensures fault { IfErr result.1 (λ fault. fault ≡ LookFault.NoMemory) }

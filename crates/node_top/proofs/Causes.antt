@@ -19,7 +19,7 @@ use Rattle.node_top.specs.Shown.{Shown, HasFailed}
 use Rattle.node_top.specs.Input.{ReadsTooMuch, HasBadLine}
 use Rattle.node_top.specs.Served.{ServeBegun, ServeCause}
 use Rattle.node_top.specs.Started.{Start}
-use Rattle.node_top.specs.Looked.{Begun, LookCause, ReportsCause, InputCause, EndsByStrays}
+use Rattle.node_top.specs.Looked.{LookupBegun, LookupCause, ReportsCause, InputCause, EndsByStrays}
 use Rattle.node_top.specs.Peered.{PeersBegun}
 use Rattle.node_top.specs.Minted.{seed_of, MintCause, FindsNothing}
 use Rattle.node_top.specs.Plainly.{PlainText, HasPlainText, HasPlainCause, ReadsInput, HasNothing, ReadsWell}
@@ -49,7 +49,7 @@ peers_reads words look announce c = record { command = Peers look announce; aske
 start_seeds : (words : List Word) (random : List ℕ) (source : Shown ℕ) (sought : Sought) → Seeks words sought → Start sought.look random source → HasSeeds words random source
 start_seeds words random source sought c s = record { sought = sought; seeks = c; reads = record { contacts = s.contacts; reads = s.reads; some_one = s.some_one } }
 
-pub begun_by : (words : List Word) (random : List ℕ) (source : Shown ℕ) (link : Shown Event) (look : LookWords) → CommandOf words (Lookup look) → Begun FindNode look random source link → HasBegun words random source link
+pub begun_by : (words : List Word) (random : List ℕ) (source : Shown ℕ) (link : Shown Event) (look : LookWords) → CommandOf words (Lookup look) → LookupBegun FindNode look random source link → HasBegun words random source link
 begun_by words random source link look c b = record { command = Lookup look; asked = c; begun = b }
 
 pub peers_begun_by : (words : List Word) (random : List ℕ) (source : Shown ℕ) (link : Shown Event) (look : LookWords) (announce : Option ℕ) → CommandOf words (Peers look announce) → PeersBegun look announce random source link → HasBegun words random source link
@@ -66,7 +66,7 @@ has_start words random source sought c s = record { command = c.command; asked =
 
 -- the cause of a lookup is that of the command that asked for it
 seek_cause : (words : List Word) (sought : Sought) (random : List ℕ) (source : Shown ℕ) (link : Shown Event) (status : Status) → Seeks words sought → ReadsInput words
-    → (Begun sought.kind sought.look random source link → HasBegun words random source link) → LookCause sought.kind sought.look random source link status → HasCause words random source link status
+    → (LookupBegun sought.kind sought.look random source link → HasBegun words random source link) → LookupCause sought.kind sought.look random source link status → HasCause words random source link status
 seek_cause words sought random source link Usage seeks input begun h = absurd h
 seek_cause words sought random source link (BadLine line) seeks input begun h = (input, h)
 seek_cause words sought random source link LinkFault seeks input begun h = (h.0, has_start words random source sought seeks h.1.start, begun h.1, few_for words random link sought seeks h.2)
@@ -77,10 +77,10 @@ seek_cause words sought random source link NoMemory seeks input begun h = tt
 seek_cause words sought random source link Unminted seeks input begun h = absurd h
 seek_cause words sought random source link TooLong seeks input begun h = (input, h)
 
-pub cause_of : (words : List Word) (look : LookWords) (random : List ℕ) (source : Shown ℕ) (link : Shown Event) (status : Status) → CommandOf words (Lookup look) → LookCause FindNode look random source link status → HasCause words random source link status
+pub cause_of : (words : List Word) (look : LookWords) (random : List ℕ) (source : Shown ℕ) (link : Shown Event) (status : Status) → CommandOf words (Lookup look) → LookupCause FindNode look random source link status → HasCause words random source link status
 cause_of words look random source link status c h = seek_cause words (record { kind = FindNode; look = look }) random source link status (lookup_seeks words look c) (lookup_reads words look c) (begun_by words random source link look c) h
 
-pub peers_cause_of : (words : List Word) (look : LookWords) (announce : Option ℕ) (random : List ℕ) (source : Shown ℕ) (link : Shown Event) (status : Status) → CommandOf words (Peers look announce) → LookCause GetPeers look random source link status → HasCause words random source link status
+pub peers_cause_of : (words : List Word) (look : LookWords) (announce : Option ℕ) (random : List ℕ) (source : Shown ℕ) (link : Shown Event) (status : Status) → CommandOf words (Peers look announce) → LookupCause GetPeers look random source link status → HasCause words random source link status
 peers_cause_of words look announce random source link status c h =
     seek_cause words (record { kind = GetPeers; look = look }) random source link status (peers_seeks words look announce c) (peers_reads words look announce c) (λ begun. peers_begun_by words random source link look announce c (inl begun)) h
 

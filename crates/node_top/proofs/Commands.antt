@@ -33,7 +33,7 @@ use Rattle.node_top.specs.Printed.{printed}
 use Rattle.node_top.specs.Shown.{Shown}
 use Rattle.node_top.specs.Input.{Admits, Reads}
 use Rattle.node_top.specs.Started.{look_of, book_of, drawn_of, IsInRange, seen_call, Start}
-use Rattle.node_top.specs.Looked.{printed_of, Begun, EndsByStrays, MeetsFewStrays}
+use Rattle.node_top.specs.Looked.{printed_of, LookupBegun, EndsByStrays, MeetsFewStrays}
 use Rattle.node_top.proofs.Starting.{usable_told}
 
 pub admits_usable : (own : Id) (policy : Policy) (rs : List Report) (cs : List Contact) → Admits own policy rs cs → All (IsUsable own) cs
@@ -55,7 +55,7 @@ text_is s o text a b c d is =
     ∙ ap (λ n. printed (result_of s o.journal) (length (asked o.journal)) (length (failed o.journal)) n) d
 
 pub begun_of : (kind : AskKind) (look : LookWords) (random : List ℕ) (source : Shown ℕ) (link : Shown Event) (start : Start look random source) (left : WordsState) → Unfinished (look_of kind look random) start.table (drawn_of random) left link.before link.after
-    → Begun kind look random source link
+    → LookupBegun kind look random source link
 begun_of kind look random source link start left h = record {
   start = start;
   left = left;
@@ -116,7 +116,7 @@ pub few_from : (kind : AskKind) (look : LookWords) (random : List ℕ) (source :
 few_from kind look random source link setting words table h few = moved kind look random source setting words table (λ s w. Grows link.before link.after (λ events. ¬ EndsAtStray (given_of s w) events max_strays)) h few
 
 pub begun_from : (kind : AskKind) (look : LookWords) (random : List ℕ) (source : Shown ℕ) (link : Shown Event) (setting : LookSetting) (words left : WordsState) (table : TableState) → Has kind look random source setting words table
-    → Unfinished setting table words left link.before link.after → Begun kind look random source link
+    → Unfinished setting table words left link.before link.after → LookupBegun kind look random source link
 begun_from kind look random source link setting words left table h so_far =
     begun_of kind look random source link (start_of kind look random source setting words table h) left
     (moved kind look random source setting words table (λ s w. Unfinished s table w left link.before link.after) h so_far)

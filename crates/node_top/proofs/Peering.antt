@@ -18,7 +18,7 @@ use Rattle.lookup_run.specs.Tells.{Given, EndsAtStray}
 use Rattle.kad_words.specs.declared.command.LookWords.{LookWords}
 use Rattle.node_top.specs.declared.seek.Reached.{Reached}
 use Rattle.node_top.specs.Announced.{Announcement, owed, tried, asking, Announces, AnnouncesSome}
-use Rattle.node_top.specs.Peered.{announced_by, next_place, TellsPeers, TellsSomePeers, PeersAt, AnnouncedSome}
+use Rattle.node_top.specs.Peered.{announced_by, next_place, TellsPeers, TellsSomePeers, PeersText, AnnouncedSome}
 use Rattle.node_top.specs.Printed.{printed_peers}
 use Rattle.node_top.specs.Shown.{Shown}
 use Rattle.node_top.specs.Started.{own_of, book_of, lookup_of}
@@ -92,7 +92,7 @@ pub peers_at : (look : LookWords) (port : Option ℕ) (random : List ℕ) (sourc
     → Reaches GetPeers look random source (record { before = before; after = middle; faults = f; faults' = f' }) r
     → Grows middle after (Sends r.words.seed r.words.place (owes look port random r) n)
     → text ≡ printed_peers r.outcome.peers (length r.outcome.found) r.outcome.counts.asked r.outcome.counts.failed r.outcome.counts.turned n
-    → PeersAt look port random source (record { before = before; after = after; faults = f; faults' = f'' }) text
+    → PeersText look port random source (record { before = before; after = after; faults = f; faults' = f'' }) text
 peers_at look port random source before middle after f f' f'' r n text h sends is =
     let o = r.outcome in
     let J = o.journal in

@@ -16,13 +16,13 @@ use Rattle.lookup_run.specs.declared.plain.Outcome.{Outcome}
 use Rattle.lookup_run.specs.Tells.{Given, Tells, EndsAtStray}
 use Rattle.lookup_run.specs.Rounds.{Rounds, at_once}
 use Rattle.lookup_run.specs.Gathered.{Gathers}
-use Rattle.lookup_run.specs.Lookup.{given_of, LooksUp, TellsEarly}
+use Rattle.lookup_run.specs.Lookup.{given_of, Finished, TellsEarly}
 use Rattle.kad_words.specs.declared.command.LookWords.{LookWords}
 use Rattle.node_top.specs.declared.seek.Reached.{Reached}
 use Rattle.node_top.specs.Printed.{printed}
 use Rattle.node_top.specs.Shown.{Shown}
 use Rattle.node_top.specs.Started.{look_of, book_of, drawn_of, lookup_of, IsInRange, Start}
-use Rattle.node_top.specs.Looked.{LooksAt, Begun, MeetsFewStrays}
+use Rattle.node_top.specs.Looked.{LookupText, LookupBegun, MeetsFewStrays}
 use Rattle.node_top.specs.Reached.{HasRunOut, TellsAll, Reaches}
 use Rattle.node_top.proofs.Commands.{Has, start_of, moved, begun_of, tells_early, text_is}
 
@@ -37,7 +37,7 @@ grows_both {A} a (Some after) P Q R g h f =
 -- ---- what a lookup reaches
 
 ran_out : (kind : AskKind) (look : LookWords) (random : List ℕ) (source : Shown ℕ) (start : Start look random source) (words left : WordsState) (told told' : Option (List Event)) (o : Outcome) → IsInRange look
-    → LooksUp (look_of kind look random) start.table words left told told' o → HasRunOut kind look random source o.journal
+    → Finished (look_of kind look random) start.table words left told told' o → HasRunOut kind look random source o.journal
 ran_out kind look random source start words left told told' o range up =
     let set = book_of kind look random in
     record {
@@ -59,12 +59,12 @@ all_told g o a b tells rounds gathers few =
     grows_both a b _ _ (TellsAll g o.journal o.peers o.tokens) half rest (λ t p q. record { tells = p.0; rounds = p.1; gathers = q.0; few_strays = q.1 })
 
 pub reaches : (kind : AskKind) (look : LookWords) (random : List ℕ) (source : Shown ℕ) (link : Shown Event) (setting : LookSetting) (words left : WordsState) (table : TableState) (o : Outcome) → Has kind look random source setting words table
-    → LooksUp setting table words left link.before link.after o → Grows link.before link.after (λ events. Rounds at_once (given_of setting words) o.journal events)
+    → Finished setting table words left link.before link.after o → Grows link.before link.after (λ events. Rounds at_once (given_of setting words) o.journal events)
     → Grows link.before link.after (λ events. Gathers (given_of setting words) o.journal events o.peers o.tokens)
     → Grows link.before link.after (λ events. ¬ EndsAtStray (given_of setting words) events max_strays)
     → Reaches kind look random source link (record { outcome = o; words = left })
 reaches kind look random source link setting words left table o h up rounds gathers few =
-    let up' : LooksUp (look_of kind look random) table (drawn_of random) left link.before link.after o = moved kind look random source setting words table (λ s w. LooksUp s table w left link.before link.after o) h up in
+    let up' : Finished (look_of kind look random) table (drawn_of random) left link.before link.after o = moved kind look random source setting words table (λ s w. Finished s table w left link.before link.after o) h up in
     let rounds' = moved kind look random source setting words table (λ s w. Grows link.before link.after (λ events. Rounds at_once (given_of s w) o.journal events)) h rounds in
     let gathers' = moved kind look random source setting words table (λ s w. Grows link.before link.after (λ events. Gathers (given_of s w) o.journal events o.peers o.tokens)) h gathers in
     let few' = moved kind look random source setting words table (λ s w. Grows link.before link.after (λ events. ¬ EndsAtStray (given_of s w) events max_strays)) h few in
@@ -79,7 +79,7 @@ reaches kind look random source link setting words left table o h up rounds gath
 -- ---- and what follows
 
 -- a lookup that has run out had begun
-pub begun_reached : (kind : AskKind) (look : LookWords) (random : List ℕ) (source : Shown ℕ) (link : Shown Event) (r : Reached) → Reaches kind look random source link r → Begun kind look random source link
+pub begun_reached : (kind : AskKind) (look : LookWords) (random : List ℕ) (source : Shown ℕ) (link : Shown Event) (r : Reached) → Reaches kind look random source link r → LookupBegun kind look random source link
 begun_reached kind look random source link r h =
     begun_of kind look random source link h.ran.start r.words (record {
       journal = r.outcome.journal;
@@ -93,7 +93,7 @@ pub few_reached : (kind : AskKind) (look : LookWords) (random : List ℕ) (sourc
 few_reached kind look random source link r h = grows_weaker link.before link.after _ _ h.tells (λ events t. t.few_strays)
 
 pub looks_reached : (kind : AskKind) (look : LookWords) (random : List ℕ) (source : Shown ℕ) (link : Shown Event) (r : Reached) (text : List ℕ) → Reaches kind look random source link r
-    → text ≡ printed r.outcome.found r.outcome.counts.asked r.outcome.counts.failed r.outcome.counts.turned → LooksAt kind look random source link text
+    → text ≡ printed r.outcome.found r.outcome.counts.asked r.outcome.counts.failed r.outcome.counts.turned → LookupText kind look random source link text
 looks_reached kind look random source link r text h is =
     record {
       journal = r.outcome.journal;

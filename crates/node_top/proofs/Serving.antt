@@ -29,9 +29,9 @@ use Rattle.node_top.specs.Endings.{EndsEarly as EndsBefore, number_of}
 use Rattle.node_top.specs.Input.{Lists, Admits, Keeps}
 use Rattle.node_top.specs.Looked.{ReportsCause}
 use Rattle.node_top.specs.Printed.{served_text}
-use Rattle.node_top.specs.Responded.{standing, RespondsWith, ReceivesOne, ReceivesAll, Stops, StopsAll}
+use Rattle.node_top.specs.Responded.{serve_state, RespondsWith, ReceivesOne, ReceivesAll, Stops, StopsAll}
 use Rattle.node_top.specs.Shown.{Shown}
-use Rattle.node_top.specs.Served.{Hosts, Standing, begun_at, waits_until, Responds, silent, answered, ServesOne, quiet, came, Serves, Unanswered, ServesSome, Served, ServedSome, ServeBegun, ServeCause, is_got, got_in}
+use Rattle.node_top.specs.Served.{Hosts, ServeState, begun_at, waits_until, Responds, silent, answered, ServesOne, quiet, came, Serves, Unanswered, ServesSome, Served, ServedSome, ServeBegun, ServeCause, is_got, got_in}
 use Rattle.node_top.specs.Started.{own_of, seen_call}
 use Rattle.node_top.proofs.Announcing.{sent_then, number_sent, told_still}
 use Rattle.node_top.proofs.Exactly.{rose_after}
@@ -88,14 +88,14 @@ nothing_came s until at a b waits g =
 
 -- a query came whose answer found no memory
 pub query_came : (s : Server) (next : NodeState) (from : Addr) (bytes : List ℕ) (until at : ℕ) (a b c : Option (List Event)) → until ≡ waits_until s.moment → Grows a b (λ es. es ≡ Got from bytes until at ∷ []) → c ≡ b
-    → EndsEarly s.node from bytes at next → Grows a c (Unanswered (standing s))
+    → EndsEarly s.node from bytes at next → Grows a c (Unanswered (serve_state s))
 query_came s next from bytes until at a b c waits g still ends =
     told_still a b c _ still (grows_weaker a b _ _ g (λ es e. record { from = from; bytes = bytes; at = at; next = next; got = e ∙ ap (λ u. Got from bytes u at ∷ []) waits; ends = ends }))
 
 -- ---- all of them
 
-serves_more : (n : ℕ) (s u t : Standing) (es fs : List Event) → Serves n s es u → ServesOne u fs t → Serves (suc n) s (es ++ fs) t
-serves_more zero s u t es fs h one = (fs, t, [], ap (λ (l : List Event). l ++ fs) h.0 ∙ sym (append-nil fs), subst (λ (x : Standing). ServesOne x fs t) h.1 one, (refl, refl))
+serves_more : (n : ℕ) (s u t : ServeState) (es fs : List Event) → Serves n s es u → ServesOne u fs t → Serves (suc n) s (es ++ fs) t
+serves_more zero s u t es fs h one = (fs, t, [], ap (λ (l : List Event). l ++ fs) h.0 ∙ sym (append-nil fs), subst (λ (x : ServeState). ServesOne x fs t) h.1 one, (refl, refl))
 serves_more (suc n) s u t es fs h one = (h.0, h.1, h.2 ++ fs, ap (λ (l : List Event). l ++ fs) h.3 ∙ append_assoc h.0 h.2 fs, h.4, serves_more n h.1 u t h.2 fs h.5 one)
 
 got_then : (es fs : List Event) → got_in (es ++ fs) ≡ got_in es + got_in fs
@@ -115,25 +115,25 @@ received_more n s t u a b c g h =
     let w = q.replied_are in
     let next : suc n ≡ n + 1 = omega arith in
     record {
-      serves = subst (λ m. Serves m (standing s) (es ++ fs) (standing u)) next (serves_more n (standing s) (standing t) (standing u) es fs p.serves q.serves);
+      serves = subst (λ m. Serves m (serve_state s) (es ++ fs) (serve_state u)) next (serves_more n (serve_state s) (serve_state t) (serve_state u) es fs p.serves q.serves);
       received_are = omega (arith, got, x, y);
       replied_are = omega (arith, sent, v, w);
     })
 
 -- one stops, and so do all
-pub all_stop : (status : Status) (n all : ℕ) (s t : Server) (faults faults' faults'' : ℕ) (a b c : Option (List Event)) → n < all → faults ≤ faults' → Grows a b (ReceivesAll n s t) → Stops status (standing t) faults' faults'' b c
-    → StopsAll status (standing s) all faults faults'' a c
+pub all_stop : (status : Status) (n all : ℕ) (s t : Server) (faults faults' faults'' : ℕ) (a b c : Option (List Event)) → n < all → faults ≤ faults' → Grows a b (ReceivesAll n s t) → Stops status (serve_state t) faults' faults'' b c
+    → StopsAll status (serve_state s) all faults faults'' a c
 all_stop Usage n all s t faults faults' faults'' a b c lt le g h = absurd h
 all_stop (BadLine line) n all s t faults faults' faults'' a b c lt le g h = absurd h
 all_stop LinkFault n all s t faults faults' faults'' a b c lt le g h = (
   rose_after faults faults' faults'' le h.0,
-  grows_then a b c _ _ _ g h.1 (λ es fs p e. record { made = n; few = omega (arith, lt); front = es; end = standing t; serves = p.serves; last = fs; whole = refl; ended = inl e }),
+  grows_then a b c _ _ _ g h.1 (λ es fs p e. record { made = n; few = omega (arith, lt); front = es; end = serve_state t; serves = p.serves; last = fs; whole = refl; ended = inl e }),
 )
 all_stop SourceFault n all s t faults faults' faults'' a b c lt le g h = absurd h
 all_stop Strays n all s t faults faults' faults'' a b c lt le g h = absurd h
 all_stop NoSeeds n all s t faults faults' faults'' a b c lt le g h = absurd h
 all_stop NoMemory n all s t faults faults' faults'' a b c lt le g h =
-    grows_then a b c _ _ _ g h (λ es fs p q. record { made = n; few = omega (arith, lt); front = es; end = standing t; serves = p.serves; last = fs; whole = refl; ended = inr (lt, q) })
+    grows_then a b c _ _ _ g h (λ es fs p q. record { made = n; few = omega (arith, lt); front = es; end = serve_state t; serves = p.serves; last = fs; whole = refl; ended = inr (lt, q) })
 all_stop Unminted n all s t faults faults' faults'' a b c lt le g h = absurd h
 all_stop TooLong n all s t faults faults' faults'' a b c lt le g h = absurd h
 
@@ -161,28 +161,28 @@ served_all service random table proofs node began t a b c begins g h =
       then = fs;
       whole = ap (λ (l : List Event). l ++ fs) e;
       serves = record {
-        end = standing t;
-        serves = subst (λ (s : Standing). Serves service.receives s fs (standing t)) begins p.serves;
+        end = serve_state t;
+        serves = subst (λ (s : ServeState). Serves service.receives s fs (serve_state t)) begins p.serves;
         received_are = omega (arith, received_);
         replied_are = omega (arith, replied_);
       };
     })
 
 pub served_some : (service : Service) (random : List ℕ) (table : TableState) (proofs : List Report) (node : NodeState) (began : ℕ) (a b c : Option (List Event))
-    → record { node = node; moment = began } ≡ begun_at service random table proofs began → Grows a b (λ es. es ≡ Now began ∷ []) → Grows b c (ServesSome (standing (server_at node began)) service.receives)
+    → record { node = node; moment = began } ≡ begun_at service random table proofs began → Grows a b (λ es. es ≡ Now began ∷ []) → Grows b c (ServesSome (serve_state (server_at node began)) service.receives)
     → Grows a c (ServedSome service random table proofs)
 served_some service random table proofs node began a b c begins g h =
     grows_then a b c _ _ _ g h (λ es fs e p. record {
       began = began;
       then = fs;
       whole = ap (λ (l : List Event). l ++ fs) e;
-      serves = subst (λ (s : Standing). ServesSome s service.receives fs) begins p;
+      serves = subst (λ (s : ServeState). ServesSome s service.receives fs) begins p;
     })
 
 -- all of them are some of them
-pub all_some : (n : ℕ) (s t : Server) (a b : Option (List Event)) → Grows a b (ReceivesAll n s t) → Grows a b (ServesSome (standing s) n)
+pub all_some : (n : ℕ) (s t : Server) (a b : Option (List Event)) → Grows a b (ReceivesAll n s t) → Grows a b (ServesSome (serve_state s) n)
 all_some n s t a b g =
-    grows_weaker a b _ _ g (λ es p. record { made = n; few = omega arith; front = es; end = standing t; serves = p.serves; last = []; whole = sym (append-nil es); ended = inl refl })
+    grows_weaker a b _ _ g (λ es p. record { made = n; few = omega arith; front = es; end = serve_state t; serves = p.serves; last = []; whole = sym (append-nil es); ended = inl refl })
 
 -- what it begins with, as the code has it
 pub hosted : (service : Service) (random : List ℕ) (source : Shown ℕ) (own : Id) (reports read : List Report) (contacts cs : List Contact) (proofs : List Report) (table : TableState) → own ≡ own_of service.own random → Lists source reports → read ≡ reports
@@ -198,7 +198,7 @@ hosted service random source own reports read contacts cs proofs table mine list
 
 -- how it ends where its receive calls stop
 pub stops_begun : (service : Service) (random : List ℕ) (source : Shown ℕ) (link : Shown Event) (status : Status) (table : TableState) (proofs : List Report) (node : NodeState) (began faults : ℕ) (b : Option (List Event)) → Hosts service random source table proofs
-    → record { node = node; moment = began } ≡ begun_at service random table proofs began → Grows link.before b (λ es. es ≡ Now began ∷ []) → StopsAll status (standing (server_at node began)) service.receives faults link.faults' b link.after
+    → record { node = node; moment = began } ≡ begun_at service random table proofs began → Grows link.before b (λ es. es ≡ Now began ∷ []) → StopsAll status (serve_state (server_at node began)) service.receives faults link.faults' b link.after
     → ServeBegun service random source link
 stops_begun service random source link Usage table proofs node began faults b hosts begins g h = absurd h
 stops_begun service random source link (BadLine line) table proofs node began faults b hosts begins g h = absurd h
@@ -212,7 +212,7 @@ stops_begun service random source link NoMemory table proofs node began faults b
 stops_begun service random source link Unminted table proofs node began faults b hosts begins g h = absurd h
 stops_begun service random source link TooLong table proofs node began faults b hosts begins g h = absurd h
 
-pub stops_cause : (service : Service) (random : List ℕ) (source : Shown ℕ) (link : Shown Event) (status : Status) (s : Standing) (n faults : ℕ) (b : Option (List Event)) → link.faults ≤ faults → StopsAll status s n faults link.faults' b link.after
+pub stops_cause : (service : Service) (random : List ℕ) (source : Shown ℕ) (link : Shown Event) (status : Status) (s : ServeState) (n faults : ℕ) (b : Option (List Event)) → link.faults ≤ faults → StopsAll status s n faults link.faults' b link.after
     → ServeBegun service random source link → ServeCause service random source link status
 stops_cause service random source link Usage s n faults b le h begun = absurd h
 stops_cause service random source link (BadLine line) s n faults b le h begun = absurd h
@@ -231,7 +231,7 @@ four_late e = elim e [ inl a ↦ absurd cc | inr e ↦ elim e [ inl a ↦ absurd
 nine_late : EndsBefore 9 → ⊥
 nine_late e = elim e [ inl a ↦ absurd cc | inr e ↦ elim e [ inl a ↦ absurd cc | inr e ↦ elim e [ inl a ↦ absurd cc | inr e ↦ elim e [ inl a ↦ absurd cc | inr e ↦ elim e [ inl a ↦ absurd cc | inr a ↦ absurd cc ] ] ] ] ]
 
-pub stops_late : (status : Status) (s : Standing) (n faults faults' : ℕ) (a b : Option (List Event)) → StopsAll status s n faults faults' a b → EndsBefore (number_of status) → ⊥
+pub stops_late : (status : Status) (s : ServeState) (n faults faults' : ℕ) (a b : Option (List Event)) → StopsAll status s n faults faults' a b → EndsBefore (number_of status) → ⊥
 stops_late Usage s n faults faults' a b h early = h
 stops_late (BadLine line) s n faults faults' a b h early = h
 stops_late LinkFault s n faults faults' a b h early = four_late early

@@ -24,7 +24,7 @@ use Rattle.lookup_run.specs.declared.plain.LookSetting.{LookSetting}
 use Rattle.lookup_run.specs.declared.plain.AskKind.TheVariants.{FindNode}
 use Rattle.lookup_run.specs.declared.plain.Outcome.{Outcome}
 use Rattle.lookup_run.specs.Rounds.{Rounds, path_by_path}
-use Rattle.lookup_run.specs.Lookup.{IsWithinLimits, given_of, LooksUp, TableTold}
+use Rattle.lookup_run.specs.Lookup.{IsWithinLimits, given_of, Finished, TableTold}
 use Rattle.node_top.specs.declared.sim.Simulation.{Simulation}
 use Rattle.kad_words.specs.declared.command.LookWords.{LookWords}
 use Rattle.node_top.specs.declared.sim.Start.{Start}
@@ -95,7 +95,7 @@ sim_usable s start b =
 
 simulates_at : (s : Simulation) (left : WordsState) (contacts : List Contact) (table : TableState) (near : List Contact) (o : Outcome) (events : List Event) (text : List ℕ)
     → Admits (own_of None s.seed) Plain (first_nodes s) contacts → StartsWith (sim_look s) s.seed contacts table → near ≡ sought_in s → Plays (network_of s) events
-    → LooksUp (look_of FindNode (sim_look s) s.seed) table (drawn_of s.seed) left (Some []) (Some events) o
+    → Finished (look_of FindNode (sim_look s) s.seed) table (drawn_of s.seed) left (Some []) (Some events) o
     → Grows (Some []) (Some events) (λ events. Rounds path_by_path (lookup_of FindNode (sim_look s) s.seed) o.journal events)
     → text ≡ line_of (sim_text (length o.found) o.counts.asked o.counts.failed o.counts.turned (count_among near o.found)) → Simulates s text
 simulates_at s left contacts table near o events text admits told near_is plays up rounds is =
@@ -126,15 +126,15 @@ simulates_at s left contacts table near o events text admits told near_is plays 
 -- the same over the values that the code has
 pub simulates : (s : Simulation) (start : Start) (words left : WordsState) (o : Outcome) (net : Network) (before after : Option (List Event)) (text : List ℕ)
     → Begins s start → words ≡ drawn_of s.seed → net ≡ network_of s → before ≡ Some [] → (after ≡ None → ⊥) → IfSome after (Plays net)
-    → LooksUp start.setting start.table words left before after o → Grows before after (λ events. Rounds path_by_path (given_of start.setting words) o.journal events)
+    → Finished start.setting start.table words left before after o → Grows before after (λ events. Rounds path_by_path (given_of start.setting words) o.journal events)
     → text ≡ line_of (sim_text (length o.found) o.counts.asked o.counts.failed o.counts.turned (count_among start.near o.found)) → Simulates s text
 simulates s start words left o net before None text begun f net_is began goes_on plays up rounds is = absurd (goes_on refl)
 simulates s start words left o net before (Some events) text begun f net_is began goes_on plays up rounds is =
     let setting = look_of FindNode (sim_look s) s.seed in
     simulates_at s left begun.contacts start.table start.near o events text begun.admits begun.told begun.near_is (subst (λ (n : Network). Plays n events) net_is plays)
-    (subst (λ (st : LookSetting). LooksUp st start.table (drawn_of s.seed) left (Some []) (Some events) o) begun.setting_is
-    (subst (λ (w : WordsState). LooksUp start.setting start.table w left (Some []) (Some events) o) f
-    (subst (λ (b : Option (List Event)). LooksUp start.setting start.table words left b (Some events) o) began up)))
+    (subst (λ (st : LookSetting). Finished st start.table (drawn_of s.seed) left (Some []) (Some events) o) begun.setting_is
+    (subst (λ (w : WordsState). Finished start.setting start.table w left (Some []) (Some events) o) f
+    (subst (λ (b : Option (List Event)). Finished start.setting start.table words left b (Some events) o) began up)))
     (subst (λ (st : LookSetting). Grows (Some []) (Some events) (λ events. Rounds path_by_path (given_of st (drawn_of s.seed)) o.journal events)) begun.setting_is
     (subst (λ (w : WordsState). Grows (Some []) (Some events) (λ events. Rounds path_by_path (given_of start.setting w) o.journal events)) f
     (subst (λ (b : Option (List Event)). Grows b (Some events) (λ events. Rounds path_by_path (given_of start.setting words) o.journal events)) began rounds)))

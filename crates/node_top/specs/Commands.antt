@@ -17,10 +17,10 @@ use Rattle.node_top.specs.declared.status.Status.{Status}
 use Rattle.node_top.specs.declared.status.Status.TheVariants.{Usage, BadLine, LinkFault, SourceFault, Strays, NoSeeds, NoMemory, Unminted, TooLong}
 use Rattle.node_top.specs.Asked.{Asks}
 use Rattle.node_top.specs.Input.{ReadsFew, ReadsTooMuch, Reads, ReadsSome, IsGood, IsBadLine}
-use Rattle.node_top.specs.Looked.{LooksAt, Begun, EndsByStrays, MeetsFewStrays}
-use Rattle.node_top.specs.Peered.{PeersAt, PeersBegun}
+use Rattle.node_top.specs.Looked.{LookupText, LookupBegun, EndsByStrays, MeetsFewStrays}
+use Rattle.node_top.specs.Peered.{PeersText, PeersBegun}
 use Rattle.node_top.specs.Plainly.{PlainText, PlainNeeds, ReadsInput, HasNothing}
-use Rattle.node_top.specs.Served.{ServesAt, ServeBegun}
+use Rattle.node_top.specs.Served.{ServeText, ServeBegun}
 use Rattle.node_top.specs.Shown.{Shown, IsTold, HasFailed}
 use Rattle.node_top.specs.Started.{own_of}
 
@@ -51,14 +51,14 @@ service_of own k bits policy receives = record { own = own; k = k; bits = bits; 
 
 -- the text of a command
 abbrev pub TextOf : Command → List ℕ → Shown ℕ → Shown Event → List ℕ → Type 0
-TextOf (Lookup look) random source link text = LooksAt FindNode look random source link text
-TextOf (Peers look announce) random source link text = PeersAt look announce random source link text
-TextOf (Serve own k bits policy receives) random source link text = ServesAt (service_of own k bits policy receives) random source link text
+TextOf (Lookup look) random source link text = LookupText FindNode look random source link text
+TextOf (Peers look announce) random source link text = PeersText look announce random source link text
+TextOf (Serve own k bits policy receives) random source link text = ServeText (service_of own k bits policy receives) random source link text
 TextOf other random source link text = PlainText other random source text
 
 -- what a command over a link had done when it ended early
 abbrev pub BegunBy : Command → List ℕ → Shown ℕ → Shown Event → Type 0
-BegunBy (Lookup look) random source link = Begun FindNode look random source link
+BegunBy (Lookup look) random source link = LookupBegun FindNode look random source link
 BegunBy (Peers look announce) random source link = PeersBegun look announce random source link
 BegunBy (Serve own k bits policy receives) random source link = ServeBegun (service_of own k bits policy receives) random source link
 BegunBy other random source link = ⊥

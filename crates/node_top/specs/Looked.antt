@@ -41,7 +41,7 @@ MeetsFewStrays kind look random link = Grows link.before link.after (λ events. 
 
 -- A lookup that was asked for: its journal has run out, the link's events tell it and go by rounds, and the text is its
 -- own. So each that is printed has answered.
-pub record LooksAt (kind : AskKind) (look : LookWords) (random : List ℕ) (source : Shown ℕ) (link : Shown Event) (text : List ℕ) : Type 0 where
+pub record LookupText (kind : AskKind) (look : LookWords) (random : List ℕ) (source : Shown ℕ) (link : Shown Event) (text : List ℕ) : Type 0 where
   pub journal : List Entry
   pub ran : HasRunOut kind look random source journal
   pub tells : Grows link.before link.after (λ events. Tells (lookup_of kind look random) journal events)
@@ -51,7 +51,7 @@ pub record LooksAt (kind : AskKind) (look : LookWords) (random : List ℕ) (sour
 
 -- A lookup that ended early: there is a legal journal that begins with the same contacts, which the events tell so far. So
 -- no contact was asked twice either, and what a path asked came from its own seeds and answers.
-pub record Begun (kind : AskKind) (look : LookWords) (random : List ℕ) (source : Shown ℕ) (link : Shown Event) : Type 0 where
+pub record LookupBegun (kind : AskKind) (look : LookWords) (random : List ℕ) (source : Shown ℕ) (link : Shown Event) : Type 0 where
   pub start : Start look random source
   pub left : WordsState
   pub so_far : Unfinished (look_of kind look random) start.table (drawn_of random) left link.before link.after
@@ -59,16 +59,16 @@ pub record Begun (kind : AskKind) (look : LookWords) (random : List ℕ) (source
   pub own_answers : GoesByOwnAnswers (book_of kind look random) so_far.journal
 
 -- why a lookup ended with no output
-abbrev pub LookCause : AskKind → LookWords → List ℕ → Shown ℕ → Shown Event → Status → Type 0
-LookCause kind look random source link Usage = ⊥
-LookCause kind look random source link (BadLine line) = IsBadLine source line
-LookCause kind look random source link LinkFault = HasFailed link × Begun kind look random source link × MeetsFewStrays kind look random link
-LookCause kind look random source link SourceFault = HasFailed source × ReadsFew source.before source.after
-LookCause kind look random source link Strays = EndsByStrays kind look random link × Begun kind look random source link
-LookCause kind look random source link NoSeeds = Reads (own_of look.own random) look.policy source []
-LookCause kind look random source link NoMemory = Unit {0}
-LookCause kind look random source link TooLong = ReadsTooMuch source.before source.after
-LookCause kind look random source link Unminted = ⊥
+abbrev pub LookupCause : AskKind → LookWords → List ℕ → Shown ℕ → Shown Event → Status → Type 0
+LookupCause kind look random source link Usage = ⊥
+LookupCause kind look random source link (BadLine line) = IsBadLine source line
+LookupCause kind look random source link LinkFault = HasFailed link × LookupBegun kind look random source link × MeetsFewStrays kind look random link
+LookupCause kind look random source link SourceFault = HasFailed source × ReadsFew source.before source.after
+LookupCause kind look random source link Strays = EndsByStrays kind look random link × LookupBegun kind look random source link
+LookupCause kind look random source link NoSeeds = Reads (own_of look.own random) look.policy source []
+LookupCause kind look random source link NoMemory = Unit {0}
+LookupCause kind look random source link TooLong = ReadsTooMuch source.before source.after
+LookupCause kind look random source link Unminted = ⊥
 
 -- why an input gave no reports
 abbrev pub ReportsCause : Shown ℕ → Status → Type 0

@@ -11,7 +11,7 @@ use Rattle.lookup_run.specs.declared.plain.AskKind.TheVariants.{GetPeers}
 use Rattle.lookup_run.specs.declared.plain.Token.{Token}
 use Rattle.kad_words.specs.declared.command.LookWords.{LookWords}
 use Rattle.node_top.specs.Announced.{Announcement, owed, Announces, AnnouncesSome, sent_in}
-use Rattle.node_top.specs.Looked.{Begun, MeetsFewStrays}
+use Rattle.node_top.specs.Looked.{LookupBegun, MeetsFewStrays}
 use Rattle.node_top.specs.Printed.{printed_peers}
 use Rattle.node_top.specs.Shown.{Shown}
 use Rattle.node_top.specs.Reached.{HasRunOut, TellsAll}
@@ -47,7 +47,7 @@ pub record TellsSomePeers (look : LookWords) (announce : Option ℕ) (random : L
 
 -- A lookup for peers that was asked for, with its announcements. The text names each peer once, in the order of addresses,
 -- and counts what was found, asked and announced.
-pub record PeersAt (look : LookWords) (announce : Option ℕ) (random : List ℕ) (source : Shown ℕ) (link : Shown Event) (text : List ℕ) : Type 0 where
+pub record PeersText (look : LookWords) (announce : Option ℕ) (random : List ℕ) (source : Shown ℕ) (link : Shown Event) (text : List ℕ) : Type 0 where
   pub journal : List Entry
   pub ran : HasRunOut GetPeers look random source journal
   pub peers : List Addr
@@ -64,4 +64,4 @@ pub record AnnouncedSome (look : LookWords) (announce : Option ℕ) (random : Li
 
 -- a lookup for peers that ended early, itself or in its announcements
 abbrev pub PeersBegun : LookWords → Option ℕ → List ℕ → Shown ℕ → Shown Event → Type 0
-PeersBegun look announce random source link = Begun GetPeers look random source link ⊎ AnnouncedSome look announce random source link
+PeersBegun look announce random source link = LookupBegun GetPeers look random source link ⊎ AnnouncedSome look announce random source link

@@ -8,11 +8,11 @@ use Rattle.node_top.specs.declared.respond.Server.{Server}
 use Rattle.node_top.specs.declared.status.Status.{Status}
 use Rattle.node_top.specs.declared.status.Status.TheVariants.{LinkFault, NoMemory}
 use Rattle.node_top.specs.Announced.{sent_in}
-use Rattle.node_top.specs.Served.{Standing, Responds, ServesOne, Serves, Unanswered, ServesSome, got_in}
+use Rattle.node_top.specs.Served.{ServeState, Responds, ServesOne, Serves, Unanswered, ServesSome, got_in}
 
 -- the node and its moment
-abbrev pub standing : Server → Standing
-standing s = record { node = s.node; moment = s.moment }
+abbrev pub serve_state : Server → ServeState
+serve_state s = record { node = s.node; moment = s.moment }
 
 -- what follows a datagram: no further one, and so many replies that were sent
 pub record RespondsWith (s : NodeState) (from : Addr) (bytes : List ℕ) (at sent : ℕ) (next : NodeState) (events : List Event) : Type 0 where
@@ -22,25 +22,25 @@ pub record RespondsWith (s : NodeState) (from : Addr) (bytes : List ℕ) (at sen
 
 -- one receive call, and what it adds to the counts
 pub record ReceivesOne (s t : Server) (events : List Event) : Type 0 where
-  pub serves : ServesOne (standing s) events (standing t)
+  pub serves : ServesOne (serve_state s) events (serve_state t)
   pub received_are : t.received ≡ s.received + got_in events
   pub replied_are : t.replied ≡ s.replied + sent_in events
 
 -- so many of them
 pub record ReceivesAll (receives : ℕ) (s t : Server) (events : List Event) : Type 0 where
-  pub serves : Serves receives (standing s) events (standing t)
+  pub serves : Serves receives (serve_state s) events (serve_state t)
   pub received_are : t.received ≡ s.received + got_in events
   pub replied_are : t.replied ≡ s.replied + sent_in events
 
 -- how one ends that isn't made to its end: nothing came, since the link failed; or a query, for whose answer there was no
 -- memory
-abbrev pub Stops : Status → Standing → ℕ → ℕ → Option (List Event) → Option (List Event) → Type 0
+abbrev pub Stops : Status → ServeState → ℕ → ℕ → Option (List Event) → Option (List Event) → Type 0
 Stops LinkFault s faults faults' told told' = Rose faults faults' × Grows told told' (λ es. es ≡ [])
 Stops NoMemory s faults faults' told told' = Grows told told' (Unanswered s)
 Stops other s faults faults' told told' = ⊥
 
 -- how all of them do
-abbrev pub StopsAll : Status → Standing → ℕ → ℕ → ℕ → Option (List Event) → Option (List Event) → Type 0
+abbrev pub StopsAll : Status → ServeState → ℕ → ℕ → ℕ → Option (List Event) → Option (List Event) → Type 0
 StopsAll LinkFault s receives faults faults' told told' = Rose faults faults' × Grows told told' (ServesSome s receives)
 StopsAll NoMemory s receives faults faults' told told' = Grows told told' (ServesSome s receives)
 StopsAll other s receives faults faults' told told' = ⊥

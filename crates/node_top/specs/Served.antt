@@ -39,12 +39,12 @@ pub record Hosts (service : Service) (random : List ℕ) (source : Shown ℕ) (t
   pub keeps : Keeps (own_of service.own random) service.policy reports proofs
 
 -- a node, and the last moment that its link told
-pub record Standing : Type 0 where
+pub record ServeState : Type 0 where
   pub node : NodeState
   pub moment : ℕ
 
 -- the node as it begins at a moment
-abbrev pub begun_at : Service → List ℕ → TableState → List Report → ℕ → Standing
+abbrev pub begun_at : Service → List ℕ → TableState → List Report → ℕ → ServeState
 begun_at service random table proofs began = record {
   node = new_node (own_of service.own random) service.k service.policy table proofs random began;
   moment = began;
@@ -63,19 +63,19 @@ pub data Responds (s : NodeState) (from : Addr) (bytes : List ℕ) (at : ℕ) (e
   answered : (reply : Message) (was_sent : Bool) → AnswerOf s from bytes at reply next → events ≡ tried was_sent from (form reply) ∷ [] → Responds s from bytes at events next
 
 -- one receive call: nothing came, or a datagram with what follows it
-pub data ServesOne (s : Standing) (events : List Event) (t : Standing) : Type 0 where
+pub data ServesOne (s : ServeState) (events : List Event) (t : ServeState) : Type 0 where
   quiet : events ≡ Quiet (waits_until s.moment) t.moment ∷ [] → t.node ≡ s.node → ServesOne s events t
   came : (from : Addr) (bytes : List ℕ) (then : List Event) → events ≡ Got from bytes (waits_until s.moment) t.moment ∷ then
       → Responds s.node from bytes t.moment then t.node → ServesOne s events t
 
 -- so many of them, one after another
-abbrev pub Serves : ℕ → Standing → List Event → Standing → Type 0
+abbrev pub Serves : ℕ → ServeState → List Event → ServeState → Type 0
 Serves zero s events t = (events ≡ []) × (t ≡ s)
 Serves (suc n) s events t =
-    (one : List Event) × (u : Standing) × (more : List Event) × (events ≡ one ++ more) × ServesOne s one u × Serves n u more t
+    (one : List Event) × (u : ServeState) × (more : List Event) × (events ≡ one ++ more) × ServesOne s one u × Serves n u more t
 
 -- a query came whose answer found no memory
-pub record Unanswered (s : Standing) (events : List Event) : Type 0 where
+pub record Unanswered (s : ServeState) (events : List Event) : Type 0 where
   pub from : Addr
   pub bytes : List ℕ
   pub at : ℕ
@@ -94,18 +94,18 @@ abbrev pub got_in : List Event → ℕ
 got_in events = length (filter is_got events)
 
 -- all receive calls of a node, the datagrams that came, and the replies that were sent and not refused
-pub record ServesAll (s : Standing) (receives received replied : ℕ) (events : List Event) : Type 0 where
-  pub end : Standing
+pub record ServesAll (s : ServeState) (receives received replied : ℕ) (events : List Event) : Type 0 where
+  pub end : ServeState
   pub serves : Serves receives s events end
   pub received_are : received ≡ got_in events
   pub replied_are : replied ≡ sent_in events
 
 -- some of them; then no more, unless a query came whose answer found no memory
-pub record ServesSome (s : Standing) (receives : ℕ) (events : List Event) : Type 0 where
+pub record ServesSome (s : ServeState) (receives : ℕ) (events : List Event) : Type 0 where
   pub made : ℕ
   pub few : made ≤ receives
   pub front : List Event
-  pub end : Standing
+  pub end : ServeState
   pub serves : Serves made s front end
   pub last : List Event
   pub whole : events ≡ front ++ last
@@ -127,7 +127,7 @@ pub record ServedSome (service : Service) (random : List ℕ) (table : TableStat
   pub serves : ServesSome (begun_at service random table proofs began) service.receives then
 
 -- a whole service, whose text counts the datagrams that came and the replies that were sent
-pub record ServesAt (service : Service) (random : List ℕ) (source : Shown ℕ) (link : Shown Event) (text : List ℕ) : Type 0 where
+pub record ServeText (service : Service) (random : List ℕ) (source : Shown ℕ) (link : Shown Event) (text : List ℕ) : Type 0 where
   pub table : TableState
   pub proofs : List Report
   pub hosts : Hosts service random source table proofs

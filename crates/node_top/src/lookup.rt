@@ -1,7 +1,7 @@
 //! The command `lookup`: looks the target up, and makes the text of what it found.
 ghost use Rattle.std.specs.Prelude.{◌≡◌, ◌≤◌, ◌⊎◌, IfOk, IfErr};
 ghost use Rattle.node_top.specs.Endings.{EndsEarly, number_of};
-ghost use Rattle.node_top.specs.Looked.{LooksAt, LookCause, Begun};
+ghost use Rattle.node_top.specs.Looked.{LookupText, LookupCause, LookupBegun};
 ghost use Rattle.node_top.specs.Printed.{printed};
 ghost use Rattle.node_top.specs.Started.{IsInRange};
 ghost use Rattle.node_top.specs.Shown.{shown};
@@ -44,14 +44,14 @@ pub(crate) fn lookup<R: Threads + Wait + Sync, S: Source, L: Link, C: Check + Sy
     hasher: RandomState,
 ) -> Result<Bytes, Status>
     requires { IsInRange look.now }
-    ensures ok { IfOk result (LooksAt AskKind.FindNode look.now random.now
+    ensures ok { IfOk result (LookupText AskKind.FindNode look.now random.now
         (shown S.left S.faults source.old source.new)
         (shown L.told L.recv_faults link.old link.new)) }
-    ensures cause { IfErr result (LookCause AskKind.FindNode look.now random.now
+    ensures cause { IfErr result (LookupCause AskKind.FindNode look.now random.now
         (shown S.left S.faults source.old source.new)
         (shown L.told L.recv_faults link.old link.new)) }
     ensures no_memory { IfErr result (λ status. status ≡ Status.NoMemory →
-        Begun AskKind.FindNode look.now random.now
+        LookupBegun AskKind.FindNode look.now random.now
         (shown S.left S.faults source.old source.new)
         (shown L.told L.recv_faults link.old link.new) ⊎ (link.new ≡ link.old)) }
     ensures early { IfErr result (λ status. EndsEarly (number_of status) → link.new ≡ link.old) }

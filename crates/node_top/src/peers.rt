@@ -5,8 +5,8 @@ ghost use Rattle.kad_base.specs.Outside.{Grows};
 ghost use Rattle.lookup_run.specs.declared.plain.AskKind.TheVariants.{GetPeers};
 ghost use Rattle.node_top.specs.Announced.{owed, Announces, AnnouncesSome, sent_in};
 ghost use Rattle.node_top.specs.Endings.{EndsEarly, number_of};
-ghost use Rattle.node_top.specs.Looked.{LookCause};
-ghost use Rattle.node_top.specs.Peered.{PeersAt, PeersBegun};
+ghost use Rattle.node_top.specs.Looked.{LookupCause};
+ghost use Rattle.node_top.specs.Peered.{PeersText, PeersBegun};
 ghost use Rattle.node_top.specs.Started.{own_of, IsInRange};
 ghost use Rattle.node_top.specs.Shown.{shown};
 
@@ -73,10 +73,10 @@ pub(crate) fn peers<R: Threads + Wait + Sync, S: Source, L: Link, C: Check + Syn
     hasher: RandomState,
 ) -> Result<Bytes, Status>
     requires { IsInRange look.now }
-    ensures ok { IfOk result (PeersAt look.now port random.now
+    ensures ok { IfOk result (PeersText look.now port random.now
         (shown S.left S.faults source.old source.new)
         (shown L.told L.recv_faults link.old link.new)) }
-    ensures cause { IfErr result (LookCause GetPeers look.now random.now
+    ensures cause { IfErr result (LookupCause GetPeers look.now random.now
         (shown S.left S.faults source.old source.new)
         (shown L.told L.recv_faults link.old link.new)) }
     ensures no_memory { IfErr result (λ status. status ≡ Status.NoMemory →

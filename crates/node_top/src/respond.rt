@@ -3,7 +3,7 @@ ghost use Rattle.std.specs.Prelude.{◌≡◌, ◌≤◌, ◌<◌, ◌+◌, ◌^
 ghost use Rattle.kad_base.specs.Outside.{Grows};
 ghost use Rattle.node_serve.specs.AnswerOf.{EndsEarly};
 ghost use Rattle.node_top.specs.Announced.{tried};
-ghost use Rattle.node_top.specs.Responded.{standing, RespondsWith, ReceivesOne, ReceivesAll, Stops, StopsAll};
+ghost use Rattle.node_top.specs.Responded.{serve_state, RespondsWith, ReceivesOne, ReceivesAll, Stops, StopsAll};
 
 use crate::status::Status;
 use kad_base::limits::{MAX_DATAGRAM, RECEIVE_ROOM};
@@ -69,7 +69,7 @@ fn receive<L: Link>(
     ensures few { OnOk result (server.new.received ≤ server.old.received + 1) }
     ensures fewer { OnOk result (server.new.replied ≤ server.new.received) }
     ensures ok { OnOk result (Grows (L.told link.old) (L.told link.new) (ReceivesOne server.old server.new)) }
-    ensures stops { IfErr result (λ status. Stops status (standing server.old) (L.recv_faults link.old) (L.recv_faults link.new) (L.told link.old) (L.told link.new)) }
+    ensures stops { IfErr result (λ status. Stops status (serve_state server.old) (L.recv_faults link.old) (L.recv_faults link.new) (L.told link.old) (L.told link.new)) }
     ensures recv_faults { L.recv_faults link.old ≤ L.recv_faults link.new }
 {
     let until = server.moment.saturating_add(PATIENCE);
@@ -101,7 +101,7 @@ pub(crate) fn receive_all<L: Link>(
 ) -> Result<(), Status>
     requires none { (server.old.received ≡ 0) × (server.old.replied ≡ 0) }
     ensures ok { OnOk result (Grows (L.told link.old) (L.told link.new) (ReceivesAll receives server.old server.new)) }
-    ensures stops { IfErr result (λ status. StopsAll status (standing server.old) receives (L.recv_faults link.old) (L.recv_faults link.new) (L.told link.old) (L.told link.new)) }
+    ensures stops { IfErr result (λ status. StopsAll status (serve_state server.old) receives (L.recv_faults link.old) (L.recv_faults link.new) (L.told link.old) (L.told link.new)) }
     ensures recv_faults { L.recv_faults link.old ≤ L.recv_faults link.new }
 {
     let mut room = [0u8; RECEIVE_ROOM];

@@ -3,7 +3,7 @@
 ghost use Rattle.std.specs.Prelude.{◌≡◌, ◌≢◌, ◌≤◌, ◌⊎◌, [], IfOk, IfErr};
 ghost use Rattle.node_top.specs.Endings.{EndsEarly, number_of};
 ghost use Rattle.node_top.specs.Input.{Reads};
-ghost use Rattle.node_top.specs.Looked.{LookCause, InputCause, Begun};
+ghost use Rattle.node_top.specs.Looked.{LookupCause, InputCause, LookupBegun};
 ghost use Rattle.node_top.specs.Reached.{Reaches};
 ghost use Rattle.node_top.specs.Started.{IsInRange};
 ghost use Rattle.node_top.specs.Shown.{shown};
@@ -64,11 +64,11 @@ pub(crate) fn seek<R: Threads + Wait + Sync, S: Source, L: Link, C: Check + Sync
     ensures ok { IfOk result (Reaches kind look.now random.now
         (shown S.left S.faults source.old source.new)
         (shown L.told L.recv_faults link.old link.new)) }
-    ensures cause { IfErr result (LookCause kind look.now random.now
+    ensures cause { IfErr result (LookupCause kind look.now random.now
         (shown S.left S.faults source.old source.new)
         (shown L.told L.recv_faults link.old link.new)) }
     ensures no_memory { IfErr result (λ status. status ≡ Status.NoMemory →
-        Begun kind look.now random.now
+        LookupBegun kind look.now random.now
         (shown S.left S.faults source.old source.new)
         (shown L.told L.recv_faults link.old link.new) ⊎ (link.new ≡ link.old)) }
     ensures early { IfErr result (λ status. EndsEarly (number_of status) → link.new ≡ link.old) }

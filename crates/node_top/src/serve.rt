@@ -4,7 +4,7 @@ ghost use Rattle.std.specs.Prelude.{◌≡◌, ◌≤◌, ◌⊎◌, IfOk, IfErr
 ghost use Rattle.node_top.specs.Endings.{EndsEarly, number_of};
 ghost use Rattle.node_top.specs.Looked.{ReportsCause};
 ghost use Rattle.node_top.specs.Printed.{printed_served, served_text};
-ghost use Rattle.node_top.specs.Served.{Hosts, ServeBegun, ServeCause, ServesAt};
+ghost use Rattle.node_top.specs.Served.{Hosts, ServeBegun, ServeCause, ServeText};
 ghost use Rattle.node_top.specs.Started.{AreTableBounds};
 ghost use Rattle.node_top.specs.Shown.{shown};
 
@@ -88,7 +88,7 @@ pub(crate) fn serve<S: Source, L: Link, C: Check>(
     check: &C,
 ) -> Result<Bytes, Status>
     requires { AreTableBounds service.now.k service.now.bits }
-    ensures ok { IfOk result (ServesAt service.now random.now
+    ensures ok { IfOk result (ServeText service.now random.now
         (shown S.left S.faults source.old source.new)
         (shown L.told L.recv_faults link.old link.new)) }
     ensures cause { IfErr result (ServeCause service.now random.now

@@ -116,4 +116,4 @@ pub type Board<S> = Table<
 >;
 
 /// A seat at it.
-pub type Stand<S> = Seat<S, View<<S as Serial>::Call, <S as Serial>::Reply>>;
+pub type BoardSeat<S> = Seat<S, View<<S as Serial>::Call, <S as Serial>::Reply>>;

@@ -5,7 +5,7 @@ ghost use Rattle.kad_base.specs.Serial.{calls_of, made};
 ghost use Rattle.turn_book.specs.Turns.{IsPrefix};
 ghost use Rattle.turn_book.specs.Rule.{IsIdle, IsBusy, IsReady, Called, seen_by, part, view};
 
-use crate::board::{Board, Give, Noted, Opened, Stand, Take};
+use crate::board::{Board, BoardSeat, Give, Noted, Opened, Take};
 use crossbeam_utils::Backoff;
 use kad_base::Serial;
 use std::marker::Brand;
@@ -16,7 +16,12 @@ use std::sync::Wait;
 const END: u64 = 1 << 63;
 
 /// Waits for the slot, and takes it: the word is even while the slot is free.
-fn take<S: Serial, R: Wait, J: Opened<S>>(rt: &R, board: &Board<S>, seat: &mut Stand<S>, role: u8)
+fn take<S: Serial, R: Wait, J: Opened<S>>(
+    rt: &R,
+    board: &Board<S>,
+    seat: &mut BoardSeat<S>,
+    role: u8,
+)
     requires picked { J.start ≡ Some board.now.shared.key.state.value }
     requires words { board.now.shared.table_id.words ≡ 1 }
     requires slots { board.now.shared.table_id.slots ≡ 1 }
@@ -44,7 +49,7 @@ fn take<S: Serial, R: Wait, J: Opened<S>>(rt: &R, board: &Board<S>, seat: &mut S
 }
 
 /// Makes the object's step in the slot.
-fn work<S: Serial>(board: &Board<S>, seat: &mut Stand<S>, role: u8, call: S::Call) -> S::Reply
+fn work<S: Serial>(board: &Board<S>, seat: &mut BoardSeat<S>, role: u8, call: S::Call) -> S::Reply
     requires slots { board.now.shared.table_id.slots ≡ 1 }
     requires own { seat.old.table_id ≡ board.now.shared.table_id }
     requires busy { IsBusy S.may S.step S.after board.now.shared.key.state.value role seat.old.me }
@@ -59,7 +64,7 @@ fn work<S: Serial>(board: &Board<S>, seat: &mut Stand<S>, role: u8, call: S::Cal
 /// Gives the slot back, with the call that was made in it at the end of the run.
 fn give<S: Serial, J: Noted<S::Call, S::Reply>>(
     board: &Board<S>,
-    seat: &mut Stand<S>,
+    seat: &mut BoardSeat<S>,
     role: u8,
     call: &Snapshot<S::Call>,
     reply: &S::Reply,
@@ -84,7 +89,7 @@ fn give<S: Serial, J: Noted<S::Call, S::Reply>>(
 pub(crate) fn call_at<S: Serial, R: Wait>(
     rt: &R,
     board: &Board<S>,
-    seat: &mut Stand<S>,
+    seat: &mut BoardSeat<S>,
     role: u8,
     call: S::Call,
 ) -> S::Reply

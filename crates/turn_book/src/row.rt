@@ -2,7 +2,7 @@
 ghost use Rattle.std.specs.Prelude.{◌≡◌, ◌^◌, ◌<◌, ◌≤◌, [], ◌∷◌, ◌++◌, length, false, IsNone, ◌↔◌, vec_capacity};
 ghost use Rattle.std.specs.Option.{option_to_list};
 
-use crate::board::{Board, Stand};
+use crate::board::{Board, BoardSeat};
 use crate::calls;
 use kad_base::Serial;
 use std::marker::Model;
@@ -12,7 +12,7 @@ use std::sync::Wait;
 #[derive(Drop)]
 pub struct Pass<S: Serial> {
     role: u8,
-    seat: Stand<S>,
+    seat: BoardSeat<S>,
 }
 
 impl<S: Serial> Model for Pass<S> {
@@ -31,14 +31,14 @@ impl<S: Serial> Pass<S> {
     ghost use Rattle.turn_book.specs.Turns.{GoesOnTo, fresh, mine};
     ghost use Rattle.turn_book.specs.Rule.{view, part, IsBoard, part_of};
 
-    pub(crate) fn new(role: u8, seat: Stand<S>) -> Pass<S>
+    pub(crate) fn new(role: u8, seat: BoardSeat<S>) -> Pass<S>
         requires { seat.me ≡ (view (part role [] ∷ []) false, []) }
         ensures { result ≡ fresh seat.table_id role }
     {
         Pass { role, seat }
     }
 
-    pub(crate) fn into_seat(self) -> Stand<S>
+    pub(crate) fn into_seat(self) -> BoardSeat<S>
         ensures own { result.table_id ≡ self.turn }
         ensures view { result.me ≡ (view (part_of self ∷ []) false, []) }
     {

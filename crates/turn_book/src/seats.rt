@@ -4,7 +4,7 @@ ghost use Rattle.std.specs.List.{All, range_with_len};
 ghost use Rattle.turn_book.specs.Turns.{fresh};
 ghost use Rattle.turn_book.specs.Rule.{view, newcomer, part_of};
 
-use crate::board::{Board, Deal, Stand};
+use crate::board::{Board, BoardSeat, Deal};
 use crate::row::Pass;
 use kad_base::Serial;
 
@@ -23,7 +23,7 @@ pub(crate) fn only<S>(mut items: Vec<S>) -> S
 /// A pass for each role, in order.
 pub(crate) fn deal<S: Serial>(
     board: &Board<S>,
-    mut seat: Stand<S>,
+    mut seat: BoardSeat<S>,
     list: &mut Vec<Pass<S>>,
     roles: u8,
 )
@@ -42,7 +42,7 @@ pub(crate) fn deal<S: Serial>(
 }
 
 /// The parts of all passes together.
-pub(crate) fn gather<S: Serial>(board: &Board<S>, mut list: Vec<Pass<S>>) -> Stand<S>
+pub(crate) fn gather<S: Serial>(board: &Board<S>, mut list: Vec<Pass<S>>) -> BoardSeat<S>
     requires words { board.now.shared.table_id.words ≡ 1 }
     requires own { All (λ p. p.turn ≡ board.now.shared.table_id) list.items }
     requires some { 0 < length list.items }

@@ -344,7 +344,7 @@ impl Plan {
 
 /// How the lookup stands to a node.
 #[derive(Clone, Copy, PartialEq, Eq)]
-enum Standing {
+enum Fate {
     Unknown,
     Known,
     Answered,
@@ -355,7 +355,7 @@ enum Standing {
 #[derive(Clone, Copy)]
 struct Lookup {
     plan: Plan,
-    standings: [Standing; WIDE],
+    fates: [Fate; WIDE],
     moment: u64,
     asked: u64,
     failed: u64,
@@ -363,22 +363,22 @@ struct Lookup {
 
 /// The lookup begins with the k closest nodes of the input.
 fn begun(plan: Plan) -> Lookup {
-    let mut standings = [Standing::Unknown; WIDE];
+    let mut fates = [Fate::Unknown; WIDE];
     for line in 0..plan.lines {
-        standings[plan.on_line(line) % WIDE] = Standing::Known;
+        fates[plan.on_line(line) % WIDE] = Fate::Known;
     }
     let mut begun = 0usize;
     for node in 0..WIDE {
-        if standings[node] == Standing::Known {
+        if fates[node] == Fate::Known {
             begun = begun.saturating_add(1);
             if begun > plan.k {
-                standings[node] = Standing::Unknown;
+                fates[node] = Fate::Unknown;
             }
         }
     }
     Lookup {
         plan,
-        standings,
+        fates,
         moment: 0,
         asked: 0,
         failed: 0,
@@ -389,11 +389,11 @@ impl Lookup {
     /// The closest node that was not asked, where fewer than k that answered are closer.
     fn next(&self) -> Option<usize> {
         let mut answered = 0usize;
-        for (node, standing) in self.standings.iter().enumerate() {
-            if *standing == Standing::Known && answered < self.plan.k {
+        for (node, fate) in self.fates.iter().enumerate() {
+            if *fate == Fate::Known && answered < self.plan.k {
                 return Some(node);
             }
-            if *standing == Standing::Answered {
+            if *fate == Fate::Answered {
                 answered = answered.saturating_add(1);
             }
         }
@@ -425,18 +425,18 @@ impl Lookup {
     fn learn(&mut self, node: usize) {
         for at in 0..self.plan.records(node).min(16) {
             let named = self.plan.named(node, at) % WIDE;
-            if self.standings[named] == Standing::Unknown {
-                self.standings[named] = Standing::Known;
+            if self.fates[named] == Fate::Unknown {
+                self.fates[named] = Fate::Known;
             }
         }
     }
 
     fn ask(&mut self, node: usize) {
         if self.is_answered(node) {
-            self.standings[node % WIDE] = Standing::Answered;
+            self.fates[node % WIDE] = Fate::Answered;
             self.learn(node);
         } else {
-            self.standings[node % WIDE] = Standing::Failed;
+            self.fates[node % WIDE] = Fate::Failed;
             self.failed = self.failed.saturating_add(1);
         }
     }
@@ -453,8 +453,8 @@ impl Lookup {
     fn text(&self, alloc: Global) -> Result<String, Fail> {
         let mut text = String::new(alloc);
         let mut found = 0usize;
-        for (node, standing) in self.standings.iter().enumerate() {
-            if *standing == Standing::Answered && found < self.plan.k {
+        for (node, fate) in self.fates.iter().enumerate() {
+            if *fate == Fate::Answered && found < self.plan.k {
                 found = found.saturating_add(1);
                 let line = self.plan.line(alloc, node)?;
                 text.push_str(line.as_str())?;

@@ -1,5 +1,5 @@
 use Rattle.std.proofs.Common.{◌+◌, ◌∙◌, refl, arith, ap}
-use Rattle.lookup_run.specs.declared.plain.Stand.{Stand}
+use Rattle.lookup_run.specs.declared.plain.Progress.{Progress}
 use Rattle.lookup_run.proofs.Asking.{asks_then, asks_not}
 use Rattle.lookup_run.proofs.ask.ask_all.Goals as goal
 
@@ -25,4 +25,4 @@ loop-path-preserved g c =
     }
 
 pub ask_path-requires-clause-round_over : goal.ask_path-requires-clause-round_over
-ask_path-requires-clause-round_over g c = ap (λ (x : Stand). x.receives) c.loop-path.invariant.asks.stand ∙ c.requires.begins.round_over
+ask_path-requires-clause-round_over g c = ap (λ (x : Progress). x.receives) c.loop-path.invariant.asks.progress ∙ c.requires.begins.round_over

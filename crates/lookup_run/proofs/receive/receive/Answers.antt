@@ -41,7 +41,7 @@ returns-in_ok-take_datagram-in-Ok-Packet-clause-ok g c =
     let old : Work = c.args.work.now in
     let grows = rw p.field-0-is at p.ensures.ok in
     let came = rw p.field-0-is at p.ensures.came in
-    let later : old.stand.moment ≤ p.at = subst (λ m. m ≤ p.at) c.requires.moment came.1 in
+    let later : old.progress.moment ≤ p.at = subst (λ m. m ≤ p.at) c.requires.moment came.1 in
     datagram_receives c.args.look.now p.from (take p.len c.recv.new.buf) c.wait_until-until.result p.at c.round_after-work.result old c.take_datagram.new.work c.expire.new.work _ _
     (record { may = c.requires.may_receive; legal = c.legal.ensures; waits = c.wait_until-until.ensures; later = later })
     c.in_ok-take_datagram-in-Ok-Packet.ensures.ok c.expire.ensures c.round_after-work.ensures grows
@@ -52,7 +52,7 @@ returns-in-Ok-Quiet-clause-ok g c =
     let old : Work = c.args.work.now in
     let grows = rw p.field-0-is at p.ensures.ok in
     let came = rw p.field-0-is at p.ensures.came in
-    let later : old.stand.moment ≤ p.at = subst (λ m. m ≤ p.at) c.requires.moment came.1 in
+    let later : old.progress.moment ≤ p.at = subst (λ m. m ≤ p.at) c.requires.moment came.1 in
     quiet_receives c.args.look.now c.wait_until-until.result p.at old c.expire-in-Ok-Quiet.new.work _ _
     (record { may = c.requires.may_receive; legal = c.legal.ensures; waits = c.wait_until-until.ensures; later = later }) came.0 c.expire-in-Ok-Quiet.ensures grows
 

@@ -7,10 +7,10 @@ abbrev pub invariant-receiving : goal.invariant-receiving
 invariant-receiving g l = record {
   so_far : Rounding l.look l.fn.work l.work (g.L.Link.told l.fn.link) (g.L.Link.told l.link);
   room : length l.buf ≡ max_datagram + 1;
-  moment : g.L.Link.moment l.link ≡ l.work.stand.moment;
+  moment : g.L.Link.moment l.link ≡ l.work.progress.moment;
   faults : g.L.Link.recv_faults l.fn.link ≤ g.L.Link.recv_faults l.link;
   kept : g.L.Link.kept l.link ≡ g.L.Link.kept l.fn.link;
 }
 
 abbrev pub decreases-receiving : goal.decreases-receiving
-decreases-receiving g l = still_to l.work.stand.receives
+decreases-receiving g l = still_to l.work.progress.receives

@@ -7,7 +7,7 @@ pub returns-in-Ok-None-clause-ok : goal.returns-in-Ok-None-clause-ok
 returns-in-Ok-None-clause-ok c =
     let old : Work = c.args.work.now in
     let nothing = rw c.in-Ok-None.field-0-is at c.in-Ok-None.ensures in
-    takes_stray c.args.look.now c.args.from c.args.bytes.now old (record old { stand = c.take_stray.new.stand }) c.take_stray.result (silent old c.args.from c.args.bytes.now c.requires.ids nothing) c.take_stray.ensures.ok refl refl refl refl
+    takes_stray c.args.look.now c.args.from c.args.bytes.now old (record old { progress = c.take_stray.new.progress }) c.take_stray.result (silent old c.args.from c.args.bytes.now c.requires.ids nothing) c.take_stray.ensures.ok refl refl refl refl
 
 pub returns-in-Ok-None-clause-strays : goal.returns-in-Ok-None-clause-strays
 returns-in-Ok-None-clause-strays c =
@@ -28,7 +28,7 @@ pub returns-in-None-clause-ok : goal.returns-in-None-clause-ok
 returns-in-None-clause-ok c =
     let old : Work = c.args.work.now in
     let reads = rw c.in-Ok-Some.field-0-is at c.in-Ok-Some.ensures in
-    takes_stray c.args.look.now c.args.from c.args.bytes.now old (record old { stand = c.take_stray-in-None.new.stand; queries = c.take.new.self }) c.take_stray-in-None.result
+    takes_stray c.args.look.now c.args.from c.args.bytes.now old (record old { progress = c.take_stray-in-None.new.progress; queries = c.take.new.self }) c.take_stray-in-None.result
     (unasked old c.args.from c.args.bytes.now c.in-Ok-Some.said c.requires.ids reads (c.in-None.ensures.none.0 refl)) c.take_stray-in-None.ensures.ok refl c.in-None.ensures.same refl refl
 
 pub returns-in-None-clause-strays : goal.returns-in-None-clause-strays

@@ -3,7 +3,7 @@ use Rattle.std.specs.Prelude.{ℤ}
 use Rattle.kad_base.specs.Words.{word_bytes}
 use Rattle.kad_krpc.specs.declared.message.Message.TheVariants as message
 use Rattle.lookup_run.specs.declared.reply.Reply.TheVariants as reply
-use Rattle.lookup_run.specs.Standing.{SaysAll}
+use Rattle.lookup_run.specs.Between.{SaysAll}
 use Rattle.lookup_run.proofs.Replying.{says_answer, says_fault}
 use Rattle.lookup_run.proofs.reply.own_reply.Goals as goal
 

@@ -26,7 +26,7 @@ rounds-preserved g c =
     let more = round_more path_by_path c.args.look.now c.rounds.words c.ask_and_receive.new.words c.rounds.work c.ask_and_receive.new.work c.settle_paths.new.work _ told (c.in-Ok-true.ensures.more c.in-Ok-true.field-0-test) (c.in-Ok.ensures.ok path_by_path told) in
     record {
       rounding = rounds_then path_by_path c.args.look.now c.args.words.now c.rounds.words c.ask_and_receive.new.words c.args.work.now c.rounds.work c.settle_paths.new.work _ _ _ i.rounding more;
-      moment = c.in-Ok-true.ensures.moment ∙ sym (ap (λ s. s.moment) (c.in-Ok.ensures.ok path_by_path None).stand);
+      moment = c.in-Ok-true.ensures.moment ∙ sym (ap (λ s. s.moment) (c.in-Ok.ensures.ok path_by_path None).progress);
       room = search rules;
       faults = (let a = i.faults in let b = c.ask_and_receive.ensures.recv_faults in omega (arith, a, b));
       kept = c.ask_and_receive.ensures.kept ∙ i.kept;

@@ -26,7 +26,7 @@ rounds-preserved g c =
     let more = round_more at_once c.args.look.now c.rounds.words c.ask_and_receive.new.words c.rounds.work c.ask_and_receive.new.work c.settle_each-after.result.0 _ told (c.in-Ok-true.ensures.more c.in-Ok-true.field-0-test) (on_ok c.settle_each-after.result.1 c.in-Ok.field-0 c.in-Ok.is (c.settle_each-after.ensures.ok told)) in
     record {
       rounding = rounds_then at_once c.args.look.now c.args.words.now c.rounds.words c.ask_and_receive.new.words c.args.work c.rounds.work c.settle_each-after.result.0 _ _ _ i.rounding more;
-      moment = c.in-Ok-true.ensures.moment ∙ sym (ap (λ s. s.moment) (on_ok c.settle_each-after.result.1 c.in-Ok.field-0 c.in-Ok.is (c.settle_each-after.ensures.ok None)).stand);
+      moment = c.in-Ok-true.ensures.moment ∙ sym (ap (λ s. s.moment) (on_ok c.settle_each-after.result.1 c.in-Ok.field-0 c.in-Ok.is (c.settle_each-after.ensures.ok None)).progress);
       room = search rules;
       faults = (let a = i.faults in let b = c.ask_and_receive.ensures.recv_faults in omega (arith, a, b));
       kept = c.ask_and_receive.ensures.kept ∙ i.kept;

@@ -12,7 +12,7 @@ pub settle_path-requires-clause-keeps : goal.settle_path-requires-clause-keeps
 settle_path-requires-clause-keeps g c = (c.loop-path.invariant path_by_path None).keeps
 
 pub settle_path-requires-clause-round_over : goal.settle_path-requires-clause-round_over
-settle_path-requires-clause-round_over g c = ap (λ s. s.receives) (c.loop-path.invariant path_by_path None).stand ∙ c.requires.round_over
+settle_path-requires-clause-round_over g c = ap (λ s. s.receives) (c.loop-path.invariant path_by_path None).progress ∙ c.requires.round_over
 
 pub settle_path-requires-clause-settled : goal.settle_path-requires-clause-settled
 settle_path-requires-clause-settled g c = (c.loop-path.invariant path_by_path None).settled

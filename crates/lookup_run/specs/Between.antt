@@ -76,9 +76,9 @@ pub record Keeps (look : LookSetting) (work : Work) : Type 0 where
   pub setting : work.book.setting ≡ setting_of look
   pub is_open : map (λ q. q.contact) work.queries ≡ open_any work.book.journal
   pub ids : AllByRecursion (λ (q : Query). q.tx < 2 ^ 32) work.queries
-  pub deadlines : AllByRecursion (λ (q : Query). q.deadline ≤ deadline_of work.stand.moment look.timeout) work.queries
-  pub few_strays : work.stand.strays < max_strays
-  pub few_receives : work.stand.receives < max_round_receives
+  pub deadlines : AllByRecursion (λ (q : Query). q.deadline ≤ deadline_of work.progress.moment look.timeout) work.queries
+  pub few_strays : work.progress.strays < max_strays
+  pub few_receives : work.progress.receives < max_round_receives
   pub no_peers : look.kind ≡ FindNode → IsBare work.gathered
 
 -- there is a word for each contact that may still be asked
@@ -92,7 +92,7 @@ max_asks = max_paths * max_path_contacts
 -- how far a lookup is from its end: an ask takes two and may give one back, a reply or a timeout takes one, and so does a
 -- stray
 abbrev pub weight_of : Work → ℕ
-weight_of work = 2 * (max_asks - length (asked work.book.journal)) + (length work.queries + (max_strays - work.stand.strays))
+weight_of work = 2 * (max_asks - length (asked work.book.journal)) + (length work.queries + (max_strays - work.progress.strays))
 
 -- ---- what was told
 
@@ -115,12 +115,12 @@ Walk manner g J P s (e ∷ es) t Q heard =
     (step : Step manner g J P s e) × (rest : List Answered) × Walk manner g J ((P ++ step.between) ++ step.gave) step.mid es t Q rest × (heard ≡ step.found ++ rest)
 
 -- the driver keeps of the events just this
-pub record Stands (g : Given) (work : Work) (place : ℕ) (s : Seen) : Type 0 where
-  pub moment : s.moment ≡ work.stand.moment
+pub record KeepsSeen (g : Given) (work : Work) (place : ℕ) (s : Seen) : Type 0 where
+  pub moment : s.moment ≡ work.progress.moment
   pub queries : s.queries ≡ map (as_open work.book.journal) work.queries
   pub sends : g.place + s.sends ≡ place
-  pub strays : s.strays ≡ work.stand.strays
-  pub receives : s.receives ≡ work.stand.receives
+  pub strays : s.strays ≡ work.progress.strays
+  pub receives : s.receives ≡ work.progress.receives
   pub given : s.given ≡ driven work.book.journal
 
 -- and of the answers this
@@ -143,7 +143,7 @@ pub record Shows (manner : Manner) (g : Given) (work : Work) (place b a : ℕ) (
   pub settles : SettlesIn manner end.receives behind
   pub below : AllByRecursion (λ e. path_number e < b) behind
   pub ascends : AllByRecursion (λ e. path_number e ≤ a) end.since
-  pub stands : Stands g work place end
+  pub stands : KeepsSeen g work place end
   pub keeping : Keeping g.kind heard work.gathered
 
 -- since the lookup began, with these words and this table
@@ -154,10 +154,10 @@ pub record Along (manner : Manner) (look : LookSetting) (start : WordsState) (ta
   pub shows : Grows began told (λ events. Shows manner (given_of look start) work words.place b a events)
 
 -- whatever holds since a lookup began goes on to hold, where its rounds settle in this manner
-abbrev pub GoesBy : Manner → LookSetting → WordsState → WordsState → Work → Work → ℕ → ℕ → ℕ → ℕ → Option (List Event) → Option (List Event) → Type 0
-GoesBy manner look words words' old new b a b' a' told told' =
+abbrev pub StepsAlongBy : Manner → LookSetting → WordsState → WordsState → Work → Work → ℕ → ℕ → ℕ → ℕ → Option (List Event) → Option (List Event) → Type 0
+StepsAlongBy manner look words words' old new b a b' a' told told' =
     (start : WordsState) (table : TableState) (began : Option (List Event)) → Along manner look start table began words old b a told → Along manner look start table began words' new b' a' told'
 
 -- in whatever manner
-abbrev pub Goes : LookSetting → WordsState → WordsState → Work → Work → ℕ → ℕ → ℕ → ℕ → Option (List Event) → Option (List Event) → Type 0
-Goes look words words' old new b a b' a' told told' = (manner : Manner) → GoesBy manner look words words' old new b a b' a' told told'
+abbrev pub StepsAlong : LookSetting → WordsState → WordsState → Work → Work → ℕ → ℕ → ℕ → ℕ → Option (List Event) → Option (List Event) → Type 0
+StepsAlong look words words' old new b a b' a' told told' = (manner : Manner) → StepsAlongBy manner look words words' old new b a b' a' told told'
