@@ -110,10 +110,7 @@ fn queue(
     ensures { OnOk result (QueuedBy nodes.now moment to.now bytes.now waiting.old.items waiting.new.items) }
 {
     match answer(alloc, nodes, moment, to, bytes)? {
-        Some(answer) => match waiting.push(answer) {
-            Ok(()) => Ok(()),
-            Err(_) => Err(NoMemory),
-        },
+        Some(answer) => Ok(waiting.push(answer)?),
         None => Ok(()),
     }
 }

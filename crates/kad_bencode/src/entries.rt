@@ -97,10 +97,7 @@ fn insert_at<T: Drop>(items: &mut Vec<T>, at: usize, item: T) -> Result<(), NoMe
     ensures ok { OnOk result (items.new.items ≡ insert items.old.items at item) }
     ensures err { OnErr result (items.new.items ≡ items.old.items) }
 {
-    match items.insert(at, item) {
-        Ok(()) => Ok(()),
-        Err(_) => Err(NoMemory),
-    }
+    Ok(items.insert(at, item)?)
 }
 
 /// Where a key is among ascending ones, or where it belongs: from the end, where a key of a sorted input goes.

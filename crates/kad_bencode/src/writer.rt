@@ -28,10 +28,7 @@ pub fn write(value: &Value, to: &mut Vec<u8>) -> Result<(), NoMemory>
 fn append(to: &mut Vec<u8>, bytes: &[u8]) -> Result<(), NoMemory>
     ensures { Appends result to.old.items to.new.items bytes.now }
 {
-    match to.extend_from_slice(bytes) {
-        Ok(()) => Ok(()),
-        Err(_) => Err(NoMemory),
-    }
+    Ok(to.extend_from_slice(bytes)?)
 }
 
 fn append_integer(number: i64, to: &mut Vec<u8>) -> Result<(), NoMemory>

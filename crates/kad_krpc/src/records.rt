@@ -11,10 +11,7 @@ use std::marker::Model;
 pub(crate) fn with_room<T>(alloc: Global, room: usize) -> Result<List<T>, NoMemory>
     ensures { IfOk result (λ list. list ≡ []) }
 {
-    match Vec::with_capacity(alloc, room) {
-        Ok(items) => Ok(List::from_vec(items)),
-        Err(_) => Err(NoMemory),
-    }
+    Ok(List::from_vec(Vec::with_capacity(alloc, room)?))
 }
 
 /// Compact nodes, one after another; contracts see the list of contacts.

@@ -44,8 +44,8 @@ fn has_several(book: &mut Book, paths: u8) -> bool
     false
 }
 
-/// Settles all that the paths have, each on a thread of its own.
-fn settle_at_once<R: Threads + Wait + Sync, C: Check + Sync>(
+/// Settles all that the paths have: each on a thread of its own, where more than one has something to settle.
+pub(crate) fn settle_each<R: Threads + Wait + Sync, C: Check + Sync>(
     rt: &R,
     alloc: Global,
     work: Work,
@@ -59,6 +59,11 @@ fn settle_at_once<R: Threads + Wait + Sync, C: Check + Sync>(
     ensures stops { (told : Option (List Event)) → OnErr result.1 ((words : WordsState) → Stops look.now words words work result.0 told told) }
     ensures fault { IfErr result.1 (λ fault. fault ≡ LookFault.NoMemory) }
 {
+    let mut work = work;
+    if !has_several(&mut work.book, look.paths) {
+        let settled = settle_paths(&mut work, look, check);
+        return (work, settled);
+    }
     work.book.legal();
     let Work {
         book,
@@ -87,27 +92,4 @@ fn settle_at_once<R: Threads + Wait + Sync, C: Check + Sync>(
         Ok(()) => (work, Ok(())),
         Err(NoMemory) => (work, Err(LookFault::NoMemory)),
     }
-}
-
-/// Settles all that the paths have: at once, where more than one has something to settle.
-pub(crate) fn settle_each<R: Threads + Wait + Sync, C: Check + Sync>(
-    rt: &R,
-    alloc: Global,
-    work: Work,
-    look: &LookSetting,
-    check: &C,
-) -> (Work, Result<(), LookFault>)
-    requires limits { IsWithinLimits look.now }
-    requires keeps { Keeps look.now work }
-    requires round_over { work.progress.receives ≡ 0 }
-    ensures ok { (told : Option (List Event)) → OnOk result.1 (SettlesPaths at_once look.now 0 look.now.paths work result.0 told) }
-    ensures stops { (told : Option (List Event)) → OnErr result.1 ((words : WordsState) → Stops look.now words words work result.0 told told) }
-    ensures fault { IfErr result.1 (λ fault. fault ≡ LookFault.NoMemory) }
-{
-    let mut work = work;
-    if has_several(&mut work.book, look.paths) {
-        return settle_at_once(rt, alloc, work, look, check);
-    }
-    let settled = settle_paths(&mut work, look, check);
-    (work, settled)
 }

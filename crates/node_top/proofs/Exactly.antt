@@ -28,7 +28,7 @@ use Rattle.node_top.specs.Shown.{Shown}
 use Rattle.node_top.specs.Input.{ReadsAll, ReadsFew, ReadsTooMuch, Admits, Reads, ReadsSome, IsGood, Lists, HasBadLine}
 use Rattle.node_top.specs.Started.{own_of, lookup_of}
 use Rattle.node_top.specs.Looked.{MeetsFewStrays}
-use Rattle.node_top.specs.Minted.{seed_of, MintPrinted, FindsNothing}
+use Rattle.node_top.specs.Minted.{seed_of, MintText, FindsNothing}
 use Rattle.node_top.specs.Plainly.{HasInput, ReadsInput, HasNothing}
 use Rattle.node_top.specs.Commands.{Sought, sought_by, Seeks, StartedBy, HasStart, HasNoSeeds, HasSeeds, HasStrays, HasFewStrays}
 use Rattle.node_top.proofs.Asking.{command_asks, mint_asks}
@@ -265,7 +265,7 @@ first_key_once seed c1 tries a b s t =
       ]
     ]
 
-pub minted_not_nothing : (seed : List ℕ) (c1 c2 tries : ℕ) (text : List ℕ) → MintPrinted seed c1 c2 tries text → FindsNothing seed c1 c2 tries → ⊥
+pub minted_not_nothing : (seed : List ℕ) (c1 c2 tries : ℕ) (text : List ℕ) → MintText seed c1 c2 tries text → FindsNothing seed c1 c2 tries → ⊥
 minted_not_nothing seed c1 c2 tries text m n =
     elim n [
       | inl no_key ↦ no_key m.first_key.number m.first_key.in_tries m.first_key.solves

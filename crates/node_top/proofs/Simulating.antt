@@ -31,7 +31,7 @@ use Rattle.node_top.specs.declared.sim.Start.{Start}
 use Rattle.node_top.specs.Input.{Admits}
 use Rattle.node_top.specs.Printed.{line_of}
 use Rattle.node_top.specs.Started.{own_of, look_of, book_of, drawn_of, lookup_of, IsInRange, seen_call, StartsWith}
-use Rattle.node_top.specs.Simulated.{network_of, look_to, sim_look, IsSimulable, report_of, first_nodes, Begins, count_among, sought_in, sim_text, Simulates}
+use Rattle.node_top.specs.Simulated.{network_of, look_to, sim_look, IsSimulable, report_of, first_nodes, Begins, count_among, sought_in, sim_text, SimText}
 use Rattle.node_top.proofs.Commands.{admits_usable, within_limits}
 use Rattle.node_top.proofs.Starting.{usable_told}
 
@@ -97,7 +97,7 @@ simulates_at : (s : Simulation) (left : WordsState) (contacts : List Contact) (t
     → Admits (own_of None s.seed) Plain (first_nodes s) contacts → StartsWith (sim_look s) s.seed contacts table → near ≡ sought_in s → Plays (network_of s) events
     → Finished (look_of FindNode (sim_look s) s.seed) table (drawn_of s.seed) left (Some []) (Some events) o
     → Grows (Some []) (Some events) (λ events. Rounds path_by_path (lookup_of FindNode (sim_look s) s.seed) o.journal events)
-    → text ≡ line_of (sim_text (length o.found) o.counts.asked o.counts.failed o.counts.turned (count_among near o.found)) → Simulates s text
+    → text ≡ line_of (sim_text (length o.found) o.counts.asked o.counts.failed o.counts.turned (count_among near o.found)) → SimText s text
 simulates_at s left contacts table near o events text admits told near_is plays up rounds is =
     let R = result_of (book_of FindNode (sim_look s) s.seed) o.journal in
     record {
@@ -127,7 +127,7 @@ simulates_at s left contacts table near o events text admits told near_is plays 
 pub simulates : (s : Simulation) (start : Start) (words left : WordsState) (o : Outcome) (net : Network) (before after : Option (List Event)) (text : List ℕ)
     → Begins s start → words ≡ drawn_of s.seed → net ≡ network_of s → before ≡ Some [] → (after ≡ None → ⊥) → IfSome after (Plays net)
     → Finished start.setting start.table words left before after o → Grows before after (λ events. Rounds path_by_path (given_of start.setting words) o.journal events)
-    → text ≡ line_of (sim_text (length o.found) o.counts.asked o.counts.failed o.counts.turned (count_among start.near o.found)) → Simulates s text
+    → text ≡ line_of (sim_text (length o.found) o.counts.asked o.counts.failed o.counts.turned (count_among start.near o.found)) → SimText s text
 simulates s start words left o net before None text begun f net_is began goes_on plays up rounds is = absurd (goes_on refl)
 simulates s start words left o net before (Some events) text begun f net_is began goes_on plays up rounds is =
     let setting = look_of FindNode (sim_look s) s.seed in

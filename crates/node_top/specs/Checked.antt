@@ -39,7 +39,7 @@ pub record CheckPrinted (policy : Policy) (reports : List Report) (text : List �
   pub text_is : text ≡ verdicts_printed verdicts
 
 -- the text has a verdict for each contact line of the input
-pub record Checks (policy : Policy) (source : Shown ℕ) (text : List ℕ) : Type 0 where
+pub record CheckText (policy : Policy) (source : Shown ℕ) (text : List ℕ) : Type 0 where
   pub reports : List Report
   pub lists : Lists source reports
   pub printed : CheckPrinted policy reports text

@@ -19,7 +19,7 @@ minted_line id key x = line_of (encode_lower id ++ codes " " ++ encode_lower key
 
 -- the text names the first key of the seed that solves the static puzzle, and the first X that solves the dynamic puzzle
 -- of its identifier, each within the tries
-pub record MintPrinted (seed : List ℕ) (c1 c2 tries : ℕ) (text : List ℕ) : Type 0 where
+pub record MintText (seed : List ℕ) (c1 c2 tries : ℕ) (text : List ℕ) : Type 0 where
   pub key : List ℕ
   pub x : List ℕ
   pub first_key : IsFirstKey seed c1 tries key

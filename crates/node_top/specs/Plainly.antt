@@ -11,10 +11,10 @@ use Rattle.node_top.specs.declared.status.Status.{Status}
 use Rattle.node_top.specs.declared.status.Status.TheVariants.{Usage, BadLine, SourceFault, NoMemory, Unminted, TooLong}
 use Rattle.node_top.specs.Asked.{AsksPlain}
 use Rattle.node_top.specs.Input.{ReadsFew, ReadsTooMuch, Lists, IsBadLine}
-use Rattle.node_top.specs.Checked.{Checks}
-use Rattle.node_top.specs.Minted.{seed_of, MintPrinted, FindsNothing}
+use Rattle.node_top.specs.Checked.{CheckText}
+use Rattle.node_top.specs.Minted.{seed_of, MintText, FindsNothing}
 use Rattle.node_top.specs.declared.sim.Simulation.{Simulation}
-use Rattle.node_top.specs.Simulated.{Simulates}
+use Rattle.node_top.specs.Simulated.{SimText}
 use Rattle.node_top.specs.Shown.{Shown, IsTold, HasFailed}
 use Rattle.node_top.specs.Written.{IsFront}
 
@@ -32,10 +32,10 @@ simulation_of seed nodes hostile k paths alpha timeout random = record {
 
 -- the text of a command that takes no link
 abbrev pub PlainText : Command → List ℕ → Shown ℕ → List ℕ → Type 0
-PlainText (Check policy) random source text = Checks policy source text
-PlainText (Mint seed c1 c2 tries) random source text = MintPrinted (seed_of seed random) c1 c2 tries text × (source.after ≡ source.before)
+PlainText (Check policy) random source text = CheckText policy source text
+PlainText (Mint seed c1 c2 tries) random source text = MintText (seed_of seed random) c1 c2 tries text × (source.after ≡ source.before)
 PlainText (Sim seed nodes hostile k paths alpha timeout) random source text =
-    Simulates (simulation_of seed nodes hostile k paths alpha timeout random) text × (source.after ≡ source.before)
+    SimText (simulation_of seed nodes hostile k paths alpha timeout random) text × (source.after ≡ source.before)
 PlainText other random source text = ⊥
 
 -- the words ask for such a command, and this is its text

@@ -100,7 +100,7 @@ pub record Begins (s : Simulation) (start : Start) : Type 0 where
 -- looks up; the journal is legal and begins with the k closest of that table; the events, from the first on, are those
 -- that this network plays, and they tell the journal and go by rounds; every path has run out; what a path asked came from
 -- its own seeds and answers; and the line is the journal's.
-pub record Simulates (s : Simulation) (text : List ℕ) : Type 0 where
+pub record SimText (s : Simulation) (text : List ℕ) : Type 0 where
   pub contacts : List Contact
   pub admits : Admits (own_of None s.seed) Plain (first_nodes s) contacts
   pub table : TableState

@@ -1,7 +1,7 @@
 //! The command `check`: says of each contact line of the input whether its contact passes the puzzles.
 ghost use Rattle.std.specs.Prelude.{◌≡◌, ◌≤◌, IfOk, IfErr, string_bytes};
 ghost use Rattle.std.specs.List.{AllZip};
-ghost use Rattle.node_top.specs.Checked.{Checks, Judges, passed_of, passed_text, verdict_text, verdicts_printed};
+ghost use Rattle.node_top.specs.Checked.{CheckText, Judges, passed_of, passed_text, verdict_text, verdicts_printed};
 ghost use Rattle.node_top.specs.Looked.{ReportsCause};
 ghost use Rattle.node_top.specs.Shown.{shown};
 
@@ -70,7 +70,7 @@ pub(crate) fn check<S: Source, C: Check>(
     source: &mut S,
     check: &C,
 ) -> Result<Bytes, Status>
-    ensures ok { IfOk result (Checks policy (shown S.left S.faults source.old source.new)) }
+    ensures ok { IfOk result (CheckText policy (shown S.left S.faults source.old source.new)) }
     ensures cause { IfErr result (ReportsCause (shown S.left S.faults source.old source.new)) }
     ensures faults { S.faults source.old ≤ S.faults source.new }
 {

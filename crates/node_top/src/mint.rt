@@ -1,6 +1,6 @@
 //! The command `mint`: makes an identifier that solves both puzzles, from a seed. It reads nothing.
 ghost use Rattle.std.specs.Prelude.{◌≡◌, IfOk, IfErr, string_bytes};
-ghost use Rattle.node_top.specs.Minted.{seed_of, minted_line, MintPrinted, MintCause};
+ghost use Rattle.node_top.specs.Minted.{seed_of, minted_line, MintText, MintCause};
 
 use crate::status::Status;
 use id_puzzles::{Minted, Unminted};
@@ -48,7 +48,7 @@ pub(crate) fn mint(
     c2: u8,
     tries: u32,
 ) -> Result<Bytes, Status>
-    ensures ok { IfOk result (MintPrinted seed.now c1 c2 tries) }
+    ensures ok { IfOk result (MintText seed.now c1 c2 tries) }
     ensures cause { IfErr result (MintCause seed.now c1 c2 tries) }
 {
     match id_puzzles::mint(seed, c1, c2, tries) {

@@ -4,7 +4,7 @@ ghost use Rattle.std.specs.Prelude.{◌≡◌, ◌≤◌, map, length, IfOk, IfE
 ghost use Rattle.kad_base.specs.Contacts.{same, among};
 ghost use Rattle.fake_net.specs.Network.{numbers};
 ghost use Rattle.node_top.specs.Printed.{line_of};
-ghost use Rattle.node_top.specs.Simulated.{network_of, look_to, IsSimulable, report_of, count_among, sim_text, Begins, Simulates};
+ghost use Rattle.node_top.specs.Simulated.{network_of, look_to, IsSimulable, report_of, count_among, sim_text, Begins, SimText};
 
 use crate::input::admitted;
 use crate::printed::add_line;
@@ -173,7 +173,7 @@ pub(crate) fn sim<C: Check>(
     hasher: RandomState,
 ) -> Result<Bytes, Status>
     requires { IsSimulable simulation.now }
-    ensures ok { IfOk result (Simulates simulation.now) }
+    ensures ok { IfOk result (SimText simulation.now) }
     ensures cause { IfErr result (λ status. status ≡ Status.NoMemory) }
 {
     let mut net = SimNet::new(

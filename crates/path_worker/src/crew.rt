@@ -7,14 +7,12 @@ ghost use Rattle.path_worker.specs.Crew.{CanWork, Worked, AllWorked};
 use crate::worker::Worker;
 use claim_book::Book;
 use contact_table::Table;
+use kad_base::limits::MAX_PATHS;
 use kad_base::{Check, NoMemory};
 use std::sync::Wait;
 use std::thread;
 use std::thread::Threads;
 use turn_book::Turn;
-
-/// At most so many bursts run at once.
-const MOST: usize = 8;
 
 /// A worker, and the answer of its burst.
 #[derive(Drop)]
@@ -49,7 +47,7 @@ fn burst_each<R: Threads + Wait + Sync, C: Check + Sync>(
     thread::for_each_mut(
         rt,
         crew,
-        MOST,
+        MAX_PATHS as usize,
         &|_: usize, shift: &mut Shift|
             requires can { CanWork book.now table.now shift.old.worker }
             requires opened { IsOpened book.now.start }

@@ -4,8 +4,8 @@ use Rattle.kad_words.specs.Plain.{CommandOf}
 use Rattle.kad_words.specs.declared.command.Command.TheVariants.{Check, Mint, Sim}
 use Rattle.kad_words.specs.Bound.{TakesLink}
 use Rattle.node_top.specs.Asked.{bytes_of}
-use Rattle.node_top.specs.Minted.{MintPrinted, MintCause}
-use Rattle.node_top.specs.Simulated.{Simulates}
+use Rattle.node_top.specs.Minted.{MintText, MintCause}
+use Rattle.node_top.specs.Simulated.{SimText}
 use Rattle.node_top.proofs.Asking.{check_plain, mint_plain, sim_plain, plain_alone}
 use Rattle.node_top.proofs.Commands.{ok_then, err_then}
 use Rattle.node_top.proofs.Causes.{refused, check_reads, check_cause_of, mint_cause_of}
@@ -38,7 +38,7 @@ returns-in-Mint-clause-ok g c =
     (λ text t. record {
       command = Mint c.in-Mint.seed c.in-Mint.c1 c.in-Mint.c2 c.in-Mint.tries;
       asked = subst (CommandOf _) c.in-Mint.is c.in_ok-policy.ensures.command;
-      text_of = (subst (λ seed. MintPrinted seed c.in-Mint.c1 c.in-Mint.c2 c.in-Mint.tries text) c.seed_for.ensures t, refl);
+      text_of = (subst (λ seed. MintText seed c.in-Mint.c1 c.in-Mint.c2 c.in-Mint.tries text) c.seed_for.ensures t, refl);
     })
 
 pub returns-in-Mint-clause-cause : goal.returns-in-Mint-clause-cause
@@ -56,7 +56,7 @@ returns-in-Sim-clause-ok g c =
     (λ text t. record {
       command = Sim c.in-Sim.seed c.in-Sim.nodes c.in-Sim.hostile c.in-Sim.k c.in-Sim.paths c.in-Sim.alpha c.in-Sim.timeout;
       asked = subst (CommandOf _) c.in-Sim.is c.in_ok-policy.ensures.command;
-      text_of = (subst (λ seed. Simulates (record { seed = seed; nodes = c.in-Sim.nodes; hostile = c.in-Sim.hostile; k = c.in-Sim.k; paths = c.in-Sim.paths; alpha = c.in-Sim.alpha; timeout = c.in-Sim.timeout }) text) c.seed_for-seed.ensures t, refl);
+      text_of = (subst (λ seed. SimText (record { seed = seed; nodes = c.in-Sim.nodes; hostile = c.in-Sim.hostile; k = c.in-Sim.k; paths = c.in-Sim.paths; alpha = c.in-Sim.alpha; timeout = c.in-Sim.timeout }) text) c.seed_for-seed.ensures t, refl);
     })
 
 pub returns-in-Sim-clause-plain : goal.returns-in-Sim-clause-plain
