@@ -22,6 +22,5 @@ pub mod Fewer
 pub mod Looking
 pub mod WholeRound
 pub mod Rounding
-pub mod Trying
 pub mod Closing
 pub mod Shuffled

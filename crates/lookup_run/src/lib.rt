@@ -14,8 +14,6 @@ mod reply;
 mod round;
 mod send;
 mod settle;
-#[cfg(test)]
-mod tests;
 mod together;
 
 pub use driver::{look_up, look_up_alone};

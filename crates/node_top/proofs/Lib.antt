@@ -12,7 +12,6 @@ pub mod Exactly
 pub mod Causes
 pub mod MayEnd
 pub mod Linkless
-pub mod Nodes
 pub mod Announcing
 pub mod Reaching
 pub mod Peering

@@ -19,8 +19,6 @@ mod serve;
 mod sim;
 mod start;
 mod status;
-#[cfg(test)]
-mod tests;
 mod top;
 
 pub use plain::run_plain;

@@ -1,0 +1,152 @@
+//! Whole lookups over a scripted link. Identifier n is nineteen zero bytes and n, contact n has it at 127.0.0.1 and port
+//! 6000 + n, and the target is identifier 0.
+ghost use Rattle.std.specs.Prelude.{◌≡◌, ◌≤◌, IfOk};
+ghost use Rattle.std.specs.List.{All};
+ghost use Rattle.kad_base.specs.Contacts.{IsUsable};
+ghost use Rattle.contact_table.specs.TableStep.{contacts_of};
+ghost use Rattle.lookup_run.specs.Lookup.{IsWithinLimits};
+
+mod hostile;
+mod script;
+mod together;
+
+use bucket_tree::Gone;
+use contact_table::{Table, TableCall, TableReply, holds_what_it_was_told};
+use fake_net::ScriptLink;
+use id_puzzles::{Sha1Check, Words};
+use kad_base::{Id, Policy, Serial, is_usable};
+use lookup_run::{AskKind, LookSetting, Outcome, look_up_alone};
+use script::{Reply, contact, link, peer, peers_link};
+use std::alloc::Global;
+use std::hash::RandomState;
+use std::test::Fail;
+
+const OWN: Id = Id([255; 20]);
+
+/// A lookup of identifier 0 on this many paths, with k 8 and alpha 3.
+fn setting(own: Id, paths: u8, kind: AskKind) -> LookSetting
+    requires some { 1 ≤ paths }
+    requires few { paths ≤ 8 }
+    ensures limits { IsWithinLimits result }
+    ensures own { result.own ≡ own }
+{
+    LookSetting {
+        own,
+        target: Id([0; 20]),
+        k: 8,
+        paths,
+        alpha: 3,
+        policy: Policy::Plain,
+        timeout: 2000,
+        kind,
+    }
+}
+
+/// A table that was told these contacts, each of which the node may ask.
+fn table_of(alloc: Global, own: Id, contacts: &[u8]) -> Result<Table, Fail>
+    ensures { IfOk result (λ table. All (IsUsable own) (contacts_of table)) }
+{
+    let mut table = Table::new(alloc, own, 8, 1)?;
+    for n in contacts {
+        let contact = contact(*n);
+        if !is_usable(&own, &contact) {
+            return Err(Fail::new("not usable"));
+        }
+        let _reply = table.apply(0, TableCall::Seen { contact });
+    }
+    holds_what_it_was_told();
+    Ok(table)
+}
+
+/// What a lookup from these contacts gives over the link, and the table that it leaves.
+fn play(
+    alloc: Global,
+    own: Id,
+    contacts: &[u8],
+    paths: u8,
+    kind: AskKind,
+    link: &mut ScriptLink,
+    hasher: RandomState,
+) -> Result<(Table, Outcome), Fail>
+    requires some { 1 ≤ paths }
+    requires few { paths ≤ 8 }
+{
+    let table = table_of(alloc, own, contacts)?;
+    let look = setting(own, paths, kind);
+    let mut words = Words::new(&[0; 32], 5);
+    let (table, result) = look_up_alone(alloc, link, &mut words, table, &look, &Sha1Check, hasher);
+    match result {
+        Ok(outcome) => Ok((table, outcome)),
+        Err(_) => Err(Fail::new("it ended early")),
+    }
+}
+
+#[test]
+fn two_paths_find_what_each_learns(rt: HostRuntime) -> Result<(), Fail> {
+    let first = Reply {
+        node: Some(3),
+        ..Reply::of(1, 10)
+    };
+    let second = Reply {
+        node: Some(4),
+        ..Reply::of(2, 10)
+    };
+    let replies = [first, second, Reply::of(3, 20), Reply::of(4, 20)];
+    let mut link = link(rt.alloc(), &replies)?;
+    let (_table, outcome) = play(
+        rt.alloc(),
+        OWN,
+        &[1, 2],
+        2,
+        AskKind::FindNode,
+        &mut link,
+        RandomState::new(&rt)?,
+    )?;
+    let all = [contact(1), contact(2), contact(3), contact(4)];
+    assert_eq!(rt; outcome.found.as_slice(), all.as_slice());
+    assert_eq!(rt; outcome.counts.asked, 4);
+    Ok(())
+}
+
+/// A contact that fails twice leaves the table.
+#[test]
+fn the_table_is_told_who_is_silent(rt: HostRuntime) -> Result<(), Fail> {
+    let mut link = link(rt.alloc(), &[Reply::of(1, 10)])?;
+    let (mut table, outcome) = play(
+        rt.alloc(),
+        OWN,
+        &[1, 2],
+        1,
+        AskKind::FindNode,
+        &mut link,
+        RandomState::new(&rt)?,
+    )?;
+    assert_eq!(rt; outcome.found.as_slice(), [contact(1)].as_slice());
+    let contact = contact(2);
+    let reply = table.apply(0, TableCall::Failed { contact });
+    assert_eq!(rt;
+        reply,
+        TableReply::Gone {
+            gone: Gone::Removed
+        }
+    );
+    Ok(())
+}
+
+#[test]
+fn peers_stand_once_and_tokens_with_their_contacts(rt: HostRuntime) -> Result<(), Fail> {
+    let mut link = peers_link(rt.alloc())?;
+    let (_table, outcome) = play(
+        rt.alloc(),
+        OWN,
+        &[1, 2],
+        1,
+        AskKind::GetPeers,
+        &mut link,
+        RandomState::new(&rt)?,
+    )?;
+    let peers = [peer(7000), peer(7001), peer(7002)];
+    assert_eq!(rt; outcome.peers.as_slice(), peers.as_slice());
+    assert_eq!(rt; outcome.tokens.len(), 2);
+    Ok(())
+}
