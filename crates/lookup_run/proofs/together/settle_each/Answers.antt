@@ -8,13 +8,13 @@ use Rattle.lookup_run.proofs.Settled.{stops_settling}
 use Rattle.lookup_run.proofs.Shuffled.{settles_together, ran_together}
 use Rattle.lookup_run.proofs.together.settle_each.Goals as goal
 
-pub returns-then-has_several-clause-ok : goal.returns-then-has_several-clause-ok
-returns-then-has_several-clause-ok g c told =
+pub returns-then-not-has_several-clause-ok : goal.returns-then-not-has_several-clause-ok
+returns-then-not-has_several-clause-ok g c told =
     let work = c.args.work in
     subst (λ b. OnOk c.settle_paths-settled.result (SettlesPaths at_once c.args.look.now 0 c.args.look.now.paths (record work { book = b }) c.settle_paths-settled.new.work told)) c.has_several.ensures (c.settle_paths-settled.ensures.ok at_once told)
 
-pub returns-then-has_several-clause-stops : goal.returns-then-has_several-clause-stops
-returns-then-has_several-clause-stops g c told =
+pub returns-then-not-has_several-clause-stops : goal.returns-then-not-has_several-clause-stops
+returns-then-not-has_several-clause-stops g c told =
     let work = c.args.work in
     subst (λ b. OnErr c.settle_paths-settled.result ((words : WordsState) → Stops c.args.look.now words words (record work { book = b }) c.settle_paths-settled.new.work told told)) c.has_several.ensures (c.settle_paths-settled.ensures.stops told)
 
