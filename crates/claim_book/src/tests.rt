@@ -1,4 +1,4 @@
-ghost use Rattle.std.specs.Prelude.{◌<◌, IfOk};
+ghost use Rattle.std.specs.Prelude.{◌≢◌, ◌<◌, ℕ, IfOk};
 ghost use Rattle.claim_book.specs.Calls.{BookMay};
 
 mod compare;
@@ -61,9 +61,91 @@ fn answer(alloc: Global, n: u8, named: Option<u8>) -> Result<BookCall, NoMemory>
     })
 }
 
+/// A call on the book. Contacts go by their numbers.
+#[derive(Clone, Copy)]
+enum Step {
+    /// What to ask on a path.
+    Next(u8),
+    /// A contact answers, and names one other, or none.
+    Heard(u8, Option<u8>),
+    /// A contact lets its time pass.
+    TimedOut(u8),
+    Finish,
+    /// The first thing to settle on a path.
+    Pull(u8),
+    /// On a path a contact is noted.
+    Note(u8, u8),
+    /// On a path a contact's report is settled.
+    Settle(u8, u8),
+}
+
+/// A reply of the book, with the number of the contact that it names.
+#[derive(Clone, Copy, Debug, PartialEq, Eq)]
+enum Told {
+    Ask(u8),
+    RunOut,
+    Later,
+    Kept,
+    NotOpen,
+    Found,
+    NotYet(u8),
+    Alive(u8),
+    Report(u8),
+    Idle,
+    NotFront,
+    Taken,
+    Held(u8),
+    Turned,
+    Rejected,
+    Skipped,
+    NoMemory,
+}
+
+/// The number of a contact, or 255 where it is none of those that have one.
+fn number_of(one: &Contact) -> u8 {
+    let n = one.id.0[19];
+    if *one == contact(n) { n } else { u8::MAX }
+}
+
+/// The number of the contact of a report without proof, else 255.
+fn reported(one: &Report) -> u8 {
+    match one.proof {
+        None => number_of(&one.contact),
+        Some(_) => u8::MAX,
+    }
+}
+
+fn told_of(reply: &BookReply) -> Told {
+    match reply {
+        BookReply::Ask { contact } => Told::Ask(number_of(contact)),
+        BookReply::RunOut => Told::RunOut,
+        BookReply::Later => Told::Later,
+        BookReply::Kept => Told::Kept,
+        BookReply::NotOpen => Told::NotOpen,
+        BookReply::Found { .. } => Told::Found,
+        BookReply::NotYet { path } => Told::NotYet(*path),
+        BookReply::Alive { contact } => Told::Alive(number_of(contact)),
+        BookReply::Report { report } => Told::Report(reported(report)),
+        BookReply::Idle => Told::Idle,
+        BookReply::NotFront => Told::NotFront,
+        BookReply::Taken => Told::Taken,
+        BookReply::Held { path } => Told::Held(*path),
+        BookReply::Turned => Told::Turned,
+        BookReply::Rejected => Told::Rejected,
+        BookReply::Skipped => Told::Skipped,
+        BookReply::NoMemory => Told::NoMemory,
+    }
+}
+
+/// The role that settles on a path.
+fn worker(path: u8) -> u8
+    ensures { result ≢ 0 }
+{
+    path.saturating_add(1)
+}
+
 fn settle(rt: &impl Abort, n: u8) -> BookCall
-    ensures first { BookMay 1 result }
-    ensures second { BookMay 2 result }
+    ensures { (role : ℕ) → role ≢ 0 → BookMay role result }
 {
     let check = Trusting { rt };
     BookCall::Settle {
@@ -71,9 +153,70 @@ fn settle(rt: &impl Abort, n: u8) -> BookCall
     }
 }
 
-/// A book with two seeds, of which the first was asked.
+/// Makes a call, in its role.
+fn make(
+    rt: &impl Abort,
+    alloc: Global,
+    book: &mut Book,
+    step: Step,
+) -> Result<BookReply, NoMemory> {
+    let cause = Cause::Timeout;
+    let reply = match step {
+        Step::Next(path) => book.apply(0, BookCall::Next { path }),
+        Step::Heard(n, named) => book.apply(0, answer(alloc, n, named)?),
+        Step::TimedOut(n) => book.apply(
+            0,
+            BookCall::Lost {
+                contact: contact(n),
+                cause,
+            },
+        ),
+        Step::Finish => book.apply(0, BookCall::Finish),
+        Step::Pull(path) => book.apply(worker(path), BookCall::Pull),
+        Step::Note(path, n) => book.apply(
+            worker(path),
+            BookCall::Note {
+                contact: contact(n),
+            },
+        ),
+        Step::Settle(path, n) => book.apply(worker(path), settle(rt, n)),
+    };
+    Ok(reply)
+}
+
+/// Makes the calls in order, of which each is to be replied to so.
+fn play(
+    rt: &impl Abort,
+    alloc: Global,
+    book: &mut Book,
+    rows: &[(Step, Told)],
+) -> Result<(), NoMemory> {
+    for (step, told) in rows {
+        let reply = make(rt, alloc, book, *step)?;
+        assert_eq!(rt; told_of(&reply), *told);
+    }
+    Ok(())
+}
+
+/// The lookup is over, and found these contacts.
+fn finds(
+    rt: &impl Abort,
+    alloc: Global,
+    book: &mut Book,
+    contacts: &[Contact],
+    counts: Counts,
+) -> Result<(), NoMemory> {
+    let found = List::from_slice(alloc, contacts)?;
+    assert_eq!(rt;
+        book.apply(0, BookCall::Finish),
+        BookReply::Found { found, counts }
+    );
+    Ok(())
+}
+
+/// A book with the first two contacts as its seeds.
 #[tactic(auto, using(crate::proofs::Closest::sorted_two))]
-fn begun(rt: &impl Abort, alloc: Global, hasher: RandomState, paths: u8) -> Result<Book, Fail>
+fn seeded(rt: &impl Abort, alloc: Global, hasher: RandomState, paths: u8) -> Result<Book, Fail>
     requires { 0 < paths }
 {
     let setting = Setting {
@@ -89,314 +232,208 @@ fn begun(rt: &impl Abort, alloc: Global, hasher: RandomState, paths: u8) -> Resu
     assert!(rt; closer(&setting.target, &first, &second));
     assert!(rt; is_usable(&setting.own, &first));
     assert!(rt; is_usable(&setting.own, &second));
-    let mut book = Book::new(alloc, setting, &[first, second], hasher)?;
-    assert_eq!(rt;
-        book.apply(0, BookCall::Next { path: 0 }),
-        BookReply::Ask {
-            contact: contact(1)
-        }
-    );
-    Ok(book)
+    Ok(Book::new(alloc, setting, &[first, second], hasher)?)
 }
 
-/// The first contact answers and names the third, which the path takes.
-fn answered_once(
+/// A lookup with two seeds on so many paths: the calls, and how each is replied to.
+fn plays(
     rt: &impl Abort,
     alloc: Global,
     hasher: RandomState,
     paths: u8,
+    rows: &[(Step, Told)],
 ) -> Result<Book, Fail>
     requires { 0 < paths }
 {
-    let mut book = begun(rt, alloc, hasher, paths)?;
-    assert_eq!(rt; book.apply(0, answer(alloc, 1, Some(3))?), BookReply::Kept);
-    assert_eq!(rt;
-        book.apply(
-            1,
-            BookCall::Note {
-                contact: contact(1)
-            }
-        ),
-        BookReply::Kept
-    );
-    assert_eq!(rt; book.apply(1, settle(rt, 3)), BookReply::Taken);
+    let mut book = seeded(rt, alloc, hasher, paths)?;
+    play(rt, alloc, &mut book, rows)?;
     Ok(book)
 }
 
 #[test]
 fn a_query_is_open_until_it_is_heard(rt: HostRuntime) -> Result<(), Fail> {
-    let mut book = begun(&rt, rt.alloc(), RandomState::new(&rt)?, 1)?;
-    assert_eq!(rt; book.apply(0, BookCall::Next { path: 0 }), BookReply::Later);
-    assert_eq!(rt;
-        book.apply(0, BookCall::Next { path: 5 }),
-        BookReply::RunOut
-    );
-    assert_eq!(rt;
-        book.apply(0, BookCall::Finish),
-        BookReply::NotYet { path: 0 }
-    );
-    assert_eq!(rt;
-        book.apply(0, answer(rt.alloc(), 3, None)?),
-        BookReply::NotOpen
-    );
-    assert_eq!(rt;
-        book.apply(0, answer(rt.alloc(), 1, Some(3))?),
-        BookReply::Kept
-    );
-    assert_eq!(rt;
-        book.apply(0, answer(rt.alloc(), 1, Some(3))?),
-        BookReply::NotOpen
-    );
+    plays(
+        &rt,
+        rt.alloc(),
+        RandomState::new(&rt)?,
+        1,
+        &[
+            (Step::Next(0), Told::Ask(1)),
+            (Step::Next(0), Told::Later),
+            (Step::Next(5), Told::RunOut),
+            (Step::Finish, Told::NotYet(0)),
+            (Step::Heard(3, None), Told::NotOpen),
+            (Step::Heard(1, Some(3)), Told::Kept),
+            (Step::Heard(1, Some(3)), Told::NotOpen),
+        ],
+    )?;
     Ok(())
 }
 
 #[test]
 fn an_answer_is_settled_in_order(rt: HostRuntime) -> Result<(), Fail> {
-    let mut book = begun(&rt, rt.alloc(), RandomState::new(&rt)?, 1)?;
-    assert_eq!(rt;
-        book.apply(0, answer(rt.alloc(), 1, Some(3))?),
-        BookReply::Kept
-    );
-    assert_eq!(rt;
-        book.apply(1, BookCall::Pull),
-        BookReply::Alive {
-            contact: contact(1)
-        }
-    );
-    assert_eq!(rt; book.apply(1, settle(&rt, 3)), BookReply::NotFront);
-    assert_eq!(rt;
-        book.apply(
-            1,
-            BookCall::Note {
-                contact: contact(1)
-            }
-        ),
-        BookReply::Kept
-    );
-    assert_eq!(rt;
-        book.apply(1, BookCall::Pull),
-        BookReply::Report { report: report(3) }
-    );
-    assert_eq!(rt; book.apply(1, settle(&rt, 3)), BookReply::Taken);
-    assert_eq!(rt; book.apply(1, BookCall::Pull), BookReply::Idle);
-    assert_eq!(rt;
-        book.apply(
-            1,
-            BookCall::Note {
-                contact: contact(1)
-            }
-        ),
-        BookReply::NotFront
-    );
-    assert_eq!(rt;
-        book.apply(0, BookCall::Next { path: 0 }),
-        BookReply::Ask {
-            contact: contact(2)
-        }
-    );
+    plays(
+        &rt,
+        rt.alloc(),
+        RandomState::new(&rt)?,
+        1,
+        &[
+            (Step::Next(0), Told::Ask(1)),
+            (Step::Heard(1, Some(3)), Told::Kept),
+            (Step::Pull(0), Told::Alive(1)),
+            (Step::Settle(0, 3), Told::NotFront),
+            (Step::Note(0, 1), Told::Kept),
+            (Step::Pull(0), Told::Report(3)),
+            (Step::Settle(0, 3), Told::Taken),
+            (Step::Pull(0), Told::Idle),
+            (Step::Note(0, 1), Told::NotFront),
+            (Step::Next(0), Told::Ask(2)),
+        ],
+    )?;
     Ok(())
 }
 
 #[test]
 fn a_lookup_finds_those_that_answered(rt: HostRuntime) -> Result<(), Fail> {
-    let mut book = answered_once(&rt, rt.alloc(), RandomState::new(&rt)?, 1)?;
-    let lost = BookCall::Lost {
-        contact: contact(2),
-        cause: Cause::Timeout,
-    };
-    assert_eq!(rt;
-        book.apply(0, BookCall::Next { path: 0 }),
-        BookReply::Ask {
-            contact: contact(2)
-        }
-    );
-    assert_eq!(rt; book.apply(0, lost), BookReply::Kept);
-    assert_eq!(rt;
-        book.apply(0, BookCall::Next { path: 0 }),
-        BookReply::Ask {
-            contact: contact(3)
-        }
-    );
-    assert_eq!(rt;
-        book.apply(0, answer(rt.alloc(), 3, Some(1))?),
-        BookReply::Kept
-    );
-    assert_eq!(rt;
-        book.apply(
-            1,
-            BookCall::Note {
-                contact: contact(3)
-            }
-        ),
-        BookReply::Kept
-    );
-    assert_eq!(rt; book.apply(1, settle(&rt, 1)), BookReply::Held { path: 0 });
-    assert_eq!(rt;
-        book.apply(0, BookCall::Next { path: 0 }),
-        BookReply::RunOut
-    );
-    let found = List::from_slice(rt.alloc(), &[contact(1), contact(3)])?;
+    let mut book = plays(
+        &rt,
+        rt.alloc(),
+        RandomState::new(&rt)?,
+        1,
+        &[
+            (Step::Next(0), Told::Ask(1)),
+            (Step::Heard(1, Some(3)), Told::Kept),
+            (Step::Note(0, 1), Told::Kept),
+            (Step::Settle(0, 3), Told::Taken),
+            (Step::Next(0), Told::Ask(2)),
+            (Step::TimedOut(2), Told::Kept),
+            (Step::Next(0), Told::Ask(3)),
+            (Step::Heard(3, Some(1)), Told::Kept),
+            (Step::Note(0, 3), Told::Kept),
+            (Step::Settle(0, 1), Told::Held(0)),
+            (Step::Next(0), Told::RunOut),
+        ],
+    )?;
     let counts = Counts {
         asked: 3,
         failed: 1,
         turned: 0,
     };
-    assert_eq!(rt;
-        book.apply(0, BookCall::Finish),
-        BookReply::Found { found, counts }
-    );
+    finds(
+        &rt,
+        rt.alloc(),
+        &mut book,
+        &[contact(1), contact(3)],
+        counts,
+    )?;
     assert_eq!(rt; book.into_journal().len(), 12);
     Ok(())
 }
 
 #[test]
 fn each_path_asks_its_own_seed(rt: HostRuntime) -> Result<(), Fail> {
-    let mut book = begun(&rt, rt.alloc(), RandomState::new(&rt)?, 2)?;
-    assert_eq!(rt; book.apply(0, BookCall::Next { path: 0 }), BookReply::Later);
-    assert_eq!(rt;
-        book.apply(0, BookCall::Next { path: 1 }),
-        BookReply::Ask {
-            contact: contact(2)
-        }
-    );
-    assert_eq!(rt;
-        book.apply(0, BookCall::Next { path: 5 }),
-        BookReply::RunOut
-    );
-    assert_eq!(rt;
-        book.apply(0, BookCall::Finish),
-        BookReply::NotYet { path: 0 }
-    );
-    assert_eq!(rt;
-        book.apply(0, answer(rt.alloc(), 3, None)?),
-        BookReply::NotOpen
-    );
-    assert_eq!(rt;
-        book.apply(0, answer(rt.alloc(), 1, Some(3))?),
-        BookReply::Kept
-    );
-    assert_eq!(rt;
-        book.apply(0, answer(rt.alloc(), 1, Some(3))?),
-        BookReply::NotOpen
-    );
+    plays(
+        &rt,
+        rt.alloc(),
+        RandomState::new(&rt)?,
+        2,
+        &[
+            (Step::Next(0), Told::Ask(1)),
+            (Step::Next(0), Told::Later),
+            (Step::Next(1), Told::Ask(2)),
+            (Step::Next(5), Told::RunOut),
+            (Step::Finish, Told::NotYet(0)),
+            (Step::Heard(3, None), Told::NotOpen),
+            (Step::Heard(1, Some(3)), Told::Kept),
+            (Step::Heard(1, Some(3)), Told::NotOpen),
+        ],
+    )?;
     Ok(())
 }
 
 #[test]
 fn a_path_settles_what_its_own_query_gave(rt: HostRuntime) -> Result<(), Fail> {
-    let mut book = begun(&rt, rt.alloc(), RandomState::new(&rt)?, 2)?;
-    assert_eq!(rt;
-        book.apply(0, answer(rt.alloc(), 1, Some(3))?),
-        BookReply::Kept
-    );
-    assert_eq!(rt; book.apply(2, BookCall::Pull), BookReply::Idle);
-    assert_eq!(rt;
-        book.apply(1, BookCall::Pull),
-        BookReply::Alive {
-            contact: contact(1)
-        }
-    );
-    assert_eq!(rt; book.apply(1, settle(&rt, 3)), BookReply::NotFront);
-    assert_eq!(rt;
-        book.apply(
-            1,
-            BookCall::Note {
-                contact: contact(1)
-            }
-        ),
-        BookReply::Kept
-    );
-    assert_eq!(rt;
-        book.apply(1, BookCall::Pull),
-        BookReply::Report { report: report(3) }
-    );
-    assert_eq!(rt; book.apply(1, settle(&rt, 3)), BookReply::Taken);
+    plays(
+        &rt,
+        rt.alloc(),
+        RandomState::new(&rt)?,
+        2,
+        &[
+            (Step::Next(0), Told::Ask(1)),
+            (Step::Heard(1, Some(3)), Told::Kept),
+            (Step::Pull(1), Told::Idle),
+            (Step::Pull(0), Told::Alive(1)),
+            (Step::Settle(0, 3), Told::NotFront),
+            (Step::Note(0, 1), Told::Kept),
+            (Step::Pull(0), Told::Report(3)),
+            (Step::Settle(0, 3), Told::Taken),
+        ],
+    )?;
     Ok(())
 }
 
 #[test]
 fn a_path_asks_what_it_took(rt: HostRuntime) -> Result<(), Fail> {
-    let mut book = answered_once(&rt, rt.alloc(), RandomState::new(&rt)?, 2)?;
-    assert_eq!(rt; book.apply(1, BookCall::Pull), BookReply::Idle);
-    assert_eq!(rt;
-        book.apply(0, BookCall::Next { path: 0 }),
-        BookReply::Ask {
-            contact: contact(3)
-        }
-    );
-    assert_eq!(rt;
-        book.apply(
-            1,
-            BookCall::Note {
-                contact: contact(1)
-            }
-        ),
-        BookReply::NotFront
-    );
+    plays(
+        &rt,
+        rt.alloc(),
+        RandomState::new(&rt)?,
+        2,
+        &[
+            (Step::Next(0), Told::Ask(1)),
+            (Step::Heard(1, Some(3)), Told::Kept),
+            (Step::Note(0, 1), Told::Kept),
+            (Step::Settle(0, 3), Told::Taken),
+            (Step::Pull(0), Told::Idle),
+            (Step::Next(0), Told::Ask(3)),
+            (Step::Note(0, 1), Told::NotFront),
+        ],
+    )?;
     Ok(())
 }
 
 #[test]
 fn a_contact_is_on_one_path(rt: HostRuntime) -> Result<(), Fail> {
-    let mut book = answered_once(&rt, rt.alloc(), RandomState::new(&rt)?, 2)?;
-    assert_eq!(rt;
-        book.apply(0, BookCall::Next { path: 1 }),
-        BookReply::Ask {
-            contact: contact(2)
-        }
-    );
-    assert_eq!(rt;
-        book.apply(0, answer(rt.alloc(), 2, Some(3))?),
-        BookReply::Kept
-    );
-    assert_eq!(rt;
-        book.apply(
-            2,
-            BookCall::Note {
-                contact: contact(2)
-            }
-        ),
-        BookReply::Kept
-    );
-    assert_eq!(rt; book.apply(2, settle(&rt, 3)), BookReply::Held { path: 0 });
+    plays(
+        &rt,
+        rt.alloc(),
+        RandomState::new(&rt)?,
+        2,
+        &[
+            (Step::Next(0), Told::Ask(1)),
+            (Step::Heard(1, Some(3)), Told::Kept),
+            (Step::Note(0, 1), Told::Kept),
+            (Step::Settle(0, 3), Told::Taken),
+            (Step::Next(1), Told::Ask(2)),
+            (Step::Heard(2, Some(3)), Told::Kept),
+            (Step::Note(1, 2), Told::Kept),
+            (Step::Settle(1, 3), Told::Held(0)),
+        ],
+    )?;
     Ok(())
 }
 
 #[test]
 fn a_lookup_ends_with_its_last_path(rt: HostRuntime) -> Result<(), Fail> {
-    let mut book = begun(&rt, rt.alloc(), RandomState::new(&rt)?, 2)?;
-    let note = BookCall::Note {
-        contact: contact(1),
-    };
-    let lost = BookCall::Lost {
-        contact: contact(2),
-        cause: Cause::Timeout,
-    };
-    assert_eq!(rt;
-        book.apply(0, BookCall::Next { path: 1 }),
-        BookReply::Ask {
-            contact: contact(2)
-        }
-    );
-    assert_eq!(rt;
-        book.apply(0, answer(rt.alloc(), 1, None)?),
-        BookReply::Kept
-    );
-    assert_eq!(rt; book.apply(1, note), BookReply::Kept);
-    assert_eq!(rt;
-        book.apply(0, BookCall::Finish),
-        BookReply::NotYet { path: 1 }
-    );
-    assert_eq!(rt; book.apply(0, lost), BookReply::Kept);
-    let found = List::from_slice(rt.alloc(), &[contact(1)])?;
+    let mut book = plays(
+        &rt,
+        rt.alloc(),
+        RandomState::new(&rt)?,
+        2,
+        &[
+            (Step::Next(0), Told::Ask(1)),
+            (Step::Next(1), Told::Ask(2)),
+            (Step::Heard(1, None), Told::Kept),
+            (Step::Note(0, 1), Told::Kept),
+            (Step::Finish, Told::NotYet(1)),
+            (Step::TimedOut(2), Told::Kept),
+        ],
+    )?;
     let counts = Counts {
         asked: 2,
         failed: 1,
         turned: 0,
     };
-    assert_eq!(rt;
-        book.apply(0, BookCall::Finish),
-        BookReply::Found { found, counts }
-    );
+    finds(&rt, rt.alloc(), &mut book, &[contact(1)], counts)?;
     Ok(())
 }
