@@ -1,5 +1,5 @@
 -- A lookup has gone its rounds: what follows for what it answers.
-use Rattle.std.proofs.Common.{◌≡◌, ◌≢◌, ◌≤◌, ℕ, inl, inr, arith, Result, Ok, Err, IfOk, IsOk, sym, subst, ◌∙◌}
+use Rattle.std.proofs.Common.{◌≡◌, ◌≢◌, ◌≤◌, ℕ, inl, inr, arith, Result, Ok, Err, IfOk, subst}
 use Rattle.std.specs.Prelude.{IfErr, OnOk, OnErr, IsErrOf}
 use Rattle.std.proofs.lemmas.Bool.{false≢true}
 use Rattle.kad_base.specs.Outside.{Rose}

@@ -1,6 +1,6 @@
 -- All paths settled at once, each on a thread of its own: the events show the longer journal, and each worker told the table
 -- of whom its path notes, in order.
-use Rattle.std.proofs.Common.{◌≡◌, ◌≢◌, ◌⊎◌, ℕ, ◌+◌, ◌-◌, ◌==◌, eqb, ◌<◌, ◌≤◌, List, [], ◌∷◌, ◌++◌, Option, Bool, true, false, cond, inl, inr, refl, sym, ap, subst, ◌∙◌, arith}
+use Rattle.std.proofs.Common.{◌≡◌, ◌≢◌, ◌⊎◌, ℕ, ◌+◌, ◌-◌, ◌==◌, ◌<◌, ◌≤◌, List, [], ◌∷◌, ◌++◌, Option, Bool, true, false, cond, inl, inr, refl, sym, ap, subst, ◌∙◌, arith}
 use Rattle.std.specs.Prelude.{map, filter}
 use Rattle.std.specs.List.{All, AllByRecursion, flat_map}
 use Rattle.std.proofs.lemmas.Bool.{cases_lt, false≢true}
@@ -23,11 +23,11 @@ use Rattle.path_worker.specs.Together.{IsSettling, IsWorkers, StopsTogether, Set
 use Rattle.lookup_run.specs.declared.plain.LookSetting.{LookSetting}
 use Rattle.lookup_run.specs.declared.plain.Work.{Work}
 use Rattle.lookup_run.specs.Rounds.{at_once, path_number}
-use Rattle.lookup_run.specs.Lookup.{Told, told_in, told_of, told_by, TableToldBy, TableRan}
+use Rattle.lookup_run.specs.Lookup.{Told, told_in, told_of, told_by, TableRan}
 use Rattle.lookup_run.specs.Between.{Keeps}
 use Rattle.lookup_run.specs.Steps.{SettlesPaths}
 use Rattle.lookup_run.proofs.Quiet.{IsMute, quiet_entry, settles_mixed}
-use Rattle.lookup_run.proofs.Settled.{Continues, settles_more}
+use Rattle.lookup_run.proofs.Settled.{settles_more}
 
 -- ---- numbers and filters
 

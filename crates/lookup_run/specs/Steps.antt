@@ -29,7 +29,7 @@ use Rattle.lookup_run.specs.declared.plain.Work.{Work}
 use Rattle.lookup_run.specs.declared.reply.Reply.{Reply}
 use Rattle.lookup_run.specs.declared.reply.Reply.TheVariants as reply
 use Rattle.lookup_run.specs.Tells.{OpenQuery, EndsAtStray, Replies, ReplyGives, closed_at}
-use Rattle.lookup_run.specs.Rounds.{Manner, path_by_path, AllSettled, NoneAsks, WaitsInTurn}
+use Rattle.lookup_run.specs.Rounds.{Manner, AllSettled, NoneAsks, WaitsInTurn}
 use Rattle.lookup_run.specs.Gathered.{Answered, values_of, token_of, IsEachOnce}
 use Rattle.lookup_run.specs.Lookup.{setting_of, given_of, seeds_in, told_of, Unfinished, TableRan, TableTold, Told}
 use Rattle.lookup_run.specs.Between.{IsReply, as_open, Keeps, HasWords, weight_of, Along, StepsAlongBy, StepsAlong}

@@ -31,7 +31,7 @@ use Rattle.node_top.specs.Looked.{ReportsCause}
 use Rattle.node_top.specs.Printed.{served_text}
 use Rattle.node_top.specs.Responded.{serve_state, RespondsWith, ReceivesOne, ReceivesAll, Stops, StopsAll}
 use Rattle.node_top.specs.Shown.{Shown}
-use Rattle.node_top.specs.Served.{Hosts, ServeState, begun_at, waits_until, Responds, silent, answered, ServesOne, quiet, came, Serves, Unanswered, ServesSome, Served, ServedSome, ServeBegun, ServeCause, is_got, got_in}
+use Rattle.node_top.specs.Served.{Hosts, ServeState, begun_at, waits_until, silent, answered, ServesOne, quiet, came, Serves, Unanswered, ServesSome, Served, ServedSome, ServeBegun, ServeCause, is_got, got_in}
 use Rattle.node_top.specs.Started.{own_of, seen_call}
 use Rattle.node_top.proofs.Announcing.{sent_then, number_sent, told_still}
 use Rattle.node_top.proofs.Exactly.{rose_after}

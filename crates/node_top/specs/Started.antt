@@ -1,6 +1,6 @@
 -- What a lookup starts from: its setting, by the words, and a routing table, by the words and the input (Kademlia, 2002,
 -- sections 2.2 and 2.4).
-use Rattle.std.specs.Prelude.{◌≡◌, ◌≢◌, ℕ, List, [], map, Option, Some, None, ◌≤◌}
+use Rattle.std.specs.Prelude.{◌≢◌, ℕ, List, [], map, Option, Some, None, ◌≤◌}
 use Rattle.kad_base.specs.declared.plain.Id.{Id}
 use Rattle.kad_base.specs.declared.plain.Contact.{Contact}
 use Rattle.kad_base.specs.Limits.{max_k, max_paths, max_alpha, max_bits}

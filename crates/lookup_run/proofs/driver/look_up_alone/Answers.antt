@@ -1,4 +1,4 @@
-use Rattle.std.proofs.Common.{◌≡◌, ◌≢◌, subst, sym}
+use Rattle.std.proofs.Common.{◌≢◌, subst, sym}
 use Rattle.claim_book.proofs.Descent.{own_answers}
 use Rattle.lookup_run.specs.declared.plain.LookFault.TheVariants.{LinkFault, Strays, NoMemory}
 use Rattle.lookup_run.specs.Rounds.{path_by_path}

@@ -1,7 +1,6 @@
 use Rattle.std.proofs.Common.{◌≡◌, ◌∙◌, Err, None, refl, sym, arith, ap, rules}
 use Rattle.lookup_run.specs.declared.plain.LookFault.TheVariants.{Strays, LinkFault}
 use Rattle.lookup_run.specs.Rounds.{path_by_path}
-use Rattle.lookup_run.proofs.Early.{on_ok, on_err}
 use Rattle.lookup_run.proofs.Rounding.{round_more, stops_settling_round, rounds_none, rounds_then, rounds_over, rounds_stop, rounds_stray, rounds_few}
 use Rattle.lookup_run.proofs.round.go_rounds.Goals as goal
 
