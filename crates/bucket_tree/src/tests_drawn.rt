@@ -2,8 +2,9 @@
 ghost use Rattle.std.specs.Prelude.{◌<◌, ◌≤◌};
 
 use crate::flat::Flat;
-use crate::{Buckets, Seen};
-use kad_base::{Addr, Contact, Id, Ip};
+use crate::tests::finds;
+use crate::{Buckets, Prefix};
+use kad_base::{Addr, Contact, Id, Ip, NoMemory};
 use kad_distance::k_least;
 use std::alloc::Global;
 use std::test::Fail;
@@ -55,23 +56,42 @@ impl Draws {
     }
 }
 
-/// Whether both have the same rows, as far as callers see them.
-fn is_same(buckets: &Buckets, flat: &Flat) -> Option<bool> {
-    let live = flat.live()?;
-    if buckets.live().ok()?.as_slice() != live.as_slice() {
-        return Some(false);
-    }
+/// Whether both have the same live contacts, row by row.
+fn has_same_live(buckets: &Buckets, flat: &Flat) -> Option<bool> {
+    let live = buckets.live().ok()?;
+    let wanted = flat.live()?;
+    Some(live.as_slice() == wanted.as_slice())
+}
+
+/// Whether these are the prefixes of the rows, in order.
+fn are_prefixes(prefixes: &[Prefix], wanted: &[(Id, u8)]) -> bool {
+    prefixes.len() == wanted.len()
+        && prefixes
+            .iter()
+            .zip(wanted)
+            .all(|(prefix, want)| (prefix.bits(), prefix.len()) == *want)
+}
+
+fn has_same_prefixes(buckets: &Buckets, flat: &Flat) -> Option<bool> {
     let prefixes = buckets.prefixes().ok()?;
     let wanted = flat.prefixes()?;
-    if prefixes.len() != wanted.len() {
-        return Some(false);
+    Some(are_prefixes(prefixes.as_slice(), wanted.as_slice()))
+}
+
+/// Whether both have the same rows, as far as callers see them.
+fn is_same(buckets: &Buckets, flat: &Flat) -> Option<bool> {
+    Some(has_same_live(buckets, flat)? && has_same_prefixes(buckets, flat)?)
+}
+
+/// Whether both answer alike to one drawn call, without want of memory.
+fn answers_one_alike(buckets: &mut Buckets, flat: &mut Flat, draws: &mut Draws) -> bool {
+    let contact = draws.near();
+    if draws.byte() % 4 == 0 {
+        flat.failed(&contact) == Some(buckets.failed(&contact))
+    } else {
+        let seen = buckets.seen(contact).ok();
+        seen.is_some() && flat.seen(contact) == seen
     }
-    for (prefix, want) in prefixes.as_slice().iter().zip(wanted.as_slice()) {
-        if (prefix.bits(), prefix.len()) != *want {
-            return Some(false);
-        }
-    }
-    Some(true)
 }
 
 /// Whether a tree and a flat list answer alike to drawn calls, of which one in four says that a contact failed.
@@ -85,12 +105,7 @@ fn answers_alike(alloc: Global, draws: &mut Draws, k: u8, b: u8, calls: u16) -> 
     let mut buckets = Buckets::new(alloc, own, k, b).ok()?;
     let mut flat = Flat::new(alloc, own, k, b)?;
     for _call in 0..calls {
-        let contact = draws.near();
-        if draws.byte() % 4 == 0 {
-            if buckets.failed(&contact) != flat.failed(&contact)? {
-                return Some(false);
-            }
-        } else if buckets.seen(contact).ok()? != flat.seen(contact)? {
+        if !answers_one_alike(&mut buckets, &mut flat, draws) {
             return Some(false);
         }
     }
@@ -127,17 +142,28 @@ fn drawn(alloc: Global, n: u16) -> Result<Vec<Contact>, Fail> {
     Ok(contacts)
 }
 
+/// Appends the closest contacts to these bits.
+fn append_closest(all: &mut Vec<Contact>, buckets: &Buckets, bits: &Id) -> Result<(), Fail> {
+    let near = buckets.closest(bits, 255)?;
+    Ok(all.extend_from_slice(near.as_slice())?)
+}
+
 /// The closest contacts to the bits of each prefix, joined.
 fn joined(alloc: Global, buckets: &Buckets) -> Result<Vec<Contact>, Fail> {
     let mut all = Vec::new(alloc);
     let prefixes = buckets.prefixes()?;
     for prefix in prefixes.as_slice() {
-        let near = buckets.closest(&prefix.bits(), 255)?;
-        for contact in near.as_slice() {
-            all.push(*contact)?;
-        }
+        append_closest(&mut all, buckets, &prefix.bits())?;
     }
     Ok(all)
+}
+
+/// Whether the buckets find the 8 of all that are closest to the target.
+fn finds_closest(alloc: Global, buckets: &Buckets, all: &[Contact], target: &Id) -> bool {
+    match k_least(alloc, target, 8, all) {
+        Ok(wanted) => finds(buckets, target, 8, wanted.as_slice()),
+        Err(NoMemory) => false,
+    }
 }
 
 #[test]
@@ -148,9 +174,8 @@ fn finds_the_closest_of_20000_that_were_seen(rt: HostRuntime) -> Result<(), Fail
     let mut draws = seeded();
     for _i in 0..200u8 {
         let target = draws.any().id;
-        let near = buckets.closest(&target, 8)?;
-        let wanted = k_least(rt.alloc(), &target, 8, all.as_slice())?;
-        assert_eq!(rt; near.as_slice(), wanted.as_slice(), "{target:?}");
+        let found = finds_closest(rt.alloc(), &buckets, all.as_slice(), &target);
+        assert!(rt; found, "{target:?}");
     }
     Ok(())
 }

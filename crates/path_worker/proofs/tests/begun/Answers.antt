@@ -5,7 +5,7 @@ use Rattle.kad_distance.proofs.Chosen.{closest_few, closest_rises}
 use Rattle.path_worker.proofs.tests.begun.Goals as goal
 
 pub new-requires-clause-few : goal.new-requires-clause-few
-new-requires-clause-few g c = subst (λ l. length l ≤ c.args.setting.k) (sym (c.as_slice-3.ensures ∙ c.in_ok-seeds.ensures)) (closest_few c.args.setting.target c.args.setting.k _)
+new-requires-clause-few g c = subst (λ l. length l ≤ c.args.setting.k) (sym (c.as_slice-2.ensures ∙ c.in_ok-seeds.ensures)) (closest_few c.args.setting.target c.args.setting.k _)
 
 pub new-requires-clause-in_order : goal.new-requires-clause-in_order
-new-requires-clause-in_order g c = subst (IsStrictlySortedBy (closeness c.args.setting.target)) (sym (c.as_slice-3.ensures ∙ c.in_ok-seeds.ensures)) (closest_rises c.args.setting.target c.args.setting.k _)
+new-requires-clause-in_order g c = subst (IsStrictlySortedBy (closeness c.args.setting.target)) (sym (c.as_slice-2.ensures ∙ c.in_ok-seeds.ensures)) (closest_rises c.args.setting.target c.args.setting.k _)
