@@ -54,7 +54,13 @@ impl Buckets {
         requires few_live { k ≤ 20 }
         requires some_bits { 0 < b }
         requires few_bits { b ≤ 5 }
-        ensures { IfOk result (λ buckets. buckets ≡ record { own = own; k = k; b = b; rows = record { prefix = []; live = []; spares = [] } ∷ [] }) }
+        ensures { IfOk result (λ buckets. buckets
+            ≡ record {
+              own = own;
+              k = k;
+              b = b;
+              rows = record { prefix = []; live = []; spares = [] } ∷ [];
+            }) }
     {
         let row = Row::whole(alloc, k)?;
         let root = leaf(alloc, row)?;
@@ -77,7 +83,8 @@ impl Buckets {
     /// bucket that may not split keeps the contact as a spare (Kademlia, sections 2.2, 2.4 and 4.1). It takes the memory
     /// for all splits before the first.
     pub fn seen(&mut self, contact: Contact) -> Result<Seen, NoMemory>
-        ensures ok { IfOk result (λ seen. SeenStep self.old.own self.old.k self.old.b contact self.old.rows seen self.new.rows) }
+        ensures ok { IfOk result (λ seen. SeenStep self.old.own self.old.k self.old.b contact
+            self.old.rows seen self.new.rows) }
         ensures own { self.new.own ≡ self.old.own }
         ensures k { self.new.k ≡ self.old.k }
         ensures b { self.new.b ≡ self.old.b }
@@ -111,7 +118,8 @@ impl Buckets {
     /// The n contacts that are closest to the target, of all live ones and the others, each once, nearest first. Takes
     /// memory for n contacts.
     pub fn closest_with(&self, target: &Id, n: u8, others: &[Contact]) -> Result<Contacts, NoMemory>
-        ensures { IfOk result (λ found. found ≡ k_closest target.now n (live_of self.now.rows ++ others.now)) }
+        ensures { IfOk result (λ found. found ≡ k_closest target.now n
+            (live_of self.now.rows ++ others.now)) }
     {
         nearest::closest(&self.root, self.alloc, target, n, others)
     }

@@ -62,7 +62,8 @@ pub(crate) fn has_id(entries: &[Entry], id: &Id) -> bool
 
 /// How often the contact failed, where it is live.
 pub(crate) fn failures(entries: &[Entry], contact: &Contact) -> Option<u8>
-    ensures { result ≡ option_map (λ e. e.failures) (find (λ e. same contact.now e.contact) entries.now) }
+    ensures { result ≡ option_map (λ e. e.failures)
+        (find (λ e. same contact.now e.contact) entries.now) }
 {
     for entry in entries {
         if is_same(contact, &entry.contact) {
@@ -79,7 +80,8 @@ pub(crate) fn covered(
     entries: &[Entry],
     prefix: &Prefix,
 ) -> Result<Vec<Entry>, NoMemory>
-    ensures items { IfOk result (λ kept. kept.items ≡ filter (λ e. begins prefix.now (id_bits e.contact.id)) entries.now) }
+    ensures items { IfOk result (λ kept. kept.items ≡ filter
+        (λ e. begins prefix.now (id_bits e.contact.id)) entries.now) }
     ensures room { IfOk result (λ kept. length kept.items ≤ vec_capacity kept) }
 {
     let mut kept = Vec::with_capacity(alloc, k as usize)?;
@@ -95,7 +97,8 @@ pub(crate) fn covered(
 pub(crate) fn append(entries: &mut Vec<Entry>, entry: Entry) -> Result<(), NoMemory>
     ensures ok { IfOk result (λ done. entries.new.items ≡ entries.old.items ++ entry ∷ []) }
     ensures err { OnErr result (entries.new.items ≡ entries.old.items) }
-    ensures room { length entries.old.items ≤ vec_capacity entries.old → length entries.new.items ≤ vec_capacity entries.new }
+    ensures room { length entries.old.items ≤ vec_capacity entries.old
+        → length entries.new.items ≤ vec_capacity entries.new }
 {
     if entries.reserve(1).is_err() {
         return Err(NoMemory);
@@ -127,7 +130,8 @@ fn has_other_id(contact: &Contact, id: &Id) -> bool
 
 /// Takes the contacts with the identifier out.
 pub(crate) fn take_id_out(contacts: &mut Vec<Contact>, id: &Id)
-    ensures items { contacts.new.items ≡ filter (λ x. not (same_id x.id id.now)) contacts.old.items }
+    ensures items { contacts.new.items ≡ filter
+        (λ x. not (same_id x.id id.now)) contacts.old.items }
     ensures capacity { vec_capacity contacts.new ≡ vec_capacity contacts.old }
 {
     contacts.retain(|contact| has_other_id(contact, id));

@@ -6,5 +6,6 @@ ghost use Rattle.bucket_tree.specs.Partition.{Partition, begins, id_bits};
 
 /// Each identifier begins with exactly one prefix of a partition.
 pub fn one_prefix()
-    ensures { (P : List (List Bool)) (id : Id) → Partition P → All (λ p. length p ≤ 160) P → length (filter (λ p. begins p (id_bits id)) P) ≡ 1 }
+    ensures { (P : List (List Bool)) (id : Id) → Partition P → All (λ p. length p ≤ 160) P
+        → length (filter (λ p. begins p (id_bits id)) P) ≡ 1 }
 {}

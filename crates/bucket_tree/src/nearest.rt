@@ -20,7 +20,8 @@ use std::alloc::Global;
 
 /// Whether one identifier is nearer to the target than another: by the first byte in which their distances differ.
 fn is_nearer(target: &Id, a: &Id, b: &Id) -> bool
-    ensures { IsTrue result → slice_cmp nat_cmp (xor_bytes target.now.0 a.now.0) (xor_bytes target.now.0 b.now.0) ≡ Less }
+    ensures { IsTrue result → slice_cmp nat_cmp (xor_bytes target.now.0 a.now.0)
+        (xor_bytes target.now.0 b.now.0) ≡ Less }
 {
     for at in 0..20usize {
         let one = target.0[at] ^ a.0[at];
@@ -70,7 +71,8 @@ fn put_row(near: &mut Vec<Contact>, target: &Id, k: usize, row: &Row)
     requires sorted { IsStrictlySortedBy (closeness target.now) near.old.items }
     requires few { vec_len near.old ≤ k }
     requires room { k ≤ vec_capacity near.old }
-    ensures items { near.new.items ≡ k_closest target.now k (near.old.items ++ live_of (row.now ∷ [])) }
+    ensures items { near.new.items ≡ k_closest target.now k
+        (near.old.items ++ live_of (row.now ∷ [])) }
     ensures room { k ≤ vec_capacity near.new }
 {
     for entry in row.live() {
@@ -88,7 +90,8 @@ fn gather(near: &mut Vec<Contact>, target: &Id, k: usize, node: &Node, at: u8)
     requires sorted { IsStrictlySortedBy (closeness target.now) near.old.items }
     requires few { vec_len near.old ≤ k }
     requires room { k ≤ vec_capacity near.old }
-    ensures items { near.new.items ≡ k_closest target.now k (near.old.items ++ live_of (rows_of node.now)) }
+    ensures items { near.new.items ≡ k_closest target.now k
+        (near.old.items ++ live_of (rows_of node.now)) }
     ensures room { k ≤ vec_capacity near.new }
 {
     if near.len() == k {
@@ -132,7 +135,8 @@ pub(crate) fn closest(
     requires under { IsUnder [] root.now }
     requires short { All IsShort (rows_of root.now) }
     requires tidy { All IsTidy (rows_of root.now) }
-    ensures { IfOk result (λ found. found ≡ k_closest target.now k (live_of (rows_of root.now) ++ others.now)) }
+    ensures { IfOk result (λ found. found ≡ k_closest target.now k
+        (live_of (rows_of root.now) ++ others.now)) }
 {
     let Ok(mut near) = Vec::with_capacity(alloc, k as usize) else {
         return Err(NoMemory);

@@ -34,7 +34,8 @@ fn boxed(alloc: Global, node: Node) -> Result<Box<Node>, NoMemory>
 /// The tree of two halves.
 pub(crate) fn fork(alloc: Global, low: Node, high: Node) -> Result<Node, NoMemory>
     ensures rows { IfOk result (λ node. rows_of node ≡ rows_of low ++ rows_of high) }
-    ensures under { (p : List Bool) → IsUnder (p ++ false ∷ []) low → IsUnder (p ++ true ∷ []) high → IfOk result (λ node. IsUnder p node) }
+    ensures under { (p : List Bool) → IsUnder (p ++ false ∷ []) low → IsUnder (p ++ true ∷ []) high
+        → IfOk result (λ node. IsUnder p node) }
 {
     Ok(Node::Fork(boxed(alloc, low)?, boxed(alloc, high)?))
 }

@@ -74,7 +74,8 @@ fn make_room(spares: &mut Vec<Contact>, k: u8)
 fn spare(spares: &mut Vec<Contact>, k: u8, contact: Contact) -> Result<(), NoMemory>
     requires some { 0 < k }
     requires few { length spares.old.items ≤ k }
-    ensures ok { IfOk result (λ done. spares.new.items ≡ with_room_of k (filter (λ x. not (same_id x.id contact.id)) spares.old.items) ++ contact ∷ []) }
+    ensures ok { IfOk result (λ done. spares.new.items ≡ with_room_of k
+        (filter (λ x. not (same_id x.id contact.id)) spares.old.items) ++ contact ∷ []) }
     ensures err { OnErr result (spares.new.items ≡ spares.old.items) }
 {
     if spares.reserve_exact(k as usize - spares.len()).is_err() {
@@ -91,7 +92,8 @@ fn spare(spares: &mut Vec<Contact>, k: u8, contact: Contact) -> Result<(), NoMem
 /// Puts the newest spare at the end of the live entries, where there is one.
 fn refill(live: &mut Vec<Entry>, spares: &mut Vec<Contact>) -> Gone
     requires { length live.old.items < vec_capacity live.old }
-    ensures refilled { Refilled live.old.items spares.old.items result live.new.items spares.new.items }
+    ensures refilled { Refilled live.old.items spares.old.items result live.new.items
+        spares.new.items }
     ensures room { length live.new.items ≤ vec_capacity live.new }
 {
     match spares.pop() {
@@ -161,9 +163,11 @@ impl Row {
     pub(crate) fn needs_split(&self, setting: &Setting, id: &Id) -> bool
         requires some_live { 0 < setting.now.k }
         requires some_bits { 0 < setting.now.b }
-        requires covered { All (λ c. begins self.now.prefix (id_bits c.id) ≡ true) (live_in self.now) }
+        requires covered { All (λ c. begins self.now.prefix (id_bits c.id) ≡ true)
+            (live_in self.now) }
         requires covers { begins self.now.prefix (id_bits id.now) ≡ true }
-        ensures needs { IsTrue result ↔ NeedsSplit setting.now.own setting.now.k setting.now.b id.now self.now }
+        ensures needs { IsTrue result ↔ NeedsSplit setting.now.own setting.now.k setting.now.b
+            id.now self.now }
         ensures two { IsTrue result → length self.now.prefix < 160 }
     {
         if self.live.len() < setting.k as usize {

@@ -28,7 +28,8 @@ fn grown(
     requires short { length row.prefix ≤ 160 }
     requires covers { begins row.prefix (id_bits contact.now.id) ≡ true }
     requires each { IsRow setting.now.own setting.now.k setting.now.b row }
-    ensures step { IfOk result (λ r. SeenStep setting.now.own setting.now.k setting.now.b contact.now (row ∷ []) r.1 (rows_of r.0)) }
+    ensures step { IfOk result (λ r. SeenStep setting.now.own setting.now.k setting.now.b
+        contact.now (row ∷ []) r.1 (rows_of r.0)) }
     ensures under { IfOk result (λ r. IsUnder row.prefix r.0) }
 {
     if row.needs_split(setting, &contact.id) {
@@ -55,7 +56,8 @@ fn forked(
     requires covers { begins row.now.prefix (id_bits contact.now.id) ≡ true }
     requires each { IsRow setting.now.own setting.now.k setting.now.b row.now }
     requires needs { NeedsSplit setting.now.own setting.now.k setting.now.b contact.now.id row.now }
-    ensures step { IfOk result (λ r. SeenStep setting.now.own setting.now.k setting.now.b contact.now (row.now ∷ []) r.1 (rows_of r.0)) }
+    ensures step { IfOk result (λ r. SeenStep setting.now.own setting.now.k setting.now.b
+        contact.now (row.now ∷ []) r.1 (rows_of r.0)) }
     ensures under { IfOk result (λ r. IsUnder row.now.prefix r.0) }
 {
     let low = row.half(alloc, setting.k, false)?;
@@ -86,10 +88,13 @@ fn split(
     requires some_bits { 0 < setting.now.b }
     requires others { same_id contact.now.id setting.now.own ≡ false }
     requires short { All (λ row. length row.prefix < 160) (rows_of node.old) }
-    requires covers { All (λ row. begins row.prefix (id_bits contact.now.id) ≡ true) (rows_of node.old) }
+    requires covers { All (λ row. begins row.prefix (id_bits contact.now.id) ≡ true)
+        (rows_of node.old) }
     requires each { All (IsRow setting.now.own setting.now.k setting.now.b) (rows_of node.old) }
-    requires needs { All (NeedsSplit setting.now.own setting.now.k setting.now.b contact.now.id) (rows_of node.old) }
-    ensures ok { IfOk result (λ seen. SeenStep setting.now.own setting.now.k setting.now.b contact.now (rows_of node.old) seen (rows_of node.new)) }
+    requires needs { All (NeedsSplit setting.now.own setting.now.k setting.now.b contact.now.id)
+        (rows_of node.old) }
+    ensures ok { IfOk result (λ seen. SeenStep setting.now.own setting.now.k setting.now.b
+        contact.now (rows_of node.old) seen (rows_of node.new)) }
     ensures under { (p : List Bool) → IsUnder p node.old → IsUnder p node.new }
     ensures err { OnErr result (rows_of node.new ≡ rows_of node.old) }
 {
@@ -119,7 +124,8 @@ pub(crate) fn see(
     requires under { IsUnder (path at contact.now.id) node.old }
     requires short { All IsShort (rows_of node.old) }
     requires each { All (IsRow setting.now.own setting.now.k setting.now.b) (rows_of node.old) }
-    ensures ok { IfOk result (λ seen. SeenStep setting.now.own setting.now.k setting.now.b contact.now (rows_of node.old) seen (rows_of node.new)) }
+    ensures ok { IfOk result (λ seen. SeenStep setting.now.own setting.now.k setting.now.b
+        contact.now (rows_of node.old) seen (rows_of node.new)) }
     ensures under { IsUnder (path at contact.now.id) node.new }
     ensures err { OnErr result (rows_of node.new ≡ rows_of node.old) }
 {

@@ -170,7 +170,8 @@ fn make_room(
     requires fits { length journal.old.items + owed ≤ vec_capacity journal.old }
     ensures journal { journal.new.items ≡ journal.old.items }
     ensures room { length journal.new.items + owed ≤ vec_capacity journal.new }
-    ensures more_room { OnOk result (length journal.new.items + (owed + (3 * length reports.now + 1)) ≤ vec_capacity journal.new) }
+    ensures more_room { OnOk result (length journal.new.items + (owed + (3 * length
+        reports.now + 1)) ≤ vec_capacity journal.new) }
     ensures shown { (c : Contact) → shown claims.new c ≡ shown claims.old c }
     ensures kept { Keeps claims.old claims.new }
     ensures known { OnOk result (All (λ r. IsKnown own.now claims.new (Told r)) reports.now) }
@@ -179,7 +180,8 @@ fn make_room(
     ensures count { path.new.count ≡ path.old.count }
     ensures opens { path.new.opens ≡ path.old.opens }
     ensures queue { path.new.queue.items ≡ path.old.queue.items }
-    ensures wide { OnOk result (length path.new.queue.items + (length reports.now + 1) ≤ deque_capacity path.new.queue) }
+    ensures wide { OnOk result (length path.new.queue.items + (length reports.now + 1)
+        ≤ deque_capacity path.new.queue) }
 {
     let more = 3 * reports.len() + 1;
     let all = match owed.checked_add(more) {

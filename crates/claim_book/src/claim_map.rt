@@ -57,7 +57,8 @@ fn set_claim(claims: &mut Claims, contact: Contact, claim: Claim)
 /// The contact was asked. Takes no memory.
 pub(crate) fn mark_asked(claims: &mut Claims, contact: &Contact)
     requires known { IsSome (get key_eq claims.old contact.now) }
-    ensures each { Sets claims.old claims.new contact.now (asked_claim (shown claims.old contact.now)) }
+    ensures each { Sets claims.old claims.new contact.now
+        (asked_claim (shown claims.old contact.now)) }
 {
     let claim = claim_at(claims, contact);
     set_claim(
@@ -73,7 +74,8 @@ pub(crate) fn mark_asked(claims: &mut Claims, contact: &Contact)
 /// The contact answered, or is lost. Takes no memory.
 pub(crate) fn mark_ended(claims: &mut Claims, contact: &Contact)
     requires known { IsSome (get key_eq claims.old contact.now) }
-    ensures each { Sets claims.old claims.new contact.now (ended_claim (shown claims.old contact.now)) }
+    ensures each { Sets claims.old claims.new contact.now
+        (ended_claim (shown claims.old contact.now)) }
 {
     let claim = claim_at(claims, contact);
     set_claim(
@@ -89,7 +91,8 @@ pub(crate) fn mark_ended(claims: &mut Claims, contact: &Contact)
 /// The path took the contact. Takes no memory.
 pub(crate) fn mark_taken(claims: &mut Claims, path: u8, contact: &Contact)
     requires known { IsSome (get key_eq claims.old contact.now) }
-    ensures each { Sets claims.old claims.new contact.now (taken_claim path (shown claims.old contact.now)) }
+    ensures each { Sets claims.old claims.new contact.now
+        (taken_claim path (shown claims.old contact.now)) }
 {
     let claim = claim_at(claims, contact);
     set_claim(
@@ -104,7 +107,8 @@ pub(crate) fn mark_taken(claims: &mut Claims, path: u8, contact: &Contact)
 
 /// Enters a contact with which a path starts.
 pub(crate) fn enter(claims: &mut Claims, path: u8, contact: &Contact) -> Result<(), NoMemory>
-    ensures { OnOk result (Sets claims.old claims.new contact.now (taken_claim path (shown claims.old contact.now))) }
+    ensures { OnOk result (Sets claims.old claims.new contact.now
+        (taken_claim path (shown claims.old contact.now))) }
 {
     let claim = claim_at(claims, contact);
     let claim = Claim {

@@ -17,12 +17,14 @@ ghost use Rattle.claim_book.specs.Calls.{asker};
 pub fn disjoint()
     ensures took { (s : Setting) (J : List Entry) → Legal s J → IsDistinct same (took J) }
     ensures asked { (s : Setting) (J : List Entry) → Legal s J → IsDistinct same (asked J) }
-    ensures on_path { (s : Setting) (J : List Entry) (p : ℕ) (c : Contact) → Legal s J → among (asked_on p J) c ≡ true → among (path p J) c ≡ true }
+    ensures on_path { (s : Setting) (J : List Entry) (p : ℕ) (c : Contact) → Legal s J
+        → among (asked_on p J) c ≡ true → among (path p J) c ≡ true }
 {}
 
 /// A contact is on one path.
 pub fn one_path()
-    ensures { (s : Setting) (J : List Entry) (p q : ℕ) (c : Contact) → Legal s J → among (path p J) c ≡ true → among (path q J) c ≡ true → p ≡ q }
+    ensures { (s : Setting) (J : List Entry) (p q : ℕ) (c : Contact) → Legal s J
+        → among (path p J) c ≡ true → among (path q J) c ≡ true → p ≡ q }
 {}
 
 /// A path has at most `MAX_PATH_CONTACTS` contacts, so it asks no more than that, and all paths no more than that each.
@@ -38,33 +40,45 @@ pub fn bounded()
 /// A path that has run out stays so, whatever other paths do: the next entry of it can only be a seed, and where no
 /// more seeds come, none of it follows and it has still run out.
 pub fn stable()
-    ensures next { (s : Setting) (J : List Entry) (e : Entry) (p : ℕ) → Legal s (J ++ e ∷ []) → RunOut s p J → is_of p e ≡ true → IsSeed e }
-    ensures silent { (s : Setting) (J K : List Entry) (p : ℕ) → Legal s (J ++ K) → seeds K ≡ [] → RunOut s p J → filter (is_of p) K ≡ [] }
-    ensures stays { (s : Setting) (J K : List Entry) (p : ℕ) → Legal s (J ++ K) → seeds K ≡ [] → RunOut s p J → RunOut s p (J ++ K) }
+    ensures next { (s : Setting) (J : List Entry) (e : Entry) (p : ℕ) → Legal s (J ++ e ∷ [])
+        → RunOut s p J → is_of p e ≡ true → IsSeed e }
+    ensures silent { (s : Setting) (J K : List Entry) (p : ℕ) → Legal s (J ++ K) → seeds K ≡ []
+        → RunOut s p J → filter (is_of p) K ≡ [] }
+    ensures stays { (s : Setting) (J K : List Entry) (p : ℕ) → Legal s (J ++ K) → seeds K ≡ []
+        → RunOut s p J → RunOut s p (J ++ K) }
 {}
 
 /// A path that waits for nothing has run out or can ask.
 pub fn lively()
-    ensures { (s : Setting) (J : List Entry) (p : ℕ) → Legal s J → 1 ≤ s.alpha → open_on p J ≡ [] → unsettled p J ≡ [] → RunOut s p J ⊎ IsSome (may_ask s p J) }
+    ensures { (s : Setting) (J : List Entry) (p : ℕ) → Legal s J → 1 ≤ s.alpha → open_on p J ≡ []
+        → unsettled p J ≡ [] → RunOut s p J ⊎ IsSome (may_ask s p J) }
 {}
 
 /// Where all paths have run out, each contact that the lookup found has answered.
 pub fn answered()
-    ensures { (s : Setting) (J : List Entry) (c : Contact) → 0 < s.paths → Legal s J → ((p : ℕ) → p < s.paths → RunOut s p J) → among (result_of s J) c ≡ true → among (answered J) c ≡ true }
+    ensures { (s : Setting) (J : List Entry) (c : Contact) → 0 < s.paths → Legal s J
+        → ((p : ℕ) → p < s.paths → RunOut s p J) → among (result_of s J) c ≡ true
+        → among (answered J) c ≡ true }
 {}
 
 /// A path past the last has no contacts and nothing to settle, and has run out.
 pub fn past_the_last()
-    ensures no_contacts { (s : Setting) (J : List Entry) (p : ℕ) → 0 < s.paths → Legal s J → s.paths ≤ p → path p J ≡ [] }
-    ensures settled { (s : Setting) (J : List Entry) (p : ℕ) → 0 < s.paths → Legal s J → s.paths ≤ p → unsettled p J ≡ [] }
-    ensures run_out { (s : Setting) (J : List Entry) (p : ℕ) → 0 < s.paths → Legal s J → s.paths ≤ p → RunOut s p J }
+    ensures no_contacts { (s : Setting) (J : List Entry) (p : ℕ) → 0 < s.paths → Legal s J
+        → s.paths ≤ p → path p J ≡ [] }
+    ensures settled { (s : Setting) (J : List Entry) (p : ℕ) → 0 < s.paths → Legal s J → s.paths ≤ p
+        → unsettled p J ≡ [] }
+    ensures run_out { (s : Setting) (J : List Entry) (p : ℕ) → 0 < s.paths → Legal s J → s.paths ≤ p
+        → RunOut s p J }
 {}
 
 /// An open contact is open on the path that asked it, and on no other.
 pub fn open_on_asker()
-    ensures there { (s : Setting) (J : List Entry) (c : Contact) → Legal s J → among (open_any J) c ≡ true → among (open_on (asker c J) J) c ≡ true }
-    ensures any { (s : Setting) (J : List Entry) (p : ℕ) (c : Contact) → Legal s J → among (open_on p J) c ≡ true → among (open_any J) c ≡ true }
-    ensures only { (s : Setting) (J : List Entry) (p : ℕ) (c : Contact) → Legal s J → among (open_on p J) c ≡ true → p ≡ asker c J }
+    ensures there { (s : Setting) (J : List Entry) (c : Contact) → Legal s J
+        → among (open_any J) c ≡ true → among (open_on (asker c J) J) c ≡ true }
+    ensures any { (s : Setting) (J : List Entry) (p : ℕ) (c : Contact) → Legal s J
+        → among (open_on p J) c ≡ true → among (open_any J) c ≡ true }
+    ensures only { (s : Setting) (J : List Entry) (p : ℕ) (c : Contact) → Legal s J
+        → among (open_on p J) c ≡ true → p ≡ asker c J }
 {}
 
 /// Lineage: whatever a path took, an earlier answer to that same path had named, in a report that may be believed; and it

@@ -54,7 +54,8 @@ pub(crate) fn first_fresh(
     k: usize,
 ) -> Option<Contact>
     requires { IsStrictlySortedBy (closeness target.now) near.now }
-    ensures { (T : Contact → Bool) → fresh.now ≡ filter T near.now → result ≡ find T (take k near.now) }
+    ensures { (T : Contact → Bool) → fresh.now ≡ filter T near.now
+        → result ≡ find T (take k near.now) }
 {
     let first = match fresh.first() {
         Some(first) => *first,
@@ -90,12 +91,14 @@ pub(crate) fn ask_one(path: &mut Path, contact: &Contact)
 /// An open query was answered, in room that is there.
 pub(crate) fn hear_one(path: &mut Path, contact: &Contact, reports: &[Report])
     requires some { 0 < path.old.opens }
-    requires room { length path.old.queue.items + (length reports.now + 1) ≤ deque_capacity path.old.queue }
+    requires room { length path.old.queue.items + (length reports.now + 1)
+        ≤ deque_capacity path.old.queue }
     ensures near { path.new.near ≡ path.old.near }
     ensures fresh { path.new.fresh ≡ path.old.fresh }
     ensures count { path.new.count ≡ path.old.count }
     ensures opens { path.new.opens + 1 ≡ path.old.opens }
-    ensures queue { path.new.queue.items ≡ path.old.queue.items ++ things_in contact.now reports.now }
+    ensures queue { path.new.queue.items ≡ path.old.queue.items ++ things_in contact.now
+        reports.now }
 {
     path.opens -= 1;
     give(&mut path.queue, contact, reports);
@@ -154,7 +157,8 @@ pub(crate) fn widen(path: &mut Path, more: usize) -> Result<(), NoMemory>
     ensures count { path.new.count ≡ path.old.count }
     ensures opens { path.new.opens ≡ path.old.opens }
     ensures queue { path.new.queue.items ≡ path.old.queue.items }
-    ensures room { OnOk result (length path.new.queue.items + more ≤ deque_capacity path.new.queue) }
+    ensures room { OnOk result (length path.new.queue.items + more
+        ≤ deque_capacity path.new.queue) }
 {
     Ok(path.queue.reserve(more)?)
 }

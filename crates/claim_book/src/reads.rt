@@ -29,7 +29,9 @@ impl Book {
 
     /// The path that asked a contact which is neither heard nor lost.
     pub(crate) fn open_path(&self, contact: &Contact) -> Option<u8>
-        ensures { MatchOption result (among (open_any self.now.journal) contact.now ≡ false) (λ p. (among (open_any self.now.journal) contact.now ≡ true) × (p ≡ asker contact.now self.now.journal)) }
+        ensures { MatchOption result (among (open_any self.now.journal) contact.now ≡ false)
+            (λ p. (among (open_any self.now.journal) contact.now ≡ true)
+            × (p ≡ asker contact.now self.now.journal)) }
     {
         let claim = claim_at(&self.claims, contact);
         if claim.ended {
@@ -87,7 +89,9 @@ impl Book {
 
     /// The first path that has not run out.
     pub(crate) fn first_running(&self) -> Option<u8>
-        ensures { MatchOption result ((p : ℕ) → p < self.now.setting.paths → RunOut self.now.setting p self.now.journal) (λ p. IsNotYet self.now.setting self.now.journal p) }
+        ensures { MatchOption result ((p : ℕ) → p < self.now.setting.paths
+            → RunOut self.now.setting p self.now.journal)
+            (λ p. IsNotYet self.now.setting self.now.journal p) }
     {
         for path in 0..self.setting.paths {
             if !self.has_run_out(path) {
@@ -130,7 +134,8 @@ impl Book {
 
     /// Whether the contact's answer is the first thing of the path that is not settled.
     pub(crate) fn is_next(&self, path: u8, contact: &Contact) -> bool
-        ensures { IsTrue result ↔ (first_unsettled path self.now.journal ≡ Some (Responder contact.now)) }
+        ensures { IsTrue result ↔ (first_unsettled path self.now.journal ≡ Some
+            (Responder contact.now)) }
     {
         match self.front(path) {
             Some(Thing::Responder { contact: first }) => first == *contact,
@@ -150,8 +155,10 @@ impl Book {
 
     /// Whether the path has as many contacts as a path can have, those that were lost among them.
     fn is_full(&self, path: u8) -> bool
-        ensures full { result ≡ true → length (path_of_journal path self.now.journal) ≡ max_path_contacts }
-        ensures room { result ≡ false → length (path_of_journal path self.now.journal) < max_path_contacts }
+        ensures full { result ≡ true → length (path_of_journal path self.now.journal)
+            ≡ max_path_contacts }
+        ensures room { result ≡ false → length (path_of_journal path self.now.journal)
+            < max_path_contacts }
     {
         if path >= self.setting.paths {
             return false;

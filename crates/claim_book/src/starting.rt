@@ -48,8 +48,10 @@ pub(crate) fn seed(
     requires none_kept { IsPaths setting.now [] paths.old.items }
     ensures items { OnOk result (journal.new.items ≡ seeded setting.now.paths seeds.now) }
     ensures room { vec_capacity journal.old ≤ vec_capacity journal.new }
-    ensures claims { OnOk result (IsMap setting.now (seeded setting.now.paths seeds.now) claims.new) }
-    ensures paths { OnOk result (IsPaths setting.now (seeded setting.now.paths seeds.now) paths.new.items) }
+    ensures claims { OnOk result (IsMap setting.now
+        (seeded setting.now.paths seeds.now) claims.new) }
+    ensures paths { OnOk result (IsPaths setting.now
+        (seeded setting.now.paths seeds.now) paths.new.items) }
 {
     for (i, contact) in seeds.iter().enumerate() {
         let path = (i % setting.paths as usize) as u8;

@@ -132,7 +132,8 @@ impl Book {
     pub(crate) fn heard(&mut self, contact: Contact, reports: Reports) -> BookReply
         requires { length reports ≤ max_reports }
         ensures step { HeardStep self.old.journal contact result }
-        ensures after { self.new ≡ after_kept self.old (Heard (asker contact self.old.journal) contact reports) result }
+        ensures after { self.new ≡ after_kept self.old
+            (Heard (asker contact self.old.journal) contact reports) result }
     {
         let path = match self.open_path(&contact) {
             Some(path) => path,
@@ -147,7 +148,8 @@ impl Book {
     /// The contact will not answer. Takes no memory.
     pub(crate) fn lost(&mut self, contact: Contact, cause: Cause) -> BookReply
         ensures step { EndStep self.old.journal contact result }
-        ensures after { self.new ≡ after_kept self.old (Lost (asker contact self.old.journal) contact cause) result }
+        ensures after { self.new ≡ after_kept self.old
+            (Lost (asker contact self.old.journal) contact cause) result }
     {
         match self.open_path(&contact) {
             Some(path) => {

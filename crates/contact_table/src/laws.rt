@@ -14,22 +14,39 @@ ghost use Rattle.contact_table.specs.Told.{HasMemory, calls_in, replies_in, held
 /// A call of a sound table has one outcome, want of memory aside: its reply and the state that it leaves follow from the
 /// state and the call. So do the replies of a run and the state at its end from the calls: an input gives one table.
 pub fn one_outcome()
-    ensures reply { (s : TableState) (role other : ℕ) (call : TableCall) (x y : TableReply) → SoundTable s → TableStep s role call x → TableStep s other call y → HasMemory x → HasMemory y → x ≡ y }
-    ensures state { (s : TableState) (role other : ℕ) (call : TableCall) (x y : TableReply) → SoundTable s → TableStep s role call x → TableStep s other call y → HasMemory x → HasMemory y → table_after s role call x ≡ table_after s other call y }
-    ensures run_replies { (s : TableState) (run other : List (Made TableCall TableReply)) → SoundTable s → IsRun TableMay TableStep table_after s run → IsRun TableMay TableStep table_after s other → calls_in run ≡ calls_in other → All HasMemory (replies_in run) → All HasMemory (replies_in other) → replies_in run ≡ replies_in other }
-    ensures run_state { (s : TableState) (run other : List (Made TableCall TableReply)) → SoundTable s → IsRun TableMay TableStep table_after s run → IsRun TableMay TableStep table_after s other → calls_in run ≡ calls_in other → All HasMemory (replies_in run) → All HasMemory (replies_in other) → left_by table_after s run ≡ left_by table_after s other }
+    ensures reply { (s : TableState) (role other : ℕ) (call : TableCall) (x y : TableReply)
+        → SoundTable s → TableStep s role call x → TableStep s other call y → HasMemory x
+        → HasMemory y → x ≡ y }
+    ensures state { (s : TableState) (role other : ℕ) (call : TableCall) (x y : TableReply)
+        → SoundTable s → TableStep s role call x → TableStep s other call y → HasMemory x
+        → HasMemory y → table_after s role call x ≡ table_after s other call y }
+    ensures run_replies { (s : TableState) (run other : List (Made TableCall TableReply))
+        → SoundTable s → IsRun TableMay TableStep table_after s run
+        → IsRun TableMay TableStep table_after s other → calls_in run ≡ calls_in other
+        → All HasMemory (replies_in run) → All HasMemory (replies_in other)
+        → replies_in run ≡ replies_in other }
+    ensures run_state { (s : TableState) (run other : List (Made TableCall TableReply))
+        → SoundTable s → IsRun TableMay TableStep table_after s run
+        → IsRun TableMay TableStep table_after s other → calls_in run ≡ calls_in other
+        → All HasMemory (replies_in run) → All HasMemory (replies_in other)
+        → left_by table_after s run ≡ left_by table_after s other }
 {}
 
 /// A new table is sound, and a sound one stays so whoever makes which calls.
 pub fn stays_sound()
-    ensures new { (own : Id) (k b : ℕ) → 0 < k → k ≤ 20 → 0 < b → b ≤ 5 → SoundTable (new_table own k b) }
-    ensures step { (s : TableState) (role : ℕ) (call : TableCall) (x : TableReply) → SoundTable s → TableStep s role call x → SoundTable (table_after s role call x) }
-    ensures run { (s : TableState) (run : List (Made TableCall TableReply)) → SoundTable s → IsRun TableMay TableStep table_after s run → SoundTable (left_by table_after s run) }
+    ensures new { (own : Id) (k b : ℕ) → 0 < k → k ≤ 20 → 0 < b → b ≤ 5
+        → SoundTable (new_table own k b) }
+    ensures step { (s : TableState) (role : ℕ) (call : TableCall) (x : TableReply) → SoundTable s
+        → TableStep s role call x → SoundTable (table_after s role call x) }
+    ensures run { (s : TableState) (run : List (Made TableCall TableReply)) → SoundTable s
+        → IsRun TableMay TableStep table_after s run → SoundTable (left_by table_after s run) }
 {}
 
 /// A table has no contact but those that it had and those that a Seen named. So each live contact and each sibling of a
 /// table that began as a new one was named by some Seen since.
 pub fn holds_what_it_was_told()
-    ensures held { (s : TableState) (run : List (Made TableCall TableReply)) → All (Contains (held_in s ++ told_by run)) (held_in (left_by table_after s run)) }
-    ensures since_new { (own : Id) (k b : ℕ) (run : List (Made TableCall TableReply)) → All (Contains (told_by run)) (contacts_of (left_by table_after (new_table own k b) run)) }
+    ensures held { (s : TableState) (run : List (Made TableCall TableReply))
+        → All (Contains (held_in s ++ told_by run)) (held_in (left_by table_after s run)) }
+    ensures since_new { (own : Id) (k b : ℕ) (run : List (Made TableCall TableReply))
+        → All (Contains (told_by run)) (contacts_of (left_by table_after (new_table own k b) run)) }
 {}

@@ -40,7 +40,14 @@ impl Table {
         requires few_live { k ≤ 20 }
         requires some_bits { 0 < b }
         requires few_bits { b ≤ 5 }
-        ensures { IfOk result (λ table. table ≡ record { own = own; k = k; b = b; rows = record { prefix = []; live = []; spares = [] } ∷ []; siblings = [] }) }
+        ensures { IfOk result (λ table. table
+            ≡ record {
+              own = own;
+              k = k;
+              b = b;
+              rows = record { prefix = []; live = []; spares = [] } ∷ [];
+              siblings = [];
+            }) }
     {
         let buckets = Buckets::new(alloc, own, k, b)?;
         let siblings = Siblings::new(alloc, own)?;

@@ -6,10 +6,13 @@ ghost use Rattle.fake_net.specs.Scripts.{IsNext, NoneNext};
 
 /// One event at most is the next.
 pub fn one_next()
-    ensures { (asked : List Asked) (until : ℕ) (script : List ScriptEvent) (p q : ℕ) (a b : ScriptEvent) → IsNext asked until script p a → IsNext asked until script q b → p ≡ q }
+    ensures { (asked : List Asked) (until : ℕ) (script : List ScriptEvent) (p q : ℕ)
+        (a b : ScriptEvent) → IsNext asked until script p a → IsNext asked until script q b
+        → p ≡ q }
 {}
 
 /// Where none is ready by then none is the next.
 pub fn none_next()
-    ensures { (asked : List Asked) (until : ℕ) (script : List ScriptEvent) (p : ℕ) (a : ScriptEvent) → NoneNext asked until script → ¬ IsNext asked until script p a }
+    ensures { (asked : List Asked) (until : ℕ) (script : List ScriptEvent) (p : ℕ) (a : ScriptEvent)
+        → NoneNext asked until script → ¬ IsNext asked until script p a }
 {}

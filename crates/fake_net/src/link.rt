@@ -99,7 +99,8 @@ impl ScriptLink {
 
     /// The transcript, and `None` where it isn't told. Takes no memory.
     pub fn events(&self) -> Option<&[Event]>
-        ensures { MatchOption result (self.now.told ≡ None) (λ events. self.now.told ≡ Some events.now) }
+        ensures { MatchOption result (self.now.told ≡ None)
+            (λ events. self.now.told ≡ Some events.now) }
     {
         match &self.told {
             Some(events) => Some(events.as_slice()),
@@ -135,8 +136,10 @@ impl Link for ScriptLink {
     /// Keeps the query that the bytes say, if they say one. Reading them takes memory in proportion to them.
     fn send(&mut self, to: Addr, bytes: &[u8]) -> Result<(), Failed>
         ensures fails { Contains self.old.failing_sends self.old.sends → IsErr result }
-        ensures sent { OnOk result (Grows self.old.told self.new.told (λ t. t ≡ Event.Sent to bytes.now ∷ [])) }
-        ensures unsent { OnErr result (Grows self.old.told self.new.told (λ t. t ≡ Event.Unsent to bytes.now ∷ [])) }
+        ensures sent { OnOk result (Grows self.old.told self.new.told
+            (λ t. t ≡ Event.Sent to bytes.now ∷ [])) }
+        ensures unsent { OnErr result (Grows self.old.told self.new.told
+            (λ t. t ≡ Event.Unsent to bytes.now ∷ [])) }
         ensures asked { OnOk result (Asks to bytes.now self.old.asked self.new.asked) }
         ensures unasked { OnErr result (self.new.asked ≡ self.old.asked) }
         ensures sends { self.new.sends ≡ one_more self.old.sends }
@@ -172,12 +175,16 @@ impl Link for ScriptLink {
     fn recv(&mut self, buf: &mut [u8], until: u64) -> Result<Came, Failed>
         ensures fails { Contains self.old.failing_receives self.old.receives → IsErr result }
         // It fails by its number, or where the next event is an answer, whose form needs memory.
-        ensures only { OnErr result (Contains self.old.failing_receives self.old.receives ⊎ AnswerNext self.old.asked self.old.script until) }
-        ensures came { IfOk result (Receives self.old.asked self.old.script self.old.moment until (length buf.old) buf.new self.new.script) }
-        ensures arrives { IfOk result (λ came. Arrives came until self.old.moment (length buf.old)) }
+        ensures only { OnErr result (Contains self.old.failing_receives self.old.receives
+            ⊎ AnswerNext self.old.asked self.old.script until) }
+        ensures came { IfOk result (Receives self.old.asked self.old.script self.old.moment until
+            (length buf.old) buf.new self.new.script) }
+        ensures arrives { IfOk result (λ came. Arrives came until self.old.moment
+            (length buf.old)) }
         ensures unchanged { OnErr result (self.new.script ≡ self.old.script) }
         ensures untouched { OnErr result (buf.new ≡ buf.old) }
-        ensures told { IfOk result (λ came. Grows self.old.told self.new.told (λ t. t ≡ EventOf came until buf.new ∷ [])) }
+        ensures told { IfOk result (λ came. Grows self.old.told self.new.told
+            (λ t. t ≡ EventOf came until buf.new ∷ [])) }
         ensures untold { OnErr result (self.new.told ≡ self.old.told) }
         ensures moment { IfOk result (λ came. self.new.moment ≡ came_at came) }
         ensures same_moment { OnErr result (self.new.moment ≡ self.old.moment) }

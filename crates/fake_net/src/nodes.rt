@@ -89,7 +89,8 @@ impl Nodes {
         hostile: u8,
     ) -> Result<Nodes, NoMemory>
         requires { count ≤ 20000 }
-        ensures { IfOk result (λ nodes. nodes ≡ record { seed = seed.now; count = count; hostile = hostile }) }
+        ensures { IfOk result (λ nodes. nodes
+            ≡ record { seed = seed.now; count = count; hostile = hostile }) }
     {
         let mut ids = Vec::with_capacity(alloc, count as usize)?;
         for i in 0..count {

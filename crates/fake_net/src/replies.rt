@@ -143,7 +143,8 @@ fn answer_of(
 ) -> Result<Option<Waiting>, NoMemory>
     requires node { i < nodes.now.count }
     requires few { nodes.now.count ≤ 20000 }
-    ensures { IfOk result (λ answer. option_to_list answer ≡ on_its_way moment i (reply_of nodes.now i tx target.now)) }
+    ensures { IfOk result (λ answer. option_to_list answer ≡ on_its_way moment i
+        (reply_of nodes.now i tx target.now)) }
 {
     match reply(alloc, nodes, i, tx, target)? {
         Some(message) => {
@@ -197,7 +198,8 @@ fn unread(fault: KrpcFault) -> Result<Option<(Bytes, Id)>, NoMemory>
 #[tactic(auto, using(crate::proofs::Answering::read_find))]
 fn find_node_in(alloc: Global, bytes: &[u8]) -> Result<Option<(Bytes, Id)>, NoMemory>
     ensures some { IfOk result (λ query. IfSome query (λ q. SaysFindNode bytes.now q.0 q.1)) }
-    ensures only { IfOk result (λ query. (tx : List ℕ) (target : Id) → SaysFindNode bytes.now tx target → query ≡ Some (tx, target)) }
+    ensures only { IfOk result (λ query. (tx : List ℕ) (target : Id)
+        → SaysFindNode bytes.now tx target → query ≡ Some (tx, target)) }
 {
     match decode(alloc, bytes) {
         Ok(message) => Ok(find_node_of(message)),
@@ -213,7 +215,8 @@ pub(crate) fn answer(
     to: &Addr,
     bytes: &[u8],
 ) -> Result<Option<Waiting>, NoMemory>
-    ensures { IfOk result (λ answer. BringsAbout nodes.now moment to.now bytes.now (option_to_list answer)) }
+    ensures { IfOk result (λ answer. BringsAbout nodes.now moment to.now bytes.now
+        (option_to_list answer)) }
 {
     let Some(i) = nodes.number_at(to) else {
         return Ok(None);

@@ -237,7 +237,8 @@ fn deliver(
 ) -> Result<(Addr, usize), NoMemory>
     requires ready { IsReady asked.now event.now }
     requires writable { IsWritableEvent event.now }
-    ensures ok { IfOk result (λ given. Puts asked.now event.now (length buf.old) buf.new given.0 given.1) }
+    ensures ok { IfOk result (λ given. Puts asked.now event.now
+        (length buf.old) buf.new given.0 given.1) }
     ensures err { OnErr result (buf.new ≡ buf.old) }
     ensures only { OnErr result (IsAnswer event.now) }
     ensures room { length buf.new ≡ length buf.old }
@@ -273,7 +274,8 @@ fn count_down(event: &mut ScriptEvent) -> bool
 /// Takes what was delivered out of the script.
 fn spend(script: &mut Vec<ScriptEvent>, place: usize)
     requires { place < length script.old.items }
-    ensures { HoldsAt (λ e. script.new.items ≡ spent script.old.items place e) script.old.items place }
+    ensures { HoldsAt (λ e. script.new.items ≡ spent script.old.items place e) script.old.items
+        place }
 {
     let stays = count_down(&mut script[place]);
     if !stays {
@@ -291,7 +293,8 @@ pub(crate) fn come(
     until: u64,
 ) -> Result<Came, NoMemory>
     requires { All IsWritableEvent script.old.items }
-    ensures ok { IfOk result (Receives asked.now script.old.items moment_before until (length buf.old) buf.new script.new.items) }
+    ensures ok { IfOk result (Receives asked.now script.old.items moment_before until
+        (length buf.old) buf.new script.new.items) }
     ensures err { OnErr result (script.new.items ≡ script.old.items) }
     ensures kept { OnErr result (buf.new ≡ buf.old) }
     ensures only { OnErr result (AnswerNext asked.now script.old.items until) }

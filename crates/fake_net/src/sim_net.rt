@@ -46,7 +46,8 @@ impl SimNet {
     /// hostile. Takes memory for the nodes' identifiers.
     pub fn new(alloc: Global, seed: &[u8; 32], nodes: u32, hostile: u8) -> Result<SimNet, NoMemory>
         requires { nodes ≤ 20000 }
-        ensures network { IfOk result (λ net. net.network ≡ record { seed = seed.now; count = nodes; hostile = hostile }) }
+        ensures network { IfOk result (λ net. net.network
+            ≡ record { seed = seed.now; count = nodes; hostile = hostile }) }
         ensures moment { IfOk result (λ net. net.moment ≡ 0) }
         ensures told { IfOk result (λ net. net.told ≡ Some []) }
         ensures waiting { IfOk result (λ net. net.waiting ≡ []) }
@@ -107,7 +108,8 @@ fn queue(
     to: &Addr,
     bytes: &[u8],
 ) -> Result<(), NoMemory>
-    ensures { OnOk result (QueuedBy nodes.now moment to.now bytes.now waiting.old.items waiting.new.items) }
+    ensures { OnOk result (QueuedBy nodes.now moment to.now bytes.now waiting.old.items
+        waiting.new.items) }
 {
     match answer(alloc, nodes, moment, to, bytes)? {
         Some(answer) => Ok(waiting.push(answer)?),
@@ -148,7 +150,9 @@ impl Link for SimNet {
         ensures sent { IsOk result }
         ensures told { Grows self.old.told self.new.told (λ t. t ≡ Event.Sent to bytes.now ∷ []) }
         // All answers wait, unless it is short.
-        ensures queued { IfSome self.new.told (λ told. QueuedBy self.old.network self.old.moment to bytes.now self.old.waiting self.new.waiting) }
+        ensures queued { IfSome self.new.told
+            (λ told. QueuedBy self.old.network self.old.moment to bytes.now self.old.waiting
+            self.new.waiting) }
         ensures same_moment { self.new.moment ≡ self.old.moment }
         ensures same_network { self.new.network ≡ self.old.network }
     {
@@ -174,9 +178,12 @@ impl Link for SimNet {
     /// come at one moment the one that was sent for first. Memory is taken for the transcript alone.
     fn recv(&mut self, buf: &mut [u8], until: u64) -> Result<Came, Failed>
         ensures received { IsOk result }
-        ensures came { IfOk result (Gets self.old.waiting self.old.moment until (length buf.old) buf.new self.new.waiting) }
-        ensures arrives { IfOk result (λ came. Arrives came until self.old.moment (length buf.old)) }
-        ensures told { IfOk result (λ came. Grows self.old.told self.new.told (λ t. t ≡ EventOf came until buf.new ∷ [])) }
+        ensures came { IfOk result (Gets self.old.waiting self.old.moment until
+            (length buf.old) buf.new self.new.waiting) }
+        ensures arrives { IfOk result (λ came. Arrives came until self.old.moment
+            (length buf.old)) }
+        ensures told { IfOk result (λ came. Grows self.old.told self.new.told
+            (λ t. t ≡ EventOf came until buf.new ∷ [])) }
         ensures moment { IfOk result (λ came. self.new.moment ≡ came_at came) }
         ensures same_network { self.new.network ≡ self.old.network }
     {

@@ -50,7 +50,8 @@ pub(crate) fn take_next(
     buf: &mut [u8],
     until: u64,
 ) -> Came
-    ensures gets { Gets waiting.old.items moment_before until (length buf.old) buf.new waiting.new.items result }
+    ensures gets { Gets waiting.old.items moment_before until
+        (length buf.old) buf.new waiting.new.items result }
     ensures within { IsWithin result (length buf.new) }
     ensures room { length buf.new ≡ length buf.old }
 {

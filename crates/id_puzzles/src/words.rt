@@ -46,8 +46,10 @@ impl Words {
     pub fn fill(&mut self, bytes: &mut [u8])
         requires whole { length bytes.old % 4 ≡ 0 }
         requires place { self.old.place + length bytes.old / 4 ≤ 2 ^ 60 }
-        ensures bytes { bytes.new ≡ drawn_bytes self.old.seed self.old.place (length bytes.old / 4) }
-        ensures place { self.new ≡ record self.old { place = self.old.place + length bytes.old / 4 } }
+        ensures bytes { bytes.new ≡ drawn_bytes self.old.seed self.old.place
+            (length bytes.old / 4) }
+        ensures place { self.new ≡ record self.old
+            { place = self.old.place + length bytes.old / 4 } }
     {
         for i in 0..bytes.len() / 4 {
             bytes[4 * i..4 * i + 4].copy_from_slice(&self.next().to_le_bytes());

@@ -38,7 +38,8 @@ pub trait Sink {
         requires { 0 < length bytes.now }
         ensures bound { IfOk result (λ n. n ≤ length bytes.now) }
         ensures some { IfOk result (λ n. 0 < n) }
-        ensures ok { IfOk result (λ n. Grows (written self.old) (written self.new) (λ t. t ≡ take n bytes.now)) }
+        ensures ok { IfOk result (λ n. Grows (written self.old) (written self.new)
+            (λ t. t ≡ take n bytes.now)) }
         ensures err { OnErr result (Grows (written self.old) (written self.new) (λ t. t ≡ [])) }
         ensures faults { faults self.old ≤ faults self.new }
         ensures failed { OnErr result (Rose (faults self.old) (faults self.new)) };
@@ -70,8 +71,10 @@ pub trait Link {
         ensures recv_faults { recv_faults self.old ≤ recv_faults self.new };
 
     fn send(&mut self, to: Addr, bytes: &[u8]) -> Result<(), Failed>
-        ensures ok { OnOk result (Grows (told self.old) (told self.new) (λ t. t ≡ Event.Sent to bytes.now ∷ [])) }
-        ensures err { OnErr result (Grows (told self.old) (told self.new) (λ t. t ≡ Event.Unsent to bytes.now ∷ [])) }
+        ensures ok { OnOk result (Grows (told self.old) (told self.new)
+            (λ t. t ≡ Event.Sent to bytes.now ∷ [])) }
+        ensures err { OnErr result (Grows (told self.old) (told self.new)
+            (λ t. t ≡ Event.Unsent to bytes.now ∷ [])) }
         ensures moment { moment self.new ≡ moment self.old }
         ensures kept { kept self.new ≡ kept self.old }
         ensures send_faults { send_faults self.old ≤ send_faults self.new }
@@ -80,7 +83,8 @@ pub trait Link {
 
     fn recv(&mut self, buf: &mut [u8], until: u64) -> Result<Came, Failed>
         requires { 0 < length buf.old }
-        ensures ok { IfOk result (λ came. Grows (told self.old) (told self.new) (λ t. t ≡ EventOf came until buf.new ∷ [])) }
+        ensures ok { IfOk result (λ came. Grows (told self.old) (told self.new)
+            (λ t. t ≡ EventOf came until buf.new ∷ [])) }
         ensures came { IfOk result (λ came. Arrives came until (moment self.old) (length buf.old)) }
         ensures told_moment { IfOk result (λ came. moment self.new ≡ came_at came) }
         ensures err { OnErr result (Grows (told self.old) (told self.new) (λ t. t ≡ [])) }

@@ -26,7 +26,8 @@ pub(crate) fn string_in(bytes: &[u8]) -> Option<(&[u8], usize)>
 pub(crate) fn first_pair(pairs: &[u8]) -> Option<(&[u8], &[u8], &[u8])>
     ensures shorter { IfSome result (λ x. length x.2.now < length pairs.now) }
     ensures reads { (p : Pair Value) (ps : List (Pair Value)) → ArePairs pairs.now (p ∷ ps)
-        → MatchOption result ⊥ (λ x. (x.0.now ≡ p.key) × (x.1.now ≡ text_of p.value) × ArePairs x.2.now ps) }
+        → MatchOption result ⊥ (λ x. (x.0.now ≡ p.key) × (x.1.now ≡ text_of p.value)
+        × ArePairs x.2.now ps) }
 {
     match string_in(pairs) {
         Some((key, from)) => {
@@ -47,7 +48,8 @@ fn same(a: &[u8], b: &[u8]) -> bool
 
 /// The text of a key's value among pairs.
 pub(crate) fn find<'a>(pairs: &'a [u8], key: &[u8]) -> Option<&'a [u8]>
-    ensures { (ps : List (Pair Value)) → ArePairs pairs.now ps → option_copied result ≡ option_map text_of (value_of ps key.now) }
+    ensures { (ps : List (Pair Value)) → ArePairs pairs.now ps
+        → option_copied result ≡ option_map text_of (value_of ps key.now) }
 {
     let mut rest = pairs;
     while rest.len() > 0 {
@@ -66,7 +68,8 @@ pub(crate) fn find<'a>(pairs: &'a [u8], key: &[u8]) -> Option<&'a [u8]>
 
 /// The text of a key's value in the text of a dictionary.
 pub fn value_in<'a>(bytes: &'a [u8], key: &[u8]) -> Option<&'a [u8]>
-    ensures { (pairs : List (Pair Value)) → Spells bytes.now (value.Dict pairs) → Shows (option_copied result) (value_of pairs key.now) }
+    ensures { (pairs : List (Pair Value)) → Spells bytes.now (value.Dict pairs)
+        → Shows (option_copied result) (value_of pairs key.now) }
 {
     if bytes.len() < 2 {
         return None;

@@ -40,7 +40,8 @@ impl<'a> Model for Pairs<'a> {
 impl<'a> Pairs<'a> {
     /// The next pair: its key and its value.
     pub fn next(&mut self) -> Option<(&'a [u8], Piece<'a>)>
-        ensures { MatchOption result ((self.old ≡ []) × (self.new ≡ [])) (λ x. self.old ≡ record { key = x.0.now; value = x.1 } ∷ self.new) }
+        ensures { MatchOption result ((self.old ≡ []) × (self.new ≡ []))
+            (λ x. self.old ≡ record { key = x.0.now; value = x.1 } ∷ self.new) }
     {
         match next_pair(self.bytes) {
             Some((key, bytes, rest)) => {
@@ -54,7 +55,8 @@ impl<'a> Pairs<'a> {
 
 /// The first pair, and those behind it.
 fn next_pair(bytes: &[u8]) -> Option<(&[u8], &[u8], &[u8])>
-    ensures { (ps : List (Pair Value)) → ArePairs bytes.now ps → MatchOption result (ps ≡ []) (λ x. IsFirstPair ps x.0.now x.1.now x.2.now) }
+    ensures { (ps : List (Pair Value)) → ArePairs bytes.now ps
+        → MatchOption result (ps ≡ []) (λ x. IsFirstPair ps x.0.now x.1.now x.2.now) }
 {
     if bytes.len() == 0 {
         return None;
@@ -67,7 +69,8 @@ fn next_pair(bytes: &[u8]) -> Option<(&[u8], &[u8], &[u8])>
 
 /// The texts of a dictionary's pairs.
 fn pairs_in(bytes: &[u8]) -> Option<&[u8]>
-    ensures { (v : Value) → Spells bytes.now v → MatchOption result (None ≡ dict_of v) (λ x. IsDictOf v x.now) }
+    ensures { (v : Value) → Spells bytes.now v
+        → MatchOption result (None ≡ dict_of v) (λ x. IsDictOf v x.now) }
 {
     if !has_byte(bytes, 0, b'd') {
         return None;

@@ -132,7 +132,8 @@ impl<'a> Model for Items<'a> {
 impl<'a> Items<'a> {
     /// The next value.
     pub fn next(&mut self) -> Option<Piece<'a>>
-        ensures { MatchOption result ((self.old ≡ []) × (self.new ≡ [])) (λ v. self.old ≡ v ∷ self.new) }
+        ensures { MatchOption result ((self.old ≡ []) × (self.new ≡ []))
+            (λ v. self.old ≡ v ∷ self.new) }
     {
         match first_item(self.bytes) {
             Some((bytes, rest)) => {
@@ -154,14 +155,16 @@ impl<'a> Items<'a> {
 
 /// How long the texts of values are together.
 fn texts_length(bytes: &[u8]) -> usize
-    ensures { (ts : List Value) → AreItems bytes.now ts → result ≡ length (concat (map text_of ts)) }
+    ensures { (ts : List Value) → AreItems bytes.now ts
+        → result ≡ length (concat (map text_of ts)) }
 {
     bytes.len()
 }
 
 /// The text of the first value, and the texts behind it.
 fn first_item(bytes: &[u8]) -> Option<(&[u8], &[u8])>
-    ensures { (ts : List Value) → AreItems bytes.now ts → MatchOption result (ts ≡ []) (λ x. IsCut ts x.0.now x.1.now) }
+    ensures { (ts : List Value) → AreItems bytes.now ts
+        → MatchOption result (ts ≡ []) (λ x. IsCut ts x.0.now x.1.now) }
 {
     if bytes.len() == 0 {
         return None;
@@ -172,7 +175,8 @@ fn first_item(bytes: &[u8]) -> Option<(&[u8], &[u8])>
 
 /// The texts of a list's values.
 fn items_in(bytes: &[u8]) -> Option<&[u8]>
-    ensures { (v : Value) → Spells bytes.now v → MatchOption result (None ≡ list_of v) (λ x. IsListOf v x.now) }
+    ensures { (v : Value) → Spells bytes.now v
+        → MatchOption result (None ≡ list_of v) (λ x. IsListOf v x.now) }
 {
     if !has_byte(bytes, 0, b'l') {
         return None;
@@ -185,7 +189,8 @@ fn items_in(bytes: &[u8]) -> Option<&[u8]>
 
 /// The text of a dictionary's value of a key.
 fn member_in<'a>(bytes: &'a [u8], key: &[u8]) -> Option<&'a [u8]>
-    ensures { (v : Value) → Spells bytes.now v → Shows (option_copied result) (member_of v key.now) }
+    ensures { (v : Value) → Spells bytes.now v
+        → Shows (option_copied result) (member_of v key.now) }
 {
     if !has_byte(bytes, 0, b'd') {
         return None;

@@ -86,7 +86,8 @@ fn list_at(
     requires within { from ≤ length bytes.now }
     requires depth { depth ≤ 16 }
     ensures moves { IfOk result (λ x. (from < x.1) × (x.1 ≤ length bytes.now)) }
-    ensures reads { (os : List Open) → suc (length os) ≡ depth → Reached bytes.now from (Ready (InList [] ∷ os)) → FitsOpen os
+    ensures reads { (os : List Open) → suc (length os) ≡ depth
+        → Reached bytes.now from (Ready (InList [] ∷ os)) → FitsOpen os
         → Outcome bytes.now result (λ x. ReadsValue bytes.now from os x.0 x.1) }
 {
     let mut values = Values::new(alloc);
@@ -110,7 +111,8 @@ fn dictionary_at(
     requires within { from ≤ length bytes.now }
     requires depth { depth ≤ 16 }
     ensures moves { IfOk result (λ x. (from < x.1) × (x.1 ≤ length bytes.now)) }
-    ensures reads { (os : List Open) → suc (length os) ≡ depth → Reached bytes.now from (Keyless os []) → FitsOpen os
+    ensures reads { (os : List Open) → suc (length os) ≡ depth
+        → Reached bytes.now from (Keyless os []) → FitsOpen os
         → Outcome bytes.now result (λ x. ReadsValue bytes.now from os x.0 x.1) }
 {
     let mut entries = Entries::new(alloc);

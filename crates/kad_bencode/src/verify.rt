@@ -72,7 +72,8 @@ fn list_at(bytes: &[u8], from: usize, depth: usize) -> Result<usize, Bad>
     requires within { from ≤ length bytes.now }
     requires depth { depth ≤ 16 }
     ensures moves { IfOk result (λ next. (from < next) × (next ≤ length bytes.now)) }
-    ensures reads { (os : List Open) → suc (length os) ≡ depth → Reached bytes.now from (Ready (InList [] ∷ os)) → FitsOpen os
+    ensures reads { (os : List Open) → suc (length os) ≡ depth
+        → Reached bytes.now from (Ready (InList [] ∷ os)) → FitsOpen os
         → Scans bytes.now result (λ next. (v : Value) × ReadsValue bytes.now from os v next) }
 {
     let mut at = from;
@@ -88,7 +89,8 @@ fn dictionary_at(bytes: &[u8], from: usize, depth: usize) -> Result<usize, Bad>
     requires within { from ≤ length bytes.now }
     requires depth { depth ≤ 16 }
     ensures moves { IfOk result (λ next. (from < next) × (next ≤ length bytes.now)) }
-    ensures reads { (os : List Open) → suc (length os) ≡ depth → Reached bytes.now from (Keyless os []) → FitsOpen os
+    ensures reads { (os : List Open) → suc (length os) ≡ depth
+        → Reached bytes.now from (Keyless os []) → FitsOpen os
         → Scans bytes.now result (λ next. (v : Value) × ReadsValue bytes.now from os v next) }
 {
     let mut at = from;
@@ -112,7 +114,9 @@ fn unsorted_at(bytes: &[u8], from: usize, start: usize, depth: usize) -> Result<
     requires within { start ≤ length bytes.now }
     requires depth { depth ≤ 16 }
     ensures moves { IfOk result (λ next. (start < next) × (next ≤ length bytes.now)) }
-    ensures reads { (os : List Open) (pairs : List (Pair Value)) → suc (length os) ≡ depth → Reached bytes.now from (Keyless os []) → FitsOpen os → Reached bytes.now start (Keyless os pairs) → FitsPairs os pairs
+    ensures reads { (os : List Open) (pairs : List (Pair Value)) → suc (length os) ≡ depth
+        → Reached bytes.now from (Keyless os []) → FitsOpen os
+        → Reached bytes.now start (Keyless os pairs) → FitsPairs os pairs
         → Scans bytes.now result (λ next. (v : Value) × ReadsValue bytes.now from os v next) }
 {
     let mut places = [0u16; MOST];

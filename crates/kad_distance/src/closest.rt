@@ -14,7 +14,8 @@ use std::alloc::Global;
 pub fn place(target: &Id, list: &[Contact], contact: &Contact) -> usize
     requires { IsStrictlySortedBy (closeness target.now) list.now }
     ensures within { result ≤ length list.now }
-    ensures count { result ≡ length (filter (λ other. is_lt (closeness target.now other contact.now)) list.now) }
+    ensures count { result ≡ length (filter (λ other. is_lt
+        (closeness target.now other contact.now)) list.now) }
 {
     list.partition_point(|other| compare(target, other, contact).is_lt())
 }

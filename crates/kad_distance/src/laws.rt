@@ -19,12 +19,23 @@ pub fn order_is_strict()
 /// members have the same ones; those of a joined list come from those of its parts; and a contact that is added and
 /// doesn't come among them changes none.
 pub fn closest_laws()
-    ensures strict_order { (target : Id) (k : ℕ) (S : List Contact) → IsStrictlySortedBy (closeness target) (k_closest target k S) }
+    ensures strict_order { (target : Id) (k : ℕ) (S : List Contact)
+        → IsStrictlySortedBy (closeness target) (k_closest target k S) }
     ensures at_most { (target : Id) (k : ℕ) (S : List Contact) → length (k_closest target k S) ≤ k }
-    ensures of_list { (target : Id) (k : ℕ) (S : List Contact) (c : Contact) → Contains (k_closest target k S) c → Contains S c }
-    ensures nearer { (target : Id) (k : ℕ) (S : List Contact) (c : Contact) → Contains S c → (Contains (k_closest target k S) c → ⊥) → All (λ d. IsCloser target d c) (k_closest target k S) }
-    ensures front { (target : Id) (k : ℕ) (S : List Contact) → IsStrictlySortedBy (closeness target) S → k_closest target k S ≡ take k S }
-    ensures same { (target : Id) (k : ℕ) (S T : List Contact) → ((c : Contact) → Contains S c ↔ Contains T c) → k_closest target k S ≡ k_closest target k T }
-    ensures joined { (target : Id) (k : ℕ) (S T : List Contact) → k_closest target k (S ++ T) ≡ k_closest target k (k_closest target k S ++ k_closest target k T) }
-    ensures added { (target : Id) (k : ℕ) (S : List Contact) (c : Contact) → (Contains (k_closest target k (S ++ c ∷ [])) c → ⊥) → k_closest target k (S ++ c ∷ []) ≡ k_closest target k S }
+    ensures of_list { (target : Id) (k : ℕ) (S : List Contact) (c : Contact)
+        → Contains (k_closest target k S) c → Contains S c }
+    ensures nearer { (target : Id) (k : ℕ) (S : List Contact) (c : Contact) → Contains S c
+        → (Contains (k_closest target k S) c → ⊥)
+        → All (λ d. IsCloser target d c) (k_closest target k S) }
+    ensures front { (target : Id) (k : ℕ) (S : List Contact)
+        → IsStrictlySortedBy (closeness target) S → k_closest target k S ≡ take k S }
+    ensures same { (target : Id) (k : ℕ) (S T : List Contact)
+        → ((c : Contact) → Contains S c ↔ Contains T c)
+        → k_closest target k S ≡ k_closest target k T }
+    ensures joined { (target : Id) (k : ℕ) (S T : List Contact)
+        → k_closest target k (S ++ T) ≡ k_closest target k
+        (k_closest target k S ++ k_closest target k T) }
+    ensures added { (target : Id) (k : ℕ) (S : List Contact) (c : Contact)
+        → (Contains (k_closest target k (S ++ c ∷ [])) c → ⊥)
+        → k_closest target k (S ++ c ∷ []) ≡ k_closest target k S }
 {}

@@ -37,7 +37,8 @@ pub fn shared_bits(a: &Id, b: &Id) -> u8
 /// Which of two identifiers is nearer to the target: by the first byte in which their distances differ. It is mostly one
 /// of the first, so that neither distance is made whole.
 fn compare_distances(target: &Id, a: &Id, b: &Id) -> Ordering
-    ensures { result ≡ slice_cmp nat_cmp (xor_bytes target.now.0 a.now.0) (xor_bytes target.now.0 b.now.0) }
+    ensures { result ≡ slice_cmp nat_cmp (xor_bytes target.now.0 a.now.0)
+        (xor_bytes target.now.0 b.now.0) }
 {
     for at in 0..20usize {
         let one = target.0[at] ^ a.0[at];

@@ -18,7 +18,8 @@ fn read_parts<'a>(
     token: Option<Piece<'a>>,
     values: Option<Piece<'a>>,
 ) -> Result<AnswerView<'a>, KrpcFault>
-    ensures { answered result ≡ answer_by id.entry nodes.entry snodes.entry token.entry values.entry }
+    ensures { answered result ≡ answer_by id.entry nodes.entry snodes.entry token.entry
+        values.entry }
 {
     let id = needed_id(id, Key::Id)?;
     let nodes = nodes_of(optional_text(nodes, Key::Nodes)?)?;

@@ -62,7 +62,8 @@ fn read_announced<'a>(
     implied_port: Option<Piece<'a>>,
     port: Option<Piece<'a>>,
 ) -> Result<AskView<'a>, KrpcFault>
-    ensures { asked result ≡ announced_by id info_hash.entry token.entry implied_port.entry port.entry }
+    ensures { asked result ≡ announced_by id info_hash.entry token.entry implied_port.entry
+        port.entry }
 {
     let info_hash = needed_id(info_hash, Key::InfoHash)?;
     let token = needed_text(token, Key::Token)?;

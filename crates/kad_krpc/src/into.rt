@@ -31,7 +31,8 @@ fn put_ro(buf: &mut [u8], at: usize, read_only: bool) -> usize
 }
 
 fn put_query(buf: &mut [u8], at: usize, tx: &[u8], read_only: bool, ask: &Ask) -> usize
-    ensures { Puts buf.old buf.new at (text_of (value.Dict (message_pairs (Message.Query tx.now read_only ask.now)))) result }
+    ensures { Puts buf.old buf.new at (text_of
+        (value.Dict (message_pairs (Message.Query tx.now read_only ask.now)))) result }
 {
     let at = put_part(buf, at, b"d1:a");
     let at = put_arguments(buf, at, ask);
@@ -42,7 +43,8 @@ fn put_query(buf: &mut [u8], at: usize, tx: &[u8], read_only: bool, ask: &Ask) -
 }
 
 fn put_answer_message(buf: &mut [u8], at: usize, tx: &[u8], answer: &Answer) -> usize
-    ensures { Puts buf.old buf.new at (text_of (value.Dict (message_pairs (Message.Answer tx.now answer.now)))) result }
+    ensures { Puts buf.old buf.new at (text_of
+        (value.Dict (message_pairs (Message.Answer tx.now answer.now)))) result }
 {
     let at = put_part(buf, at, b"d1:r");
     let at = put_answer(buf, at, answer);
@@ -52,7 +54,8 @@ fn put_answer_message(buf: &mut [u8], at: usize, tx: &[u8], answer: &Answer) -> 
 
 /// Puts the list of a code and a text.
 fn put_error(buf: &mut [u8], at: usize, code: i64, said: &[u8]) -> usize
-    ensures { Puts buf.old buf.new at (text_of (value.List (value.Int code ∷ value.Text said.now ∷ []))) result }
+    ensures { Puts buf.old buf.new at (text_of
+        (value.List (value.Int code ∷ value.Text said.now ∷ []))) result }
 {
     let at = put_part(buf, at, b"l");
     let at = put_integer(buf, at, code);
@@ -61,7 +64,8 @@ fn put_error(buf: &mut [u8], at: usize, code: i64, said: &[u8]) -> usize
 }
 
 fn put_fault(buf: &mut [u8], at: usize, tx: &[u8], code: i64, said: &[u8]) -> usize
-    ensures { Puts buf.old buf.new at (text_of (value.Dict (message_pairs (Message.Fault tx.now code said.now)))) result }
+    ensures { Puts buf.old buf.new at (text_of
+        (value.Dict (message_pairs (Message.Fault tx.now code said.now)))) result }
 {
     let at = put_part(buf, at, b"d1:e");
     let at = put_error(buf, at, code, said);

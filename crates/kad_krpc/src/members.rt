@@ -41,7 +41,8 @@ fn kept<'a>(
     key: &[u8],
     value: &Piece<'a>,
 ) -> Option<Piece<'a>>
-    ensures { result ≡ first_of slot.entry (cond (is_eq (key_cmp wanted.now key.now)) (Some value.now) None) }
+    ensures { result ≡ first_of slot.entry (cond (is_eq (key_cmp wanted.now key.now))
+        (Some value.now) None) }
 {
     match slot {
         Some(found) => Some(found),

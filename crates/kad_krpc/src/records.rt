@@ -35,7 +35,8 @@ impl<'a> Model for Nodes<'a> {
 impl<'a> Nodes<'a> {
     /// The nodes of a string, or none where it is not made of whole records.
     pub(crate) fn new(bytes: &'a [u8]) -> Option<Nodes<'a>>
-        ensures { MatchOption result (length bytes.now % 26 ≢ 0) (λ nodes. (length bytes.now % 26 ≡ 0) × (nodes ≡ records_in 26 node_in bytes.now)) }
+        ensures { MatchOption result (length bytes.now % 26 ≢ 0)
+            (λ nodes. (length bytes.now % 26 ≡ 0) × (nodes ≡ records_in 26 node_in bytes.now)) }
     {
         if bytes.len() % NODE != 0 {
             return None;
@@ -118,7 +119,8 @@ impl<'a> Model for ProvedNodes<'a> {
 impl<'a> ProvedNodes<'a> {
     /// The nodes of a string, or none where it is not made of whole records.
     pub(crate) fn new(bytes: &'a [u8]) -> Option<ProvedNodes<'a>>
-        ensures { MatchOption result (length bytes.now % 78 ≢ 0) (λ nodes. (length bytes.now % 78 ≡ 0) × (nodes ≡ records_in 78 proved_in bytes.now)) }
+        ensures { MatchOption result (length bytes.now % 78 ≢ 0)
+            (λ nodes. (length bytes.now % 78 ≡ 0) × (nodes ≡ records_in 78 proved_in bytes.now)) }
     {
         if bytes.len() % PROVED != 0 {
             return None;

@@ -79,7 +79,13 @@ fn refuses(rt: &impl Abort, alloc: Global, text: &[u8], fault: KrpcFault) {
 
 /// An answer with the identifier alone.
 fn bare(id: Id) -> Answer
-    ensures { result ≡ record { id = id; nodes = None; snodes = None; token = None; values = None } }
+    ensures { result ≡ record {
+      id = id;
+      nodes = None;
+      snodes = None;
+      token = None;
+      values = None;
+    } }
 {
     Answer {
         id,

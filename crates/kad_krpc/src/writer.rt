@@ -194,7 +194,8 @@ fn announced_of(
 
 /// Two identifiers, under `id` and a key after it.
 fn two_ids(alloc: Global, id: &Id, key: &[u8], other: &Id) -> Result<Entries, NoMemory>
-    ensures { IfOk result (λ a. a ≡ put (put [] (codes "id") (value.Text id.now.0)) key.now (value.Text other.now.0)) }
+    ensures { IfOk result (λ a. a ≡ put (put [] (codes "id") (value.Text id.now.0)) key.now
+        (value.Text other.now.0)) }
 {
     let mut a = Entries::new(alloc);
     put_text(alloc, &mut a, b"id", &id.0)?;
@@ -253,7 +254,8 @@ fn put_ro(alloc: Global, top: &mut Entries, read_only: bool) -> Result<(), NoMem
 
 /// Puts the transaction id and the kind of a message behind its body.
 fn put_end(alloc: Global, top: &mut Entries, tx: &[u8], kind: &[u8]) -> Result<(), NoMemory>
-    ensures { OnOk result (top.new ≡ put (put top.old (codes "t") (value.Text tx.now)) (codes "y") (value.Text kind.now)) }
+    ensures { OnOk result (top.new ≡ put (put top.old (codes "t") (value.Text tx.now)) (codes "y")
+        (value.Text kind.now)) }
 {
     put_text(alloc, top, b"t", tx)?;
     put_text(alloc, top, b"y", kind)

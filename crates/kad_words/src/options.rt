@@ -101,7 +101,8 @@ pub(crate) enum Name {
 
 /// The command of a word.
 pub(crate) fn name_of(word: &str) -> Option<Name>
-    ensures { MatchOption result ((name : Name) → ¬ (word.now ≡ name_word name)) (λ name. word.now ≡ name_word name) }
+    ensures { MatchOption result ((name : Name) → ¬ (word.now ≡ name_word name))
+        (λ name. word.now ≡ name_word name) }
 {
     match word {
         "lookup" => Some(Name::Lookup),

@@ -63,7 +63,8 @@ fn kind_named(choices: &[Choice], word: &str) -> Option<Kind>
 
 /// The value of an option.
 pub(crate) fn value_of<'a>(words: &'a [String], option: &str) -> Option<&'a str>
-    ensures { option_map (λ v. v.now) result ≡ value_of option.now (pairs_of (map (λ w. string_bytes w) words.now)) }
+    ensures { option_map (λ v. v.now) result ≡ value_of option.now
+        (pairs_of (map (λ w. string_bytes w) words.now)) }
 {
     let mut rest = words;
     while let [name, value, more @ ..] = rest {
@@ -77,7 +78,8 @@ pub(crate) fn value_of<'a>(words: &'a [String], option: &str) -> Option<&'a str>
 
 /// The value of the option with this name.
 fn value_named<'a>(words: &'a [String], name: &str) -> Option<&'a str>
-    ensures { option_map (λ v. v.now) result ≡ value_of (option_word name.now) (pairs_of (map (λ w. string_bytes w) words.now)) }
+    ensures { option_map (λ v. v.now) result ≡ value_of (option_word name.now)
+        (pairs_of (map (λ w. string_bytes w) words.now)) }
 {
     let mut rest = words;
     while let [option, value, more @ ..] = rest {
@@ -91,7 +93,8 @@ fn value_named<'a>(words: &'a [String], name: &str) -> Option<&'a str>
 
 /// Whether each option that has to stand has a value.
 fn are_there(words: &[String], choices: &[Choice]) -> bool
-    ensures { IsTrue result ↔ AreThere (entries_of choices.now) (pairs_of (map (λ w. string_bytes w) words.now)) }
+    ensures { IsTrue result ↔ AreThere (entries_of choices.now)
+        (pairs_of (map (λ w. string_bytes w) words.now)) }
 {
     for choice in choices {
         if !is_there(choice.need, value_named(words, choice.name)) {

@@ -159,6 +159,7 @@ fn sim(matches: &ArgMatches) -> Command
 
 /// Words ask for one command, and then they are of the plain form.
 pub fn one_command()
-    ensures one { (words : List Word) (a b : Command) → CommandOf words a → CommandOf words b → a ≡ b }
+    ensures one { (words : List Word) (a b : Command) → CommandOf words a → CommandOf words b
+        → a ≡ b }
     ensures plain { (words : List Word) (c : Command) → CommandOf words c → IsPlain words }
 {}

@@ -11,7 +11,8 @@ use std::net::Ipv4Addr;
 
 /// Reads bytes in hex, two digits a byte, of either case.
 pub fn read_hex<const N: usize>(text: &str) -> Option<[u8; N]>
-    ensures { MatchOption result ((bytes : List ℕ) → ¬ SpellsHex N text.now bytes) (λ bytes. SpellsHex N text.now bytes) }
+    ensures { MatchOption result ((bytes : List ℕ) → ¬ SpellsHex N text.now bytes)
+        (λ bytes. SpellsHex N text.now bytes) }
 {
     <[u8; N]>::from_hex(text).ok()
 }
@@ -25,7 +26,8 @@ pub fn read_id(text: &str) -> Option<Id>
 
 /// Reads a number in decimal digits without leading zeros: its one spelling, as it is printed.
 pub fn read_number(text: &str, least: u32, most: u32) -> Option<u32>
-    ensures { MatchOption result ((n : ℕ) → ¬ SpellsNumber least most text.now n) (λ n. SpellsNumber least most text.now n) }
+    ensures { MatchOption result ((n : ℕ) → ¬ SpellsNumber least most text.now n)
+        (λ n. SpellsNumber least most text.now n) }
 {
     let number = text.parse::<u32>().ok()?;
     if number < least || most < number {
@@ -37,7 +39,8 @@ pub fn read_number(text: &str, least: u32, most: u32) -> Option<u32>
 
 /// Reads an IPv4 address with its port, `a.b.c.d:port`.
 pub fn read_addr(text: &str) -> Option<Addr>
-    ensures { MatchOption result ((addr : Addr) → ¬ SpellsAddr text.now addr) (λ addr. SpellsAddr text.now addr) }
+    ensures { MatchOption result ((addr : Addr) → ¬ SpellsAddr text.now addr)
+        (λ addr. SpellsAddr text.now addr) }
 {
     let (ip, port) = text.split_once(':')?;
     let ip = ip.parse::<Ipv4Addr>().ok()?;

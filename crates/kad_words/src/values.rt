@@ -45,7 +45,8 @@ pub(crate) fn seed(matches: &ArgMatches, choice: &Choice) -> Option<[u8; 32]>
 pub(crate) fn number(matches: &ArgMatches, choice: &Choice) -> u32
     requires fits { Fits (entry_of choice.now) (taken_of matches.now choice.now.name.now) }
     requires kind { IsTrue (has_default choice.now.kind choice.now.need) }
-    ensures { NumberBy choice.now.kind choice.now.need (taken_of matches.now choice.now.name.now) result }
+    ensures { NumberBy choice.now.kind choice.now.need
+        (taken_of matches.now choice.now.name.now) result }
 {
     let Kind::Number { least, most } = choice.kind else {
         unreachable!()
@@ -63,7 +64,8 @@ pub(crate) fn number(matches: &ArgMatches, choice: &Choice) -> u32
 pub(crate) fn small(matches: &ArgMatches, choice: &Choice) -> u8
     requires fits { Fits (entry_of choice.now) (taken_of matches.now choice.now.name.now) }
     requires kind { IsTrue (is_below 256 choice.now.kind choice.now.need) }
-    ensures { NumberBy choice.now.kind choice.now.need (taken_of matches.now choice.now.name.now) result }
+    ensures { NumberBy choice.now.kind choice.now.need
+        (taken_of matches.now choice.now.name.now) result }
 {
     number(matches, choice) as u8
 }

@@ -19,7 +19,8 @@ use std::alloc::Global;
 /// 2.3). Each of at most k steps looks at the next contact of each list.
 pub fn merge(alloc: Global, target: &Id, k: u8, lists: &[Contacts]) -> Result<Contacts, NoMemory>
     requires { All (IsStrictlySortedBy (closeness target.now)) lists.now }
-    ensures { IfOk result (λ found. found ≡ k_closest target.now k (flat_map (λ list. list) lists.now)) }
+    ensures { IfOk result (λ found. found ≡ k_closest target.now k
+        (flat_map (λ list. list) lists.now)) }
 {
     let mut places = starts(alloc, lists.len())?;
     let mut found = List::new(alloc);
@@ -82,7 +83,8 @@ fn nearer(target: &Id, best: Option<Contact>, next: Option<Contact>) -> Option<C
 fn pass(target: &Id, lists: &[Contacts], places: &mut [usize], contact: &Contact)
     requires { length places.old ≡ length lists.now }
     ensures same { length places.new ≡ length lists.now }
-    ensures passed { rests lists.now places.new ≡ map (after (closeness target.now) contact.now) (rests lists.now places.old) }
+    ensures passed { rests lists.now places.new ≡ map (after (closeness target.now) contact.now)
+        (rests lists.now places.old) }
 {
     for (i, list) in lists.iter().enumerate() {
         places[i] = passed(target, list, places[i], contact);

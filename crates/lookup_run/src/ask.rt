@@ -42,9 +42,14 @@ fn open(
     contact: Contact,
 ) -> u32
     requires room { length queries.old < max_open }
-    requires deadlines { AllByRecursion (λ q. q.deadline ≤ deadline_of moment look.now.timeout) queries.old }
+    requires deadlines { AllByRecursion (λ q. q.deadline ≤ deadline_of moment look.now.timeout)
+        queries.old }
     requires place { words.old.place < 2 ^ 60 }
-    ensures queries { queries.new ≡ queries.old ++ record { tx = result; contact = contact; deadline = deadline_of moment look.now.timeout } ∷ [] }
+    ensures queries { queries.new ≡ queries.old ++ record {
+      tx = result;
+      contact = contact;
+      deadline = deadline_of moment look.now.timeout;
+    } ∷ [] }
     ensures id { IsFirstFree queries.old (word words.old.seed words.old.place) result }
     ensures words { words.new ≡ record words.old { place = words.old.place + 1 } }
 {
@@ -70,9 +75,11 @@ fn ask_one<L: Link>(
     requires round_over { work.old.progress.receives ≡ 0 }
     requires settled { AllSettled look.now.paths work.old.book.journal }
     requires none_below { NoneAsks (setting_of look.now) path work.old.book.journal }
-    ensures some { result ≡ true → Asks look.now path path words.old words.new work.old work.new (L.told link.old) (L.told link.new) }
+    ensures some { result ≡ true → Asks look.now path path words.old words.new work.old work.new
+        (L.told link.old) (L.told link.new) }
     ensures less { result ≡ true → weight_of work.new < weight_of work.old }
-    ensures none { result ≡ false → AsksNone look.now path words.old words.new work.old work.new (L.told link.old) (L.told link.new) }
+    ensures none { result ≡ false → AsksNone look.now path words.old words.new work.old work.new
+        (L.told link.old) (L.told link.new) }
     ensures moment { L.moment link.new ≡ L.moment link.old }
     ensures recv_faults { L.recv_faults link.old ≤ L.recv_faults link.new }
     ensures kept { L.kept link.new ≡ L.kept link.old }
@@ -105,7 +112,8 @@ fn ask_path<L: Link>(link: &mut L, work: &mut Work, words: &mut Words, look: &Lo
     requires round_over { work.old.progress.receives ≡ 0 }
     requires settled { AllSettled look.now.paths work.old.book.journal }
     requires none_below { NoneAsks (setting_of look.now) path work.old.book.journal }
-    ensures asks { Asks look.now path (path + 1) words.old words.new work.old work.new (L.told link.old) (L.told link.new) }
+    ensures asks { Asks look.now path (path + 1) words.old words.new work.old work.new
+        (L.told link.old) (L.told link.new) }
     ensures moment { L.moment link.new ≡ L.moment link.old }
     ensures recv_faults { L.recv_faults link.old ≤ L.recv_faults link.new }
     ensures kept { L.kept link.new ≡ L.kept link.old }
@@ -117,7 +125,8 @@ fn ask_path<L: Link>(link: &mut L, work: &mut Work, words: &mut Words, look: &Lo
 pub(crate) fn ask_all<L: Link>(link: &mut L, work: &mut Work, words: &mut Words, look: &LookSetting)
     requires limits { IsWithinLimits look.now }
     requires begins { Begins look.now words.old work.old }
-    ensures asks { Asks look.now 0 look.now.paths words.old words.new work.old work.new (L.told link.old) (L.told link.new) }
+    ensures asks { Asks look.now 0 look.now.paths words.old words.new work.old work.new
+        (L.told link.old) (L.told link.new) }
     ensures moment { L.moment link.new ≡ L.moment link.old }
     ensures recv_faults { L.recv_faults link.old ≤ L.recv_faults link.new }
     ensures kept { L.kept link.new ≡ L.kept link.old }

@@ -67,7 +67,8 @@ fn finish(mut book: Book, gathered: Gathered) -> Result<Outcome, LookFault>
 
 /// The table and what the lookup found, where its rounds ended well.
 fn close(work: Work, ended: Result<(), LookFault>) -> (Table, Result<Outcome, LookFault>)
-    requires { OnOk ended ((p : ℕ) → p < work.book.setting.paths → RunOut work.book.setting p work.book.journal) }
+    requires { OnOk ended ((p : ℕ) → p < work.book.setting.paths
+        → RunOut work.book.setting p work.book.journal) }
     ensures table { result.0 ≡ work.table }
     ensures done { IfOk result.1 (λ outcome. IsClosed work ended outcome) }
     ensures fault { IfErr result.1 (λ fault. fault ≢ LookFault.NoMemory → ended ≡ Err fault) }
@@ -105,7 +106,8 @@ fn open_book(
 /// What a lookup keeps where it begins, at the moment that the link tells.
 fn begin<L: Link>(alloc: Global, link: &mut L, table: Table, book: Book) -> Work
     ensures begun { IsBegun book table (L.moment link.new) result }
-    ensures told { Grows (L.told link.old) (L.told link.new) (λ es. es ≡ Now (L.moment link.new) ∷ []) }
+    ensures told { Grows (L.told link.old) (L.told link.new)
+        (λ es. es ≡ Now (L.moment link.new) ∷ []) }
     ensures recv_faults { L.recv_faults link.old ≤ L.recv_faults link.new }
     ensures kept { L.kept link.new ≡ L.kept link.old }
 {
@@ -138,18 +140,32 @@ pub fn look_up_alone<L: Link, C: Check>(
     requires limits { IsWithinLimits setting.now }
     requires usable { All (IsUsable setting.now.own) (contacts_of table) }
     requires place { words.old.place < 2 ^ 59 }
-    ensures lookup { IfOk result.1 (Finished setting.now table words.old words.new (L.told link.old) (L.told link.new)) }
-    ensures rounds { IfOk result.1 (λ outcome. Grows (L.told link.old) (L.told link.new) (λ events. Rounds path_by_path (given_of setting.now words.old) outcome.journal events)) }
-    ensures own_answers { IfOk result.1 (λ outcome. GoesByOwnAnswers (setting_of setting.now) outcome.journal) }
-    ensures gathered { IfOk result.1 (λ outcome. Grows (L.told link.old) (L.told link.new) (λ events. Gathers (given_of setting.now words.old) outcome.journal events outcome.peers outcome.tokens)) }
-    ensures none_gathered { IfOk result.1 (λ outcome. setting.now.kind ≡ AskKind.FindNode → (outcome.peers ≡ []) × (outcome.tokens ≡ [])) }
-    ensures table { IfOk result.1 (λ outcome. TableTold (table_calls setting.now outcome.journal) table result.0) }
-    ensures unfinished { IfErr result.1 (λ fault. Unfinished setting.now table words.old words.new (L.told link.old) (L.told link.new)) }
+    ensures lookup { IfOk result.1 (Finished setting.now table words.old words.new (L.told link.old)
+        (L.told link.new)) }
+    ensures rounds { IfOk result.1 (λ outcome. Grows (L.told link.old) (L.told link.new)
+        (λ events. Rounds path_by_path (given_of setting.now words.old) outcome.journal events)) }
+    ensures own_answers { IfOk result.1 (λ outcome. GoesByOwnAnswers
+        (setting_of setting.now) outcome.journal) }
+    ensures gathered { IfOk result.1 (λ outcome. Grows (L.told link.old) (L.told link.new)
+        (λ events. Gathers (given_of setting.now words.old) outcome.journal events outcome.peers
+        outcome.tokens)) }
+    ensures none_gathered { IfOk result.1 (λ outcome. setting.now.kind ≡ AskKind.FindNode
+        → (outcome.peers ≡ []) × (outcome.tokens ≡ [])) }
+    ensures table { IfOk result.1 (λ outcome. TableTold
+        (table_calls setting.now outcome.journal) table result.0) }
+    ensures unfinished { IfErr result.1 (λ fault. Unfinished setting.now table words.old words.new
+        (L.told link.old) (L.told link.new)) }
     ensures table_left { IfErr result.1 (λ fault. TableRan table result.0) }
-    ensures strays { IsErrOf result.1 LookFault.Strays → Grows (L.told link.old) (L.told link.new) (λ events. EndsAtStray (given_of setting.now words.old) events max_strays) }
-    ensures few { IfOk result.1 (λ outcome. Grows (L.told link.old) (L.told link.new) (λ events. ¬ EndsAtStray (given_of setting.now words.old) events max_strays)) }
-    ensures few_at_fault { IsErrOf result.1 LookFault.LinkFault → Grows (L.told link.old) (L.told link.new) (λ events. ¬ EndsAtStray (given_of setting.now words.old) events max_strays) }
-    ensures link { IsErrOf result.1 LookFault.LinkFault → Rose (L.recv_faults link.old) (L.recv_faults link.new) }
+    ensures strays { IsErrOf result.1 LookFault.Strays
+        → Grows (L.told link.old) (L.told link.new)
+        (λ events. EndsAtStray (given_of setting.now words.old) events max_strays) }
+    ensures few { IfOk result.1 (λ outcome. Grows (L.told link.old) (L.told link.new)
+        (λ events. ¬ EndsAtStray (given_of setting.now words.old) events max_strays)) }
+    ensures few_at_fault { IsErrOf result.1 LookFault.LinkFault
+        → Grows (L.told link.old) (L.told link.new)
+        (λ events. ¬ EndsAtStray (given_of setting.now words.old) events max_strays) }
+    ensures link { IsErrOf result.1 LookFault.LinkFault
+        → Rose (L.recv_faults link.old) (L.recv_faults link.new) }
     ensures recv_faults { L.recv_faults link.old ≤ L.recv_faults link.new }
     ensures kept { L.kept link.new ≡ L.kept link.old }
 {
@@ -182,18 +198,32 @@ pub fn look_up<R: Threads + Wait + Sync, L: Link, C: Check + Sync>(
     requires limits { IsWithinLimits setting.now }
     requires usable { All (IsUsable setting.now.own) (contacts_of table) }
     requires place { words.old.place < 2 ^ 59 }
-    ensures lookup { IfOk result.1 (Finished setting.now table words.old words.new (L.told link.old) (L.told link.new)) }
-    ensures rounds { IfOk result.1 (λ outcome. Grows (L.told link.old) (L.told link.new) (λ events. Rounds at_once (given_of setting.now words.old) outcome.journal events)) }
-    ensures own_answers { IfOk result.1 (λ outcome. GoesByOwnAnswers (setting_of setting.now) outcome.journal) }
-    ensures gathered { IfOk result.1 (λ outcome. Grows (L.told link.old) (L.told link.new) (λ events. Gathers (given_of setting.now words.old) outcome.journal events outcome.peers outcome.tokens)) }
-    ensures none_gathered { IfOk result.1 (λ outcome. setting.now.kind ≡ AskKind.FindNode → (outcome.peers ≡ []) × (outcome.tokens ≡ [])) }
-    ensures table { IfOk result.1 (λ outcome. TableToldBy at_once (table_calls setting.now outcome.journal) table result.0) }
-    ensures unfinished { IfErr result.1 (λ fault. Unfinished setting.now table words.old words.new (L.told link.old) (L.told link.new)) }
+    ensures lookup { IfOk result.1 (Finished setting.now table words.old words.new (L.told link.old)
+        (L.told link.new)) }
+    ensures rounds { IfOk result.1 (λ outcome. Grows (L.told link.old) (L.told link.new)
+        (λ events. Rounds at_once (given_of setting.now words.old) outcome.journal events)) }
+    ensures own_answers { IfOk result.1 (λ outcome. GoesByOwnAnswers
+        (setting_of setting.now) outcome.journal) }
+    ensures gathered { IfOk result.1 (λ outcome. Grows (L.told link.old) (L.told link.new)
+        (λ events. Gathers (given_of setting.now words.old) outcome.journal events outcome.peers
+        outcome.tokens)) }
+    ensures none_gathered { IfOk result.1 (λ outcome. setting.now.kind ≡ AskKind.FindNode
+        → (outcome.peers ≡ []) × (outcome.tokens ≡ [])) }
+    ensures table { IfOk result.1 (λ outcome. TableToldBy at_once
+        (table_calls setting.now outcome.journal) table result.0) }
+    ensures unfinished { IfErr result.1 (λ fault. Unfinished setting.now table words.old words.new
+        (L.told link.old) (L.told link.new)) }
     ensures table_left { IfErr result.1 (λ fault. TableRan table result.0) }
-    ensures strays { IsErrOf result.1 LookFault.Strays → Grows (L.told link.old) (L.told link.new) (λ events. EndsAtStray (given_of setting.now words.old) events max_strays) }
-    ensures few { IfOk result.1 (λ outcome. Grows (L.told link.old) (L.told link.new) (λ events. ¬ EndsAtStray (given_of setting.now words.old) events max_strays)) }
-    ensures few_at_fault { IsErrOf result.1 LookFault.LinkFault → Grows (L.told link.old) (L.told link.new) (λ events. ¬ EndsAtStray (given_of setting.now words.old) events max_strays) }
-    ensures link { IsErrOf result.1 LookFault.LinkFault → Rose (L.recv_faults link.old) (L.recv_faults link.new) }
+    ensures strays { IsErrOf result.1 LookFault.Strays
+        → Grows (L.told link.old) (L.told link.new)
+        (λ events. EndsAtStray (given_of setting.now words.old) events max_strays) }
+    ensures few { IfOk result.1 (λ outcome. Grows (L.told link.old) (L.told link.new)
+        (λ events. ¬ EndsAtStray (given_of setting.now words.old) events max_strays)) }
+    ensures few_at_fault { IsErrOf result.1 LookFault.LinkFault
+        → Grows (L.told link.old) (L.told link.new)
+        (λ events. ¬ EndsAtStray (given_of setting.now words.old) events max_strays) }
+    ensures link { IsErrOf result.1 LookFault.LinkFault
+        → Rose (L.recv_faults link.old) (L.recv_faults link.new) }
     ensures recv_faults { L.recv_faults link.old ≤ L.recv_faults link.new }
     ensures kept { L.kept link.new ≡ L.kept link.old }
 {

@@ -28,7 +28,8 @@ fn keep_token(
     token: Option<Bytes>,
 ) -> Result<(), NoMemory>
     ensures peers { gathered.new.peers ≡ gathered.old.peers }
-    ensures tokens { OnOk result (gathered.new.tokens ≡ gathered.old.tokens ++ tokens_in contact token) }
+    ensures tokens { OnOk result (gathered.new.tokens
+        ≡ gathered.old.tokens ++ tokens_in contact token) }
 {
     match token {
         Some(token) => gathered.tokens.push(Token { contact, token }),
@@ -42,7 +43,8 @@ pub(crate) fn gather(
     contact: Contact,
     answer: Answer,
 ) -> Result<(), NoMemory>
-    ensures { OnOk result (KeepsAlso (record { contact = contact; answer = answer } ∷ []) gathered.old gathered.new) }
+    ensures { OnOk result (KeepsAlso (record { contact = contact; answer = answer } ∷ [])
+        gathered.old gathered.new) }
 {
     keep_values(&mut gathered.peers, &answer.values)?;
     keep_token(gathered, contact, answer.token)
@@ -52,7 +54,8 @@ pub(crate) fn gather(
 fn each_once<T: Ord + Drop>(items: Vec<T>) -> Vec<T>
     ensures in_order { IsStrictlySortedBy T.cmp result.items }
     ensures of_list { (x : T) → Contains result.items x → Contains items.items x }
-    ensures all { (x : T) → Contains items.items x → Any (λ y. is_eq (T.cmp x y) ≡ true) result.items }
+    ensures all { (x : T) → Contains items.items x
+        → Any (λ y. is_eq (T.cmp x y) ≡ true) result.items }
 {
     let mut items = items;
     items.sort_unstable();

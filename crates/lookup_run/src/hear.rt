@@ -81,7 +81,8 @@ pub(crate) fn lose(book: &mut Book, contact: Contact, cause: Cause)
 fn tell_heard(book: &mut Book, contact: Contact, reports: Reports) -> Result<(), NoMemory>
     requires is_open { among (open_any book.old.journal) contact ≡ true }
     requires few { length reports ≤ max_reports }
-    ensures ok { OnOk result (book.new ≡ added book.old (Heard (asker contact book.old.journal) contact reports)) }
+    ensures ok { OnOk result (book.new ≡ added book.old
+        (Heard (asker contact book.old.journal) contact reports)) }
     ensures err { OnErr result (book.new ≡ book.old) }
 {
     book.legal();

@@ -10,5 +10,7 @@ ghost use Rattle.lookup_run.specs.Rounds.{Rounds, path_by_path};
 /// One legal journal at most goes by rounds with the same events, for one setting, one generator of words and the same
 /// seeds: the events of a lookup on one thread determine what it did.
 pub fn one_journal()
-    ensures { (g : Given) (J K : List Entry) (events : List Event) → 0 < g.setting.paths → Legal g.setting J → Legal g.setting K → seeds J ≡ seeds K → Rounds path_by_path g J events → Rounds path_by_path g K events → J ≡ K }
+    ensures { (g : Given) (J K : List Entry) (events : List Event) → 0 < g.setting.paths
+        → Legal g.setting J → Legal g.setting K → seeds J ≡ seeds K → Rounds path_by_path g J events
+        → Rounds path_by_path g K events → J ≡ K }
 {}

@@ -47,7 +47,8 @@ fn round_after(receives: u32, queries: &Queries) -> u32
 fn take_stray(progress: &mut Progress) -> Result<(), LookFault>
     requires { progress.old.strays < max_strays }
     ensures ok { OnOk result (TakesStray progress.old progress.new) }
-    ensures err { IfErr result (λ fault. (fault ≡ LookFault.Strays) × (progress.old.strays + 1 ≡ max_strays)) }
+    ensures err { IfErr result (λ fault. (fault ≡ LookFault.Strays)
+        × (progress.old.strays + 1 ≡ max_strays)) }
 {
     let strays = progress.strays + 1;
     if strays == MAX_STRAYS {
@@ -100,12 +101,17 @@ pub(crate) fn receive<L: Link>(
     requires may_receive { MayReceive look.now work.old }
     requires room { length buf.old ≡ max_datagram + 1 }
     requires moment { L.moment link.old ≡ work.old.progress.moment }
-    ensures ok { OnOk result (ReceivesOne look.now work.old work.new (L.told link.old) (L.told link.new)) }
+    ensures ok { OnOk result (ReceivesOne look.now work.old work.new (L.told link.old)
+        (L.told link.new)) }
     ensures moment { OnOk result (L.moment link.new ≡ work.new.progress.moment) }
-    ensures stops { OnErr result ((words : WordsState) → Stops look.now words words work.old work.new (L.told link.old) (L.told link.new)) }
-    ensures strays { IsErrOf result LookFault.Strays → (words : WordsState) → EndsByStray look.now words work.old (L.told link.old) (L.told link.new) }
-    ensures few { IsErrOf result LookFault.LinkFault → (words : WordsState) → FewStrays look.now words work.old (L.told link.old) (L.told link.new) }
-    ensures link { IsErrOf result LookFault.LinkFault → Rose (L.recv_faults link.old) (L.recv_faults link.new) }
+    ensures stops { OnErr result ((words : WordsState)
+        → Stops look.now words words work.old work.new (L.told link.old) (L.told link.new)) }
+    ensures strays { IsErrOf result LookFault.Strays → (words : WordsState)
+        → EndsByStray look.now words work.old (L.told link.old) (L.told link.new) }
+    ensures few { IsErrOf result LookFault.LinkFault → (words : WordsState)
+        → FewStrays look.now words work.old (L.told link.old) (L.told link.new) }
+    ensures link { IsErrOf result LookFault.LinkFault
+        → Rose (L.recv_faults link.old) (L.recv_faults link.new) }
     ensures recv_faults { L.recv_faults link.old ≤ L.recv_faults link.new }
     ensures kept { L.kept link.new ≡ L.kept link.old }
 {
@@ -142,12 +148,17 @@ pub(crate) fn receive_round<L: Link>(
     requires begins { work.old.progress.receives ≡ 0 }
     requires room { length buf.old ≡ max_datagram + 1 }
     requires moment { L.moment link.old ≡ work.old.progress.moment }
-    ensures ok { OnOk result (ReceivesAll look.now work.old work.new (L.told link.old) (L.told link.new)) }
+    ensures ok { OnOk result (ReceivesAll look.now work.old work.new (L.told link.old)
+        (L.told link.new)) }
     ensures moment { OnOk result (L.moment link.new ≡ work.new.progress.moment) }
-    ensures stops { OnErr result ((words : WordsState) → Stops look.now words words work.old work.new (L.told link.old) (L.told link.new)) }
-    ensures strays { IsErrOf result LookFault.Strays → (words : WordsState) → EndsByStray look.now words work.old (L.told link.old) (L.told link.new) }
-    ensures few { IsErrOf result LookFault.LinkFault → (words : WordsState) → FewStrays look.now words work.old (L.told link.old) (L.told link.new) }
-    ensures link { IsErrOf result LookFault.LinkFault → Rose (L.recv_faults link.old) (L.recv_faults link.new) }
+    ensures stops { OnErr result ((words : WordsState)
+        → Stops look.now words words work.old work.new (L.told link.old) (L.told link.new)) }
+    ensures strays { IsErrOf result LookFault.Strays → (words : WordsState)
+        → EndsByStray look.now words work.old (L.told link.old) (L.told link.new) }
+    ensures few { IsErrOf result LookFault.LinkFault → (words : WordsState)
+        → FewStrays look.now words work.old (L.told link.old) (L.told link.new) }
+    ensures link { IsErrOf result LookFault.LinkFault
+        → Rose (L.recv_faults link.old) (L.recv_faults link.new) }
     ensures recv_faults { L.recv_faults link.old ≤ L.recv_faults link.new }
     ensures kept { L.kept link.new ≡ L.kept link.old }
 {

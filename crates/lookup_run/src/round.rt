@@ -31,13 +31,22 @@ fn ask_and_receive<L: Link>(
     requires begins { Begins look.now words.old work.old }
     requires room { length buf.old ≡ max_datagram + 1 }
     requires moment { L.moment link.old ≡ work.old.progress.moment }
-    ensures more { IfOk result (λ more. more ≡ true → HasReceived look.now words.old words.new work.old work.new (L.told link.old) (L.told link.new)) }
-    ensures over { (manner : Manner) → IfOk result (λ more. more ≡ false → IsOver manner look.now words.old words.new work.old work.new (L.told link.old) (L.told link.new)) }
+    ensures more { IfOk result (λ more. more ≡ true
+        → HasReceived look.now words.old words.new work.old work.new (L.told link.old)
+        (L.told link.new)) }
+    ensures over { (manner : Manner) → IfOk result
+        (λ more. more ≡ false → IsOver manner look.now words.old words.new work.old work.new
+        (L.told link.old) (L.told link.new)) }
     ensures moment { OnOk result (L.moment link.new ≡ work.new.progress.moment) }
-    ensures stops { (manner : Manner) → OnErr result (StopsRound manner look.now words.old words.new work.old work.new (L.told link.old) (L.told link.new)) }
-    ensures strays { (manner : Manner) → IsErrOf result LookFault.Strays → RoundEndsByStray manner look.now words.old work.old (L.told link.old) (L.told link.new) }
-    ensures few { (manner : Manner) → IsErrOf result LookFault.LinkFault → RoundFewStrays manner look.now words.old work.old (L.told link.old) (L.told link.new) }
-    ensures link { IsErrOf result LookFault.LinkFault → Rose (L.recv_faults link.old) (L.recv_faults link.new) }
+    ensures stops { (manner : Manner) → OnErr result
+        (StopsRound manner look.now words.old words.new work.old work.new (L.told link.old)
+        (L.told link.new)) }
+    ensures strays { (manner : Manner) → IsErrOf result LookFault.Strays
+        → RoundEndsByStray manner look.now words.old work.old (L.told link.old) (L.told link.new) }
+    ensures few { (manner : Manner) → IsErrOf result LookFault.LinkFault
+        → RoundFewStrays manner look.now words.old work.old (L.told link.old) (L.told link.new) }
+    ensures link { IsErrOf result LookFault.LinkFault
+        → Rose (L.recv_faults link.old) (L.recv_faults link.new) }
     ensures recv_faults { L.recv_faults link.old ≤ L.recv_faults link.new }
     ensures kept { L.kept link.new ≡ L.kept link.old }
 {
@@ -63,11 +72,18 @@ pub(crate) fn go_rounds<L: Link, C: Check>(
     requires limits { IsWithinLimits look.now }
     requires begins { Begins look.now words.old work.old }
     requires moment { L.moment link.old ≡ work.old.progress.moment }
-    ensures over { OnOk result (IsOver path_by_path look.now words.old words.new work.old work.new (L.told link.old) (L.told link.new)) }
-    ensures stops { OnErr result (StopsRound path_by_path look.now words.old words.new work.old work.new (L.told link.old) (L.told link.new)) }
-    ensures strays { IsErrOf result LookFault.Strays → RoundEndsByStray path_by_path look.now words.old work.old (L.told link.old) (L.told link.new) }
-    ensures few { IsErrOf result LookFault.LinkFault → RoundFewStrays path_by_path look.now words.old work.old (L.told link.old) (L.told link.new) }
-    ensures link { IsErrOf result LookFault.LinkFault → Rose (L.recv_faults link.old) (L.recv_faults link.new) }
+    ensures over { OnOk result (IsOver path_by_path look.now words.old words.new work.old work.new
+        (L.told link.old) (L.told link.new)) }
+    ensures stops { OnErr result (StopsRound path_by_path look.now words.old words.new work.old
+        work.new (L.told link.old) (L.told link.new)) }
+    ensures strays { IsErrOf result LookFault.Strays
+        → RoundEndsByStray path_by_path look.now words.old work.old (L.told link.old)
+        (L.told link.new) }
+    ensures few { IsErrOf result LookFault.LinkFault
+        → RoundFewStrays path_by_path look.now words.old work.old (L.told link.old)
+        (L.told link.new) }
+    ensures link { IsErrOf result LookFault.LinkFault
+        → Rose (L.recv_faults link.old) (L.recv_faults link.new) }
     ensures recv_faults { L.recv_faults link.old ≤ L.recv_faults link.new }
     ensures kept { L.kept link.new ≡ L.kept link.old }
 {
@@ -98,11 +114,16 @@ pub(crate) fn go_rounds_together<R: Threads + Wait + Sync, L: Link, C: Check + S
     requires limits { IsWithinLimits look.now }
     requires begins { Begins look.now words.old work }
     requires moment { L.moment link.old ≡ work.progress.moment }
-    ensures over { OnOk result.1 (IsOver at_once look.now words.old words.new work result.0 (L.told link.old) (L.told link.new)) }
-    ensures stops { OnErr result.1 (StopsRound at_once look.now words.old words.new work result.0 (L.told link.old) (L.told link.new)) }
-    ensures strays { IsErrOf result.1 LookFault.Strays → RoundEndsByStray at_once look.now words.old work (L.told link.old) (L.told link.new) }
-    ensures few { IsErrOf result.1 LookFault.LinkFault → RoundFewStrays at_once look.now words.old work (L.told link.old) (L.told link.new) }
-    ensures link { IsErrOf result.1 LookFault.LinkFault → Rose (L.recv_faults link.old) (L.recv_faults link.new) }
+    ensures over { OnOk result.1 (IsOver at_once look.now words.old words.new work result.0
+        (L.told link.old) (L.told link.new)) }
+    ensures stops { OnErr result.1 (StopsRound at_once look.now words.old words.new work result.0
+        (L.told link.old) (L.told link.new)) }
+    ensures strays { IsErrOf result.1 LookFault.Strays
+        → RoundEndsByStray at_once look.now words.old work (L.told link.old) (L.told link.new) }
+    ensures few { IsErrOf result.1 LookFault.LinkFault
+        → RoundFewStrays at_once look.now words.old work (L.told link.old) (L.told link.new) }
+    ensures link { IsErrOf result.1 LookFault.LinkFault
+        → Rose (L.recv_faults link.old) (L.recv_faults link.new) }
     ensures recv_faults { L.recv_faults link.old ≤ L.recv_faults link.new }
     ensures kept { L.kept link.new ≡ L.kept link.old }
 {

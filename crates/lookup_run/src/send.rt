@@ -12,7 +12,8 @@ use kad_krpc::{find_node_into, get_peers_into};
 /// Writes the lookup's query under this transaction id in front of `buf`, and answers its length.
 fn query_into(buf: &mut [u8; 160], look: &LookSetting, tx: u32) -> usize
     ensures within { result ≤ 160 }
-    ensures form { take result buf.new ≡ form (query_message look.now.kind look.now.own look.now.target tx) }
+    ensures form { take result buf.new ≡ form
+        (query_message look.now.kind look.now.own look.now.target tx) }
 {
     match look.kind {
         AskKind::FindNode => find_node_into(buf, &look.own, &look.target, tx),
@@ -27,8 +28,12 @@ pub(crate) fn send_query<L: Link>(
     contact: &Contact,
     tx: u32,
 ) -> bool
-    ensures sent { result ≡ true → Grows (L.told link.old) (L.told link.new) (λ es. es ≡ Sent contact.now.addr (form (query_message look.now.kind look.now.own look.now.target tx)) ∷ []) }
-    ensures unsent { result ≡ false → Grows (L.told link.old) (L.told link.new) (λ es. es ≡ Unsent contact.now.addr (form (query_message look.now.kind look.now.own look.now.target tx)) ∷ []) }
+    ensures sent { result ≡ true → Grows (L.told link.old) (L.told link.new)
+        (λ es. es ≡ Sent contact.now.addr (form
+        (query_message look.now.kind look.now.own look.now.target tx)) ∷ []) }
+    ensures unsent { result ≡ false → Grows (L.told link.old) (L.told link.new)
+        (λ es. es ≡ Unsent contact.now.addr (form
+        (query_message look.now.kind look.now.own look.now.target tx)) ∷ []) }
     ensures moment { L.moment link.new ≡ L.moment link.old }
     ensures recv_faults { L.recv_faults link.old ≤ L.recv_faults link.new }
     ensures kept { L.kept link.new ≡ L.kept link.old }

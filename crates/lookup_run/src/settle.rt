@@ -23,7 +23,8 @@ fn settle_path<C: Check>(
     requires keeps { Keeps look.now work.old }
     requires round_over { work.old.progress.receives ≡ 0 }
     requires settled { AllSettled path work.old.book.journal }
-    ensures ok { (manner : Manner) (told : Option (List Event)) → OnOk result (SettlesPaths manner look.now path (path + 1) work.old work.new told) }
+    ensures ok { (manner : Manner) (told : Option (List Event))
+        → OnOk result (SettlesPaths manner look.now path (path + 1) work.old work.new told) }
     ensures ran { OnErr result (TableRan work.old.table work.new.table) }
     ensures fault { IfErr result (λ fault. fault ≡ LookFault.NoMemory) }
 {
@@ -42,8 +43,11 @@ pub(crate) fn settle_paths<C: Check>(
     requires limits { IsWithinLimits look.now }
     requires keeps { Keeps look.now work.old }
     requires round_over { work.old.progress.receives ≡ 0 }
-    ensures ok { (manner : Manner) (told : Option (List Event)) → OnOk result (SettlesPaths manner look.now 0 look.now.paths work.old work.new told) }
-    ensures stops { (told : Option (List Event)) → OnErr result ((words : WordsState) → Stops look.now words words work.old work.new told told) }
+    ensures ok { (manner : Manner) (told : Option (List Event))
+        → OnOk result (SettlesPaths manner look.now 0 look.now.paths work.old work.new told) }
+    ensures stops { (told : Option (List Event))
+        → OnErr result ((words : WordsState) → Stops look.now words words work.old work.new told
+        told) }
     ensures fault { IfErr result (λ fault. fault ≡ LookFault.NoMemory) }
 {
     work.book.legal();

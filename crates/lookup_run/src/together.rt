@@ -55,8 +55,11 @@ pub(crate) fn settle_each<R: Threads + Wait + Sync, C: Check + Sync>(
     requires limits { IsWithinLimits look.now }
     requires keeps { Keeps look.now work }
     requires round_over { work.progress.receives ≡ 0 }
-    ensures ok { (told : Option (List Event)) → OnOk result.1 (SettlesPaths at_once look.now 0 look.now.paths work result.0 told) }
-    ensures stops { (told : Option (List Event)) → OnErr result.1 ((words : WordsState) → Stops look.now words words work result.0 told told) }
+    ensures ok { (told : Option (List Event))
+        → OnOk result.1 (SettlesPaths at_once look.now 0 look.now.paths work result.0 told) }
+    ensures stops { (told : Option (List Event))
+        → OnErr result.1 ((words : WordsState)
+        → Stops look.now words words work result.0 told told) }
     ensures fault { IfErr result.1 (λ fault. fault ≡ LookFault.NoMemory) }
 {
     let mut work = work;

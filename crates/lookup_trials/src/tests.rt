@@ -92,6 +92,7 @@ fn two_paths_find_what_each_learns(rt: HostRuntime) -> Result<(), Fail> {
         ..Reply::of(2, 10)
     };
     let replies = [first, second, Reply::of(3, 20), Reply::of(4, 20)];
+    let hasher = RandomState::new(&rt)?;
     let mut link = link(rt.alloc(), &replies)?;
     let (_table, outcome) = play(
         rt.alloc(),
@@ -100,7 +101,7 @@ fn two_paths_find_what_each_learns(rt: HostRuntime) -> Result<(), Fail> {
         2,
         AskKind::FindNode,
         &mut link,
-        RandomState::new(&rt)?,
+        hasher,
     )?;
     let all = [contact(1), contact(2), contact(3), contact(4)];
     assert_eq!(rt; outcome.found.as_slice(), all.as_slice());
@@ -111,6 +112,7 @@ fn two_paths_find_what_each_learns(rt: HostRuntime) -> Result<(), Fail> {
 /// A contact that fails twice leaves the table.
 #[test]
 fn the_table_is_told_who_is_silent(rt: HostRuntime) -> Result<(), Fail> {
+    let hasher = RandomState::new(&rt)?;
     let mut link = link(rt.alloc(), &[Reply::of(1, 10)])?;
     let (mut table, outcome) = play(
         rt.alloc(),
@@ -119,7 +121,7 @@ fn the_table_is_told_who_is_silent(rt: HostRuntime) -> Result<(), Fail> {
         1,
         AskKind::FindNode,
         &mut link,
-        RandomState::new(&rt)?,
+        hasher,
     )?;
     assert_eq!(rt; outcome.found.as_slice(), [contact(1)].as_slice());
     let contact = contact(2);
@@ -135,6 +137,7 @@ fn the_table_is_told_who_is_silent(rt: HostRuntime) -> Result<(), Fail> {
 
 #[test]
 fn peers_stand_once_and_tokens_with_their_contacts(rt: HostRuntime) -> Result<(), Fail> {
+    let hasher = RandomState::new(&rt)?;
     let mut link = peers_link(rt.alloc())?;
     let (_table, outcome) = play(
         rt.alloc(),
@@ -143,7 +146,7 @@ fn peers_stand_once_and_tokens_with_their_contacts(rt: HostRuntime) -> Result<()
         1,
         AskKind::GetPeers,
         &mut link,
-        RandomState::new(&rt)?,
+        hasher,
     )?;
     let peers = [peer(7000), peer(7001), peer(7002)];
     assert_eq!(rt; outcome.peers.as_slice(), peers.as_slice());

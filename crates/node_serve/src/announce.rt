@@ -31,7 +31,8 @@ pub(crate) fn put_peer(
     peer: Addr,
     at: u64,
 ) -> Result<Message, NoMemory>
-    ensures ok { IfOk result (λ m. Puts peers.old at tx own key peer (record { message = m; peers = peers.new })) }
+    ensures ok { IfOk result (λ m. Puts peers.old at tx own key peer
+        (record { message = m; peers = peers.new })) }
     ensures err { OnErr result (peers.new ≡ purged peers.old at) }
 {
     peers.purge(at);

@@ -25,7 +25,8 @@ pub(crate) struct Asked<'a> {
 /// The query of a view, where it is one with a transaction id that isn't too long.
 fn query_in<'a>(from: Addr, ip: [u8; 4], view: View<'a>) -> Option<Asked<'a>>
     requires { ip_bytes from.ip ≡ ip }
-    ensures { MatchOption result (IsNotAnswered (message_seen view.entry)) (IsOf from (message_seen view.entry)) }
+    ensures { MatchOption result (IsNotAnswered (message_seen view.entry))
+        (IsOf from (message_seen view.entry)) }
 {
     match view {
         View::Query { tx, read_only, ask } => {

@@ -9,8 +9,10 @@ ghost use Rattle.node_serve.specs.NodeState.{NodeState};
 /// A datagram has one answer, want of memory aside: its reply, and the node after it where the table is sound, as every
 /// table is.
 pub fn one_answer()
-    ensures reply { (s : NodeState) (from : Addr) (bytes : List ℕ) (at : ℕ) (m n : Message) (x y : NodeState)
+    ensures reply { (s : NodeState) (from : Addr) (bytes : List ℕ) (at : ℕ) (m n : Message)
+        (x y : NodeState)
         → AnswerOf s from bytes at m x → AnswerOf s from bytes at n y → m ≡ n }
-    ensures node { (s : NodeState) (from : Addr) (bytes : List ℕ) (at : ℕ) (m n : Message) (x y : NodeState)
+    ensures node { (s : NodeState) (from : Addr) (bytes : List ℕ) (at : ℕ) (m n : Message)
+        (x y : NodeState)
         → AnswerOf s from bytes at m x → AnswerOf s from bytes at n y → SoundTable s.table → x ≡ y }
 {}

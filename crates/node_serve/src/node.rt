@@ -152,7 +152,8 @@ impl Node {
         requires { ip_bytes asked.now.from.ip ≡ asked.now.ip }
         ensures ok { IfOk result (λ m. Announces self.old asked.now.from at tx key peer token.now
             (record { message = m; peers = self.new.peers })) }
-        ensures err { OnErr result (AnnouncesNone self.old asked.now.from at token.now self.new.peers) }
+        ensures err { OnErr result (AnnouncesNone self.old asked.now.from at token.now
+            self.new.peers) }
         ensures rest { self.new ≡ with_parts self.old self.old.table self.new.peers }
     {
         if !self.tokens.accepts(asked.ip, at, token) {
@@ -164,9 +165,11 @@ impl Node {
     /// The reply to a query, from the state before it. It changes the peers alone.
     fn reply(&mut self, asked: &Asked, at: u64) -> Result<Message, NoMemory>
         requires { ip_bytes asked.now.from.ip ≡ asked.now.ip }
-        ensures ok { IfOk result (λ m. RepliesWith self.old asked.now.from at asked.now.tx.now (ask_seen asked.now.ask)
+        ensures ok { IfOk result (λ m. RepliesWith self.old asked.now.from at asked.now.tx.now
+            (ask_seen asked.now.ask)
             (record { message = m; peers = self.new.peers })) }
-        ensures err { OnErr result (LeavesPeers self.old asked.now.from at asked.now.tx.now (ask_seen asked.now.ask) None self.new.peers) }
+        ensures err { OnErr result (LeavesPeers self.old asked.now.from at asked.now.tx.now
+            (ask_seen asked.now.ask) None self.new.peers) }
         ensures rest { self.new ≡ with_parts self.old self.old.table self.new.peers }
     {
         let tx = List::from_slice(self.alloc, asked.tx)?;
@@ -209,7 +212,8 @@ impl Node {
     ) -> Result<usize, NoMemory>
         requires ip { ip_bytes asked.now.from.ip ≡ asked.now.ip }
         requires short { length asked.now.tx.now ≤ max_answered_tx }
-        ensures ok { IfOk result (λ n. AnswersAsked self.old asked.now at (take n out.new) self.new) }
+        ensures ok { IfOk result (λ n. AnswersAsked self.old asked.now at
+            (take n out.new) self.new) }
         ensures room { IfOk result (λ n. n ≤ 4096) }
         ensures err { OnErr result (EndsAsked self.old asked.now at self.new) }
     {
@@ -228,9 +232,11 @@ impl Node {
     pub fn answer(&mut self, from: Addr, bytes: &[u8], at: u64, out: &mut [u8; 4096]) -> Answered
         ensures silent { (result ≡ Answered.Silent) ↔ IsSilent from bytes.now }
         ensures unchanged { result ≡ Answered.Silent → self.new ≡ self.old }
-        ensures reply { IfReply result (λ n. Answers self.old from bytes.now at (take n out.new) self.new) }
+        ensures reply { IfReply result (λ n. Answers self.old from bytes.now at
+            (take n out.new) self.new) }
         ensures room { IfReply result (λ n. n ≤ 4096) }
-        ensures no_memory { result ≡ Answered.NoMemory → EndsEarly self.old from bytes.now at self.new }
+        ensures no_memory { result ≡ Answered.NoMemory
+            → EndsEarly self.old from bytes.now at self.new }
     {
         match read_query(from, bytes) {
             None => Answered::Silent,

@@ -45,7 +45,8 @@ fn with_ipv4(contacts: Contacts) -> Contacts
 
 /// The nodes of a reply: the k closest of the table to the target that have an IPv4 address.
 pub(crate) fn nodes_near(table: &mut Table, target: Id, k: u8) -> Result<Contacts, NoMemory>
-    ensures list { IfOk result (λ list. list ≡ of_ipv4 (k_closest target k (contacts_of table.old))) }
+    ensures list { IfOk result (λ list. list ≡ of_ipv4
+        (k_closest target k (contacts_of table.old))) }
     ensures same { table.new ≡ table.old }
 {
     let contacts = closest(table, target, k)?;
@@ -73,7 +74,8 @@ fn kept_of(proofs: &[Report], contact: &Contact) -> Option<Report>
 
 /// Appends the kept report of the contact, where there is one.
 fn push_kept(reports: &mut Reports, proofs: &[Report], contact: &Contact) -> Result<(), NoMemory>
-    ensures { OnOk result (reports.new ≡ reports.old ++ option_to_list (kept_proof proofs.now contact.now)) }
+    ensures { OnOk result (reports.new ≡ reports.old ++ option_to_list
+        (kept_proof proofs.now contact.now)) }
 {
     match kept_of(proofs, contact) {
         Some(report) => reports.push(report),

@@ -55,8 +55,10 @@ fn send_one<L: Link>(
     tx: u32,
     token: &Token,
 ) -> Result<bool, NoMemory>
-    ensures ok { let a = announcement announced.now.own announced.now.key announced.now.port token.now in
-        IfOk result (λ sent. Grows (L.told link.old) (L.told link.new) (λ es. es ≡ tried sent a.to (asking tx a.ask) ∷ [])) }
+    ensures ok { let a = announcement announced.now.own announced.now.key announced.now.port
+        token.now in
+        IfOk result (λ sent. Grows (L.told link.old) (L.told link.new)
+        (λ es. es ≡ tried sent a.to (asking tx a.ask) ∷ [])) }
     ensures err { OnErr result (link.new ≡ link.old) }
     ensures recv_faults { L.recv_faults link.old ≤ L.recv_faults link.new }
 {
@@ -86,9 +88,12 @@ fn announce_to<L: Link>(
 ) -> Result<usize, NoMemory>
     requires { words.old.place < 2 ^ 60 }
     ensures most { IfOk result (λ sent. sent ≤ 1) }
-    ensures ok { let all = map (announcement announced.now.own announced.now.key announced.now.port) (first_from tokens.now contact.now) in
-        IfOk result (λ sent. Grows (L.told link.old) (L.told link.new) (λ es. Announces words.old.seed words.old.place all es × (sent ≡ sent_in es))) }
-    ensures drawn { OnOk result (words.new ≡ record words.old { place = words.old.place + length (first_from tokens.now contact.now) }) }
+    ensures ok { let all = map (announcement announced.now.own announced.now.key announced.now.port)
+        (first_from tokens.now contact.now) in
+        IfOk result (λ sent. Grows (L.told link.old) (L.told link.new)
+        (λ es. Announces words.old.seed words.old.place all es × (sent ≡ sent_in es))) }
+    ensures drawn { OnOk result (words.new ≡ record words.old
+        { place = words.old.place + length (first_from tokens.now contact.now) }) }
     ensures err { OnErr result (link.new ≡ link.old) }
     ensures recv_faults { L.recv_faults link.old ≤ L.recv_faults link.new }
 {
@@ -112,10 +117,14 @@ pub(crate) fn announce<L: Link>(
     tokens: &[Token],
 ) -> Result<usize, NoMemory>
     requires { words.old.place + length found.now ≤ 2 ^ 60 }
-    ensures ok { let all = announcements announced.now.own announced.now.key announced.now.port found.now tokens.now in
-        IfOk result (λ sent. Grows (L.told link.old) (L.told link.new) (λ es. Announces words.old.seed words.old.place all es × (sent ≡ sent_in es))) }
-    ensures err { let all = announcements announced.now.own announced.now.key announced.now.port found.now tokens.now in
-        OnErr result (Grows (L.told link.old) (L.told link.new) (AnnouncesSome words.old.seed words.old.place all)) }
+    ensures ok { let all = announcements announced.now.own announced.now.key announced.now.port
+        found.now tokens.now in
+        IfOk result (λ sent. Grows (L.told link.old) (L.told link.new)
+        (λ es. Announces words.old.seed words.old.place all es × (sent ≡ sent_in es))) }
+    ensures err { let all = announcements announced.now.own announced.now.key announced.now.port
+        found.now tokens.now in
+        OnErr result (Grows (L.told link.old) (L.told link.new)
+        (AnnouncesSome words.old.seed words.old.place all)) }
     ensures recv_faults { L.recv_faults link.old ≤ L.recv_faults link.new }
 {
     let mut sent = 0;

@@ -12,9 +12,11 @@ use std::alloc::Global;
 pub(crate) fn asked(alloc: Global, words: &[String]) -> Result<Command, Status>
     ensures command { IfOk result (CommandOf (bytes_of words.now)) }
     ensures usage { IfErr result (λ status. status ≡ Status.Usage → ¬ Asks (bytes_of words.now)) }
-    ensures no_memory { IfErr result (λ status. status ≡ Status.NoMemory → Asks (bytes_of words.now)) }
+    ensures no_memory { IfErr result (λ status. status ≡ Status.NoMemory
+        → Asks (bytes_of words.now)) }
     ensures plain { ¬ Asks (bytes_of words.now) → IfErr result (λ status. number_of status ≡ 2) }
-    ensures none_else { IfErr result (λ status. (status ≡ Status.Usage) ⊎ (status ≡ Status.NoMemory)) }
+    ensures none_else { IfErr result (λ status. (status ≡ Status.Usage)
+        ⊎ (status ≡ Status.NoMemory)) }
 {
     match read(alloc, words) {
         Ok(command) => Ok(command),

@@ -35,9 +35,12 @@ impl From<NoMemory> for ReadFault {
 /// Reads a source to its end, or to one byte more than an input may have.
 fn read_whole<S: Source>(alloc: Global, source: &mut S) -> Result<Bytes, ReadFault>
     ensures ok { IfOk result (ReadsAll (S.left source.old) (S.left source.new)) }
-    ensures too_long { IsErrOf result ReadFault.TooLong → ReadsTooMuch (S.left source.old) (S.left source.new) }
-    ensures source { IsErrOf result ReadFault.Source → Rose (S.faults source.old) (S.faults source.new) }
-    ensures few { IsErrOf result ReadFault.Source → ReadsFew (S.left source.old) (S.left source.new) }
+    ensures too_long { IsErrOf result ReadFault.TooLong
+        → ReadsTooMuch (S.left source.old) (S.left source.new) }
+    ensures source { IsErrOf result ReadFault.Source
+        → Rose (S.faults source.old) (S.faults source.new) }
+    ensures few { IsErrOf result ReadFault.Source
+        → ReadsFew (S.left source.old) (S.left source.new) }
     ensures faults { S.faults source.old ≤ S.faults source.new }
 {
     let mut bytes = List::new(alloc);

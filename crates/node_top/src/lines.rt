@@ -36,7 +36,8 @@ struct BadLine;
 /// with `#`; `ID A.B.C.D:PORT`; or `ID A.B.C.D:PORT KEY X`.
 pub(crate) fn read_lines(alloc: Global, bytes: &[u8]) -> Result<Reports, LinesFault>
     ensures ok { IfOk result (λ reports. Reporting (lines bytes.now) reports) }
-    ensures bad { (number : ℕ) → result ≡ Err (LinesFault.Bad number) → IsFirstBad (lines bytes.now) number }
+    ensures bad { (number : ℕ) → result ≡ Err (LinesFault.Bad number)
+        → IsFirstBad (lines bytes.now) number }
 {
     let mut reports = List::new(alloc);
     for (i, line) in bytes.split(|b| *b == b'\n').enumerate() {
@@ -80,7 +81,8 @@ fn without_return(line: &[u8]) -> &[u8]
 
 /// Reads a contact line: an identifier and an address, with or without a proof.
 fn read_contact(line: &str) -> Option<Report>
-    ensures { MatchOption result ((report : Report) → ¬ IsContactLine line.now report) (λ report. IsContactLine line.now report) }
+    ensures { MatchOption result ((report : Report) → ¬ IsContactLine line.now report)
+        (λ report. IsContactLine line.now report) }
 {
     let (id, rest) = line.split_once(' ')?;
     let id = read_id(id)?;
@@ -105,7 +107,8 @@ fn read_contact(line: &str) -> Option<Report>
 
 /// Reads the key and X of a proof, with a space between them.
 fn read_proof(text: &str) -> Option<Proof>
-    ensures { MatchOption result ((proof : Proof) → ¬ SpellsProof text.now proof) (λ proof. SpellsProof text.now proof) }
+    ensures { MatchOption result ((proof : Proof) → ¬ SpellsProof text.now proof)
+        (λ proof. SpellsProof text.now proof) }
 {
     let (key, x) = text.split_once(' ')?;
     let key = read_hex(key)?;
@@ -115,13 +118,16 @@ fn read_proof(text: &str) -> Option<Proof>
 
 /// An input tells one list of reports.
 pub(crate) fn one_reading()
-    ensures { (input : List ℕ) (a b : List Report) → Reporting (lines input) a → Reporting (lines input) b → a ≡ b }
+    ensures { (input : List ℕ) (a b : List Report) → Reporting (lines input) a
+        → Reporting (lines input) b → a ≡ b }
 {}
 
 /// An input that has a first bad line has one, and tells no list of reports.
 pub(crate) fn one_bad_line()
-    ensures one { (input : List ℕ) (m n : ℕ) → IsFirstBad (lines input) m → IsFirstBad (lines input) n → m ≡ n }
-    ensures alone { (input : List ℕ) (m : ℕ) (reports : List Report) → IsFirstBad (lines input) m → ¬ Reporting (lines input) reports }
+    ensures one { (input : List ℕ) (m n : ℕ) → IsFirstBad (lines input) m
+        → IsFirstBad (lines input) n → m ≡ n }
+    ensures alone { (input : List ℕ) (m : ℕ) (reports : List Report) → IsFirstBad (lines input) m
+        → ¬ Reporting (lines input) reports }
 {}
 
 #[cfg(test)]

@@ -20,7 +20,8 @@ use std::thread::Threads;
 /// The text of what a lookup found.
 fn text_of(alloc: Global, outcome: &Outcome) -> Result<Bytes, NoMemory>
     ensures { let counts = outcome.now.counts in
-        IfOk result (λ text. text ≡ printed outcome.now.found counts.asked counts.failed counts.turned) }
+        IfOk result (λ text. text ≡ printed outcome.now.found counts.asked counts.failed
+        counts.turned) }
 {
     let counts = outcome.counts;
     print(

@@ -10,8 +10,10 @@ use kad_base::{Failed, Sink};
 
 /// Writes the bytes, or a front of them where the sink fails.
 fn write_whole<K: Sink>(sink: &mut K, bytes: &[u8]) -> Result<(), Failed>
-    ensures ok { OnOk result (Grows (K.written sink.old) (K.written sink.new) (λ added. added ≡ bytes.now)) }
-    ensures err { OnErr result (Grows (K.written sink.old) (K.written sink.new) (λ added. IsFront added bytes.now)) }
+    ensures ok { OnOk result (Grows (K.written sink.old) (K.written sink.new)
+        (λ added. added ≡ bytes.now)) }
+    ensures err { OnErr result (Grows (K.written sink.old) (K.written sink.new)
+        (λ added. IsFront added bytes.now)) }
     ensures writes { Writes bytes.now (shown K.written K.faults sink.old sink.new) }
     ensures faults { K.faults sink.old ≤ K.faults sink.new }
     ensures failed { OnErr result (Rose (K.faults sink.old) (K.faults sink.new)) }

@@ -35,10 +35,14 @@ fn announce_told<L: Link>(
     outcome: &Outcome,
 ) -> Result<usize, NoMemory>
     requires { words.old.place + length outcome.now.found ≤ 2 ^ 60 }
-    ensures ok { let all = owed port (own_of look.now.own random.now) look.now.target outcome.now.found outcome.now.tokens in
-        IfOk result (λ sent. Grows (L.told link.old) (L.told link.new) (λ es. Announces words.old.seed words.old.place all es × (sent ≡ sent_in es))) }
-    ensures err { let all = owed port (own_of look.now.own random.now) look.now.target outcome.now.found outcome.now.tokens in
-        OnErr result (Grows (L.told link.old) (L.told link.new) (AnnouncesSome words.old.seed words.old.place all)) }
+    ensures ok { let all = owed port (own_of look.now.own random.now) look.now.target
+        outcome.now.found outcome.now.tokens in
+        IfOk result (λ sent. Grows (L.told link.old) (L.told link.new)
+        (λ es. Announces words.old.seed words.old.place all es × (sent ≡ sent_in es))) }
+    ensures err { let all = owed port (own_of look.now.own random.now) look.now.target
+        outcome.now.found outcome.now.tokens in
+        OnErr result (Grows (L.told link.old) (L.told link.new)
+        (AnnouncesSome words.old.seed words.old.place all)) }
     ensures recv_faults { L.recv_faults link.old ≤ L.recv_faults link.new }
 {
     let Some(port) = port else {

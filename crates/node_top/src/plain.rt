@@ -31,7 +31,8 @@ pub(crate) fn plain_output_of<S: Source, C: Check>(
     ensures cause { IfErr result (HasPlainCause (bytes_of words.now) random.now
         (shown S.left S.faults source.old source.new)) }
     ensures unread { IfErr result (λ status. number_of status ≡ 2 → source.new ≡ source.old) }
-    ensures plain { ¬ AsksPlain (bytes_of words.now) → IfErr result (λ status. number_of status ≡ 2) }
+    ensures plain { ¬ AsksPlain (bytes_of words.now)
+        → IfErr result (λ status. number_of status ≡ 2) }
     ensures no_input { ¬ ReadsInput (bytes_of words.now) → source.new ≡ source.old }
 {
     if takes_link(words) {
@@ -122,7 +123,8 @@ pub fn run_plain<S: Source, K: Sink, C: Check>(
         AsksPlain (bytes_of words.now) → IsTold input → ¬ HasFailed input → HasBadLine input
         → OrNoMemory result 3 }
     ensures unminted_comes { HasNothing (bytes_of words.now) random.now → OrNoMemory result 10 }
-    ensures too_long_comes { S.left source.new ≢ None → ReadsTooMuch (S.left source.old) (S.left source.new)
+    ensures too_long_comes { S.left source.new ≢ None
+        → ReadsTooMuch (S.left source.old) (S.left source.new)
         → OrNoMemory result 11 }
 
     // With what it needs, and no failure, a command is done, want of memory aside.
@@ -142,7 +144,8 @@ pub fn run_plain<S: Source, K: Sink, C: Check>(
     // The source was not called at 2, nor for a command that reads no input.
     ensures unread { result ≡ 2 → source.new ≡ source.old }
     ensures no_input { ¬ ReadsInput (bytes_of words.now) → source.new ≡ source.old }
-    ensures by_command { AsksPlain (bytes_of words.now) → EndsByCommand (bytes_of words.now) result }
+    ensures by_command { AsksPlain (bytes_of words.now)
+        → EndsByCommand (bytes_of words.now) result }
     ensures statuses { (result ≤ 11) × (result ≢ 1) × (result ≢ 4) × (result ≢ 7) × (result ≢ 8) }
 {
     match plain_output_of(alloc, words, source, random, check, hasher) {

@@ -60,7 +60,8 @@ pub(crate) fn print_peers(
     announced: usize,
 ) -> Result<Bytes, NoMemory>
     ensures { let c = counts.now in
-        IfOk result (λ text. text ≡ printed_peers peers.now found c.asked c.failed c.turned announced) }
+        IfOk result (λ text. text ≡ printed_peers peers.now found c.asked c.failed c.turned
+        announced) }
 {
     let mut output = List::new(alloc);
     for peer in peers {
@@ -85,7 +86,8 @@ fn print_peer_counts(
     announced: usize,
 ) -> Result<String, AllocError>
     ensures { let c = counts.now in
-        IfOk result (λ text. string_bytes text ≡ peers_text peers found c.asked c.failed c.turned announced) }
+        IfOk result (λ text. string_bytes text
+        ≡ peers_text peers found c.asked c.failed c.turned announced) }
 {
     let counts = print_counts(alloc, found, counts.asked, counts.failed, counts.turned)?;
     format!(in alloc; "peers {peers} {counts} announced {announced}")
@@ -145,6 +147,7 @@ fn print_groups(alloc: Global, bytes: [u8; 16]) -> Result<String, AllocError>
 
 /// A contact of IPv4 as it is printed is a contact line that names it.
 pub(crate) fn reads_back()
-    ensures { (contact : Contact) → length contact.id.0 ≡ 20 → IsBytes contact.id.0 → IsV4 contact.addr.ip → contact.addr.port < 2 ^ 16
+    ensures { (contact : Contact) → length contact.id.0 ≡ 20 → IsBytes contact.id.0
+        → IsV4 contact.addr.ip → contact.addr.port < 2 ^ 16
         → IsContactLine (contact_text contact) (record { contact = contact; proof = None }) }
 {}

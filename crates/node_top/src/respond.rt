@@ -24,7 +24,8 @@ pub(crate) struct Server {
 
 /// Sends the reply; false where the link refused it.
 fn send<L: Link>(link: &mut L, to: Addr, reply: &[u8]) -> bool
-    ensures sent { Grows (L.told link.old) (L.told link.new) (λ es. es ≡ tried result to reply.now ∷ []) }
+    ensures sent { Grows (L.told link.old) (L.told link.new)
+        (λ es. es ≡ tried result to reply.now ∷ []) }
     ensures recv_faults { L.recv_faults link.old ≤ L.recv_faults link.new }
 {
     match link.send(to, reply) {
@@ -43,7 +44,8 @@ fn respond<L: Link>(
     out: &mut [u8; MAX_DATAGRAM],
 ) -> Result<u32, NoMemory>
     ensures most { IfOk result (λ sent. sent ≤ 1) }
-    ensures ok { IfOk result (λ sent. Grows (L.told link.old) (L.told link.new) (RespondsWith node.old from bytes.now at sent node.new)) }
+    ensures ok { IfOk result (λ sent. Grows (L.told link.old) (L.told link.new)
+        (RespondsWith node.old from bytes.now at sent node.new)) }
     ensures err { OnErr result (EndsEarly node.old from bytes.now at node.new) }
     ensures still { OnErr result (link.new ≡ link.old) }
     ensures recv_faults { L.recv_faults link.old ≤ L.recv_faults link.new }
@@ -68,8 +70,10 @@ fn receive<L: Link>(
     ensures room { length room.new ≡ 4097 }
     ensures few { OnOk result (server.new.received ≤ server.old.received + 1) }
     ensures fewer { OnOk result (server.new.replied ≤ server.new.received) }
-    ensures ok { OnOk result (Grows (L.told link.old) (L.told link.new) (ReceivesOne server.old server.new)) }
-    ensures stops { IfErr result (λ status. Stops status (serve_state server.old) (L.recv_faults link.old) (L.recv_faults link.new) (L.told link.old) (L.told link.new)) }
+    ensures ok { OnOk result (Grows (L.told link.old) (L.told link.new)
+        (ReceivesOne server.old server.new)) }
+    ensures stops { IfErr result (λ status. Stops status (serve_state server.old)
+        (L.recv_faults link.old) (L.recv_faults link.new) (L.told link.old) (L.told link.new)) }
     ensures recv_faults { L.recv_faults link.old ≤ L.recv_faults link.new }
 {
     let until = server.moment.saturating_add(PATIENCE);
@@ -100,8 +104,10 @@ pub(crate) fn receive_all<L: Link>(
     receives: u32,
 ) -> Result<(), Status>
     requires none { (server.old.received ≡ 0) × (server.old.replied ≡ 0) }
-    ensures ok { OnOk result (Grows (L.told link.old) (L.told link.new) (ReceivesAll receives server.old server.new)) }
-    ensures stops { IfErr result (λ status. StopsAll status (serve_state server.old) receives (L.recv_faults link.old) (L.recv_faults link.new) (L.told link.old) (L.told link.new)) }
+    ensures ok { OnOk result (Grows (L.told link.old) (L.told link.new)
+        (ReceivesAll receives server.old server.new)) }
+    ensures stops { IfErr result (λ status. StopsAll status (serve_state server.old) receives
+        (L.recv_faults link.old) (L.recv_faults link.new) (L.told link.old) (L.told link.new)) }
     ensures recv_faults { L.recv_faults link.old ≤ L.recv_faults link.new }
 {
     let mut room = [0u8; RECEIVE_ROOM];

@@ -37,7 +37,8 @@ pub(crate) fn read_contacts<S: Source, C: Check>(
 ) -> Result<Contacts, Status>
     ensures ok { IfOk result (Reads own.now policy (shown S.left S.faults source.old source.new)) }
     ensures some_one { IfOk result (λ contacts. contacts ≢ []) }
-    ensures cause { IfErr result (InputCause own.now policy (shown S.left S.faults source.old source.new)) }
+    ensures cause { IfErr result (InputCause own.now policy
+        (shown S.left S.faults source.old source.new)) }
     ensures faults { S.faults source.old ≤ S.faults source.new }
 {
     let reports = read_reports(alloc, source)?;

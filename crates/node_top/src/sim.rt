@@ -50,7 +50,8 @@ fn look_to(target: Id, simulation: &Simulation) -> LookWords
 /// The first nodes of the network, as reports without a proof.
 fn first_nodes(alloc: Global, net: &SimNet, count: u32) -> Result<Reports, NoMemory>
     requires { count ≤ net.now.network.count }
-    ensures { IfOk result (λ reports. reports ≡ map (report_of net.now.network.seed) (numbers count)) }
+    ensures { IfOk result (λ reports. reports ≡ map (report_of net.now.network.seed)
+        (numbers count)) }
 {
     let mut reports = List::new(alloc);
     for i in 0..count {
@@ -103,7 +104,8 @@ fn print_counts(
 fn line_for(alloc: Global, outcome: &Outcome, near: &[Contact]) -> Result<Bytes, NoMemory>
     ensures { let counts = outcome.now.counts in
         let found = outcome.now.found in
-        IfOk result (λ text. text ≡ line_of (sim_text (length found) counts.asked counts.failed counts.turned (count_among near.now found))) }
+        IfOk result (λ text. text ≡ line_of (sim_text
+        (length found) counts.asked counts.failed counts.turned (count_among near.now found))) }
 {
     let counts = outcome.counts;
     let found = outcome.found.as_slice();

@@ -190,7 +190,8 @@ pub fn run<R: Threads + Wait + Sync, S: Source, K: Sink, L: Link, C: Check + Syn
     ensures strays_come { let told = shown L.told L.recv_faults link.old link.new in
         IsTold told → HasStrays (bytes_of words.now) random.now told → OrNoMemory result 7 }
     ensures unminted_comes { HasNothing (bytes_of words.now) random.now → OrNoMemory result 10 }
-    ensures too_long_comes { S.left source.new ≢ None → ReadsTooMuch (S.left source.old) (S.left source.new)
+    ensures too_long_comes { S.left source.new ≢ None
+        → ReadsTooMuch (S.left source.old) (S.left source.new)
         → OrNoMemory result 11 }
 
     // With what it needs, and no failure, a command is done, want of memory aside.

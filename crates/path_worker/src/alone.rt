@@ -43,8 +43,10 @@ fn settle_first<C: Check>(
 ) -> Result<bool, NoMemory>
     requires path { path < max_paths }
     requires policy { policy ≡ book.old.setting.policy }
-    ensures some { IfOk result (λ some. some ≡ true → SettlesOne path book.old book.new table.old table.new) }
-    ensures none { IfOk result (λ some. some ≡ false → IsSettled path book.old book.new table.old table.new) }
+    ensures some { IfOk result (λ some. some ≡ true
+        → SettlesOne path book.old book.new table.old table.new) }
+    ensures none { IfOk result (λ some. some ≡ false
+        → IsSettled path book.old book.new table.old table.new) }
     ensures err { OnErr result (IsStuck path book.old book.new table.old table.new) }
 {
     match book.apply(path + 1, BookCall::Pull) {

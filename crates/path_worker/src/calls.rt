@@ -19,7 +19,8 @@ pub(crate) fn pull<R: Wait>(rt: &R, turn: &Turn<Book>, pass: &mut Pass<Book>) ->
     ensures turn { pass.new.turn ≡ pass.old.turn }
     ensures role { pass.new.role ≡ pass.old.role }
     ensures run { IsRun BookMay BookStep book_after turn.now.start pass.new.seen }
-    ensures step { PullStep (left_by book_after turn.now.start pass.new.seen).journal (path_of_role pass.new.role) result }
+    ensures step { PullStep (left_by book_after turn.now.start pass.new.seen).journal
+        (path_of_role pass.new.role) result }
     ensures mine { mine pass.new ≡ mine pass.old ++ made pass.old.role BookCall.Pull result ∷ [] }
 {
     turn.call(rt, pass, BookCall::Pull)
@@ -34,7 +35,8 @@ pub(crate) fn note<R: Wait>(rt: &R, turn: &Turn<Book>, pass: &mut Pass<Book>, co
     ensures turn { pass.new.turn ≡ pass.old.turn }
     ensures role { pass.new.role ≡ pass.old.role }
     ensures run { IsRun BookMay BookStep book_after turn.now.start pass.new.seen }
-    ensures mine { mine pass.new ≡ mine pass.old ++ made pass.old.role (BookCall.Note contact) BookReply.Kept ∷ [] }
+    ensures mine { mine pass.new ≡ mine pass.old ++ made pass.old.role
+        (BookCall.Note contact) BookReply.Kept ∷ [] }
 {
     turn.call(rt, pass, BookCall::Note { contact });
 }
@@ -54,7 +56,8 @@ pub(crate) fn settle<R: Wait>(
     ensures turn { pass.new.turn ≡ pass.old.turn }
     ensures role { pass.new.role ≡ pass.old.role }
     ensures run { IsRun BookMay BookStep book_after turn.now.start pass.new.seen }
-    ensures mine { mine pass.new ≡ mine pass.old ++ made pass.old.role (BookCall.Settle checked) result ∷ [] }
+    ensures mine { mine pass.new ≡ mine pass.old ++ made pass.old.role
+        (BookCall.Settle checked) result ∷ [] }
     ensures outcome { IsOutcome result }
 {
     turn.call(rt, pass, BookCall::Settle { checked })

@@ -41,7 +41,8 @@ pub(crate) fn deal(
 )
     requires few { paths ≤ max_paths }
     requires books { book_row.old.passes ≡ map (fresh books.now.id) (range_with_len 0 (paths + 1)) }
-    requires tables { table_row.old.passes ≡ map (fresh tables.now.id) (range_with_len 0 (paths + 1)) }
+    requires tables { table_row.old.passes ≡ map (fresh tables.now.id)
+        (range_with_len 0 (paths + 1)) }
     requires empty { crew.old.items ≡ [] }
     requires room { paths ≤ vec_capacity crew.old }
     requires policy { policy ≡ books.now.start.setting.policy }

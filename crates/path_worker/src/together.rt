@@ -42,7 +42,8 @@ fn work<R: Threads + Wait + Sync, C: Check + Sync>(
     requires room { paths ≤ vec_capacity crew }
     ensures books { AreAll books.now book_row.new.passes }
     ensures tables { AreAll tables.now table_row.new.passes }
-    ensures back { CameBack books.now tables.now policy paths book_row.new.passes table_row.new.passes result }
+    ensures back { CameBack books.now tables.now policy paths book_row.new.passes
+        table_row.new.passes result }
 {
     deal(books, tables, book_row, table_row, policy, paths, &mut crew);
     burst_all(rt, books, tables, check, &mut crew);

@@ -74,9 +74,13 @@ impl Worker {
         requires front { Pulled book.now.start self.old.book (Responder contact) }
         ensures same { SameHand self.old self.new }
         ensures run { IsRun BookMay BookStep book_after book.now.start self.new.book.seen }
-        ensures noted { IfOk result (λ u. mine self.new.book ≡ mine self.old.book ++ made self.old.book.role (BookCall.Note contact) BookReply.Kept ∷ []) }
+        ensures noted { IfOk result (λ u. mine self.new.book
+            ≡ mine self.old.book ++ made self.old.book.role
+            (BookCall.Note contact) BookReply.Kept ∷ []) }
         ensures told { IfOk result (λ u. ToldOf contact self.old.table self.new.table) }
-        ensures stopped { IfErr result (λ e. (self.new.book ≡ self.old.book) × (mine self.new.table ≡ mine self.old.table ++ made self.old.table.role (TableCall.Seen contact) TableReply.NoMemory ∷ [])) }
+        ensures stopped { IfErr result (λ e. (self.new.book ≡ self.old.book)
+            × (mine self.new.table ≡ mine self.old.table ++ made self.old.table.role
+            (TableCall.Seen contact) TableReply.NoMemory ∷ [])) }
     {
         let reply = table.call(rt, &mut self.table, TableCall::Seen { contact });
         if let TableReply::NoMemory = reply {
@@ -115,8 +119,10 @@ impl Worker {
         requires opened { IsOpened book.now.start }
         ensures same { SameHand self.old self.new }
         ensures run { IsRun BookMay BookStep book_after book.now.start self.new.book.seen }
-        ensures done { IfOk result (λ more. MatchBool more (DidOne self.old self.new) (FoundNothing self.old self.new)) }
-        ensures idle { IfOk result (λ more. more ≡ false → HasSettled book.now.start self.new.book) }
+        ensures done { IfOk result (λ more. MatchBool more (DidOne self.old self.new)
+            (FoundNothing self.old self.new)) }
+        ensures idle { IfOk result (λ more. more ≡ false
+            → HasSettled book.now.start self.new.book) }
         ensures stopped { IfErr result (λ e. FoundNoMemory self.old self.new) }
     {
         match pull(rt, book, &mut self.book) {

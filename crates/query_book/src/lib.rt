@@ -93,7 +93,8 @@ impl Queries {
     /// Opens a query, and answers its transaction id: the first from `word` on, wrapping, that no open query has.
     pub fn open(&mut self, word: u32, contact: Contact, deadline: u64) -> Result<u32, Full>
         requires { All (λ q. q.deadline ≤ deadline) self.old }
-        ensures opened { IfOk result (λ tx. self.new ≡ self.old ++ record { tx = tx; contact = contact; deadline = deadline } ∷ []) }
+        ensures opened { IfOk result (λ tx. self.new
+            ≡ self.old ++ record { tx = tx; contact = contact; deadline = deadline } ∷ []) }
         ensures id { IfOk result (IsFirstFree self.old word) }
         ensures full { IsErr result ↔ (length self.old ≡ max_open) }
         ensures err { OnErr result (self.new ≡ self.old) }
@@ -112,7 +113,8 @@ impl Queries {
 
     /// Whom the query with that transaction id was sent to, if that is who answers.
     pub fn find(&self, tx: u32, from: Addr) -> Option<Contact>
-        ensures some { IfSome result (λ contact. Any (λ q. IsOf tx from q × (q.contact ≡ contact)) self.now) }
+        ensures some { IfSome result (λ contact. Any
+            (λ q. IsOf tx from q × (q.contact ≡ contact)) self.now) }
         ensures none { IsNone result ↔ All (λ q. ¬ IsOf tx from q) self.now }
     {
         let place = search::position(self.queries.as_slice(), tx, &from)?;

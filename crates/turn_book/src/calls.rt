@@ -29,7 +29,8 @@ fn take<S: Serial, R: Wait, J: Opened<S>>(
     requires idle { IsIdle role seat.old.me }
     ensures same { (seat.new.table_id ≡ seat.old.table_id) × (seat.new.id ≡ seat.old.id) }
     ensures busy { IsBusy S.may S.step S.after board.now.shared.key.state.value role seat.new.me }
-    ensures run { IsPrefix (seen_by seat.old.me) (seen_by seat.new.me) × (calls_of role (seen_by seat.old.me) ≡ calls_of role (seen_by seat.new.me)) }
+    ensures run { IsPrefix (seen_by seat.old.me) (seen_by seat.new.me)
+        × (calls_of role (seen_by seat.old.me) ≡ calls_of role (seen_by seat.new.me)) }
     ensures room { 2 * length (seen_by seat.new.me) < 2 ^ 63 }
 {
     let backoff = Backoff::new();
@@ -56,7 +57,8 @@ fn work<S: Serial>(board: &Board<S>, seat: &mut BoardSeat<S>, role: u8, call: S:
     requires may { S.may role call }
     ensures same { (seat.new.table_id ≡ seat.old.table_id) × (seat.new.id ≡ seat.old.id) }
     ensures view { seat.new.me.0 ≡ seat.old.me.0 }
-    ensures ready { IsReady S.may S.step S.after board.now.shared.key.state.value role call result seat.new.me }
+    ensures ready { IsReady S.may S.step S.after board.now.shared.key.state.value role call result
+        seat.new.me }
 {
     seat.slot_mut(&board.shared, 0).apply(role, call)
 }
@@ -74,10 +76,15 @@ fn give<S: Serial, J: Noted<S::Call, S::Reply>>(
     requires own { seat.old.table_id ≡ board.now.shared.table_id }
     requires picked { J.made ≡ Some (made role call.now.value reply.now) }
     requires may { S.may role call.now.value }
-    requires ready { IsReady S.may S.step S.after board.now.shared.key.state.value role call.now.value reply.now seat.old.me }
+    requires ready { IsReady S.may S.step S.after board.now.shared.key.state.value role
+        call.now.value reply.now seat.old.me }
     requires room { 2 * length (seen_by seat.old.me) < 2 ^ 63 }
     ensures same { (seat.new.table_id ≡ seat.old.table_id) × (seat.new.id ≡ seat.old.id) }
-    ensures given { seat.new.me ≡ (view (part role (seen_by seat.old.me ++ made role call.now.value reply.now ∷ []) ∷ []) false, []) }
+    ensures given { seat.new.me ≡ (
+      view (part role
+          (seen_by seat.old.me ++ made role call.now.value reply.now ∷ []) ∷ []) false,
+      [],
+    ) }
 {
     let _ = call;
     let _ = reply;
@@ -100,7 +107,8 @@ pub(crate) fn call_at<S: Serial, R: Wait>(
     requires may { S.may role call }
     ensures same { (seat.new.table_id ≡ seat.old.table_id) × (seat.new.id ≡ seat.old.id) }
     ensures idle { IsIdle role seat.new.me }
-    ensures called { Called S.may S.step S.after board.now.shared.key.state.value role call result (seen_by seat.old.me) (seen_by seat.new.me) }
+    ensures called { Called S.may S.step S.after board.now.shared.key.state.value role call result
+        (seen_by seat.old.me) (seen_by seat.new.me) }
     ensures room { length (seen_by seat.new.me) ≤ 2 ^ 62 }
 {
     let asked = Snapshot::of(&call);

@@ -32,7 +32,8 @@ pub(crate) fn deal<S: Serial>(
     requires seat { seat.me ≡ (newcomer roles, []) }
     requires list { list.old.items ≡ [] }
     requires room { roles ≤ vec_capacity list.old }
-    ensures passes { list.new.items ≡ map (fresh board.now.shared.table_id) (range_with_len 0 roles) }
+    ensures passes { list.new.items ≡ map (fresh board.now.shared.table_id)
+        (range_with_len 0 roles) }
     ensures room { roles ≤ vec_capacity list.new }
 {
     for role in 0..roles {

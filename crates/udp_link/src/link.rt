@@ -49,7 +49,11 @@ impl<'a, R: Clock + Net> UdpLink<'a, R> {
     /// Fails where the system binds no socket to the address, or its clock can't be read. A process that was started
     /// with standard input closed fails too: the socket would have its place, and datagrams be read as the input.
     pub fn bind(rt: &'a R, addr: Addr) -> Result<Self, Failed>
-        ensures { IfOk result (λ link. link ≡ record { moment = 0; send_faults = 0; recv_faults = 0 }) }
+        ensures { IfOk result (λ link. link ≡ record {
+          moment = 0;
+          send_faults = 0;
+          recv_faults = 0;
+        }) }
     {
         let socket = UdpSocket::bind(rt, socket_addr(addr)).map_err(|_| Failed)?;
         if socket.as_raw_fd() == STANDARD_INPUT {
@@ -80,7 +84,8 @@ impl<'a, R: Clock> UdpLink<'a, R> {
 
     /// Asks the socket once, for the time that is left; `None` where the system ended the wait before its time.
     fn ask(&mut self, buf: &mut [u8], until: u64) -> io::Result<Option<Came>>
-        ensures came { IfOk result (λ asked. IfSome asked (λ came. Arrives came until self.old.moment (length buf.old))) }
+        ensures came { IfOk result (λ asked. IfSome asked
+            (λ came. Arrives came until self.old.moment (length buf.old))) }
         ensures ends { IfOk result (λ asked. IfSome asked (λ came. came_at came < 2 ^ 62)) }
         ensures same { self.new ≡ self.old }
     {

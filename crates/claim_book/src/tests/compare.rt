@@ -103,7 +103,8 @@ pub(super) fn seeds(
     contacts: &[Contact],
 ) -> Result<Contacts, NoMemory>
     ensures few { IfOk result (λ found. length found ≤ setting.now.k) }
-    ensures in_order { IfOk result (λ found. IsStrictlySortedBy (closeness setting.now.target) found) }
+    ensures in_order { IfOk result (λ found. IsStrictlySortedBy
+        (closeness setting.now.target) found) }
 {
     match k_least(alloc, &setting.target, setting.k, contacts) {
         Ok(found) => Ok(found),

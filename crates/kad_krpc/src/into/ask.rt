@@ -19,7 +19,8 @@ fn put_announced(
     port: Port,
     token: &[u8],
 ) -> usize
-    ensures { Puts buf.old buf.new at (text_of (value.Dict (announced id.now info_hash.now port token.now))) result }
+    ensures { Puts buf.old buf.new at (text_of
+        (value.Dict (announced id.now info_hash.now port token.now))) result }
 {
     match port {
         Port::Given(number) => {
@@ -42,7 +43,8 @@ fn put_announced(
 
 /// Puts the arguments that are an identifier.
 fn put_one_id(buf: &mut [u8], at: usize, id: &Id) -> usize
-    ensures { Puts buf.old buf.new at (text_of (value.Dict (pair (codes "id") (value.Text id.now.0)))) result }
+    ensures { Puts buf.old buf.new at (text_of
+        (value.Dict (pair (codes "id") (value.Text id.now.0)))) result }
 {
     let at = put_id(buf, at, id);
     put_part(buf, at, b"e")
@@ -50,7 +52,9 @@ fn put_one_id(buf: &mut [u8], at: usize, id: &Id) -> usize
 
 /// Puts the arguments that are two identifiers, under `id` and a key after it.
 fn put_two_ids(buf: &mut [u8], at: usize, id: &Id, key: &[u8], other: &Id) -> usize
-    ensures { Puts buf.old buf.new at (text_of (value.Dict (pair (codes "id") (value.Text id.now.0) ++ pair key.now (value.Text other.now.0)))) result }
+    ensures { Puts buf.old buf.new at (text_of
+        (value.Dict (pair (codes "id") (value.Text id.now.0) ++ pair key.now
+        (value.Text other.now.0)))) result }
 {
     let at = put_id(buf, at, id);
     let at = put_text(buf, at, key, &other.0);

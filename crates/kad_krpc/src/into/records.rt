@@ -173,7 +173,8 @@ fn put_peer(buf: &mut [u8], at: usize, peer: &Addr) -> usize
 /// Puts the strings of peers, one after another.
 fn put_each_peer(buf: &mut [u8], from: usize, peers: &[Addr]) -> usize
     requires { from ≤ length buf.old + 1 }
-    ensures { Puts buf.old buf.new from (flat_map (λ peer. string_text (addr_bytes peer)) peers.now) result }
+    ensures { Puts buf.old buf.new from (flat_map (λ peer. string_text (addr_bytes peer)) peers.now)
+        result }
 {
     let mut at = from;
     for peer in peers {

@@ -103,8 +103,8 @@ fn two_checks_run_at_once(rt: HostRuntime) -> Result<(), Fail> {
         third_saw: AtomicBool::new(false),
         fourth_saw: AtomicBool::new(false),
     };
-    let mut link = two_answers(rt.alloc(), 3, 4)?;
     let hasher = RandomState::new(&rt)?;
+    let mut link = two_answers(rt.alloc(), 3, 4)?;
     let (_table, _result) = play(&rt, rt.alloc(), &[1, 2], 2, &mut link, &meeting, hasher)?;
     assert!(rt; meeting.third_saw.load(Ordering::SeqCst));
     assert!(rt; meeting.fourth_saw.load(Ordering::SeqCst));
@@ -125,8 +125,8 @@ fn found(ended: Result<Outcome, LookFault>) -> Result<(Outcome, u32), Fail> {
 /// Both paths learn contact 3, which is asked once, whichever worker was first.
 #[test]
 fn one_of_two_paths_takes_what_both_learn(rt: HostRuntime) -> Result<(), Fail> {
-    let mut link = two_answers(rt.alloc(), 3, 3)?;
     let hasher = RandomState::new(&rt)?;
+    let mut link = two_answers(rt.alloc(), 3, 3)?;
     let (_table, result) = play(&rt, rt.alloc(), &[1, 2], 2, &mut link, &Sha1Check, hasher)?;
     let (outcome, asked) = found(result)?;
     let all = [contact(1), contact(2), contact(3)];
@@ -138,11 +138,11 @@ fn one_of_two_paths_takes_what_both_learn(rt: HostRuntime) -> Result<(), Fail> {
 /// The same, path by path.
 #[test]
 fn one_of_two_paths_takes_it_alone(rt: HostRuntime) -> Result<(), Fail> {
+    let hasher = RandomState::new(&rt)?;
     let mut link = two_answers(rt.alloc(), 3, 3)?;
     let table = table_of(rt.alloc(), OWN, &[1, 2])?;
     let look = setting(OWN, 2, AskKind::FindNode);
     let mut words = Words::new(&[0; 32], 5);
-    let hasher = RandomState::new(&rt)?;
     let (_table, result) = look_up_alone(
         rt.alloc(),
         &mut link,
@@ -171,9 +171,9 @@ fn eight_paths_settle_at_once(rt: HostRuntime) -> Result<(), Fail> {
         Reply::of(6, 10),
         Reply::of(7, 10),
     ];
+    let hasher = RandomState::new(&rt)?;
     let mut link = link(rt.alloc(), &replies)?;
     let contacts = [1, 2, 3, 4, 5, 6, 7, 8];
-    let hasher = RandomState::new(&rt)?;
     let (mut table, result) = play(&rt, rt.alloc(), &contacts, 8, &mut link, &Sha1Check, hasher)?;
     let (outcome, asked) = found(result)?;
     assert_eq!(rt; outcome.found.len(), 7);
@@ -200,8 +200,8 @@ fn a_failing_receive_ends_it(rt: HostRuntime) -> Result<(), Fail> {
         node: Some(4),
         ..Reply::of(2, 10)
     };
-    let mut link = failing_link(rt.alloc(), &[first, second], &[], &[2])?;
     let hasher = RandomState::new(&rt)?;
+    let mut link = failing_link(rt.alloc(), &[first, second], &[], &[2])?;
     let (_table, result) = play(&rt, rt.alloc(), &[1, 2], 2, &mut link, &Sha1Check, hasher)?;
     assert!(rt; matches!(result, Err(LookFault::LinkFault)));
     Ok(())
