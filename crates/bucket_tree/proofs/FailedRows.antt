@@ -5,7 +5,7 @@ use Rattle.std.proofs.lemmas.List.{append_assoc}
 use Rattle.std.proofs.lemmas.List.Elements.{All-append}
 use Rattle.kad_base.specs.declared.plain.Id.{Id}
 use Rattle.kad_base.specs.Contacts.{same, among}
-use Rattle.bucket_tree.specs.declared.plain.Entry.{Entry}
+use Rattle.bucket_tree.specs.declared.plain.Live.{Live}
 use Rattle.kad_base.specs.declared.plain.Contact.{Contact}
 use Rattle.bucket_tree.specs.declared.plain.Gone.{Gone}
 use Rattle.bucket_tree.specs.declared.plain.Gone.TheVariants.{Kept, Removed, Replaced, Unknown}
@@ -55,7 +55,7 @@ high_fails c gone node a low b high child new e f s = record {
 -- the law of one row as the law of all: where the contact isn't live in its own row, it is in none
 pub fails_there : (own : Id) (k b : ℕ) (c : Contact) (rows after : List RowState) (gone : Gone) → SoundRows own k b rows → InItsRow c gone rows after → FailedStep c rows gone after
 fails_there own k b c rows after Unknown s i =
-    let unknown : among (live_in i.row) c ≡ false = any-map contact_of (same c) i.row.live ∙ find-none (λ (e : Entry). same c e.contact) i.row.live i.step.0 in
+    let unknown : among (live_in i.row) c ≡ false = any-map contact_of (same c) i.row.live ∙ find-none (λ (e : Live). same c e.contact) i.row.live i.step.0 in
     let all = unknown-rows own k b c i.front i.back i.row (subst (SoundRows own k b) i.rows_are s) i.covers unknown in
     (ap (λ (l : List RowState). among (live_of l) c) i.rows_are ∙ all, i.after_are ∙ ap (λ (r : RowState). i.front ++ r ∷ i.back) i.step.1 ∙ sym i.rows_are)
 fails_there own k b c rows after Kept s i = i

@@ -19,3 +19,7 @@ pub mod Stops
 pub mod Gathered
 pub mod ByBytes
 pub mod Distances
+pub mod Distinct
+pub mod Spelled
+pub mod Hanging
+pub mod Grafting

@@ -8,7 +8,7 @@ use Rattle.std.proofs.lemmas.List.Elements.{All-append, All-filter, All-push, Al
 use Rattle.kad_base.specs.declared.plain.Id.{Id}
 use Rattle.kad_base.specs.declared.plain.Contact.{Contact}
 use Rattle.kad_base.specs.Contacts.{same}
-use Rattle.bucket_tree.specs.declared.plain.Entry.{Entry}
+use Rattle.bucket_tree.specs.declared.plain.Live.{Live}
 use Rattle.bucket_tree.specs.declared.plain.Seen.{Seen}
 use Rattle.bucket_tree.specs.declared.plain.Seen.TheVariants.{Added, Moved, Spared, Conflict, Own}
 use Rattle.bucket_tree.specs.declared.plain.Gone.{Gone}
@@ -32,7 +32,7 @@ added-kept own k b c row is here other new lt =
     record {
       few = omega (arith, grown, lt);
       few_spares = is.few_spares;
-      failed_once = All-push (λ (e : Entry). e.failures ≤ 1) row.live (fresh c) is.failed_once (omega arith);
+      failed_once = All-push (λ (e : Live). e.failures ≤ 1) row.live (fresh c) is.failed_once (omega arith);
       covered = every (λ (x : Contact). begins row.prefix (id_bits x.id) ≡ true) is.covered here;
       others = every (λ (x : Contact). same_id x.id own ≡ false) is.others other;
       once = λ id. (
@@ -140,7 +140,7 @@ seen-kept own k b c row Spared after some is here other whole s =
     rw (s.2) (spared-kept own k b c row some is here other s.0 s.1 (stays-whole own k b c.id row whole s.0 s.1), refl)
 seen-kept own k b c row Own after some is here other whole s = absurd s
 
-pub mark-contacts : (c : Contact) (live : List Entry) → map contact_of (map (mark c) live) ≡ map contact_of live
+pub mark-contacts : (c : Contact) (live : List Live) → map contact_of (map (mark c) live) ≡ map contact_of live
 mark-contacts c [] = refl
 mark-contacts c (e ∷ live) = go (same c e.contact) (mark-contacts c live)
   where
@@ -148,16 +148,16 @@ mark-contacts c (e ∷ live) = go (same c e.contact) (mark-contacts c live)
     go true f = ap (λ (l : List Contact). e.contact ∷ l) f
     go false f = ap (λ (l : List Contact). e.contact ∷ l) f
 
-mark-once : (c : Contact) (live : List Entry) → All (λ e. e.failures ≤ 1) live → All (λ e. e.failures ≤ 1) (map (mark c) live)
-mark-once c live a = All-map (λ (e : Entry). e.failures ≤ 1) (mark c) live (go live a)
+mark-once : (c : Contact) (live : List Live) → All (λ e. e.failures ≤ 1) live → All (λ e. e.failures ≤ 1) (map (mark c) live)
+mark-once c live a = All-map (λ (e : Live). e.failures ≤ 1) (mark c) live (go live a)
   where
-    one : (e : Entry) (t : Bool) → e.failures ≤ 1 → (cond t (record { contact = e.contact; failures = 1 }) e).failures ≤ 1
+    one : (e : Live) (t : Bool) → e.failures ≤ 1 → (cond t (record { contact = e.contact; failures = 1 }) e).failures ≤ 1
     one e true le = omega arith
     one e false le = le
 
-    go : (xs : List Entry) → All (λ e. e.failures ≤ 1) xs → All (λ e. (mark c e).failures ≤ 1) xs
-    go [] a = All-nil (λ (e : Entry). (mark c e).failures ≤ 1)
-    go (x ∷ xs) a = All-cons (λ (e : Entry). (mark c e).failures ≤ 1) x xs (one x (same c x.contact) (All-head (λ (e : Entry). e.failures ≤ 1) x xs a)) (go xs (All-tail (λ (e : Entry). e.failures ≤ 1) x xs a))
+    go : (xs : List Live) → All (λ e. e.failures ≤ 1) xs → All (λ e. (mark c e).failures ≤ 1) xs
+    go [] a = All-nil (λ (e : Live). (mark c e).failures ≤ 1)
+    go (x ∷ xs) a = All-cons (λ (e : Live). (mark c e).failures ≤ 1) x xs (one x (same c x.contact) (All-head (λ (e : Live). e.failures ≤ 1) x xs a)) (go xs (All-tail (λ (e : Live). e.failures ≤ 1) x xs a))
 
 marked-kept : (own : Id) (k b : ℕ) (c : Contact) (row : RowState) → IsRow own k b row → IsRow own k b (marked c row)
 marked-kept own k b c row is =
@@ -177,14 +177,14 @@ marked-kept own k b c row is =
 
 removed-kept : (own : Id) (k b : ℕ) (c : Contact) (row : RowState) → IsRow own k b row → row.spares ≡ [] → IsRow own k b (removed c row)
 removed-kept own k b c row is none =
-    let p = λ (e : Entry). not (same c e.contact) in
+    let p = λ (e : Live). not (same c e.contact) in
     let every = λ (P : Contact → Type 0) (a : All P (live_in row ++ row.spares)). (
     All-append P (map contact_of (without c row.live)) row.spares (all-without P c row.live (all-left P (live_in row) row.spares a)) (all-right P (live_in row) row.spares a)
     ) in
     record {
       few = (let le = filter-few p row.live in omega (arith, le, is.few));
       few_spares = is.few_spares;
-      failed_once = All-filter p (λ (e : Entry). e.failures ≤ 1) row.live is.failed_once;
+      failed_once = All-filter p (λ (e : Live). e.failures ≤ 1) row.live is.failed_once;
       covered = every (λ (x : Contact). begins row.prefix (id_bits x.id) ≡ true) is.covered;
       others = every (λ (x : Contact). same_id x.id own ≡ false) is.others;
       once = λ id. (

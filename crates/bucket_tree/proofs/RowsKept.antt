@@ -4,7 +4,7 @@ use Rattle.std.proofs.lemmas.List.{map-append, length-append}
 use Rattle.std.proofs.lemmas.List.Elements.{All-append, All-cons, All-nil}
 use Rattle.kad_base.specs.declared.plain.Id.{Id}
 use Rattle.kad_base.specs.declared.plain.Contact.{Contact}
-use Rattle.bucket_tree.specs.declared.plain.Entry.{Entry}
+use Rattle.bucket_tree.specs.declared.plain.Live.{Live}
 use Rattle.bucket_tree.specs.Partition.{id_bits, begins, Partition, Ascending, whole}
 use Rattle.bucket_tree.specs.Rows.{RowState, IsRow, SoundRows, Sound, prefix_of, prefixes_of, same_id}
 use Rattle.bucket_tree.specs.Steps.{half}
@@ -60,7 +60,7 @@ sound-new own k b rows e some few bits few_bits = record {
     each = all-one (IsRow own k b) (row_of [] [] []) (record {
       few = omega arith;
       few_spares = omega arith;
-      failed_once = All-nil (λ (x : Entry). x.failures ≤ 1);
+      failed_once = All-nil (λ (x : Live). x.failures ≤ 1);
       covered = All-nil (λ (x : Contact). begins [] (id_bits x.id) ≡ true);
       others = All-nil (λ (x : Contact). same_id x.id own ≡ false);
       once = λ id. omega arith;

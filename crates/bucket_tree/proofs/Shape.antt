@@ -7,7 +7,7 @@ use Rattle.bucket_tree.specs.declared.node.Node.{Node}
 use Rattle.bucket_tree.specs.declared.node.Node.TheVariants.{Leaf, Fork'}
 use Rattle.bucket_tree.specs.Trees.{rows_of, IsUnder, IsTree}
 
-abbrev behind : Bool → List (List Bool) → List (List Bool)
+abbrev pub behind : Bool → List (List Bool) → List (List Bool)
 behind b [] = []
 behind b (p ∷ P) = (b ∷ p) ∷ behind b P
 
@@ -58,19 +58,19 @@ ways_rise : (n : Node) → Ascending (ways n)
 ways_rise (Leaf row) = (tt, tt)
 ways_rise (Fork' a low b high) = rises_both (ways low) (ways high) (rises_behind false (ways low) (ways_rise low)) (rises_behind true (ways high) (ways_rise high))
 
-abbrev on : List Bool → List (List Bool) → List (List Bool)
+abbrev pub on : List Bool → List (List Bool) → List (List Bool)
 on p [] = []
 on p (q ∷ P) = (p ++ q) ∷ on p P
 
-on-behind : (p : List Bool) (b : Bool) (P : List (List Bool)) → on (p ++ b ∷ []) P ≡ on p (behind b P)
+pub on-behind : (p : List Bool) (b : Bool) (P : List (List Bool)) → on (p ++ b ∷ []) P ≡ on p (behind b P)
 on-behind p b [] = refl
 on-behind p b (q ∷ P) = ap (λ (w : List Bool). w ∷ on (p ++ b ∷ []) P) (append_assoc p (b ∷ []) q) ∙ ap (λ (l : List (List Bool)). (p ++ (b ∷ q)) ∷ l) (on-behind p b P)
 
-on-append : (p : List Bool) (A B : List (List Bool)) → on p (A ++ B) ≡ on p A ++ on p B
+pub on-append : (p : List Bool) (A B : List (List Bool)) → on p (A ++ B) ≡ on p A ++ on p B
 on-append p [] B = refl
 on-append p (q ∷ A) B = ap (λ (l : List (List Bool)). (p ++ q) ∷ l) (on-append p A B)
 
-on-none : (P : List (List Bool)) → on [] P ≡ P
+pub on-none : (P : List (List Bool)) → on [] P ≡ P
 on-none [] = refl
 on-none (q ∷ P) = ap (λ (l : List (List Bool)). q ∷ l) (on-none P)
 

@@ -7,7 +7,7 @@ use Rattle.std.proofs.lemmas.List.{length-append}
 use Rattle.std.proofs.lemmas.List.Elements.{All-append, All-cons, All-nil, All-filter}
 use Rattle.kad_base.specs.declared.plain.Id.{Id}
 use Rattle.kad_base.specs.declared.plain.Contact.{Contact}
-use Rattle.bucket_tree.specs.declared.plain.Entry.{Entry}
+use Rattle.bucket_tree.specs.declared.plain.Live.{Live}
 use Rattle.bucket_tree.specs.declared.plain.Seen.{Seen}
 use Rattle.bucket_tree.specs.declared.plain.Seen.TheVariants.{Added, Moved, Spared, Conflict, Own}
 use Rattle.bucket_tree.specs.Partition.{id_bits, begins}
@@ -41,7 +41,7 @@ half_whole bit row a =
     let p = λ (c : Contact). begins (row.prefix ++ bit ∷ []) (id_bits c.id) in
     All-append whole (live_in (half bit row)) [] (subst (All whole) (filter-map contact_of p row.live) (All-filter p whole (live_in row) (all-left whole (live_in row) row.spares a))) (All-nil whole)
 
-none_passes : (p : Entry → Bool) (xs : List Entry) → list_any p xs ≡ false → (k : ℕ) (d : Entry) → k < length xs → p (get_or xs k d) ≡ true → ⊥
+none_passes : (p : Live → Bool) (xs : List Live) → list_any p xs ≡ false → (k : ℕ) (d : Live) → k < length xs → p (get_or xs k d) ≡ true → ⊥
 none_passes p [] e k d lt h = absurd (omega arith)
 none_passes p (x ∷ xs) e zero d lt h = go (p x) (list_any p xs) e h
   where
@@ -63,9 +63,9 @@ needs_two own k b id row some is a w covers n =
     (λ i d lt q.
     let e = get_or row.live i d in
     let we : IsWhole e.contact.id = whole_entry row.live (all-left whole (live_in row) row.spares a) i d lt in
-    none_passes (λ (e : Entry). same_id e.contact.id id) row.live n.new i d lt (same_bits-id e.contact.id id we.0 w.0 we.1 w.1 q))
+    none_passes (λ (e : Live). same_id e.contact.id id) row.live n.new i d lt (same_bits-id e.contact.id id we.0 w.0 we.1 w.1 q))
   where
-    whole_entry : (es : List Entry) → All whole (map contact_of es) → (i : ℕ) (d : Entry) → i < length es → IsWhole (get_or es i d).contact.id
+    whole_entry : (es : List Live) → All whole (map contact_of es) → (i : ℕ) (d : Live) → i < length es → IsWhole (get_or es i d).contact.id
     whole_entry [] all i d lt = absurd (omega arith)
     whole_entry (e ∷ es) all zero d lt = all 0 e.contact (omega arith)
     whole_entry (e ∷ es) all (suc i) d lt = whole_entry es (λ j f lt. all (suc j) f (omega arith)) i d (omega arith)

@@ -5,7 +5,7 @@ use Rattle.std.specs.List.Sorted.{IsStrictlySortedBy}
 use Rattle.std.specs.declared.cmp.Ordering.{Ordering}
 use Rattle.std.specs.declared.cmp.Ordering.TheVariants.{Less}
 use Rattle.std.proofs.lemmas.List.{append_assoc, take_more, map-append}
-use Rattle.bucket_tree.specs.declared.plain.Entry.{Entry}
+use Rattle.bucket_tree.specs.declared.plain.Live.{Live}
 use Rattle.bucket_tree.specs.Rows.{contact_of}
 use Rattle.std.proofs.Math.Seq.{take-append_seam}
 use Rattle.std.proofs.lemmas.List.Elements.{All-head, All-tail, recursion_from_All, Contains-append_cases, Contains-append_left, Contains-append_right}
@@ -65,7 +65,7 @@ closest_in_turn target k S T U N M e f =
     f ∙ ap (λ (l : List Contact). k_closest target k (l ++ U)) e ∙ sym (closest_after target k (S ++ T) U) ∙ ap (k_closest target k) (append_assoc S T U)
 
 -- a step of a loop over entries
-pub closest_entry : (target : Id) (k : ℕ) (S : List Contact) (es : List Entry) (i : ℕ) (d : Entry) (old new : List Contact) → i < length es → old ≡ k_closest target k (S ++ map contact_of (take i es)) → new ≡ k_closest target k (old ++ (get_or es i d).contact ∷ [])
+pub closest_entry : (target : Id) (k : ℕ) (S : List Contact) (es : List Live) (i : ℕ) (d : Live) (old new : List Contact) → i < length es → old ≡ k_closest target k (S ++ map contact_of (take i es)) → new ≡ k_closest target k (old ++ (get_or es i d).contact ∷ [])
     → new ≡ k_closest target k (S ++ map contact_of (take (i + 1) es))
 closest_entry target k S es i d old new lt was is =
     let x = (get_or es i d).contact in

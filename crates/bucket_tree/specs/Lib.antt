@@ -4,3 +4,4 @@ pub mod Rows
 pub mod Steps
 pub mod Refills
 pub mod Trees
+pub mod States

@@ -3,17 +3,17 @@ use Rattle.std.specs.Prelude.{◌≡◌, List, [], ◌∷◌, ◌++◌}
 use Rattle.kad_base.specs.declared.plain.Contact.{Contact}
 use Rattle.bucket_tree.specs.declared.plain.Gone.{Gone}
 use Rattle.bucket_tree.specs.declared.plain.Gone.TheVariants.{Removed, Replaced}
-use Rattle.bucket_tree.specs.declared.plain.Entry.{Entry}
+use Rattle.bucket_tree.specs.declared.plain.Live.{Live}
 use Rattle.bucket_tree.specs.Steps.{fresh}
 
 -- the newest spare stands at the end of the live entries
-pub record Refill (live : List Entry) (spares : List Contact) (live' : List Entry) (spares' : List Contact) : Type 0 where
+pub record Refill (live : List Live) (spares : List Contact) (live' : List Live) (spares' : List Contact) : Type 0 where
   pub newest : Contact
   pub spares_are : spares ≡ spares' ++ newest ∷ []
   pub live_are : live' ≡ live ++ fresh newest ∷ []
 
 -- it does, where there is a spare
-abbrev pub Refilled : List Entry → List Contact → Gone → List Entry → List Contact → Type 0
+abbrev pub Refilled : List Live → List Contact → Gone → List Live → List Contact → Type 0
 Refilled live spares Removed live' spares' = (spares ≡ []) × (live' ≡ live) × (spares' ≡ [])
 Refilled live spares Replaced live' spares' = Refill live spares live' spares'
 Refilled live spares other live' spares' = ⊥

@@ -5,14 +5,14 @@ use Rattle.std.specs.Ordering.{is_eq, nat_cmp}
 use Rattle.std.specs.Cmp.Lexicographic.{slice_cmp}
 use Rattle.kad_base.specs.declared.plain.Id.{Id}
 use Rattle.kad_base.specs.declared.plain.Contact.{Contact}
-use Rattle.bucket_tree.specs.declared.plain.Entry.{Entry}
+use Rattle.bucket_tree.specs.declared.plain.Live.{Live}
 use Rattle.bucket_tree.specs.Partition.{id_bits, begins, Partition, Ascending}
 
 -- a bucket: the prefix of its identifiers, its contacts, the least recently seen first, and its replacement cache, the
 -- newest last
 pub record RowState : Type 0 where
   pub prefix : List Bool
-  pub live : List Entry
+  pub live : List Live
   pub spares : List Contact
 
 -- what callers see of the buckets
@@ -22,7 +22,7 @@ pub record BucketsState : Type 0 where
   pub b : ℕ
   pub rows : List RowState
 
-abbrev pub contact_of : Entry → Contact
+abbrev pub contact_of : Live → Contact
 contact_of e = e.contact
 
 -- the contacts of a bucket, the least recently seen first

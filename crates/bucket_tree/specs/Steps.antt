@@ -5,7 +5,7 @@ use Rattle.std.specs.List.{list_any}
 use Rattle.kad_base.specs.declared.plain.Id.{Id}
 use Rattle.kad_base.specs.declared.plain.Contact.{Contact}
 use Rattle.kad_base.specs.Contacts.{same, among}
-use Rattle.bucket_tree.specs.declared.plain.Entry.{Entry}
+use Rattle.bucket_tree.specs.declared.plain.Live.{Live}
 use Rattle.bucket_tree.specs.declared.plain.Seen.{Seen}
 use Rattle.bucket_tree.specs.declared.plain.Seen.TheVariants.{Added, Moved, Spared, Conflict, Own}
 use Rattle.bucket_tree.specs.declared.plain.Gone.{Gone}
@@ -14,7 +14,7 @@ use Rattle.bucket_tree.specs.Partition.{id_bits, begins}
 use Rattle.bucket_tree.specs.Rows.{RowState, live_in, live_of, same_id, may_split}
 
 -- an entry that was just seen
-abbrev pub fresh : Contact → Entry
+abbrev pub fresh : Contact → Live
 fresh c = record { contact = c; failures = 0 }
 
 -- the contact is live in the row
@@ -26,7 +26,7 @@ abbrev pub knows_id : RowState → Id → Bool
 knows_id row id = list_any (λ e. same_id e.contact.id id) row.live
 
 -- the entries of other contacts
-abbrev pub without : Contact → List Entry → List Entry
+abbrev pub without : Contact → List Live → List Live
 without c entries = filter (λ e. not (same c e.contact)) entries
 
 -- the contact is the most recently seen
@@ -86,7 +86,7 @@ abbrev pub failures_of : RowState → Contact → Option ℕ
 failures_of row c = option_map (λ e. e.failures) (find (λ e. same c e.contact) row.live)
 
 -- the entry of the contact has now failed once
-abbrev pub mark : Contact → Entry → Entry
+abbrev pub mark : Contact → Live → Live
 mark c e = cond (same c e.contact) (record { contact = e.contact; failures = 1 }) e
 
 -- the row whose entry of the contact has now failed once

@@ -1,17 +1,21 @@
 //! All buckets, as a tree by the bits of their prefixes.
-ghost use Rattle.std.specs.Prelude.{◌≡◌, ◌<◌, ◌≤◌, ◌++◌, ◌∷◌, [], IfOk, OnErr};
+ghost use Rattle.std.specs.Prelude.{◌≡◌, ◌<◌, ◌≤◌, ◌++◌, ◌∷◌, [], IfOk, OnErr, Err};
 ghost use Rattle.kad_distance.specs.KClosest.{k_closest};
 ghost use Rattle.bucket_tree.specs.Rows.{BucketsState, Sound, live_of, prefixes_of};
+ghost use Rattle.bucket_tree.specs.States.{states_of};
 ghost use Rattle.bucket_tree.specs.Steps.{SeenStep, FailedStep};
 ghost use Rattle.bucket_tree.specs.Trees.{IsWhole};
 
+use crate::bucket::Bucket;
 use crate::entries::is_same_id;
 use crate::failing::fail_in;
 use crate::nearest;
-use crate::node::{Node, leaf, list_live, list_prefixes};
+use crate::node::{Node, leaf, list_live, list_prefixes, list_rows};
 use crate::plain::{Gone, Seen, Setting};
 use crate::prefix::Prefixes;
-use crate::row::Row;
+use crate::rebuilt::whole_tree;
+use crate::rows::{Rows, TableFault};
+use crate::sound::is_within;
 use crate::taking::see;
 use kad_base::{Contact, Contacts, Id, List, NoMemory};
 use std::alloc::Global;
@@ -62,7 +66,7 @@ impl Buckets {
               rows = record { prefix = []; live = []; spares = [] } ∷ [];
             }) }
     {
-        let row = Row::whole(alloc, k)?;
+        let row = Bucket::whole(alloc, k)?;
         let root = leaf(alloc, row)?;
         Ok(Buckets {
             setting: Setting { own, k, b },
@@ -140,5 +144,58 @@ impl Buckets {
         let mut prefixes = List::new(self.alloc);
         list_prefixes(&self.root, &mut prefixes, 0)?;
         Ok(prefixes)
+    }
+
+    /// The rows, in memory of their own: all that the buckets hold.
+    pub fn rows(&self) -> Result<Rows, NoMemory>
+        ensures { IfOk result (λ rows. states_of rows ≡ self.now.rows) }
+    {
+        let mut rows = List::new(self.alloc);
+        list_rows(&self.root, self.alloc, &mut rows, 0)?;
+        Ok(rows)
+    }
+
+    /// The buckets that have these rows. Unsound where k or b is outside its limits, the prefixes don't ascend or are no
+    /// partition, or a row isn't one that a bucket can be: then no calls lead to them. It reads each row once.
+    pub fn of_rows(alloc: Global, own: Id, k: u8, b: u8, rows: &Rows) -> Result<Buckets, TableFault>
+        ensures rows { IfOk result (λ buckets. buckets
+            ≡ record { own = own; k = k; b = b; rows = states_of rows.now }) }
+        ensures sound { IfOk result (λ buckets. Sound buckets) }
+        ensures unsound { result ≡ Err TableFault.Unsound
+            → ¬ Sound (record { own = own; k = k; b = b; rows = states_of rows.now }) }
+    {
+        let setting = Setting { own, k, b };
+        if !is_within(&setting) {
+            return Err(TableFault::Unsound);
+        }
+        let root = whole_tree(alloc, &setting, rows.as_slice())?;
+        let buckets = Buckets {
+            setting,
+            alloc,
+            root,
+        };
+        buckets.sound();
+        Ok(buckets)
+    }
+
+    /// The node's own identifier.
+    pub fn own(&self) -> Id
+        ensures { result ≡ self.now.own }
+    {
+        self.setting.own
+    }
+
+    /// How many contacts a bucket holds.
+    pub fn k(&self) -> u8
+        ensures { result ≡ self.now.k }
+    {
+        self.setting.k
+    }
+
+    /// By how many bits a bucket splits that hasn't the own identifier.
+    pub fn b(&self) -> u8
+        ensures { result ≡ self.now.b }
+    {
+        self.setting.b
     }
 }

@@ -6,7 +6,7 @@ ghost use Rattle.bucket_tree.specs.Partition.{id_bits, begins};
 ghost use Rattle.bucket_tree.specs.Rows.{contact_of, same_id};
 ghost use Rattle.bucket_tree.specs.Steps.{without, mark as mark_of};
 
-use crate::plain::Entry;
+use crate::plain::Live;
 use crate::prefix::Prefix;
 use kad_base::{Contact, Id, NoMemory};
 use std::alloc::Global;
@@ -41,14 +41,14 @@ fn has_same_bits(a: &Id, b: &Id) -> bool
     is_same_id(a, b)
 }
 
-pub(crate) fn has(entries: &[Entry], contact: &Contact) -> bool
+pub(crate) fn has(entries: &[Live], contact: &Contact) -> bool
     ensures { result ≡ among (map contact_of entries.now) contact.now }
 {
     entries.iter().any(|entry| is_same(contact, &entry.contact))
 }
 
 /// Whether an entry has the identifier. Where none has it, none has the same bits.
-pub(crate) fn has_id(entries: &[Entry], id: &Id) -> bool
+pub(crate) fn has_id(entries: &[Live], id: &Id) -> bool
     ensures known { result ≡ list_any (λ e. same_id e.contact.id id.now) entries.now }
     ensures apart { result ≡ false → All (λ e. id_bits e.contact.id ≢ id_bits id.now) entries.now }
 {
@@ -61,7 +61,7 @@ pub(crate) fn has_id(entries: &[Entry], id: &Id) -> bool
 }
 
 /// How often the contact failed, where it is live.
-pub(crate) fn failures(entries: &[Entry], contact: &Contact) -> Option<u8>
+pub(crate) fn failures(entries: &[Live], contact: &Contact) -> Option<u8>
     ensures { result ≡ option_map (λ e. e.failures)
         (find (λ e. same contact.now e.contact) entries.now) }
 {
@@ -77,9 +77,9 @@ pub(crate) fn failures(entries: &[Entry], contact: &Contact) -> Option<u8>
 pub(crate) fn covered(
     alloc: Global,
     k: u8,
-    entries: &[Entry],
+    entries: &[Live],
     prefix: &Prefix,
-) -> Result<Vec<Entry>, NoMemory>
+) -> Result<Vec<Live>, NoMemory>
     ensures items { IfOk result (λ kept. kept.items ≡ filter
         (λ e. begins prefix.now (id_bits e.contact.id)) entries.now) }
     ensures room { IfOk result (λ kept. length kept.items ≤ vec_capacity kept) }
@@ -94,7 +94,7 @@ pub(crate) fn covered(
 }
 
 /// Puts an entry at the end, or leaves the entries.
-pub(crate) fn append(entries: &mut Vec<Entry>, entry: Entry) -> Result<(), NoMemory>
+pub(crate) fn append(entries: &mut Vec<Live>, entry: Live) -> Result<(), NoMemory>
     ensures ok { IfOk result (λ done. entries.new.items ≡ entries.old.items ++ entry ∷ []) }
     ensures err { OnErr result (entries.new.items ≡ entries.old.items) }
     ensures room { length entries.old.items ≤ vec_capacity entries.old
@@ -107,14 +107,14 @@ pub(crate) fn append(entries: &mut Vec<Entry>, entry: Entry) -> Result<(), NoMem
 }
 
 /// The entry isn't the contact's.
-fn is_another(entry: &Entry, contact: &Contact) -> bool
+fn is_another(entry: &Live, contact: &Contact) -> bool
     ensures { result ≡ not (same contact.now entry.now.contact) }
 {
     !is_same(contact, &entry.contact)
 }
 
 /// Takes the entry of the contact out.
-pub(crate) fn take_out(entries: &mut Vec<Entry>, contact: &Contact)
+pub(crate) fn take_out(entries: &mut Vec<Live>, contact: &Contact)
     ensures items { entries.new.items ≡ without contact.now entries.old.items }
     ensures capacity { vec_capacity entries.new ≡ vec_capacity entries.old }
 {
@@ -138,11 +138,11 @@ pub(crate) fn take_id_out(contacts: &mut Vec<Contact>, id: &Id)
 }
 
 /// The entry, which has now failed once where it is the contact's.
-fn marked(entry: &Entry, contact: &Contact) -> Entry
+fn marked(entry: &Live, contact: &Contact) -> Live
     ensures { result ≡ mark_of contact.now entry.now }
 {
     if is_same(contact, &entry.contact) {
-        return Entry {
+        return Live {
             contact: entry.contact,
             failures: 1,
         };
@@ -151,7 +151,7 @@ fn marked(entry: &Entry, contact: &Contact) -> Entry
 }
 
 /// The entry of the contact has now failed once.
-pub(crate) fn mark(entries: &mut Vec<Entry>, contact: &Contact)
+pub(crate) fn mark(entries: &mut Vec<Live>, contact: &Contact)
     ensures items { entries.new.items ≡ map (mark_of contact.now) entries.old.items }
     ensures capacity { vec_capacity entries.new ≡ vec_capacity entries.old }
 {

@@ -4,26 +4,22 @@
 #![tactic(auto)]
 
 mod bits;
+mod bucket;
 mod buckets;
 mod entries;
 mod failing;
-#[cfg(test)]
-mod flat;
 mod laws;
 mod nearest;
 mod node;
 mod plain;
 mod prefix;
-mod row;
+mod rebuilt;
+mod rows;
+mod sound;
 mod taking;
-#[cfg(test)]
-mod tests;
-#[cfg(test)]
-mod tests_drawn;
-#[cfg(test)]
-mod tests_rows;
 
 pub use buckets::Buckets;
 pub use laws::one_prefix;
-pub use plain::{Entry, Gone, Seen};
+pub use plain::{Gone, Live, Seen};
 pub use prefix::{Prefix, Prefixes};
+pub use rows::{Lives, Row, Rows, TableFault};

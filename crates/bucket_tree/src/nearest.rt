@@ -12,8 +12,8 @@ ghost use Rattle.bucket_tree.specs.Rows.{live_of};
 ghost use Rattle.bucket_tree.specs.Trees.{rows_of, IsUnder, IsShort, IsTidy, HangsAt, AllCloser};
 
 use crate::bits::bit;
+use crate::bucket::Bucket;
 use crate::node::Node;
-use crate::row::Row;
 use kad_base::{Contact, Contacts, Id, List, NoMemory};
 use kad_distance::put_closest;
 use std::alloc::Global;
@@ -67,7 +67,7 @@ fn offer(near: &mut Vec<Contact>, target: &Id, k: usize, contact: &Contact)
 }
 
 /// Puts the live contacts of a row among the k closest.
-fn put_row(near: &mut Vec<Contact>, target: &Id, k: usize, row: &Row)
+fn put_row(near: &mut Vec<Contact>, target: &Id, k: usize, row: &Bucket)
     requires sorted { IsStrictlySortedBy (closeness target.now) near.old.items }
     requires few { vec_len near.old ≤ k }
     requires room { k ≤ vec_capacity near.old }

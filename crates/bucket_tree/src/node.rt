@@ -2,22 +2,24 @@
 ghost use Rattle.std.specs.Prelude.{◌≡◌, ◌≤◌, ◌++◌, ◌∷◌, [], Bool, List, IfOk, OnOk, true, false};
 ghost use Rattle.std.specs.List.{All};
 ghost use Rattle.bucket_tree.specs.Rows.{live_of, prefixes_of};
+ghost use Rattle.bucket_tree.specs.States.{states_of};
 ghost use Rattle.bucket_tree.specs.Trees.{rows_of, IsUnder, IsShort, HangsAt};
 
+use crate::bucket::Bucket;
 use crate::prefix::Prefixes;
-use crate::row::Row;
+use crate::rows::Rows;
 use kad_base::{Contacts, NoMemory};
 use std::alloc::Global;
 
 /// Rows as a tree: a fork has the rows whose next bit is 0, and those whose next bit is 1.
 #[derive(Drop)]
 pub(crate) enum Node {
-    Leaf(Box<Row>),
+    Leaf(Box<Bucket>),
     Fork(Box<Node>, Box<Node>),
 }
 
 /// A row as a tree.
-pub(crate) fn leaf(alloc: Global, row: Row) -> Result<Node, NoMemory>
+pub(crate) fn leaf(alloc: Global, row: Bucket) -> Result<Node, NoMemory>
     ensures rows { IfOk result (λ node. rows_of node ≡ row ∷ []) }
     ensures under { IfOk result (λ node. IsUnder row.prefix node) }
 {
@@ -66,6 +68,21 @@ pub(crate) fn list_prefixes(node: &Node, list: &mut Prefixes, at: u8) -> Result<
         Node::Fork(low, high) => {
             list_prefixes(low, list, at + 1)?;
             list_prefixes(high, list, at + 1)
+        }
+    }
+}
+
+/// Appends the rows of a tree to a list, in memory of their own. On want of memory the list may have some of them.
+pub(crate) fn list_rows(node: &Node, alloc: Global, list: &mut Rows, at: u8) -> Result<(), NoMemory>
+    requires hangs { HangsAt at node.now }
+    requires short { All IsShort (rows_of node.now) }
+    ensures { OnOk result (states_of list.new ≡ states_of list.old ++ rows_of node.now) }
+{
+    match node {
+        Node::Leaf(row) => list.push(row.row(alloc)?),
+        Node::Fork(low, high) => {
+            list_rows(low, alloc, list, at + 1)?;
+            list_rows(high, alloc, list, at + 1)
         }
     }
 }

@@ -12,20 +12,20 @@ pub(crate) struct Setting {
 
 /// A live contact of a bucket, and how often it failed since it was last seen.
 #[derive(Clone, Copy, Debug, PartialEq, Eq)]
-pub struct Entry {
+pub struct Live {
     pub contact: Contact,
     pub failures: u8,
 }
 
 /// What a place of a bucket holds that no entry has.
-impl Default for Entry {
-    fn default() -> Entry {
+impl Default for Live {
+    fn default() -> Live {
         let addr = Addr {
             ip: Ip::V4([0; 4]),
             port: 0,
         };
         let id = Id([0; 20]);
-        Entry {
+        Live {
             contact: Contact { id, addr },
             failures: 0,
         }

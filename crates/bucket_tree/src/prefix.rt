@@ -1,5 +1,5 @@
 //! Prefixes of identifiers.
-ghost use Rattle.std.specs.Prelude.{◌≡◌, ◌-◌, ◌<◌, ◌≤◌, List, [], ◌∷◌, ◌++◌, length, replicate, false};
+ghost use Rattle.std.specs.Prelude.{◌≡◌, ◌↔◌, ◌-◌, ◌<◌, ◌≤◌, List, [], ◌∷◌, ◌++◌, length, replicate, false, IsTrue, get_or};
 ghost use Rattle.bucket_tree.specs.Partition.{id_bits, begins};
 
 use crate::bits::{bit, with_bit};
@@ -45,6 +45,14 @@ impl Prefix {
         self.bits
     }
 
+    /// Its bit at a place, counted from the highest.
+    pub fn bit_at(&self, at: u8) -> bool
+        requires { at < length self.now }
+        ensures { result ≡ get_or self.now at false }
+    {
+        bit(&self.bits, at)
+    }
+
     /// Whether the identifier begins with it.
     pub fn begins(&self, id: &Id) -> bool
         ensures { result ≡ begins self.now (id_bits id.now) }
@@ -64,7 +72,7 @@ impl Prefix {
     }
 
     /// The prefix of every identifier.
-    pub(crate) fn empty() -> Prefix
+    pub fn empty() -> Prefix
         ensures { result ≡ [] }
     {
         Prefix {
@@ -73,7 +81,8 @@ impl Prefix {
         }
     }
 
-    pub(crate) fn copied(&self) -> Prefix
+    /// It once more.
+    pub fn copied(&self) -> Prefix
         ensures { result ≡ self.now }
     {
         Prefix {
@@ -82,8 +91,8 @@ impl Prefix {
         }
     }
 
-    /// The prefix with one more bit.
-    pub(crate) fn child(&self, one: bool) -> Prefix
+    /// The prefix with one more bit, a 1 where `one`.
+    pub fn child(&self, one: bool) -> Prefix
         requires { length self.now < 160 }
         ensures { result ≡ self.now ++ one ∷ [] }
     {
@@ -97,5 +106,12 @@ impl Prefix {
             bits: self.bits,
             len: self.len + 1,
         }
+    }
+
+    /// Whether the two are one prefix.
+    pub(crate) fn is(&self, other: &Prefix) -> bool
+        ensures { IsTrue result ↔ (self.now ≡ other.now) }
+    {
+        self.len == other.len && self.begins(&other.bits)
     }
 }

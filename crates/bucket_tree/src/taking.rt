@@ -7,9 +7,9 @@ ghost use Rattle.bucket_tree.specs.Steps.{SeenStep, NeedsSplit};
 ghost use Rattle.bucket_tree.specs.Trees.{rows_of, IsLeaf, IsUnder, IsShort, path};
 
 use crate::bits::bit;
+use crate::bucket::Bucket;
 use crate::node::{Node, fork, leaf};
 use crate::plain::{Seen, Setting};
-use crate::row::Row;
 use kad_base::{Contact, NoMemory};
 use std::alloc::Global;
 
@@ -18,7 +18,7 @@ use std::alloc::Global;
 fn grown(
     alloc: Global,
     setting: &Setting,
-    mut row: Row,
+    mut row: Bucket,
     contact: &Contact,
 ) -> Result<(Node, Seen), NoMemory>
     requires some_live { 0 < setting.now.k }
@@ -45,7 +45,7 @@ fn grown(
 fn forked(
     alloc: Global,
     setting: &Setting,
-    row: &Row,
+    row: &Bucket,
     contact: &Contact,
 ) -> Result<(Node, Seen), NoMemory>
     requires some_live { 0 < setting.now.k }

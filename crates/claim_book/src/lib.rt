@@ -14,8 +14,6 @@ mod reads;
 mod serial;
 mod starting;
 mod state;
-#[cfg(test)]
-mod tests;
 mod verdict;
 
 pub use calls::{BookCall, BookReply};

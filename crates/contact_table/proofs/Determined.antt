@@ -8,7 +8,7 @@ use Rattle.std.proofs.lemmas.List.Elements.{All-append, All-cons}
 use Rattle.kad_base.specs.declared.plain.Id.{Id}
 use Rattle.kad_base.specs.declared.plain.Contact.{Contact}
 use Rattle.kad_base.specs.Contacts.{same}
-use Rattle.bucket_tree.specs.declared.plain.Entry.{Entry}
+use Rattle.bucket_tree.specs.declared.plain.Live.{Live}
 use Rattle.bucket_tree.specs.declared.plain.Seen.{Seen}
 use Rattle.bucket_tree.specs.declared.plain.Seen.TheVariants.{Added, Moved, Spared, Conflict, Own}
 use Rattle.bucket_tree.specs.declared.plain.Gone.{Gone}
@@ -47,7 +47,7 @@ begins-fits [] w e = omega arith
 begins-fits (x ∷ p) [] e = absurd cc
 begins-fits (x ∷ p) (y ∷ w) e = let le = begins-fits p w (and_right _ _ e) in omega (arith, le)
 
-any-less : (p q : Entry → Bool) → ((x : Entry) → p x ≡ true → q x ≡ true) → (xs : List Entry) → list_any q xs ≡ false → list_any p xs ≡ false
+any-less : (p q : Live → Bool) → ((x : Live) → p x ≡ true → q x ≡ true) → (xs : List Live) → list_any q xs ≡ false → list_any p xs ≡ false
 any-less p q f [] e = refl
 any-less p q f (x ∷ xs) e = go (p x) (q x) (f x) e (any-less p q f xs)
   where
@@ -65,7 +65,7 @@ not-leb a b lt = go (nat_le a b) refl
     go false e = e
 
 pub unknown : (row : RowState) (c : Contact) → knows_id row c.id ≡ false → knows row c ≡ false
-unknown row c e = any-map contact_of (same c) row.live ∙ any-less (λ (x : Entry). same c x.contact) (λ (x : Entry). same_id x.contact.id c.id) (λ x s. same_id-contact c x.contact s) row.live e
+unknown row c e = any-map contact_of (same c) row.live ∙ any-less (λ (x : Live). same c x.contact) (λ (x : Live). same_id x.contact.id c.id) (λ x s. same_id-contact c x.contact s) row.live e
 
 taken-is : (k : ℕ) (c : Contact) (row row' : RowState) (seen : Seen) → RowSeen k c row seen row' → row' ≡ taken k c row
 taken-is k c row row' Moved s = s.1 ∙ sym (rw (s.0) refl)

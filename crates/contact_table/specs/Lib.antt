@@ -2,3 +2,4 @@ pub mod RowsAfter
 pub mod TableState
 pub mod TableStep
 pub mod Told
+pub mod SavedState

@@ -4,11 +4,11 @@
 
 mod calls;
 mod laws;
+mod saved;
 mod table;
-#[cfg(test)]
-mod tests;
 mod threads;
 
 pub use calls::{TableCall, TableReply};
 pub use laws::{holds_what_it_was_told, one_outcome, stays_sound};
+pub use saved::Saved;
 pub use table::Table;

@@ -1,14 +1,17 @@
 //! The table, and what its calls do.
-ghost use Rattle.std.specs.Prelude.{◌≡◌, ◌<◌, ◌≤◌, [], ◌∷◌, IfOk, OnErr};
+ghost use Rattle.std.specs.Prelude.{◌≡◌, ◌<◌, ◌≤◌, [], ◌∷◌, IfOk, OnErr, Err};
 ghost use Rattle.kad_distance.specs.KClosest.{k_closest};
 ghost use Rattle.bucket_tree.specs.Steps.{SeenStep, FailedStep};
 ghost use Rattle.contact_table.specs.RowsAfter.{seen_rows, failed_rows};
 ghost use Rattle.contact_table.specs.TableStep.{TableMay, TableStep, table_after, contacts_of, seen_siblings, failed_siblings};
+ghost use Rattle.contact_table.specs.SavedState.{state_of};
 ghost use Rattle.contact_table.specs.TableState.{SoundTable};
+ghost use Rattle.bucket_tree.specs.declared.rows.TableFault.{TableFault};
 ghost use Rattle.contact_table.specs.declared.calls.TableCall.{TableCall};
 
 use crate::calls::{TableCall, TableReply};
-use bucket_tree::{Buckets, Gone, Seen};
+use crate::saved::Saved;
+use bucket_tree::{Buckets, Gone, Seen, TableFault};
 use kad_base::{Contact, Contacts, Id, NoMemory, Serial};
 use sibling_list::Siblings;
 use std::alloc::Global;
@@ -52,6 +55,40 @@ impl Table {
         let buckets = Buckets::new(alloc, own, k, b)?;
         let siblings = Siblings::new(alloc, own)?;
         Ok(Table { buckets, siblings })
+    }
+
+    /// All that the table holds, in memory of its own.
+    pub fn rows(&self) -> Result<Saved, NoMemory>
+        ensures { IfOk result (λ saved. state_of saved ≡ self.now) }
+    {
+        let rows = self.buckets.rows()?;
+        let siblings = self.siblings.contacts()?;
+        Ok(Saved {
+            own: self.buckets.own(),
+            k: self.buckets.k(),
+            b: self.buckets.b(),
+            rows,
+            siblings,
+        })
+    }
+
+    /// The table that holds this. Unsound where k or b is outside its limits, the rows are none that buckets can have (see
+    /// `Buckets::of_rows`), or the siblings aren't in strict order to `own`, at most 16 and without `own`: then no calls lead
+    /// to it.
+    pub fn of_rows(alloc: Global, saved: &Saved) -> Result<Table, TableFault>
+        ensures state { IfOk result (λ table. table ≡ state_of saved.now) }
+        ensures sound { IfOk result (λ table. SoundTable table) }
+        ensures unsound { result ≡ Err TableFault.Unsound → ¬ SoundTable (state_of saved.now) }
+    {
+        let buckets = Buckets::of_rows(alloc, saved.own, saved.k, saved.b, &saved.rows)?;
+        match Siblings::of_list(alloc, saved.own, saved.siblings.as_slice())? {
+            Some(siblings) => {
+                let table = Table { buckets, siblings };
+                table.sound();
+                Ok(table)
+            }
+            None => Err(TableFault::Unsound),
+        }
     }
 
     /// The law of the table: its buckets and its siblings are sound, whoever made which calls. It does nothing, and is

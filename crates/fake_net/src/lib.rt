@@ -8,8 +8,6 @@ mod nodes;
 mod replies;
 mod script;
 mod sim_net;
-#[cfg(test)]
-mod sim_tests;
 mod telling;
 mod waiting;
 
@@ -19,6 +17,3 @@ pub use replies::Conduct;
 pub use script::{Asked, Script, ScriptEvent};
 pub use sim_net::SimNet;
 pub use waiting::Waiting;
-
-#[cfg(test)]
-mod tests;

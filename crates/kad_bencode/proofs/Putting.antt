@@ -1,10 +1,11 @@
 -- Texts that are put one behind another.
-use Rattle.std.proofs.Common.{◌≡◌, ℕ, ◌+◌, ◌<◌, ◌≤◌, ◌^◌, min, List, [], ◌∷◌, ◌++◌, length, take, decimal, refl, sym, ap, ◌∙◌, arith, length-append, append_assoc, append-nil}
+use Rattle.std.proofs.Common.{◌≡◌, ℕ, inl, inr, ◌+◌, ◌<◌, ◌≤◌, ◌^◌, min, List, [], ◌∷◌, ◌++◌, length, take, decimal, refl, sym, ap, ◌∙◌, arith, length-append, append_assoc, append-nil}
+use Rattle.std.proofs.lemmas.Bool.{cases_lt}
 use Rattle.std.proofs.lemmas.Grind.{flat_map-append}
 use Rattle.std.proofs.lemmas.List.{map-append}
 use Rattle.kad_bencode.specs.Spelling.{numeral, string_text, pairs_text, text_of}
 use Rattle.kad_bencode.specs.Faults.{pairs_of}
-use Rattle.kad_bencode.specs.Written.{Puts, PutsPairs, PutsOpen}
+use Rattle.kad_bencode.specs.Written.{Puts, PutsPairs, PutsOpen, last_place}
 use Rattle.kad_bencode.specs.declared.entries.Pair.{Pair}
 use Rattle.kad_bencode.specs.declared.value.Value.{Value}
 use Rattle.kad_bencode.specs.declared.value.Value.TheVariants.{Dict}
@@ -19,9 +20,9 @@ puts_then {old} {mid} {new} {at} {n} {next} {front} {text} {all} e f g =
     let la : length all ≡ length front + length text = ap length e ∙ lf in
     let p = f.place in
     let q = g.place in record {
-      place = omega (arith, l, la, p, q);
+      place = omega (arith, la, p, q);
       text_is = λ h.
-          let small : n ≤ length old = omega (arith, l, p, q, h) in
+          let small : n ≤ length old = omega (arith, p, q, h) in
           let fits : next ≤ length mid = omega (arith, l, h) in
           g.text_is fits ∙ ap (λ xs. xs ++ text) (f.text_is small) ∙ append_assoc (take at old) front text ∙ ap (λ xs. take at old ++ xs) (sym e);
       room = g.room ∙ l;
@@ -30,22 +31,36 @@ puts_then {old} {mid} {new} {at} {n} {next} {front} {text} {all} e f g =
 -- a text that is the same
 pub puts_same : {old new : List ℕ} {at next : ℕ} {text other : List ℕ} → other ≡ text → Puts old new at text next → Puts old new at other next
 puts_same {old} {new} {at} {next} {text} {other} e p = record {
-  place = p.place ∙ ap (λ xs. min (at + length xs) (length old + 1)) (sym e);
+  place = p.place ∙ ap (λ xs. min (at + length xs) last_place) (sym e);
   text_is = λ h. p.text_is h ∙ ap (λ xs. take at old ++ xs) (sym e);
   room = p.room;
 }
 
 -- nothing
-pub puts_none : (old : List ℕ) (at : ℕ) → at ≤ length old + 1 → Puts old old at [] at
+pub puts_none : (old : List ℕ) (at : ℕ) → at ≤ last_place → Puts old old at [] at
 puts_none old at h = record {
   place = omega (arith, h);
   text_is = λ k. sym (append-nil (take at old));
   room = refl;
 }
 
--- where a text ends
-pub put_ends : {old new : List ℕ} {at next : ℕ} {text : List ℕ} → Puts old new at text next → next ≤ length new + 1
-put_ends p = let e = p.place in let r = p.room in omega (arith, e, r)
+-- A text behind its length, which was measured in a buffer with no room. Where the text is longer than any buffer, so is
+-- all of it.
+pub puts_measured : {rest old mid new : List ℕ} {at n next size : ℕ} {text : List ℕ} → length old < last_place → Puts [] rest 0 text size → Puts old mid at (numeral size ++ 58 ∷ []) n → Puts mid new n text next → Puts old new at (string_text text) next
+puts_measured {rest} {old} {mid} {new} {at} {n} {next} {size} {text} small m f g =
+    let long = m.place in
+    elim (cases_lt (length text) last_place) as (λ _. Puts old new at (string_text text) next) [
+      | inl h ↦
+          let same : size ≡ length text = omega (arith, long, h) in
+          puts_then (ap (λ k. numeral k ++ 58 ∷ text) (sym same) ∙ sym (append_assoc (numeral size) (58 ∷ []) text)) f g
+      | inr h ↦
+          let p = g.place in
+          let l = length-append (numeral (length text)) (58 ∷ text) in record {
+            place = omega (arith, p, l, h);
+            text_is = λ k. absurd (let e : ⊥ = omega (arith, p, h, k, small) in e);
+            room = g.room ∙ f.room;
+          }
+    ]
 
 pub length_written : (n : ℕ) (mid : List ℕ) → n < 2 ^ 64 → mid ≡ decimal n → numeral n ++ 58 ∷ [] ≡ mid ++ 58 ∷ []
 length_written n mid f h = ap (λ l. l ++ 58 ∷ []) (sym (decimal_numeral n f) ∙ sym h)

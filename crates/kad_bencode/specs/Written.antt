@@ -1,5 +1,5 @@
 -- What writing leaves.
-use Rattle.std.specs.Prelude.{◌≡◌, ℕ, ◌+◌, ◌≤◌, min, List, ◌∷◌, ◌++◌, length, take, Result, MatchResult}
+use Rattle.std.specs.Prelude.{◌≡◌, ℕ, ◌+◌, ◌-◌, ◌^◌, ◌≤◌, min, List, ◌∷◌, ◌++◌, length, take, Result, MatchResult}
 use Rattle.kad_bencode.specs.Spelling.{pairs_text}
 use Rattle.kad_bencode.specs.Faults.{pairs_of}
 use Rattle.kad_bencode.specs.declared.entries.Pair.{Pair}
@@ -13,10 +13,14 @@ Keeps old new = (more : List ℕ) × (new ≡ old ++ more)
 abbrev pub Appends : {E : Type 0} → Result (Unit {0}) E → List ℕ → List ℕ → List ℕ → Type 0
 Appends result old new text = MatchResult result (λ _. new ≡ old ++ text) (λ _. Keeps old new)
 
--- A text was put at a place of a buffer: the place behind it, or one past the end where it has no room; with room, the
--- text stands behind what was in front of it.
+-- the greatest place that there is
+abbrev pub last_place : ℕ
+last_place = 2 ^ 64 - 1
+
+-- A text was put at a place of a buffer: the place behind it, also where it has no room; with room, the text stands
+-- behind what was in front of it.
 pub record Puts (old new : List ℕ) (at : ℕ) (text : List ℕ) (next : ℕ) : Type 0 where
-  pub place : next ≡ min (at + length text) (length old + 1)
+  pub place : next ≡ min (at + length text) last_place
   pub text_is : next ≤ length old → take next new ≡ take at old ++ text
   pub room : length new ≡ length old
 

@@ -1,5 +1,5 @@
-//! Texts put into bytes that are there already. A put that finds no room answers a place past the end, and so do those
-//! that go on from there; no call takes memory.
+//! Texts put into bytes that are there already. A put that finds no room answers the place where its text would end, and so
+//! do those that go on from there: what is put into no bytes is measured. No call takes memory.
 ghost use Rattle.std.specs.Prelude.{◌∷◌, [], ◌++◌};
 ghost use Rattle.kad_bencode.specs.Spelling.{numeral, integer_text, string_text};
 ghost use Rattle.kad_bencode.specs.Written.{Puts};
@@ -7,15 +7,13 @@ ghost use Rattle.kad_bencode.specs.Written.{Puts};
 use itoa::Buffer;
 use kad_base::put_bytes;
 
-/// Puts a part at a place, and answers the place behind it, or one past the end where it has no room.
+/// Puts a part at a place, and answers the place behind it, also where it has no room; one past `usize::MAX` is that.
 pub fn put_part(buf: &mut [u8], at: usize, part: &[u8]) -> usize
     ensures { Puts buf.old buf.new at part.now result }
 {
-    if at > buf.len() {
-        return buf.len() + 1;
-    }
-    if part.len() > buf.len() - at {
-        return buf.len() + 1;
+    let next = at.saturating_add(part.len());
+    if next > buf.len() {
+        return next;
     }
     put_bytes(buf, at, part)
 }

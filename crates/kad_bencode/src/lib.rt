@@ -24,6 +24,3 @@ pub use reader::{MAX_DEPTH, read};
 pub use value::{Bad, BenFault, Entries, Value, Values};
 pub use verify::check;
 pub use writer::write;
-
-#[cfg(test)]
-mod tests;

@@ -1,5 +1,5 @@
 -- Values gathered one after another.
-use Rattle.std.proofs.Common.{◌≡◌, ℕ, Bool, true, false, cond, List, [], ◌∷◌, Option, Some, None, IsTrue, ◌↔◌, refl, sym, ap, ◌∙◌, subst}
+use Rattle.std.proofs.Common.{◌≡◌, ℕ, Bool, true, false, cond, List, ◌∷◌, Option, Some, None, IsTrue, ◌↔◌, refl, sym, ap, ◌∙◌, subst}
 use Rattle.std.specs.Ordering.{is_eq}
 use Rattle.kad_bencode.specs.Keys.{key_cmp, value_of}
 use Rattle.kad_bencode.specs.Parts.{dict_of, dict_in, member_of, member_in}
@@ -9,29 +9,25 @@ use Rattle.kad_bencode.specs.declared.value.Value.TheOpen as layer
 use Rattle.kad_bencode.specs.declared.value.Value.TheOpen.{Value-F}
 use Rattle.kad_bencode.specs.declared.value.Value.TheViews.{out-Value}
 use Rattle.kad_bencode.proofs.Looking.{same_key, other_key}
-use Rattle.kad_krpc.specs.Gathering.{first_of}
+use Rattle.kad_krpc.specs.Gathering.{first_of, behind, before}
 
-first_then : (b : Bool) (o : Option Value) (v : Value) (rest : Option Value) → first_of (first_of o (cond b (Some v) None)) rest ≡ first_of o (cond b (Some v) rest)
-first_then true (Some x) v rest = refl
-first_then false (Some x) v rest = refl
-first_then true None v rest = refl
-first_then false None v rest = refl
-
-first_none : (o : Option Value) → first_of o None ≡ o
+-- what is there stays
+pub first_none : {A : Type 0} (o : Option A) → o ≡ first_of o None
 first_none (Some x) = refl
 first_none None = refl
 
--- one more pair was looked at
-pub gathered : (ps rest : List (Pair Value)) (key k : List ℕ) (v : Value) (slot new sought : Option Value) → ps ≡ record { key = key; value = v } ∷ rest → new ≡ first_of slot (cond (is_eq (key_cmp k key)) (Some v) None) → first_of slot (value_of ps k) ≡ sought → first_of new (value_of rest k) ≡ sought
-gathered ps rest key k v slot new sought e f g =
-    ap (λ o. first_of o (value_of rest k)) f
-    ∙ first_then (is_eq (key_cmp k key)) slot v (value_of rest k)
-    ∙ ap (λ l. first_of slot (value_of l k)) (sym e)
-    ∙ g
+-- of two look-ups, the second at its own first
+pub first_then : {A : Type 0} (a b c : Option A) → first_of (first_of a b) c ≡ first_of a (first_of b c)
+first_then (Some x) b c = refl
+first_then None b c = refl
 
--- none is left
-pub gathered_all : (ps : List (Pair Value)) (k : List ℕ) (slot sought : Option Value) → ps ≡ [] → first_of slot (value_of ps k) ≡ sought → slot ≡ sought
-gathered_all ps k slot sought e g = sym (first_none slot) ∙ ap (λ l. first_of slot (value_of l k)) (sym e) ∙ g
+either_then : (b : Bool) (v : Value) (rest : Option Value) → first_of (cond b (Some v) None) rest ≡ cond b (Some v) rest
+either_then true v rest = refl
+either_then false v rest = refl
+
+-- the first pair comes before the others
+pub pair_before : (ps rest : List (Pair Value)) (key : List ℕ) (v : Value) → ps ≡ record { key = key; value = v } ∷ rest → before (behind key v) (value_of rest) ≡ value_of ps
+pair_before ps rest key v e = (λ i k. either_then (is_eq (key_cmp k key)) v (value_of rest k) i) ∙ sym (ap (λ l. value_of l) e)
 
 -- a value that is no dictionary has no members
 none_in : (y : Value-F Value) (k : List ℕ) → None ≡ dict_in y → None ≡ member_in y k
@@ -40,8 +36,8 @@ none_in (layer.Text s) k e = refl
 none_in (layer.List vs) k e = refl
 none_in (layer.Dict ps) k e = absurd (let f : ⊥ = cc in f)
 
-pub no_member : (v : Value) (k : List ℕ) → None ≡ dict_of v → None ≡ member_of v k
-no_member v k e = none_in (out-Value v) k e
+pub no_member : (v : Value) → None ≡ dict_of v → (λ k. None) ≡ member_of v
+no_member v e = (λ i k. none_in (out-Value v) k e i)
 
 -- keys that are the same
 pub from_equal : (a b : List ℕ) (r : Bool) → (IsTrue r ↔ (a ≡ b)) → r ≡ is_eq (key_cmp b a)

@@ -1,23 +1,15 @@
 -- Texts of messages that are put one behind another.
-use Rattle.std.proofs.Common.{◌≡◌, ℕ, List, [], ◌∷◌, ◌++◌, map, length, ℤ, pos, refl, ap, ◌∙◌, append-nil}
-use Rattle.std.specs.Prelude.{codes, flat_map}
-use Rattle.std.specs.List.{concat}
-use Rattle.kad_base.specs.declared.plain.Addr.{Addr}
+use Rattle.std.proofs.Common.{◌≡◌, ℕ, ◌<◌, ◌≤◌, List, [], ◌∷◌, ◌++◌, take, length, ℤ, pos, sym, ap, ◌∙◌, arith, append-nil}
+use Rattle.std.specs.Prelude.{codes}
 use Rattle.kad_bencode.specs.Spelling.{integer_text, string_text, pairs_text, text_of}
+use Rattle.std.proofs.lemmas.List.{take_all}
+use Rattle.std.proofs.Math.Seq.{take-append_seam}
 use Rattle.kad_bencode.specs.Faults.{pairs_of}
+use Rattle.kad_bencode.specs.Written.{Puts, last_place}
 use Rattle.kad_bencode.specs.declared.value.Value.TheVariants.{Int, Text, List as Values}
 use Rattle.kad_bencode.proofs.Folds.{text_of-int, text_of-text, text_of-list}
-use Rattle.kad_krpc.specs.Records.{addr_bytes}
-use Rattle.kad_krpc.specs.Form.{pair, peers_value}
+use Rattle.kad_krpc.specs.Form.{pair}
 use Rattle.kad_krpc.proofs.Queries.{text_long}
-
--- the texts of peers
-each_peer : (peers : List Addr) → concat (map text_of (map (λ peer. Text (addr_bytes peer)) peers)) ≡ flat_map (λ peer. string_text (addr_bytes peer)) peers
-each_peer [] = refl
-each_peer (p ∷ ps) = (λ i. text_of-text (addr_bytes p) i ++ each_peer ps i)
-
-pub peers_text : (peers : List Addr) → text_of (peers_value peers) ≡ (108 ∷ flat_map (λ peer. string_text (addr_bytes peer)) peers) ++ 101 ∷ []
-peers_text peers = text_of-list (map (λ peer. Text (addr_bytes peer)) peers) ∙ ap (λ l. 108 ∷ l ++ 101 ∷ []) (each_peer peers)
 
 -- a pair whose value is 1, and one whose value is a string
 pub one_text : (key : List ℕ) → pairs_text (pairs_of (pair key (Int (pos 1)))) ≡ string_text key ++ codes "i1e"
@@ -35,3 +27,21 @@ pub error_text : (code : ℤ) (said : List ℕ) → text_of (Values (Int code �
 error_text code said =
     text_of-list (Int code ∷ Text said ∷ [])
     ∙ (λ i. 108 ∷ (text_of-int code i ++ append-nil (text_of-text said i) i) ++ 101 ∷ [])
+
+-- ---- a message that is measured first
+
+pub measured : {old new text : List ℕ} {size : ℕ} → Puts old new 0 text size → (size ≡ last_place → ⊥) → size ≡ length text
+measured p n = let e = p.place in omega (arith, e, n)
+
+-- and then put into as many bytes
+pub all_put : {old new text : List ℕ} {size next : ℕ} → length old ≡ size → size ≡ length text → size < last_place → Puts old new 0 text next → new ≡ text
+all_put {old} {new} {text} {size} {next} l e small p =
+    let place = p.place in
+    let room = p.room in
+    let there : next ≤ length old = omega (arith, place, e, l, small) in
+    let whole : length new ≤ next = omega (arith, place, room, e, l, small) in
+    sym (take_all next new whole) ∙ p.text_is there
+
+-- a vector whose bytes were all put
+pub whole_vec : (result xs ys : List ℕ) (n : ℕ) → n ≡ length xs → result ≡ take n (xs ++ ys) → result ≡ xs
+whole_vec result xs ys n e r = r ∙ ap (λ k. take k (xs ++ ys)) e ∙ take-append_seam xs ys

@@ -1,8 +1,9 @@
-pub mod Records
+pub use Rattle.kad_records.specs.Records
+pub mod Fields
+pub mod Answering
+pub mod Asking
 pub mod Reading
 pub mod Form
-pub mod Filing
 pub mod Well
 pub mod Views
-pub mod Telling
 pub mod Gathering

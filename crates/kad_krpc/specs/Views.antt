@@ -1,30 +1,16 @@
 -- What a view of a message says, as the message that it would be in memory of its own.
 use Rattle.std.specs.Prelude.{ℕ, ℤ, List, Option, Some, None, option_copied, Result, Ok, Err}
 use Rattle.std.specs.Borrow.{Bor}
+use Rattle.kad_bencode.specs.Parts.{member_of}
+use Rattle.kad_bencode.specs.declared.value.Value.{Value}
 use Rattle.kad_krpc.specs.declared.message.Message.{Message}
 use Rattle.kad_krpc.specs.declared.message.Message.TheVariants as message
-use Rattle.kad_krpc.specs.declared.message.Ask.{Ask}
-use Rattle.kad_krpc.specs.declared.message.Ask.TheVariants as ask
-use Rattle.kad_krpc.specs.declared.message.Answer.{Answer}
 use Rattle.kad_krpc.specs.declared.message.KrpcFault.{KrpcFault}
 use Rattle.kad_krpc.specs.declared.borrowed.View.{View}
 use Rattle.kad_krpc.specs.declared.borrowed.View.TheVariants as view
-use Rattle.kad_krpc.specs.declared.borrowed.AskView.{AskView}
-use Rattle.kad_krpc.specs.declared.borrowed.AskView.TheVariants as seen
-use Rattle.kad_krpc.specs.declared.borrowed.AnswerView.{AnswerView}
-use Rattle.kad_krpc.specs.Reading.{Step, peers_in}
-
--- what a view asks
-abbrev pub ask_seen : AskView → Ask
-ask_seen (seen.Ping id) = ask.Ping id
-ask_seen (seen.FindNode id target) = ask.FindNode id target
-ask_seen (seen.GetPeers id info_hash) = ask.GetPeers id info_hash
-ask_seen (seen.AnnouncePeer id info_hash port token) = ask.AnnouncePeer id info_hash port token.now
-ask_seen (seen.Other method) = ask.Other method.now
-
--- what a view gives
-abbrev pub answer_seen : AnswerView → Answer
-answer_seen a = record { id = a.id; nodes = a.nodes; snodes = a.snodes; token = option_copied a.token; values = peers_in a.values }
+use Rattle.kad_krpc.specs.Fields.{Step, Look}
+pub use Rattle.kad_krpc.specs.Asking.{ask_seen, asked}
+pub use Rattle.kad_krpc.specs.Answering.{answer_seen, answered}
 
 -- what a view says
 abbrev pub message_seen : View → Message
@@ -39,15 +25,10 @@ viewed (Err fault) = Err fault
 
 -- ---- for the steps of the reading
 
--- what was asked, by a view of it, or the refusal
-abbrev pub asked : Result AskView KrpcFault → Step Ask
-asked (Ok x) = Ok (ask_seen x)
-asked (Err fault) = Err fault
-
--- what was answered, by a view of it, or the refusal
-abbrev pub answered : Result AnswerView KrpcFault → Step Answer
-answered (Ok x) = Ok (answer_seen x)
-answered (Err fault) = Err fault
+-- the members of a value where it stands, or the refusal
+abbrev pub looks : Result Value KrpcFault → Step Look
+looks (Ok v) = Ok (member_of v)
+looks (Err fault) = Err fault
 
 -- a string that is lent
 abbrev pub lent : Result (Bor (List ℕ)) KrpcFault → Step (List ℕ)

@@ -1,14 +1,33 @@
-//! Reads what an answer gives.
-ghost use Rattle.std.specs.Prelude.{◌≡◌};
-ghost use Rattle.kad_krpc.specs.Reading.{answer_by};
-ghost use Rattle.kad_krpc.specs.Telling.{answer_from};
-ghost use Rattle.kad_krpc.specs.Views.{answered};
+//! The dictionary `r` of an answer: each of its keys is read, written, copied and told of here.
+ghost use Rattle.std.specs.Prelude.{◌≡◌, IfOk};
+ghost use Rattle.kad_bencode.specs.Parts.{member_of};
+ghost use Rattle.kad_bencode.specs.Spelling.{text_of};
+ghost use Rattle.kad_bencode.specs.Written.{Puts};
+ghost use Rattle.kad_bencode.specs.declared.value.Value.TheVariants as value;
+ghost use Rattle.kad_krpc.specs.Answering.{answer_by, answer_at, answer_pairs, answer_seen, answered, IsWellAnswer};
 
-use crate::borrowed::AnswerView;
-use crate::members::five_in;
-use crate::message::{Key, KrpcFault};
-use crate::step::{needed_id, nodes_of, optional_list, optional_text, snodes_of};
-use kad_bencode::Piece;
+use crate::fields::{
+    needed_id, optional_list, optional_records, optional_text, put_id, put_maybe_peers,
+    put_maybe_records, put_maybe_text,
+};
+use crate::members::{keys, members};
+use crate::message::{Answer, Key, KrpcFault};
+use crate::owned::{maybe_peers, maybe_records, maybe_text};
+use crate::well::{tell_nodes, tell_snodes, tell_values};
+use kad_base::{Id, NoMemory};
+use kad_bencode::{Items, Piece, put_part};
+use kad_records::{Node, Proved, Records, tell_id};
+use std::alloc::Global;
+
+/// What an answer gives, as `Answer` does. Of `values` those that are no strings of 6 bytes are still among them.
+#[derive(Drop)]
+pub struct AnswerView<'a> {
+    pub id: Id,
+    pub nodes: Option<Records<'a, Node>>,
+    pub snodes: Option<Records<'a, Proved>>,
+    pub token: Option<&'a [u8]>,
+    pub values: Option<Items<'a>>,
+}
 
 /// The answer of these values.
 fn read_parts<'a>(
@@ -22,8 +41,8 @@ fn read_parts<'a>(
         values.entry }
 {
     let id = needed_id(id, Key::Id)?;
-    let nodes = nodes_of(optional_text(nodes, Key::Nodes)?)?;
-    let snodes = snodes_of(optional_text(snodes, Key::Snodes)?)?;
+    let nodes = optional_records(nodes, Key::Nodes)?;
+    let snodes = optional_records(snodes, Key::Snodes)?;
     let token = optional_text(token, Key::Token)?;
     let values = optional_list(values, Key::Values)?;
     Ok(AnswerView {
@@ -37,14 +56,52 @@ fn read_parts<'a>(
 
 /// The answer of the dictionary `r`.
 pub(crate) fn read_answer<'a>(r: &Piece<'a>) -> Result<AnswerView<'a>, KrpcFault>
-    ensures { answered result ≡ answer_from r.now }
+    ensures { answered result ≡ answer_at (member_of r.now) }
 {
-    let found = five_in(r, b"id", b"nodes", b"snodes", b"token", b"values");
-    read_parts(
-        found.first,
-        found.second,
-        found.third,
-        found.fourth,
-        found.fifth,
-    )
+    let slots = keys!(b"id", b"nodes", b"snodes", b"token", b"values");
+    let (id, slots) = members(r, slots).take();
+    let (nodes, slots) = slots.take();
+    let (snodes, slots) = slots.take();
+    let (token, slots) = slots.take();
+    let (values, _) = slots.take();
+    read_parts(id, nodes, snodes, token, values)
+}
+
+/// Puts the dictionary `r` of an answer. Takes no memory.
+pub(crate) fn put_answer(buf: &mut [u8], at: usize, answer: &Answer) -> usize
+    ensures { Puts buf.old buf.new at (text_of (value.Dict (answer_pairs answer.now))) result }
+{
+    let at = put_id(buf, at, &answer.id);
+    let at = put_maybe_records::<Node>(buf, at, b"nodes", &answer.nodes);
+    let at = put_maybe_records::<Proved>(buf, at, b"snodes", &answer.snodes);
+    let at = put_maybe_text(buf, at, b"token", &answer.token);
+    let at = put_maybe_peers(buf, at, b"values", &answer.values);
+    put_part(buf, at, b"e")
+}
+
+/// The answer that a view is of, in memory of its own.
+pub(crate) fn own_answer(alloc: Global, answer: AnswerView) -> Result<Answer, NoMemory>
+    ensures { IfOk result (λ a. a ≡ answer_seen answer.entry) }
+{
+    let nodes = maybe_records(alloc, answer.nodes)?;
+    let snodes = maybe_records(alloc, answer.snodes)?;
+    let token = maybe_text(alloc, answer.token)?;
+    let values = maybe_peers(alloc, answer.values)?;
+    Ok(Answer {
+        id: answer.id,
+        nodes,
+        snodes,
+        token,
+        values,
+    })
+}
+
+/// The parts of an answer are as long as their types say.
+pub(crate) fn tell_answer(answer: &Answer)
+    ensures { IsWellAnswer answer.now }
+{
+    tell_id(&answer.id);
+    tell_nodes(&answer.nodes);
+    tell_snodes(&answer.snodes);
+    tell_values(&answer.values);
 }

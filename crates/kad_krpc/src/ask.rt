@@ -1,14 +1,46 @@
-//! Reads what a query asks.
-ghost use Rattle.std.specs.Prelude.{◌≡◌};
-ghost use Rattle.kad_krpc.specs.Reading.{port_by, announced_by, method_in, is_read_only, is_implied};
-ghost use Rattle.kad_krpc.specs.Telling.{find_node_from, get_peers_from, announce_peer_from, rest_from, arguments_from, ask_from};
-ghost use Rattle.kad_krpc.specs.Views.{asked};
+//! What a query asks, by its method: each method and its arguments are read, written, copied and told of here.
+ghost use Rattle.std.specs.Prelude.{◌≡◌, ◌++◌, codes, IfOk};
+ghost use Rattle.kad_bencode.specs.Parts.{member_of};
+ghost use Rattle.kad_bencode.specs.Spelling.{text_of};
+ghost use Rattle.kad_bencode.specs.Written.{Puts, PutsPairs};
+ghost use Rattle.kad_bencode.specs.declared.value.Value.TheVariants as value;
+ghost use Rattle.kad_krpc.specs.Fields.{pair};
+ghost use Rattle.kad_krpc.specs.Asking.{port_by, announced_by, find_node_at, get_peers_at, announce_peer_at, rest_at, arguments_at, ask_of, method_in, is_read_only, is_implied, announced, arguments_of, name_of, read_only_pair, ask_seen, asked, IsWellPort, IsWellAsk};
+ghost use Rattle.kad_records.specs.Records.{IsWellId};
 
-use crate::borrowed::AskView;
-use crate::message::{Key, KrpcFault, Method, Port};
-use crate::step::{needed_dict, needed_id, needed_port, needed_text, optional_int};
-use kad_base::Id;
-use kad_bencode::Piece;
+use crate::fields::{
+    needed_dict, needed_id, needed_port, needed_text, optional_int, put_id, put_number, put_text,
+};
+use crate::message::{Ask, Key, KrpcFault, Method, Port};
+use kad_base::{Id, List, NoMemory};
+use kad_bencode::{Piece, put_part};
+use kad_records::tell_id;
+use std::alloc::Global;
+
+/// What a query asks, as `Ask` does.
+#[derive(Drop)]
+pub enum AskView<'a> {
+    Ping {
+        id: Id,
+    },
+    FindNode {
+        id: Id,
+        target: Id,
+    },
+    GetPeers {
+        id: Id,
+        info_hash: Id,
+    },
+    AnnouncePeer {
+        id: Id,
+        info_hash: Id,
+        port: Port,
+        token: &'a [u8],
+    },
+    Other {
+        method: &'a [u8],
+    },
+}
 
 /// Whether the query's node says that it answers none (BEP 43).
 pub(crate) fn read_only(value: Option<Piece>) -> bool
@@ -42,14 +74,14 @@ fn read_port(implied_port: Option<Piece>, port: Option<Piece>) -> Result<Port, K
 }
 
 fn read_find_node<'a>(a: &Piece<'a>, id: Id) -> Result<AskView<'a>, KrpcFault>
-    ensures { asked result ≡ find_node_from a.now id }
+    ensures { asked result ≡ find_node_at (member_of a.now) id }
 {
     let target = needed_id(a.get(b"target"), Key::Target)?;
     Ok(AskView::FindNode { id, target })
 }
 
 fn read_get_peers<'a>(a: &Piece<'a>, id: Id) -> Result<AskView<'a>, KrpcFault>
-    ensures { asked result ≡ get_peers_from a.now id }
+    ensures { asked result ≡ get_peers_at (member_of a.now) id }
 {
     let info_hash = needed_id(a.get(b"info_hash"), Key::InfoHash)?;
     Ok(AskView::GetPeers { id, info_hash })
@@ -77,7 +109,7 @@ fn read_announced<'a>(
 }
 
 fn read_announce_peer<'a>(a: &Piece<'a>, id: Id) -> Result<AskView<'a>, KrpcFault>
-    ensures { asked result ≡ announce_peer_from a.now id }
+    ensures { asked result ≡ announce_peer_at (member_of a.now) id }
 {
     read_announced(
         id,
@@ -109,7 +141,7 @@ fn method_of(name: &[u8]) -> Option<Method>
 
 /// What a method asks behind who asks it.
 fn read_rest<'a>(method: Method, a: &Piece<'a>, id: Id) -> Result<AskView<'a>, KrpcFault>
-    ensures { asked result ≡ rest_from method a.now id }
+    ensures { asked result ≡ rest_at method (member_of a.now) id }
 {
     match method {
         Method::Ping => Ok(AskView::Ping { id }),
@@ -124,7 +156,7 @@ fn read_arguments<'a>(
     method: Method,
     arguments: Option<Piece<'a>>,
 ) -> Result<AskView<'a>, KrpcFault>
-    ensures { asked result ≡ arguments_from method arguments.entry }
+    ensures { asked result ≡ arguments_at method arguments.entry }
 {
     let a = needed_dict(arguments, Key::A)?;
     let id = needed_id(a.get(b"id"), Key::Id)?;
@@ -136,10 +168,171 @@ pub(crate) fn read_ask<'a>(
     name: &'a [u8],
     arguments: Option<Piece<'a>>,
 ) -> Result<AskView<'a>, KrpcFault>
-    ensures { asked result ≡ ask_from name.now arguments.entry }
+    ensures { asked result ≡ ask_of name.now arguments.entry }
 {
     match method_of(name) {
         Some(method) => read_arguments(method, arguments),
         None => Ok(AskView::Other { method: name }),
+    }
+}
+
+/// Puts the arguments of an `announce_peer`. A port is always written; an implied one is 1.
+fn put_announced(
+    buf: &mut [u8],
+    at: usize,
+    id: &Id,
+    info_hash: &Id,
+    port: Port,
+    token: &[u8],
+) -> usize
+    ensures { Puts buf.old buf.new at (text_of
+        (value.Dict (announced id.now info_hash.now port token.now))) result }
+{
+    match port {
+        Port::Given(number) => {
+            let at = put_id(buf, at, id);
+            let at = put_text(buf, at, b"info_hash", &info_hash.0);
+            let at = put_number(buf, at, b"port", number as i64);
+            let at = put_text(buf, at, b"token", token);
+            put_part(buf, at, b"e")
+        }
+        Port::Implied => {
+            let at = put_id(buf, at, id);
+            let at = put_part(buf, at, b"12:implied_porti1e");
+            let at = put_text(buf, at, b"info_hash", &info_hash.0);
+            let at = put_part(buf, at, b"4:porti1e");
+            let at = put_text(buf, at, b"token", token);
+            put_part(buf, at, b"e")
+        }
+    }
+}
+
+/// Puts the arguments that are an identifier.
+fn put_one_id(buf: &mut [u8], at: usize, id: &Id) -> usize
+    ensures { Puts buf.old buf.new at (text_of
+        (value.Dict (pair (codes "id") (value.Text id.now.0)))) result }
+{
+    let at = put_id(buf, at, id);
+    put_part(buf, at, b"e")
+}
+
+/// Puts the arguments that are two identifiers, under `id` and a key after it.
+fn put_two_ids(buf: &mut [u8], at: usize, id: &Id, key: &[u8], other: &Id) -> usize
+    ensures { Puts buf.old buf.new at (text_of
+        (value.Dict (pair (codes "id") (value.Text id.now.0) ++ pair key.now
+        (value.Text other.now.0)))) result }
+{
+    let at = put_id(buf, at, id);
+    let at = put_text(buf, at, key, &other.0);
+    put_part(buf, at, b"e")
+}
+
+/// Puts the arguments of a query; those of a method that isn't known are none.
+pub(crate) fn put_arguments(buf: &mut [u8], at: usize, ask: &Ask) -> usize
+    ensures { Puts buf.old buf.new at (text_of (value.Dict (arguments_of ask.now))) result }
+{
+    match ask {
+        Ask::Ping { id } => put_one_id(buf, at, id),
+        Ask::FindNode { id, target } => put_two_ids(buf, at, id, b"target", target),
+        Ask::GetPeers { id, info_hash } => put_two_ids(buf, at, id, b"info_hash", info_hash),
+        Ask::AnnouncePeer {
+            id,
+            info_hash,
+            port,
+            token,
+        } => put_announced(buf, at, id, info_hash, *port, token.as_slice()),
+        Ask::Other { .. } => put_part(buf, at, b"de"),
+    }
+}
+
+/// The name of a method.
+pub(crate) fn name(ask: &Ask) -> &[u8]
+    ensures { result.now ≡ name_of ask.now }
+{
+    match ask {
+        Ask::Ping { .. } => b"ping",
+        Ask::FindNode { .. } => b"find_node",
+        Ask::GetPeers { .. } => b"get_peers",
+        Ask::AnnouncePeer { .. } => b"announce_peer",
+        Ask::Other { method } => method.as_slice(),
+    }
+}
+
+/// Says that a query is read-only, where it is.
+pub(crate) fn put_ro(buf: &mut [u8], at: usize, read_only: bool) -> usize
+    ensures { PutsPairs buf.old buf.new at (read_only_pair read_only) result }
+{
+    if read_only {
+        return put_part(buf, at, b"2:roi1e");
+    }
+    at
+}
+
+/// What a view asks, in memory of its own.
+pub(crate) fn own_ask(alloc: Global, ask: AskView) -> Result<Ask, NoMemory>
+    ensures { IfOk result (λ a. a ≡ ask_seen ask.entry) }
+{
+    match ask {
+        AskView::Ping { id } => Ok(Ask::Ping { id }),
+        AskView::FindNode { id, target } => Ok(Ask::FindNode { id, target }),
+        AskView::GetPeers { id, info_hash } => Ok(Ask::GetPeers { id, info_hash }),
+        AskView::AnnouncePeer {
+            id,
+            info_hash,
+            port,
+            token,
+        } => {
+            let token = List::from_slice(alloc, token)?;
+            Ok(Ask::AnnouncePeer {
+                id,
+                info_hash,
+                port,
+                token,
+            })
+        }
+        AskView::Other { method } => {
+            let method = List::from_slice(alloc, method)?;
+            Ok(Ask::Other { method })
+        }
+    }
+}
+
+fn tell_port(port: &Port)
+    ensures { IsWellPort port.now }
+{
+    match port {
+        Port::Given(number) => {
+            let _number = *number;
+        }
+        Port::Implied => {}
+    }
+}
+
+fn tell_two(a: &Id, b: &Id)
+    ensures a { IsWellId a.now }
+    ensures b { IsWellId b.now }
+{
+    tell_id(a);
+    tell_id(b);
+}
+
+/// The parts of what a query asks are as long as their types say.
+pub(crate) fn tell_ask(ask: &Ask)
+    ensures { IsWellAsk ask.now }
+{
+    match ask {
+        Ask::Ping { id } => tell_id(id),
+        Ask::FindNode { id, target } => tell_two(id, target),
+        Ask::GetPeers { id, info_hash } => tell_two(id, info_hash),
+        Ask::AnnouncePeer {
+            id,
+            info_hash,
+            port,
+            ..
+        } => {
+            tell_two(id, info_hash);
+            tell_port(port);
+        }
+        Ask::Other { .. } => {}
     }
 }

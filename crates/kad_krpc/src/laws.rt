@@ -5,8 +5,7 @@ ghost use Rattle.kad_krpc.specs.Form.{IsWritable, form};
 ghost use Rattle.kad_krpc.specs.Well.{IsWell};
 ghost use Rattle.kad_krpc.specs.Reading.{Says};
 
-/// The written form of a message says it. A message is well formed by its types: identifiers have 20 bytes, addresses 4,
-/// and so on.
+/// The written form of a message says it, where its arrays and numbers are as its types have them.
 pub fn form_says()
     ensures { (m : Message) → IsWell m → IsWritable m → Says (form m) m }
 {}

@@ -5,29 +5,29 @@
 mod answer;
 mod ask;
 mod borrowed;
-mod into;
+mod fields;
 mod laws;
 mod members;
 mod message;
 mod owned;
 mod query;
 mod reader;
-mod record;
-mod records;
-mod step;
 mod well;
 mod writer;
 
-pub use borrowed::{AnswerView, AskView, View};
-pub use into::encode_into;
+pub use answer::AnswerView;
+pub use ask::AskView;
+pub use borrowed::View;
+pub use kad_records::split_record;
 pub use laws::{form_says, one_message, said_is_writable};
 pub use message::{Answer, Ask, Key, KrpcFault, Message, Port};
 pub use query::{find_node_into, get_peers_into};
 pub use reader::{decode, decode_view};
-pub use record::split_record;
-pub use records::{Nodes, ProvedNodes};
 pub use well::message_is_well;
-pub use writer::encode;
+pub use writer::{encode, encode_into};
 
-#[cfg(test)]
-mod tests;
+/// The `nodes` of an answer where they stand.
+pub type Nodes<'a> = kad_records::Records<'a, kad_records::Node>;
+
+/// The `snodes` of an answer where they stand.
+pub type ProvedNodes<'a> = kad_records::Records<'a, kad_records::Proved>;

@@ -2,8 +2,7 @@
 use kad_base::{Addrs, Bytes, Contacts, Id, Reports};
 use kad_bencode::Bad;
 
-/// A message of KRPC (BEP 5): one dictionary of bencode with its keys in ascending order. `tx` is the transaction id,
-/// which an answer repeats.
+/// A message of KRPC (BEP 5): one dictionary, its keys ascending. `tx` is the transaction id, which an answer repeats.
 #[derive(Debug, Drop, PartialEq, Eq)]
 pub enum Message {
     /// `d1:a` the arguments `1:q` the method, where read-only `2:roi1e`, `1:t` the transaction id `1:y1:qe`. A node that

@@ -1,20 +1,74 @@
 //! Reads a message, step by step: the first step that fails is the refusal.
-ghost use Rattle.std.specs.Prelude.{◌≡◌, IfOk, IfErr, Ok, Err};
+ghost use Rattle.std.specs.Prelude.{◌≡◌, option_copied, IfOk, IfErr, Ok, Err};
 ghost use Rattle.kad_krpc.specs.declared.message.Message.{Message};
 ghost use Rattle.kad_krpc.specs.declared.message.KrpcFault.{KrpcFault};
-ghost use Rattle.kad_krpc.specs.Reading.{Says, Refuses, Gives, IfRefused};
-ghost use Rattle.kad_krpc.specs.Telling.{query_told, answer_told, fault_told, told};
-ghost use Rattle.kad_krpc.specs.Views.{viewed, message_seen};
+ghost use Rattle.kad_bencode.specs.Parts.{member_of};
+ghost use Rattle.kad_krpc.specs.Fields.{needed};
+ghost use Rattle.kad_krpc.specs.Reading.{kind_in, kind_of, code_text_of, query_by, answer_message_by, fault_by, message_at, said, Says, Refuses, Gives, IfRefused};
+ghost use Rattle.kad_krpc.specs.Views.{lent_code, lent_error, viewed, message_seen};
 
 use crate::answer::read_answer;
 use crate::ask::{read_ask, read_only};
 use crate::borrowed::View;
-use crate::members::five_in;
+use crate::fields::{needed_dict, needed_text};
+use crate::members::{keys, members};
 use crate::message::{Key, Kind, KrpcFault, Message};
 use crate::owned::message_of;
-use crate::step::{needed_code_text, needed_dict, needed_kind, needed_text};
 use kad_bencode::Piece;
 use std::alloc::Global;
+
+/// `q`, `r` or `e`.
+fn kind(name: Option<&[u8]>) -> Option<Kind>
+    ensures { result ≡ kind_in (option_copied name.entry) }
+{
+    let name = name?;
+    if name == b"q".as_slice() {
+        return Some(Kind::Query);
+    }
+    if name == b"r".as_slice() {
+        return Some(Kind::Answer);
+    }
+    if name == b"e".as_slice() {
+        return Some(Kind::Fault);
+    }
+    None
+}
+
+fn needed_kind(value: Option<Piece>, key: Key) -> Result<Kind, KrpcFault>
+    ensures { result ≡ needed kind_of key value.entry }
+{
+    match value {
+        None => Err(KrpcFault::Missing { key }),
+        Some(value) => match kind(value.as_bytes()) {
+            None => Err(KrpcFault::Shape { key }),
+            Some(kind) => Ok(kind),
+        },
+    }
+}
+
+/// The code and the text of an error message, at the front of its list.
+fn code_text<'a>(value: &Piece<'a>) -> Option<(i64, &'a [u8])>
+    ensures { lent_code result ≡ code_text_of value.now }
+{
+    let mut values = value.items()?;
+    let code = values.next()?;
+    let text = values.next()?;
+    let code = code.as_int()?;
+    let text = text.as_bytes()?;
+    Some((code, text))
+}
+
+fn needed_code_text<'a>(value: Option<Piece<'a>>, key: Key) -> Result<(i64, &'a [u8]), KrpcFault>
+    ensures { lent_error result ≡ needed code_text_of key value.entry }
+{
+    match value {
+        None => Err(KrpcFault::Missing { key }),
+        Some(value) => match code_text(&value) {
+            None => Err(KrpcFault::Shape { key }),
+            Some((code, text)) => Ok((code, text)),
+        },
+    }
+}
 
 fn read_query<'a>(
     tx: &'a [u8],
@@ -22,7 +76,7 @@ fn read_query<'a>(
     a: Option<Piece<'a>>,
     ro: Option<Piece<'a>>,
 ) -> Result<View<'a>, KrpcFault>
-    ensures { viewed result ≡ query_told tx.now q.entry a.entry ro.entry }
+    ensures { viewed result ≡ query_by tx.now q.entry a.entry ro.entry }
 {
     let method = needed_text(q, Key::Q)?;
     let ask = read_ask(method, a)?;
@@ -31,7 +85,7 @@ fn read_query<'a>(
 }
 
 fn read_answer_message<'a>(tx: &'a [u8], r: Option<Piece<'a>>) -> Result<View<'a>, KrpcFault>
-    ensures { viewed result ≡ answer_told tx.now r.entry }
+    ensures { viewed result ≡ answer_message_by tx.now r.entry }
 {
     let r = needed_dict(r, Key::R)?;
     let answer = read_answer(&r)?;
@@ -39,26 +93,38 @@ fn read_answer_message<'a>(tx: &'a [u8], r: Option<Piece<'a>>) -> Result<View<'a
 }
 
 fn read_fault<'a>(tx: &'a [u8], e: Option<Piece<'a>>) -> Result<View<'a>, KrpcFault>
-    ensures { viewed result ≡ fault_told tx.now e.entry }
+    ensures { viewed result ≡ fault_by tx.now e.entry }
 {
     let (code, text) = needed_code_text(e, Key::E)?;
     Ok(View::Fault { tx, code, text })
 }
 
-/// What a value says.
-fn read_value<'a>(top: &Piece<'a>) -> Result<View<'a>, KrpcFault>
-    ensures { viewed result ≡ told top.now }
+/// What a message's dictionary says.
+fn read_top<'a>(top: &Piece<'a>) -> Result<View<'a>, KrpcFault>
+    ensures { viewed result ≡ message_at (member_of top.now) }
 {
-    if !top.is_dict() {
-        return Err(KrpcFault::Shape { key: Key::Top });
+    let slots = keys!(b"t", b"y", b"r", b"q", b"a", b"ro", b"e");
+    let (t, slots) = members(top, slots).take();
+    let (y, slots) = slots.take();
+    let (r, slots) = slots.take();
+    let (q, slots) = slots.take();
+    let (a, slots) = slots.take();
+    let (ro, slots) = slots.take();
+    let (e, _) = slots.take();
+    let tx = needed_text(t, Key::T)?;
+    match needed_kind(y, Key::Y)? {
+        Kind::Query => read_query(tx, q, a, ro),
+        Kind::Answer => read_answer_message(tx, r),
+        Kind::Fault => read_fault(tx, e),
     }
-    let found = five_in(top, b"t", b"y", b"r", b"q", b"e");
-    let tx = needed_text(found.first, Key::T)?;
-    match needed_kind(found.second, Key::Y)? {
-        Kind::Query => read_query(tx, found.fourth, top.get(b"a"), top.get(b"ro")),
-        Kind::Answer => read_answer_message(tx, found.third),
-        Kind::Fault => read_fault(tx, found.fifth),
-    }
+}
+
+/// What a value says.
+fn read_value<'a>(top: Piece<'a>) -> Result<View<'a>, KrpcFault>
+    ensures { viewed result ≡ said top.entry }
+{
+    let top = needed_dict(Some(top), Key::Top)?;
+    read_top(&top)
 }
 
 /// Reads a datagram of any length where it stands: what it says, or the first step of the reading that fails. Keys that
@@ -72,7 +138,7 @@ pub fn decode_view(bytes: &[u8]) -> Result<View<'_>, KrpcFault>
     ensures refused { (fault : KrpcFault) → Refuses bytes.now fault → result ≡ Err fault }
 {
     match Piece::parse(bytes) {
-        Ok(top) => read_value(&top),
+        Ok(top) => read_value(top),
         Err(bad) => Err(KrpcFault::Bad(bad)),
     }
 }

@@ -9,8 +9,6 @@ mod matched;
 mod options;
 mod plain;
 mod reading;
-#[cfg(test)]
-mod tests;
 pub mod text;
 mod values;
 

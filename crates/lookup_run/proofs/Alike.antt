@@ -10,10 +10,13 @@ use Rattle.kad_base.specs.Words.{word, word_bytes}
 use Rattle.query_book.specs.declared.Query.{Query}
 use Rattle.query_book.specs.Queries.{HasId, IsFirstFree}
 use Rattle.claim_book.specs.declared.plain.Entry.{Entry}
-use Rattle.lookup_run.specs.declared.reply.Reply.{Reply}
-use Rattle.lookup_run.specs.Tells.{Given, OpenQuery, Seen, query_of, deadline_of, SentGives, SaysTo, Replies, MatchGives, GotGives, IsStray, is_overdue, open_at, receives_seen, after_stray, Gives, TellsFrom, begun, TellsSoFar, EndsAtStray}
+use Rattle.lookup_core.specs.declared.reply.Reply.{Reply}
+use Rattle.lookup_core.specs.Matching.{OpenQuery, query_of, SaysTo, Replies, IsStray}
+use Rattle.lookup_core.specs.Timeouts.{deadline_of, is_overdue, open_at}
+use Rattle.lookup_run.specs.Tells.{Given, Seen, SentGives, MatchGives, GotGives, receives_seen, after_stray, Gives, TellsFrom, begun, TellsSoFar, EndsAtStray}
 use Rattle.lookup_run.proofs.Driven.{map_push}
 use Rattle.lookup_run.proofs.OnceEvents.{Apart, apart_gives, small_there, one_query, reply_once}
+use Rattle.lookup_core.specs.declared.quest.Quest.{Quest}
 
 -- an open query as the events alone show it
 abbrev bare : OpenQuery → OpenQuery
@@ -99,8 +102,8 @@ twin (x ∷ before) behind (r ∷ rs) q e =
     let t = twin before behind rs q tail in
     record { query = t.query; there = (suc t.there.0, (let lt = t.there.1 in omega (arith, lt)), t.there.2); same = t.same }
 
-twin_replies : (bytes : List ℕ) (from : Addr) (p q : OpenQuery) (r : Reply) → bare p ≡ bare q → Replies bytes from q r → Replies bytes from p r
-twin_replies bytes from p q r e h = record {
+twin_replies : (quest : Quest) (bytes : List ℕ) (from : Addr) (p q : OpenQuery) (r : Reply) → bare p ≡ bare q → Replies quest bytes from q r → Replies quest bytes from p r
+twin_replies quest bytes from p q r e h = record {
   short = h.short;
   said = h.said;
   says = h.says;
@@ -109,14 +112,14 @@ twin_replies bytes from p q r e h = record {
 }
 
 -- a datagram that replies to a query of the one replies to one of the other
-pub not_both : (s t : Seen) (from : Addr) (bytes : List ℕ) (before behind : List OpenQuery) (q : OpenQuery) (r : Reply) → map bare s.queries ≡ map bare t.queries → s.queries ≡ before ++ q ∷ behind → Replies bytes from q r → IsStray t from bytes → ⊥
-not_both s t from bytes before behind q r alike is replies stray =
+pub not_both : (quest : Quest) (s t : Seen) (from : Addr) (bytes : List ℕ) (before behind : List OpenQuery) (q : OpenQuery) (r : Reply) → map bare s.queries ≡ map bare t.queries → s.queries ≡ before ++ q ∷ behind → Replies quest bytes from q r → IsStray quest t.queries from bytes → ⊥
+not_both quest s t from bytes before behind q r alike is replies stray =
     let w = twin before behind t.queries q (ap (map bare) (sym is) ∙ alike) in
-    stray w.query w.there r (twin_replies bytes from w.query q r w.same replies)
+    stray w.query w.there r (twin_replies quest bytes from w.query q r w.same replies)
 
-left_alike : (s t : Seen) (from : Addr) (bytes : List ℕ) (a b c d : List OpenQuery) (x y : OpenQuery) (r u : Reply) → Apart s.queries → Apart t.queries → map bare s.queries ≡ map bare t.queries → s.queries ≡ a ++ x ∷ b → t.queries ≡ c ++ y ∷ d → Replies bytes from x r → Replies bytes from y u → map bare (a ++ b) ≡ map bare (c ++ d)
-left_alike s t from bytes a b c d x y r u hs ht alike is js h k =
-    let ids = (reply_once bytes from x y r u (small_there a b x (subst Apart is hs)) (small_there c d y (subst Apart js ht)) h k).0 in
+left_alike : (quest : Quest) (s t : Seen) (from : Addr) (bytes : List ℕ) (a b c d : List OpenQuery) (x y : OpenQuery) (r u : Reply) → Apart s.queries → Apart t.queries → map bare s.queries ≡ map bare t.queries → s.queries ≡ a ++ x ∷ b → t.queries ≡ c ++ y ∷ d → Replies quest bytes from x r → Replies quest bytes from y u → map bare (a ++ b) ≡ map bare (c ++ d)
+left_alike quest s t from bytes a b c d x y r u hs ht alike is js h k =
+    let ids = (reply_once quest bytes from x y r u (small_there a b x (subst Apart is hs)) (small_there c d y (subst Apart js ht)) h k).0 in
     let whole : map bare a ++ bare x ∷ map bare b ≡ map bare c ++ bare y ∷ map bare d = sym (map-append bare a (x ∷ b)) ∙ ap (map bare) (sym is) ∙ alike ∙ ap (map bare) js ∙ map-append bare c (y ∷ d) in
     let apart : Apart (map bare a ++ bare x ∷ map bare b) = subst Apart (ap (map bare) is ∙ map-append bare a (x ∷ b)) (apart_bare s.queries hs) in
     let one = one_query (map bare a) (map bare b) (map bare c) (map bare d) (bare x) (bare y) apart whole ids in
@@ -127,15 +130,15 @@ left_alike s t from bytes a b c d x y r u hs ht alike is js h k =
 got_alike : (g : Given) (s t s' t' : Seen) (from : Addr) (bytes : List ℕ) (at : ℕ) → Apart s.queries → Apart t.queries → Alike s t → GotGives g s from bytes at s' → GotGives g t from bytes at t' → Alike s' t'
 got_alike g s t s' t' from bytes at hs ht a j k =
     elim j [
-      | inl m ↦ elim k [ inl n ↦ both m n | inr n ↦ absurd (not_both s t from bytes m.matched.before m.matched.behind m.matched.query m.matched.what a.queries m.matched.queries m.matched.replies n.0) ]
-      | inr m ↦ elim k [ inl n ↦ absurd (not_both t s from bytes n.matched.before n.matched.behind n.matched.query n.matched.what (sym a.queries) n.matched.queries n.matched.replies m.0) | inr n ↦ neither m.1 n.1 ]
+      | inl m ↦ elim k [ inl n ↦ both m n | inr n ↦ absurd (not_both g.quest s t from bytes m.matched.before m.matched.behind m.matched.query m.matched.what a.queries m.matched.queries m.matched.replies n.0) ]
+      | inr m ↦ elim k [ inl n ↦ absurd (not_both g.quest t s from bytes n.matched.before n.matched.behind n.matched.query n.matched.what (sym a.queries) n.matched.queries n.matched.replies m.0) | inr n ↦ neither m.1 n.1 ]
     ]
   where
     both : MatchGives g s from bytes at s' → MatchGives g t from bytes at t' → Alike s' t'
     both m n =
         let x = m.matched in
         let y = n.matched in
-        let left : map bare m.left ≡ map bare n.left = ap (map bare) x.closes ∙ left_alike s t from bytes x.before x.behind y.before y.behind x.query y.query x.what y.what hs ht a.queries x.queries y.queries x.replies y.replies ∙ ap (map bare) (sym y.closes) in
+        let left : map bare m.left ≡ map bare n.left = ap (map bare) x.closes ∙ left_alike g.quest s t from bytes x.before x.behind y.before y.behind x.query y.query x.what y.what hs ht a.queries x.queries y.queries x.replies y.replies ∙ ap (map bare) (sym y.closes) in
         let opens = open_alike at m.left n.left left in
         record {
           moment = ap (λ (z : Seen). z.moment) m.after ∙ sym (ap (λ (z : Seen). z.moment) n.after);
@@ -160,9 +163,9 @@ sent_alike : (g : Given) (s t s' t' : Seen) (to : Addr) (bytes : List ℕ) → A
 sent_alike g s t s' t' to bytes a j k =
     let drawn : word g.seed (g.place + t.sends) ≡ word g.seed (g.place + s.sends) = ap (λ n. word g.seed (g.place + n)) (sym a.sends) in
     let tx : j.tx ≡ k.tx = free_alike (map query_of s.queries) (map query_of t.queries) (word g.seed (g.place + s.sends)) j.tx k.tx (λ n. has_bare s.queries t.queries n a.queries) (λ n. has_bare t.queries s.queries n (sym a.queries)) j.is_query.id (subst (λ w. IsFirstFree (map query_of t.queries) w k.tx) drawn k.is_query.id) in
-    let p : OpenQuery = record { path = j.path; contact = j.contact; tx = j.tx; deadline = deadline_of s.moment g.timeout } in
-    let q : OpenQuery = record { path = k.path; contact = k.contact; tx = k.tx; deadline = deadline_of t.moment g.timeout } in
-    let opened : (addr : Addr) (n m : ℕ) → OpenQuery = (λ addr n m. record { path = 0; contact = record { id = record { 0 = [] }; addr = addr }; tx = n; deadline = deadline_of m g.timeout }) in
+    let p : OpenQuery = record { path = j.path; contact = j.contact; tx = j.tx; deadline = deadline_of s.moment g.quest.timeout } in
+    let q : OpenQuery = record { path = k.path; contact = k.contact; tx = k.tx; deadline = deadline_of t.moment g.quest.timeout } in
+    let opened : (addr : Addr) (n m : ℕ) → OpenQuery = (λ addr n m. record { path = 0; contact = record { id = record { 0 = [] }; addr = addr }; tx = n; deadline = deadline_of m g.quest.timeout }) in
     let same : bare p ≡ bare q = ap (λ addr. opened addr j.tx s.moment) (sym j.is_query.address ∙ k.is_query.address) ∙ ap (λ n. opened k.contact.addr n s.moment) tx ∙ ap (λ m. opened k.contact.addr k.tx m) a.moment in
     let queries : map bare (s.queries ++ p ∷ []) ≡ map bare (t.queries ++ q ∷ []) = map_push bare s.queries p ∙ ap (λ l. l ++ bare p ∷ []) a.queries ∙ ap (λ x. map bare t.queries ++ x ∷ []) same ∙ sym (map_push bare t.queries q) in
     record {
@@ -216,14 +219,14 @@ last_of g J s t (x ∷ es) e h = (let r = last_of g J h.0 t es e h.2 in record {
 abbrev same_begun : (at : ℕ) → Alike (begun at) (begun at)
 same_begun at = record { moment = refl; queries = refl; sends = refl; strays = refl; receives = refl }
 
-stray_counts : (g : Given) (m t u : Seen) (from : Addr) (bytes : List ℕ) (at number : ℕ) → Alike m u → GotGives g m from bytes at t → IsStray u from bytes → u.strays + 1 ≡ number → t.strays ≡ number
+stray_counts : (g : Given) (m t u : Seen) (from : Addr) (bytes : List ℕ) (at number : ℕ) → Alike m u → GotGives g m from bytes at t → IsStray g.quest u.queries from bytes → u.strays + 1 ≡ number → t.strays ≡ number
 stray_counts g m t u from bytes at number a k stray count =
     elim k [
-      | inl x ↦ absurd (not_both m u from bytes x.matched.before x.matched.behind x.matched.query x.matched.what a.queries x.matched.queries x.matched.replies stray)
+      | inl x ↦ absurd (not_both g.quest m u from bytes x.matched.before x.matched.behind x.matched.query x.matched.what a.queries x.matched.queries x.matched.replies stray)
       | inr x ↦ ap (λ (z : Seen). z.strays) x.1 ∙ ap (λ n. n + 1) a.strays ∙ count
     ]
 
-ends_at : (g : Given) (J : List Entry) (at : ℕ) (rest : List Event) (t : Seen) (number : ℕ) (before : List Event) (K : List Entry) (u : Seen) (from : Addr) (bytes : List ℕ) (until now_ : ℕ) → TellsFrom g J (begun at) rest t → TellsSoFar g K before u → Now at ∷ rest ≡ before ++ Got from bytes until now_ ∷ [] → IsStray u from bytes → u.strays + 1 ≡ number → t.strays ≡ number
+ends_at : (g : Given) (J : List Entry) (at : ℕ) (rest : List Event) (t : Seen) (number : ℕ) (before : List Event) (K : List Entry) (u : Seen) (from : Addr) (bytes : List ℕ) (until now_ : ℕ) → TellsFrom g J (begun at) rest t → TellsSoFar g K before u → Now at ∷ rest ≡ before ++ Got from bytes until now_ ∷ [] → IsStray g.quest u.queries from bytes → u.strays + 1 ≡ number → t.strays ≡ number
 ends_at g J at rest t number [] K u from bytes until now_ h k e stray count = absurd cc
 ends_at g J at rest t number (Now start ∷ before) K u from bytes until now_ h k e stray count =
     let one : at ≡ start = cc in

@@ -1,5 +1,5 @@
 -- Small facts of lists, of the driver's entries and of open queries.
-use Rattle.std.proofs.Common.{◌≡◌, ℕ, ◌^◌, ◌<◌, List, [], ◌∷◌, ◌++◌, true, false, cond, refl, sym, ap, ◌∙◌, arith}
+use Rattle.std.proofs.Common.{◌≡◌, ℕ, ◌^◌, ◌<◌, List, [], ◌∷◌, ◌++◌, true, false, cond, refl, sym, ap, ◌∙◌, arith, Bool}
 use Rattle.std.specs.Prelude.{map}
 use Rattle.std.specs.List.{AllByRecursion}
 use Rattle.std.proofs.lemmas.List.{append-nil}
@@ -7,11 +7,10 @@ use Rattle.std.proofs.lemmas.List.Elements.{filter-append}
 use Rattle.query_book.specs.declared.Query.{Query}
 use Rattle.query_book.specs.Queries.{IsFirstFree}
 use Rattle.claim_book.specs.declared.plain.Entry.{Entry}
-use Rattle.lookup_run.specs.declared.plain.AskKind.{AskKind}
-use Rattle.lookup_run.specs.declared.plain.AskKind.TheVariants.{FindNode, GetPeers}
 use Rattle.lookup_run.specs.declared.plain.Gathered.{Gathered}
-use Rattle.lookup_run.specs.Tells.{is_driven, driven, query_of}
-use Rattle.lookup_run.specs.Between.{as_open}
+use Rattle.lookup_core.specs.Matching.{query_of}
+use Rattle.lookup_run.specs.Tells.{is_driven, driven}
+use Rattle.lookup_core.specs.Steps.{as_open}
 use Rattle.lookup_run.specs.Steps.{KeepsFor}
 
 pub driven_append : (J K : List Entry) → driven (J ++ K) ≡ driven J ++ driven K
@@ -27,9 +26,9 @@ unfolding driven
 driven_quiet J e is = driven_append J (e ∷ []) ∙ ap (λ b. driven J ++ cond b (e ∷ []) []) is ∙ append-nil (driven J)
 
 -- nothing was heard, and nothing kept
-pub keeps_none : (kind : AskKind) (old new : Gathered) → new ≡ old → KeepsFor kind [] old new
-keeps_none FindNode old new is = is
-keeps_none GetPeers old new is = record { peers = ap (λ (g : Gathered). g.peers) is ∙ sym (append-nil old.peers); tokens = ap (λ (g : Gathered). g.tokens) is ∙ sym (append-nil old.tokens) }
+pub keeps_none : (wants : Bool) (old new : Gathered) → new ≡ old → KeepsFor wants [] old new
+keeps_none false old new is = is
+keeps_none true old new is = record { peers = ap (λ (g : Gathered). g.peers) is ∙ sym (append-nil old.peers); tokens = ap (λ (g : Gathered). g.tokens) is ∙ sym (append-nil old.tokens) }
 
 pub query_back : (J : List Entry) (qs : List Query) → map query_of (map (as_open J) qs) ≡ qs
 query_back J [] = refl

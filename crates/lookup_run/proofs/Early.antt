@@ -16,21 +16,23 @@ use Rattle.claim_book.specs.Journal.{seeds}
 use Rattle.lookup_run.specs.declared.plain.LookFault.{LookFault}
 use Rattle.lookup_run.specs.declared.plain.LookSetting.{LookSetting}
 use Rattle.lookup_run.specs.declared.plain.Work.{Work}
-use Rattle.lookup_run.specs.Tells.{Given, Seen, TellsFrom, TellsSoFar, IsStray, begun}
+use Rattle.lookup_core.specs.Matching.{IsStray}
+use Rattle.lookup_run.specs.Tells.{Given, Seen, TellsFrom, TellsSoFar, begun}
 use Rattle.lookup_run.specs.Rounds.{Manner}
-use Rattle.lookup_run.specs.Gathered.{Answered}
-use Rattle.lookup_run.specs.Lookup.{setting_of, given_of, TellsEarly, Told, TableToldBy, TableRan}
-use Rattle.lookup_run.specs.Between.{as_open, Walk, Shows}
+use Rattle.lookup_core.specs.declared.hear.Answered.{Answered}
+use Rattle.lookup_run.specs.Lookup.{setting_of, given_of, TellsEarly, Told, TableToldBy, TableRan, quest_of}
+use Rattle.lookup_core.specs.Steps.{as_open}
+use Rattle.lookup_run.specs.Between.{Walk, Shows}
 use Rattle.lookup_run.specs.Steps.{Stops, EndsByStray}
 
 pub tells_of : (manner : Manner) (g : Given) (J P : List Entry) (s : Seen) (es : List Event) (t : Seen) (Q : List Entry) (heard : List Answered) → Walk manner g J P s es t Q heard → TellsFrom g J s es t
 tells_of manner g J P s [] t Q heard h = h.0
 tells_of manner g J P s (e ∷ es) t Q heard h = (h.0.mid, h.0.gives, tells_of manner g J ((P ++ h.0.between) ++ h.0.gave) h.0.mid es t Q h.1 h.2)
 
-pub so_far_of : (manner : Manner) (g : Given) (work : Work) (place b a : ℕ) (es : List Event) (h : Shows manner g work place b a es) → TellsSoFar g work.book.journal es h.end
+pub so_far_of : (manner : Manner) (g : Given) (work : Work) (place b a : ℕ) (es : List Event) (h : Shows manner g work place b a es) → TellsSoFar g work.lookup.book.journal es h.end
 so_far_of manner g work place b a es h =
-    subst (λ l. TellsSoFar g work.book.journal l h.end) (sym h.first)
-    (tells_of manner g work.book.journal (seeded g.setting.paths (seeds work.book.journal)) (begun h.at) h.rest h.end h.last h.heard h.walk, h.stands.given)
+    subst (λ l. TellsSoFar g work.lookup.book.journal l h.end) (sym h.first)
+    (tells_of manner g work.lookup.book.journal (seeded g.setting.paths (seeds work.lookup.book.journal)) (begun h.at) h.rest h.end h.last h.heard h.walk, h.stands.given)
 
 pub ran_of : (manner : Manner) (calls : List Told) (t u v : TableState) → v ≡ u → TableToldBy manner calls t u → TableRan t v
 ran_of manner calls t u v same h = record { run = h.run; is_run = h.is_run; leaves = same ∙ h.leaves }
@@ -39,19 +41,19 @@ ran_of manner calls t u v same h = record { run = h.run; is_run = h.is_run; leav
 abbrev pub IsEarly : List Event → Type 0
 IsEarly more = (more ≡ []) ⊎ ((from : Addr) × (bytes : List ℕ) × (until : ℕ) × (at : ℕ) × (more ≡ Got from bytes until at ∷ []))
 
-early_of : (manner : Manner) (g : Given) (work : Work) (place b a : ℕ) (es fs : List Event) → Shows manner g work place b a es → IsEarly fs → TellsEarly g work.book.journal (es ++ fs)
+early_of : (manner : Manner) (g : Given) (work : Work) (place b a : ℕ) (es fs : List Event) → Shows manner g work place b a es → IsEarly fs → TellsEarly g work.lookup.book.journal (es ++ fs)
 early_of manner g work place b a es fs h (inl is) = record { front = es; end = h.end; so_far = so_far_of manner g work place b a es h; whole = inl (ap (λ l. es ++ l) is ∙ append-nil es) }
 early_of manner g work place b a es fs h (inr got) = record { front = es; end = h.end; so_far = so_far_of manner g work place b a es h; whole = inr (got.0, got.1, got.2, got.3, ap (λ l. es ++ l) got.4) }
 
 -- nothing more was told
-pub early_now : (manner : Manner) (g : Given) (work : Work) (place b a : ℕ) (es : List Event) → Shows manner g work place b a es → TellsEarly g work.book.journal es
+pub early_now : (manner : Manner) (g : Given) (work : Work) (place b a : ℕ) (es : List Event) → Shows manner g work place b a es → TellsEarly g work.lookup.book.journal es
 early_now manner g work place b a es h = record { front = es; end = h.end; so_far = so_far_of manner g work place b a es h; whole = inl refl }
 
 -- the journal is that from before the step
-pub stops_of : (look : LookSetting) (words : WordsState) (old new : Work) (told told' : Option (List Event)) → Legal (setting_of look) old.book.journal → new.table ≡ old.table → Grows told told' IsEarly → Stops look words words old new told told'
+pub stops_of : (look : LookSetting) (words : WordsState) (old new : Work) (told told' : Option (List Event)) → Legal (setting_of look) old.lookup.book.journal → new.table ≡ old.table → Grows told told' IsEarly → Stops look words words old new told told'
 stops_of look words old new told told' legal table grows manner start from began b a h = record {
   unfinished = record {
-    journal = old.book.journal;
+    journal = old.lookup.book.journal;
     legal = legal;
     seeds_are = h.seeds_are;
     tells = grows_then began told told' _ _ _ h.shows grows (λ es fs p is. early_of manner (given_of look start) old words.place b a es fs p is);
@@ -61,11 +63,11 @@ stops_of look words old new told told' legal table grows manner start from began
 }
 
 -- the last stray that a lookup takes
-pub ends_by_stray : (look : LookSetting) (words : WordsState) (old : Work) (told told' : Option (List Event)) (source : Addr) (bytes : List ℕ) (until at : ℕ) → ((s : Seen) → s.queries ≡ map (as_open old.book.journal) old.queries → IsStray s source bytes) → Grows told told' (λ es. es ≡ Got source bytes until at ∷ []) → old.progress.strays + 1 ≡ max_strays
+pub ends_by_stray : (look : LookSetting) (words : WordsState) (old : Work) (told told' : Option (List Event)) (source : Addr) (bytes : List ℕ) (until at : ℕ) → ((s : Seen) → s.queries ≡ map (as_open old.lookup.book.journal) old.lookup.queries → IsStray (quest_of look) s.queries source bytes) → Grows told told' (λ es. es ≡ Got source bytes until at ∷ []) → old.progress.strays + 1 ≡ max_strays
     → EndsByStray look words old told told'
 ends_by_stray look words old told told' source bytes until at none grows number manner start table began b a h =
     grows_then began told told' _ _ _ h.shows grows (λ es fs p is. record {
-      journal = old.book.journal;
+      journal = old.lookup.book.journal;
       before = es;
       end = p.end;
       from = source;

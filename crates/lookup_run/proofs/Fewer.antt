@@ -21,7 +21,7 @@ use Rattle.lookup_run.proofs.Early.{tells_of}
 
 few_shown : (manner : Manner) (g : Given) (work : Work) (place b a : ℕ) (es : List Event) → work.progress.strays < max_strays → Shows manner g work place b a es → ¬ EndsAtStray g es max_strays
 few_shown manner g work place b a es few h =
-    let J = work.book.journal in
+    let J = work.lookup.book.journal in
     let strays = h.stands.strays in
     subst (λ l. ¬ EndsAtStray g l max_strays) (sym h.first)
     (not_ended g J h.at h.rest h.end max_strays (tells_of manner g J (seeded g.setting.paths (seeds J)) (begun h.at) h.rest h.end h.last h.heard h.walk) (omega (arith, few, strays)))

@@ -1,10 +1,7 @@
 pub mod Walking
-pub mod Opens
 pub mod Others
-pub mod Crowd
 pub mod Driven
 pub mod Asking
-pub mod Nexts
 pub mod Quiet
 pub mod Early
 pub mod Settled
@@ -12,8 +9,6 @@ pub mod OnceSettled
 pub mod OnceEvents
 pub mod Once
 pub mod Alike
-pub mod Replying
-pub mod Hearing
 pub mod Expiring
 pub mod Matching
 pub mod Receiving

@@ -36,23 +36,26 @@ use Rattle.claim_book.proofs.Among.{none_among, among_none}
 use Rattle.claim_book.proofs.Ends.{over_or_ask}
 use Rattle.claim_book.proofs.Kept.{open_on_any}
 use Rattle.claim_book.proofs.Seeding.{legal_seeded}
-use Rattle.lookup_run.specs.declared.plain.AskKind.{AskKind}
-use Rattle.lookup_run.specs.declared.plain.AskKind.TheVariants.{FindNode, GetPeers}
+use Rattle.lookup_core.specs.declared.quest.AskKind.TheVariants.{FindNode}
 use Rattle.lookup_run.specs.declared.plain.LookSetting.{LookSetting}
 use Rattle.lookup_run.specs.declared.plain.Gathered.{Gathered}
 use Rattle.lookup_run.specs.declared.plain.Outcome.{Outcome}
 use Rattle.lookup_run.specs.declared.plain.Progress.{Progress}
 use Rattle.lookup_run.specs.declared.plain.Token.{Token}
 use Rattle.lookup_run.specs.declared.plain.Work.{Work}
-use Rattle.lookup_run.specs.Tells.{Given, Seen, driven, begun, deadline_of, Tells, EndsAtStray}
+use Rattle.lookup_core.specs.Timeouts.{deadline_of}
+use Rattle.lookup_run.specs.Tells.{Given, Seen, driven, begun, Tells, EndsAtStray}
 use Rattle.lookup_run.specs.Rounds.{Manner, SettlesIn, AllSettled, NoneAsks, RoundsFrom, Rounds}
-use Rattle.lookup_run.specs.Gathered.{Answered, HearsFrom, IsEachOnce, GathersOf, Gathers}
+use Rattle.lookup_core.specs.declared.hear.Answered.{Answered}
+use Rattle.lookup_run.specs.Gathered.{HearsFrom, IsEachOnce, GathersOf, Gathers}
 use Rattle.lookup_run.specs.Lookup.{setting_of, given_of, seeds_in, drawn_for, IsWithinLimits, told_of, table_calls, Finished, Unfinished, TableTold, TableToldBy}
-use Rattle.lookup_run.specs.Between.{as_open, Keeps, Walk, Keeping, Along}
+use Rattle.lookup_core.specs.Steps.{as_open}
+use Rattle.lookup_run.specs.Between.{Keeps, Walk, Keeping, Along}
 use Rattle.lookup_run.specs.Steps.{Begins, IsOver, IsDone, IsBookOf, asks_seeds, IsBegun, Ended}
 use Rattle.lookup_run.proofs.Early.{so_far_of, ran_of}
 use Rattle.lookup_run.proofs.Fewer.{few_along}
 use Rattle.lookup_run.proofs.Walking.{told_in_any}
+use Rattle.lookup_core.specs.Quest.{wants_peers}
 
 -- ---- a journal of seeds alone
 
@@ -102,7 +105,7 @@ pub record Opening (look : LookSetting) (words : WordsState) (table table' : Tab
   pub grows : Grows told told' (λ es. es ≡ Now moment ∷ [])
   pub place : words.place < 2 ^ 59
 
-journal_of : (look : LookSetting) (words : WordsState) (table table' : TableState) (book : BookState) (moment : ℕ) (work : Work) (told told' : Option (List Event)) → Opening look words table table' book moment work told told' → work.book.journal ≡ seeded look.paths (seeds_in look table)
+journal_of : (look : LookSetting) (words : WordsState) (table table' : TableState) (book : BookState) (moment : ℕ) (work : Work) (told told' : Option (List Event)) → Opening look words table table' book moment work told told' → work.lookup.book.journal ≡ seeded look.paths (seeds_in look table)
 journal_of look words table table' book moment work told told' o = ap (λ (b : BookState). b.journal) o.begun_at.book_is ∙ o.book_of.journal
 
 pub begins_of : (look : LookSetting) (words : WordsState) (table table' : TableState) (book : BookState) (moment : ℕ) (work : Work) (told told' : Option (List Event)) → Opening look words table table' book moment work told told' → Begins look words work
@@ -125,45 +128,45 @@ begins_of look words table table' book moment work told told' o =
       settled = λ p lt. ap (unsettled p) journal ∙ seeds_settled p look.paths (seeds_in look table);
     }
 
-begun_keeping : (kind : AskKind) (g : Gathered) → g.peers ≡ [] → g.tokens ≡ [] → Keeping kind [] g
-begun_keeping FindNode g p t = (p, t)
-begun_keeping GetPeers g p t = (p, t)
+begun_keeping : (wants : Bool) (g : Gathered) → g.peers ≡ [] → g.tokens ≡ [] → Keeping wants [] g
+begun_keeping false g p t = (p, t)
+begun_keeping true g p t = (p, t)
 
 pub along_of : (manner : Manner) (look : LookSetting) (words : WordsState) (table table' : TableState) (book : BookState) (moment : ℕ) (work : Work) (told told' : Option (List Event)) → Opening look words table table' book moment work told told' → Along manner look words table told words work look.paths 0 told'
 along_of manner look words table table' book moment work told told' o =
     let b = o.begun_at in
     let cs = seeds_in look table in
     let journal = journal_of look words table table' book moment work told told' o in
-    let begins : seeds work.book.journal ≡ cs = ap seeds journal ∙ seeds_stand look.paths 0 cs in
-    let none : length (asked work.book.journal) ≡ 0 = ap (λ J. length (asked J)) journal ∙ ap length (seeds_ask look.paths 0 cs) in
-    let place : words.place ≡ words.place + length (asked work.book.journal) = omega (arith, none) in
+    let begins : seeds work.lookup.book.journal ≡ cs = ap seeds journal ∙ seeds_stand look.paths 0 cs in
+    let none : length (asked work.lookup.book.journal) ≡ 0 = ap (λ J. length (asked J)) journal ∙ ap length (seeds_ask look.paths 0 cs) in
+    let place : words.place ≡ words.place + length (asked work.lookup.book.journal) = omega (arith, none) in
     record {
       drawn = ap (λ n. record { seed = words.seed; place = n }) place;
       seeds_are = begins;
-      tabled = subst (λ (t : TableState). TableToldBy manner (table_calls look work.book.journal) table t) (sym b.table_is)
+      tabled = subst (λ (t : TableState). TableToldBy manner (table_calls look work.lookup.book.journal) table t) (sym b.table_is)
           (subst (λ calls. TableToldBy manner calls table table') (sym (ap (table_calls look) journal ∙ ap (λ l. asks_seeds look ++ l) (seeds_tell look.paths 0 cs))) (told_in_any manner (asks_seeds look) table table' o.tabled));
       shows = grows_weaker told told' _ _ o.grows (λ es is. record {
         at = moment;
         rest = [];
         first = is;
         end = begun moment;
-        last = seeded look.paths (seeds work.book.journal);
+        last = seeded look.paths (seeds work.lookup.book.journal);
         heard = [];
         walk = (refl, refl, refl);
         behind = [];
-        journal = journal ∙ ap (seeded look.paths) (sym begins) ∙ sym (append-nil (seeded look.paths (seeds work.book.journal)));
+        journal = journal ∙ ap (seeded look.paths) (sym begins) ∙ sym (append-nil (seeded look.paths (seeds work.lookup.book.journal)));
         settles = tt;
         below = tt;
         ascends = tt;
         stands = record {
           moment = sym (ap (λ (x : Progress). x.moment) b.progress);
-          queries = sym (ap (map (as_open work.book.journal)) b.none_open);
+          queries = sym (ap (map (as_open work.lookup.book.journal)) b.none_open);
           sends = omega arith;
           strays = sym (ap (λ (x : Progress). x.strays) b.progress);
           receives = sym (ap (λ (x : Progress). x.receives) b.progress);
           given = sym (ap driven journal ∙ seeds_quiet look.paths 0 cs);
         };
-        keeping = begun_keeping look.kind work.gathered b.no_peers b.no_tokens;
+        keeping = begun_keeping (wants_peers look.kind) work.gathered b.no_peers b.no_tokens;
       });
     }
 
@@ -229,10 +232,10 @@ none_on p J none = none_among (open_on p J) (λ c. no_true (among (open_on p J) 
     no_true false n = refl
 
 -- every path has run out
-pub all_over : (manner : Manner) (look : LookSetting) (words words' : WordsState) (old new : Work) (told told' : Option (List Event)) → IsWithinLimits look → IsOver manner look words words' old new told told' → Legal new.book.setting new.book.journal → (p : ℕ) → p < new.book.setting.paths → RunOut new.book.setting p new.book.journal
+pub all_over : (manner : Manner) (look : LookSetting) (words words' : WordsState) (old new : Work) (told told' : Option (List Event)) → IsWithinLimits look → IsOver manner look words words' old new told told' → Legal new.lookup.book.setting new.lookup.book.journal → (p : ℕ) → p < new.lookup.book.setting.paths → RunOut new.lookup.book.setting p new.lookup.book.journal
 all_over manner look words words' old new told told' limits over legal p lt =
     let k = over.keeps in
-    let J = new.book.journal in
+    let J = new.lookup.book.journal in
     let less : p < look.paths = (let e = ap (λ (s : Setting). s.paths) k.setting in omega (arith, lt, e)) in
     let none : open_any J ≡ [] = sym k.is_open ∙ ap (map (λ (q : Query). q.contact)) over.none_open in
     let l = subst (λ (s : Setting). Legal s J) k.setting legal in
@@ -246,28 +249,28 @@ each_of_none : (xs ys : List Addr) → xs ≡ [] → IsEachOnce xs ys → ys ≡
 each_of_none xs [] none h = refl
 each_of_none xs (y ∷ ys) none h = (let has = subst (λ l. Contains l y) none ((h.same y).0 (0, omega arith, refl)) in let lt = has.1 in absurd (omega (arith, lt)))
 
-gathers_of : (kind : AskKind) (heard : List Answered) (g : Gathered) (peers : List Addr) (tokens : List Token) → Keeping kind heard g → IsEachOnce g.peers peers → tokens ≡ g.tokens → GathersOf kind heard peers tokens
-gathers_of FindNode heard g peers tokens h once is = (each_of_none g.peers peers h.0 once, is ∙ h.1)
-gathers_of GetPeers heard g peers tokens h once is = (subst (λ l. IsEachOnce l peers) h.0 once, is ∙ h.1)
+gathers_of : (wants : Bool) (heard : List Answered) (g : Gathered) (peers : List Addr) (tokens : List Token) → Keeping wants heard g → IsEachOnce g.peers peers → tokens ≡ g.tokens → GathersOf wants heard peers tokens
+gathers_of false heard g peers tokens h once is = (each_of_none g.peers peers h.0 once, is ∙ h.1)
+gathers_of true heard g peers tokens h once is = (subst (λ l. IsEachOnce l peers) h.0 once, is ∙ h.1)
 
 -- where no peers are asked for, there are none
 pub none_gathered : (look : LookSetting) (work : Work) (peers : List Addr) (tokens : List Token) → Keeps look work → IsEachOnce work.gathered.peers peers → tokens ≡ work.gathered.tokens → look.kind ≡ FindNode → (peers ≡ []) × (tokens ≡ [])
-none_gathered look work peers tokens k once is kind = (let none = k.no_peers kind in (each_of_none work.gathered.peers peers none.no_peers once, is ∙ none.no_tokens))
+none_gathered look work peers tokens k once is kind = (let none = k.no_peers (ap wants_peers kind) in (each_of_none work.gathered.peers peers none.no_peers once, is ∙ none.no_tokens))
 
 -- what a lookup that is over has
 pub record Done (manner : Manner) (look : LookSetting) (start words' : WordsState) (table : TableState) (work : Work) (began told' : Option (List Event)) (o : Outcome) : Type 0 where
   pub keeps : Keeps look work
-  pub none_open : work.queries ≡ []
-  pub settled : AllSettled look.paths work.book.journal
-  pub none_asks : NoneAsks (setting_of look) look.paths work.book.journal
+  pub none_open : work.lookup.queries ≡ []
+  pub settled : AllSettled look.paths work.lookup.book.journal
+  pub none_asks : NoneAsks (setting_of look) look.paths work.lookup.book.journal
   pub along : Along manner look start table began words' work look.paths look.paths told'
-  pub done : IsDone work.book o
+  pub done : IsDone work.lookup.book o
 
 pub looks_up : (manner : Manner) (look : LookSetting) (start words' : WordsState) (table : TableState) (work : Work) (began told' : Option (List Event)) (o : Outcome) → Done manner look start words' table work began told' o → Finished look table start words' began told' o
 looks_up manner look start words' table work began told' o d =
     let k = d.keeps in
     let a = d.along in
-    let J = work.book.journal in
+    let J = work.lookup.book.journal in
     record {
       legal = subst (λ (s : Setting). Legal s o.journal) k.setting d.done.legal;
       seeds_are = ap seeds d.done.journal ∙ a.seeds_are;
@@ -285,7 +288,7 @@ looks_up manner look start words' table work began told' o d =
 
 pub goes_by_rounds : (manner : Manner) (look : LookSetting) (start words' : WordsState) (table : TableState) (work : Work) (began told' : Option (List Event)) (o : Outcome) → Done manner look start words' table work began told' o → Grows began told' (λ events. Rounds manner (given_of look start) o.journal events)
 goes_by_rounds manner look start words' table work began told' o d =
-    let J = work.book.journal in
+    let J = work.lookup.book.journal in
     subst (λ K. Grows began told' (λ events. Rounds manner (given_of look start) K events)) (sym d.done.journal)
     (grows_weaker began told' _ _ d.along.shows (λ es h. record {
       at = h.at;
@@ -298,7 +301,7 @@ goes_by_rounds manner look start words' table work began told' o d =
 
 pub gathered_all : (manner : Manner) (look : LookSetting) (start words' : WordsState) (table : TableState) (work : Work) (began told' : Option (List Event)) (o : Outcome) → Done manner look start words' table work began told' o → IsEachOnce work.gathered.peers o.peers → o.tokens ≡ work.gathered.tokens → Grows began told' (λ events. Gathers (given_of look start) o.journal events o.peers o.tokens)
 gathered_all manner look start words' table work began told' o d once tokens =
-    let J = work.book.journal in
+    let J = work.lookup.book.journal in
     subst (λ K. Grows began told' (λ events. Gathers (given_of look start) K events o.peers o.tokens)) (sym d.done.journal)
     (grows_weaker began told' _ _ d.along.shows (λ es h. record {
       at = h.at;
@@ -306,23 +309,23 @@ gathered_all manner look start words' table work began told' o d once tokens =
       first = h.first;
       heard = h.heard;
       hears = hears_of manner (given_of look start) J (seeded look.paths (seeds J)) (begun h.at) h.rest h.end h.last h.heard h.walk;
-      gathers = gathers_of look.kind h.heard work.gathered o.peers o.tokens h.keeping once tokens;
+      gathers = gathers_of (wants_peers look.kind) h.heard work.gathered o.peers o.tokens h.keeping once tokens;
     }))
 
 pub table_told : (manner : Manner) (look : LookSetting) (start words' : WordsState) (table : TableState) (work : Work) (began told' : Option (List Event)) (o : Outcome) → Done manner look start words' table work began told' o → TableToldBy manner (table_calls look o.journal) table work.table
 table_told manner look start words' table work began told' o d = subst (λ K. TableToldBy manner (table_calls look K) table work.table) (sym d.done.journal) d.along.tabled
 
 -- a lookup that is over, and for which there was no memory
-pub over_ended : (manner : Manner) (look : LookSetting) (start words' : WordsState) (table : TableState) (work : Work) (began told' : Option (List Event)) (b a : ℕ) → Legal (setting_of look) work.book.journal → Along manner look start table began words' work b a told' → Ended look start table began words' work.table told'
+pub over_ended : (manner : Manner) (look : LookSetting) (start words' : WordsState) (table : TableState) (work : Work) (began told' : Option (List Event)) (b a : ℕ) → Legal (setting_of look) work.lookup.book.journal → Along manner look start table began words' work b a told' → Ended look start table began words' work.table told'
 over_ended manner look start words' table work began told' b a legal h = record {
   unfinished = record {
-    journal = work.book.journal;
+    journal = work.lookup.book.journal;
     legal = legal;
     seeds_are = h.seeds_are;
     tells = grows_weaker began told' _ _ h.shows (λ es x. record { front = es; end = x.end; so_far = so_far_of manner (given_of look start) work words'.place b a es x; whole = inl refl });
     drawn = h.drawn;
   };
-  ran = ran_of manner (table_calls look work.book.journal) table work.table work.table refl h.tabled;
+  ran = ran_of manner (table_calls look work.lookup.book.journal) table work.table work.table refl h.tabled;
 }
 
 pub ok_then : {T F : Type 0} (r : Result T F) (P Q : T → Type 0) → IfOk r P → ((x : T) → P x → Q x) → IfOk r Q
@@ -370,18 +373,18 @@ opening_of look words table table' book moment work told told' b t w g lt = reco
 
 -- what a lookup that is over leaves, whether or not there is memory for what it found
 pub record Ends (manner : Manner) (look : LookSetting) (words words' : WordsState) (table : TableState) (work : Work) (told told' : Option (List Event)) : Type 0 where
-  pub done : (o : Outcome) → IsDone work.book o → Done manner look words words' table work told told' o
+  pub done : (o : Outcome) → IsDone work.lookup.book o → Done manner look words words' table work told told' o
   pub left : Ended look words table told words' work.table told'
   pub few : Grows told told' (λ events. ¬ EndsAtStray (given_of look words) events max_strays)
 
 -- it went its rounds from its opening
 pub ends_of : (manner : Manner) (look : LookSetting) (words words' : WordsState) (table table' : TableState) (book : BookState) (moment : ℕ) (begun_ work : Work) (told mid told' : Option (List Event)) → Opening look words table table' book moment begun_ told mid → IsOver manner look words words' begun_ work mid told'
-    → Legal work.book.setting work.book.journal → Ends manner look words words' table work told told'
+    → Legal work.lookup.book.setting work.lookup.book.journal → Ends manner look words words' table work told told'
 ends_of manner look words words' table table' book moment begun_ work told mid told' opening over legal =
     let along = over.goes words table told (along_of manner look words table table' book moment begun_ told mid opening) in
     record {
       done = λ o d. record { keeps = over.keeps; none_open = over.none_open; settled = over.settled; none_asks = over.none_asks; along = along; done = d };
-      left = over_ended manner look words words' table work told told' look.paths look.paths (subst (λ (s : Setting). Legal s work.book.journal) over.keeps.setting legal) along;
+      left = over_ended manner look words words' table work told told' look.paths look.paths (subst (λ (s : Setting). Legal s work.lookup.book.journal) over.keeps.setting legal) along;
       few = few_along manner look words table told words' work look.paths look.paths told' over.keeps.few_strays along;
     }
 

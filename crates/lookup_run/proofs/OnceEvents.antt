@@ -9,7 +9,6 @@ use Rattle.std.proofs.lemmas.List.Elements.{Contains-append_right}
 use Rattle.std.proofs.lemmas.Nat.{from_le_bytes-to_le_bytes_4}
 use Rattle.kad_base.specs.declared.plain.Addr.{Addr}
 use Rattle.kad_base.specs.declared.plain.Contact.{Contact}
-use Rattle.kad_base.specs.declared.plain.Policy.{Policy}
 use Rattle.kad_base.specs.declared.plain.Event.{Event}
 use Rattle.kad_base.specs.declared.plain.Event.TheVariants.{Now, Sent, Unsent, Got, Quiet}
 use Rattle.kad_base.specs.Words.{word, word_bytes}
@@ -24,11 +23,14 @@ use Rattle.claim_book.specs.declared.plain.Entry.{Entry}
 use Rattle.claim_book.specs.declared.plain.Entry.TheVariants.{Ask, Lost}
 use Rattle.claim_book.specs.Journal.{may_ask}
 use Rattle.claim_book.specs.Legal.{LegalAfter}
-use Rattle.lookup_run.specs.declared.reply.Reply.{Reply}
-use Rattle.lookup_run.specs.declared.reply.Reply.TheVariants as reply
-use Rattle.lookup_run.specs.Tells.{Given, OpenQuery, Seen, query_of, gives, deadline_of, SentGives, UnsentGives, SaysTo, Replies, ReplyGives, MatchGives, GotGives, after_match, is_overdue, Gives}
+use Rattle.lookup_core.specs.declared.reply.Reply.{Reply}
+use Rattle.lookup_core.specs.declared.reply.Reply.TheVariants as reply
+use Rattle.lookup_core.specs.Matching.{OpenQuery, query_of, SaysTo, Replies, ReplyGives}
+use Rattle.lookup_core.specs.Timeouts.{deadline_of, is_overdue}
+use Rattle.lookup_run.specs.Tells.{Given, Seen, gives, SentGives, UnsentGives, MatchGives, GotGives, after_match, Gives}
 use Rattle.lookup_run.specs.Rounds.{NoneAsks, AsksInTurn}
 use Rattle.lookup_run.proofs.Driven.{all_push, small_id}
+use Rattle.lookup_core.specs.declared.quest.Quest.{Quest}
 
 -- ---- queries with different ids
 
@@ -72,7 +74,7 @@ pub apart_gives : (g : Given) (J : List Entry) (s t : Seen) (e : Event) → Apar
 apart_gives g J s t (Now at) h k = absurd k
 apart_gives g J s t (Sent to bytes) h k =
     subst (λ (x : Seen). Apart x.queries) (sym k.after)
-    (apart_push s.queries (record { path = k.path; contact = k.contact; tx = k.tx; deadline = deadline_of s.moment g.timeout }) h (small_id (map query_of s.queries) (word g.seed (g.place + s.sends)) k.tx k.is_query.id) (apart_free s.queries k.tx k.is_query.id.free))
+    (apart_push s.queries (record { path = k.path; contact = k.contact; tx = k.tx; deadline = deadline_of s.moment g.quest.timeout }) h (small_id (map query_of s.queries) (word g.seed (g.place + s.sends)) k.tx k.is_query.id) (apart_free s.queries k.tx k.is_query.id.free))
 apart_gives g J s t (Unsent to bytes) h k = subst (λ (x : Seen). Apart x.queries) (sym k.after) h
 apart_gives g J s t (Got from bytes until at) h k =
     elim k.1 [
@@ -109,19 +111,19 @@ said_once (message.Query tx read_only ask) x y r t h k = absurd h
 said_once (message.Answer tx answer) x y r t h k = (sym h.0 ∙ k.0, h.1 ∙ sym k.1)
 said_once (message.Fault tx code text) x y r t h k = (sym h.0 ∙ k.0, h.1 ∙ sym k.1)
 
-pub reply_once : (bytes : List ℕ) (from : Addr) (p q : OpenQuery) (r t : Reply) → p.tx < 2 ^ 32 → q.tx < 2 ^ 32 → Replies bytes from p r → Replies bytes from q t → (p.tx ≡ q.tx) × (r ≡ t)
-reply_once bytes from p q r t lp lq h k =
+pub reply_once : (quest : Quest) (bytes : List ℕ) (from : Addr) (p q : OpenQuery) (r t : Reply) → p.tx < 2 ^ 32 → q.tx < 2 ^ 32 → Replies quest bytes from p r → Replies quest bytes from q t → (p.tx ≡ q.tx) × (r ≡ t)
+reply_once quest bytes from p q r t lp lq h k =
     let one = one_said bytes h.said k.said h.says k.says in
     let both = said_once k.said (word_bytes p.tx) (word_bytes q.tx) r t (subst (λ m. SaysTo (word_bytes p.tx) m r) one h.to_query) k.to_query in
     (id_once p.tx q.tx lp lq both.0, both.1)
 
-pub entry_once : (policy : Policy) (q : OpenQuery) (r : Reply) (a b : Entry) → ReplyGives policy q r a → ReplyGives policy q r b → a ≡ b
-entry_once policy q (reply.Answer answer) a b h k =
+pub entry_once : (quest : Quest) (q : OpenQuery) (r : Reply) (a b : Entry) → ReplyGives quest q r a → ReplyGives quest q r b → a ≡ b
+entry_once quest q (reply.Answer answer) a b h k =
     elim h [
       | inl x ↦ elim k [ inl y ↦ x.1 ∙ sym y.1 | inr y ↦ absurd (y.0 x.0) ]
       | inr x ↦ elim k [ inl y ↦ absurd (x.0 y.0) | inr y ↦ x.1 ∙ sym y.1 ]
     ]
-entry_once policy q (reply.Error code) a b h k = h ∙ sym k
+entry_once quest q (reply.Error code) a b h k = h ∙ sym k
 
 pub contains_there : (before behind : List OpenQuery) (q : OpenQuery) → Contains (before ++ q ∷ behind) q
 contains_there before behind q = Contains-append_right before (q ∷ behind) q (0, omega arith, refl)
@@ -140,10 +142,10 @@ got_once g s t u from bytes at h j k =
         let x = m.matched in
         let y = n.matched in
         let apart : Apart (x.before ++ x.query ∷ x.behind) = subst Apart x.queries h in
-        let says = reply_once bytes from x.query y.query x.what y.what (small_there x.before x.behind x.query apart) (small_there y.before y.behind y.query (subst Apart y.queries h)) x.replies y.replies in
+        let says = reply_once g.quest bytes from x.query y.query x.what y.what (small_there x.before x.behind x.query apart) (small_there y.before y.behind y.query (subst Apart y.queries h)) x.replies y.replies in
         let one = one_query x.before x.behind y.before y.behind x.query y.query apart (sym x.queries ∙ y.queries) says.0 in
         let left : m.left ≡ n.left = x.closes ∙ ap (λ l. l ++ x.behind) one.0 ∙ ap (λ l. y.before ++ l) one.2 ∙ sym y.closes in
-        let gave : m.entry ≡ n.entry = entry_once g.setting.policy y.query y.what m.entry n.entry (subst (λ r. ReplyGives g.setting.policy y.query r m.entry) says.1 (subst (λ q. ReplyGives g.setting.policy q x.what m.entry) one.1 x.entry)) y.entry in
+        let gave : m.entry ≡ n.entry = entry_once g.quest y.query y.what m.entry n.entry (subst (λ r. ReplyGives g.quest y.query r m.entry) says.1 (subst (λ q. ReplyGives g.quest q x.what m.entry) one.1 x.entry)) y.entry in
         m.after ∙ ap (λ e. after_match s at e m.left) gave ∙ ap (λ l. after_match s at n.entry l) left ∙ sym n.after
 
 pub free_once : (qs : List Query) (w a b : ℕ) → IsFirstFree qs w a → IsFirstFree qs w b → a ≡ b
@@ -182,7 +184,7 @@ asks_once s Q p q c d h k =
     ]
 
 abbrev sent_after : Given → Seen → ℕ → Contact → ℕ → Seen
-sent_after g s path contact tx = record (gives s (Ask path contact ∷ [])) { queries = s.queries ++ record { path = path; contact = contact; tx = tx; deadline = deadline_of s.moment g.timeout } ∷ []; sends = s.sends + 1 }
+sent_after g s path contact tx = record (gives s (Ask path contact ∷ [])) { queries = s.queries ++ record { path = path; contact = contact; tx = tx; deadline = deadline_of s.moment g.quest.timeout } ∷ []; sends = s.sends + 1 }
 
 pub sent_once : (g : Given) (s t u : Seen) (to : Addr) (bytes : List ℕ) (Q gave gave' : List Entry) → SentGives g s to bytes t → SentGives g s to bytes u → t.given ≡ s.given ++ gave → u.given ≡ s.given ++ gave' → AsksInTurn g.setting Q s gave → AsksInTurn g.setting Q s gave' → LegalAfter g.setting Q gave → LegalAfter g.setting Q gave' → t ≡ u
 sent_once g s t u to bytes Q gave gave' j k tg ug turn turn' l l' =

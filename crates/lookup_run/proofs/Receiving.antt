@@ -1,17 +1,16 @@
 -- One receive: what its event gives, and that the lookup comes nearer to its end.
 use Rattle.std.proofs.Common.{◌≡◌, ◌≢◌, ◌⊎◌, ℕ, zero, suc, ◌+◌, ◌-◌, ◌*◌, ◌^◌, ◌<◌, ◌≤◌, List, [], ◌∷◌, ◌++◌, length, Option, Bool, true, false, not, ◌||◌, cond, inl, inr, refl, sym, ap, subst, ◌∙◌, arith}
 use Rattle.std.specs.Prelude.{Contains, map, filter, nat_lt}
-use Rattle.std.specs.List.{AllByRecursion, IsDistinct, flat_map}
+use Rattle.std.specs.List.{AllByRecursion, flat_map}
 use Rattle.std.proofs.lemmas.Bool.Decides.{nat_tests}
 use Rattle.std.proofs.lemmas.List.{append-nil, append_assoc, length-append}
 use Rattle.std.proofs.lemmas.List.Concat.{flat_map-append}
 use Rattle.std.proofs.lemmas.List.Elements.{filter-append}
 use Rattle.kad_base.specs.declared.plain.Addr.{Addr}
 use Rattle.kad_base.specs.declared.plain.Contact.{Contact}
-use Rattle.kad_base.specs.declared.plain.Policy.{Policy}
 use Rattle.kad_base.specs.declared.plain.Event.{Event}
 use Rattle.kad_base.specs.declared.plain.Event.TheVariants.{Got, Quiet}
-use Rattle.kad_base.specs.Contacts.{same, among, without}
+use Rattle.kad_base.specs.Contacts.{same, among}
 use Rattle.kad_base.specs.Limits.{max_strays, max_round_receives}
 use Rattle.kad_base.specs.Outside.{Grows}
 use Rattle.kad_krpc.specs.declared.message.Answer.{Answer}
@@ -22,26 +21,34 @@ use Rattle.claim_book.specs.declared.plain.Entry.TheVariants.{Heard, Lost}
 use Rattle.claim_book.specs.declared.plain.Cause.TheVariants.{WrongId, Error}
 use Rattle.claim_book.specs.Journal.{ask_of, seeds, asked, open_any}
 use Rattle.claim_book.specs.Legal.{Legal}
-use Rattle.claim_book.specs.Calls.{asker}
 use Rattle.claim_book.specs.State.{BookState}
-use Rattle.lookup_run.specs.declared.plain.AskKind.{AskKind}
-use Rattle.lookup_run.specs.declared.plain.AskKind.TheVariants.{FindNode, GetPeers}
 use Rattle.lookup_run.specs.declared.plain.LookSetting.{LookSetting}
 use Rattle.lookup_run.specs.declared.plain.Gathered.{Gathered}
 use Rattle.lookup_run.specs.declared.plain.Progress.{Progress}
 use Rattle.lookup_run.specs.declared.plain.Work.{Work}
-use Rattle.lookup_run.specs.declared.reply.Reply.{Reply}
-use Rattle.lookup_run.specs.declared.reply.Reply.TheVariants as reply
-use Rattle.lookup_run.specs.Tells.{Given, OpenQuery, Seen, is_driven, driven, deadline_of, IsEarliest, WaitsUntil, HaveAsked, Receives, Gives, Replies, ReplyGives, IsStray, is_overdue, timed_out, closed_at, open_at, received, receives_seen, after_match}
+use Rattle.lookup_core.specs.declared.reply.Reply.{Reply}
+use Rattle.lookup_core.specs.declared.reply.Reply.TheVariants as reply
+use Rattle.lookup_core.specs.Matching.{OpenQuery, Replies, ReplyGives, IsStray}
+use Rattle.lookup_core.specs.Timeouts.{deadline_of, is_overdue, timed_out, closed_at, open_at}
+use Rattle.lookup_run.specs.Tells.{Given, Seen, is_driven, driven, IsEarliest, WaitsUntil, HaveAsked, Receives, Gives, received, receives_seen, after_match}
 use Rattle.lookup_run.specs.Rounds.{WaitsInTurn, InTurn}
-use Rattle.lookup_run.specs.Gathered.{Answered, HeardIn, Hears}
-use Rattle.lookup_run.specs.Lookup.{setting_of, given_of, told_of, TableTold}
-use Rattle.lookup_run.specs.Between.{IsBare, IsReply, as_open, Keeps, max_asks, KeepsSeen}
-use Rattle.lookup_run.specs.Steps.{query_to, IsDue, WaitsFor, receives_kept, RepliesToNone, HearsIn, KeepsFor, Expires, IsStrayFor, IsMatchFor, TakesDatagram, MayReceive, ReceivesOne}
+use Rattle.lookup_core.specs.declared.hear.Answered.{Answered}
+use Rattle.lookup_run.specs.Gathered.{HeardIn, Hears}
+use Rattle.lookup_run.specs.Lookup.{setting_of, given_of, told_of, TableTold, quest_of}
+use Rattle.lookup_core.specs.Says.{IsReply}
+use Rattle.lookup_core.specs.Steps.{as_open}
+use Rattle.lookup_run.specs.Between.{IsBare, Keeps, max_asks, KeepsSeen}
+use Rattle.lookup_core.specs.Steps.{query_to, RepliesToNone, HearsIn}
+use Rattle.lookup_run.specs.Steps.{IsDue, WaitsFor, receives_kept, KeepsFor, Expires, IsStrayFor, IsMatchFor, TakesDatagram, MayReceive, ReceivesOne}
 use Rattle.lookup_run.proofs.Walking.{OneEvent, NextStep, along_next, seeds_append}
-use Rattle.lookup_run.proofs.Opens.{opens_heard, opens_lost, opens_distinct, opens_kept, without_one, each_asked}
-use Rattle.lookup_run.proofs.Matching.{in_cons, in_map, map_in, in_middle, all_in, none_in, to_reply}
-use Rattle.lookup_run.proofs.Expiring.{map_append}
+use Rattle.lookup_core.proofs.Opens.{opens_kept, each_asked}
+use Rattle.lookup_core.proofs.Lists.{in_cons, in_map, map_in, in_middle, all_in, none_in}
+use Rattle.lookup_core.proofs.Matching.{to_reply}
+use Rattle.lookup_core.proofs.Lists.{map_append}
+use Rattle.lookup_core.specs.declared.quest.Quest.{Quest}
+use Rattle.lookup_core.specs.declared.state.Lookup.{Lookup}
+use Rattle.lookup_core.proofs.Holding.{all_dropped}
+use Rattle.lookup_core.specs.Quest.{wants_peers}
 
 -- ---- how long it waits
 
@@ -76,16 +83,16 @@ some_left : (J : List Entry) (qs : List Query) → qs ≢ [] → map (as_open J)
 some_left J [] some e = some refl
 some_left J (q ∷ qs) some e = absurd cc
 
-receives_of : (look : LookSetting) (start : WordsState) (old : Work) (more : List Entry) (place : ℕ) (s : Seen) (until : ℕ) → MayReceive look old → WaitsFor old.progress.receives old.progress.moment old.queries until → KeepsSeen (given_of look start) old place s
-    → Receives (given_of look start) (old.book.journal ++ more) s until
+receives_of : (look : LookSetting) (start : WordsState) (old : Work) (more : List Entry) (place : ℕ) (s : Seen) (until : ℕ) → MayReceive look old → WaitsFor old.progress.receives old.progress.moment old.lookup.queries until → KeepsSeen (given_of look start) old place s
+    → Receives (given_of look start) (old.lookup.book.journal ++ more) s until
 receives_of look start old more place s until may waits st = record {
-  some_open = λ none. some_left old.book.journal old.queries may.some_open (sym st.queries ∙ none);
-  waits = subst (λ n. WaitsUntil n s until) (sym st.receives) (waits_of old.progress.receives old.book.journal old.queries old.progress.moment until s st.queries st.moment waits);
-  asked = subst (λ n. HaveAsked n (given_of look start) (old.book.journal ++ more) s) (sym st.receives) (asked_of old.progress.receives (given_of look start) old.book.journal more s may.in_turn st.given);
+  some_open = λ none. some_left old.lookup.book.journal old.lookup.queries may.some_open (sym st.queries ∙ none);
+  waits = subst (λ n. WaitsUntil n s until) (sym st.receives) (waits_of old.progress.receives old.lookup.book.journal old.lookup.queries old.progress.moment until s st.queries st.moment waits);
+  asked = subst (λ n. HaveAsked n (given_of look start) (old.lookup.book.journal ++ more) s) (sym st.receives) (asked_of old.progress.receives (given_of look start) old.lookup.book.journal more s may.in_turn st.given);
 }
 
-turn_of : (look : LookSetting) (start : WordsState) (old : Work) (place : ℕ) (s : Seen) → MayReceive look old → KeepsSeen (given_of look start) old place s → WaitsInTurn (setting_of look) old.book.journal s.receives
-turn_of look start old place s may st = subst (WaitsInTurn (setting_of look) old.book.journal) (sym st.receives) may.in_turn
+turn_of : (look : LookSetting) (start : WordsState) (old : Work) (place : ℕ) (s : Seen) → MayReceive look old → KeepsSeen (given_of look start) old place s → WaitsInTurn (setting_of look) old.lookup.book.journal s.receives
+turn_of look start old place s may st = subst (WaitsInTurn (setting_of look) old.lookup.book.journal) (sym st.receives) may.in_turn
 
 -- ---- what is overdue
 
@@ -188,31 +195,27 @@ ends_none : IsEnds []
 unfolding driven seeds asked
 ends_none = record { all_driven = refl; no_seeds = refl; no_asks = refl; untold = refl }
 
--- what a reply gives closes one
-pub record Closing (J : List Entry) (c : Contact) (e : Entry) : Type 0 where
-  pub ends : IsEnds (e ∷ [])
-  pub closes : open_any (J ++ e ∷ []) ≡ without (open_any J) (c ∷ [])
-
-closing_heard : (J : List Entry) (c : Contact) (p : ℕ) (reports : _) → Closing J c (Heard p c reports)
+ends_heard : (p : ℕ) (c : Contact) (reports : _) → IsEnds (Heard p c reports ∷ [])
 unfolding driven seeds asked
-closing_heard J c p reports = record { ends = record { all_driven = refl; no_seeds = refl; no_asks = refl; untold = refl }; closes = opens_heard p J c reports }
+ends_heard p c reports = record { all_driven = refl; no_seeds = refl; no_asks = refl; untold = refl }
 
-closing_wrong : (J : List Entry) (c : Contact) (p : ℕ) → Closing J c (Lost p c WrongId)
+ends_wrong : (p : ℕ) (c : Contact) → IsEnds (Lost p c WrongId ∷ [])
 unfolding driven seeds asked
-closing_wrong J c p = record { ends = record { all_driven = refl; no_seeds = refl; no_asks = refl; untold = refl }; closes = opens_lost p J c WrongId }
+ends_wrong p c = record { all_driven = refl; no_seeds = refl; no_asks = refl; untold = refl }
 
-closing_error : (J : List Entry) (c : Contact) (p : ℕ) (code : _) → Closing J c (Lost p c (Error code))
+ends_error : (p : ℕ) (c : Contact) (code : _) → IsEnds (Lost p c (Error code) ∷ [])
 unfolding driven seeds asked
-closing_error J c p code = record { ends = record { all_driven = refl; no_seeds = refl; no_asks = refl; untold = refl }; closes = opens_lost p J c (Error code) }
+ends_error p c code = record { all_driven = refl; no_seeds = refl; no_asks = refl; untold = refl }
 
-closing_of : (policy : Policy) (J : List Entry) (c : Contact) (what : Reply) (e : Entry) → ReplyGives policy (query_to J c) what e → Closing J c e
-closing_of policy J c (reply.Answer answer) e (inl own) = subst (Closing J c) (sym own.1) (closing_heard J c (asker c J) _)
-closing_of policy J c (reply.Answer answer) e (inr other) = subst (Closing J c) (sym other.1) (closing_wrong J c (asker c J))
-closing_of policy J c (reply.Error code) e is = subst (Closing J c) (sym is) (closing_error J c (asker c J) code)
+-- what a reply gives ends one
+reply_ends : (quest : Quest) (q : OpenQuery) (what : Reply) (e : Entry) → ReplyGives quest q what e → IsEnds (e ∷ [])
+reply_ends quest q (reply.Answer answer) e (inl own) = subst (λ x. IsEnds (x ∷ [])) (sym own.1) (ends_heard q.path q.contact _)
+reply_ends quest q (reply.Answer answer) e (inr other) = subst (λ x. IsEnds (x ∷ [])) (sym other.1) (ends_wrong q.path q.contact)
+reply_ends quest q (reply.Error code) e is = subst (λ x. IsEnds (x ∷ [])) (sym is) (ends_error q.path q.contact code)
 
-gives_of : (policy : Policy) (J : List Entry) (q : Query) (what : Reply) (e : Entry) → ReplyGives policy (query_to J q.contact) what e → ReplyGives policy (as_open J q) what e
-gives_of policy J q (reply.Answer answer) e h = h
-gives_of policy J q (reply.Error code) e h = h
+gives_of : (quest : Quest) (J : List Entry) (q : Query) (what : Reply) (e : Entry) → ReplyGives quest (query_to J q.contact) what e → ReplyGives quest (as_open J q) what e
+gives_of quest J q (reply.Answer answer) e h = h
+gives_of quest J q (reply.Error code) e h = h
 
 -- ---- what a receive leaves
 
@@ -228,44 +231,40 @@ among_dropped (x ∷ before) q behind c h = both (same c x.contact) (among (map 
     both true b d h f = refl
     both false b d h f = f h
 
-all_dropped : (P : Query → Type 0) (before : List Query) (q : Query) (behind : List Query) → AllByRecursion P (before ++ q ∷ behind) → AllByRecursion P (before ++ behind)
-all_dropped P [] q behind h = h.1
-all_dropped P (x ∷ before) q behind h = (h.0, all_dropped P before q behind h.1)
-
 -- the entries `first`, and then those of the queries `left` that are overdue
 pub record Left (look : LookSetting) (at : ℕ) (old new : Work) (first : List Entry) (left : List Query) : Type 0 where
   pub ends : IsEnds first
-  pub setting : new.book.setting ≡ old.book.setting
-  pub journal : new.book.journal ≡ old.book.journal ++ (first ++ closed_at at (map (as_open old.book.journal) left))
-  pub queries : new.queries ≡ filter (λ (q : Query). nat_lt at q.deadline) left
-  pub paths : map (as_open new.book.journal) new.queries ≡ map (as_open old.book.journal) new.queries
-  pub is_open : map (λ (q : Query). q.contact) new.queries ≡ open_any new.book.journal
+  pub setting : new.lookup.book.setting ≡ old.lookup.book.setting
+  pub journal : new.lookup.book.journal ≡ old.lookup.book.journal ++ (first ++ closed_at at (map (as_open old.lookup.book.journal) left))
+  pub queries : new.lookup.queries ≡ filter (λ (q : Query). nat_lt at q.deadline) left
+  pub paths : map (as_open new.lookup.book.journal) new.lookup.queries ≡ map (as_open old.lookup.book.journal) new.lookup.queries
+  pub is_open : map (λ (q : Query). q.contact) new.lookup.queries ≡ open_any new.lookup.book.journal
   pub ids : AllByRecursion (λ (q : Query). q.tx < 2 ^ 32) left
   pub deadlines : AllByRecursion (λ (q : Query). q.deadline ≤ deadline_of old.progress.moment look.timeout) left
-  pub table : TableTold (flat_map told_of (closed_at at (map (as_open old.book.journal) left))) old.table new.table
+  pub table : TableTold (flat_map told_of (closed_at at (map (as_open old.lookup.book.journal) left))) old.table new.table
   pub moment : new.progress.moment ≡ at
   pub later : old.progress.moment ≤ at
 
-left_of : (look : LookSetting) (at : ℕ) (old mid late : Work) (progress : Progress) (first : List Entry) (left : List Query) → IsEnds first → mid.book.setting ≡ old.book.setting → mid.book.journal ≡ old.book.journal ++ first → mid.queries ≡ left → mid.table ≡ old.table
-    → ((c : Contact) → among (map (λ (q : Query). q.contact) left) c ≡ true → among (asked old.book.journal) c ≡ true)
+left_of : (look : LookSetting) (at : ℕ) (old mid late : Work) (progress : Progress) (first : List Entry) (left : List Query) → IsEnds first → mid.lookup.book.setting ≡ old.lookup.book.setting → mid.lookup.book.journal ≡ old.lookup.book.journal ++ first → mid.lookup.queries ≡ left → mid.table ≡ old.table
+    → ((c : Contact) → among (map (λ (q : Query). q.contact) left) c ≡ true → among (asked old.lookup.book.journal) c ≡ true)
     → AllByRecursion (λ (q : Query). q.tx < 2 ^ 32) left → AllByRecursion (λ (q : Query). q.deadline ≤ deadline_of old.progress.moment look.timeout) left → Expires at mid late → progress.moment ≡ at → old.progress.moment ≤ at
     → Left look at old (record late { progress = progress }) first left
 left_of look at old mid late progress first left ends setting journal queries table asks ids deadlines e moment later =
-    let J = old.book.journal in
+    let J = old.lookup.book.journal in
     let closed = closed_at at (map (as_open J) left) in
-    let opens : map (as_open mid.book.journal) mid.queries ≡ map (as_open J) left = ap (map (as_open mid.book.journal)) queries ∙ ap (λ K. map (as_open K) left) journal ∙ opens_kept J first left asks in
-    let journal' : late.book.journal ≡ J ++ (first ++ closed) = e.journal ∙ ap (λ l. mid.book.journal ++ closed_at at l) opens ∙ ap (λ l. l ++ closed) journal ∙ append_assoc J first closed in
-    let queries' : late.queries ≡ filter (λ (q : Query). nat_lt at q.deadline) left = e.queries ∙ ap (filter (λ (q : Query). nat_lt at q.deadline)) queries in
+    let opens : map (as_open mid.lookup.book.journal) mid.lookup.queries ≡ map (as_open J) left = ap (map (as_open mid.lookup.book.journal)) queries ∙ ap (λ K. map (as_open K) left) journal ∙ opens_kept J first left asks in
+    let journal' : late.lookup.book.journal ≡ J ++ (first ++ closed) = e.loses.journal ∙ ap (λ l. mid.lookup.book.journal ++ closed_at at l) opens ∙ ap (λ l. l ++ closed) journal ∙ append_assoc J first closed in
+    let queries' : late.lookup.queries ≡ filter (λ (q : Query). nat_lt at q.deadline) left = e.loses.queries ∙ ap (filter (λ (q : Query). nat_lt at q.deadline)) queries in
     record {
       ends = ends;
-      setting = e.setting ∙ setting;
+      setting = e.loses.setting ∙ setting;
       journal = journal';
       queries = queries';
-      paths = ap (λ K. map (as_open K) late.queries) journal' ∙ opens_kept J (first ++ closed) late.queries (λ c h. asks c (among_still at left c (subst (λ l. among (map (λ (q : Query). q.contact) l) c ≡ true) queries' h)));
-      is_open = e.is_open;
+      paths = ap (λ K. map (as_open K) late.lookup.queries) journal' ∙ opens_kept J (first ++ closed) late.lookup.queries (λ c h. asks c (among_still at left c (subst (λ l. among (map (λ (q : Query). q.contact) l) c ≡ true) queries' h)));
+      is_open = e.loses.is_open;
       ids = ids;
       deadlines = deadlines;
-      table = subst (λ l. TableTold (flat_map told_of (closed_at at l)) old.table late.table) opens (subst (λ t. TableTold (flat_map told_of (closed_at at (map (as_open mid.book.journal) mid.queries))) t late.table) table e.table);
+      table = subst (λ l. TableTold (flat_map told_of (closed_at at l)) old.table late.table) opens (subst (λ t. TableTold (flat_map told_of (closed_at at (map (as_open mid.lookup.book.journal) mid.lookup.queries))) t late.table) table e.table);
       moment = moment;
       later = later;
     }
@@ -279,14 +278,14 @@ seeds_left first qs ends = seeds_append first (map timed_out qs) ∙ ap (λ l. l
 asks_left : (J first : List Entry) (qs : List OpenQuery) → IsEnds first → asked (J ++ (first ++ map timed_out qs)) ≡ asked J
 asks_left J first qs ends = asked_append J (first ++ map timed_out qs) ∙ ap (λ l. asked J ++ l) (asked_append first (map timed_out qs) ∙ ap (λ l. l ++ asked (map timed_out qs)) ends.no_asks ∙ asks_closed qs) ∙ append-nil (asked J)
 
-same_asks : (look : LookSetting) (at : ℕ) (old new : Work) (first : List Entry) (left : List Query) → Left look at old new first left → length (asked new.book.journal) ≡ length (asked old.book.journal)
+same_asks : (look : LookSetting) (at : ℕ) (old new : Work) (first : List Entry) (left : List Query) → Left look at old new first left → length (asked new.lookup.book.journal) ≡ length (asked old.lookup.book.journal)
 same_asks look at old new first left l =
-    ap (λ J. length (asked J)) l.journal ∙ ap length (asks_left old.book.journal first (filter (is_overdue at) (map (as_open old.book.journal) left)) l.ends)
+    ap (λ J. length (asked J)) l.journal ∙ ap length (asks_left old.lookup.book.journal first (filter (is_overdue at) (map (as_open old.lookup.book.journal) left)) l.ends)
 
 stands_left : (look : LookSetting) (g : Given) (place at : ℕ) (old new : Work) (first : List Entry) (left : List Query) (strays receives : ℕ) (s : Seen) → Left look at old new first left → KeepsSeen g old place s → strays ≡ new.progress.strays → receives ≡ new.progress.receives
-    → KeepsSeen g new place (received s at first (map (as_open old.book.journal) left) strays receives)
+    → KeepsSeen g new place (received s at first (map (as_open old.lookup.book.journal) left) strays receives)
 stands_left look g place at old new first left strays receives s l st is_strays is_receives =
-    let J = old.book.journal in
+    let J = old.lookup.book.journal in
     let more = first ++ closed_at at (map (as_open J) left) in
     record {
       moment = sym l.moment;
@@ -305,11 +304,11 @@ round_left : (n m at : ℕ) (J : List Entry) (left new : List Query) → n ≡ m
 round_left n m at J left new same is = ap (receives_seen n) (open_still at J left ∙ ap (map (as_open J)) (sym is)) ∙ round_is n J new ∙ ap (λ k. receives_kept k new) same
 
 next_of : (look : LookSetting) (words : WordsState) (at : ℕ) (old new : Work) (first : List Entry) (left : List Query) (a : ℕ) (e : Event) → Left look at old new first left
-    → ((start : WordsState) (s : Seen) → KeepsSeen (given_of look start) old words.place s → OneEvent (given_of look start) old new (first ++ closed_at at (map (as_open old.book.journal) left)) words.place 0 s e)
+    → ((start : WordsState) (s : Seen) → KeepsSeen (given_of look start) old words.place s → OneEvent (given_of look start) old new (first ++ closed_at at (map (as_open old.lookup.book.journal) left)) words.place 0 s e)
     → NextStep look words words old new a 0 e
 next_of look words at old new first left a e l next =
-    let closed = closed_at at (map (as_open old.book.journal) left) in
-    let ended = filter (is_overdue at) (map (as_open old.book.journal) left) in
+    let closed = closed_at at (map (as_open old.lookup.book.journal) left) in
+    let ended = filter (is_overdue at) (map (as_open old.lookup.book.journal) left) in
     record {
       more = first ++ closed;
       journal = l.journal;
@@ -338,7 +337,7 @@ later_deadlines : (m at timeout : ℕ) (qs : List Query) → m ≤ at → AllByR
 later_deadlines m at timeout [] le h = tt
 later_deadlines m at timeout (q ∷ qs) le h = ((let a = h.0 in omega (arith, a, le)), later_deadlines m at timeout qs le h.1)
 
-keeps_left : (look : LookSetting) (at : ℕ) (old new : Work) (first : List Entry) (left : List Query) → Left look at old new first left → Keeps look old → new.progress.strays < max_strays → RoundGoes old.progress new.progress new.queries → (look.kind ≡ FindNode → new.gathered ≡ old.gathered) → Keeps look new
+keeps_left : (look : LookSetting) (at : ℕ) (old new : Work) (first : List Entry) (left : List Query) → Left look at old new first left → Keeps look old → new.progress.strays < max_strays → RoundGoes old.progress new.progress new.lookup.queries → (wants_peers look.kind ≡ false → new.gathered ≡ old.gathered) → Keeps look new
 keeps_left look at old new first left l keeps strays round bare = record {
   setting = l.setting ∙ keeps.setting;
   is_open = l.is_open;
@@ -350,7 +349,7 @@ keeps_left look at old new first left l keeps strays round bare = record {
   no_peers = λ e. subst IsBare (sym (bare e)) (keeps.no_peers e);
 }
   where
-    few : RoundGoes old.progress new.progress new.queries → new.progress.receives < max_round_receives
+    few : RoundGoes old.progress new.progress new.lookup.queries → new.progress.receives < max_round_receives
     few (inl z) = omega (arith, z)
     few (inr more) = more.1
 
@@ -362,20 +361,20 @@ goes_count : (from to : Progress) (qs : List Query) → RoundGoes from to qs →
 goes_count from to qs (inl z) = inl z
 goes_count from to qs (inr more) = inr more.0
 
-receives_one : (look : LookSetting) (at : ℕ) (old new : Work) (first : List Entry) (left : List Query) (e : Event) (told told' : Option (List Event)) → Left look at old new first left → Keeps look old → new.progress.strays < max_strays → RoundGoes old.progress new.progress new.queries → (look.kind ≡ FindNode → new.gathered ≡ old.gathered)
-    → length new.queries + (max_strays - new.progress.strays) ≤ length old.queries + (max_strays - old.progress.strays)
-    → (old.progress.receives ≡ 0 → length new.queries + (max_strays - new.progress.strays) < length old.queries + (max_strays - old.progress.strays))
-    → ((words : WordsState) (start : WordsState) (s : Seen) → KeepsSeen (given_of look start) old words.place s → OneEvent (given_of look start) old new (first ++ closed_at at (map (as_open old.book.journal) left)) words.place 0 s e)
+receives_one : (look : LookSetting) (at : ℕ) (old new : Work) (first : List Entry) (left : List Query) (e : Event) (told told' : Option (List Event)) → Left look at old new first left → Keeps look old → new.progress.strays < max_strays → RoundGoes old.progress new.progress new.lookup.queries → (wants_peers look.kind ≡ false → new.gathered ≡ old.gathered)
+    → length new.lookup.queries + (max_strays - new.progress.strays) ≤ length old.lookup.queries + (max_strays - old.progress.strays)
+    → (old.progress.receives ≡ 0 → length new.lookup.queries + (max_strays - new.progress.strays) < length old.lookup.queries + (max_strays - old.progress.strays))
+    → ((words : WordsState) (start : WordsState) (s : Seen) → KeepsSeen (given_of look start) old words.place s → OneEvent (given_of look start) old new (first ++ closed_at at (map (as_open old.lookup.book.journal) left)) words.place 0 s e)
     → Grows told told' (λ es. es ≡ e ∷ []) → ReceivesOne look old new told told'
 receives_one look at old new first left e told told' l keeps strays round bare light first_light next grows =
     let asks = same_asks look at old new first left l in
     record {
       keeps = keeps_left look at old new first left l keeps strays round bare;
-      some_open = goes_open old.progress new.progress new.queries round;
-      round = goes_count old.progress new.progress new.queries round;
+      some_open = goes_open old.progress new.progress new.lookup.queries round;
+      round = goes_count old.progress new.progress new.lookup.queries round;
       same_asks = asks;
-      first_lighter = λ z. (let lt = first_light z in lighter (length (asked new.book.journal)) (length (asked old.book.journal)) _ _ asks lt);
-      lighter = no_heavier (length (asked new.book.journal)) (length (asked old.book.journal)) _ _ asks light;
+      first_lighter = λ z. (let lt = first_light z in lighter (length (asked new.lookup.book.journal)) (length (asked old.lookup.book.journal)) _ _ asks lt);
+      lighter = no_heavier (length (asked new.lookup.book.journal)) (length (asked old.lookup.book.journal)) _ _ asks light;
       goes = λ words b a. along_next look words words old new b 0 a 0 e told told' (next_of look words at old new first left a e l (next words)) grows;
     }
   where
@@ -386,74 +385,74 @@ receives_one look at old new first left e told told' l keeps strays round bare l
     no_heavier n m x y e le = omega (arith, e, le)
 
 -- nothing is kept where no peers are asked for
-kept_find : (kind : AskKind) (heard : List Answered) (g h : Gathered) → kind ≡ FindNode → KeepsFor kind heard g h → h ≡ g
-kept_find FindNode heard g h is k = k
-kept_find GetPeers heard g h is k = absurd cc
+kept_find : (wants : Bool) (heard : List Answered) (g h : Gathered) → wants ≡ false → KeepsFor wants heard g h → h ≡ g
+kept_find false heard g h is k = k
+kept_find true heard g h is k = absurd cc
 
-keeps_none : (kind : AskKind) (g h : Gathered) → h ≡ g → KeepsFor kind [] g h
-keeps_none FindNode g h is = is
-keeps_none GetPeers g h is = record { peers = ap (λ (x : Gathered). x.peers) is ∙ sym (append-nil g.peers); tokens = ap (λ (x : Gathered). x.tokens) is ∙ sym (append-nil g.tokens) }
+keeps_none : (wants : Bool) (g h : Gathered) → h ≡ g → KeepsFor wants [] g h
+keeps_none false g h is = is
+keeps_none true g h is = record { peers = ap (λ (x : Gathered). x.peers) is ∙ sym (append-nil g.peers); tokens = ap (λ (x : Gathered). x.tokens) is ∙ sym (append-nil g.tokens) }
 
 -- ---- a datagram that replies to none
 
-pub stray_of : (work : Work) (s : Seen) (from : Addr) (bytes : List ℕ) → s.queries ≡ map (as_open work.book.journal) work.queries → RepliesToNone from bytes work → IsStray s from bytes
-stray_of work s from bytes queries none q has r h =
-    let found = in_map (as_open work.book.journal) work.queries q (subst (λ l. Contains l q) queries has) in
-    none found.0 found.1 r (subst (λ y. Replies bytes from y r) found.2 h)
+pub stray_of : (quest : Quest) (work : Work) (s : Seen) (from : Addr) (bytes : List ℕ) → s.queries ≡ map (as_open work.lookup.book.journal) work.lookup.queries → RepliesToNone quest from bytes work.lookup → IsStray quest s.queries from bytes
+stray_of quest work s from bytes queries none q has r h =
+    let found = in_map (as_open work.lookup.book.journal) work.lookup.queries q (subst (λ l. Contains l q) queries has) in
+    none found.0 found.1 r (subst (λ y. Replies quest bytes from y r) found.2 h)
 
 light_stray : (a b c d most : ℕ) → a ≤ b → d ≡ c + 1 → d < most → a + (most - d) < b + (most - c)
 light_stray a b c d most le is lt = omega (arith, le, is, lt)
 
-fewer_left : (look : LookSetting) (at : ℕ) (old new : Work) (first : List Entry) (left : List Query) → Left look at old new first left → length new.queries ≤ length left
+fewer_left : (look : LookSetting) (at : ℕ) (old new : Work) (first : List Entry) (left : List Query) → Left look at old new first left → length new.lookup.queries ≤ length left
 fewer_left look at old new first left l = subst (λ qs. length qs ≤ length left) (sym l.queries) (fewer_still at left)
 
 -- the events of a receive that gives no entry at first
-one_quiet : (look : LookSetting) (words start : WordsState) (at : ℕ) (old new : Work) (s : Seen) (e : Event) (strays receives : ℕ) → Left look at old new [] old.queries → KeepsSeen (given_of look start) old words.place s → new.gathered ≡ old.gathered
-    → strays ≡ new.progress.strays → receives ≡ new.progress.receives → Gives (given_of look start) new.book.journal s e (received s at [] s.queries strays receives) → InTurn (setting_of look) old.book.journal s e ([] ++ closed_at at (map (as_open old.book.journal) old.queries)) → Hears s e []
-    → OneEvent (given_of look start) old new ([] ++ closed_at at (map (as_open old.book.journal) old.queries)) words.place 0 s e
+one_quiet : (look : LookSetting) (words start : WordsState) (at : ℕ) (old new : Work) (s : Seen) (e : Event) (strays receives : ℕ) → Left look at old new [] old.lookup.queries → KeepsSeen (given_of look start) old words.place s → new.gathered ≡ old.gathered
+    → strays ≡ new.progress.strays → receives ≡ new.progress.receives → Gives (given_of look start) new.lookup.book.journal s e (received s at [] s.queries strays receives) → InTurn (setting_of look) old.lookup.book.journal s e ([] ++ closed_at at (map (as_open old.lookup.book.journal) old.lookup.queries)) → Hears (quest_of look) s e []
+    → OneEvent (given_of look start) old new ([] ++ closed_at at (map (as_open old.lookup.book.journal) old.lookup.queries)) words.place 0 s e
 one_quiet look words start at old new s e strays receives l st gathered is_strays is_receives gives turn hears = record {
   after = received s at [] s.queries strays receives;
   gives = gives;
   given = ap (λ qs. s.given ++ ([] ++ closed_at at qs)) st.queries;
   in_turn = turn;
   stands = subst (λ qs. KeepsSeen (given_of look start) new words.place (received s at [] qs strays receives)) (sym st.queries)
-      (stands_left look (given_of look start) words.place at old new [] old.queries strays receives s l st is_strays is_receives);
+      (stands_left look (given_of look start) words.place at old new [] old.lookup.queries strays receives s l st is_strays is_receives);
   ascends = tt;
   found = [];
   hears = hears;
-  keeps = keeps_none look.kind old.gathered new.gathered gathered;
+  keeps = keeps_none (wants_peers look.kind) old.gathered new.gathered gathered;
 }
 
 -- what a receive depends on
 pub record Receiving (look : LookSetting) (old : Work) (until at : ℕ) : Type 0 where
   pub may : MayReceive look old
-  pub legal : Legal old.book.setting old.book.journal
-  pub waits : WaitsFor old.progress.receives old.progress.moment old.queries until
+  pub legal : Legal old.lookup.book.setting old.lookup.book.journal
+  pub waits : WaitsFor old.progress.receives old.progress.moment old.lookup.queries until
   pub later : old.progress.moment ≤ at
 
-no_heard : (work : Work) (s : Seen) (from : Addr) (bytes : List ℕ) → s.queries ≡ map (as_open work.book.journal) work.queries → RepliesToNone from bytes work → (a : Answered) → ¬ HeardIn s from bytes a
-no_heard work s from bytes queries none a h = stray_of work s from bytes queries none h.query h.is_open (reply.Answer a.answer) h.replies
+no_heard : (quest : Quest) (work : Work) (s : Seen) (from : Addr) (bytes : List ℕ) → s.queries ≡ map (as_open work.lookup.book.journal) work.lookup.queries → RepliesToNone quest from bytes work.lookup → (a : Answered) → ¬ HeardIn quest s from bytes a
+no_heard quest work s from bytes queries none a h = stray_of quest work s from bytes queries none h.query h.is_open (reply.Answer a.answer) h.replies
 
-stray_receives : (look : LookSetting) (from : Addr) (bytes : List ℕ) (until at n : ℕ) (old mid late : Work) (told told' : Option (List Event)) → Receiving look old until at → IsStrayFor from bytes old mid → Expires at mid late → n ≡ receives_kept late.progress.receives late.queries
+stray_receives : (look : LookSetting) (from : Addr) (bytes : List ℕ) (until at n : ℕ) (old mid late : Work) (told told' : Option (List Event)) → Receiving look old until at → IsStrayFor look from bytes old mid → Expires at mid late → n ≡ receives_kept late.progress.receives late.lookup.queries
     → Grows told told' (λ es. es ≡ Got from bytes until at ∷ []) → ReceivesOne look old (record late { progress = record { moment = at; receives = n; strays = late.progress.strays } }) told told'
 stray_receives look from bytes until at n old mid late told told' r t e is grows =
     let keeps = r.may.keeps in
     let progress : Progress = record { moment = at; receives = n; strays = late.progress.strays } in
     let new : Work = record late { progress = progress } in
-    let l : Left look at old new [] old.queries =
-    left_of look at old mid late progress [] old.queries ends_none (ap (λ (b : BookState). b.setting) t.book) (ap (λ (b : BookState). b.journal) t.book ∙ sym (append-nil old.book.journal)) t.queries t.table
-    (each_asked old.book.journal old.queries keeps.is_open) keeps.ids keeps.deadlines e refl r.later in
+    let l : Left look at old new [] old.lookup.queries =
+    left_of look at old mid late progress [] old.lookup.queries ends_none (ap (λ (k : Lookup). k.book.setting) t.lookup) (ap (λ (k : Lookup). k.book.journal) t.lookup ∙ sym (append-nil old.lookup.book.journal)) (ap (λ (k : Lookup). k.queries) t.lookup) t.table
+    (each_asked old.lookup.book.journal old.lookup.queries keeps.is_open) keeps.ids keeps.deadlines e refl r.later in
     let strays : late.progress.strays ≡ old.progress.strays + 1 = ap (λ (x : Progress). x.strays) (e.progress ∙ t.takes.after) in
     let few : late.progress.strays < max_strays = subst (λ (x : Progress). x.strays < max_strays) (sym e.progress) t.takes.few in
     let receives : old.progress.receives ≡ late.progress.receives = sym (ap (λ (x : Progress). x.receives) (e.progress ∙ t.takes.after)) in
-    let light = light_stray (length late.queries) (length old.queries) old.progress.strays late.progress.strays max_strays (fewer_left look at old new [] old.queries l) strays few in
-    receives_one look at old new [] old.queries (Got from bytes until at) told told' l keeps few (round_goes late.progress.receives old.progress progress late.queries receives is) (λ k. e.gathered ∙ t.gathered)
+    let light = light_stray (length late.lookup.queries) (length old.lookup.queries) old.progress.strays late.progress.strays max_strays (fewer_left look at old new [] old.lookup.queries l) strays few in
+    receives_one look at old new [] old.lookup.queries (Got from bytes until at) told told' l keeps few (round_goes late.progress.receives old.progress progress late.lookup.queries receives is) (λ k. e.gathered ∙ t.gathered)
     (omega (arith, light)) (λ z. light)
     (λ words start s st. one_quiet look words start at old new s (Got from bytes until at) (s.strays + 1) (receives_seen s.receives (open_at at s.queries)) l st (e.gathered ∙ t.gathered)
     (ap (λ m. m + 1) st.strays ∙ sym strays)
-    (ap (λ qs. receives_seen s.receives (open_at at qs)) st.queries ∙ round_left s.receives late.progress.receives at old.book.journal old.queries late.queries (st.receives ∙ receives) l.queries ∙ sym is)
-    (subst (λ J. Receives (given_of look start) J s until) (sym l.journal) (receives_of look start old ([] ++ closed_at at (map (as_open old.book.journal) old.queries)) words.place s until r.may r.waits st), inr (stray_of old s from bytes st.queries t.none, refl))
-    (turn_of look start old words.place s r.may st) (inr (no_heard old s from bytes st.queries t.none, refl)))
+    (ap (λ qs. receives_seen s.receives (open_at at qs)) st.queries ∙ round_left s.receives late.progress.receives at old.lookup.book.journal old.lookup.queries late.lookup.queries (st.receives ∙ receives) l.queries ∙ sym is)
+    (subst (λ J. Receives (given_of look start) J s until) (sym l.journal) (receives_of look start old ([] ++ closed_at at (map (as_open old.lookup.book.journal) old.lookup.queries)) words.place s until r.may r.waits st), inr (stray_of (quest_of look) old s from bytes st.queries t.none, refl))
+    (turn_of look start old words.place s r.may st) (inr (no_heard (quest_of look) old s from bytes st.queries t.none, refl)))
     grows
 
 -- ---- no datagram
@@ -471,78 +470,78 @@ quiet_receives look until at old late told told' r le e grows =
     let keeps = r.may.keeps in
     let progress : Progress = record { moment = at; receives = 0; strays = late.progress.strays } in
     let new : Work = record late { progress = progress } in
-    let l : Left look at old new [] old.queries =
-    left_of look at old old late progress [] old.queries ends_none refl (sym (append-nil old.book.journal)) refl refl (each_asked old.book.journal old.queries keeps.is_open) keeps.ids keeps.deadlines e refl r.later in
+    let l : Left look at old new [] old.lookup.queries =
+    left_of look at old old late progress [] old.lookup.queries ends_none refl (sym (append-nil old.lookup.book.journal)) refl refl (each_asked old.lookup.book.journal old.lookup.queries keeps.is_open) keeps.ids keeps.deadlines e refl r.later in
     let strays : late.progress.strays ≡ old.progress.strays = ap (λ (x : Progress). x.strays) e.progress in
     let few : late.progress.strays < max_strays = (let f = keeps.few_strays in omega (arith, f, strays)) in
-    let fewer = fewer_left look at old new [] old.queries l in
-    receives_one look at old new [] old.queries (Quiet until at) told told' l keeps few (inl refl) (λ k. e.gathered) (omega (arith, fewer, strays))
-    (λ z. quiet_light old.progress.receives at until late.progress.strays old.progress.strays old.queries late.queries old.progress.moment l.queries strays le z r.waits)
+    let fewer = fewer_left look at old new [] old.lookup.queries l in
+    receives_one look at old new [] old.lookup.queries (Quiet until at) told told' l keeps few (inl refl) (λ k. e.gathered) (omega (arith, fewer, strays))
+    (λ z. quiet_light old.progress.receives at until late.progress.strays old.progress.strays old.lookup.queries late.lookup.queries old.progress.moment l.queries strays le z r.waits)
     (λ words start s st. one_quiet look words start at old new s (Quiet until at) s.strays 0 l st e.gathered (st.strays ∙ sym strays) refl
-    (subst (λ J. Receives (given_of look start) J s until) (sym l.journal) (receives_of look start old ([] ++ closed_at at (map (as_open old.book.journal) old.queries)) words.place s until r.may r.waits st), refl)
+    (subst (λ J. Receives (given_of look start) J s until) (sym l.journal) (receives_of look start old ([] ++ closed_at at (map (as_open old.lookup.book.journal) old.lookup.queries)) words.place s until r.may r.waits st), refl)
     (turn_of look start old words.place s r.may st) refl)
     grows
 
 -- ---- a datagram that replies to one
 
-the_one : (J : List Entry) (qs : List Query) (q : Query) (from : Addr) (bytes : List ℕ) (what : Reply) (s : Seen) (a : Answered) → s.queries ≡ map (as_open J) qs → AllByRecursion (λ (x : Query). x.tx < 2 ^ 32) qs → IsReply bytes (record { tx = q.tx; reply = what }) → ((x : Query) → Contains qs x → x.tx ≡ q.tx → x ≡ q)
-    → (h : HeardIn s from bytes a) → (h.query ≡ as_open J q) × (reply.Answer a.answer ≡ what)
-the_one J qs q from bytes what s a queries ids reads alone h =
+the_one : (quest : Quest) (J : List Entry) (qs : List Query) (q : Query) (from : Addr) (bytes : List ℕ) (what : Reply) (s : Seen) (a : Answered) → s.queries ≡ map (as_open J) qs → AllByRecursion (λ (x : Query). x.tx < 2 ^ 32) qs → IsReply bytes (record { tx = q.tx; reply = what }) → ((x : Query) → Contains qs x → x.tx ≡ q.tx → x ≡ q)
+    → (h : HeardIn quest s from bytes a) → (h.query ≡ as_open J q) × (reply.Answer a.answer ≡ what)
+the_one quest J qs q from bytes what s a queries ids reads alone h =
     let found = in_map (as_open J) qs h.query (subst (λ l. Contains l h.query) queries h.is_open) in
     let x = found.0 in
     let small = all_in (λ (y : Query). y.tx < 2 ^ 32) qs x ids found.1 in
-    let replies = to_reply J bytes from x (reply.Answer a.answer) (subst (λ y. Replies bytes from y (reply.Answer a.answer)) found.2 h.replies) in
+    let replies = to_reply quest J bytes from x (reply.Answer a.answer) (subst (λ y. Replies quest bytes from y (reply.Answer a.answer)) found.2 h.replies) in
     let same : x ≡ q = alone x found.1 (reads.same_id x.tx (reply.Answer a.answer) small replies) in
     (found.2 ∙ ap (as_open J) same, reads.same_reply x.tx (reply.Answer a.answer) small replies)
 
-hears_one : (J : List Entry) (qs : List Query) (q : Query) (from : Addr) (bytes : List ℕ) (until at : ℕ) (what : Reply) (heard : List Answered) (s : Seen) → s.queries ≡ map (as_open J) qs → Contains qs q → AllByRecursion (λ (x : Query). x.tx < 2 ^ 32) qs → Replies bytes from (as_open J q) what
-    → IsReply bytes (record { tx = q.tx; reply = what }) → ((x : Query) → Contains qs x → x.tx ≡ q.tx → x ≡ q) → HearsIn q.contact what heard → Hears s (Got from bytes until at) heard
-hears_one J qs q from bytes until at (reply.Answer answer) heard s queries has ids replies reads alone (inl own) = inl (
+hears_one : (quest : Quest) (J : List Entry) (qs : List Query) (q : Query) (from : Addr) (bytes : List ℕ) (until at : ℕ) (what : Reply) (heard : List Answered) (s : Seen) → s.queries ≡ map (as_open J) qs → Contains qs q → AllByRecursion (λ (x : Query). x.tx < 2 ^ 32) qs → Replies quest bytes from (as_open J q) what
+    → IsReply bytes (record { tx = q.tx; reply = what }) → ((x : Query) → Contains qs x → x.tx ≡ q.tx → x ≡ q) → HearsIn q.contact what heard → Hears quest s (Got from bytes until at) heard
+hears_one quest J qs q from bytes until at (reply.Answer answer) heard s queries has ids replies reads alone (inl own) = inl (
   record { contact = q.contact; answer = answer },
   record { query = as_open J q; is_open = subst (λ l. Contains l (as_open J q)) (sym queries) (map_in (as_open J) qs q has); replies = replies; own_name = own.0; contact_is = refl },
   own.1,
 )
-hears_one J qs q from bytes until at (reply.Answer answer) heard s queries has ids replies reads alone (inr other) = inr (
+hears_one quest J qs q from bytes until at (reply.Answer answer) heard s queries has ids replies reads alone (inr other) = inr (
   (λ a h.
-      let one = the_one J qs q from bytes (reply.Answer answer) s a queries ids reads alone h in
+      let one = the_one quest J qs q from bytes (reply.Answer answer) s a queries ids reads alone h in
       let said = one.1 in
       let same : a.answer ≡ answer = cc in
       other.0 (ap (λ (x : Answer). x.id) (sym same) ∙ h.own_name ∙ ap (λ (y : OpenQuery). y.contact.id) one.0)),
   other.1,
 )
-hears_one J qs q from bytes until at (reply.Error code) heard s queries has ids replies reads alone none = inr (
+hears_one quest J qs q from bytes until at (reply.Error code) heard s queries has ids replies reads alone none = inr (
   (λ a h.
-      let one = the_one J qs q from bytes (reply.Error code) s a queries ids reads alone h in
+      let one = the_one quest J qs q from bytes (reply.Error code) s a queries ids reads alone h in
       let said = one.1 in absurd cc),
   none,
 )
 
-match_receives : (look : LookSetting) (from : Addr) (bytes : List ℕ) (until at n : ℕ) (old mid late : Work) (told told' : Option (List Event)) → Receiving look old until at → IsMatchFor look from bytes old mid → Expires at mid late → n ≡ receives_kept late.progress.receives late.queries
+match_receives : (look : LookSetting) (from : Addr) (bytes : List ℕ) (until at n : ℕ) (old mid late : Work) (told told' : Option (List Event)) → Receiving look old until at → IsMatchFor look from bytes old mid → Expires at mid late → n ≡ receives_kept late.progress.receives late.lookup.queries
     → Grows told told' (λ es. es ≡ Got from bytes until at ∷ []) → ReceivesOne look old (record late { progress = record { moment = at; receives = n; strays = late.progress.strays } }) told told'
 match_receives look from bytes until at n old mid late told told' r m e is grows =
     let keeps = r.may.keeps in
-    let J = old.book.journal in
-    let entry = m.hears.entry in
-    let left = m.before ++ m.behind in
+    let k = m.matches in
+    let J = old.lookup.book.journal in
+    let entry = k.hears.entry in
+    let left = k.before ++ k.behind in
     let more = (entry ∷ []) ++ closed_at at (map (as_open J) left) in
-    let closing = closing_of look.policy J m.query.contact m.what entry m.hears.gives in
     let progress : Progress = record { moment = at; receives = n; strays = late.progress.strays } in
     let new : Work = record late { progress = progress } in
     let l : Left look at old new (entry ∷ []) left =
-    left_of look at old mid late progress (entry ∷ []) left closing.ends (ap (λ (b : BookState). b.setting) m.hears.after) (ap (λ (b : BookState). b.journal) m.hears.after) m.closes m.table
-    (λ c h. each_asked J old.queries keeps.is_open c (subst (λ qs. among (map (λ (q : Query). q.contact) qs) c ≡ true) (sym m.was_open) (among_dropped m.before m.query m.behind c h)))
-    (all_dropped (λ (q : Query). q.tx < 2 ^ 32) m.before m.query m.behind (subst (AllByRecursion (λ (q : Query). q.tx < 2 ^ 32)) m.was_open keeps.ids))
-    (all_dropped (λ (q : Query). q.deadline ≤ deadline_of old.progress.moment look.timeout) m.before m.query m.behind (subst (AllByRecursion (λ (q : Query). q.deadline ≤ deadline_of old.progress.moment look.timeout)) m.was_open keeps.deadlines))
+    left_of look at old mid late progress (entry ∷ []) left (reply_ends (quest_of look) (query_to J k.query.contact) k.what entry k.hears.gives) (ap (λ (b : BookState). b.setting) k.hears.after) (ap (λ (b : BookState). b.journal) k.hears.after) k.closes m.table
+    (λ c h. each_asked J old.lookup.queries keeps.is_open c (subst (λ qs. among (map (λ (q : Query). q.contact) qs) c ≡ true) (sym k.was_open) (among_dropped k.before k.query k.behind c h)))
+    (all_dropped (λ (q : Query). q.tx < 2 ^ 32) k.before k.query k.behind (subst (AllByRecursion (λ (q : Query). q.tx < 2 ^ 32)) k.was_open keeps.ids))
+    (all_dropped (λ (q : Query). q.deadline ≤ deadline_of old.progress.moment look.timeout) k.before k.query k.behind (subst (AllByRecursion (λ (q : Query). q.deadline ≤ deadline_of old.progress.moment look.timeout)) k.was_open keeps.deadlines))
     e refl r.later in
     let same : late.progress ≡ old.progress = e.progress ∙ m.progress in
     let strays : late.progress.strays ≡ old.progress.strays = ap (λ (x : Progress). x.strays) same in
     let receives : old.progress.receives ≡ late.progress.receives = sym (ap (λ (x : Progress). x.receives) same) in
     let few : late.progress.strays < max_strays = (let f = keeps.few_strays in omega (arith, f, strays)) in
     let fewer = fewer_left look at old new (entry ∷ []) left l in
-    let one : length old.queries ≡ length m.before + suc (length m.behind) = ap length m.was_open ∙ length-append m.before (m.query ∷ m.behind) in
-    let two : length left ≡ length m.before + length m.behind = length-append m.before m.behind in
-    let light : length late.queries + (max_strays - late.progress.strays) < length old.queries + (max_strays - old.progress.strays) = omega (arith, fewer, strays, one, two) in
-    receives_one look at old new (entry ∷ []) left (Got from bytes until at) told told' l keeps few (round_goes late.progress.receives old.progress progress late.queries receives is) (λ k. e.gathered ∙ kept_find look.kind m.heard old.gathered mid.gathered k m.keeps_for)
+    let one : length old.lookup.queries ≡ length k.before + suc (length k.behind) = ap length k.was_open ∙ length-append k.before (k.query ∷ k.behind) in
+    let two : length left ≡ length k.before + length k.behind = length-append k.before k.behind in
+    let light : length late.lookup.queries + (max_strays - late.progress.strays) < length old.lookup.queries + (max_strays - old.progress.strays) = omega (arith, fewer, strays, one, two) in
+    receives_one look at old new (entry ∷ []) left (Got from bytes until at) told told' l keeps few (round_goes late.progress.receives old.progress progress late.lookup.queries receives is) (λ is_find. e.gathered ∙ kept_find (wants_peers look.kind) m.heard old.gathered mid.gathered is_find m.keeps_for)
     (omega (arith, light)) (λ z. light)
     (λ words start s st. record {
       after = after_match s at entry (map (as_open J) left);
@@ -552,14 +551,14 @@ match_receives look from bytes until at n old mid late told told' r m e is grows
           entry = entry;
           left = map (as_open J) left;
           matched = record {
-            before = map (as_open J) m.before;
-            query = as_open J m.query;
-            behind = map (as_open J) m.behind;
-            what = m.what;
-            queries = st.queries ∙ ap (map (as_open J)) m.was_open ∙ map_append (as_open J) m.before (m.query ∷ m.behind);
-            replies = m.replies;
-            entry = gives_of look.policy J m.query m.what entry m.hears.gives;
-            closes = map_append (as_open J) m.before m.behind;
+            before = map (as_open J) k.before;
+            query = as_open J k.query;
+            behind = map (as_open J) k.behind;
+            what = k.what;
+            queries = st.queries ∙ ap (map (as_open J)) k.was_open ∙ map_append (as_open J) k.before (k.query ∷ k.behind);
+            replies = k.replies;
+            entry = gives_of (quest_of look) J k.query k.what entry k.hears.gives;
+            closes = map_append (as_open J) k.before k.behind;
           };
           after = refl;
         }),
@@ -567,29 +566,17 @@ match_receives look from bytes until at n old mid late told told' r m e is grows
       given = refl;
       in_turn = turn_of look start old words.place s r.may st;
       stands = stands_left look (given_of look start) words.place at old new (entry ∷ []) left s.strays (receives_seen s.receives (open_at at (map (as_open J) left))) s l st (st.strays ∙ sym strays)
-          (round_left s.receives late.progress.receives at J left late.queries (st.receives ∙ receives) l.queries ∙ sym is);
+          (round_left s.receives late.progress.receives at J left late.lookup.queries (st.receives ∙ receives) l.queries ∙ sym is);
       ascends = tt;
       found = m.heard;
-      hears = hears_one J old.queries m.query from bytes until at m.what m.heard s st.queries (subst (λ qs. Contains qs m.query) (sym m.was_open) (in_middle m.before m.query m.behind)) keeps.ids m.replies m.reads m.alone m.hears_in;
-      keeps = subst (λ g. KeepsFor look.kind m.heard old.gathered g) (sym e.gathered) m.keeps_for;
+      hears = hears_one (quest_of look) J old.lookup.queries k.query from bytes until at k.what m.heard s st.queries (subst (λ qs. Contains qs k.query) (sym k.was_open) (in_middle k.before k.query k.behind)) keeps.ids k.replies k.reads k.alone k.hears_in;
+      keeps = subst (λ g. KeepsFor (wants_peers look.kind) m.heard old.gathered g) (sym e.gathered) m.keeps_for;
     })
     grows
 
 -- ---- a datagram
 
-pub datagram_receives : (look : LookSetting) (from : Addr) (bytes : List ℕ) (until at n : ℕ) (old mid late : Work) (told told' : Option (List Event)) → Receiving look old until at → TakesDatagram look from bytes old mid → Expires at mid late → n ≡ receives_kept late.progress.receives late.queries
+pub datagram_receives : (look : LookSetting) (from : Addr) (bytes : List ℕ) (until at n : ℕ) (old mid late : Work) (told told' : Option (List Event)) → Receiving look old until at → TakesDatagram look from bytes old mid → Expires at mid late → n ≡ receives_kept late.progress.receives late.lookup.queries
     → Grows told told' (λ es. es ≡ Got from bytes until at ∷ []) → ReceivesOne look old (record late { progress = record { moment = at; receives = n; strays = late.progress.strays } }) told told'
 datagram_receives look from bytes until at n old mid late told told' r (inl m) e is grows = match_receives look from bytes until at n old mid late told told' r m e is grows
 datagram_receives look from bytes until at n old mid late told told' r (inr t) e is grows = stray_receives look from bytes until at n old mid late told told' r t e is grows
-
-pub datagram_opens : (look : LookSetting) (from : Addr) (bytes : List ℕ) (old mid : Work) → Keeps look old → Legal old.book.setting old.book.journal → TakesDatagram look from bytes old mid → map (λ (q : Query). q.contact) mid.queries ≡ open_any mid.book.journal
-datagram_opens look from bytes old mid keeps legal (inr t) = ap (map (λ (q : Query). q.contact)) t.queries ∙ keeps.is_open ∙ sym (ap (λ (b : BookState). open_any b.journal) t.book)
-datagram_opens look from bytes old mid keeps legal (inl m) =
-    let J = old.book.journal in
-    let c = m.query.contact in
-    let closing = closing_of look.policy J c m.what m.hears.entry m.hears.gives in
-    let cs = map (λ (q : Query). q.contact) m.before in
-    let ds = map (λ (q : Query). q.contact) m.behind in
-    let opens : open_any J ≡ cs ++ c ∷ ds = sym keeps.is_open ∙ ap (map (λ (q : Query). q.contact)) m.was_open ∙ map_append (λ (q : Query). q.contact) m.before (m.query ∷ m.behind) in
-    ap (map (λ (q : Query). q.contact)) m.closes ∙ map_append (λ (q : Query). q.contact) m.before m.behind
-    ∙ sym (ap (λ (b : BookState). open_any b.journal) m.hears.after ∙ closing.closes ∙ ap (λ l. without l (c ∷ [])) opens ∙ without_one c cs ds (subst (IsDistinct same) opens (opens_distinct old.book.setting J legal)))

@@ -10,7 +10,7 @@ use Rattle.lookup_run.specs.Rounds.{Manner}
 use Rattle.lookup_run.specs.Between.{max_asks, weight_of, StepsAlongBy}
 use Rattle.lookup_run.specs.Steps.{Asks, ReceivesAll, SettlesPaths, Begins, HasReceived, RoundAlong, IsOver, Stops, StopsRound, EndsByStray, RoundEndsByStray, FewStrays, RoundFewStrays}
 
-pub round_over : (manner : Manner) (look : LookSetting) (words words' : WordsState) (old new : Work) (told told' : Option (List Event)) → Asks look 0 look.paths words words' old new told told' → new.queries ≡ [] → IsOver manner look words words' old new told told'
+pub round_over : (manner : Manner) (look : LookSetting) (words words' : WordsState) (old new : Work) (told told' : Option (List Event)) → Asks look 0 look.paths words words' old new told told' → new.lookup.queries ≡ [] → IsOver manner look words words' old new told told'
 round_over manner look words words' old new told told' a none = record {
   keeps = a.keeps;
   none_open = none;
@@ -19,11 +19,11 @@ round_over manner look words words' old new told told' a none = record {
   goes = a.goes look.paths manner;
 }
 
-weight_same : (old new : Work) → length (asked new.book.journal) ≡ length (asked old.book.journal) → new.queries ≡ old.queries → new.progress ≡ old.progress → weight_of new ≡ weight_of old
+weight_same : (old new : Work) → length (asked new.lookup.book.journal) ≡ length (asked old.lookup.book.journal) → new.lookup.queries ≡ old.lookup.queries → new.progress ≡ old.progress → weight_of new ≡ weight_of old
 weight_same old new asks queries progress =
-    ap (λ n. 2 * (max_asks - n) + (length new.queries + (max_strays - new.progress.strays))) asks
-    ∙ ap (λ l. 2 * (max_asks - length (asked old.book.journal)) + (length l + (max_strays - new.progress.strays))) queries
-    ∙ ap (λ s. 2 * (max_asks - length (asked old.book.journal)) + (length old.queries + (max_strays - s.strays))) progress
+    ap (λ n. 2 * (max_asks - n) + (length new.lookup.queries + (max_strays - new.progress.strays))) asks
+    ∙ ap (λ l. 2 * (max_asks - length (asked old.lookup.book.journal)) + (length l + (max_strays - new.progress.strays))) queries
+    ∙ ap (λ s. 2 * (max_asks - length (asked old.lookup.book.journal)) + (length old.lookup.queries + (max_strays - s.strays))) progress
 
 pub has_received : (look : LookSetting) (words words' : WordsState) (a b c : Work) (t u v : Option (List Event)) → Asks look 0 look.paths words words' a b t u → ReceivesAll look b c u v → HasReceived look words words' a c t v
 has_received look words words' a b c t u v asks receives = record {

@@ -26,16 +26,19 @@ use Rattle.claim_book.specs.Legal.{Legal, seeded}
 use Rattle.path_worker.specs.Settling.{role_of, seen_with, Settling}
 use Rattle.lookup_run.specs.declared.plain.LookSetting.{LookSetting}
 use Rattle.lookup_run.specs.declared.plain.Work.{Work}
-use Rattle.lookup_run.specs.Tells.{Given, driven, begun, deadline_of}
+use Rattle.lookup_core.specs.Timeouts.{deadline_of}
+use Rattle.lookup_run.specs.Tells.{Given, driven, begun}
 use Rattle.lookup_run.specs.Rounds.{Manner, path_number, SettlesFrom, SettlesIn, AllSettled}
 use Rattle.lookup_run.specs.Lookup.{setting_of, given_of, drawn_for, Told, told_of, told_in, table_calls, TableTold, TableToldBy, TableRan}
-use Rattle.lookup_run.specs.Between.{IsBare, as_open, Keeps, Keeping, Walk, Shows}
+use Rattle.lookup_core.specs.Steps.{as_open}
+use Rattle.lookup_run.specs.Between.{IsBare, Keeps, Keeping, Walk, Shows}
 use Rattle.lookup_run.specs.Steps.{SettlesPaths, Stops}
 use Rattle.lookup_run.proofs.Driven.{driven_append}
 use Rattle.lookup_run.proofs.Early.{early_now}
-use Rattle.lookup_run.proofs.Opens.{opens_kept, each_asked}
+use Rattle.lookup_core.proofs.Opens.{opens_kept, each_asked}
 use Rattle.lookup_run.proofs.Quiet.{IsMute, IsQuiet, each_quiet, each_mute, no_seeds, none_driven, asked_same, open_same, unsettled_same, settles_from, below_more}
 use Rattle.lookup_run.proofs.Walking.{walk_longer, seeds_same, told_in_any, table_then, calls_more}
+use Rattle.lookup_core.specs.Quest.{wants_peers}
 
 -- ---- the table
 
@@ -67,7 +70,7 @@ told_run p (m ∷ run) h =
     ap (λ n. record { role = n; call = m.call } ∷ map told_in run) (All-head (λ (m : Made TableCall TableReply). m.role ≡ role_of p) m run h)
     ∙ ap (λ l. record { role = p + 1; call = m.call } ∷ l) (told_run p run (All-tail (λ (m : Made TableCall TableReply). m.role ≡ role_of p) m run h))
 
-settling_told : (p : ℕ) (old new : Work) (h : Settling p old.book new.book old.table new.table) → TableTold (flat_map told_of h.more) old.table new.table
+settling_told : (p : ℕ) (old new : Work) (h : Settling p old.lookup.book new.lookup.book old.table new.table) → TableTold (flat_map told_of h.more) old.table new.table
 settling_told p old new h = record {
   run = h.run;
   is_run = h.is_run;
@@ -91,7 +94,7 @@ ran_then t u v h k = record {
 ran_after : (manner : Manner) (calls : List Told) (t u v : TableState) → TableToldBy manner calls t u → TableRan u v → TableRan t v
 ran_after manner calls t u v h k = ran_then t u v (record { run = h.run; is_run = h.is_run; leaves = h.leaves }) k
 
-pub ran_by : (p : ℕ) (old new : Work) → Settling p old.book new.book old.table new.table → TableRan old.table new.table
+pub ran_by : (p : ℕ) (old new : Work) → Settling p old.lookup.book new.lookup.book old.table new.table → TableRan old.table new.table
 ran_by p old new h = record { run = h.run; is_run = h.is_run; leaves = h.leaves }
 
 -- ---- what the events show
@@ -104,11 +107,11 @@ pub record Continues (manner : Manner) (b b' : ℕ) (more : List Entry) : Type 0
 
 -- what was settled, and what stayed as it was
 pub record SettlesMore (manner : Manner) (b b' : ℕ) (old new : Work) (more : List Entry) : Type 0 where
-  pub setting : new.book.setting ≡ old.book.setting
-  pub journal : new.book.journal ≡ old.book.journal ++ more
+  pub setting : new.lookup.book.setting ≡ old.lookup.book.setting
+  pub journal : new.lookup.book.journal ≡ old.lookup.book.journal ++ more
   pub continues : Continues manner b b' more
   pub tabled : TableToldBy manner (flat_map told_of more) old.table new.table
-  pub queries : new.queries ≡ old.queries
+  pub queries : new.lookup.queries ≡ old.lookup.queries
   pub progress : new.progress ≡ old.progress
   pub gathered : new.gathered ≡ old.gathered
 
@@ -117,17 +120,17 @@ settles_in : (manner : Manner) (n b b' : ℕ) (front es : List Entry) → n ≡ 
 settles_in manner zero b b' front es is c s below = c.settles front s below
 settles_in manner (suc n) b b' front es is c s below = absurd (omega (arith, is))
 
-shows_settled : (manner : Manner) (g : Given) (old new : Work) (more : List Entry) (place b b' a : ℕ) (es : List Event) → old.progress.receives ≡ 0 → map (λ q. q.contact) old.queries ≡ open_any old.book.journal → SettlesMore manner b b' old new more
+shows_settled : (manner : Manner) (g : Given) (old new : Work) (more : List Entry) (place b b' a : ℕ) (es : List Event) → old.progress.receives ≡ 0 → map (λ q. q.contact) old.lookup.queries ≡ open_any old.lookup.book.journal → SettlesMore manner b b' old new more
     → Shows manner g old place b a es → Shows manner g new place b' a es
 shows_settled manner g old new more place b b' a es over is_open m h =
-    let J = old.book.journal in
-    let J' = new.book.journal in
+    let J = old.lookup.book.journal in
+    let J' = new.lookup.book.journal in
     let st = h.stands in
     let mute = m.continues.mute in
     let longer : Walk manner g J' (seeded g.setting.paths (seeds J)) (begun h.at) h.rest h.end h.last h.heard =
     subst (λ K. Walk manner g K (seeded g.setting.paths (seeds J)) (begun h.at) h.rest h.end h.last h.heard) (sym m.journal) (walk_longer manner g J more (seeded g.setting.paths (seeds J)) (begun h.at) h.rest h.end h.last h.heard h.walk) in
-    let paths : map (as_open J') new.queries ≡ map (as_open J) old.queries =
-    ap (map (as_open J')) m.queries ∙ ap (λ K. map (as_open K) old.queries) m.journal ∙ opens_kept J more old.queries (each_asked J old.queries is_open) in
+    let paths : map (as_open J') new.lookup.queries ≡ map (as_open J) old.lookup.queries =
+    ap (map (as_open J')) m.queries ∙ ap (λ K. map (as_open K) old.lookup.queries) m.journal ∙ opens_kept J more old.lookup.queries (each_asked J old.lookup.queries is_open) in
     record {
       at = h.at;
       rest = h.rest;
@@ -149,16 +152,16 @@ shows_settled manner g old new more place b b' a es over is_open m h =
         receives = st.receives ∙ sym (ap (λ x. x.receives) m.progress);
         given = st.given ∙ sym (ap driven m.journal ∙ driven_append J more ∙ ap (λ l. driven J ++ l) (none_driven more mute) ∙ append-nil (driven J));
       };
-      keeping = subst (λ x. Keeping g.kind h.heard x) (sym m.gathered) h.keeping;
+      keeping = subst (λ x. Keeping (wants_peers g.quest.kind) h.heard x) (sym m.gathered) h.keeping;
     }
 
 drawn_same : (words start : WordsState) (J J' : List Entry) → asked J' ≡ asked J → words ≡ drawn_for start J → words ≡ drawn_for start J'
 drawn_same words start J J' same is = is ∙ ap (λ (cs : List Contact). record { seed = start.seed; place = start.place + length cs }) (sym same)
 
-pub settles_more : (manner : Manner) (look : LookSetting) (b b' : ℕ) (old new : Work) (more : List Entry) (told : Option (List Event)) → Keeps look old → old.progress.receives ≡ 0 → SettlesMore manner b b' old new more → AllSettled b' new.book.journal → SettlesPaths manner look b b' old new told
+pub settles_more : (manner : Manner) (look : LookSetting) (b b' : ℕ) (old new : Work) (more : List Entry) (told : Option (List Event)) → Keeps look old → old.progress.receives ≡ 0 → SettlesMore manner b b' old new more → AllSettled b' new.lookup.book.journal → SettlesPaths manner look b b' old new told
 settles_more manner look b b' old new more told k over m settled =
-    let J = old.book.journal in
-    let J' = new.book.journal in
+    let J = old.lookup.book.journal in
+    let J' = new.lookup.book.journal in
     let mute = m.continues.mute in
     let same_asked : asked J' ≡ asked J = ap asked m.journal ∙ asked_same J more mute in
     let same_open : open_any J' ≡ open_any J = ap open_any m.journal ∙ open_same J more mute in
@@ -167,7 +170,7 @@ settles_more manner look b b' old new more told k over m settled =
         setting = m.setting ∙ k.setting;
         is_open = ap (map (λ (q : Query). q.contact)) m.queries ∙ k.is_open ∙ sym same_open;
         ids = subst (AllByRecursion (λ (q : Query). q.tx < 2 ^ 32)) (sym m.queries) k.ids;
-        deadlines = subst (λ x. AllByRecursion (λ (q : Query). q.deadline ≤ deadline_of x.moment look.timeout) new.queries) (sym m.progress) (subst (AllByRecursion (λ (q : Query). q.deadline ≤ deadline_of old.progress.moment look.timeout)) (sym m.queries) k.deadlines);
+        deadlines = subst (λ x. AllByRecursion (λ (q : Query). q.deadline ≤ deadline_of x.moment look.timeout) new.lookup.queries) (sym m.progress) (subst (AllByRecursion (λ (q : Query). q.deadline ≤ deadline_of old.progress.moment look.timeout)) (sym m.queries) k.deadlines);
         few_strays = subst (λ x. x.strays < max_strays) (sym m.progress) k.few_strays;
         few_receives = subst (λ x. x.receives < max_round_receives) (sym m.progress) k.few_receives;
         no_peers = λ e. subst IsBare (sym m.gathered) (k.no_peers e);
@@ -200,8 +203,8 @@ path_continues manner p more quiet = record {
   below = λ front below. below_more p front more below quiet;
 }
 
-pub settles_path : (manner : Manner) (look : LookSetting) (p : ℕ) (old new : Work) (told : Option (List Event)) → Keeps look old → old.progress.receives ≡ 0 → AllSettled p old.book.journal → (h : Settling p old.book new.book old.table new.table) → unsettled p new.book.journal ≡ []
-    → new.queries ≡ old.queries → new.progress ≡ old.progress → new.gathered ≡ old.gathered → SettlesPaths manner look p (p + 1) old new told
+pub settles_path : (manner : Manner) (look : LookSetting) (p : ℕ) (old new : Work) (told : Option (List Event)) → Keeps look old → old.progress.receives ≡ 0 → AllSettled p old.lookup.book.journal → (h : Settling p old.lookup.book new.lookup.book old.table new.table) → unsettled p new.lookup.book.journal ≡ []
+    → new.lookup.queries ≡ old.lookup.queries → new.progress ≡ old.progress → new.gathered ≡ old.gathered → SettlesPaths manner look p (p + 1) old new told
 settles_path manner look p old new told k over below h here queries progress gathered =
     let quiet = each_quiet p h.more h.settles in
     settles_more manner look p (p + 1) old new h.more told k over (record {
@@ -212,19 +215,19 @@ settles_path manner look p old new told k over below h here queries progress gat
       queries = queries;
       progress = progress;
       gathered = gathered;
-    }) (settled_more p old.book.journal h.more new.book.journal h.journal quiet below here)
+    }) (settled_more p old.lookup.book.journal h.more new.lookup.book.journal h.journal quiet below here)
 
 -- where it ends early, the journal is that from before, and the table is what some run leaves
-pub stops_settling : (look : LookSetting) (old new : Work) (told : Option (List Event)) → Legal (setting_of look) old.book.journal → TableRan old.table new.table → (words : WordsState) → Stops look words words old new told told
+pub stops_settling : (look : LookSetting) (old new : Work) (told : Option (List Event)) → Legal (setting_of look) old.lookup.book.journal → TableRan old.table new.table → (words : WordsState) → Stops look words words old new told told
 stops_settling look old new told legal ran words manner start table began b a al = record {
   unfinished = record {
-    journal = old.book.journal;
+    journal = old.lookup.book.journal;
     legal = legal;
     seeds_are = al.seeds_are;
     tells = grows_weaker began told _ _ al.shows (λ es s. early_now manner (given_of look start) old words.place b a es s);
     drawn = al.drawn;
   };
-  ran = ran_after manner (table_calls look old.book.journal) table old.table new.table al.tabled ran;
+  ran = ran_after manner (table_calls look old.lookup.book.journal) table old.table new.table al.tabled ran;
 }
 
 -- ---- path by path

@@ -177,14 +177,14 @@ below_zero : (n : ℕ) (front es : List Entry) → AllByRecursion (λ e. path_nu
 below_zero n [] es h b = h
 below_zero n (f ∷ front) es h b = (let lt = b.0 in absurd (omega (arith, lt)))
 
-pub ran_together : (old new : Work) → StopsTogether old.book new.book old.table new.table → TableRan old.table new.table
+pub ran_together : (old new : Work) → StopsTogether old.lookup.book new.lookup.book old.table new.table → TableRan old.table new.table
 ran_together old new h = record { run = h.run; is_run = h.is_run; leaves = h.leaves }
 
-pub settles_together : (look : LookSetting) (old new : Work) (told : Option (List Event)) → Keeps look old → old.progress.receives ≡ 0 → SettlesTogether old.book new.book old.table new.table → new.queries ≡ old.queries → new.progress ≡ old.progress → new.gathered ≡ old.gathered
+pub settles_together : (look : LookSetting) (old new : Work) (told : Option (List Event)) → Keeps look old → old.progress.receives ≡ 0 → SettlesTogether old.lookup.book new.lookup.book old.table new.table → new.lookup.queries ≡ old.lookup.queries → new.progress ≡ old.progress → new.gathered ≡ old.gathered
     → SettlesPaths at_once look 0 look.paths old new told
 settles_together look old new told k over h queries progress gathered =
     let s = h.settling in
-    let paths : old.book.setting.paths ≡ look.paths = ap (λ (x : Setting). x.paths) k.setting in
+    let paths : old.lookup.book.setting.paths ≡ look.paths = ap (λ (x : Setting). x.paths) k.setting in
     let settles : All (IsSettling look.paths) s.more = subst (λ n. All (IsSettling n) s.more) paths s.settles in
     let roles : All (IsWorkers look.paths) s.run = subst (λ n. All (IsWorkers n) s.run) paths s.roles in
     let mute = each_mute look.paths s.more settles in

@@ -1,5 +1,5 @@
 -- What the events show goes on, event by event, while the journal grows.
-use Rattle.std.proofs.Common.{◌≡◌, ◌≢◌, ◌==◌, ℕ, zero, suc, ◌≤◌, List, [], ◌∷◌, ◌++◌, Option, refl, sym, ap, subst, ◌∙◌, arith}
+use Rattle.std.proofs.Common.{◌≡◌, ◌≢◌, ◌==◌, ℕ, zero, suc, ◌≤◌, List, [], ◌∷◌, ◌++◌, Option, refl, sym, ap, subst, ◌∙◌, arith, Bool, true, false}
 use Rattle.std.specs.Prelude.{map}
 use Rattle.std.specs.List.{AllByRecursion, flat_map}
 use Rattle.std.proofs.lemmas.List.{append-nil, append_assoc}
@@ -21,17 +21,17 @@ use Rattle.contact_table.specs.TableStep.{TableMay, TableStep, table_after}
 use Rattle.claim_book.specs.declared.plain.Entry.{Entry}
 use Rattle.claim_book.specs.Journal.{seed_of, seeds}
 use Rattle.claim_book.specs.Legal.{seeded}
-use Rattle.lookup_run.specs.declared.plain.AskKind.{AskKind}
-use Rattle.lookup_run.specs.declared.plain.AskKind.TheVariants.{FindNode, GetPeers}
 use Rattle.lookup_run.specs.declared.plain.LookSetting.{LookSetting}
 use Rattle.lookup_run.specs.declared.plain.Gathered.{Gathered}
 use Rattle.lookup_run.specs.declared.plain.Work.{Work}
 use Rattle.lookup_run.specs.Tells.{Given, Seen, HasAsked, HaveAsked, Receives, Gives, begun}
 use Rattle.lookup_run.specs.Rounds.{Manner, path_by_path, at_once, path_number, SettlesIn, InTurn}
-use Rattle.lookup_run.specs.Gathered.{Answered, Hears, values_of, token_of}
+use Rattle.lookup_core.specs.declared.hear.Answered.{Answered}
+use Rattle.lookup_run.specs.Gathered.{Hears, values_of, token_of}
 use Rattle.lookup_run.specs.Lookup.{given_of, drawn_for, told_of, table_calls, told_in, told_by, Told, AreCalls, TableTold, TableToldBy}
 use Rattle.lookup_run.specs.Between.{Step, Walk, KeepsSeen, Keeping, Shows, Along, StepsAlong}
 use Rattle.lookup_run.specs.Steps.{KeepsFor}
+use Rattle.lookup_core.specs.Quest.{wants_peers}
 
 -- ---- a longer journal
 
@@ -100,14 +100,14 @@ walk_on manner g J P s (x ∷ es) m Q heard e h = λ step. (
 -- what one event owes, where it gives these entries
 pub record OneEvent (g : Given) (old new : Work) (more : List Entry) (place' a' : ℕ) (s : Seen) (e : Event) : Type 0 where
   pub after : Seen
-  pub gives : Gives g new.book.journal s e after
+  pub gives : Gives g new.lookup.book.journal s e after
   pub given : after.given ≡ s.given ++ more
-  pub in_turn : InTurn g.setting old.book.journal s e more
+  pub in_turn : InTurn g.setting old.lookup.book.journal s e more
   pub stands : KeepsSeen g new place' after
   pub ascends : AllByRecursion (λ (x : Entry). path_number x ≤ a') after.since
   pub found : List Answered
-  pub hears : Hears s e found
-  pub keeps : KeepsFor g.kind found old.gathered new.gathered
+  pub hears : Hears g.quest s e found
+  pub keeps : KeepsFor (wants_peers g.quest.kind) found old.gathered new.gathered
 
 pub seeds_append : (J K : List Entry) → seeds (J ++ K) ≡ seeds J ++ seeds K
 unfolding seeds
@@ -120,19 +120,19 @@ settles_none : (manner : Manner) (n : ℕ) → SettlesIn manner n []
 settles_none manner zero = tt
 settles_none manner (suc n) = refl
 
-keeping_more : (kind : AskKind) (heard found : List Answered) (old new : Gathered) → Keeping kind heard old → KeepsFor kind found old new → Keeping kind (heard ++ found) new
-keeping_more FindNode heard found old new h k = (ap (λ (x : Gathered). x.peers) k ∙ h.0, ap (λ (x : Gathered). x.tokens) k ∙ h.1)
-keeping_more GetPeers heard found old new h k = (
+keeping_more : (wants : Bool) (heard found : List Answered) (old new : Gathered) → Keeping wants heard old → KeepsFor wants found old new → Keeping wants (heard ++ found) new
+keeping_more false heard found old new h k = (ap (λ (x : Gathered). x.peers) k ∙ h.0, ap (λ (x : Gathered). x.tokens) k ∙ h.1)
+keeping_more true heard found old new h k = (
   k.peers ∙ ap (λ l. l ++ flat_map values_of found) h.0 ∙ sym (flat_map-append values_of heard found),
   k.tokens ∙ ap (λ l. l ++ flat_map token_of found) h.1 ∙ sym (flat_map-append token_of heard found),
 )
 
-pub shows_next : (manner : Manner) (g : Given) (old new : Work) (more : List Entry) (place place' b b' a a' : ℕ) (e : Event) (es fs : List Event) → new.book.journal ≡ old.book.journal ++ more → seeds more ≡ []
+pub shows_next : (manner : Manner) (g : Given) (old new : Work) (more : List Entry) (place place' b b' a a' : ℕ) (e : Event) (es fs : List Event) → new.lookup.book.journal ≡ old.lookup.book.journal ++ more → seeds more ≡ []
     → ((s : Seen) → KeepsSeen g old place s → AllByRecursion (λ (x : Entry). path_number x ≤ a) s.since → OneEvent g old new more place' a' s e)
     → Shows manner g old place b a es → fs ≡ e ∷ [] → Shows manner g new place' b' a' (es ++ fs)
 shows_next manner g old new more place place' b b' a a' e es fs journal no_seeds next h is =
-    let J = old.book.journal in
-    let J' = new.book.journal in
+    let J = old.lookup.book.journal in
+    let J' = new.lookup.book.journal in
     let on = next h.end h.stands h.ascends in
     let longer : Walk manner g J' (seeded g.setting.paths (seeds J)) (begun h.at) h.rest h.end h.last h.heard =
     subst (λ K. Walk manner g K (seeded g.setting.paths (seeds J)) (begun h.at) h.rest h.end h.last h.heard) (sym journal) (walk_longer manner g J more (seeded g.setting.paths (seeds J)) (begun h.at) h.rest h.end h.last h.heard h.walk) in
@@ -163,7 +163,7 @@ shows_next manner g old new more place place' b b' a a' e es fs journal no_seeds
       below = tt;
       ascends = on.ascends;
       stands = on.stands;
-      keeping = keeping_more g.kind h.heard on.found old.gathered new.gathered h.keeping on.keeps;
+      keeping = keeping_more (wants_peers g.quest.kind) h.heard on.found old.gathered new.gathered h.keeping on.keeps;
     }
 
 -- ---- the table
@@ -213,19 +213,19 @@ calls_more look J more J' is = sym (ap (table_calls look) is ∙ ap (λ l. table
 -- what a step with one event owes
 pub record NextStep (look : LookSetting) (words words' : WordsState) (old new : Work) (a a' : ℕ) (e : Event) : Type 0 where
   pub more : List Entry
-  pub journal : new.book.journal ≡ old.book.journal ++ more
+  pub journal : new.lookup.book.journal ≡ old.lookup.book.journal ++ more
   pub no_seeds : seeds more ≡ []
-  pub drawn : (start : WordsState) → words ≡ drawn_for start old.book.journal → words' ≡ drawn_for start new.book.journal
+  pub drawn : (start : WordsState) → words ≡ drawn_for start old.lookup.book.journal → words' ≡ drawn_for start new.lookup.book.journal
   pub tabled : TableTold (flat_map told_of more) old.table new.table
-  pub next : (start : WordsState) → words ≡ drawn_for start old.book.journal → (s : Seen) → KeepsSeen (given_of look start) old words.place s
+  pub next : (start : WordsState) → words ≡ drawn_for start old.lookup.book.journal → (s : Seen) → KeepsSeen (given_of look start) old words.place s
       → AllByRecursion (λ (x : Entry). path_number x ≤ a) s.since → OneEvent (given_of look start) old new more words'.place a' s e
 
 pub along_next : (look : LookSetting) (words words' : WordsState) (old new : Work) (b b' a a' : ℕ) (e : Event) (told told' : Option (List Event)) → NextStep look words words' old new a a' e → Grows told told' (λ es. es ≡ e ∷ []) → StepsAlong look words words' old new b a b' a' told told'
 along_next look words words' old new b b' a a' e told told' n grows manner start table began h = record {
   drawn = n.drawn start h.drawn;
-  seeds_are = seeds_same old.book.journal n.more new.book.journal n.journal n.no_seeds ∙ h.seeds_are;
-  tabled = subst (λ calls. TableToldBy manner calls table new.table) (calls_more look old.book.journal n.more new.book.journal n.journal)
-      (table_then manner (table_calls look old.book.journal) (flat_map told_of n.more) table old.table new.table h.tabled (told_in_any manner (flat_map told_of n.more) old.table new.table n.tabled));
+  seeds_are = seeds_same old.lookup.book.journal n.more new.lookup.book.journal n.journal n.no_seeds ∙ h.seeds_are;
+  tabled = subst (λ calls. TableToldBy manner calls table new.table) (calls_more look old.lookup.book.journal n.more new.lookup.book.journal n.journal)
+      (table_then manner (table_calls look old.lookup.book.journal) (flat_map told_of n.more) table old.table new.table h.tabled (told_in_any manner (flat_map told_of n.more) old.table new.table n.tabled));
   shows = grows_then began told told' _ _ _ h.shows grows (λ es fs p is. shows_next manner (given_of look start) old new n.more words.place words'.place b b' a a' e es fs n.journal n.no_seeds (n.next start h.drawn) p is);
 }
 

@@ -12,8 +12,8 @@ use Rattle.lookup_run.specs.Steps.{ReceivesOne, Stops, EndsByStray, FewStrays}
 -- one receive or more
 pub record Rounding (look : LookSetting) (old new : Work) (told told' : Option (List Event)) : Type 0 where
   pub keeps : Keeps look new
-  pub some_open : new.progress.receives ≢ 0 → new.queries ≢ []
-  pub same_asks : length (asked new.book.journal) ≡ length (asked old.book.journal)
+  pub some_open : new.progress.receives ≢ 0 → new.lookup.queries ≢ []
+  pub same_asks : length (asked new.lookup.book.journal) ≡ length (asked old.lookup.book.journal)
   pub lighter : weight_of new < weight_of old
   pub goes : (words : WordsState) (b a : ℕ) → StepsAlong look words words old new b a 0 0 told told'
 

@@ -1,70 +1,29 @@
 -- Where a lookup stands between two calls on its link: what its events showed, its journal, its open queries and its table.
-use Rattle.std.specs.Prelude.{◌≡◌, ◌≢◌, ℕ, ◌+◌, ◌-◌, ◌*◌, ◌^◌, ◌<◌, ◌≤◌, List, [], ◌∷◌, ◌++◌, length, map, Option}
+use Rattle.std.specs.Prelude.{◌≡◌, ℕ, ◌+◌, ◌-◌, ◌*◌, ◌^◌, ◌<◌, ◌≤◌, List, [], ◌∷◌, ◌++◌, length, map, Option, Bool, true, false}
 use Rattle.std.specs.List.{AllByRecursion, flat_map}
 use Rattle.kad_base.specs.declared.plain.Event.{Event}
 use Rattle.kad_base.specs.declared.plain.Event.TheVariants.{Now}
-use Rattle.kad_base.specs.Limits.{max_paths, max_path_contacts, max_datagram, max_strays, max_round_receives}
+use Rattle.kad_base.specs.Limits.{max_paths, max_path_contacts, max_strays, max_round_receives}
 use Rattle.kad_base.specs.Outside.{Grows}
-use Rattle.kad_base.specs.Words.{word_bytes}
-use Rattle.kad_krpc.specs.declared.message.Message.{Message}
-use Rattle.kad_krpc.specs.Reading.{Says}
 use Rattle.id_puzzles.specs.Drawn.{WordsState}
 use Rattle.query_book.specs.declared.Query.{Query}
 use Rattle.contact_table.specs.TableState.{TableState}
 use Rattle.claim_book.specs.declared.plain.Entry.{Entry}
 use Rattle.claim_book.specs.Journal.{seeds, asked, open_any}
 use Rattle.claim_book.specs.Legal.{seeded}
-use Rattle.claim_book.specs.Calls.{asker}
-use Rattle.lookup_run.specs.declared.plain.AskKind.{AskKind}
-use Rattle.lookup_run.specs.declared.plain.AskKind.TheVariants.{FindNode, GetPeers}
 use Rattle.lookup_run.specs.declared.plain.LookSetting.{LookSetting}
 use Rattle.lookup_run.specs.declared.plain.Gathered.{Gathered}
 use Rattle.lookup_run.specs.declared.plain.Work.{Work}
-use Rattle.lookup_run.specs.declared.reply.Reply.{Reply}
-use Rattle.lookup_run.specs.declared.reply.Said.{Said}
-use Rattle.lookup_run.specs.Tells.{Given, OpenQuery, Seen, deadline_of, driven, Gives, SaysTo, begun}
+use Rattle.lookup_core.specs.Timeouts.{deadline_of}
+use Rattle.lookup_run.specs.Tells.{Given, Seen, driven, Gives, begun}
 use Rattle.lookup_run.specs.Rounds.{Manner, path_number, SettlesIn, InTurn}
-use Rattle.lookup_run.specs.Gathered.{Answered, Hears, values_of, token_of}
+use Rattle.lookup_core.specs.declared.hear.Answered.{Answered}
+use Rattle.lookup_run.specs.Gathered.{Hears, values_of, token_of}
 use Rattle.lookup_run.specs.Lookup.{setting_of, given_of, seeds_in, drawn_for, table_calls, TableToldBy}
-
--- ---- what a datagram says
-
--- no word has these four bytes
-abbrev pub IsNoId : List ℕ → Type 0
-IsNoId bytes = (w : ℕ) → w < 2 ^ 32 → bytes ≢ word_bytes w
-
--- the message says nothing to whatever query
-abbrev pub SaysNothing : Message → Type 0
-SaysNothing m = (w : ℕ) (r : Reply) → w < 2 ^ 32 → ¬ SaysTo (word_bytes w) m r
-
--- it says this, and nothing else
-pub record SaysAll (m : Message) (said : Said) : Type 0 where
-  pub says_it : SaysTo (word_bytes said.tx) m said.reply
-  pub same_id : (w : ℕ) (r : Reply) → w < 2 ^ 32 → SaysTo (word_bytes w) m r → w ≡ said.tx
-  pub same_reply : (w : ℕ) (r : Reply) → w < 2 ^ 32 → SaysTo (word_bytes w) m r → r ≡ said.reply
-
--- the datagram replies to the query of this transaction id, whoever sent it
-pub record RepliesTo (bytes : List ℕ) (w : ℕ) (r : Reply) : Type 0 where
-  pub short : length bytes ≤ max_datagram
-  pub message : Message
-  pub says : Says bytes message
-  pub to_query : SaysTo (word_bytes w) message r
-
--- the datagram replies to no query, whatever its transaction id
-abbrev pub IsNoReply : List ℕ → Type 0
-IsNoReply bytes = (w : ℕ) (r : Reply) → w < 2 ^ 32 → ¬ RepliesTo bytes w r
-
--- the datagram replies to this transaction id alone, and says this reply alone
-pub record IsReply (bytes : List ℕ) (said : Said) : Type 0 where
-  pub replies : RepliesTo bytes said.tx said.reply
-  pub same_id : (w : ℕ) (r : Reply) → w < 2 ^ 32 → RepliesTo bytes w r → w ≡ said.tx
-  pub same_reply : (w : ℕ) (r : Reply) → w < 2 ^ 32 → RepliesTo bytes w r → r ≡ said.reply
+use Rattle.lookup_core.specs.Steps.{as_open}
+use Rattle.lookup_core.specs.Quest.{wants_peers}
 
 -- ---- the driver's own state
-
--- an open query with its path, which is the one that asked its contact
-abbrev pub as_open : List Entry → Query → OpenQuery
-as_open J q = record { path = asker q.contact J; contact = q.contact; tx = q.tx; deadline = q.deadline }
 
 -- nothing was gathered
 pub record IsBare (gathered : Gathered) : Type 0 where
@@ -73,13 +32,13 @@ pub record IsBare (gathered : Gathered) : Type 0 where
 
 -- the book is that of the lookup, and its open contacts are those of the open queries, in order
 pub record Keeps (look : LookSetting) (work : Work) : Type 0 where
-  pub setting : work.book.setting ≡ setting_of look
-  pub is_open : map (λ q. q.contact) work.queries ≡ open_any work.book.journal
-  pub ids : AllByRecursion (λ (q : Query). q.tx < 2 ^ 32) work.queries
-  pub deadlines : AllByRecursion (λ (q : Query). q.deadline ≤ deadline_of work.progress.moment look.timeout) work.queries
+  pub setting : work.lookup.book.setting ≡ setting_of look
+  pub is_open : map (λ q. q.contact) work.lookup.queries ≡ open_any work.lookup.book.journal
+  pub ids : AllByRecursion (λ (q : Query). q.tx < 2 ^ 32) work.lookup.queries
+  pub deadlines : AllByRecursion (λ (q : Query). q.deadline ≤ deadline_of work.progress.moment look.timeout) work.lookup.queries
   pub few_strays : work.progress.strays < max_strays
   pub few_receives : work.progress.receives < max_round_receives
-  pub no_peers : look.kind ≡ FindNode → IsBare work.gathered
+  pub no_peers : wants_peers look.kind ≡ false → IsBare work.gathered
 
 -- there is a word for each contact that may still be asked
 abbrev pub HasWords : WordsState → List Entry → Type 0
@@ -92,7 +51,7 @@ max_asks = max_paths * max_path_contacts
 -- how far a lookup is from its end: an ask takes two and may give one back, a reply or a timeout takes one, and so does a
 -- stray
 abbrev pub weight_of : Work → ℕ
-weight_of work = 2 * (max_asks - length (asked work.book.journal)) + (length work.queries + (max_strays - work.progress.strays))
+weight_of work = 2 * (max_asks - length (asked work.lookup.book.journal)) + (length work.lookup.queries + (max_strays - work.progress.strays))
 
 -- ---- what was told
 
@@ -106,7 +65,7 @@ pub record Step (manner : Manner) (g : Given) (J P : List Entry) (s : Seen) (e :
   pub given : mid.given ≡ s.given ++ gave
   pub settles : SettlesIn manner s.receives between
   pub in_turn : InTurn g.setting (P ++ between) s e gave
-  pub hears : Hears s e found
+  pub hears : Hears g.quest s e found
 
 -- the events, one after another, from the part P of the journal J to its part Q
 abbrev pub Walk : Manner → Given → List Entry → List Entry → Seen → List Event → Seen → List Entry → List Answered → Type 0
@@ -117,16 +76,16 @@ Walk manner g J P s (e ∷ es) t Q heard =
 -- the driver keeps of the events just this
 pub record KeepsSeen (g : Given) (work : Work) (place : ℕ) (s : Seen) : Type 0 where
   pub moment : s.moment ≡ work.progress.moment
-  pub queries : s.queries ≡ map (as_open work.book.journal) work.queries
+  pub queries : s.queries ≡ map (as_open work.lookup.book.journal) work.lookup.queries
   pub sends : g.place + s.sends ≡ place
   pub strays : s.strays ≡ work.progress.strays
   pub receives : s.receives ≡ work.progress.receives
-  pub given : s.given ≡ driven work.book.journal
+  pub given : s.given ≡ driven work.lookup.book.journal
 
--- and of the answers this
-abbrev pub Keeping : AskKind → List Answered → Gathered → Type 0
-Keeping FindNode heard gathered = (gathered.peers ≡ []) × (gathered.tokens ≡ [])
-Keeping GetPeers heard gathered = (gathered.peers ≡ flat_map values_of heard) × (gathered.tokens ≡ flat_map token_of heard)
+-- and of the answers this, where peers are asked for
+abbrev pub Keeping : Bool → List Answered → Gathered → Type 0
+Keeping false heard gathered = (gathered.peers ≡ []) × (gathered.tokens ≡ [])
+Keeping true heard gathered = (gathered.peers ≡ flat_map values_of heard) × (gathered.tokens ≡ flat_map token_of heard)
 
 -- The events show where the lookup stands. What was settled since the last one is on the first b paths, and what was
 -- asked since the last receive on paths up to a.
@@ -137,20 +96,20 @@ pub record Shows (manner : Manner) (g : Given) (work : Work) (place b a : ℕ) (
   pub end : Seen
   pub last : List Entry
   pub heard : List Answered
-  pub walk : Walk manner g work.book.journal (seeded g.setting.paths (seeds work.book.journal)) (begun at) rest end last heard
+  pub walk : Walk manner g work.lookup.book.journal (seeded g.setting.paths (seeds work.lookup.book.journal)) (begun at) rest end last heard
   pub behind : List Entry
-  pub journal : work.book.journal ≡ last ++ behind
+  pub journal : work.lookup.book.journal ≡ last ++ behind
   pub settles : SettlesIn manner end.receives behind
   pub below : AllByRecursion (λ e. path_number e < b) behind
   pub ascends : AllByRecursion (λ e. path_number e ≤ a) end.since
   pub stands : KeepsSeen g work place end
-  pub keeping : Keeping g.kind heard work.gathered
+  pub keeping : Keeping (wants_peers g.quest.kind) heard work.gathered
 
 -- since the lookup began, with these words and this table
 pub record Along (manner : Manner) (look : LookSetting) (start : WordsState) (table : TableState) (began : Option (List Event)) (words : WordsState) (work : Work) (b a : ℕ) (told : Option (List Event)) : Type 0 where
-  pub drawn : words ≡ drawn_for start work.book.journal
-  pub seeds_are : seeds work.book.journal ≡ seeds_in look table
-  pub tabled : TableToldBy manner (table_calls look work.book.journal) table work.table
+  pub drawn : words ≡ drawn_for start work.lookup.book.journal
+  pub seeds_are : seeds work.lookup.book.journal ≡ seeds_in look table
+  pub tabled : TableToldBy manner (table_calls look work.lookup.book.journal) table work.table
   pub shows : Grows began told (λ events. Shows manner (given_of look start) work words.place b a events)
 
 -- whatever holds since a lookup began goes on to hold, where its rounds settle in this manner

@@ -1,5 +1,5 @@
 -- What the heard answers of a lookup gave beside contacts: peers and tokens (BEP 5).
-use Rattle.std.specs.Prelude.{◌≡◌, ◌⊎◌, ◌↔◌, ℕ, List, [], ◌∷◌, ◌++◌, Option, Some, None, Contains}
+use Rattle.std.specs.Prelude.{◌≡◌, ◌⊎◌, ◌↔◌, ℕ, List, [], ◌∷◌, ◌++◌, Option, Some, None, Contains, Bool, true, false}
 use Rattle.std.specs.List.{flat_map}
 use Rattle.std.specs.List.Sorted.{IsStrictlySortedBy}
 use Rattle.std.specs.Ordering.{ordering_then, nat_cmp}
@@ -10,40 +10,36 @@ use Rattle.kad_base.specs.declared.plain.Contact.{Contact}
 use Rattle.kad_base.specs.declared.plain.Event.{Event}
 use Rattle.kad_base.specs.declared.plain.Event.TheVariants.{Now, Got}
 use Rattle.kad_base.specs.Contacts.{address_bytes}
-use Rattle.kad_krpc.specs.declared.message.Answer.{Answer}
 use Rattle.claim_book.specs.declared.plain.Entry.{Entry}
-use Rattle.lookup_run.specs.declared.plain.AskKind.{AskKind}
-use Rattle.lookup_run.specs.declared.plain.AskKind.TheVariants.{FindNode, GetPeers}
 use Rattle.lookup_run.specs.declared.plain.Token.{Token}
-use Rattle.lookup_run.specs.declared.reply.Reply.TheVariants as reply
-use Rattle.lookup_run.specs.Tells.{Given, OpenQuery, Seen, Replies, Gives, part_of, begun}
-
--- a contact that answered, and its answer
-pub record Answered : Type 0 where
-  pub contact : Contact
-  pub answer : Answer
+use Rattle.lookup_core.specs.declared.reply.Reply.TheVariants as reply
+use Rattle.lookup_core.specs.Matching.{OpenQuery, Replies}
+use Rattle.lookup_core.specs.Quest.{part_of, wants_peers}
+use Rattle.lookup_run.specs.Tells.{Given, Seen, Gives, begun}
+use Rattle.lookup_core.specs.declared.quest.Quest.{Quest}
+use Rattle.lookup_core.specs.declared.hear.Answered.{Answered}
 
 -- the datagram is the answer of a contact that was asked, in its own name
-pub record HeardIn (s : Seen) (from : Addr) (bytes : List ℕ) (a : Answered) : Type 0 where
+pub record HeardIn (quest : Quest) (s : Seen) (from : Addr) (bytes : List ℕ) (a : Answered) : Type 0 where
   pub query : OpenQuery
   pub is_open : Contains s.queries query
-  pub replies : Replies bytes from query (reply.Answer a.answer)
+  pub replies : Replies quest bytes from query (reply.Answer a.answer)
   pub own_name : a.answer.id ≡ query.contact.id
   pub contact_is : a.contact ≡ query.contact
 
 -- what one event shows to be heard
-abbrev pub Hears : Seen → Event → List Answered → Type 0
-Hears s (Got from bytes until at) found =
-    ((a : Answered) × HeardIn s from bytes a × (found ≡ a ∷ []))
-    ⊎ (((a : Answered) → ¬ HeardIn s from bytes a) × (found ≡ []))
-Hears s other found = found ≡ []
+abbrev pub Hears : Quest → Seen → Event → List Answered → Type 0
+Hears quest s (Got from bytes until at) found =
+    ((a : Answered) × HeardIn quest s from bytes a × (found ≡ a ∷ []))
+    ⊎ (((a : Answered) → ¬ HeardIn quest s from bytes a) × (found ≡ []))
+Hears quest s other found = found ≡ []
 
 -- one event: what it gives, and what it shows to be heard
 pub record HearsStep (g : Given) (J : List Entry) (s : Seen) (e : Event) : Type 0 where
   pub mid : Seen
   pub gives : Gives g J s e mid
   pub found : List Answered
-  pub hears : Hears s e found
+  pub hears : Hears g.quest s e found
 
 -- what the events show to be heard, in order
 abbrev pub HearsFrom : Given → List Entry → Seen → List Event → List Answered → Type 0
@@ -73,9 +69,9 @@ abbrev pub token_of : Answered → List Token
 token_of a = tokens_in a.contact a.answer.token
 
 -- the peers that the answers named, and the tokens that they gave, where those were asked for
-abbrev pub GathersOf : AskKind → List Answered → List Addr → List Token → Type 0
-GathersOf FindNode heard peers tokens = (peers ≡ []) × (tokens ≡ [])
-GathersOf GetPeers heard peers tokens = IsEachOnce (flat_map values_of heard) peers × (tokens ≡ flat_map token_of heard)
+abbrev pub GathersOf : Bool → List Answered → List Addr → List Token → Type 0
+GathersOf false heard peers tokens = (peers ≡ []) × (tokens ≡ [])
+GathersOf true heard peers tokens = IsEachOnce (flat_map values_of heard) peers × (tokens ≡ flat_map token_of heard)
 
 -- what was gathered is what the events show
 pub record Gathers (g : Given) (J : List Entry) (events : List Event) (peers : List Addr) (tokens : List Token) : Type 0 where
@@ -84,4 +80,4 @@ pub record Gathers (g : Given) (J : List Entry) (events : List Event) (peers : L
   pub first : events ≡ Now at ∷ rest
   pub heard : List Answered
   pub hears : HearsFrom g J (begun at) rest heard
-  pub gathers : GathersOf g.kind heard peers tokens
+  pub gathers : GathersOf (wants_peers g.quest.kind) heard peers tokens

@@ -27,6 +27,7 @@ use Rattle.claim_book.specs.Legal.{Legal}
 use Rattle.claim_book.specs.RunOut.{RunOut}
 use Rattle.claim_book.specs.Result.{result_of}
 use Rattle.claim_book.specs.Calls.{Counted}
+use Rattle.lookup_core.specs.declared.quest.Quest.{Quest}
 use Rattle.lookup_run.specs.declared.plain.LookSetting.{LookSetting}
 use Rattle.lookup_run.specs.declared.plain.Outcome.{Outcome}
 use Rattle.lookup_run.specs.Tells.{Given, Seen, TellsSoFar, Tells}
@@ -35,6 +36,10 @@ use Rattle.lookup_run.specs.Rounds.{Manner, path_by_path, at_once}
 -- what the book is set to
 abbrev pub setting_of : LookSetting → Setting
 setting_of look = record { own = look.own; target = look.target; k = look.k; paths = look.paths; alpha = look.alpha; policy = look.policy }
+
+-- what it asks, and what it believes
+abbrev pub quest_of : LookSetting → Quest
+quest_of look = record { own = look.own; target = look.target; policy = look.policy; kind = look.kind; timeout = look.timeout }
 
 -- the setting is within the limits
 pub record IsWithinLimits (look : LookSetting) : Type 0 where
@@ -46,7 +51,7 @@ pub record IsWithinLimits (look : LookSetting) : Type 0 where
 
 -- the events of a lookup that starts here
 abbrev pub given_of : LookSetting → WordsState → Given
-given_of look words = record { setting = setting_of look; timeout = look.timeout; kind = look.kind; seed = words.seed; place = words.place }
+given_of look words = record { setting = setting_of look; quest = quest_of look; seed = words.seed; place = words.place }
 
 -- the contacts that a lookup begins with: the k closest of the table (Kademlia, 2002, section 2.3)
 abbrev pub seeds_in : LookSetting → TableState → List Contact

@@ -1,51 +1,30 @@
 -- What the transcript of a link tells of the journal of a lookup: which entries its events give, and when. Answers and
 -- error messages are matched to queries by transaction id and source address (BEP 5); who may be asked, and when a path
 -- waits, is Kademlia's (2002, section 2.3) on each of S/Kademlia's disjoint paths (2007, section 4.4).
-use Rattle.std.specs.Prelude.{◌≡◌, ◌≢◌, ◌⊎◌, ℕ, zero, suc, ◌+◌, ◌-◌, ◌^◌, ◌<◌, ◌≤◌, min, List, [], ◌∷◌, ◌++◌, length, take, map, filter, Option, Some, None, Bool, true, false, not, nat_lt, Contains, if◌then◌else◌}
+use Rattle.std.specs.Prelude.{◌≡◌, ◌≢◌, ◌⊎◌, ℕ, zero, suc, ◌+◌, ◌<◌, ◌≤◌, List, [], ◌∷◌, ◌++◌, map, filter, None, Bool, true, false, nat_lt, Contains, if◌then◌else◌}
 use Rattle.std.specs.List.{AllByRecursion}
-use Rattle.kad_base.specs.declared.plain.Id.{Id}
 use Rattle.kad_base.specs.declared.plain.Addr.{Addr}
 use Rattle.kad_base.specs.declared.plain.Contact.{Contact}
-use Rattle.kad_base.specs.declared.plain.Report.{Report}
-use Rattle.kad_base.specs.declared.plain.Policy.{Policy}
-use Rattle.kad_base.specs.declared.plain.Policy.TheVariants.{Plain, Puzzled}
 use Rattle.kad_base.specs.declared.plain.Event.{Event}
 use Rattle.kad_base.specs.declared.plain.Event.TheVariants.{Now, Sent, Unsent, Got, Quiet}
-use Rattle.kad_base.specs.Limits.{max_reports, max_datagram, max_round_receives}
-use Rattle.kad_base.specs.Words.{word, word_bytes}
-use Rattle.kad_krpc.specs.declared.message.Answer.{Answer}
-use Rattle.kad_krpc.specs.declared.message.Message.{Message}
-use Rattle.kad_krpc.specs.declared.message.Message.TheVariants as message
-use Rattle.kad_krpc.specs.Form.{form, find_node_query, get_peers_query}
-use Rattle.kad_krpc.specs.Reading.{Says}
-use Rattle.query_book.specs.declared.Query.{Query}
-use Rattle.query_book.specs.Queries.{IsFirstFree}
+use Rattle.kad_base.specs.Limits.{max_round_receives}
+use Rattle.kad_base.specs.Words.{word}
 use Rattle.claim_book.specs.declared.plain.Setting.{Setting}
-use Rattle.claim_book.specs.declared.plain.Cause.TheVariants.{SendFault, Timeout, WrongId, Error}
+use Rattle.claim_book.specs.declared.plain.Cause.TheVariants.{SendFault}
 use Rattle.claim_book.specs.declared.plain.Entry.{Entry}
 use Rattle.claim_book.specs.declared.plain.Entry.TheVariants.{Ask, Heard, Lost}
 use Rattle.claim_book.specs.Journal.{may_ask}
 use Rattle.claim_book.specs.Legal.{is_of}
-use Rattle.lookup_run.specs.declared.plain.AskKind.{AskKind}
-use Rattle.lookup_run.specs.declared.plain.AskKind.TheVariants.{FindNode, GetPeers}
-use Rattle.lookup_run.specs.declared.reply.Reply.{Reply}
-use Rattle.lookup_run.specs.declared.reply.Reply.TheVariants as reply
+use Rattle.lookup_core.specs.declared.quest.Quest.{Quest}
+use Rattle.lookup_core.specs.Matching.{OpenQuery, IsQuery, Matched, IsStray}
+use Rattle.lookup_core.specs.Timeouts.{deadline_of, closed_at, open_at}
 
--- what a lookup is given: its setting, the time to wait in milliseconds, what it asks for, and the generator's seed and
--- next place
+-- what a lookup is given: its setting, what it asks and believes, and the generator's seed and next place
 pub record Given : Type 0 where
   pub setting : Setting
-  pub timeout : ℕ
-  pub kind : AskKind
+  pub quest : Quest
   pub seed : List ℕ
   pub place : ℕ
-
--- an open query: the path and the contact of its Ask, its transaction id and its deadline
-pub record OpenQuery : Type 0 where
-  pub path : ℕ
-  pub contact : Contact
-  pub tx : ℕ
-  pub deadline : ℕ
 
 -- what the events so far show
 pub record Seen : Type 0 where
@@ -74,44 +53,24 @@ is_driven other = false
 unfoldable pub driven : List Entry → List Entry
 driven J = filter is_driven J
 
--- A moment that a sum would put past the last one is the last one.
-abbrev pub deadline_of : ℕ → ℕ → ℕ
-deadline_of moment timeout = min (moment + timeout) (2 ^ 64 - 1)
-
--- the query that a lookup sends, read-only (BEP 5, BEP 43)
-abbrev pub query_message : AskKind → Id → Id → ℕ → Message
-query_message FindNode own target tx = find_node_query own target tx
-query_message GetPeers own target tx = get_peers_query own target tx
-
--- an open query without its path
-abbrev pub query_of : OpenQuery → Query
-query_of q = record { tx = q.tx; contact = q.contact; deadline = q.deadline }
-
--- the datagram is the written form of the lookup's query, to the contact and under the next drawn transaction id that is
--- free
-pub record IsQuery (g : Given) (s : Seen) (to : Addr) (bytes : List ℕ) (c : Contact) (tx : ℕ) : Type 0 where
-  pub address : to ≡ c.addr
-  pub id : IsFirstFree (map query_of s.queries) (word g.seed (g.place + s.sends)) tx
-  pub form : bytes ≡ form (query_message g.kind g.setting.own g.setting.target tx)
-
 -- events that give these entries, at no receive
 abbrev pub gives : Seen → List Entry → Seen
 gives s entries = record s { given = s.given ++ entries; since = s.since ++ entries }
 
--- a query that was sent is open, and gives its Ask
+-- a query that was sent, under the next drawn transaction id that is free, is open, and gives its Ask
 pub record SentGives (g : Given) (s : Seen) (to : Addr) (bytes : List ℕ) (t : Seen) : Type 0 where
   pub path : ℕ
   pub contact : Contact
   pub tx : ℕ
-  pub is_query : IsQuery g s to bytes contact tx
-  pub after : t ≡ record (gives s (Ask path contact ∷ [])) { queries = s.queries ++ record { path = path; contact = contact; tx = tx; deadline = deadline_of s.moment g.timeout } ∷ []; sends = s.sends + 1 }
+  pub is_query : IsQuery g.quest s.queries (word g.seed (g.place + s.sends)) to bytes contact tx
+  pub after : t ≡ record (gives s (Ask path contact ∷ [])) { queries = s.queries ++ record { path = path; contact = contact; tx = tx; deadline = deadline_of s.moment g.quest.timeout } ∷ []; sends = s.sends + 1 }
 
 -- one that could not be sent gives its Ask and is lost
 pub record UnsentGives (g : Given) (s : Seen) (to : Addr) (bytes : List ℕ) (t : Seen) : Type 0 where
   pub path : ℕ
   pub contact : Contact
   pub tx : ℕ
-  pub is_query : IsQuery g s to bytes contact tx
+  pub is_query : IsQuery g.quest s.queries (word g.seed (g.place + s.sends)) to bytes contact tx
   pub after : t ≡ record (gives s (Ask path contact ∷ Lost path contact SendFault ∷ [])) { sends = s.sends + 1 }
 
 -- the earliest deadline of the open queries
@@ -148,79 +107,6 @@ pub record Receives (g : Given) (J : List Entry) (s : Seen) (until : ℕ) : Type
   pub waits : WaitsUntil s.receives s until
   pub asked : HaveAsked s.receives g J s
 
--- the reports that an answer gives: the first 16 contacts of `nodes` (BEP 5), without proofs; where the lookup wants
--- proofs the first 16 of `snodes` alone (this project's own key); none where that part is missing
-abbrev pub bare : Contact → Report
-bare c = record { contact = c; proof = None }
-
--- the members of a list that may be missing
-abbrev pub part_of : {A : Type 0} → Option (List A) → List A
-part_of None = []
-part_of (Some items) = items
-
--- the reports that an answer gives, by the policy of the lookup
-abbrev pub reports_of : Policy → Answer → List Report
-reports_of Plain answer = map bare (take max_reports (part_of answer.nodes))
-reports_of (Puzzled c1 c2) answer = take max_reports (part_of answer.snodes)
-
--- what a message says to the query with this transaction id: an answer, or an error message with its code (BEP 5); a
--- query says nothing to it
-abbrev pub SaysTo : List ℕ → Message → Reply → Type 0
-SaysTo id (message.Query tx read_only ask) r = ⊥
-SaysTo id (message.Answer tx answer) r = (tx ≡ id) × (r ≡ reply.Answer answer)
-SaysTo id (message.Fault tx code text) r = (tx ≡ id) × (r ≡ reply.Error code)
-
--- the datagram replies to the open query: it is short enough to be read (this project's own limit), says an answer or an
--- error message with the query's transaction id, and comes from the query's address (BEP 5)
-pub record Replies (bytes : List ℕ) (from : Addr) (q : OpenQuery) (r : Reply) : Type 0 where
-  pub short : length bytes ≤ max_datagram
-  pub said : Message
-  pub says : Says bytes said
-  pub to_query : SaysTo (word_bytes q.tx) said r
-  pub source : from ≡ q.contact.addr
-
--- an answer in the contact's own name is heard, and one in another name loses the contact
-abbrev pub AnswerGives : Policy → OpenQuery → Answer → Entry → Type 0
-AnswerGives policy q answer e =
-    ((answer.id ≡ q.contact.id) × (e ≡ Heard q.path q.contact (reports_of policy answer)))
-    ⊎ ((answer.id ≢ q.contact.id) × (e ≡ Lost q.path q.contact WrongId))
-
--- what a reply gives: an error message loses the contact, with its code
-abbrev pub ReplyGives : Policy → OpenQuery → Reply → Entry → Type 0
-ReplyGives policy q (reply.Answer answer) e = AnswerGives policy q answer e
-ReplyGives policy q (reply.Error code) e = e ≡ Lost q.path q.contact (Error code)
-
--- the datagram is matched: it replies to one of the open queries, which it closes
-pub record Matched (g : Given) (s : Seen) (from : Addr) (bytes : List ℕ) (e : Entry) (left : List OpenQuery) : Type 0 where
-  pub before : List OpenQuery
-  pub query : OpenQuery
-  pub behind : List OpenQuery
-  pub what : Reply
-  pub queries : s.queries ≡ before ++ query ∷ behind
-  pub replies : Replies bytes from query what
-  pub entry : ReplyGives g.setting.policy query what e
-  pub closes : left ≡ before ++ behind
-
--- the datagram is a stray: it replies to no open query
-abbrev pub IsStray : Seen → Addr → List ℕ → Type 0
-IsStray s from bytes = (q : OpenQuery) → Contains s.queries q → (r : Reply) → ¬ Replies bytes from q r
-
--- the moment has passed the deadline
-abbrev pub is_overdue : ℕ → OpenQuery → Bool
-is_overdue at q = not (nat_lt at q.deadline)
-
--- an open query whose time has passed loses its contact (Kademlia, 2002, section 2.2)
-abbrev pub timed_out : OpenQuery → Entry
-timed_out q = Lost q.path q.contact Timeout
-
--- The receive told a moment: the queries that are overdue then are lost, oldest first.
-abbrev pub closed_at : ℕ → List OpenQuery → List Entry
-closed_at at queries = map timed_out (filter (is_overdue at) queries)
-
--- the queries that are still open then
-abbrev pub open_at : ℕ → List OpenQuery → List OpenQuery
-open_at at queries = filter (λ q. not (is_overdue at q)) queries
-
 -- the state after a receive that first gave these entries and left these queries
 abbrev pub received : Seen → ℕ → List Entry → List OpenQuery → ℕ → ℕ → Seen
 received s at entries left strays receives = record {
@@ -254,12 +140,12 @@ after_quiet s at = received s at [] s.queries s.strays 0
 pub record MatchGives (g : Given) (s : Seen) (from : Addr) (bytes : List ℕ) (at : ℕ) (t : Seen) : Type 0 where
   pub entry : Entry
   pub left : List OpenQuery
-  pub matched : Matched g s from bytes entry left
+  pub matched : Matched g.quest s.queries from bytes entry left
   pub after : t ≡ after_match s at entry left
 
 -- a datagram is matched, or is a stray
 abbrev pub GotGives : Given → Seen → Addr → List ℕ → ℕ → Seen → Type 0
-GotGives g s from bytes at t = MatchGives g s from bytes at t ⊎ (IsStray s from bytes × (t ≡ after_stray s at))
+GotGives g s from bytes at t = MatchGives g s from bytes at t ⊎ (IsStray g.quest s.queries from bytes × (t ≡ after_stray s at))
 
 -- what one event gives; a lookup asks for the moment before anything else, and never again
 abbrev pub Gives : Given → List Entry → Seen → Event → Seen → Type 0
@@ -302,5 +188,5 @@ pub record EndsAtStray (g : Given) (events : List Event) (number : ℕ) : Type 0
   pub at : ℕ
   pub so_far : TellsSoFar g journal before end
   pub last : events ≡ before ++ Got from bytes until at ∷ []
-  pub stray : IsStray end from bytes
+  pub stray : IsStray g.quest end.queries from bytes
   pub count : end.strays + 1 ≡ number

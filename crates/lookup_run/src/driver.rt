@@ -8,7 +8,7 @@ ghost use Rattle.kad_base.specs.Outside.{Grows, Rose};
 ghost use Rattle.contact_table.specs.TableStep.{contacts_of};
 ghost use Rattle.claim_book.specs.RunOut.{RunOut};
 ghost use Rattle.claim_book.specs.Lineage.{GoesByOwnAnswers};
-ghost use Rattle.lookup_run.specs.declared.plain.AskKind.{AskKind};
+ghost use Rattle.lookup_core.specs.declared.quest.AskKind.{AskKind};
 ghost use Rattle.lookup_run.specs.Tells.{EndsAtStray};
 ghost use Rattle.lookup_run.specs.Rounds.{Rounds, at_once, path_by_path};
 ghost use Rattle.lookup_run.specs.Gathered.{Gathers, IsEachOnce};
@@ -23,7 +23,7 @@ use claim_book::{Book, BookCall, BookReply};
 use contact_table::{Table, TableCall, TableReply};
 use id_puzzles::Words;
 use kad_base::{Check, Contacts, Link, NoMemory, Serial};
-use query_book::Queries;
+use lookup_core::Lookup;
 use std::alloc::Global;
 use std::hash::RandomState;
 use std::sync::Wait;
@@ -67,19 +67,19 @@ fn finish(mut book: Book, gathered: Gathered) -> Result<Outcome, LookFault>
 
 /// The table and what the lookup found, where its rounds ended well.
 fn close(work: Work, ended: Result<(), LookFault>) -> (Table, Result<Outcome, LookFault>)
-    requires { OnOk ended ((p : ℕ) → p < work.book.setting.paths
-        → RunOut work.book.setting p work.book.journal) }
+    requires { OnOk ended ((p : ℕ) → p < work.lookup.book.setting.paths
+        → RunOut work.lookup.book.setting p work.lookup.book.journal) }
     ensures table { result.0 ≡ work.table }
     ensures done { IfOk result.1 (λ outcome. IsClosed work ended outcome) }
     ensures fault { IfErr result.1 (λ fault. fault ≢ LookFault.NoMemory → ended ≡ Err fault) }
 {
     let Work {
-        book,
+        lookup,
         table,
         gathered,
-        queries: _,
         progress: _,
     } = work;
+    let Lookup { book, queries: _ } = lookup;
     match ended {
         Ok(()) => (table, finish(book, gathered)),
         Err(fault) => (table, Err(fault)),
@@ -112,9 +112,8 @@ fn begin<L: Link>(alloc: Global, link: &mut L, table: Table, book: Book) -> Work
     ensures kept { L.kept link.new ≡ L.kept link.old }
 {
     Work {
-        book,
+        lookup: Lookup::new(book),
         table,
-        queries: Queries::new(),
         progress: Progress {
             moment: link.now(),
             receives: 0,
@@ -176,7 +175,7 @@ pub fn look_up_alone<L: Link, C: Check>(
     };
     let mut work = begin(alloc, link, table, book);
     let ended = go_rounds(alloc, link, &mut work, words, setting, check);
-    work.book.legal();
+    work.lookup.book.legal();
     close(work, ended)
 }
 
@@ -234,6 +233,6 @@ pub fn look_up<R: Threads + Wait + Sync, L: Link, C: Check + Sync>(
     };
     let work = begin(alloc, link, table, book);
     let (work, ended) = go_rounds_together(rt, alloc, link, work, words, setting, check);
-    work.book.legal();
+    work.lookup.book.legal();
     close(work, ended)
 }

@@ -2,13 +2,13 @@
 ghost use Rattle.std.specs.Prelude.{◌≡◌, ◌∷◌, ◌++◌, [], true, OnOk, Contains, Any};
 ghost use Rattle.std.specs.Ordering.{is_eq};
 ghost use Rattle.std.specs.List.Sorted.{IsStrictlySortedBy};
-ghost use Rattle.lookup_run.specs.Tells.{part_of};
+ghost use Rattle.lookup_core.specs.Quest.{wants_peers, part_of};
 ghost use Rattle.lookup_run.specs.Gathered.{tokens_in, IsEachOnce};
-ghost use Rattle.lookup_run.specs.Steps.{KeepsAlso};
+ghost use Rattle.lookup_run.specs.Steps.{KeepsAlso, KeepsFor};
 
 use crate::plain::{Gathered, Token};
 use kad_base::{Addrs, Bytes, Contact, List, NoMemory};
-use kad_krpc::Answer;
+use lookup_core::{Answered, AskKind};
 use std::alloc::Global;
 
 /// Keeps the peers that the answer names.
@@ -37,17 +37,27 @@ fn keep_token(
     }
 }
 
-/// Keeps what the answer of the contact gives beside contacts.
-pub(crate) fn gather(
-    gathered: &mut Gathered,
-    contact: Contact,
-    answer: Answer,
-) -> Result<(), NoMemory>
-    ensures { OnOk result (KeepsAlso (record { contact = contact; answer = answer } ∷ [])
-        gathered.old gathered.new) }
+/// Keeps what the answer gives beside contacts.
+fn gather(gathered: &mut Gathered, answered: Answered) -> Result<(), NoMemory>
+    ensures { OnOk result (KeepsAlso (answered ∷ []) gathered.old gathered.new) }
 {
+    let Answered { contact, answer } = answered;
     keep_values(&mut gathered.peers, &answer.values)?;
     keep_token(gathered, contact, answer.token)
+}
+
+/// Keeps of an answer that was heard what the lookup asks for beside contacts.
+pub(crate) fn keep(
+    gathered: &mut Gathered,
+    kind: AskKind,
+    answered: Answered,
+) -> Result<(), NoMemory>
+    ensures { OnOk result (KeepsFor (wants_peers kind) (answered ∷ []) gathered.old gathered.new) }
+{
+    if kind.wants_peers() {
+        return gather(gathered, answered);
+    }
+    Ok(())
 }
 
 /// The different members of the list, in order. Takes no memory.

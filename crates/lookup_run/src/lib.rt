@@ -10,7 +10,6 @@ mod hear;
 mod laws;
 mod plain;
 mod receive;
-mod reply;
 mod round;
 mod send;
 mod settle;
@@ -18,4 +17,5 @@ mod together;
 
 pub use driver::{look_up, look_up_alone};
 pub use laws::one_journal;
-pub use plain::{AskKind, LookFault, LookSetting, Outcome, Token, Tokened};
+pub use lookup_core::AskKind;
+pub use plain::{LookFault, LookSetting, Outcome, Token, Tokened};

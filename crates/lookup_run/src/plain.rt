@@ -1,21 +1,12 @@
 //! What a lookup is given, what it answers, and what it keeps between two calls on its link.
 ghost use Rattle.std.specs.Prelude.{◌≡◌};
-ghost use Rattle.lookup_run.specs.Lookup.{setting_of};
+ghost use Rattle.lookup_run.specs.Lookup.{setting_of, quest_of};
 
-use claim_book::{Book, Counts, Journal, Setting};
+use claim_book::{Counts, Journal, Setting};
 use contact_table::Table;
 use kad_base::{Addrs, Bytes, Contact, Contacts, Id, List, Policy};
-use query_book::Queries;
+use lookup_core::{AskKind, Lookup, Quest};
 use thiserror::Error;
-
-/// What a lookup asks for (BEP 5).
-#[derive(Clone, Copy, Debug, PartialEq, Eq)]
-pub enum AskKind {
-    /// The contacts closest to the target.
-    FindNode,
-    /// Peers too. The target is the info hash.
-    GetPeers,
-}
 
 /// What a lookup is given. `own` is the node that asks; each of `paths` disjoint paths (S/Kademlia, section 4.4) has at
 /// most `alpha` queries open and ends when its `k` closest contacts have answered (Kademlia, section 2.3). `policy`
@@ -44,6 +35,19 @@ impl LookSetting {
             paths: self.paths,
             alpha: self.alpha,
             policy: self.policy,
+        }
+    }
+
+    /// What the lookup asks, and what it believes.
+    pub(crate) fn quest(&self) -> Quest
+        ensures { result ≡ quest_of self.now }
+    {
+        Quest {
+            own: self.own,
+            target: self.target,
+            policy: self.policy,
+            kind: self.kind,
+            timeout: self.timeout,
         }
     }
 }
@@ -98,12 +102,11 @@ pub(crate) struct Gathered {
     pub tokens: Tokened,
 }
 
-/// What a lookup keeps: the book of its journal, the table, the open queries, where it stands, and what it gathered.
+/// What a driver keeps: the lookup, the table, where the link stands, and what was gathered.
 #[derive(Drop)]
 pub(crate) struct Work {
-    pub book: Book,
+    pub lookup: Lookup,
     pub table: Table,
-    pub queries: Queries,
     pub progress: Progress,
     pub gathered: Gathered,
 }

@@ -3,15 +3,17 @@ ghost use Rattle.std.specs.Prelude.{◌≡◌, ◌≢◌, ◌≤◌, ◌<◌, �
 ghost use Rattle.kad_base.specs.Limits.{max_datagram, max_round_receives, max_strays};
 ghost use Rattle.kad_base.specs.Outside.{Rose};
 ghost use Rattle.id_puzzles.specs.Drawn.{WordsState};
+ghost use Rattle.lookup_core.specs.Steps.{Holds};
 ghost use Rattle.lookup_run.specs.Lookup.{IsWithinLimits};
 ghost use Rattle.lookup_run.specs.Between.{Keeps};
 ghost use Rattle.lookup_run.specs.Steps.{WaitsFor, receives_kept, TakesStray, TakesDatagram, IsLastStray, MayReceive, ReceivesOne, ReceivesAll, Stops, EndsByStray, FewStrays};
 
-use crate::hear::{expire, hear};
+use crate::gather::keep;
+use crate::hear::expire;
 use crate::plain::{LookFault, LookSetting, Progress, Work};
-use crate::reply::read_reply;
 use kad_base::limits::{MAX_ROUND_RECEIVES, MAX_STRAYS};
 use kad_base::{Addr, Came, Link};
+use lookup_core::Taken;
 use query_book::Queries;
 use std::alloc::Global;
 
@@ -58,7 +60,7 @@ fn take_stray(progress: &mut Progress) -> Result<(), LookFault>
     Ok(())
 }
 
-/// Matches the datagram with the open query that it replies to, and tells the book the reply; else it is a stray.
+/// Hands the datagram to the lookup, and keeps what it heard; what replies to no open query is a stray.
 fn take_datagram(
     alloc: Global,
     work: &mut Work,
@@ -68,23 +70,20 @@ fn take_datagram(
 ) -> Result<(), LookFault>
     requires { Keeps look.now work.old }
     ensures ok { OnOk result (TakesDatagram look.now from bytes.now work.old work.new) }
-    ensures strays { IsErrOf result LookFault.Strays → IsLastStray from bytes.now work.old }
+    ensures strays { IsErrOf result LookFault.Strays → IsLastStray look.now from bytes.now
+        work.old }
     ensures link { ¬ IsErrOf result LookFault.LinkFault }
+    ensures holds { OnOk result (Holds work.new.lookup) }
     ensures table { work.new.table ≡ work.old.table }
 {
-    // No two open queries have one transaction id.
-    let _ = work.queries.len();
-    let said = match read_reply(alloc, bytes) {
-        Ok(Some(said)) => said,
-        Ok(None) => return take_stray(&mut work.progress),
-        Err(_) => return Err(LookFault::NoMemory),
-    };
-    match work.queries.take(said.tx, from) {
-        Some(contact) => match hear(alloc, work, look, contact, said.reply) {
+    match work.lookup.take(alloc, &look.quest(), from, bytes) {
+        Ok(Taken::Stray) => take_stray(&mut work.progress),
+        Ok(Taken::Heard(answered)) => match keep(&mut work.gathered, look.kind, answered) {
             Ok(()) => Ok(()),
             Err(_) => Err(LookFault::NoMemory),
         },
-        None => take_stray(&mut work.progress),
+        Ok(Taken::Lost) => Ok(()),
+        Err(_) => Err(LookFault::NoMemory),
     }
 }
 
@@ -115,14 +114,14 @@ pub(crate) fn receive<L: Link>(
     ensures recv_faults { L.recv_faults link.old ≤ L.recv_faults link.new }
     ensures kept { L.kept link.new ≡ L.kept link.old }
 {
-    work.book.legal();
-    let until = wait_until(&work.progress, &work.queries);
+    work.lookup.book.legal();
+    let until = wait_until(&work.progress, &work.lookup.queries);
     match link.recv(buf, until) {
         Ok(Came::Packet { from, len, at }) => {
             take_datagram(alloc, work, look, from, &buf[..len])?;
             expire(work, at);
             work.progress.moment = at;
-            work.progress.receives = round_after(work.progress.receives, &work.queries);
+            work.progress.receives = round_after(work.progress.receives, &work.lookup.queries);
             Ok(())
         }
         Ok(Came::Quiet { at }) => {

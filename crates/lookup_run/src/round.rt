@@ -51,7 +51,7 @@ fn ask_and_receive<L: Link>(
     ensures kept { L.kept link.new ≡ L.kept link.old }
 {
     ask_all(link, work, words, look);
-    if work.queries.is_empty() {
+    if work.lookup.queries.is_empty() {
         return Ok(false);
     }
     match receive_round(alloc, link, work, buf, look) {

@@ -22,13 +22,19 @@ fn settle_path<C: Check>(
     requires path { path < look.now.paths }
     requires keeps { Keeps look.now work.old }
     requires round_over { work.old.progress.receives ≡ 0 }
-    requires settled { AllSettled path work.old.book.journal }
+    requires settled { AllSettled path work.old.lookup.book.journal }
     ensures ok { (manner : Manner) (told : Option (List Event))
         → OnOk result (SettlesPaths manner look.now path (path + 1) work.old work.new told) }
     ensures ran { OnErr result (TableRan work.old.table work.new.table) }
     ensures fault { IfErr result (λ fault. fault ≡ LookFault.NoMemory) }
 {
-    match settle_alone(path, &mut work.book, &mut work.table, look.policy, check) {
+    match settle_alone(
+        path,
+        &mut work.lookup.book,
+        &mut work.table,
+        look.policy,
+        check,
+    ) {
         Ok(_) => Ok(()),
         Err(_) => Err(LookFault::NoMemory),
     }
@@ -50,7 +56,7 @@ pub(crate) fn settle_paths<C: Check>(
         told) }
     ensures fault { IfErr result (λ fault. fault ≡ LookFault.NoMemory) }
 {
-    work.book.legal();
+    work.lookup.book.legal();
     for path in 0..look.paths {
         match settle_path(work, look, check, path) {
             Ok(()) => {}

@@ -12,6 +12,7 @@ use crate::plain::{LookFault, LookSetting, Work};
 use crate::settle::settle_paths;
 use claim_book::{Book, BookCall, BookReply};
 use kad_base::{Check, NoMemory, Serial};
+use lookup_core::Lookup;
 use path_worker::settle_together;
 use std::alloc::Global;
 use std::sync::Wait;
@@ -63,18 +64,18 @@ pub(crate) fn settle_each<R: Threads + Wait + Sync, C: Check + Sync>(
     ensures fault { IfErr result.1 (λ fault. fault ≡ LookFault.NoMemory) }
 {
     let mut work = work;
-    if !has_several(&mut work.book, look.paths) {
+    if !has_several(&mut work.lookup.book, look.paths) {
         let settled = settle_paths(&mut work, look, check);
         return (work, settled);
     }
-    work.book.legal();
+    work.lookup.book.legal();
     let Work {
-        book,
+        lookup,
         table,
-        queries,
         progress,
         gathered,
     } = work;
+    let Lookup { book, queries } = lookup;
     let (book, table, settled) = settle_together(
         rt,
         alloc,
@@ -85,9 +86,8 @@ pub(crate) fn settle_each<R: Threads + Wait + Sync, C: Check + Sync>(
         check,
     );
     let work = Work {
-        book,
+        lookup: Lookup { book, queries },
         table,
-        queries,
         progress,
         gathered,
     };

@@ -1,6 +1,13 @@
+pub mod Accepting
+pub mod Answering
 pub mod Ending
 pub mod Few
+pub mod Gathering
+pub mod Inverting
 pub mod Once
 pub mod Picking
 pub mod Reading
+pub mod Receiving
+pub mod Same
 pub mod Small
+pub mod Wanted

@@ -1,7 +1,12 @@
+pub mod AnswerBy
 pub mod AnswerOf
-pub mod Announcing
 pub mod Asked
+pub mod Calls
+pub mod Gains
+pub mod Gathered
 pub mod NodeState
 pub mod Queries
+pub mod Receives
 pub mod Replies
+pub mod Responded
 pub mod Sizes

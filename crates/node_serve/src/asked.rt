@@ -13,7 +13,7 @@ use kad_krpc::{AskView, View, decode_view};
 
 /// A query that is answered, in its datagram.
 #[derive(Drop)]
-pub(crate) struct Asked<'a> {
+pub struct Asked<'a> {
     pub from: Addr,
     /// The IPv4 address of `from`.
     pub ip: [u8; 4],
@@ -46,8 +46,9 @@ fn query_in<'a>(from: Addr, ip: [u8; 4], view: View<'a>) -> Option<Asked<'a>>
     }
 }
 
-/// The query that a datagram is, where it is answered. Takes no memory.
-pub(crate) fn read_query<'a>(from: Addr, bytes: &'a [u8]) -> Option<Asked<'a>>
+/// The query that a datagram is, where it is answered: not one of more than 4,096 bytes, from port 0 or an IPv6 address, nor
+/// with a transaction id of more than 32 bytes. Takes no memory.
+pub fn read_query<'a>(from: Addr, bytes: &'a [u8]) -> Option<Asked<'a>>
     ensures query { MatchOption result (IsSilent from bytes.now) (IsAsked from bytes.now) }
     ensures silent { IsSilent from bytes.now → IsNone result }
 {
@@ -76,8 +77,9 @@ fn asker(ask: &AskView) -> Option<Id>
     }
 }
 
-/// The contact that the table is told of for a query.
-pub(crate) fn told_for(policy: Policy, asked: &Asked) -> Option<Contact>
+/// The contact that the table is told of after a query (Kademlia, 2002, section 2.2): the asker, unless it is read-only (BEP
+/// 43), or the policy asks for puzzles, which a query can't show to be solved.
+pub fn told_for(policy: Policy, asked: &Asked) -> Option<Contact>
     ensures { result ≡ told_by policy asked.now.read_only (ask_seen asked.now.ask) asked.now.from }
 {
     match policy {

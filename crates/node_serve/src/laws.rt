@@ -3,6 +3,7 @@ ghost use Rattle.std.specs.Prelude.{◌≡◌, ℕ, List};
 ghost use Rattle.kad_base.specs.declared.plain.Addr.{Addr};
 ghost use Rattle.kad_krpc.specs.declared.message.Message.{Message};
 ghost use Rattle.contact_table.specs.TableState.{SoundTable};
+ghost use Rattle.node_serve.specs.AnswerBy.{AnswerBy};
 ghost use Rattle.node_serve.specs.AnswerOf.{AnswerOf};
 ghost use Rattle.node_serve.specs.NodeState.{NodeState};
 
@@ -15,4 +16,13 @@ pub fn one_answer()
     ensures node { (s : NodeState) (from : Addr) (bytes : List ℕ) (at : ℕ) (m n : Message)
         (x y : NodeState)
         → AnswerOf s from bytes at m x → AnswerOf s from bytes at n y → SoundTable s.table → x ≡ y }
+{}
+
+/// What the rules make of a datagram, from what the node holds, is what its calls make of it: those that it asks for, applied
+/// in order, and the reply that is computed from their replies alone.
+pub fn same_answer()
+    ensures by_calls { (s : NodeState) (from : Addr) (bytes : List ℕ) (at : ℕ) (m : Message) (x : NodeState)
+        → AnswerOf s from bytes at m x → AnswerBy s from bytes at m x }
+    ensures by_rules { (s : NodeState) (from : Addr) (bytes : List ℕ) (at : ℕ) (m : Message) (x : NodeState)
+        → AnswerBy s from bytes at m x → AnswerOf s from bytes at m x }
 {}

@@ -1,16 +1,32 @@
 //! A node that answers (BEP 5): its routing table, the peers that were announced to it, its tokens, and the reply to a
-//! datagram, written into bytes that are there. It opens no socket and reads no clock.
+//! datagram, written into bytes that are there; and the receive calls of such a node on a link. It opens no socket and reads
+//! no clock.
+//!
+//! An answer has steps that hold no store and make no call: `read_query` reads the datagram, `plan` says which calls it
+//! makes, `told_for` whom the table is told of afterwards, `compose` makes the reply from what the calls gave, and `write`
+//! puts it into bytes. `Node` makes the calls on a table and peers of its own; whoever shares them with others makes the
+//! same calls at its turns.
 #![tactic(auto)]
 
-mod announce;
 mod asked;
+mod composing;
 mod fits;
+mod gather;
 mod laws;
 mod node;
 mod nodes;
+mod planning;
 mod reply;
+mod respond;
+mod setting;
 #[cfg(test)]
 mod tests;
 
-pub use laws::one_answer;
+pub use asked::{Asked, read_query, told_for};
+pub use composing::{Gained, compose};
+pub use fits::write;
+pub use laws::{one_answer, same_answer};
 pub use node::{Answered, Node};
+pub use planning::{Wants, plan};
+pub use respond::{ServeCounts, ServeFault, serve_loop};
+pub use setting::ServeSetting;

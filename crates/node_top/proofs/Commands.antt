@@ -22,7 +22,7 @@ use Rattle.claim_book.specs.Result.{result_of}
 use Rattle.claim_book.proofs.Claims.{asked_distinct}
 use Rattle.claim_book.proofs.Descent.{own_answers}
 use Rattle.lookup_run.specs.declared.plain.LookSetting.{LookSetting}
-use Rattle.lookup_run.specs.declared.plain.AskKind.{AskKind}
+use Rattle.lookup_core.specs.declared.quest.AskKind.{AskKind}
 use Rattle.lookup_run.specs.declared.plain.Outcome.{Outcome}
 use Rattle.lookup_run.specs.Tells.{Given, Tells, EndsAtStray}
 use Rattle.lookup_run.specs.Lookup.{IsWithinLimits, given_of, TableTold, TellsEarly, Unfinished}

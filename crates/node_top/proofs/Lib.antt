@@ -9,9 +9,13 @@ pub mod Asking
 pub mod Commands
 pub mod Verdicts
 pub mod Exactly
+pub mod Lawful
+pub mod Staged
+pub mod Looking
+pub mod Hosting
+pub mod Minting
+pub mod Lawfully
 pub mod Causes
-pub mod MayEnd
-pub mod Linkless
 pub mod Announcing
 pub mod Reaching
 pub mod Peering

@@ -1,9 +1,10 @@
 -- From a lookup for peers, and the announcements after it, to what the command promises.
-use Rattle.std.proofs.Common.{◌≡◌, ◌≢◌, ℕ, ◌+◌, List, [], ◌∷◌, ◌++◌, length, Bool, true, false, Option, refl, sym, ap, subst, ◌∙◌}
+use Rattle.std.proofs.Common.{◌≡◌, ◌≢◌, ℕ, ◌+◌, List, [], ◌∷◌, ◌++◌, length, Bool, true, false, Option, inl, refl, sym, ap, subst, ◌∙◌}
 use Rattle.std.proofs.lemmas.List.{append_assoc, append-nil}
 use Rattle.std.proofs.Math.Seq.{take-length}
 use Rattle.kad_base.specs.declared.plain.Addr.{Addr}
 use Rattle.kad_base.specs.declared.plain.Contact.{Contact}
+use Rattle.kad_base.specs.declared.plain.Id.{Id}
 use Rattle.kad_base.specs.declared.plain.Event.{Event}
 use Rattle.kad_base.specs.declared.plain.Event.TheVariants.{Got}
 use Rattle.kad_base.specs.Limits.{max_strays}
@@ -13,17 +14,19 @@ use Rattle.kad_base.proofs.Grown.{grows_then, grows_weaker}
 use Rattle.id_puzzles.specs.Drawn.{WordsState}
 use Rattle.claim_book.specs.Journal.{failed, asked}
 use Rattle.claim_book.specs.Result.{result_of}
-use Rattle.lookup_run.specs.declared.plain.AskKind.TheVariants.{GetPeers}
+use Rattle.lookup_core.specs.declared.quest.AskKind.TheVariants.{GetPeers}
 use Rattle.lookup_run.specs.Tells.{Given, EndsAtStray}
 use Rattle.kad_words.specs.declared.command.LookWords.{LookWords}
 use Rattle.node_top.specs.declared.seek.Reached.{Reached}
 use Rattle.node_top.specs.Announced.{Announcement, owed, tried, asking, Announces, AnnouncesSome}
-use Rattle.node_top.specs.Peered.{announced_by, next_place, TellsPeers, TellsSomePeers, PeersText, AnnouncedSome}
+use Rattle.node_top.specs.Peered.{announced_by, next_place, TellsPeers, TellsSomePeers, PeersText, PeersBegun, AnnouncedSome, peers_promise}
 use Rattle.node_top.specs.Printed.{printed_peers}
 use Rattle.node_top.specs.Shown.{Shown}
 use Rattle.node_top.specs.Started.{own_of, book_of, lookup_of}
 use Rattle.node_top.specs.Reached.{TellsAll, Reaches}
 use Rattle.node_top.proofs.Announcing.{Sends}
+use Rattle.node_top.proofs.Lawful.{Lawful}
+use Rattle.node_top.proofs.Looking.{seeking_lawful}
 
 -- ---- announcements end with no datagram that was received
 
@@ -70,14 +73,15 @@ no_stray_after g seed place (a ∷ rest) es fs n h few ends =
 
 -- what is owed to those that were found, in the terms of the journal
 abbrev owes : LookWords → Option ℕ → List ℕ → Reached → List Announcement
-owes look port random r = owed port (own_of look.own random) look.target r.outcome.found r.outcome.tokens
+owes look port random r = owed port r.own look.target r.outcome.found r.outcome.tokens
 
 -- what was announced, over the words and the contacts that the code has
 in_terms : (look : LookWords) (port : Option ℕ) (random : List ℕ) (source : Shown ℕ) (link : Shown Event) (r : Reached) (P : List ℕ → ℕ → List Announcement → Type 0) → Reaches GetPeers look random source link r
     → P r.words.seed r.words.place (owes look port random r) → P random (next_place random r.outcome.journal) (announced_by look port random r.outcome.journal r.outcome.tokens)
 in_terms look port random source link r P h p =
     let moved = subst (λ (w : WordsState). P w.seed w.place (owes look port random r)) h.drawn p in
-    subst (λ (l : List Contact). P random (next_place random r.outcome.journal) (owed port (own_of look.own random) look.target l r.outcome.tokens)) h.found moved
+    let mine = subst (λ (own : Id). P random (next_place random r.outcome.journal) (owed port own look.target r.outcome.found r.outcome.tokens)) h.own_is moved in
+    subst (λ (l : List Contact). P random (next_place random r.outcome.journal) (owed port (own_of look.own random) look.target l r.outcome.tokens)) h.found mine
 
 tells_peers : (look : LookWords) (port : Option ℕ) (random : List ℕ) (r : Reached) (n : ℕ) (es fs : List Event) → TellsAll (lookup_of GetPeers look random) r.outcome.journal r.outcome.peers r.outcome.tokens es
     → Sends random (next_place random r.outcome.journal) (announced_by look port random r.outcome.journal r.outcome.tokens) n fs → TellsPeers look port random r.outcome.journal r.outcome.peers n (es ++ fs)
@@ -132,3 +136,8 @@ announced_some look port random source before middle after f f' f'' r h some_ =
 -- all of them are a front of them
 pub all_some : (seed : List ℕ) (place : ℕ) (all : List Announcement) (n : ℕ) (a b : Option (List Event)) → Grows a b (Sends seed place all n) → Grows a b (AnnouncesSome seed place all)
 all_some seed place all n a b g = grows_weaker a b _ _ g (λ es h. (length all, subst (λ (l : List Announcement). Announces seed place l es) (sym (take-length all)) h.0))
+
+pub peers_lawful : (look : LookWords) (announce : Option ℕ) → Lawful (peers_promise look announce)
+peers_lawful look announce =
+    seeking_lawful (record { kind = GetPeers; look = look }) (λ random source link text. PeersText look announce random source link text) (λ random source link. PeersBegun look announce random source link)
+    (λ random source link text t. t.ran.start) (λ random source link text t. t.few_strays) (λ random source link b. inl b)

@@ -1,12 +1,11 @@
 -- The values of the words are within the limits.
-use Rattle.std.proofs.Common.{ℕ, ◌≤◌, List, Option, Some, None, arith}
-use Rattle.kad_base.specs.declared.plain.Id.{Id}
-use Rattle.kad_base.specs.declared.plain.Policy.{Policy}
-use Rattle.kad_words.specs.Table.{Word, Entry}
+use Rattle.std.proofs.Common.{ℕ, ◌≤◌, Option, Some, None, arith}
+use Rattle.kad_words.specs.Table.{Word, Entry, alpha_option, bits_option, k_option, nodes_option, paths_option}
 use Rattle.kad_words.specs.Text.{SpellsNumber}
-use Rattle.kad_words.specs.Plain.{Values, CommandOf, IsGivenOr, IsLook}
-use Rattle.kad_words.specs.declared.command.Command.TheVariants.{Lookup, Peers, Serve}
+use Rattle.kad_words.specs.Plain.{Values, IsGivenOr, IsLook, NumberOf}
 use Rattle.kad_words.specs.declared.command.LookWords.{LookWords}
+use Rattle.node_top.specs.declared.sim.Simulation.{Simulation}
+use Rattle.node_top.specs.Simulated.{IsSimulable}
 use Rattle.node_top.specs.Started.{AreTableBounds, IsInRange}
 
 record Within (least most n : ℕ) : Type 0 where
@@ -18,7 +17,7 @@ within least most default low high None n is = record { above = omega (arith, is
 within least most default low high (Some value) n is = record { above = is.above; below = is.below }
 
 -- the options of a lookup are, whatever names its target
-look_in_range : (target : Entry) (value : Values) (look : LookWords) → IsLook target value look → IsInRange look
+pub look_in_range : (target : Entry) (value : Values) (look : LookWords) → IsLook target value look → IsInRange look
 look_in_range target value look h =
     let k = within 1 20 8 (omega arith) (omega arith) _ look.k h.k in
     let paths = within 1 8 4 (omega arith) (omega arith) _ look.paths h.paths in
@@ -35,14 +34,24 @@ look_in_range target value look h =
       few_bits = bits.below;
     }
 
-pub in_range : (words : List Word) (look : LookWords) → CommandOf words (Lookup look) → IsInRange look
-in_range words look h = look_in_range _ _ look h.says
-
-pub peers_in_range : (words : List Word) (look : LookWords) (announce : Option ℕ) → CommandOf words (Peers look announce) → IsInRange look
-peers_in_range words look announce h = look_in_range _ _ look h.says.0
-
-pub serve_in_range : (words : List Word) (own : Option Id) (k bits : ℕ) (policy : Policy) (receives : ℕ) → CommandOf words (Serve own k bits policy receives) → AreTableBounds k bits
-serve_in_range words own k bits policy receives h =
-    let live = within 1 20 8 (omega arith) (omega arith) _ k h.says.1 in
-    let split = within 1 5 1 (omega arith) (omega arith) _ bits h.says.2 in
+pub table_in_range : (value : Values) (k bits : ℕ) → NumberOf k_option value k → NumberOf bits_option value bits → AreTableBounds k bits
+table_in_range value k bits is_k is_bits =
+    let live = within 1 20 8 (omega arith) (omega arith) _ k is_k in
+    let split = within 1 5 1 (omega arith) (omega arith) _ bits is_bits in
     record { some_live = live.above; few_live = live.below; some_bits = split.above; few_bits = split.below }
+
+pub simulable : (value : Values) (s : Simulation) → NumberOf nodes_option value s.nodes → NumberOf k_option value s.k → NumberOf paths_option value s.paths → NumberOf alpha_option value s.alpha → IsSimulable s
+simulable value s nodes k paths alpha =
+    let some_nodes = within 1 20000 2000 (omega arith) (omega arith) _ s.nodes nodes in
+    let live = within 1 20 8 (omega arith) (omega arith) _ s.k k in
+    let path = within 1 8 4 (omega arith) (omega arith) _ s.paths paths in
+    let query = within 1 4 3 (omega arith) (omega arith) _ s.alpha alpha in
+    record {
+      few_nodes = some_nodes.below;
+      some_live = live.above;
+      few_live = live.below;
+      some_path = path.above;
+      few_paths = path.below;
+      some_query = query.above;
+      few_queries = query.below;
+    }

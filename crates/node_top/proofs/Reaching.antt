@@ -10,7 +10,7 @@ use Rattle.contact_table.specs.TableState.{TableState}
 use Rattle.claim_book.proofs.Claims.{took_distinct, asked_distinct}
 use Rattle.claim_book.proofs.Descent.{own_answers}
 use Rattle.claim_book.proofs.Ends.{found_answered}
-use Rattle.lookup_run.specs.declared.plain.AskKind.{AskKind}
+use Rattle.lookup_core.specs.declared.quest.AskKind.{AskKind}
 use Rattle.lookup_run.specs.declared.plain.LookSetting.{LookSetting}
 use Rattle.lookup_run.specs.declared.plain.Outcome.{Outcome}
 use Rattle.lookup_run.specs.Tells.{Given, Tells, EndsAtStray}
@@ -62,13 +62,14 @@ pub reaches : (kind : AskKind) (look : LookWords) (random : List ℕ) (source : 
     → Finished setting table words left link.before link.after o → Grows link.before link.after (λ events. Rounds at_once (given_of setting words) o.journal events)
     → Grows link.before link.after (λ events. Gathers (given_of setting words) o.journal events o.peers o.tokens)
     → Grows link.before link.after (λ events. ¬ EndsAtStray (given_of setting words) events max_strays)
-    → Reaches kind look random source link (record { outcome = o; words = left })
+    → Reaches kind look random source link (record { own = setting.own; outcome = o; words = left })
 reaches kind look random source link setting words left table o h up rounds gathers few =
     let up' : Finished (look_of kind look random) table (drawn_of random) left link.before link.after o = moved kind look random source setting words table (λ s w. Finished s table w left link.before link.after o) h up in
     let rounds' = moved kind look random source setting words table (λ s w. Grows link.before link.after (λ events. Rounds at_once (given_of s w) o.journal events)) h rounds in
     let gathers' = moved kind look random source setting words table (λ s w. Grows link.before link.after (λ events. Gathers (given_of s w) o.journal events o.peers o.tokens)) h gathers in
     let few' = moved kind look random source setting words table (λ s w. Grows link.before link.after (λ events. ¬ EndsAtStray (given_of s w) events max_strays)) h few in
     record {
+      own_is = ap (λ (s : LookSetting). s.own) h.setting_is;
       ran = ran_out kind look random source (start_of kind look random source setting words table h) (drawn_of random) left link.before link.after o h.range up';
       tells = all_told (lookup_of kind look random) o link.before link.after up'.tells rounds' gathers' few';
       found = up'.found;

@@ -1,5 +1,5 @@
 -- How the top call ends: the number and the line of each status, and what was written. All of it is this project's own.
-use Rattle.std.specs.Prelude.{◌≡◌, ◌⊎◌, ℕ, List, ◌++◌, [], ◌∷◌, codes, decimal, Contains}
+use Rattle.std.specs.Prelude.{◌≡◌, ◌⊎◌, ℕ, List, ◌++◌, ◌∷◌, codes, decimal}
 use Rattle.kad_base.specs.declared.plain.Event.{Event}
 use Rattle.kad_base.specs.Outside.{Grows}
 use Rattle.node_top.specs.declared.status.Status.{Status}
@@ -7,12 +7,11 @@ use Rattle.node_top.specs.declared.status.Status.TheVariants.{Usage, BadLine, Li
 use Rattle.kad_words.specs.Table.{Word}
 use Rattle.kad_words.specs.Plain.{CommandOf}
 use Rattle.kad_words.specs.declared.command.Command.{Command}
-use Rattle.kad_words.specs.declared.command.Command.TheVariants.{Lookup, Peers, Serve, Check, Mint, Sim}
-use Rattle.node_top.specs.Asked.{Asks}
 use Rattle.node_top.specs.Written.{IsFront}
 use Rattle.node_top.specs.Shown.{Shown, HasFailed}
 use Rattle.node_top.specs.Input.{IsBadLine}
-use Rattle.node_top.specs.Commands.{HasText}
+use Rattle.node_top.specs.Commands.{promise_of, HasText}
+use Rattle.node_top.specs.Promise.{Promise, IsOneOf}
 
 -- the number of a status
 abbrev pub number_of : Status → ℕ
@@ -63,17 +62,12 @@ pub record CutShort (words : List Word) (random : List ℕ) (source : Shown ℕ)
   pub writes : Grows sink.before sink.after (λ added. IsFront added text)
 
 -- the statuses with which a command may end
-abbrev pub MayEnd : Command → ℕ → Type 0
-MayEnd (Lookup look) status = Contains (0 ∷ 3 ∷ 4 ∷ 5 ∷ 6 ∷ 7 ∷ 8 ∷ 9 ∷ 11 ∷ []) status
-MayEnd (Peers look announce) status = Contains (0 ∷ 3 ∷ 4 ∷ 5 ∷ 6 ∷ 7 ∷ 8 ∷ 9 ∷ 11 ∷ []) status
-MayEnd (Serve own k bits policy receives) status = Contains (0 ∷ 3 ∷ 4 ∷ 5 ∷ 6 ∷ 9 ∷ 11 ∷ []) status
-MayEnd (Check policy) status = Contains (0 ∷ 3 ∷ 5 ∷ 6 ∷ 9 ∷ 11 ∷ []) status
-MayEnd (Mint seed c1 c2 tries) status = Contains (0 ∷ 5 ∷ 9 ∷ 10 ∷ []) status
-MayEnd (Sim seed nodes hostile k paths alpha timeout) status = Contains (0 ∷ 5 ∷ 9 ∷ []) status
+abbrev pub MayEnd : Promise → ℕ → Type 0
+MayEnd promise status = IsOneOf (0 ∷ 5 ∷ 9 ∷ promise.ends) status
 
 -- the status is one of those of the command that the words ask for
 abbrev pub EndsByCommand : List Word → ℕ → Type 0
-EndsByCommand words status = (command : Command) → CommandOf words command → Asks words → MayEnd command status
+EndsByCommand words status = (command : Command) → CommandOf words command → MayEnd (promise_of command) status
 
 -- the statuses that end a command before it calls the link
 abbrev pub EndsEarly : ℕ → Type 0

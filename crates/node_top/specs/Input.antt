@@ -8,7 +8,7 @@ use Rattle.kad_base.specs.Contacts.{IsUsable}
 use Rattle.kad_base.specs.Limits.{max_input}
 use Rattle.kad_base.specs.Puzzles.{Passes}
 use Rattle.node_top.specs.Lines.{lines, Reporting, IsFirstBad}
-use Rattle.node_top.specs.Shown.{Shown}
+use Rattle.node_top.specs.Shown.{Shown, IsTold, HasFailed}
 
 -- where the rest is told, nothing is left, and these bytes were read, which are no more than an input may have
 abbrev pub ReadsAll : Option (List ℕ) → Option (List ℕ) → List ℕ → Type 0
@@ -86,3 +86,10 @@ pub record IsBadLine (source : Shown ℕ) (number : ℕ) : Type 0 where
 -- the input was read to its end, and it has a bad line
 abbrev pub HasBadLine : Shown ℕ → Type 0
 HasBadLine source = (number : ℕ) × IsBadLine source number
+
+-- the input was read to its end without a failure, and each of its lines is good
+pub record ReadsWell (source : Shown ℕ) : Type 0 where
+  pub told : IsTold source
+  pub reads : ¬ HasFailed source
+  pub reports : List Report
+  pub lists : Lists source reports

@@ -3,12 +3,12 @@ pub mod Lines
 pub mod Printed
 pub mod Shown
 pub mod Input
+pub mod Promise
 pub mod Started
 pub mod Looked
 pub mod Checked
 pub mod Minted
 pub mod Simulated
-pub mod Plainly
 pub mod Commands
 pub mod Written
 pub mod Endings
@@ -16,4 +16,4 @@ pub mod Reached
 pub mod Announced
 pub mod Peered
 pub mod Served
-pub mod Responded
+pub mod Hosted

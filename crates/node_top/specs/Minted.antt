@@ -1,12 +1,13 @@
 -- What `mint` makes: an identifier that solves both puzzles, with its key and X (S/Kademlia, 2007, section 4.1). Its line
 -- is this project's own.
-use Rattle.std.specs.Prelude.{◌≡◌, ◌⊎◌, ℕ, List, ◌++◌, codes, Option, Some, None}
+use Rattle.std.specs.Prelude.{◌≡◌, ◌⊎◌, ℕ, List, [], ◌∷◌, ◌++◌, codes, Option, Some, None}
 use Rattle.hex.specs.Hex.{encode_lower}
 use Rattle.kad_base.specs.Puzzles.{hash}
 use Rattle.id_puzzles.specs.Minting.{IsFirstKey, IsFirstValue, HasNoKey, HasNoValue}
 use Rattle.node_top.specs.declared.status.Status.{Status}
 use Rattle.node_top.specs.declared.status.Status.TheVariants.{NoMemory, Unminted}
 use Rattle.node_top.specs.Printed.{line_of}
+use Rattle.node_top.specs.Promise.{Promise, unread}
 
 -- the seed of the words, or the random bytes
 abbrev pub seed_of : Option (List ℕ) → List ℕ → List ℕ
@@ -35,3 +36,6 @@ abbrev pub MintCause : List ℕ → ℕ → ℕ → ℕ → Status → Type 0
 MintCause seed c1 c2 tries NoMemory = Unit {0}
 MintCause seed c1 c2 tries Unminted = FindsNothing seed c1 c2 tries
 MintCause seed c1 c2 tries other = ⊥
+
+abbrev pub mint_promise : Option (List ℕ) → ℕ → ℕ → ℕ → Promise
+mint_promise seed c1 c2 tries = unread (10 ∷ []) (Unit {0}) (λ random text. MintText (seed_of seed random) c1 c2 tries text) (λ random. FindsNothing (seed_of seed random) c1 c2 tries)

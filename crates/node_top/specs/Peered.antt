@@ -7,12 +7,13 @@ use Rattle.kad_base.specs.Outside.{Grows}
 use Rattle.claim_book.specs.declared.plain.Entry.{Entry}
 use Rattle.claim_book.specs.Journal.{asked, failed, turned}
 use Rattle.claim_book.specs.Result.{result_of}
-use Rattle.lookup_run.specs.declared.plain.AskKind.TheVariants.{GetPeers}
+use Rattle.lookup_core.specs.declared.quest.AskKind.TheVariants.{GetPeers}
 use Rattle.lookup_run.specs.declared.plain.Token.{Token}
 use Rattle.kad_words.specs.declared.command.LookWords.{LookWords}
 use Rattle.node_top.specs.Announced.{Announcement, owed, Announces, AnnouncesSome, sent_in}
-use Rattle.node_top.specs.Looked.{LookupBegun, MeetsFewStrays}
+use Rattle.node_top.specs.Looked.{LookupBegun, MeetsFewStrays, seek_aim}
 use Rattle.node_top.specs.Printed.{printed_peers}
+use Rattle.node_top.specs.Promise.{Promise, reading}
 use Rattle.node_top.specs.Shown.{Shown}
 use Rattle.node_top.specs.Reached.{HasRunOut, TellsAll}
 use Rattle.node_top.specs.Started.{own_of, book_of, drawn_of, lookup_of}
@@ -65,3 +66,7 @@ pub record AnnouncedSome (look : LookWords) (announce : Option ℕ) (random : Li
 -- a lookup for peers that ended early, itself or in its announcements
 abbrev pub PeersBegun : LookWords → Option ℕ → List ℕ → Shown ℕ → Shown Event → Type 0
 PeersBegun look announce random source link = LookupBegun GetPeers look random source link ⊎ AnnouncedSome look announce random source link
+
+abbrev pub peers_promise : LookWords → Option ℕ → Promise
+peers_promise look announce =
+    reading (seek_aim (record { kind = GetPeers; look = look }) (λ random source link text. PeersText look announce random source link text) (λ random source link. PeersBegun look announce random source link))

@@ -15,7 +15,7 @@ use Rattle.claim_book.specs.RunOut.{RunOut}
 use Rattle.claim_book.specs.Result.{result_of}
 use Rattle.claim_book.specs.Lineage.{GoesByOwnAnswers}
 use Rattle.claim_book.specs.Calls.{Counted}
-use Rattle.lookup_run.specs.declared.plain.AskKind.{AskKind}
+use Rattle.lookup_core.specs.declared.quest.AskKind.{AskKind}
 use Rattle.lookup_run.specs.declared.plain.Token.{Token}
 use Rattle.lookup_run.specs.Tells.{Given, Tells, EndsAtStray}
 use Rattle.lookup_run.specs.Rounds.{Rounds, at_once}
@@ -24,7 +24,7 @@ use Rattle.lookup_run.specs.Lookup.{seeds_in, drawn_for}
 use Rattle.kad_words.specs.declared.command.LookWords.{LookWords}
 use Rattle.node_top.specs.declared.seek.Reached.{Reached}
 use Rattle.node_top.specs.Shown.{Shown}
-use Rattle.node_top.specs.Started.{look_of, book_of, drawn_of, lookup_of, Start}
+use Rattle.node_top.specs.Started.{own_of, look_of, book_of, drawn_of, lookup_of, Start}
 
 -- The journal of a lookup that was asked for: it is legal and begins with the k closest contacts of the table that the
 -- input gives, and every path has run out in it. So no contact is taken or asked twice, what a path asks comes from its own
@@ -47,8 +47,9 @@ pub record TellsAll (g : Given) (J : List Entry) (peers : List Addr) (tokens : L
   pub gathers : Gathers g J events peers tokens
   pub few_strays : ¬ EndsAtStray g events max_strays
 
--- a lookup that was asked for has run out; this is what it found, and so far were its words drawn
+-- a lookup that was asked for has run out; this is what it found, by whom, and so far were its words drawn
 pub record Reaches (kind : AskKind) (look : LookWords) (random : List ℕ) (source : Shown ℕ) (link : Shown Event) (reached : Reached) : Type 0 where
+  pub own_is : reached.own ≡ own_of look.own random
   pub ran : HasRunOut kind look random source reached.outcome.journal
   pub tells : Grows link.before link.after (TellsAll (lookup_of kind look random) reached.outcome.journal reached.outcome.peers reached.outcome.tokens)
   pub found : reached.outcome.found ≡ result_of (book_of kind look random) reached.outcome.journal

@@ -1,6 +1,7 @@
 -- What a call saw of a source, a link or a sink: what it told that it holds, and how often it had failed, before and
 -- after.
 use Rattle.std.specs.Prelude.{◌≢◌, ℕ, List, Option, None}
+use Rattle.kad_base.specs.declared.plain.Event.{Event}
 use Rattle.kad_base.specs.Outside.{Rose}
 
 pub record Shown (A : Type 0) : Type 0 where
@@ -20,3 +21,7 @@ IsTold s = s.after ≢ None
 -- it failed, as far as its count shows
 abbrev pub HasFailed : {A : Type 0} → Shown A → Type 0
 HasFailed s = Rose s.faults s.faults'
+
+-- a link that tells nothing: that of a call which has none
+abbrev pub nowhere : Shown Event
+nowhere = record { before = None; after = None; faults = 0; faults' = 0 }

@@ -19,7 +19,7 @@ use Rattle.claim_book.specs.Legal.{Legal}
 use Rattle.claim_book.specs.RunOut.{RunOut}
 use Rattle.claim_book.specs.Lineage.{GoesByOwnAnswers}
 use Rattle.claim_book.specs.Result.{result_of}
-use Rattle.lookup_run.specs.declared.plain.AskKind.TheVariants.{FindNode}
+use Rattle.lookup_core.specs.declared.quest.AskKind.TheVariants.{FindNode}
 use Rattle.lookup_run.specs.Tells.{Tells}
 use Rattle.lookup_run.specs.Rounds.{Rounds, path_by_path}
 use Rattle.lookup_run.specs.Lookup.{seeds_in}
@@ -28,6 +28,7 @@ use Rattle.node_top.specs.declared.sim.Simulation.{Simulation}
 use Rattle.node_top.specs.declared.sim.Start.{Start}
 use Rattle.node_top.specs.Input.{Admits}
 use Rattle.node_top.specs.Printed.{line_of, counts_text}
+use Rattle.node_top.specs.Promise.{Promise, unread}
 use Rattle.node_top.specs.Started.{own_of, look_of, book_of, lookup_of, StartsWith}
 
 -- the network of a simulation
@@ -115,3 +116,7 @@ pub record SimText (s : Simulation) (text : List ℕ) : Type 0 where
   pub run_out : (p : ℕ) → p < s.paths → RunOut (book_of FindNode (sim_look s) s.seed) p journal
   pub own_answers : GoesByOwnAnswers (book_of FindNode (sim_look s) s.seed) journal
   pub text_is : text ≡ line_of (sim_text_of s journal)
+
+-- by the simulation that the random bytes give
+abbrev pub sim_promise : (List ℕ → Simulation) → Promise
+sim_promise simulation = unread [] ((random : List ℕ) → IsSimulable (simulation random)) (λ random text. SimText (simulation random) text) (λ random. ⊥)

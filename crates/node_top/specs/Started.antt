@@ -11,7 +11,7 @@ use Rattle.contact_table.specs.TableState.{TableState}
 use Rattle.contact_table.specs.Told.{new_table}
 use Rattle.claim_book.specs.declared.plain.Setting.{Setting}
 use Rattle.lookup_run.specs.declared.plain.LookSetting.{LookSetting}
-use Rattle.lookup_run.specs.declared.plain.AskKind.{AskKind}
+use Rattle.lookup_core.specs.declared.quest.AskKind.{AskKind}
 use Rattle.lookup_run.specs.Tells.{Given}
 use Rattle.lookup_run.specs.Lookup.{setting_of, given_of, Told, TableTold}
 use Rattle.kad_words.specs.declared.command.LookWords.{LookWords}

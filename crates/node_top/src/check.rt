@@ -1,10 +1,11 @@
 //! The command `check`: says of each contact line of the input whether its contact passes the puzzles.
-ghost use Rattle.std.specs.Prelude.{◌≡◌, ◌≤◌, IfOk, IfErr, string_bytes};
+ghost use Rattle.std.specs.Prelude.{◌≡◌, IfOk, IfErr, string_bytes};
 ghost use Rattle.std.specs.List.{AllZip};
 ghost use Rattle.node_top.specs.Checked.{CheckText, Judges, passed_of, passed_text, verdict_text, verdicts_printed};
 ghost use Rattle.node_top.specs.Looked.{ReportsCause};
 ghost use Rattle.node_top.specs.Shown.{shown};
 
+use crate::call::Call;
 use crate::input::read_reports;
 use crate::printed::add_line;
 use crate::status::Status;
@@ -68,14 +69,12 @@ pub(crate) fn check<S: Source, C: Check>(
     alloc: Global,
     policy: Policy,
     source: &mut S,
-    check: &C,
+    call: &Call<'_, C>,
 ) -> Result<Bytes, Status>
     ensures ok { IfOk result (CheckText policy (shown S.left S.faults source.old source.new)) }
     ensures cause { IfErr result (ReportsCause (shown S.left S.faults source.old source.new)) }
-    ensures faults { S.faults source.old ≤ S.faults source.new }
 {
     let reports = read_reports(alloc, source)?;
-    let verdicts = judged(alloc, policy, check, reports.as_slice())?;
-    let text = print_verdicts(alloc, verdicts.as_slice())?;
-    Ok(text)
+    let verdicts = judged(alloc, policy, call.check, reports.as_slice())?;
+    Ok(print_verdicts(alloc, verdicts.as_slice())?)
 }

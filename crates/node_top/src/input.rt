@@ -1,7 +1,6 @@
 //! The input of a command: its bytes, and the reports and contacts that its lines give.
-ghost use Rattle.std.specs.Prelude.{◌≡◌, ◌≤◌, OnOk, IfOk, IfErr, IsErrOf, IsTrue, ◌↔◌};
-ghost use Rattle.kad_base.specs.Outside.{Rose};
-ghost use Rattle.node_top.specs.Input.{ReadsAll, ReadsFew, ReadsTooMuch, Lists, IsAdmitted, Admits, AdmitsOne, IsKept, Keeps, KeepsOne};
+ghost use Rattle.std.specs.Prelude.{OnOk, IfOk, IfErr, IsTrue, ◌↔◌};
+ghost use Rattle.node_top.specs.Input.{ReadsAll, Lists, IsAdmitted, Admits, AdmitsOne, IsKept, Keeps, KeepsOne};
 ghost use Rattle.node_top.specs.Looked.{ReportsCause};
 ghost use Rattle.node_top.specs.Shown.{shown};
 
@@ -13,42 +12,17 @@ use kad_base::{
 };
 use std::alloc::Global;
 
-/// Why an input was not read.
-#[derive(Clone, Copy, Debug, PartialEq, Eq)]
-enum ReadFault {
-    Source,
-    TooLong,
-    NoMemory,
-}
-
-impl From<NoMemory> for ReadFault {
-    ghost use Rattle.std.specs.Prelude.{◌≡◌};
-    ghost use Rattle.node_top.specs.declared.input.ReadFault.TheVariants as fault;
-
-    ghost from_gives = { λ _ e. e ≡ fault.NoMemory };
-
-    fn from(_: NoMemory) -> Self {
-        ReadFault::NoMemory
-    }
-}
-
 /// Reads a source to its end, or to one byte more than an input may have.
-fn read_whole<S: Source>(alloc: Global, source: &mut S) -> Result<Bytes, ReadFault>
+fn read_whole<S: Source>(alloc: Global, source: &mut S) -> Result<Bytes, Status>
     ensures ok { IfOk result (ReadsAll (S.left source.old) (S.left source.new)) }
-    ensures too_long { IsErrOf result ReadFault.TooLong
-        → ReadsTooMuch (S.left source.old) (S.left source.new) }
-    ensures source { IsErrOf result ReadFault.Source
-        → Rose (S.faults source.old) (S.faults source.new) }
-    ensures few { IsErrOf result ReadFault.Source
-        → ReadsFew (S.left source.old) (S.left source.new) }
-    ensures faults { S.faults source.old ≤ S.faults source.new }
+    ensures cause { IfErr result (ReportsCause (shown S.left S.faults source.old source.new)) }
 {
     let mut bytes = List::new(alloc);
     let mut buf = [0u8; 4096];
     'reading: loop {
         let missing = MAX_INPUT + 1 - bytes.len();
         if missing == 0 {
-            return Err(ReadFault::TooLong);
+            return Err(Status::TooLong);
         }
         let room = missing.min(4096);
         match source.take(&mut buf[..room]) {
@@ -56,7 +30,7 @@ fn read_whole<S: Source>(alloc: Global, source: &mut S) -> Result<Bytes, ReadFau
             Ok(n) => {
                 bytes.extend(&buf[..n])?;
             }
-            Err(_) => return Err(ReadFault::Source),
+            Err(_) => return Err(Status::SourceFault),
         }
     }
 }
@@ -65,14 +39,8 @@ fn read_whole<S: Source>(alloc: Global, source: &mut S) -> Result<Bytes, ReadFau
 pub(crate) fn read_reports<S: Source>(alloc: Global, source: &mut S) -> Result<Reports, Status>
     ensures ok { IfOk result (Lists (shown S.left S.faults source.old source.new)) }
     ensures cause { IfErr result (ReportsCause (shown S.left S.faults source.old source.new)) }
-    ensures faults { S.faults source.old ≤ S.faults source.new }
 {
-    let input = match read_whole(alloc, source) {
-        Ok(input) => input,
-        Err(ReadFault::Source) => return Err(Status::SourceFault),
-        Err(ReadFault::TooLong) => return Err(Status::TooLong),
-        Err(ReadFault::NoMemory) => return Err(Status::NoMemory),
-    };
+    let input = read_whole(alloc, source)?;
     match read_lines(alloc, input.as_slice()) {
         Ok(reports) => Ok(reports),
         Err(LinesFault::Bad { line }) => Err(Status::BadLine { line }),

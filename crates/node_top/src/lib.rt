@@ -4,6 +4,7 @@
 
 mod announce;
 mod asked;
+mod call;
 mod check;
 mod input;
 mod lines;
@@ -13,7 +14,6 @@ mod output;
 mod peers;
 mod plain;
 mod printed;
-mod respond;
 mod seek;
 mod serve;
 mod sim;

@@ -1,11 +1,12 @@
 //! The command `lookup`: looks the target up, and makes the text of what it found.
-ghost use Rattle.std.specs.Prelude.{◌≡◌, ◌≤◌, ◌⊎◌, IfOk, IfErr};
+ghost use Rattle.std.specs.Prelude.{◌≡◌, ◌⊎◌, IfOk, IfErr};
 ghost use Rattle.node_top.specs.Endings.{EndsEarly, number_of};
 ghost use Rattle.node_top.specs.Looked.{LookupText, LookupCause, LookupBegun};
 ghost use Rattle.node_top.specs.Printed.{printed};
 ghost use Rattle.node_top.specs.Started.{IsInRange};
 ghost use Rattle.node_top.specs.Shown.{shown};
 
+use crate::call::Call;
 use crate::printed::print;
 use crate::seek::seek;
 use crate::status::Status;
@@ -13,7 +14,6 @@ use kad_base::{Bytes, Check, Link, NoMemory, Source};
 use kad_words::LookWords;
 use lookup_run::{AskKind, Outcome};
 use std::alloc::Global;
-use std::hash::RandomState;
 use std::sync::Wait;
 use std::thread::Threads;
 
@@ -40,26 +40,22 @@ pub(crate) fn lookup<R: Threads + Wait + Sync, S: Source, L: Link, C: Check + Sy
     look: &LookWords,
     source: &mut S,
     link: &mut L,
-    random: &[u8; 32],
-    check: &C,
-    hasher: RandomState,
+    call: &Call<'_, C>,
 ) -> Result<Bytes, Status>
     requires { IsInRange look.now }
-    ensures ok { IfOk result (LookupText AskKind.FindNode look.now random.now
+    ensures ok { IfOk result (LookupText AskKind.FindNode look.now call.now.random
         (shown S.left S.faults source.old source.new)
         (shown L.told L.recv_faults link.old link.new)) }
-    ensures cause { IfErr result (LookupCause AskKind.FindNode look.now random.now
+    ensures cause { IfErr result (LookupCause AskKind.FindNode look.now call.now.random
         (shown S.left S.faults source.old source.new)
         (shown L.told L.recv_faults link.old link.new)) }
     ensures no_memory { IfErr result (λ status. status ≡ Status.NoMemory →
-        LookupBegun AskKind.FindNode look.now random.now
+        LookupBegun AskKind.FindNode look.now call.now.random
         (shown S.left S.faults source.old source.new)
         (shown L.told L.recv_faults link.old link.new) ⊎ (link.new ≡ link.old)) }
     ensures early { IfErr result (λ status. EndsEarly (number_of status) → link.new ≡ link.old) }
-    ensures source_faults { S.faults source.old ≤ S.faults source.new }
-    ensures recv_faults { L.recv_faults link.old ≤ L.recv_faults link.new }
 {
     let kind = AskKind::FindNode;
-    let reached = seek(rt, alloc, kind, look, source, link, random, check, hasher)?;
+    let reached = seek(rt, alloc, kind, look, source, link, call)?;
     Ok(text_of(alloc, &reached.outcome)?)
 }

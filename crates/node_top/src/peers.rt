@@ -2,25 +2,24 @@
 //! port announces it to the contacts of the result.
 ghost use Rattle.std.specs.Prelude.{◌≡◌, ◌≤◌, ◌⊎◌, ◌+◌, ◌^◌, length, IfOk, IfErr, OnErr};
 ghost use Rattle.kad_base.specs.Outside.{Grows};
-ghost use Rattle.lookup_run.specs.declared.plain.AskKind.TheVariants.{GetPeers};
+ghost use Rattle.lookup_core.specs.declared.quest.AskKind.TheVariants.{GetPeers};
 ghost use Rattle.node_top.specs.Announced.{owed, Announces, AnnouncesSome, sent_in};
 ghost use Rattle.node_top.specs.Endings.{EndsEarly, number_of};
 ghost use Rattle.node_top.specs.Looked.{LookupCause};
 ghost use Rattle.node_top.specs.Peered.{PeersText, PeersBegun};
-ghost use Rattle.node_top.specs.Started.{own_of, IsInRange};
+ghost use Rattle.node_top.specs.Started.{IsInRange};
 ghost use Rattle.node_top.specs.Shown.{shown};
 
 use crate::announce::{Announced, announce};
+use crate::call::Call;
 use crate::printed::print_peers;
 use crate::seek::{Reached, seek};
-use crate::start::own_id;
 use crate::status::Status;
 use id_puzzles::Words;
-use kad_base::{Bytes, Check, Link, NoMemory, Source};
+use kad_base::{Bytes, Check, Id, Link, NoMemory, Source};
 use kad_words::LookWords;
 use lookup_run::{AskKind, Outcome};
 use std::alloc::Global;
-use std::hash::RandomState;
 use std::sync::Wait;
 use std::thread::Threads;
 
@@ -29,30 +28,23 @@ fn announce_told<L: Link>(
     alloc: Global,
     link: &mut L,
     words: &mut Words,
-    look: &LookWords,
+    own: Id,
+    key: Id,
     port: Option<u16>,
-    random: &[u8; 32],
     outcome: &Outcome,
 ) -> Result<usize, NoMemory>
     requires { words.old.place + length outcome.now.found ≤ 2 ^ 60 }
-    ensures ok { let all = owed port (own_of look.now.own random.now) look.now.target
-        outcome.now.found outcome.now.tokens in
+    ensures ok { let all = owed port own key outcome.now.found outcome.now.tokens in
         IfOk result (λ sent. Grows (L.told link.old) (L.told link.new)
         (λ es. Announces words.old.seed words.old.place all es × (sent ≡ sent_in es))) }
-    ensures err { let all = owed port (own_of look.now.own random.now) look.now.target
-        outcome.now.found outcome.now.tokens in
+    ensures err { let all = owed port own key outcome.now.found outcome.now.tokens in
         OnErr result (Grows (L.told link.old) (L.told link.new)
         (AnnouncesSome words.old.seed words.old.place all)) }
-    ensures recv_faults { L.recv_faults link.old ≤ L.recv_faults link.new }
 {
     let Some(port) = port else {
         return Ok(0);
     };
-    let announced = Announced {
-        own: own_id(look.own, random),
-        key: look.target,
-        port,
-    };
+    let announced = Announced { own, key, port };
     let found = outcome.found.as_slice();
     announce(
         alloc,
@@ -72,29 +64,29 @@ pub(crate) fn peers<R: Threads + Wait + Sync, S: Source, L: Link, C: Check + Syn
     port: Option<u16>,
     source: &mut S,
     link: &mut L,
-    random: &[u8; 32],
-    check: &C,
-    hasher: RandomState,
+    call: &Call<'_, C>,
 ) -> Result<Bytes, Status>
     requires { IsInRange look.now }
-    ensures ok { IfOk result (PeersText look.now port random.now
+    ensures ok { IfOk result (PeersText look.now port call.now.random
         (shown S.left S.faults source.old source.new)
         (shown L.told L.recv_faults link.old link.new)) }
-    ensures cause { IfErr result (LookupCause GetPeers look.now random.now
+    ensures cause { IfErr result (LookupCause GetPeers look.now call.now.random
         (shown S.left S.faults source.old source.new)
         (shown L.told L.recv_faults link.old link.new)) }
     ensures no_memory { IfErr result (λ status. status ≡ Status.NoMemory →
-        PeersBegun look.now port random.now
+        PeersBegun look.now port call.now.random
         (shown S.left S.faults source.old source.new)
         (shown L.told L.recv_faults link.old link.new) ⊎ (link.new ≡ link.old)) }
     ensures early { IfErr result (λ status. EndsEarly (number_of status) → link.new ≡ link.old) }
-    ensures source_faults { S.faults source.old ≤ S.faults source.new }
-    ensures recv_faults { L.recv_faults link.old ≤ L.recv_faults link.new }
 {
     let kind = AskKind::GetPeers;
-    let reached = seek(rt, alloc, kind, look, source, link, random, check, hasher)?;
-    let Reached { outcome, mut words } = reached;
-    let announced = announce_told(alloc, link, &mut words, look, port, random, &outcome)?;
+    let reached = seek(rt, alloc, kind, look, source, link, call)?;
+    let Reached {
+        own,
+        outcome,
+        mut words,
+    } = reached;
+    let announced = announce_told(alloc, link, &mut words, own, look.target, port, &outcome)?;
     Ok(print_peers(
         alloc,
         outcome.peers.as_slice(),

@@ -1,12 +1,14 @@
 //! The commands that take no link, and the top call that does them.
-ghost use Rattle.std.specs.Prelude.{◌≡◌, ◌≢◌, ◌≤◌, ◌⊎◌, ◌↔◌, None, IfOk, IfErr};
+ghost use Rattle.std.specs.Prelude.{◌≡◌, ◌≢◌, ◌≤◌, ◌↔◌, None, IfOk, IfErr, IsTrue};
+ghost use Rattle.kad_base.specs.declared.plain.Event.{Event};
 ghost use Rattle.node_top.specs.Asked.{AsksPlain, bytes_of};
-ghost use Rattle.node_top.specs.Shown.{shown, IsTold, HasFailed};
+ghost use Rattle.node_top.specs.Shown.{Shown, shown, nowhere, IsTold, HasFailed};
 ghost use Rattle.node_top.specs.Input.{HasBadLine, ReadsTooMuch};
-ghost use Rattle.node_top.specs.Plainly.{GoesPlainlyWell, HasNothing, HasPlainCause, HasPlainText, IsPlainCut, IsPlainDone, ReadsInput};
-ghost use Rattle.node_top.specs.Endings.{number_of, EndsByCommand, OrNoMemory, WritesLine};
+ghost use Rattle.node_top.specs.Commands.{promise_of, GoesPlainlyWell, HasCause, HasNothing, HasText, IsDone, ReadsInput};
+ghost use Rattle.node_top.specs.Endings.{number_of, CutShort, EndsByCommand, OrNoMemory, WritesLine};
 
 use crate::asked::asked;
+use crate::call::Call;
 use crate::check::check;
 use crate::mint::{mint, seed_for};
 use crate::output::{write_line, write_output};
@@ -17,35 +19,29 @@ use kad_words::{Command, takes_link};
 use std::alloc::Global;
 use std::hash::RandomState;
 
-/// Does the command that the words ask for, if it takes no link, and makes its output. Nothing is written yet.
+/// Does a command that takes no link, and makes its output. Nothing is written yet.
 pub(crate) fn plain_output_of<S: Source, C: Check>(
     alloc: Global,
-    words: &[String],
+    command: Command,
     source: &mut S,
-    random: &[u8; 32],
-    judge: &C,
-    hasher: RandomState,
+    call: &Call<'_, C>,
 ) -> Result<Bytes, Status>
-    ensures ok { IfOk result (HasPlainText (bytes_of words.now) random.now
-        (shown S.left S.faults source.old source.new)) }
-    ensures cause { IfErr result (HasPlainCause (bytes_of words.now) random.now
-        (shown S.left S.faults source.old source.new)) }
-    ensures unread { IfErr result (λ status. number_of status ≡ 2 → source.new ≡ source.old) }
-    ensures plain { ¬ AsksPlain (bytes_of words.now)
-        → IfErr result (λ status. number_of status ≡ 2) }
-    ensures no_input { ¬ ReadsInput (bytes_of words.now) → source.new ≡ source.old }
+    requires plain { ¬ IsTrue (promise_of command).links }
+    requires ranges { (promise_of command).ranges }
+    ensures ok { (link : Shown Event) → IfOk result ((promise_of command).text call.now.random
+        (shown S.left S.faults source.old source.new) link) }
+    ensures cause { (link : Shown Event) → IfErr result ((promise_of command).cause call.now.random
+        (shown S.left S.faults source.old source.new) link) }
+    ensures no_input { ¬ IsTrue (promise_of command).reads → source.new ≡ source.old }
 {
-    if takes_link(words) {
-        return Err(Status::Usage);
-    }
-    match asked(alloc, words)? {
-        Command::Check { policy } => check(alloc, policy, source, judge),
+    match command {
+        Command::Check { policy } => check(alloc, policy, source, call),
         Command::Mint {
             seed,
             c1,
             c2,
             tries,
-        } => mint(alloc, &seed_for(seed, random), c1, c2, tries),
+        } => mint(alloc, &seed_for(seed, &call.random), c1, c2, tries),
         Command::Sim {
             seed,
             nodes,
@@ -55,7 +51,7 @@ pub(crate) fn plain_output_of<S: Source, C: Check>(
             alpha,
             timeout,
         } => {
-            let seed = seed_for(seed, random);
+            let seed = seed_for(seed, &call.random);
             let simulation = Simulation {
                 seed,
                 nodes,
@@ -65,10 +61,36 @@ pub(crate) fn plain_output_of<S: Source, C: Check>(
                 alpha,
                 timeout,
             };
-            sim(alloc, &simulation, judge, hasher)
+            sim(alloc, &simulation, call)
         }
         _ => Err(Status::Usage),
     }
+}
+
+/// Does the command that the words ask for, if it takes no link, and makes its output. Nothing is written yet.
+fn asked_plainly<S: Source, C: Check>(
+    alloc: Global,
+    words: &[String],
+    source: &mut S,
+    call: &Call<'_, C>,
+) -> Result<Bytes, Status>
+    ensures asks { IfOk result (λ text. AsksPlain (bytes_of words.now)) }
+    ensures ok { IfOk result (HasText (bytes_of words.now) call.now.random
+        (shown S.left S.faults source.old source.new) nowhere) }
+    ensures cause { IfErr result (HasCause (AsksPlain (bytes_of words.now)) (bytes_of words.now)
+        call.now.random (shown S.left S.faults source.old source.new) nowhere) }
+    ensures unread { IfErr result (λ status. number_of status ≡ 2 → source.new ≡ source.old) }
+    ensures plain { ¬ AsksPlain (bytes_of words.now)
+        → IfErr result (λ status. number_of status ≡ 2) }
+    ensures no_input { ¬ ReadsInput (bytes_of words.now) → source.new ≡ source.old }
+    ensures no_link { IfErr result (λ status. (number_of status ≢ 4)
+        × (number_of status ≢ 7) × (number_of status ≢ 8)) }
+{
+    if takes_link(words) {
+        return Err(Status::Usage);
+    }
+    let command = asked(alloc, words)?;
+    plain_output_of(alloc, command, source, call)
 }
 
 /// Does the command that the words ask for, if it takes no link, and answers the status that the program ends with: what
@@ -81,16 +103,7 @@ pub(crate) fn plain_output_of<S: Source, C: Check>(
 /// `sim` reads nothing, looks up in a network in memory that is made from a seed, and writes the counts of the lookup and how
 /// many of the closest nodes that aren't hostile it found. It waits by the network's own clock, which takes no time.
 ///
-/// | Status | Line | When |
-/// |---|---|---|
-/// | 0 | the output | done |
-/// | 2 | `usage` | the words are not of the plain form, or ask for another command |
-/// | 3 | `bad line n` | line n is the first that is no contact line |
-/// | 5 | none | a write failed |
-/// | 6 | `source fault` | a read failed |
-/// | 9 | `no memory` | there was no memory |
-/// | 10 | `unminted` | no identifier was found within the tries |
-/// | 11 | `too long` | the input is longer than 1,048,576 bytes |
+/// The statuses and their lines are those of `run`. 2 comes also where the words ask for another command; 4, 7 and 8 don't come.
 pub fn run_plain<S: Source, K: Sink, C: Check>(
     alloc: Global,
     words: &[String],
@@ -101,8 +114,9 @@ pub fn run_plain<S: Source, K: Sink, C: Check>(
     hasher: RandomState,
 ) -> u8
     // The text that was written is the command's own.
-    ensures done { result ≡ 0 → IsPlainDone (bytes_of words.now) random.now
-        (shown S.left S.faults source.old source.new)
+    ensures done { result ≡ 0 → AsksPlain (bytes_of words.now)
+        × IsDone (bytes_of words.now) random.now
+        (shown S.left S.faults source.old source.new) nowhere
         (shown K.written K.faults sink.old sink.new) }
 
     // Words that ask for no such command end with 2, and only they.
@@ -137,8 +151,9 @@ pub fn run_plain<S: Source, K: Sink, C: Check>(
     ensures line { result ≢ 0 → result ≢ 5 → WritesLine result
         (shown S.left S.faults source.old source.new)
         (shown K.written K.faults sink.old sink.new) }
-    ensures cut_short { result ≡ 5 → IsPlainCut (bytes_of words.now) random.now
-        (shown S.left S.faults source.old source.new)
+    ensures cut_short { result ≡ 5 → AsksPlain (bytes_of words.now)
+        × CutShort (bytes_of words.now) random.now
+        (shown S.left S.faults source.old source.new) nowhere
         (shown K.written K.faults sink.old sink.new) }
 
     // The source was not called at 2, nor for a command that reads no input.
@@ -148,7 +163,12 @@ pub fn run_plain<S: Source, K: Sink, C: Check>(
         → EndsByCommand (bytes_of words.now) result }
     ensures statuses { (result ≤ 11) × (result ≢ 1) × (result ≢ 4) × (result ≢ 7) × (result ≢ 8) }
 {
-    match plain_output_of(alloc, words, source, random, check, hasher) {
+    let call = Call {
+        random: *random,
+        check,
+        hasher,
+    };
+    match asked_plainly(alloc, words, source, &call) {
         Ok(output) => write_output(sink, output.as_slice()),
         Err(status) => write_line(sink, &status),
     }

@@ -1,6 +1,6 @@
 //! What every command that looks up does first: it reads the contacts of the input, tells a new routing table of them, and
 //! looks up from its closest until every path has run out.
-ghost use Rattle.std.specs.Prelude.{◌≡◌, ◌≢◌, ◌≤◌, ◌⊎◌, [], IfOk, IfErr};
+ghost use Rattle.std.specs.Prelude.{◌≡◌, ◌≢◌, ◌⊎◌, [], IfOk, IfErr};
 ghost use Rattle.node_top.specs.Endings.{EndsEarly, number_of};
 ghost use Rattle.node_top.specs.Input.{Reads};
 ghost use Rattle.node_top.specs.Looked.{LookupCause, InputCause, LookupBegun};
@@ -8,6 +8,7 @@ ghost use Rattle.node_top.specs.Reached.{Reaches};
 ghost use Rattle.node_top.specs.Started.{IsInRange};
 ghost use Rattle.node_top.specs.Shown.{shown};
 
+use crate::call::Call;
 use crate::input::{admitted, read_reports};
 use crate::start::{FIRST_TX, setting_for, table_of};
 use crate::status::Status;
@@ -16,13 +17,13 @@ use kad_base::{Check, Contacts, Id, Link, Policy, Source};
 use kad_words::LookWords;
 use lookup_run::{AskKind, LookFault, Outcome, look_up};
 use std::alloc::Global;
-use std::hash::RandomState;
 use std::sync::Wait;
 use std::thread::Threads;
 
-/// What a lookup found, and the words from which its transaction ids were drawn, as far as they were.
+/// Who looked up, what was found, and the words from which its transaction ids were drawn, as far as they were.
 #[derive(Drop)]
 pub(crate) struct Reached {
+    pub own: Id,
     pub outcome: Outcome,
     pub words: Words,
 }
@@ -39,7 +40,6 @@ pub(crate) fn read_contacts<S: Source, C: Check>(
     ensures some_one { IfOk result (λ contacts. contacts ≢ []) }
     ensures cause { IfErr result (InputCause own.now policy
         (shown S.left S.faults source.old source.new)) }
-    ensures faults { S.faults source.old ≤ S.faults source.new }
 {
     let reports = read_reports(alloc, source)?;
     let contacts = admitted(alloc, own, policy, check, reports.as_slice())?;
@@ -57,32 +57,41 @@ pub(crate) fn seek<R: Threads + Wait + Sync, S: Source, L: Link, C: Check + Sync
     look: &LookWords,
     source: &mut S,
     link: &mut L,
-    random: &[u8; 32],
-    check: &C,
-    hasher: RandomState,
+    call: &Call<'_, C>,
 ) -> Result<Reached, Status>
     requires { IsInRange look.now }
-    ensures ok { IfOk result (Reaches kind look.now random.now
+    ensures ok { IfOk result (Reaches kind look.now call.now.random
         (shown S.left S.faults source.old source.new)
         (shown L.told L.recv_faults link.old link.new)) }
-    ensures cause { IfErr result (LookupCause kind look.now random.now
+    ensures cause { IfErr result (LookupCause kind look.now call.now.random
         (shown S.left S.faults source.old source.new)
         (shown L.told L.recv_faults link.old link.new)) }
     ensures no_memory { IfErr result (λ status. status ≡ Status.NoMemory →
-        LookupBegun kind look.now random.now
+        LookupBegun kind look.now call.now.random
         (shown S.left S.faults source.old source.new)
         (shown L.told L.recv_faults link.old link.new) ⊎ (link.new ≡ link.old)) }
     ensures early { IfErr result (λ status. EndsEarly (number_of status) → link.new ≡ link.old) }
-    ensures source_faults { S.faults source.old ≤ S.faults source.new }
-    ensures recv_faults { L.recv_faults link.old ≤ L.recv_faults link.new }
 {
-    let setting = setting_for(kind, look, random);
-    let contacts = read_contacts(alloc, source, &setting.own, setting.policy, check)?;
+    let setting = setting_for(kind, look, &call.random);
+    let contacts = read_contacts(alloc, source, &setting.own, setting.policy, call.check)?;
     let table = table_of(alloc, setting.own, look.k, look.bits, contacts.as_slice())?;
-    let mut words = Words::new(random, FIRST_TX);
-    let (_, ended) = look_up(rt, alloc, link, &mut words, table, &setting, check, hasher);
+    let mut words = Words::new(&call.random, FIRST_TX);
+    let (_, ended) = look_up(
+        rt,
+        alloc,
+        link,
+        &mut words,
+        table,
+        &setting,
+        call.check,
+        call.hasher,
+    );
     match ended {
-        Ok(outcome) => Ok(Reached { outcome, words }),
+        Ok(outcome) => Ok(Reached {
+            own: setting.own,
+            outcome,
+            words,
+        }),
         Err(LookFault::LinkFault) => Err(Status::LinkFault),
         Err(LookFault::Strays) => Err(Status::Strays),
         Err(LookFault::NoMemory) => Err(Status::NoMemory),

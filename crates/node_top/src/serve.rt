@@ -1,21 +1,21 @@
 //! The command `serve`: a node that answers queries, and in the end the text of how many datagrams came and how many
 //! replies it sent.
-ghost use Rattle.std.specs.Prelude.{◌≡◌, ◌≤◌, ◌⊎◌, IfOk, IfErr, string_bytes};
+ghost use Rattle.std.specs.Prelude.{◌≡◌, ◌⊎◌, IfOk, IfErr, string_bytes};
 ghost use Rattle.node_top.specs.Endings.{EndsEarly, number_of};
 ghost use Rattle.node_top.specs.Looked.{ReportsCause};
 ghost use Rattle.node_top.specs.Printed.{printed_served, served_text};
 ghost use Rattle.node_top.specs.Served.{Hosts, ServeBegun, ServeCause, ServeText};
-ghost use Rattle.node_top.specs.Started.{AreTableBounds};
+ghost use Rattle.node_top.specs.Started.{AreTableBounds, own_of};
 ghost use Rattle.node_top.specs.Shown.{shown};
 
+use crate::call::Call;
 use crate::input::{admitted, kept, read_reports};
 use crate::printed::add_line;
-use crate::respond::{Server, receive_all};
 use crate::start::{own_id, table_of};
 use crate::status::Status;
 use contact_table::Table;
 use kad_base::{Bytes, Check, Id, Link, List, NoMemory, Policy, Reports, Source};
-use node_serve::Node;
+use node_serve::{Node, ServeFault, serve_loop};
 use std::alloc::{AllocError, Global};
 
 /// What the words of `serve` say: the node's own identifier where they name it, Kademlia's k and b, which contacts pass,
@@ -40,21 +40,20 @@ struct Host {
 fn read_host<S: Source, C: Check>(
     alloc: Global,
     service: &Service,
+    own: Id,
     source: &mut S,
-    random: &[u8; 32],
-    check: &C,
+    call: &Call<'_, C>,
 ) -> Result<Host, Status>
-    requires { AreTableBounds service.now.k service.now.bits }
-    ensures ok { IfOk result (λ host. Hosts service.now random.now
+    requires ranges { AreTableBounds service.now.k service.now.bits }
+    requires own { own ≡ own_of service.now.own call.now.random }
+    ensures ok { IfOk result (λ host. Hosts service.now call.now.random
         (shown S.left S.faults source.old source.new) host.table host.proofs) }
     ensures cause { IfErr result (ReportsCause (shown S.left S.faults source.old source.new)) }
-    ensures source_faults { S.faults source.old ≤ S.faults source.new }
 {
-    let own = own_id(service.own, random);
     let reports = read_reports(alloc, source)?;
     let read = reports.as_slice();
-    let contacts = admitted(alloc, &own, service.policy, check, read)?;
-    let proofs = kept(alloc, &own, service.policy, check, read)?;
+    let contacts = admitted(alloc, &own, service.policy, call.check, read)?;
+    let proofs = kept(alloc, &own, service.policy, call.check, read)?;
     let table = table_of(alloc, own, service.k, service.bits, contacts.as_slice())?;
     Ok(Host { table, proofs })
 }
@@ -84,25 +83,24 @@ pub(crate) fn serve<S: Source, L: Link, C: Check>(
     service: &Service,
     source: &mut S,
     link: &mut L,
-    random: &[u8; 32],
-    check: &C,
+    call: &Call<'_, C>,
 ) -> Result<Bytes, Status>
     requires { AreTableBounds service.now.k service.now.bits }
-    ensures ok { IfOk result (ServeText service.now random.now
+    ensures ok { IfOk result (ServeText service.now call.now.random
         (shown S.left S.faults source.old source.new)
         (shown L.told L.recv_faults link.old link.new)) }
-    ensures cause { IfErr result (ServeCause service.now random.now
+    ensures cause { IfErr result (ServeCause service.now call.now.random
         (shown S.left S.faults source.old source.new)
         (shown L.told L.recv_faults link.old link.new)) }
     ensures no_memory { IfErr result (λ status. status ≡ Status.NoMemory →
-        ServeBegun service.now random.now
+        ServeBegun service.now call.now.random
         (shown S.left S.faults source.old source.new)
         (shown L.told L.recv_faults link.old link.new) ⊎ (link.new ≡ link.old)) }
     ensures early { IfErr result (λ status. EndsEarly (number_of status) → link.new ≡ link.old) }
 {
-    let host = read_host(alloc, service, source, random, check)?;
+    let own = own_id(service.own, &call.random);
+    let host = read_host(alloc, service, own, source, call)?;
     let Host { table, proofs } = host;
-    let own = own_id(service.own, random);
     let began = link.now();
     let node = Node::new(
         alloc,
@@ -111,18 +109,13 @@ pub(crate) fn serve<S: Source, L: Link, C: Check>(
         service.policy,
         table,
         proofs,
-        random,
+        &call.random,
         began,
     );
-    let mut server = Server {
-        node,
-        moment: began,
-        received: 0,
-        replied: 0,
+    let counts = match serve_loop(link, node, began, service.receives) {
+        Ok(counts) => counts,
+        Err(ServeFault::LinkFault) => return Err(Status::LinkFault),
+        Err(ServeFault::NoMemory) => return Err(Status::NoMemory),
     };
-    match receive_all(link, &mut server, service.receives) {
-        Ok(()) => {}
-        Err(status) => return Err(status),
-    }
-    Ok(text_of(alloc, server.received, server.replied)?)
+    Ok(text_of(alloc, counts.received, counts.replied)?)
 }

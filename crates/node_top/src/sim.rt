@@ -6,6 +6,7 @@ ghost use Rattle.fake_net.specs.Network.{numbers};
 ghost use Rattle.node_top.specs.Printed.{line_of};
 ghost use Rattle.node_top.specs.Simulated.{network_of, look_to, IsSimulable, report_of, count_among, sim_text, Begins, SimText};
 
+use crate::call::Call;
 use crate::input::admitted;
 use crate::printed::add_line;
 use crate::start::{FIRST_TX, setting_for, table_of};
@@ -17,7 +18,6 @@ use kad_base::{Bytes, Check, Contact, Contacts, Id, List, NoMemory, Policy, Repo
 use kad_words::LookWords;
 use lookup_run::{AskKind, LookFault, LookSetting, Outcome, look_up_alone};
 use std::alloc::{AllocError, Global};
-use std::hash::RandomState;
 
 /// What a network is made from, and how is looked up in it.
 #[derive(Clone, Copy, Debug)]
@@ -171,8 +171,7 @@ fn begin<C: Check>(
 pub(crate) fn sim<C: Check>(
     alloc: Global,
     simulation: &Simulation,
-    check: &C,
-    hasher: RandomState,
+    call: &Call<'_, C>,
 ) -> Result<Bytes, Status>
     requires { IsSimulable simulation.now }
     ensures ok { IfOk result (SimText simulation.now) }
@@ -184,14 +183,22 @@ pub(crate) fn sim<C: Check>(
         simulation.nodes,
         simulation.hostile,
     )?;
-    let start = begin(alloc, simulation, &net, check)?;
+    let start = begin(alloc, simulation, &net, call.check)?;
     let Start {
         setting,
         table,
         near,
     } = start;
     let mut words = Words::new(&simulation.seed, FIRST_TX);
-    let (_, ended) = look_up_alone(alloc, &mut net, &mut words, table, &setting, check, hasher);
+    let (_, ended) = look_up_alone(
+        alloc,
+        &mut net,
+        &mut words,
+        table,
+        &setting,
+        call.check,
+        call.hasher,
+    );
     if net.short() {
         return Err(Status::NoMemory);
     }

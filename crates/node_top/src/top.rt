@@ -1,14 +1,13 @@
 //! The top call: one command, its output and its status.
-ghost use Rattle.std.specs.Prelude.{◌≡◌, ◌≢◌, ◌≤◌, ◌⊎◌, ◌↔◌, None, IfOk, IfErr};
-ghost use Rattle.kad_words.specs.Bound.{TakesLink};
+ghost use Rattle.std.specs.Prelude.{◌≡◌, ◌≢◌, ◌≤◌, ◌⊎◌, ◌↔◌, None, IfOk, IfErr, IsTrue};
 ghost use Rattle.node_top.specs.Asked.{Asks, AsksPlain, bytes_of};
 ghost use Rattle.node_top.specs.Shown.{shown, IsTold, HasFailed};
 ghost use Rattle.node_top.specs.Input.{HasBadLine, ReadsTooMuch};
-ghost use Rattle.node_top.specs.Plainly.{HasNothing, ReadsInput};
-ghost use Rattle.node_top.specs.Commands.{IsDone, HasText, HasCause, HasBegun, HasNoSeeds, HasSeeds, HasStart, HasStrays, GoesWell};
+ghost use Rattle.node_top.specs.Commands.{promise_of, IsDone, HasText, HasCause, HasBegun, HasNoSeeds, HasNothing, HasSeeds, HasStart, HasStrays, GoesWell, ReadsInput};
 ghost use Rattle.node_top.specs.Endings.{number_of, WritesLine, CutShort, EndsByCommand, EndsEarly, OrNoMemory};
 
 use crate::asked::asked;
+use crate::call::Call;
 use crate::lookup::lookup;
 use crate::output::{write_line, write_output};
 use crate::peers::peers;
@@ -16,45 +15,40 @@ use crate::plain::plain_output_of;
 use crate::serve::{Service, serve};
 use crate::status::Status;
 use kad_base::{Bytes, Check, Link, Sink, Source};
-use kad_words::{Command, takes_link};
+use kad_words::Command;
 use std::alloc::Global;
 use std::hash::RandomState;
 use std::sync::Wait;
 use std::thread::Threads;
 
-/// Does the command that the words ask for over a link, and makes its output. Nothing is written yet.
-fn linked_output_of<R: Threads + Wait + Sync, S: Source, L: Link, C: Check + Sync>(
+/// Does a command, and makes its output. Nothing is written yet.
+fn output_of<R: Threads + Wait + Sync, S: Source, L: Link, C: Check + Sync>(
     rt: &R,
     alloc: Global,
-    words: &[String],
+    command: Command,
     source: &mut S,
     link: &mut L,
-    random: &[u8; 32],
-    check: &C,
-    hasher: RandomState,
+    call: &Call<'_, C>,
 ) -> Result<Bytes, Status>
-    requires { TakesLink (bytes_of words.now) }
-    ensures ok { IfOk result (HasText (bytes_of words.now) random.now
+    requires ranges { (promise_of command).ranges }
+    ensures ok { IfOk result ((promise_of command).text call.now.random
         (shown S.left S.faults source.old source.new)
         (shown L.told L.recv_faults link.old link.new)) }
-    ensures unread { IfErr result (λ status. number_of status ≡ 2 → source.new ≡ source.old) }
+    ensures cause { IfErr result ((promise_of command).cause call.now.random
+        (shown S.left S.faults source.old source.new)
+        (shown L.told L.recv_faults link.old link.new)) }
     ensures early { IfErr result (λ status. EndsEarly (number_of status) → link.new ≡ link.old) }
     ensures no_memory { IfErr result (λ status. status ≡ Status.NoMemory →
-        HasBegun (bytes_of words.now) random.now
+        (promise_of command).begun call.now.random
         (shown S.left S.faults source.old source.new)
         (shown L.told L.recv_faults link.old link.new) ⊎ (link.new ≡ link.old)) }
-    ensures cause { IfErr result (HasCause (bytes_of words.now) random.now
-        (shown S.left S.faults source.old source.new)
-        (shown L.told L.recv_faults link.old link.new)) }
-    ensures plain { ¬ Asks (bytes_of words.now) → IfErr result (λ status. number_of status ≡ 2) }
-    ensures no_input { ¬ ReadsInput (bytes_of words.now) → source.new ≡ source.old }
+    ensures no_input { ¬ IsTrue (promise_of command).reads → source.new ≡ source.old }
+    ensures no_link { ¬ IsTrue (promise_of command).links → link.new ≡ link.old }
 {
-    match asked(alloc, words)? {
-        Command::Lookup { look } => lookup(rt, alloc, &look, source, link, random, check, hasher),
+    match command {
+        Command::Lookup { look } => lookup(rt, alloc, &look, source, link, call),
         Command::Peers { look, announce } => {
-            peers(
-                rt, alloc, &look, announce, source, link, random, check, hasher,
-            )
+            peers(rt, alloc, &look, announce, source, link, call)
         }
         Command::Serve {
             own,
@@ -70,43 +64,40 @@ fn linked_output_of<R: Threads + Wait + Sync, S: Source, L: Link, C: Check + Syn
                 policy,
                 receives,
             };
-            serve(alloc, &service, source, link, random, check)
+            serve(alloc, &service, source, link, call)
         }
-        _ => Err(Status::Usage),
+        other => plain_output_of(alloc, other, source, call),
     }
 }
 
 /// Does the command that the words ask for, and makes its output. Nothing is written yet.
-fn output_of<R: Threads + Wait + Sync, S: Source, L: Link, C: Check + Sync>(
+fn asked_output<R: Threads + Wait + Sync, S: Source, L: Link, C: Check + Sync>(
     rt: &R,
     alloc: Global,
     words: &[String],
     source: &mut S,
     link: &mut L,
-    random: &[u8; 32],
-    check: &C,
-    hasher: RandomState,
+    call: &Call<'_, C>,
 ) -> Result<Bytes, Status>
-    ensures ok { IfOk result (HasText (bytes_of words.now) random.now
+    ensures ok { IfOk result (HasText (bytes_of words.now) call.now.random
+        (shown S.left S.faults source.old source.new)
+        (shown L.told L.recv_faults link.old link.new)) }
+    ensures cause { IfErr result (HasCause (Asks (bytes_of words.now)) (bytes_of words.now)
+        call.now.random
         (shown S.left S.faults source.old source.new)
         (shown L.told L.recv_faults link.old link.new)) }
     ensures unread { IfErr result (λ status. number_of status ≡ 2 → source.new ≡ source.old) }
     ensures early { IfErr result (λ status. EndsEarly (number_of status) → link.new ≡ link.old) }
     ensures no_memory { IfErr result (λ status. status ≡ Status.NoMemory →
-        HasBegun (bytes_of words.now) random.now
+        HasBegun (bytes_of words.now) call.now.random
         (shown S.left S.faults source.old source.new)
         (shown L.told L.recv_faults link.old link.new) ⊎ (link.new ≡ link.old)) }
-    ensures cause { IfErr result (HasCause (bytes_of words.now) random.now
-        (shown S.left S.faults source.old source.new)
-        (shown L.told L.recv_faults link.old link.new)) }
     ensures plain { ¬ Asks (bytes_of words.now) → IfErr result (λ status. number_of status ≡ 2) }
     ensures no_input { ¬ ReadsInput (bytes_of words.now) → source.new ≡ source.old }
     ensures no_link { AsksPlain (bytes_of words.now) → link.new ≡ link.old }
 {
-    if takes_link(words) {
-        return linked_output_of(rt, alloc, words, source, link, random, check, hasher);
-    }
-    plain_output_of(alloc, words, source, random, check, hasher)
+    let command = asked(alloc, words)?;
+    output_of(rt, alloc, command, source, link, call)
 }
 
 /// Does the command that the words ask for, and answers the status that the program ends with. `words` are those after
@@ -219,7 +210,12 @@ pub fn run<R: Threads + Wait + Sync, S: Source, K: Sink, L: Link, C: Check + Syn
     ensures by_command { EndsByCommand (bytes_of words.now) result }
     ensures statuses { (result ≤ 11) × (result ≢ 1) }
 {
-    match output_of(rt, alloc, words, source, link, random, check, hasher) {
+    let call = Call {
+        random: *random,
+        check,
+        hasher,
+    };
+    match asked_output(rt, alloc, words, source, link, &call) {
         Ok(output) => write_output(sink, output.as_slice()),
         Err(status) => write_line(sink, &status),
     }

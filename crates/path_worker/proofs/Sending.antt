@@ -4,7 +4,7 @@ use denote.Struct.Declared.{row}
 use Rattle.std.proofs.Crossing.{crosses}
 use Rattle.kad_base.proofs.plain.Policy.TheSendSync.{the_field_send as policy_send}
 use Rattle.kad_base.proofs.plain.NoMemory.TheSendSync.{the_send as no_memory_send}
-use Rattle.bucket_tree.proofs.row.Row.TheSendSync.{the_send as row_send}
+use Rattle.bucket_tree.proofs.bucket.Bucket.TheSendSync.{the_send as row_send}
 use Rattle.bucket_tree.proofs.node.Node.TheLaws.TheKnot.{send-Node as node_send}
 use Rattle.bucket_tree.specs.contracts.buckets.Buckets.{the_row as buckets_row}
 use Rattle.sibling_list.proofs.Siblings.TheSendSync.{the_send as siblings_send}

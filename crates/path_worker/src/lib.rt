@@ -7,8 +7,6 @@ mod alone;
 mod calls;
 mod crew;
 mod deal;
-#[cfg(test)]
-mod tests;
 mod together;
 mod worker;
 

@@ -1,3 +1,4 @@
 pub mod Between
 pub mod Peers
+pub mod PeersStep
 pub mod Tokens

@@ -3,11 +3,14 @@
 #![tactic(auto)]
 
 mod adds;
+mod calls;
 mod ends;
 mod peers;
+mod steps;
 #[cfg(test)]
 mod tests;
 mod tokens;
 
+pub use calls::{PeerCall, PeerReply};
 pub use peers::{PeerFault, Peers, Stored};
 pub use tokens::Tokens;

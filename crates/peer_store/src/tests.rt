@@ -1,7 +1,7 @@
 //! Peers at both ends of their times and of their number, with ample memory, and tokens by another program's ChaCha20
 //! and SHA-1.
-use crate::{PeerFault, Peers, Stored, Tokens};
-use kad_base::{Addr, Id, Ip};
+use crate::{PeerCall, PeerFault, PeerReply, Peers, Stored, Tokens};
+use kad_base::{Addr, Id, Ip, Serial};
 use std::test::Fail;
 
 const HALF_AN_HOUR: u64 = 1_800_000;
@@ -144,6 +144,50 @@ fn as_many_pairs_as_may_be(rt: HostRuntime) -> Result<(), Fail> {
     peers.purge(HALF_AN_HOUR);
     assert!(&rt; peers.list(key(1), 0)?.as_slice() == [at_port(7)].as_slice());
     assert!(&rt; peers.add(key(1), peer(1), HALF_AN_HOUR) == Ok(Stored::New));
+    Ok(())
+}
+
+/// Whether the call of the peers that adds one more at the moment is replied to so.
+fn is_put(peers: &mut Peers, peer: Addr, at: u64, reply: PeerReply) -> bool {
+    let key = key(1);
+    peers.apply(0, PeerCall::Put { key, peer, at }) == reply
+}
+
+#[test]
+fn calls_are_replied_to(rt: HostRuntime) -> Result<(), Fail> {
+    let mut peers = Peers::new(rt.alloc());
+    let new = PeerReply::Stored {
+        stored: Stored::New,
+    };
+    assert!(&rt; is_put(&mut peers, peer(1), 0, new));
+    let renewed = PeerReply::Stored {
+        stored: Stored::Renewed,
+    };
+    assert!(&rt; is_put(&mut peers, peer(1), 1, renewed));
+    let dropped = PeerReply::Stored {
+        stored: Stored::New,
+    };
+    assert!(&rt; is_put(&mut peers, peer(1), HALF_AN_HOUR + 1, dropped));
+    Ok(())
+}
+
+/// The peers of a key, where there is memory to list them.
+fn listed(peers: &mut Peers, n: u8, at: u64) -> Option<Vec<Addr>> {
+    match peers.apply(0, PeerCall::List { key: key(n), at }) {
+        PeerReply::Listed { list } => Some(list.into_vec()),
+        _ => None,
+    }
+}
+
+#[test]
+fn a_call_for_a_full_store_is_refused(rt: HostRuntime) -> Result<(), Fail> {
+    let mut peers = Peers::new(rt.alloc());
+    fill(&mut peers)?;
+    assert!(&rt; is_put(&mut peers, peer(1), 0, PeerReply::Full));
+    let some = listed(&mut peers, 1, 0).map(|list| list.len());
+    assert_eq!(rt; some, Some(50));
+    let none = listed(&mut peers, 2, 0).map(|list| list.len());
+    assert_eq!(rt; none, Some(0));
     Ok(())
 }
 

@@ -3,16 +3,13 @@
 //! After `new` it takes no memory, and it knows no bucket and no socket.
 #![tactic(auto)]
 
-#[cfg(test)]
-mod tests;
-
-ghost use Rattle.std.specs.Prelude.{◌≡◌, [], not, IfOk};
+ghost use Rattle.std.specs.Prelude.{◌≡◌, ◌↔◌, [], not, IfOk, IsTrue, MatchOption};
 ghost use Rattle.std.specs.Str.{bytes_eq};
 ghost use Rattle.kad_base.specs.Contacts.{same};
 ghost use Rattle.sibling_list.specs.Siblings.{IsSiblings, with_one, without_one};
 
 use kad_base::limits::MAX_SIBLINGS;
-use kad_base::{Contact, Id, NoMemory};
+use kad_base::{Contact, Contacts, Id, List, NoMemory};
 use kad_distance::put_closest;
 use std::alloc::Global;
 use std::marker::Model;
@@ -43,6 +40,30 @@ impl Siblings {
     {
         let contacts = Vec::with_capacity(alloc, MAX_SIBLINGS)?;
         Ok(Siblings { own, contacts })
+    }
+
+    /// The siblings that are these contacts, in this order. None where they aren't siblings of that node: there are more
+    /// than `MAX_SIBLINGS`, one has the own identifier, or one isn't closer to it than the next.
+    pub fn of_list(alloc: Global, own: Id, list: &[Contact]) -> Result<Option<Siblings>, NoMemory>
+        ensures { IfOk result (λ siblings. MatchOption siblings
+            (¬ IsSiblings (record { own = own; list = list.now }))
+            (λ siblings. siblings ≡ record { own = own; list = list.now })) }
+    {
+        let mut siblings = Siblings::new(alloc, own)?;
+        for contact in list {
+            siblings.insert(*contact);
+        }
+        if !are_same(siblings.list(), list) {
+            return Ok(None);
+        }
+        Ok(Some(siblings))
+    }
+
+    /// The siblings in memory of their own, nearest first.
+    pub fn contacts(&self) -> Result<Contacts, NoMemory>
+        ensures { IfOk result (λ contacts. contacts ≡ self.now.list) }
+    {
+        Ok(List::from_vec(self.contacts.clone()?))
     }
 
     /// The siblings, nearest first.
@@ -79,6 +100,13 @@ fn is_own(id: &Id, own: &Id) -> bool
     ensures { result ≡ bytes_eq id.now.0 own.now.0 }
 {
     id.0 == own.0
+}
+
+/// Whether the two lists have the same contacts, in the same order.
+fn are_same(a: &[Contact], b: &[Contact]) -> bool
+    ensures { IsTrue result ↔ (a.now ≡ b.now) }
+{
+    a == b
 }
 
 /// Whether these are two contacts.

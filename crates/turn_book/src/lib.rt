@@ -13,8 +13,6 @@ mod calls;
 mod lock;
 mod row;
 mod seats;
-#[cfg(test)]
-mod tests;
 mod threads;
 
 pub use lock::{Told, Turn, TurnNoMemory};

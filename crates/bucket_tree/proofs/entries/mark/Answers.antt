@@ -1,16 +1,16 @@
 use Rattle.std.proofs.Common.{◌≡◌, ℕ, zero, suc, ◌+◌, ◌<◌, List, ◌++◌, ◌∷◌, [], length, take, drop, map, get_or, set, refl, sym, ap, ◌∙◌, arith, add-one}
-use Rattle.bucket_tree.specs.declared.plain.Entry.{Entry}
+use Rattle.bucket_tree.specs.declared.plain.Live.{Live}
 use Rattle.bucket_tree.specs.Steps.{mark}
 use Rattle.bucket_tree.proofs.entries.mark.Goals as goal
 
-set_one : (f : Entry → Entry) (xs : List Entry) (i : ℕ) (d : Entry) → i < length xs → set (map f (take i xs) ++ drop i xs) i (f (get_or (map f (take i xs) ++ drop i xs) i d)) ≡ map f (take (suc i) xs) ++ drop (suc i) xs
+set_one : (f : Live → Live) (xs : List Live) (i : ℕ) (d : Live) → i < length xs → set (map f (take i xs) ++ drop i xs) i (f (get_or (map f (take i xs) ++ drop i xs) i d)) ≡ map f (take (suc i) xs) ++ drop (suc i) xs
 set_one f [] i d lt = absurd (omega arith)
 set_one f (x ∷ xs) zero d lt = refl
-set_one f (x ∷ xs) (suc i) d lt = ap (λ (l : List Entry). f x ∷ l) (set_one f xs i d (omega arith))
+set_one f (x ∷ xs) (suc i) d lt = ap (λ (l : List Live). f x ∷ l) (set_one f xs i d (omega arith))
 
-marked_next : (f : Entry → Entry) (xs ys : List Entry) (i : ℕ) (d r : Entry) → ys ≡ map f (take i xs) ++ drop i xs → i < length xs → d ≡ get_or ys i d → r ≡ f d → set ys i r ≡ map f (take (i + 1) xs) ++ drop (i + 1) xs
+marked_next : (f : Live → Live) (xs ys : List Live) (i : ℕ) (d r : Live) → ys ≡ map f (take i xs) ++ drop i xs → i < length xs → d ≡ get_or ys i d → r ≡ f d → set ys i r ≡ map f (take (i + 1) xs) ++ drop (i + 1) xs
 marked_next f xs ys i d r e lt is one =
-    ap (set ys i) (one ∙ ap f is) ∙ ap (λ (l : List Entry). set l i (f (get_or l i d))) e ∙ set_one f xs i d lt ∙ ap (λ (n : ℕ). map f (take n xs) ++ drop n xs) (sym (add-one i))
+    ap (set ys i) (one ∙ ap f is) ∙ ap (λ (l : List Live). set l i (f (get_or l i d))) e ∙ set_one f xs i d lt ∙ ap (λ (n : ℕ). map f (take n xs) ++ drop n xs) (sym (add-one i))
 
 pub loop-at-preserved : goal.loop-at-preserved
 loop-at-preserved c = record {

@@ -1,5 +1,5 @@
 use Rattle.std.proofs.Common.{◌∙◌}
-use Rattle.kad_krpc.specs.Reading.{announced_by}
+use Rattle.kad_krpc.specs.Asking.{announced_by}
 use Rattle.kad_krpc.proofs.ask.read_announce_peer.Goals as goal
 
 pub returns : goal.returns

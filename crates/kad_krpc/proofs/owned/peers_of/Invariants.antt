@@ -1,6 +1,6 @@
 use Rattle.std.proofs.Common.{◌≡◌, ◌++◌, flat_map, length, option_to_list}
 use Rattle.kad_bencode.specs.Parts.{bytes_of}
-use Rattle.kad_krpc.specs.Reading.{peer_in}
+use Rattle.kad_krpc.specs.Fields.{peer_in}
 use Rattle.kad_krpc.proofs.owned.peers_of.Given as goal
 
 -- the peers so far, and those among the values that are left

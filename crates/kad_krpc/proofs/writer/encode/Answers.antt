@@ -1,22 +1,19 @@
-use Rattle.std.proofs.Common.{◌≤◌, ◌++◌, sym, ap, ◌∙◌, subst}
-use Rattle.kad_bencode.specs.Spelling.{depth_of, text_of}
+use Rattle.std.proofs.Common.{◌≡◌, length, sym, ◌∙◌, subst, arith}
 use Rattle.kad_bencode.specs.declared.value.Value.TheVariants.{Dict}
 use Rattle.kad_krpc.specs.Form.{form, message_pairs}
 use Rattle.kad_krpc.specs.Reading.{Says}
-use Rattle.kad_krpc.proofs.Shallow.{shallow}
+use Rattle.kad_krpc.proofs.Put.{measured, all_put, whole_vec}
 use Rattle.kad_krpc.proofs.Spelled.{spelled}
 use Rattle.kad_krpc.proofs.ReadBack.{said_back}
 use Rattle.kad_krpc.proofs.writer.encode.Goals as goal
 
-pub write-requires : goal.write-requires
-write-requires c = subst (λ ps. depth_of (Dict ps) ≤ 16) (sym c.in_ok-pairs_of.ensures)
-    (shallow c.args.message.now)
-
 pub returns-clause-form : goal.returns-clause-form
-unfolding form
-returns-clause-form c = c.from_vec.ensures ∙ c.in_ok-write.ensures.ok
-    ∙ ap (λ l. l ++ text_of (Dict c.in_ok-pairs_of.field-0)) c.new-bytes.ensures.items
-    ∙ ap (λ ps. text_of (Dict ps)) c.in_ok-pairs_of.ensures
+returns-clause-form c =
+    let measure = measured c.put_message-length.ensures c.if-length.false in
+    let room = c.put_message-end.ensures.room in
+    let there : length c.as_mut_slice.result.now ≡ c.put_message-length.result = grind arith in
+    whole_vec c.from_vec.result c.put_message-end.new.buf _ c.in_ok-bytes.bytes.len (grind (arith, room, there)) c.from_vec.ensures
+    ∙ all_put there measure (omega arith) c.put_message-end.ensures
 
 pub returns-clause-says : goal.returns-clause-says
 unfolding form

@@ -6,4 +6,4 @@ abbrev pub invariant-loop-contact : goal.invariant-loop-contact
 invariant-loop-contact l = Expiring l.at l.fn.work l.work
 
 abbrev pub decreases-loop-contact : goal.decreases-loop-contact
-decreases-loop-contact l = length l.work.queries
+decreases-loop-contact l = length l.work.lookup.queries

@@ -8,8 +8,9 @@ use Rattle.lookup_run.specs.declared.plain.Work.{Work}
 use Rattle.lookup_run.specs.declared.plain.LookFault.TheVariants.{Strays}
 use Rattle.lookup_run.proofs.Early.{stops_of, ends_by_stray, on_err_of, passed_on}
 use Rattle.lookup_run.proofs.Fewer.{few_still}
-use Rattle.lookup_run.proofs.Receiving.{stray_of, datagram_receives, datagram_opens, quiet_receives}
+use Rattle.lookup_run.proofs.Receiving.{stray_of, datagram_receives, quiet_receives}
 use Rattle.lookup_run.proofs.receive.receive.Goals as goal
+use Rattle.lookup_run.specs.Lookup.{quest_of}
 
 pub returns-in_err-take_datagram-in-Ok-Packet-clause-stops : goal.returns-in_err-take_datagram-in-Ok-Packet-clause-stops
 returns-in_err-take_datagram-in-Ok-Packet-clause-stops g c =
@@ -17,7 +18,7 @@ returns-in_err-take_datagram-in-Ok-Packet-clause-stops g c =
     let old : Work = c.args.work.now in
     let grows = rw p.field-0-is at p.ensures.ok in
     on_err_of c.from_residual.result (λ (words : WordsState). stops_of c.args.look.now words old c.take_datagram.new.work _ _
-    (subst (λ (s : Setting). Legal s old.book.journal) c.requires.may_receive.keeps.setting c.legal.ensures) c.take_datagram.ensures.table
+    (subst (λ (s : Setting). Legal s old.lookup.book.journal) c.requires.may_receive.keeps.setting c.legal.ensures) c.take_datagram.ensures.table
     (grows_weaker _ _ _ _ grows (λ es is. inr (p.from, take p.len c.recv.new.buf, c.wait_until-until.result, p.at, is))))
 
 pub returns-in_err-take_datagram-in-Ok-Packet-clause-strays : goal.returns-in_err-take_datagram-in-Ok-Packet-clause-strays
@@ -28,12 +29,10 @@ returns-in_err-take_datagram-in-Ok-Packet-clause-strays g c is words =
     let f = c.in_err-take_datagram-in-Ok-Packet in
     let out = err_from_is_err_and c.from_residual.result c.from_residual.ensures.1 in
     let last = f.ensures.strays (passed_on Strays c.from_residual.result out.0 f.field-0.0 out.1 out.2 is) in
-    ends_by_stray c.args.look.now words old _ _ p.from (take p.len c.recv.new.buf) c.wait_until-until.result p.at (λ s queries. stray_of old s p.from (take p.len c.recv.new.buf) queries last.none) grows last.last
+    ends_by_stray c.args.look.now words old _ _ p.from (take p.len c.recv.new.buf) c.wait_until-until.result p.at (λ s queries. stray_of (quest_of c.args.look.now) old s p.from (take p.len c.recv.new.buf) queries last.none) grows last.last
 
 pub expire-requires : goal.expire-requires
-expire-requires g c =
-    let p = c.in-Ok-Packet in
-    datagram_opens c.args.look.now p.from (take p.len c.recv.new.buf) c.args.work.now c.take_datagram.new.work c.requires.may_receive.keeps c.legal.ensures c.in_ok-take_datagram-in-Ok-Packet.ensures.ok
+expire-requires g c = c.in_ok-take_datagram-in-Ok-Packet.ensures.holds
 
 pub returns-in_ok-take_datagram-in-Ok-Packet-clause-ok : goal.returns-in_ok-take_datagram-in-Ok-Packet-clause-ok
 returns-in_ok-take_datagram-in-Ok-Packet-clause-ok g c =
@@ -59,7 +58,7 @@ returns-in-Ok-Quiet-clause-ok g c =
 pub returns-in-Err-clause-stops : goal.returns-in-Err-clause-stops
 returns-in-Err-clause-stops g c words =
     let old : Work = c.args.work.now in
-    stops_of c.args.look.now words old old _ _ (subst (λ (s : Setting). Legal s old.book.journal) c.requires.may_receive.keeps.setting c.legal.ensures) refl
+    stops_of c.args.look.now words old old _ _ (subst (λ (s : Setting). Legal s old.lookup.book.journal) c.requires.may_receive.keeps.setting c.legal.ensures) refl
     (grows_weaker _ _ _ _ c.in-Err.ensures.err (λ es is. inl is))
 
 pub returns-in-Err-clause-few : goal.returns-in-Err-clause-few

@@ -8,4 +8,4 @@ returns-in-Ok-clause-ok g c manner told = settles_path manner _ _ _ _ told c.req
 pub returns-in-Err-clause-ran : goal.returns-in-Err-clause-ran
 returns-in-Err-clause-ran g c =
     let work = c.args.work.now in
-    ran_by c.args.path work (record work { book = c.settle_alone.new.book; table = c.settle_alone.new.table }) c.in-Err.ensures.err.settling
+    ran_by c.args.path work (record work { lookup = record { book = c.settle_alone.new.book; queries = work.lookup.queries }; table = c.settle_alone.new.table }) c.in-Err.ensures.err.settling

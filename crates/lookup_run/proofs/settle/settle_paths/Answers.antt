@@ -23,7 +23,7 @@ loop-path-preserved g c manner told = settles_then manner c.args.look.now 0 c.lo
 pub returns-in-Err-clause-stops : goal.returns-in-Err-clause-stops
 returns-in-Err-clause-stops g c told words =
     let work = c.args.work.now in
-    stops_settling c.args.look.now work c.settle_path.new.work told (subst (λ s. Legal s work.book.journal) c.requires.keeps.setting c.legal.ensures)
+    stops_settling c.args.look.now work c.settle_path.new.work told (subst (λ s. Legal s work.lookup.book.journal) c.requires.keeps.setting c.legal.ensures)
     (ran_then work.table c.loop-path.work.table c.settle_path.new.work.table (c.loop-path.invariant path_by_path None).ran c.in-Err.ensures.ran) words
 
 pub returns-clause-ok : goal.returns-clause-ok

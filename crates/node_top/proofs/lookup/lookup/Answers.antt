@@ -1,5 +1,5 @@
 use Rattle.std.proofs.Common.{◌≡◌}
-use Rattle.lookup_run.specs.declared.plain.AskKind.TheVariants.{FindNode}
+use Rattle.lookup_core.specs.declared.quest.AskKind.TheVariants.{FindNode}
 use Rattle.node_top.specs.Shown.{shown}
 use Rattle.node_top.proofs.Commands.{err_began}
 use Rattle.node_top.proofs.Reaching.{begun_reached, looks_reached}
@@ -9,10 +9,10 @@ pub returns-in_err-text_of-clause-no_memory : goal.returns-in_err-text_of-clause
 returns-in_err-text_of-clause-no_memory g c =
     let source = shown g.S.Source.left g.S.Source.faults c.args.source.now c.seek.new.source in
     let link = shown g.L.Link.told g.L.Link.recv_faults c.args.link.now c.seek.new.link in
-    err_began c.from_residual-in_err-text_of.result _ (c.seek.new.link ≡ c.args.link.now) (begun_reached FindNode c.args.look.now c.args.random.now source link c.in_ok-reached.reached c.in_ok-reached.ensures.ok)
+    err_began c.from_residual-in_err-text_of.result _ (c.seek.new.link ≡ c.args.link.now) (begun_reached FindNode c.args.look.now c.args.call.now.random source link c.in_ok-reached.reached c.in_ok-reached.ensures.ok)
 
 pub returns-clause-ok : goal.returns-clause-ok
 returns-clause-ok g c =
     let source = shown g.S.Source.left g.S.Source.faults c.args.source.now c.seek.new.source in
     let link = shown g.L.Link.told g.L.Link.recv_faults c.args.link.now c.seek.new.link in
-    looks_reached FindNode c.args.look.now c.args.random.now source link c.in_ok-reached.reached c.in_ok-text_of.field-0 c.in_ok-reached.ensures.ok c.in_ok-text_of.ensures
+    looks_reached FindNode c.args.look.now c.args.call.now.random source link c.in_ok-reached.reached c.in_ok-text_of.field-0 c.in_ok-reached.ensures.ok c.in_ok-text_of.ensures

@@ -1,16 +1,17 @@
-use Rattle.std.proofs.Common.{◌≡◌, false, true≢false, sym, ◌∙◌}
-use Rattle.node_top.proofs.Commands.{ok_then, err_then}
-use Rattle.node_top.proofs.Causes.{linked_text, linked_cause}
+use Rattle.std.proofs.Common.{sym}
+use Rattle.kad_words.specs.declared.command.Command.TheVariants.{Lookup, Peers, Serve}
+use Rattle.node_top.proofs.Causes.{cause_at}
+use Rattle.node_top.proofs.Commands.{err_then}
+use Rattle.node_top.proofs.Hosting.{serve_cause}
 use Rattle.node_top.proofs.top.output_of.Goals as goal
 
-pub returns-clause-ok : goal.returns-clause-ok
-returns-clause-ok g c = ok_then c.plain_output_of.result _ _ c.plain_output_of.ensures.ok (λ text h. linked_text _ _ _ _ text h)
+pub returns-in-Lookup-clause-cause : goal.returns-in-Lookup-clause-cause
+returns-in-Lookup-clause-cause g c = cause_at c.lookup.result _ _ _ (Lookup c.in-Lookup.look) _ (sym c.in-Lookup.is) c.lookup.ensures.cause
 
-pub returns-clause-cause : goal.returns-clause-cause
-returns-clause-cause g c =
-    let none_ : c.takes_link.result ≡ false = cc in
-    err_then c.plain_output_of.result _ _ c.plain_output_of.ensures.cause
-    (λ status h. linked_cause _ _ _ _ status (λ takes. true≢false (sym (c.takes_link.ensures.1 takes) ∙ none_)) h)
+pub returns-in-Peers-clause-cause : goal.returns-in-Peers-clause-cause
+returns-in-Peers-clause-cause g c = cause_at c.peers.result _ _ _ (Peers c.in-Peers.look c.in-Peers.announce) _ (sym c.in-Peers.is) c.peers.ensures.cause
 
-pub returns-clause-plain : goal.returns-clause-plain
-returns-clause-plain g c = λ none_. c.plain_output_of.ensures.plain (λ p. none_ p.asks)
+pub returns-in-Serve-clause-cause : goal.returns-in-Serve-clause-cause
+returns-in-Serve-clause-cause g c =
+    cause_at c.serve.result _ _ _ (Serve c.in-Serve.own c.in-Serve.k c.in-Serve.bits c.in-Serve.policy c.in-Serve.receives) _ (sym c.in-Serve.is)
+    (err_then c.serve.result _ _ c.serve.ensures.cause (λ status h. serve_cause _ _ _ _ status h))

@@ -1,8 +1,11 @@
 use Rattle.std.proofs.Common.{inl, inr, sym, ap, subst, ◌∙◌}
+use Rattle.kad_words.proofs.OneCommand.{command_plain}
+use Rattle.node_top.specs.Commands.{promise_of}
 use Rattle.node_top.specs.Endings.{MayEnd, OrNoMemory}
-use Rattle.node_top.proofs.Causes.{found, named, done_of, cut_of, usage_alone, is_no_memory, bad_line_comes, no_seeds_come, unminted_comes, strays_come, too_long_comes, completes}
-use Rattle.node_top.proofs.MayEnd.{may_end, done_end}
+use Rattle.node_top.proofs.Causes.{done_of, cut_of, done_end, not_bad, not_much, not_seedless, not_strays, not_nothing, is_no_memory, named, usage_alone, bad_line, link_fault, source_fault, strays, no_seeds, unminted, too_long, bad_line_comes, no_seeds_come, strays_come, unminted_comes, too_long_comes, completes, may_end}
 use Rattle.node_top.proofs.top.run.Goals as goal
+
+-- ---- the command has its output
 
 pub returns-in-Ok-clause-done : goal.returns-in-Ok-clause-done
 returns-in-Ok-clause-done g c = λ whole. done_of _ _ _ _ _ c.in-Ok.output _ c.as_slice.ensures c.in-Ok.ensures.ok (c.write_output.ensures.whole whole)
@@ -12,68 +15,103 @@ returns-in-Ok-clause-cut_short g c = λ cut. cut_of _ _ _ _ _ c.in-Ok.output _ c
 
 pub returns-in-Ok-clause-usage : goal.returns-in-Ok-clause-usage
 returns-in-Ok-clause-usage g c =
-    let f = found _ _ _ _ _ c.in-Ok.ensures.ok in
-    ((λ e. absurd (elim c.write_output.ensures.either [ inl zero_ ↦ cc | inr five ↦ cc ])), (λ other. absurd (other f.asks)))
+    let h = c.in-Ok.ensures.ok in
+    ((λ e. absurd (elim c.write_output.ensures.either [ inl zero_ ↦ cc | inr five ↦ cc ])), (λ other. absurd (other (command_plain _ h.command h.asked))))
 
 pub returns-in-Ok-clause-bad_line_comes : goal.returns-in-Ok-clause-bad_line_comes
-returns-in-Ok-clause-bad_line_comes g c = λ plain told quiet bad. absurd ((found _ _ _ _ _ c.in-Ok.ensures.ok).bad_line told bad)
+returns-in-Ok-clause-bad_line_comes g c = λ asks told quiet bad. absurd (not_bad _ _ _ _ _ c.in-Ok.ensures.ok told quiet bad)
 
 pub returns-in-Ok-clause-no_seeds_come : goal.returns-in-Ok-clause-no_seeds_come
-returns-in-Ok-clause-no_seeds_come g c = λ told quiet no_one. absurd ((found _ _ _ _ _ c.in-Ok.ensures.ok).no_seeds told no_one)
-
-pub returns-in-Ok-clause-unminted_comes : goal.returns-in-Ok-clause-unminted_comes
-returns-in-Ok-clause-unminted_comes g c = λ none_. absurd ((found _ _ _ _ _ c.in-Ok.ensures.ok).nothing none_)
-
-pub returns-in-Ok-clause-too_long_comes : goal.returns-in-Ok-clause-too_long_comes
-returns-in-Ok-clause-too_long_comes g c = λ told much. absurd ((found _ _ _ _ _ c.in-Ok.ensures.ok).too_long told much)
+returns-in-Ok-clause-no_seeds_come g c = λ told quiet no_one. absurd (not_seedless _ _ _ _ _ c.in-Ok.ensures.ok told quiet no_one)
 
 pub returns-in-Ok-clause-strays_come : goal.returns-in-Ok-clause-strays_come
-returns-in-Ok-clause-strays_come g c = λ told last. absurd ((found _ _ _ _ _ c.in-Ok.ensures.ok).strays told last)
+returns-in-Ok-clause-strays_come g c = λ told last. absurd (not_strays _ _ _ _ _ c.in-Ok.ensures.ok told last)
+
+pub returns-in-Ok-clause-unminted_comes : goal.returns-in-Ok-clause-unminted_comes
+returns-in-Ok-clause-unminted_comes g c = λ none_. absurd (not_nothing _ _ _ _ _ c.in-Ok.ensures.ok none_)
+
+pub returns-in-Ok-clause-too_long_comes : goal.returns-in-Ok-clause-too_long_comes
+returns-in-Ok-clause-too_long_comes g c = λ told much. absurd (not_much _ _ _ _ _ c.in-Ok.ensures.ok told much)
 
 pub returns-in-Ok-clause-complete : goal.returns-in-Ok-clause-complete
 returns-in-Ok-clause-complete g c = λ well. elim c.write_output.ensures.either [ inl zero_ ↦ inl zero_ | inr five ↦ absurd (well.writes (c.write_output.ensures.failed five)) ]
 
-pub returns-in-Err-clause-bad_line_comes : goal.returns-in-Err-clause-bad_line_comes
-returns-in-Err-clause-bad_line_comes g c = λ plain told quiet bad.
-    subst (λ n. OrNoMemory n 3) (sym c.write_line.ensures.number) (bad_line_comes _ _ _ _ c.in-Err.status c.in-Err.ensures.cause plain told quiet bad)
+pub returns-in-Ok-clause-by_command : goal.returns-in-Ok-clause-by_command
+returns-in-Ok-clause-by_command g c = done_end _ _ c.write_output.ensures.either
 
-pub returns-in-Err-clause-no_seeds_come : goal.returns-in-Err-clause-no_seeds_come
-returns-in-Err-clause-no_seeds_come g c = λ told quiet no_one.
-    subst (λ n. OrNoMemory n 8) (sym c.write_line.ensures.number) (no_seeds_come _ _ _ _ c.in-Err.status c.in-Err.ensures.cause told quiet no_one)
+-- ---- it has none, by its cause
 
-pub returns-in-Err-clause-unminted_comes : goal.returns-in-Err-clause-unminted_comes
-returns-in-Err-clause-unminted_comes g c = λ none_.
-    subst (λ n. OrNoMemory n 10) (sym c.write_line.ensures.number) (unminted_comes _ _ _ _ c.in-Err.status c.in-Err.ensures.cause none_)
+pub returns-in-Err-clause-usage : goal.returns-in-Err-clause-usage
+returns-in-Err-clause-usage g c =
+    ((λ two. usage_alone _ _ _ _ _ c.in-Err.status c.in-Err.ensures.cause (sym c.write_line.ensures.number ∙ two)), (λ other. c.write_line.ensures.number ∙ c.in-Err.ensures.plain other))
 
-pub returns-in-Err-clause-too_long_comes : goal.returns-in-Err-clause-too_long_comes
-returns-in-Err-clause-too_long_comes g c = λ told much.
-    subst (λ n. OrNoMemory n 11) (sym c.write_line.ensures.number) (too_long_comes _ _ _ _ c.in-Err.status c.in-Err.ensures.cause told much)
+pub returns-in-Err-clause-bad_line : goal.returns-in-Err-clause-bad_line
+returns-in-Err-clause-bad_line g c = λ is. bad_line _ _ _ _ _ c.in-Err.status c.in-Err.ensures.cause (sym c.write_line.ensures.number ∙ is)
 
-pub returns-in-Err-clause-strays_come : goal.returns-in-Err-clause-strays_come
-returns-in-Err-clause-strays_come g c = λ told last.
-    subst (λ n. OrNoMemory n 7) (sym c.write_line.ensures.number) (strays_come _ _ _ _ c.in-Err.status c.in-Err.ensures.cause (λ e. ap g.L.Link.told (c.in-Err.ensures.early e)) told last)
+pub returns-in-Err-clause-link_fault : goal.returns-in-Err-clause-link_fault
+returns-in-Err-clause-link_fault g c = λ is. (link_fault _ _ _ _ _ c.in-Err.status c.in-Err.ensures.cause (sym c.write_line.ensures.number ∙ is)).0
 
-pub returns-in-Err-clause-complete : goal.returns-in-Err-clause-complete
-returns-in-Err-clause-complete g c = λ well.
-    subst (λ n. OrNoMemory n 0) (sym c.write_line.ensures.number) (completes _ _ _ _ _ c.in-Err.status c.in-Err.ensures.cause well)
+pub returns-in-Err-clause-source_fault : goal.returns-in-Err-clause-source_fault
+returns-in-Err-clause-source_fault g c = λ is. source_fault _ _ _ _ _ c.in-Err.status c.in-Err.ensures.cause (sym c.write_line.ensures.number ∙ is)
+
+pub returns-in-Err-clause-strays : goal.returns-in-Err-clause-strays
+returns-in-Err-clause-strays g c = λ is. (strays _ _ _ _ _ c.in-Err.status c.in-Err.ensures.cause (sym c.write_line.ensures.number ∙ is)).0
+
+pub returns-in-Err-clause-begun : goal.returns-in-Err-clause-begun
+returns-in-Err-clause-begun g c = λ is. (link_fault _ _ _ _ _ c.in-Err.status c.in-Err.ensures.cause (sym c.write_line.ensures.number ∙ is)).1
+
+pub returns-in-Err-clause-seeded : goal.returns-in-Err-clause-seeded
+returns-in-Err-clause-seeded g c = λ is. (strays _ _ _ _ _ c.in-Err.status c.in-Err.ensures.cause (sym c.write_line.ensures.number ∙ is)).1
+
+pub returns-in-Err-clause-unfinished : goal.returns-in-Err-clause-unfinished
+returns-in-Err-clause-unfinished g c = λ either. elim either [
+  | inl is ↦ (link_fault _ _ _ _ _ c.in-Err.status c.in-Err.ensures.cause (sym c.write_line.ensures.number ∙ is)).2
+  | inr is ↦ (strays _ _ _ _ _ c.in-Err.status c.in-Err.ensures.cause (sym c.write_line.ensures.number ∙ is)).2
+]
 
 pub returns-in-Err-clause-no_memory : goal.returns-in-Err-clause-no_memory
 returns-in-Err-clause-no_memory g c = λ nine. c.in-Err.ensures.no_memory (is_no_memory c.in-Err.status (sym c.write_line.ensures.number ∙ nine))
 
-pub returns-in-Err-clause-usage : goal.returns-in-Err-clause-usage
-returns-in-Err-clause-usage g c =
-    ((λ two. usage_alone _ _ _ _ c.in-Err.status c.in-Err.ensures.cause (sym c.write_line.ensures.number ∙ two)), (λ other. c.write_line.ensures.number ∙ c.in-Err.ensures.plain other))
+pub returns-in-Err-clause-no_seeds : goal.returns-in-Err-clause-no_seeds
+returns-in-Err-clause-no_seeds g c = λ is. no_seeds _ _ _ _ _ c.in-Err.status c.in-Err.ensures.cause (sym c.write_line.ensures.number ∙ is)
+
+pub returns-in-Err-clause-unminted : goal.returns-in-Err-clause-unminted
+returns-in-Err-clause-unminted g c = λ is. unminted _ _ _ _ _ c.in-Err.status c.in-Err.ensures.cause (sym c.write_line.ensures.number ∙ is)
+
+pub returns-in-Err-clause-too_long : goal.returns-in-Err-clause-too_long
+returns-in-Err-clause-too_long g c = λ is. too_long _ _ _ _ _ c.in-Err.status c.in-Err.ensures.cause (sym c.write_line.ensures.number ∙ is)
+
+pub returns-in-Err-clause-bad_line_comes : goal.returns-in-Err-clause-bad_line_comes
+returns-in-Err-clause-bad_line_comes g c = λ asks told quiet bad.
+    subst (λ n. OrNoMemory n 3) (sym c.write_line.ensures.number) (bad_line_comes _ _ _ _ _ c.in-Err.status c.in-Err.ensures.cause (λ e. ap g.L.Link.told (c.in-Err.ensures.early e)) asks told quiet bad)
+
+pub returns-in-Err-clause-no_seeds_come : goal.returns-in-Err-clause-no_seeds_come
+returns-in-Err-clause-no_seeds_come g c = λ told quiet no_one.
+    subst (λ n. OrNoMemory n 8) (sym c.write_line.ensures.number) (no_seeds_come _ _ _ _ _ c.in-Err.status c.in-Err.ensures.cause (λ e. ap g.L.Link.told (c.in-Err.ensures.early e)) (λ command asked. command_plain _ command asked) told quiet no_one)
+
+pub returns-in-Err-clause-strays_come : goal.returns-in-Err-clause-strays_come
+returns-in-Err-clause-strays_come g c = λ told last.
+    subst (λ n. OrNoMemory n 7) (sym c.write_line.ensures.number) (strays_come _ _ _ _ _ c.in-Err.status c.in-Err.ensures.cause (λ e. ap g.L.Link.told (c.in-Err.ensures.early e)) (λ command asked. command_plain _ command asked) told last)
+
+pub returns-in-Err-clause-unminted_comes : goal.returns-in-Err-clause-unminted_comes
+returns-in-Err-clause-unminted_comes g c = λ none_.
+    subst (λ n. OrNoMemory n 10) (sym c.write_line.ensures.number) (unminted_comes _ _ _ _ _ c.in-Err.status c.in-Err.ensures.cause (λ e. ap g.L.Link.told (c.in-Err.ensures.early e)) (λ n. command_plain _ n.command n.asked) none_)
+
+pub returns-in-Err-clause-too_long_comes : goal.returns-in-Err-clause-too_long_comes
+returns-in-Err-clause-too_long_comes g c = λ told much.
+    subst (λ n. OrNoMemory n 11) (sym c.write_line.ensures.number) (too_long_comes _ _ _ _ _ c.in-Err.status c.in-Err.ensures.cause (λ e. ap g.L.Link.told (c.in-Err.ensures.early e)) told much)
+
+pub returns-in-Err-clause-complete : goal.returns-in-Err-clause-complete
+returns-in-Err-clause-complete g c = λ well. inr (c.write_line.ensures.number ∙ completes _ _ _ _ _ _ c.in-Err.status c.in-Err.ensures.cause (command_plain _ well.command well.asked) well)
 
 pub returns-in-Err-clause-line : goal.returns-in-Err-clause-line
 returns-in-Err-clause-line g c = λ some whole. record {
   status = c.in-Err.status;
   numbered = c.write_line.ensures.number;
-  names = named _ _ _ _ c.in-Err.status c.in-Err.ensures.cause;
+  names = named _ _ _ _ _ c.in-Err.status c.in-Err.ensures.cause;
   writes = c.write_line.ensures.writes;
 }
 
-pub returns-in-Ok-clause-by_command : goal.returns-in-Ok-clause-by_command
-returns-in-Ok-clause-by_command g c = λ command h asks. done_end _ _ command c.write_output.ensures.either h asks
-
 pub returns-in-Err-clause-by_command : goal.returns-in-Err-clause-by_command
-returns-in-Err-clause-by_command g c = λ command h asks. subst (MayEnd command) (sym c.write_line.ensures.number) (may_end _ _ _ _ c.in-Err.status command c.in-Err.ensures.cause h asks)
+returns-in-Err-clause-by_command g c = λ command asked.
+    subst (λ n. MayEnd (promise_of command) n) (sym c.write_line.ensures.number) (may_end _ _ _ _ _ c.in-Err.status c.in-Err.ensures.cause (command_plain _ command asked) command asked)

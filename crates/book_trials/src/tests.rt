@@ -1,0 +1,439 @@
+ghost use Rattle.std.specs.Prelude.{◌≢◌, ◌<◌, ℕ, IfOk};
+ghost use Rattle.claim_book.specs.Calls.{BookMay};
+
+mod compare;
+mod large;
+mod plain_book;
+
+use claim_book::*;
+use kad_base::{Addr, Check, Contact, Id, Ip, List, NoMemory, Policy, Report, Serial, is_usable};
+use kad_distance::closer;
+use std::alloc::Global;
+use std::hash::RandomState;
+use std::process::Abort;
+use std::test::Fail;
+
+/// Believes each report under the plain policy, and knows no puzzle.
+#[derive(Drop)]
+struct Trusting<'a, R: Abort> {
+    rt: &'a R,
+}
+
+impl<R: Abort> Check for Trusting<'_, R> {
+    fn check(&self, policy: Policy, _report: &Report) -> bool {
+        match policy {
+            Policy::Plain => true,
+            Policy::Puzzled { .. } => panic!(self.rt; "a puzzle"),
+        }
+    }
+}
+
+fn contact(n: u8) -> Contact {
+    let mut id = [0u8; 20];
+    id[19] = n;
+    Contact {
+        id: Id(id),
+        addr: Addr {
+            ip: Ip::V4([127, 0, 0, 1]),
+            port: 6000 + n as u16,
+        },
+    }
+}
+
+fn report(n: u8) -> Report {
+    Report {
+        contact: contact(n),
+        proof: None,
+    }
+}
+
+/// The answer of the n-th contact, which names one other, or none.
+fn answer(alloc: Global, n: u8, named: Option<u8>) -> Result<BookCall, NoMemory>
+    ensures { IfOk result (λ call. BookMay 0 call) }
+{
+    let mut reports = List::new(alloc);
+    if let Some(other) = named {
+        reports.push(report(other))?;
+    }
+    Ok(BookCall::Heard {
+        contact: contact(n),
+        reports,
+    })
+}
+
+/// A call on the book. Contacts go by their numbers.
+#[derive(Clone, Copy)]
+enum Step {
+    /// What to ask on a path.
+    Next(u8),
+    /// A contact answers, and names one other, or none.
+    Heard(u8, Option<u8>),
+    /// A contact lets its time pass.
+    TimedOut(u8),
+    Finish,
+    /// The first thing to settle on a path.
+    Pull(u8),
+    /// On a path a contact is noted.
+    Note(u8, u8),
+    /// On a path a contact's report is settled.
+    Settle(u8, u8),
+}
+
+/// A reply of the book, with the number of the contact that it names.
+#[derive(Clone, Copy, Debug, PartialEq, Eq)]
+enum Told {
+    Ask(u8),
+    RunOut,
+    Later,
+    Kept,
+    NotOpen,
+    Found,
+    NotYet(u8),
+    Alive(u8),
+    Report(u8),
+    Idle,
+    NotFront,
+    Taken,
+    Held(u8),
+    Turned,
+    Rejected,
+    Skipped,
+    NoMemory,
+}
+
+/// The number of a contact, or 255 where it is none of those that have one.
+fn number_of(one: &Contact) -> u8 {
+    let n = one.id.0[19];
+    if *one == contact(n) { n } else { u8::MAX }
+}
+
+/// The number of the contact of a report without proof, else 255.
+fn reported(one: &Report) -> u8 {
+    match one.proof {
+        None => number_of(&one.contact),
+        Some(_) => u8::MAX,
+    }
+}
+
+fn told_of(reply: &BookReply) -> Told {
+    match reply {
+        BookReply::Ask { contact } => Told::Ask(number_of(contact)),
+        BookReply::RunOut => Told::RunOut,
+        BookReply::Later => Told::Later,
+        BookReply::Kept => Told::Kept,
+        BookReply::NotOpen => Told::NotOpen,
+        BookReply::Found { .. } => Told::Found,
+        BookReply::NotYet { path } => Told::NotYet(*path),
+        BookReply::Alive { contact } => Told::Alive(number_of(contact)),
+        BookReply::Report { report } => Told::Report(reported(report)),
+        BookReply::Idle => Told::Idle,
+        BookReply::NotFront => Told::NotFront,
+        BookReply::Taken => Told::Taken,
+        BookReply::Held { path } => Told::Held(*path),
+        BookReply::Turned => Told::Turned,
+        BookReply::Rejected => Told::Rejected,
+        BookReply::Skipped => Told::Skipped,
+        BookReply::NoMemory => Told::NoMemory,
+    }
+}
+
+/// The role that settles on a path.
+fn worker(path: u8) -> u8
+    ensures { result ≢ 0 }
+{
+    path.saturating_add(1)
+}
+
+fn settle(rt: &impl Abort, n: u8) -> BookCall
+    ensures { (role : ℕ) → role ≢ 0 → BookMay role result }
+{
+    let check = Trusting { rt };
+    BookCall::Settle {
+        checked: Checked::of(&check, Policy::Plain, report(n)),
+    }
+}
+
+/// Makes a call, in its role.
+fn make(
+    rt: &impl Abort,
+    alloc: Global,
+    book: &mut Book,
+    step: Step,
+) -> Result<BookReply, NoMemory> {
+    let cause = Cause::Timeout;
+    let reply = match step {
+        Step::Next(path) => book.apply(0, BookCall::Next { path }),
+        Step::Heard(n, named) => book.apply(0, answer(alloc, n, named)?),
+        Step::TimedOut(n) => book.apply(
+            0,
+            BookCall::Lost {
+                contact: contact(n),
+                cause,
+            },
+        ),
+        Step::Finish => book.apply(0, BookCall::Finish),
+        Step::Pull(path) => book.apply(worker(path), BookCall::Pull),
+        Step::Note(path, n) => book.apply(
+            worker(path),
+            BookCall::Note {
+                contact: contact(n),
+            },
+        ),
+        Step::Settle(path, n) => book.apply(worker(path), settle(rt, n)),
+    };
+    Ok(reply)
+}
+
+/// Makes the calls in order, of which each is to be replied to so.
+fn play(
+    rt: &impl Abort,
+    alloc: Global,
+    book: &mut Book,
+    rows: &[(Step, Told)],
+) -> Result<(), NoMemory> {
+    for (step, told) in rows {
+        let reply = make(rt, alloc, book, *step)?;
+        assert_eq!(rt; told_of(&reply), *told);
+    }
+    Ok(())
+}
+
+/// The lookup is over, and found these contacts.
+fn finds(
+    rt: &impl Abort,
+    alloc: Global,
+    book: &mut Book,
+    contacts: &[Contact],
+    counts: Counts,
+) -> Result<(), NoMemory> {
+    let found = List::from_slice(alloc, contacts)?;
+    assert_eq!(rt;
+        book.apply(0, BookCall::Finish),
+        BookReply::Found { found, counts }
+    );
+    Ok(())
+}
+
+/// A book with the first two contacts as its seeds.
+#[tactic(auto, using(claim_book::proofs::Closest::sorted_two))]
+fn seeded(rt: &impl Abort, alloc: Global, hasher: RandomState, paths: u8) -> Result<Book, Fail>
+    requires { 0 < paths }
+{
+    let setting = Setting {
+        own: Id([0xff; 20]),
+        target: Id([0; 20]),
+        k: 8,
+        paths,
+        alpha: 1,
+        policy: Policy::Plain,
+    };
+    let first = contact(1);
+    let second = contact(2);
+    assert!(rt; closer(&setting.target, &first, &second));
+    assert!(rt; is_usable(&setting.own, &first));
+    assert!(rt; is_usable(&setting.own, &second));
+    Ok(Book::new(alloc, setting, &[first, second], hasher)?)
+}
+
+/// A lookup with two seeds on so many paths: the calls, and how each is replied to.
+fn plays(
+    rt: &impl Abort,
+    alloc: Global,
+    hasher: RandomState,
+    paths: u8,
+    rows: &[(Step, Told)],
+) -> Result<Book, Fail>
+    requires { 0 < paths }
+{
+    let mut book = seeded(rt, alloc, hasher, paths)?;
+    play(rt, alloc, &mut book, rows)?;
+    Ok(book)
+}
+
+#[test]
+fn a_query_is_open_until_it_is_heard(rt: HostRuntime) -> Result<(), Fail> {
+    plays(
+        &rt,
+        rt.alloc(),
+        RandomState::new(&rt)?,
+        1,
+        &[
+            (Step::Next(0), Told::Ask(1)),
+            (Step::Next(0), Told::Later),
+            (Step::Next(5), Told::RunOut),
+            (Step::Finish, Told::NotYet(0)),
+            (Step::Heard(3, None), Told::NotOpen),
+            (Step::Heard(1, Some(3)), Told::Kept),
+            (Step::Heard(1, Some(3)), Told::NotOpen),
+        ],
+    )?;
+    Ok(())
+}
+
+#[test]
+fn an_answer_is_settled_in_order(rt: HostRuntime) -> Result<(), Fail> {
+    plays(
+        &rt,
+        rt.alloc(),
+        RandomState::new(&rt)?,
+        1,
+        &[
+            (Step::Next(0), Told::Ask(1)),
+            (Step::Heard(1, Some(3)), Told::Kept),
+            (Step::Pull(0), Told::Alive(1)),
+            (Step::Settle(0, 3), Told::NotFront),
+            (Step::Note(0, 1), Told::Kept),
+            (Step::Pull(0), Told::Report(3)),
+            (Step::Settle(0, 3), Told::Taken),
+            (Step::Pull(0), Told::Idle),
+            (Step::Note(0, 1), Told::NotFront),
+            (Step::Next(0), Told::Ask(2)),
+        ],
+    )?;
+    Ok(())
+}
+
+#[test]
+fn a_lookup_finds_those_that_answered(rt: HostRuntime) -> Result<(), Fail> {
+    let mut book = plays(
+        &rt,
+        rt.alloc(),
+        RandomState::new(&rt)?,
+        1,
+        &[
+            (Step::Next(0), Told::Ask(1)),
+            (Step::Heard(1, Some(3)), Told::Kept),
+            (Step::Note(0, 1), Told::Kept),
+            (Step::Settle(0, 3), Told::Taken),
+            (Step::Next(0), Told::Ask(2)),
+            (Step::TimedOut(2), Told::Kept),
+            (Step::Next(0), Told::Ask(3)),
+            (Step::Heard(3, Some(1)), Told::Kept),
+            (Step::Note(0, 3), Told::Kept),
+            (Step::Settle(0, 1), Told::Held(0)),
+            (Step::Next(0), Told::RunOut),
+        ],
+    )?;
+    let counts = Counts {
+        asked: 3,
+        failed: 1,
+        turned: 0,
+    };
+    finds(
+        &rt,
+        rt.alloc(),
+        &mut book,
+        &[contact(1), contact(3)],
+        counts,
+    )?;
+    assert_eq!(rt; book.into_journal().len(), 12);
+    Ok(())
+}
+
+#[test]
+fn each_path_asks_its_own_seed(rt: HostRuntime) -> Result<(), Fail> {
+    plays(
+        &rt,
+        rt.alloc(),
+        RandomState::new(&rt)?,
+        2,
+        &[
+            (Step::Next(0), Told::Ask(1)),
+            (Step::Next(0), Told::Later),
+            (Step::Next(1), Told::Ask(2)),
+            (Step::Next(5), Told::RunOut),
+            (Step::Finish, Told::NotYet(0)),
+            (Step::Heard(3, None), Told::NotOpen),
+            (Step::Heard(1, Some(3)), Told::Kept),
+            (Step::Heard(1, Some(3)), Told::NotOpen),
+        ],
+    )?;
+    Ok(())
+}
+
+#[test]
+fn a_path_settles_what_its_own_query_gave(rt: HostRuntime) -> Result<(), Fail> {
+    plays(
+        &rt,
+        rt.alloc(),
+        RandomState::new(&rt)?,
+        2,
+        &[
+            (Step::Next(0), Told::Ask(1)),
+            (Step::Heard(1, Some(3)), Told::Kept),
+            (Step::Pull(1), Told::Idle),
+            (Step::Pull(0), Told::Alive(1)),
+            (Step::Settle(0, 3), Told::NotFront),
+            (Step::Note(0, 1), Told::Kept),
+            (Step::Pull(0), Told::Report(3)),
+            (Step::Settle(0, 3), Told::Taken),
+        ],
+    )?;
+    Ok(())
+}
+
+#[test]
+fn a_path_asks_what_it_took(rt: HostRuntime) -> Result<(), Fail> {
+    plays(
+        &rt,
+        rt.alloc(),
+        RandomState::new(&rt)?,
+        2,
+        &[
+            (Step::Next(0), Told::Ask(1)),
+            (Step::Heard(1, Some(3)), Told::Kept),
+            (Step::Note(0, 1), Told::Kept),
+            (Step::Settle(0, 3), Told::Taken),
+            (Step::Pull(0), Told::Idle),
+            (Step::Next(0), Told::Ask(3)),
+            (Step::Note(0, 1), Told::NotFront),
+        ],
+    )?;
+    Ok(())
+}
+
+#[test]
+fn a_contact_is_on_one_path(rt: HostRuntime) -> Result<(), Fail> {
+    plays(
+        &rt,
+        rt.alloc(),
+        RandomState::new(&rt)?,
+        2,
+        &[
+            (Step::Next(0), Told::Ask(1)),
+            (Step::Heard(1, Some(3)), Told::Kept),
+            (Step::Note(0, 1), Told::Kept),
+            (Step::Settle(0, 3), Told::Taken),
+            (Step::Next(1), Told::Ask(2)),
+            (Step::Heard(2, Some(3)), Told::Kept),
+            (Step::Note(1, 2), Told::Kept),
+            (Step::Settle(1, 3), Told::Held(0)),
+        ],
+    )?;
+    Ok(())
+}
+
+#[test]
+fn a_lookup_ends_with_its_last_path(rt: HostRuntime) -> Result<(), Fail> {
+    let mut book = plays(
+        &rt,
+        rt.alloc(),
+        RandomState::new(&rt)?,
+        2,
+        &[
+            (Step::Next(0), Told::Ask(1)),
+            (Step::Next(1), Told::Ask(2)),
+            (Step::Heard(1, None), Told::Kept),
+            (Step::Note(0, 1), Told::Kept),
+            (Step::Finish, Told::NotYet(1)),
+            (Step::TimedOut(2), Told::Kept),
+        ],
+    )?;
+    let counts = Counts {
+        asked: 2,
+        failed: 1,
+        turned: 0,
+    };
+    finds(&rt, rt.alloc(), &mut book, &[contact(1)], counts)?;
+    Ok(())
+}

@@ -1,0 +1,341 @@
+//! The book as filters over its journal, with no index: what the index is tried against. Each call costs more as the
+//! journal grows.
+use claim_book::{BookCall, BookReply, Cause, Checked, Counts, Entry, Setting, Thing};
+use kad_base::limits::MAX_PATH_CONTACTS;
+use kad_base::{Contact, Contacts, NoMemory, Reports, is_usable};
+use kad_distance::k_least;
+use std::alloc::Global;
+
+#[derive(Drop)]
+pub(super) struct PlainBook {
+    pub(super) setting: Setting,
+    pub(super) journal: Vec<Entry>,
+}
+
+/// The path and the contact of an entry by which a path got one.
+fn gained(entry: &Entry) -> Option<(u8, Contact)> {
+    match entry {
+        Entry::Seed { path, contact } | Entry::Taken { path, contact } => Some((*path, *contact)),
+        _ => None,
+    }
+}
+
+fn asks(entry: &Entry, one: &Contact) -> bool {
+    matches!(entry, Entry::Ask { contact, .. } if contact == one)
+}
+
+fn answers(entry: &Entry, one: &Contact) -> bool {
+    matches!(entry, Entry::Heard { contact, .. } if contact == one)
+}
+
+fn fails(entry: &Entry, one: &Contact) -> bool {
+    matches!(entry, Entry::Lost { contact, .. } if contact == one)
+}
+
+fn is_asked(journal: &[Entry], one: &Contact) -> bool {
+    journal.iter().any(|entry| asks(entry, one))
+}
+
+fn is_answered(journal: &[Entry], one: &Contact) -> bool {
+    journal.iter().any(|entry| answers(entry, one))
+}
+
+fn is_failed(journal: &[Entry], one: &Contact) -> bool {
+    journal.iter().any(|entry| fails(entry, one))
+}
+
+/// The path that has an open query of the contact.
+pub(super) fn open_path(journal: &[Entry], one: &Contact) -> Option<u8> {
+    if is_answered(journal, one) || is_failed(journal, one) {
+        return None;
+    }
+    for entry in journal {
+        if let Entry::Ask { path, contact } = entry {
+            if contact == one {
+                return Some(*path);
+            }
+        }
+    }
+    None
+}
+
+fn holder(journal: &[Entry], one: &Contact) -> Option<u8> {
+    for entry in journal {
+        if let Some((path, contact)) = gained(entry) {
+            if contact == *one {
+                return Some(path);
+            }
+        }
+    }
+    None
+}
+
+fn count_path(journal: &[Entry], one: u8) -> usize {
+    let mut contacts = 0usize;
+    for entry in journal {
+        if let Some((path, _)) = gained(entry) {
+            if path == one {
+                contacts = contacts.saturating_add(1);
+            }
+        }
+    }
+    contacts
+}
+
+fn count_open(journal: &[Entry], one: u8) -> usize {
+    let mut opens = 0usize;
+    for entry in journal {
+        if let Entry::Ask { path, contact } = entry {
+            if *path == one && !is_answered(journal, contact) && !is_failed(journal, contact) {
+                opens = opens.saturating_add(1);
+            }
+        }
+    }
+    opens
+}
+
+fn settles(entry: &Entry, one: u8) -> bool {
+    match entry {
+        Entry::Note { path, .. }
+        | Entry::Taken { path, .. }
+        | Entry::Held { path, .. }
+        | Entry::Turned { path, .. }
+        | Entry::Rejected { path, .. }
+        | Entry::Skipped { path, .. } => *path == one,
+        _ => false,
+    }
+}
+
+/// Puts in what the entry gives the path to settle.
+fn give(things: &mut Vec<Thing>, entry: &Entry, one: u8) -> Result<(), NoMemory> {
+    if let Entry::Heard {
+        path,
+        contact,
+        reports,
+    } = entry
+    {
+        if *path == one {
+            push(things, Thing::Responder { contact: *contact })?;
+            for report in reports.as_slice() {
+                push(things, Thing::Told { report: *report })?;
+            }
+        }
+    }
+    Ok(())
+}
+
+fn push<T: Drop>(items: &mut Vec<T>, item: T) -> Result<(), NoMemory> {
+    match items.push(item) {
+        Ok(()) => Ok(()),
+        Err(_) => Err(NoMemory),
+    }
+}
+
+/// The first thing of the path that is not settled.
+pub(super) fn front(alloc: Global, journal: &[Entry], one: u8) -> Result<Option<Thing>, NoMemory> {
+    let mut things = Vec::new(alloc);
+    for entry in journal {
+        give(&mut things, entry, one)?;
+    }
+    let settled = journal.iter().filter(|entry| settles(entry, one)).count();
+    Ok(things.get(settled).copied())
+}
+
+/// The k closest contacts of the path, or of all paths, that were not lost.
+fn nearest(
+    alloc: Global,
+    setting: &Setting,
+    journal: &[Entry],
+    one: Option<u8>,
+) -> Result<Contacts, NoMemory> {
+    let mut contacts = Vec::new(alloc);
+    for entry in journal {
+        if let Some((path, contact)) = gained(entry) {
+            let is_ours = match one {
+                Some(one) => path == one,
+                None => true,
+            };
+            if is_ours && !is_failed(journal, &contact) {
+                push(&mut contacts, contact)?;
+            }
+        }
+    }
+    k_least(alloc, &setting.target, setting.k, contacts.as_slice())
+}
+
+impl PlainBook {
+    pub(super) fn new(
+        alloc: Global,
+        setting: Setting,
+        seeds: &[Contact],
+    ) -> Result<PlainBook, NoMemory> {
+        let mut journal = Vec::new(alloc);
+        let mut path = 0u8;
+        for contact in seeds {
+            let contact = *contact;
+            push(&mut journal, Entry::Seed { path, contact })?;
+            path = path.wrapping_add(1);
+            if path >= setting.paths {
+                path = 0;
+            }
+        }
+        Ok(PlainBook { setting, journal })
+    }
+
+    pub(super) fn apply(
+        &mut self,
+        alloc: Global,
+        role: u8,
+        call: BookCall,
+    ) -> Result<BookReply, NoMemory> {
+        let path = role.wrapping_sub(1);
+        match call {
+            BookCall::Next { path } => self.next(alloc, path),
+            BookCall::Heard { contact, reports } => self.heard(contact, reports),
+            BookCall::Lost { contact, cause } => self.lost(contact, cause),
+            BookCall::Finish => self.finish(alloc),
+            BookCall::Pull => self.pull(alloc, path),
+            BookCall::Note { contact } => self.note(alloc, path, contact),
+            BookCall::Settle { checked } => self.settle(alloc, path, checked),
+        }
+    }
+
+    fn has_run_out(&self, alloc: Global, path: u8) -> Result<bool, NoMemory> {
+        let journal = self.journal.as_slice();
+        if count_open(journal, path) > 0 || front(alloc, journal, path)?.is_some() {
+            return Ok(false);
+        }
+        let near = nearest(alloc, &self.setting, journal, Some(path))?;
+        Ok(
+            near.as_slice()
+                .iter()
+                .all(|contact| is_answered(journal, contact)),
+        )
+    }
+
+    fn may_ask(&self, alloc: Global, path: u8) -> Result<Option<Contact>, NoMemory> {
+        let journal = self.journal.as_slice();
+        if count_open(journal, path) >= self.setting.alpha as usize {
+            return Ok(None);
+        }
+        let near = nearest(alloc, &self.setting, journal, Some(path))?;
+        for contact in near.as_slice() {
+            if !is_asked(journal, contact) {
+                return Ok(Some(*contact));
+            }
+        }
+        Ok(None)
+    }
+
+    fn next(&mut self, alloc: Global, path: u8) -> Result<BookReply, NoMemory> {
+        if let Some(contact) = self.may_ask(alloc, path)? {
+            push(&mut self.journal, Entry::Ask { path, contact })?;
+            return Ok(BookReply::Ask { contact });
+        }
+        if self.has_run_out(alloc, path)? {
+            return Ok(BookReply::RunOut);
+        }
+        Ok(BookReply::Later)
+    }
+
+    fn heard(&mut self, contact: Contact, reports: Reports) -> Result<BookReply, NoMemory> {
+        match open_path(self.journal.as_slice(), &contact) {
+            Some(path) => {
+                push(
+                    &mut self.journal,
+                    Entry::Heard {
+                        path,
+                        contact,
+                        reports,
+                    },
+                )?;
+                Ok(BookReply::Kept)
+            }
+            None => Ok(BookReply::NotOpen),
+        }
+    }
+
+    fn lost(&mut self, contact: Contact, cause: Cause) -> Result<BookReply, NoMemory> {
+        match open_path(self.journal.as_slice(), &contact) {
+            Some(path) => {
+                push(
+                    &mut self.journal,
+                    Entry::Lost {
+                        path,
+                        contact,
+                        cause,
+                    },
+                )?;
+                Ok(BookReply::Kept)
+            }
+            None => Ok(BookReply::NotOpen),
+        }
+    }
+
+    fn finish(&self, alloc: Global) -> Result<BookReply, NoMemory> {
+        for path in 0..self.setting.paths {
+            if !self.has_run_out(alloc, path)? {
+                return Ok(BookReply::NotYet { path });
+            }
+        }
+        let journal = self.journal.as_slice();
+        let found = nearest(alloc, &self.setting, journal, None)?;
+        let mut counts = Counts {
+            asked: 0,
+            failed: 0,
+            turned: 0,
+        };
+        for entry in journal {
+            match entry {
+                Entry::Ask { .. } => counts.asked = counts.asked.saturating_add(1),
+                Entry::Lost { .. } => counts.failed = counts.failed.saturating_add(1),
+                Entry::Turned { .. } => counts.turned = counts.turned.saturating_add(1),
+                _ => {}
+            }
+        }
+        Ok(BookReply::Found { found, counts })
+    }
+
+    fn pull(&self, alloc: Global, path: u8) -> Result<BookReply, NoMemory> {
+        Ok(match front(alloc, self.journal.as_slice(), path)? {
+            Some(Thing::Responder { contact }) => BookReply::Alive { contact },
+            Some(Thing::Told { report }) => BookReply::Report { report },
+            None => BookReply::Idle,
+        })
+    }
+
+    fn note(&mut self, alloc: Global, path: u8, contact: Contact) -> Result<BookReply, NoMemory> {
+        if front(alloc, self.journal.as_slice(), path)? != Some(Thing::Responder { contact }) {
+            return Ok(BookReply::NotFront);
+        }
+        push(&mut self.journal, Entry::Note { path, contact })?;
+        Ok(BookReply::Kept)
+    }
+
+    fn settle(&mut self, alloc: Global, path: u8, checked: Checked) -> Result<BookReply, NoMemory> {
+        let report = checked.report();
+        let contact = report.contact;
+        let journal = self.journal.as_slice();
+        if front(alloc, journal, path)? != Some(Thing::Told { report })
+            || checked.policy() != self.setting.policy
+        {
+            return Ok(BookReply::NotFront);
+        }
+        let (entry, reply) = if !is_usable(&self.setting.own, &contact) {
+            (Entry::Skipped { path, report }, BookReply::Skipped)
+        } else if !checked.passes() {
+            (Entry::Rejected { path, report }, BookReply::Rejected)
+        } else if let Some(by) = holder(journal, &contact) {
+            (
+                Entry::Held { path, contact, by },
+                BookReply::Held { path: by },
+            )
+        } else if count_path(journal, path) == MAX_PATH_CONTACTS {
+            (Entry::Turned { path, contact }, BookReply::Turned)
+        } else {
+            (Entry::Taken { path, contact }, BookReply::Taken)
+        };
+        push(&mut self.journal, entry)?;
+        Ok(reply)
+    }
+}

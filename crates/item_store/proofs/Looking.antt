@@ -1,0 +1,61 @@
+-- What a look-up finds.
+use Rattle.std.proofs.Common.{◌≡◌, ℕ, ◌↔◌, Bool, true, false, cond, List, [], ◌∷◌, Option, Some, None, Result, Ok, Err, refl, sym, ap, ◌∙◌, subst}
+use Rattle.std.specs.List.{All, list_any}
+use Rattle.std.specs.Map.{keys_of}
+use Rattle.std.specs.Option.{is_some, IfSome}
+use Rattle.std.proofs.lemmas.Map.Made.{is_some-lookup}
+use Rattle.std.proofs.lemmas.List.Elements.{All-head, All-tail}
+use Rattle.std.proofs.lemmas.Map.Text.{is_eq-slice_cmp}
+use Rattle.std.proofs.lemmas.Slice.Eq.{bytes_eq-Decides}
+use Rattle.std.specs.Ordering.{is_eq}
+use Rattle.kad_base.specs.Puzzles.{hash}
+use Rattle.kad_base.specs.declared.plain.Id.{Id}
+use Rattle.kad_base.specs.declared.plain.NoMemory.{NoMemory}
+use Rattle.peer_store.specs.declared.peers.Stored.{Stored}
+use Rattle.peer_store.specs.declared.peers.Stored.TheVariants.{New, Renewed}
+use Rattle.item_store.specs.declared.held.Item.{Item}
+use Rattle.item_store.specs.Items.{Held, IsItem, IsSound, Holds, key_cmp, found}
+
+-- what a look-up found says whether the key is held
+pub holds_where : (held : List Held) (key : Id) (o : Option Item) → o ≡ found held key → is_some o ≡ list_any (λ k. is_eq (key_cmp key k)) (keys_of held)
+holds_where held key o e = ap is_some e ∙ is_some-lookup (λ k. is_eq (key_cmp key k)) held
+
+-- what an insertion answers, by what it found
+pub found_some : (held : List Held) (key : Id) (o : Option Item) (i : Item) → o ≡ Some i → o ≡ found held key
+    → (◌≡◌ {A = Result Stored NoMemory} (Ok Renewed) (Ok Renewed)) ↔ Holds held key
+found_some held key o i is e = (λ h. sym (holds_where held key o e) ∙ ap is_some is, λ h. refl)
+
+pub found_none : (held : List Held) (key : Id) (o : Option Item) → o ≡ None → o ≡ found held key
+    → (◌≡◌ {A = Result Stored NoMemory} (Ok New) (Ok Renewed)) ↔ Holds held key
+found_none held key o is e =
+    let absent : false ≡ list_any (λ k. is_eq (key_cmp key k)) (keys_of held) = ap is_some (sym is) ∙ holds_where held key o e in
+    (λ h. absurd cc, λ h. absurd cc)
+
+pub found_no_memory : (held : List Held) (key : Id) (fault : NoMemory) → found held key ≡ None
+    → (◌≡◌ {A = Result Stored NoMemory} (Err fault) (Ok Renewed)) ↔ Holds held key
+found_no_memory held key fault e =
+    let absent : false ≡ list_any (λ k. is_eq (key_cmp key k)) (keys_of held) = holds_where held key None (sym e) in
+    (λ h. absurd cc, λ h. absurd cc)
+
+-- what stands under a key
+pub record Stands (key : Id) (v : List ℕ) : Type 0 where
+  pub item : IsItem v
+  pub of_key : key.0 ≡ hash v
+
+found_sound : (held : List Held) (key : Id) → All IsSound held → IfSome (found held key) (λ i. Stands key i.v)
+found_sound [] key all = tt
+found_sound (h ∷ held) key all =
+    by (is_eq (key_cmp key h.0)) refl (found_sound held key (All-tail IsSound h held all))
+  where
+    by : (b : Bool) → is_eq (key_cmp key h.0) ≡ b → IfSome (found held key) (λ i. Stands key i.v) → IfSome (cond b (Some h.1) (found held key)) (λ i. Stands key i.v)
+    by true e rest =
+        let sound = All-head IsSound h held all in
+        let same : key.0 ≡ h.0.0 = (bytes_eq-Decides key.0 h.0.0).0 (sym (is_eq-slice_cmp key.0 h.0.0) ∙ e) in
+        record { item = sound.item; of_key = same ∙ sound.key }
+    by false e rest = rest
+
+-- a found item stands under its key
+pub stands_at : (held : List Held) (key : Id) (i : Item) (v : List ℕ) → All IsSound held → Some i ≡ found held key → v ≡ i.v → Stands key v
+stands_at held key i v all is same =
+    let stands : Stands key i.v = subst (λ o. IfSome o (λ j. Stands key j.v)) (sym is) (found_sound held key all) in
+    subst (Stands key) (sym same) stands

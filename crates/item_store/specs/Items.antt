@@ -1,0 +1,95 @@
+-- The immutable items that a node keeps for others (BEP 44), as a flat list. The numbers are this project's own.
+use Rattle.std.specs.Prelude.{◌≡◌, ℕ, ◌-◌, ◌≤◌, Bool, nat_lt, List, length, filter, IsTrue, Option, Some, None, if◌then◌else◌}
+use Rattle.std.specs.List.{All, list_any}
+use Rattle.std.specs.List.Sorted.{IsStrictlySortedBy}
+use Rattle.std.specs.Map.{keys_of, lookup}
+use Rattle.std.specs.BTreeMap.{insert_entry}
+use Rattle.std.specs.Ordering.{is_eq, nat_cmp}
+use Rattle.std.specs.Cmp.Lexicographic.{slice_cmp}
+use Rattle.std.specs.declared.cmp.Ordering.{Ordering}
+use Rattle.kad_base.specs.Puzzles.{hash}
+use Rattle.kad_base.specs.declared.plain.Id.{Id}
+use Rattle.kad_bencode.specs.Spelling.{Fits, text_of, in_order}
+use Rattle.kad_bencode.specs.declared.value.Value.{Value}
+use Rattle.item_store.specs.declared.held.Item.{Item}
+
+-- the most items that are kept
+abbrev pub max_items : ℕ
+max_items = 4096
+
+-- how long an item is kept and handed out after its last add, in milliseconds
+abbrev pub max_age : ℕ
+max_age = 7200000
+
+-- the most bytes of an item's written form
+abbrev pub max_length : ℕ
+max_length = 1000
+
+-- the bytes are the written form of a value that may stand where two lists or dictionaries are open around it, as they are
+-- in a message: of 16 at most 14 are its own
+pub record IsWritten (bytes : List ℕ) : Type 0 where
+  pub value : Value
+  pub text : bytes ≡ text_of value
+  pub fits : Fits 2 value
+  pub ordered : in_order value ≡ value
+
+-- the bytes may be an item: the written form of a value, and not too long
+pub record IsItem (bytes : List ℕ) : Type 0 where
+  pub short : length bytes ≤ max_length
+  pub written : IsWritten bytes
+
+-- the key of an item: the SHA-1 of its written form
+abbrev pub key_of : List ℕ → Id
+key_of bytes = record { 0 = hash bytes }
+
+-- an item that is held, under its key
+abbrev pub Held : Type 0
+Held = Id × Item
+
+-- the order of keys, by their bytes
+abbrev pub key_cmp : Id → Id → Ordering
+key_cmp a b = slice_cmp nat_cmp a.0 b.0
+
+-- an item stands under its own key
+pub record IsSound (h : Held) : Type 0 where
+  pub key : h.0.0 ≡ hash h.1.v
+  pub item : IsItem h.1.v
+
+-- what is held: each key once, in order, no more than there may be, and each item under its own key
+pub record IsItems (held : List Held) : Type 0 where
+  pub sorted : IsStrictlySortedBy key_cmp (keys_of held)
+  pub few : length held ≤ max_items
+  pub sound : All IsSound held
+
+-- an item of the key is held
+abbrev pub Holds : List Held → Id → Type 0
+Holds held key = IsTrue (list_any (λ k. is_eq (key_cmp key k)) (keys_of held))
+
+-- an item of the key has no place: none is held, and as many are as may be
+abbrev pub HasNoPlace : List Held → Id → Type 0
+HasNoPlace held key = (¬ (Holds held key)) × (length held ≡ max_items)
+
+-- the last add is less than the greatest age before the moment. One after the moment counts as 0 before it.
+abbrev pub is_fresh : ℕ → Item → Bool
+is_fresh at item = nat_lt (at - item.last) max_age
+
+-- what is held after the item was added at the moment: under its key, with this last add
+abbrev pub with_item : List Held → List ℕ → ℕ → List Held
+with_item held v at = insert_entry key_cmp held (key_of v) (record { v = v; last = at })
+
+-- what is held after a purge at the moment: all that is fresh
+abbrev pub purged : List Held → ℕ → List Held
+purged held at = filter (λ h. is_fresh at h.1) held
+
+-- what is held under the key
+abbrev pub found : List Held → Id → Option Item
+found held key = lookup (λ k. is_eq (key_cmp key k)) held
+
+-- the written form of what was found, if it is fresh
+abbrev pub if_fresh : ℕ → Option Item → Option (List ℕ)
+if_fresh at None = None
+if_fresh at (Some item) = if is_fresh at item then Some item.v else None
+
+-- the item of the key that is handed out at the moment
+abbrev pub handed_out : List Held → Id → ℕ → Option (List ℕ)
+handed_out held key at = if_fresh at (found held key)

@@ -1,0 +1,133 @@
+//! The items of a node.
+ghost use Rattle.std.specs.Prelude.{◌≡◌, ◌↔◌, [], OnOk, OnErr, IfOk, IfSome, option_copied};
+ghost use Rattle.kad_base.specs.Puzzles.{hash};
+ghost use Rattle.item_store.specs.Items.{IsItem, IsItems, Holds, HasNoPlace, key_of, with_item, purged, handed_out};
+
+use crate::held::{Held, Item, MAX_AGE, drop_old, find, has_no_place, is_fresh, oldest, put};
+use kad_base::{Bytes, Id, List, NoMemory};
+use peer_store::Stored;
+use sha1::Sha1;
+use std::alloc::Global;
+use std::collections::BTreeMap;
+use std::marker::Model;
+use thiserror::Error;
+
+/// Why an item wasn't added.
+#[derive(Clone, Copy, Debug, PartialEq, Eq, Error)]
+pub enum ItemFault {
+    /// None of its key is held, and as many items are as may be: 4,096.
+    #[error("as many items are held as may be")]
+    Full,
+    /// None of its key is held, and there was no memory.
+    #[error("no memory")]
+    NoMemory,
+}
+
+/// The key of an immutable item (BEP 44): the SHA-1 of the written form of its value. Takes no memory.
+#[tactic(auto, unfolding(kad_base::specs::Puzzles::hash))]
+pub fn item_key(v: &[u8]) -> Id
+    ensures { result ≡ key_of v.now }
+{
+    Id(Sha1::digest(v))
+}
+
+/// The immutable items that a node keeps for others (BEP 44), each under the SHA-1 of its written form, with the moment of
+/// its last add, in milliseconds. They stand in a B-tree in order of their keys, so no choice of values makes a search
+/// longer: it makes at most some 55 comparisons among 4,096 items.
+#[derive(Debug, Drop)]
+pub struct Items {
+    alloc: Global,
+    held: Held,
+    /// No last add is before it.
+    since: u64,
+}
+
+impl Model for Items {
+    ghost use Rattle.item_store.specs.Items.{Held};
+    ghost use Rattle.std.specs.Prelude.{List};
+    ghost use Rattle.item_store.specs.Kept.{IsKept};
+
+    ghost Value = { List Held };
+
+    ghost view = { λ s. s.held.entries };
+
+    ghost invariant = { λ s. IsKept s.held.entries s.since };
+}
+
+impl Items {
+    /// No items. Takes no memory.
+    pub fn new(alloc: Global) -> Items
+        ensures { result ≡ [] }
+    {
+        Items {
+            alloc,
+            held: BTreeMap::new(alloc),
+            since: u64::MAX,
+        }
+    }
+
+    /// Adds the item at the moment, or sets its last add where its key is held, be it earlier or later than it was. `v` is
+    /// the written form of its value, of at most 1,000 bytes and with at most 14 lists and dictionaries one in another. An
+    /// item that is held takes no memory; of two values with one key the last is kept. On a fault all is as before. Costs
+    /// one SHA-1 and one search, and a second one where no place is left.
+    pub fn add(&mut self, v: Bytes, at: u64) -> Result<Stored, ItemFault>
+        requires { IsItem v }
+        ensures stored { OnOk result (self.new ≡ with_item self.old v at) }
+        ensures fault { OnErr result (self.new ≡ self.old) }
+        ensures renewed { (result ≡ Ok Stored.Renewed) ↔ Holds self.old (key_of v) }
+        ensures full { (result ≡ Err ItemFault.Full) ↔ HasNoPlace self.old (key_of v) }
+    {
+        let key = item_key(v.as_slice());
+        if has_no_place(&self.held, key) {
+            return Err(ItemFault::Full);
+        }
+        let stored = match put(&mut self.held, key, Item { v, last: at }) {
+            Ok(stored) => stored,
+            Err(NoMemory) => return Err(ItemFault::NoMemory),
+        };
+        self.since = self.since.min(at);
+        Ok(stored)
+    }
+
+    /// The written form of the item with this key, if its last add is less than two hours before the moment. A last add
+    /// after the moment counts as 0 before it. Takes no memory. Costs one search.
+    pub fn get(&self, key: &Id, at: u64) -> Option<&[u8]>
+        ensures handed_out { option_copied result ≡ handed_out self.now key.now at }
+        ensures item { IfSome (option_copied result) IsItem }
+        ensures key { IfSome (option_copied result) (λ v. key.now.0 ≡ hash v) }
+        ensures items { IsItems self.now }
+    {
+        let item = find(&self.held, key)?;
+        if is_fresh(item.last, at) {
+            return Some(item.v.as_slice());
+        }
+        None
+    }
+
+    /// A copy of what `get` answers.
+    pub(crate) fn copied(&self, key: &Id, at: u64) -> Result<Option<Bytes>, NoMemory>
+        ensures { IfOk result (λ v. v ≡ handed_out self.now key.now at) }
+    {
+        match self.get(key, at) {
+            Some(v) => {
+                let copy = List::from_slice(self.alloc, v)?;
+                Ok(Some(copy))
+            }
+            None => Ok(None),
+        }
+    }
+
+    /// Drops the items whose last add is two hours or more before the moment. A last add after the moment counts as 0
+    /// before it. Takes no memory. Costs one comparison while no add is that old that was ever the earliest; else two
+    /// passes over all that is held. While moments don't fall, no two purges at one moment make a pass, and there are no
+    /// more passes than there were different moments of adds.
+    pub fn purge(&mut self, at: u64)
+        ensures { self.new ≡ purged self.old at }
+    {
+        if at.saturating_sub(self.since) < MAX_AGE {
+            return;
+        }
+        drop_old(&mut self.held, at);
+        self.since = oldest(&self.held);
+    }
+}

@@ -1,0 +1,57 @@
+//! A store of items as an object whose calls are steps.
+ghost use Rattle.std.specs.Prelude.{◌≡◌};
+ghost use Rattle.item_store.specs.Items.{IsItem};
+ghost use Rattle.item_store.specs.Steps.{ItemMay, ItemStep, item_after};
+ghost use Rattle.item_store.specs.declared.calls.ItemCall.{ItemCall};
+
+use crate::calls::{ItemCall, ItemReply};
+use crate::items::{ItemFault, Items};
+use kad_base::{Bytes, Id, NoMemory, Serial};
+
+impl Items {
+    /// Answers what became of an item.
+    fn add_one(&mut self, v: Bytes, at: u64) -> ItemReply
+        requires { IsItem v }
+        ensures step { ItemStep self.old 0 (ItemCall.Add v at) result }
+        ensures after { self.new ≡ item_after self.old 0 (ItemCall.Add v at) result }
+    {
+        match self.add(v, at) {
+            Ok(stored) => ItemReply::Stored { stored },
+            Err(ItemFault::Full) => ItemReply::Full,
+            Err(ItemFault::NoMemory) => ItemReply::NoMemory,
+        }
+    }
+
+    /// Answers with a copy of the written form of an item.
+    fn find_one(&self, key: &Id, at: u64) -> ItemReply
+        ensures { ItemStep self.now 0 (ItemCall.Get key.now at) result }
+    {
+        match self.copied(key, at) {
+            Ok(v) => ItemReply::Found { v },
+            Err(NoMemory) => ItemReply::NoMemory,
+        }
+    }
+}
+
+impl Serial for Items {
+    type Call = ItemCall;
+
+    type Reply = ItemReply;
+
+    ghost may = { ItemMay };
+
+    ghost step = { ItemStep };
+
+    ghost after = { item_after };
+
+    fn apply(&mut self, role: u8, call: ItemCall) -> ItemReply {
+        match call {
+            ItemCall::Add { v, at } => self.add_one(v, at),
+            ItemCall::Get { key, at } => self.find_one(&key, at),
+            ItemCall::Purge { at } => {
+                self.purge(at);
+                ItemReply::Purged
+            }
+        }
+    }
+}

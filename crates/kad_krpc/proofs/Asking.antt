@@ -1,0 +1,150 @@
+-- What a query asks, by each law of a message: a method more is a line in each.
+use Rattle.std.proofs.Common.{◌≡◌, ◌≢◌, ℕ, ◌<◌, ◌≤◌, true, false, cond, ◌&&◌, List, [], nat_le, nat_lt, ℤ, pos, negsuc, Option, Some, None, Ok, refl, sym, ap, ◌∙◌, arith}
+use Rattle.std.specs.Prelude.{codes}
+use Rattle.std.proofs.lemmas.Bool.{lt-ltb, le-leb}
+use Rattle.std.proofs.lemmas.Bool.Decides.{nat_tests}
+use Rattle.kad_base.specs.declared.plain.Id.{Id}
+use Rattle.kad_bencode.specs.Keys.{value_of}
+use Rattle.kad_bencode.specs.Parts.{bytes_of, integer_of}
+use Rattle.kad_bencode.specs.declared.value.Value.{Value}
+use Rattle.kad_bencode.specs.declared.value.Value.TheVariants.{Int, Dict}
+use Rattle.kad_krpc.specs.declared.message.Ask.{Ask}
+use Rattle.kad_krpc.specs.declared.message.Ask.TheVariants.{Ping, FindNode, GetPeers, AnnouncePeer, Other}
+use Rattle.kad_krpc.specs.declared.message.Port.TheVariants.{Given, Implied}
+use Rattle.kad_krpc.specs.declared.message.Method.{Method}
+use Rattle.kad_krpc.specs.declared.message.Method.TheVariants as method
+use Rattle.kad_krpc.specs.declared.message.Key.{Key}
+use Rattle.kad_krpc.specs.declared.message.Key.TheVariants as key
+use Rattle.kad_krpc.specs.Fields.{Step, Look, then, of_kind, needed, optional, look_of, id_of}
+use Rattle.kad_krpc.specs.Asking.{port_in, port_of, is_implied, port_by, rest_at, arguments_at, ask_by, ask_of, method_in, arguments_of, name_of, IsGivenPort, IsUnknown, IsWritableAsk, IsWellAsk}
+use Rattle.kad_krpc.proofs.Stepping.{NotBad, both, either, needs, options, Gets, Any, any, after, gets_either, none_some, bytes_text, integer_int, look_dict, id_text, stepped, had, had_some, differs}
+use Rattle.kad_krpc.proofs.Pairing.{Good, good_text, good_int, good_dict, small, Within, text_within, int_within}
+
+-- ---- no step of it fails as bencode does
+
+ports : (i p : Option Value) → NotBad (port_by i p)
+ports i p = both (optional integer_of key.ImpliedPort i) _ (options integer_of key.ImpliedPort i) (λ n. either (is_implied n) _ _ tt (both (needed port_of key.Port p) _ (needs port_of key.Port p) (λ x. tt)))
+
+rests_not_bad : (m : Method) (a : Look) (id : Id) → NotBad (rest_at m a id)
+rests_not_bad method.Ping a id = tt
+rests_not_bad method.FindNode a id = both (needed id_of key.Target (a (codes "target"))) _ (needs id_of key.Target (a (codes "target"))) (λ x. tt)
+rests_not_bad method.GetPeers a id = both (needed id_of key.InfoHash (a (codes "info_hash"))) _ (needs id_of key.InfoHash (a (codes "info_hash"))) (λ x. tt)
+rests_not_bad method.AnnouncePeer a id =
+    both (needed id_of key.InfoHash (a (codes "info_hash"))) _ (needs id_of key.InfoHash (a (codes "info_hash"))) (λ h.
+    both (needed bytes_of key.Token (a (codes "token"))) _ (needs bytes_of key.Token (a (codes "token"))) (λ t.
+    both (port_by (a (codes "implied_port")) (a (codes "port"))) _ (ports (a (codes "implied_port")) (a (codes "port"))) (λ p. tt)))
+
+pub asks_not_bad : (m : Option Method) (name : List ℕ) (a : Option Value) → NotBad (ask_by m name a)
+asks_not_bad None name a = tt
+asks_not_bad (Some m) name a = both (needed look_of key.A a) _ (needs look_of key.A a) (λ d. both (needed id_of key.Id (d (codes "id"))) _ (needs id_of key.Id (d (codes "id"))) (λ id. rests_not_bad m d id))
+
+-- ---- what is read has a written form
+
+port_there : (k : Key) (i : Option ℤ) → Gets (λ n. n ≢ 0) (of_kind k (port_in i))
+port_there k None = tt
+port_there k (Some (negsuc n)) = tt
+port_there k (Some (pos n)) =
+    elim (nat_le 1 n && nat_lt n 65536) as (λ b. (nat_le 1 n && nat_lt n 65536) ≡ b → Gets (λ m. m ≢ 0) (of_kind k (cond b (Some n) None))) [
+      | true ↦ λ e. λ z. grind (arith, nat_tests)
+      | false ↦ λ e. tt
+    ] refl
+
+needs_port : (k : Key) (o : Option Value) → Gets (λ n. n ≢ 0) (needed port_of k o)
+needs_port k None = tt
+needs_port k (Some v) = port_there k (integer_of v)
+
+given_port : (i p : Option Value) → Gets IsGivenPort (port_by i p)
+given_port i p =
+    after Any IsGivenPort (optional integer_of key.ImpliedPort i) _ (any (optional integer_of key.ImpliedPort i)) (λ n u.
+    gets_either IsGivenPort (is_implied n) (Ok Implied) (then (needed port_of key.Port p) (λ given. Ok (Given given))) tt
+    (after (λ n. n ≢ 0) IsGivenPort (needed port_of key.Port p) (λ given. Ok (Given given)) (needs_port key.Port p) (λ given h. h)))
+
+rests_get : (m : Method) (a : Look) (id : Id) → Gets IsWritableAsk (rest_at m a id)
+rests_get method.Ping a id = tt
+rests_get method.FindNode a id = after Any IsWritableAsk (needed id_of key.Target (a (codes "target"))) _ (any (needed id_of key.Target (a (codes "target")))) (λ x u. tt)
+rests_get method.GetPeers a id = after Any IsWritableAsk (needed id_of key.InfoHash (a (codes "info_hash"))) _ (any (needed id_of key.InfoHash (a (codes "info_hash")))) (λ x u. tt)
+rests_get method.AnnouncePeer a id =
+    after Any IsWritableAsk (needed id_of key.InfoHash (a (codes "info_hash"))) _ (any (needed id_of key.InfoHash (a (codes "info_hash")))) (λ h u.
+    after Any IsWritableAsk (needed bytes_of key.Token (a (codes "token"))) _ (any (needed bytes_of key.Token (a (codes "token")))) (λ t w.
+    after IsGivenPort IsWritableAsk (port_by (a (codes "implied_port")) (a (codes "port"))) _ (given_port (a (codes "implied_port")) (a (codes "port"))) (λ p g. g)))
+
+arguments_get : (m : Method) (a : Option Value) → Gets IsWritableAsk (arguments_at m a)
+arguments_get m a =
+    after Any IsWritableAsk (needed look_of key.A a) _ (any (needed look_of key.A a)) (λ ps u.
+    after Any IsWritableAsk (needed id_of key.Id (ps (codes "id"))) _ (any (needed id_of key.Id (ps (codes "id")))) (λ id w. rests_get m ps id))
+
+unknown : (name : List ℕ) → method_in name ≡ None → IsUnknown name
+unknown name e = record {
+  ping = λ h. none_some (sym e ∙ ap method_in h);
+  find_node = λ h. none_some (sym e ∙ ap method_in h);
+  get_peers = λ h. none_some (sym e ∙ ap method_in h);
+  announce_peer = λ h. none_some (sym e ∙ ap method_in h);
+}
+
+pub asks_get : (m : Option Method) (name : List ℕ) (a : Option Value) → method_in name ≡ m → Gets IsWritableAsk (ask_by m name a)
+asks_get None name a e = unknown name e
+asks_get (Some m) name a e = arguments_get m a
+
+-- ---- what is written is a value that bencode reads back, and is shallow
+
+pub good_ask : (ask : Ask) → IsWellAsk ask → Good (Dict (arguments_of ask))
+good_ask (Ping id) w = good_dict (arguments_of (Ping id)) (good_text id.0, tt) refl refl
+good_ask (FindNode id target) w = good_dict (arguments_of (FindNode id target)) (good_text id.0, (good_text target.0, tt)) refl refl
+good_ask (GetPeers id info_hash) w = good_dict (arguments_of (GetPeers id info_hash)) (good_text id.0, (good_text info_hash.0, tt)) refl refl
+good_ask (AnnouncePeer id info_hash (Given port) token) w = good_dict (arguments_of (AnnouncePeer id info_hash (Given port) token)) (good_text id.0, (good_text info_hash.0, (good_int (pos port) (small port w.1.1), (good_text token, tt)))) refl refl
+good_ask (AnnouncePeer id info_hash Implied token) w = good_dict (arguments_of (AnnouncePeer id info_hash Implied token)) (good_text id.0, (good_int (pos 1) refl, (good_text info_hash.0, (good_int (pos 1) refl, (good_text token, tt))))) refl refl
+good_ask (Other method) w = good_dict [] tt refl refl
+
+pub ask_within : (ask : Ask) → Within 1 (arguments_of ask)
+ask_within (Ping id) = (text_within 1 id.0, tt)
+ask_within (FindNode id target) = (text_within 1 id.0, (text_within 1 target.0, tt))
+ask_within (GetPeers id info_hash) = (text_within 1 id.0, (text_within 1 info_hash.0, tt))
+ask_within (AnnouncePeer id info_hash (Given port) token) = (text_within 1 id.0, (text_within 1 info_hash.0, (int_within 1 (pos port), (text_within 1 token, tt))))
+ask_within (AnnouncePeer id info_hash Implied token) = (text_within 1 id.0, (int_within 1 (pos 1), (text_within 1 info_hash.0, (int_within 1 (pos 1), (text_within 1 token, tt)))))
+ask_within (Other method) = tt
+
+-- ---- what is written is read back
+
+port_int : (p : ℕ) → p ≢ 0 → p < 65536 → port_of (Int (pos p)) ≡ Some p
+port_int p n h =
+    let one : 1 ≤ p = omega (arith, λ (e : p ≡ 0). n e) in
+    ap port_in (integer_int (pos p)) ∙ (λ i. cond (le-leb 1 p one i && lt-ltb p 65536 h i) (Some p) None)
+
+given_back : (p : ℕ) → p ≢ 0 → p < 65536 → port_by None (Some (Int (pos p))) ≡ Ok (Given p)
+given_back p n h = ap (λ s. then s (λ given. Ok (Given given))) (had port_of key.Port (Int (pos p)) p (port_int p n h))
+
+implied_back : (v : Option Value) → port_by (Some (Int (pos 1))) v ≡ Ok Implied
+implied_back v = ap (λ (s : Step (Option ℤ)). then s (λ implied. cond (is_implied implied) (Ok Implied) (then (needed port_of key.Port v) (λ given. Ok (Given given))))) (had_some integer_of key.ImpliedPort (Int (pos 1)) (pos 1) (integer_int (pos 1)))
+
+names : (name : List ℕ) → IsUnknown name → method_in name ≡ None
+names name u =
+    (λ i. cond (differs name (codes "ping") u.ping i) (Some method.Ping)
+    (cond (differs name (codes "find_node") u.find_node i) (Some method.FindNode)
+    (cond (differs name (codes "get_peers") u.get_peers i) (Some method.GetPeers)
+    (cond (differs name (codes "announce_peer") u.announce_peer i) (Some method.AnnouncePeer) None))))
+
+pub ask_back : (ask : Ask) → IsWellAsk ask → IsWritableAsk ask → ask_of (name_of ask) (Some (Dict (arguments_of ask))) ≡ Ok ask
+ask_back (Ping id) w n =
+    stepped _ (value_of (arguments_of (Ping id))) _ _ (had look_of key.A _ _ (look_dict (arguments_of (Ping id))))
+    (stepped _ id _ _ (had id_of key.Id _ _ (id_text id w)) refl)
+ask_back (FindNode id target) w n =
+    stepped _ (value_of (arguments_of (FindNode id target))) _ _ (had look_of key.A _ _ (look_dict (arguments_of (FindNode id target))))
+    (stepped _ id _ _ (had id_of key.Id _ _ (id_text id w.0))
+    (stepped _ target _ _ (had id_of key.Target _ _ (id_text target w.1)) refl))
+ask_back (GetPeers id info_hash) w n =
+    stepped _ (value_of (arguments_of (GetPeers id info_hash))) _ _ (had look_of key.A _ _ (look_dict (arguments_of (GetPeers id info_hash))))
+    (stepped _ id _ _ (had id_of key.Id _ _ (id_text id w.0))
+    (stepped _ info_hash _ _ (had id_of key.InfoHash _ _ (id_text info_hash w.1)) refl))
+ask_back (AnnouncePeer id info_hash (Given port) token) w n =
+    stepped _ (value_of (arguments_of (AnnouncePeer id info_hash (Given port) token))) _ _ (had look_of key.A _ _ (look_dict (arguments_of (AnnouncePeer id info_hash (Given port) token))))
+    (stepped _ id _ _ (had id_of key.Id _ _ (id_text id w.0))
+    (stepped _ info_hash _ _ (had id_of key.InfoHash _ _ (id_text info_hash w.1.0))
+    (stepped _ token _ _ (had bytes_of key.Token _ _ (bytes_text token))
+    (stepped _ (Given port) (λ p. Ok (AnnouncePeer id info_hash p token)) _ (given_back port n w.1.1) refl))))
+ask_back (AnnouncePeer id info_hash Implied token) w n =
+    stepped _ (value_of (arguments_of (AnnouncePeer id info_hash Implied token))) _ _ (had look_of key.A _ _ (look_dict (arguments_of (AnnouncePeer id info_hash Implied token))))
+    (stepped _ id _ _ (had id_of key.Id _ _ (id_text id w.0))
+    (stepped _ info_hash _ _ (had id_of key.InfoHash _ _ (id_text info_hash w.1.0))
+    (stepped _ token _ _ (had bytes_of key.Token _ _ (bytes_text token))
+    (stepped _ Implied (λ p. Ok (AnnouncePeer id info_hash p token)) _ (implied_back (value_of (arguments_of (AnnouncePeer id info_hash Implied token)) (codes "port"))) refl))))
+ask_back (Other name) w n = ap (λ m. ask_by m name (Some (Dict []))) (names name n)

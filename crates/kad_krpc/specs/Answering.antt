@@ -1,0 +1,89 @@
+-- The dictionary `r` of an answer (BEP 5; `snodes` and the order of the steps are this project's own): how it is read,
+-- how it is written, and which answers have a written form. A key more is a line in each part.
+use Rattle.std.specs.Prelude.{List, ◌++◌, codes, Option, option_copied, Result, Ok, Err}
+use Rattle.kad_base.specs.declared.plain.Addr.{Addr}
+use Rattle.kad_base.specs.declared.plain.Contact.{Contact}
+use Rattle.kad_base.specs.declared.plain.Report.{Report}
+use Rattle.kad_bencode.specs.Parts.{bytes_of, list_of}
+use Rattle.kad_bencode.specs.declared.entries.Pair.{Pair}
+use Rattle.kad_bencode.specs.declared.value.Value.{Value}
+use Rattle.kad_bencode.specs.declared.value.Value.TheVariants.{Text}
+use Rattle.kad_krpc.specs.declared.message.Answer.{Answer}
+use Rattle.kad_krpc.specs.declared.message.Key.TheVariants as key
+use Rattle.kad_krpc.specs.declared.message.KrpcFault.{KrpcFault}
+use Rattle.kad_krpc.specs.declared.answer.AnswerView.{AnswerView}
+use Rattle.kad_records.specs.Records.{nodes_bytes, snodes_bytes, peers_value, node_in, proved_in, IsV4, IsNode, IsProved, IsWellId, IsWellAddr, IsWellContact, IsWellReport}
+use Rattle.kad_krpc.specs.Fields.{Step, Look, then, needed, optional, id_of, records_by, peers_in, pair, maybe, Each}
+
+-- ---- read
+
+-- the value of `nodes`: records of 26 bytes, where it is there
+abbrev pub nodes_by : Option Value → Step (Option (List Contact))
+nodes_by nodes = records_by 26 node_in key.Nodes nodes
+
+-- the value of `snodes`: records of 78 bytes, where it is there (this project's own)
+abbrev pub snodes_by : Option Value → Step (Option (List Report))
+snodes_by snodes = records_by 78 proved_in key.Snodes snodes
+
+-- the value of `values`: peers, where it is there
+abbrev pub values_by : Option Value → Step (Option (List Addr))
+values_by values = then (optional list_of key.Values values) (λ values. Ok (peers_in values))
+
+-- an answer, by the values of its five keys; who answered comes first
+abbrev pub answer_by : Option Value → Option Value → Option Value → Option Value → Option Value → Step Answer
+answer_by id nodes snodes token values =
+    then (needed id_of key.Id id) (λ id.
+    then (nodes_by nodes) (λ nodes.
+    then (snodes_by snodes) (λ snodes.
+    then (optional bytes_of key.Token token) (λ token.
+    then (values_by values) (λ values.
+    Ok (record { id = id; nodes = nodes; snodes = snodes; token = token; values = values }))))))
+
+-- the answer that a dictionary says
+abbrev pub answer_at : Look → Step Answer
+answer_at r = answer_by (r (codes "id")) (r (codes "nodes")) (r (codes "snodes")) (r (codes "token")) (r (codes "values"))
+
+-- ---- written
+
+-- a string of the records of the nodes, one after another (compact node info)
+abbrev pub nodes_value : List Contact → Value
+nodes_value nodes = Text (nodes_bytes nodes)
+
+-- the same of nodes with their proofs (this project's own)
+abbrev pub snodes_value : List Report → Value
+snodes_value snodes = Text (snodes_bytes snodes)
+
+-- the `r` of an answer: who answered, and those of its parts that it has
+abbrev pub answer_pairs : Answer → List (Pair Value)
+answer_pairs answer =
+    pair (codes "id") (Text answer.id.0)
+    ++ maybe (codes "nodes") nodes_value answer.nodes
+    ++ maybe (codes "snodes") snodes_value answer.snodes
+    ++ maybe (codes "token") Text answer.token
+    ++ maybe (codes "values") peers_value answer.values
+
+-- ---- which answers there are
+
+-- each part of the answer has a written form
+pub record IsWritableAnswer (answer : Answer) : Type 0 where
+  pub nodes : Each IsNode answer.nodes
+  pub snodes : Each IsProved answer.snodes
+  pub values : Each (λ (a : Addr). IsV4 a.ip) answer.values
+
+-- each part of an answer has arrays and numbers as its types have them
+pub record IsWellAnswer (answer : Answer) : Type 0 where
+  pub id : IsWellId answer.id
+  pub nodes : Each IsWellContact answer.nodes
+  pub snodes : Each IsWellReport answer.snodes
+  pub values : Each IsWellAddr answer.values
+
+-- ---- where it stands in its datagram
+
+-- what a view gives
+abbrev pub answer_seen : AnswerView → Answer
+answer_seen a = record { id = a.id; nodes = a.nodes; snodes = a.snodes; token = option_copied a.token; values = peers_in a.values }
+
+-- what was answered, by a view of it, or the refusal
+abbrev pub answered : Result AnswerView KrpcFault → Step Answer
+answered (Ok x) = Ok (answer_seen x)
+answered (Err fault) = Err fault

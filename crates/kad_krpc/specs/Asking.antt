@@ -1,0 +1,193 @@
+-- The dictionary `a` of a query, by its method (BEP 5; the order of the steps is this project's own; `ro` is BEP 43's): how
+-- it is read, how it is written, and which queries have a written form. A method more is a line in each part.
+use Rattle.std.specs.Prelude.{◌≢◌, ◌<◌, ℕ, Bool, true, false, cond, ◌&&◌, List, [], ◌++◌, codes, bytes_eq, nat_eq, nat_le, nat_lt, ℤ, pos, negsuc, Option, Some, None, Result, Ok, Err}
+use Rattle.kad_base.specs.declared.plain.Id.{Id}
+use Rattle.kad_bencode.specs.Parts.{bytes_of, integer_of}
+use Rattle.kad_bencode.specs.declared.entries.Pair.{Pair}
+use Rattle.kad_bencode.specs.declared.value.Value.{Value}
+use Rattle.kad_bencode.specs.declared.value.Value.TheVariants.{Int, Text}
+use Rattle.kad_krpc.specs.declared.message.Ask.{Ask}
+use Rattle.kad_krpc.specs.declared.message.Ask.TheVariants.{Ping, FindNode, GetPeers, AnnouncePeer, Other}
+use Rattle.kad_krpc.specs.declared.message.Port.{Port}
+use Rattle.kad_krpc.specs.declared.message.Port.TheVariants.{Given, Implied}
+use Rattle.kad_krpc.specs.declared.message.Key.TheVariants as key
+use Rattle.kad_krpc.specs.declared.message.KrpcFault.{KrpcFault}
+use Rattle.kad_krpc.specs.declared.message.Method.{Method}
+use Rattle.kad_krpc.specs.declared.message.Method.TheVariants.{Ping as Method_ping, FindNode as Method_find_node, GetPeers as Method_get_peers, AnnouncePeer as Method_announce_peer}
+use Rattle.kad_krpc.specs.declared.ask.AskView.{AskView}
+use Rattle.kad_krpc.specs.declared.ask.AskView.TheVariants as seen
+use Rattle.kad_records.specs.Records.{IsWellId}
+use Rattle.kad_krpc.specs.Fields.{Step, Look, then, needed, optional, look_of, id_of, pair}
+
+-- ---- read
+
+-- an integer of 1 to 65535
+abbrev pub port_in : Option ℤ → Option ℕ
+port_in None = None
+port_in (Some (pos n)) = cond (nat_le 1 n && nat_lt n 65536) (Some n) None
+port_in (Some (negsuc n)) = None
+
+-- the port that a value gives
+abbrev pub port_of : Value → Option ℕ
+port_of v = port_in (integer_of v)
+
+-- an implied port is any integer but 0
+abbrev pub is_implied : Option ℤ → Bool
+is_implied None = false
+is_implied (Some (pos n)) = nat_lt 0 n
+is_implied (Some (negsuc n)) = true
+
+-- the port that is announced: an implied one, whatever `port` says, or the one that `port` gives
+abbrev pub port_by : Option Value → Option Value → Step Port
+port_by implied_port port =
+    then (optional integer_of key.ImpliedPort implied_port) (λ implied.
+    cond (is_implied implied) (Ok Implied)
+    (then (needed port_of key.Port port) (λ given. Ok (Given given))))
+
+-- the rest of a find_node query: its target
+abbrev pub find_node_at : Look → Id → Step Ask
+find_node_at a id = then (needed id_of key.Target (a (codes "target"))) (λ target. Ok (FindNode id target))
+
+-- the rest of a get_peers query: its info hash
+abbrev pub get_peers_at : Look → Id → Step Ask
+get_peers_at a id = then (needed id_of key.InfoHash (a (codes "info_hash"))) (λ info_hash. Ok (GetPeers id info_hash))
+
+-- what an announce_peer query says, by the values of its keys: info hash, token, then port
+abbrev pub announced_by : Id → Option Value → Option Value → Option Value → Option Value → Step Ask
+announced_by id info_hash token implied_port port =
+    then (needed id_of key.InfoHash info_hash) (λ info_hash.
+    then (needed bytes_of key.Token token) (λ token.
+    then (port_by implied_port port) (λ port.
+    Ok (AnnouncePeer id info_hash port token))))
+
+-- the rest of an announce_peer query
+abbrev pub announce_peer_at : Look → Id → Step Ask
+announce_peer_at a id = announced_by id (a (codes "info_hash")) (a (codes "token")) (a (codes "implied_port")) (a (codes "port"))
+
+-- what a query says beside who asks, by its method
+abbrev pub rest_at : Method → Look → Id → Step Ask
+rest_at Method_ping a id = Ok (Ping id)
+rest_at Method_find_node a id = find_node_at a id
+rest_at Method_get_peers a id = get_peers_at a id
+rest_at Method_announce_peer a id = announce_peer_at a id
+
+-- who asks comes before what the method names
+abbrev pub arguments_at : Method → Option Value → Step Ask
+arguments_at method a =
+    then (needed look_of key.A a) (λ a.
+    then (needed id_of key.Id (a (codes "id"))) (λ id. rest_at method a id))
+
+-- the methods of BEP 5
+abbrev pub method_in : List ℕ → Option Method
+method_in name =
+    cond (bytes_eq name (codes "ping")) (Some Method_ping)
+    (cond (bytes_eq name (codes "find_node")) (Some Method_find_node)
+    (cond (bytes_eq name (codes "get_peers")) (Some Method_get_peers)
+    (cond (bytes_eq name (codes "announce_peer")) (Some Method_announce_peer) None)))
+
+-- what a method asks; the arguments of one that isn't known are not read
+abbrev pub ask_by : Option Method → List ℕ → Option Value → Step Ask
+ask_by None name a = Ok (Other name)
+ask_by (Some method) name a = arguments_at method a
+
+-- what a query asks, by the name of its method and its arguments
+abbrev pub ask_of : List ℕ → Option Value → Step Ask
+ask_of name a = ask_by (method_in name) name a
+
+-- a query is read-only exactly where `ro` is the integer 1
+abbrev pub is_one : Option ℤ → Bool
+is_one None = false
+is_one (Some (pos n)) = nat_eq n 1
+is_one (Some (negsuc n)) = false
+
+-- whether a query is read-only, by its `ro`, which may be missing (BEP 43)
+abbrev pub is_read_only : Option Value → Bool
+is_read_only None = false
+is_read_only (Some v) = is_one (integer_of v)
+
+-- ---- written
+
+-- an implied port is written as 1, beside `implied_port`
+abbrev pub announced : Id → Id → Port → List ℕ → List (Pair Value)
+announced id info_hash (Given port) token =
+    pair (codes "id") (Text id.0)
+    ++ pair (codes "info_hash") (Text info_hash.0)
+    ++ pair (codes "port") (Int (pos port))
+    ++ pair (codes "token") (Text token)
+announced id info_hash Implied token =
+    pair (codes "id") (Text id.0)
+    ++ pair (codes "implied_port") (Int (pos 1))
+    ++ pair (codes "info_hash") (Text info_hash.0)
+    ++ pair (codes "port") (Int (pos 1))
+    ++ pair (codes "token") (Text token)
+
+-- the arguments of a query; those of a method that isn't known are none
+abbrev pub arguments_of : Ask → List (Pair Value)
+arguments_of (Ping id) = pair (codes "id") (Text id.0)
+arguments_of (FindNode id target) = pair (codes "id") (Text id.0) ++ pair (codes "target") (Text target.0)
+arguments_of (GetPeers id info_hash) = pair (codes "id") (Text id.0) ++ pair (codes "info_hash") (Text info_hash.0)
+arguments_of (AnnouncePeer id info_hash port token) = announced id info_hash port token
+arguments_of (Other method) = []
+
+-- the `q` of a query: the name of its method
+abbrev pub name_of : Ask → List ℕ
+name_of (Ping id) = codes "ping"
+name_of (FindNode id target) = codes "find_node"
+name_of (GetPeers id info_hash) = codes "get_peers"
+name_of (AnnouncePeer id info_hash port token) = codes "announce_peer"
+name_of (Other method) = method
+
+-- a read-only query says `ro` 1; another says nothing of it (BEP 43)
+abbrev pub read_only_pair : Bool → List (Pair Value)
+read_only_pair true = pair (codes "ro") (Int (pos 1))
+read_only_pair false = []
+
+-- ---- which queries there are
+
+-- no peer announces port 0; an implied port says none
+abbrev pub IsGivenPort : Port → Type 0
+IsGivenPort (Given port) = port ≢ 0
+IsGivenPort Implied = Unit {0}
+
+-- a method that isn't known isn't named as one of the four
+pub record IsUnknown (method : List ℕ) : Type 0 where
+  pub ping : method ≢ codes "ping"
+  pub find_node : method ≢ codes "find_node"
+  pub get_peers : method ≢ codes "get_peers"
+  pub announce_peer : method ≢ codes "announce_peer"
+
+-- the query has a written form that is read back
+abbrev pub IsWritableAsk : Ask → Type 0
+IsWritableAsk (Ping id) = Unit {0}
+IsWritableAsk (FindNode id target) = Unit {0}
+IsWritableAsk (GetPeers id info_hash) = Unit {0}
+IsWritableAsk (AnnouncePeer id info_hash port token) = IsGivenPort port
+IsWritableAsk (Other method) = IsUnknown method
+
+-- the port that is announced has 16 bits
+abbrev pub IsWellPort : Port → Type 0
+IsWellPort (Given port) = port < 65536
+IsWellPort Implied = Unit {0}
+
+-- what a query asks has arrays and numbers as its types have them
+abbrev pub IsWellAsk : Ask → Type 0
+IsWellAsk (Ping id) = IsWellId id
+IsWellAsk (FindNode id target) = IsWellId id × IsWellId target
+IsWellAsk (GetPeers id info_hash) = IsWellId id × IsWellId info_hash
+IsWellAsk (AnnouncePeer id info_hash port token) = IsWellId id × (IsWellId info_hash × IsWellPort port)
+IsWellAsk (Other method) = Unit {0}
+
+-- ---- where it stands in its datagram
+
+-- what a view asks
+abbrev pub ask_seen : AskView → Ask
+ask_seen (seen.Ping id) = Ping id
+ask_seen (seen.FindNode id target) = FindNode id target
+ask_seen (seen.GetPeers id info_hash) = GetPeers id info_hash
+ask_seen (seen.AnnouncePeer id info_hash port token) = AnnouncePeer id info_hash port token.now
+ask_seen (seen.Other method) = Other method.now
+
+-- what was asked, by a view of it, or the refusal
+abbrev pub asked : Result AskView KrpcFault → Step Ask
+asked (Ok x) = Ok (ask_seen x)
+asked (Err fault) = Err fault

@@ -1,0 +1,4 @@
+pub mod Lists
+pub mod Cut
+pub mod Places
+pub mod Peers

@@ -1,0 +1,106 @@
+//! The kinds of records that a string is packed with.
+ghost use Rattle.std.specs.Prelude.{◌≡◌, length};
+ghost use Rattle.kad_base.specs.declared.plain.Contact.{Contact};
+ghost use Rattle.kad_base.specs.declared.plain.Report.{Report};
+ghost use Rattle.kad_records.specs.Records.{node_in, node_bytes, proved_in, proved_bytes};
+
+use crate::into::{put_node, put_proved};
+use crate::record::{array_at, read_addr};
+use kad_base::{Contact, Id, Proof, Report};
+
+/// A kind of record: what it is read as from so many bytes, and how it is written.
+pub trait Record: Drop {
+    ghost use Rattle.std.specs.Prelude.{◌≡◌, ◌<◌, ℕ, List, length};
+    ghost use Rattle.kad_bencode.specs.Written.{Puts};
+
+    /// What a record says.
+    type Item: Drop;
+
+    /// How many bytes it takes.
+    const SIZE: usize;
+
+    ghost SIZE: { ℕ };
+
+    ghost reads: { List ℕ → Self.Item };
+
+    ghost writes: { Self.Item → List ℕ };
+
+    /// What the bytes of a record say.
+    fn read(bytes: &[u8]) -> Self::Item
+        requires { length bytes.now ≡ SIZE }
+        ensures { result ≡ reads bytes.now };
+
+    /// Puts a record, as the puts of `kad_bencode` do.
+    fn put(buf: &mut [u8], at: usize, item: &Self::Item) -> usize
+        ensures { Puts buf.old buf.new at (writes item.now) result };
+
+    ghost some: { 0 < SIZE };
+}
+
+/// A node (BEP 5): identifier, IPv4 address and port, 26 bytes.
+#[derive(Drop)]
+pub struct Node;
+
+impl Record for Node {
+    ghost use Rattle.std.proofs.Common.{rules};
+
+    type Item = Contact;
+
+    const SIZE: usize = 26;
+
+    ghost SIZE = { 26 };
+
+    ghost reads = { node_in };
+
+    ghost writes = { node_bytes };
+
+    ghost some = { Prim.search rules };
+
+    fn read(bytes: &[u8]) -> Contact {
+        Contact {
+            id: Id(array_at(bytes, 0)),
+            addr: read_addr(bytes, 20),
+        }
+    }
+
+    fn put(buf: &mut [u8], at: usize, node: &Contact) -> usize {
+        put_node(buf, at, node)
+    }
+}
+
+/// A node with its proof, this project's own: identifier, public key, X, IPv4 address and port, 78 bytes.
+#[derive(Drop)]
+pub struct Proved;
+
+impl Record for Proved {
+    ghost use Rattle.std.proofs.Common.{rules};
+
+    type Item = Report;
+
+    const SIZE: usize = 78;
+
+    ghost SIZE = { 78 };
+
+    ghost reads = { proved_in };
+
+    ghost writes = { proved_bytes };
+
+    ghost some = { Prim.search rules };
+
+    fn read(bytes: &[u8]) -> Report {
+        Report {
+            contact: Contact {
+                id: Id(array_at(bytes, 0)),
+                addr: read_addr(bytes, 72),
+            },
+            proof: Some(Proof {
+                key: array_at(bytes, 20),
+                x: array_at(bytes, 52),
+            }),
+        }
+    }
+
+    fn put(buf: &mut [u8], at: usize, report: &Report) -> usize {
+        put_proved(buf, at, report)
+    }
+}

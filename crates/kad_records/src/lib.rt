@@ -1,0 +1,15 @@
+//! Compact records (BEP 5, BEP 32), both ways: nodes and peers as strings pack them one after another, and this project's
+//! nodes with their proofs. It knows no message, and takes no memory but for a list that is asked for.
+#![tactic(auto)]
+
+mod into;
+mod kinds;
+mod record;
+mod records;
+mod well;
+
+pub use into::{put_peers, put_records};
+pub use kinds::{Node, Proved, Record};
+pub use record::{read_addr, split_record};
+pub use records::{Records, with_room};
+pub use well::{tell_addrs, tell_contacts, tell_id, tell_reports};

@@ -1,0 +1,55 @@
+-- What the book is told of a reply.
+use Rattle.std.proofs.Common.{◌≡◌, ◌≢◌, ◌≤◌, List, length, take, inl, inr, refl, ap, ◌∙◌, arith}
+use Rattle.std.proofs.lemmas.List.{length-map, length-take}
+use Rattle.kad_base.specs.declared.plain.Contact.{Contact}
+use Rattle.kad_base.specs.declared.plain.Report.{Report}
+use Rattle.kad_base.specs.declared.plain.Policy.{Policy}
+use Rattle.kad_base.specs.declared.plain.Policy.TheVariants.{Plain, Puzzled}
+use Rattle.kad_base.specs.Limits.{max_reports}
+use Rattle.kad_krpc.specs.declared.message.Answer.{Answer}
+use Rattle.claim_book.specs.declared.plain.Cause.TheVariants.{WrongId, Error}
+use Rattle.claim_book.specs.declared.plain.Entry.TheVariants.{Heard, Lost}
+use Rattle.claim_book.specs.Calls.{asker}
+use Rattle.claim_book.specs.State.{BookState, added}
+use Rattle.lookup_core.specs.declared.hear.Taken.TheVariants as taken
+use Rattle.lookup_core.specs.declared.quest.Quest.{Quest}
+use Rattle.lookup_core.specs.declared.reply.Reply.TheVariants as reply
+use Rattle.lookup_core.specs.Quest.{bare, part_of, reports_by, reports_of}
+use Rattle.lookup_core.specs.Steps.{HearsReply}
+
+few_by : (policy : Policy) (answer : Answer) → length (reports_by policy answer) ≤ max_reports
+few_by Plain answer = (let a = length-map (take max_reports (part_of answer.nodes)) bare in let b = length-take max_reports (part_of answer.nodes) in omega (arith, a, b))
+few_by (Puzzled c1 c2) answer = (let b = length-take max_reports (part_of answer.snodes) in omega (arith, b))
+
+-- an answer gives few reports
+pub few_reports : (quest : Quest) (answer : Answer) → length (reports_of quest answer) ≤ max_reports
+few_reports quest answer = few_by quest.policy answer
+
+-- an answer in the contact's own name
+pub own_heard : (quest : Quest) (c : Contact) (answer : Answer) (reports : List Report) (old new : BookState) → answer.id ≡ c.id → reports ≡ reports_of quest answer → new ≡ added old (Heard (asker c old.journal) c reports)
+    → HearsReply quest c (reply.Answer answer) old new (taken.Heard (record { contact = c; answer = answer }))
+own_heard quest c answer reports old new own is after = record {
+  hears = record {
+    entry = Heard (asker c old.journal) c (reports_of quest answer);
+    gives = inl (own, refl);
+    after = after ∙ ap (λ (r : List Report). added old (Heard (asker c old.journal) c r)) is;
+  };
+  hears_in = inl (own, refl);
+  taken = λ e. absurd cc;
+}
+
+-- one in another name
+pub other_lost : (quest : Quest) (c : Contact) (answer : Answer) (old new : BookState) → answer.id ≢ c.id → new ≡ added old (Lost (asker c old.journal) c WrongId) → HearsReply quest c (reply.Answer answer) old new taken.Lost
+other_lost quest c answer old new other after = record {
+  hears = record { entry = Lost (asker c old.journal) c WrongId; gives = inr (other, refl); after = after };
+  hears_in = inr (other, refl);
+  taken = λ e. absurd cc;
+}
+
+-- an error message
+pub error_lost : (quest : Quest) (c : Contact) (code : _) (old new : BookState) → new ≡ added old (Lost (asker c old.journal) c (Error code)) → HearsReply quest c (reply.Error code) old new taken.Lost
+error_lost quest c code old new after = record {
+  hears = record { entry = Lost (asker c old.journal) c (Error code); gives = refl; after = after };
+  hears_in = refl;
+  taken = λ e. absurd cc;
+}

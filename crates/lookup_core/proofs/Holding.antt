@@ -1,0 +1,75 @@
+-- The open contacts are those of the open queries, whatever comes.
+use Rattle.std.proofs.Common.{◌≡◌, ℕ, ◌^◌, ◌<◌, List, [], ◌∷◌, ◌++◌, Bool, true, false, ◌||◌, Result, Ok, Err, inl, inr, sym, ap, subst, ◌∙◌, refl}
+use Rattle.std.specs.Prelude.{map, IfOk, OnOk}
+use Rattle.std.specs.List.{AllByRecursion, IsDistinct}
+use Rattle.kad_base.specs.declared.plain.Addr.{Addr}
+use Rattle.kad_base.specs.declared.plain.Contact.{Contact}
+use Rattle.kad_base.specs.declared.plain.NoMemory.{NoMemory}
+use Rattle.kad_base.specs.Contacts.{same, among, without}
+use Rattle.kad_base.proofs.Contacts.{same_itself}
+use Rattle.query_book.specs.declared.Query.{Query}
+use Rattle.claim_book.specs.declared.plain.Cause.TheVariants.{WrongId, Error}
+use Rattle.claim_book.specs.declared.plain.Entry.{Entry}
+use Rattle.claim_book.specs.Journal.{open_any}
+use Rattle.claim_book.specs.Legal.{Legal}
+use Rattle.claim_book.specs.Calls.{asker}
+use Rattle.claim_book.specs.State.{BookState}
+use Rattle.lookup_core.specs.declared.hear.Answered.{Answered}
+use Rattle.lookup_core.specs.declared.hear.Taken.{Taken}
+use Rattle.lookup_core.specs.declared.hear.Taken.TheVariants as taken
+use Rattle.lookup_core.specs.declared.quest.Quest.{Quest}
+use Rattle.lookup_core.specs.declared.reply.Reply.{Reply}
+use Rattle.lookup_core.specs.declared.reply.Reply.TheVariants as reply
+use Rattle.lookup_core.specs.declared.state.Lookup.{Lookup}
+use Rattle.lookup_core.specs.Matching.{ReplyGives}
+use Rattle.lookup_core.specs.Steps.{Holds, query_to, IsMatch, Takes}
+use Rattle.lookup_core.proofs.Lists.{map_append}
+use Rattle.lookup_core.proofs.Opens.{opens_heard, opens_lost, opens_distinct, without_one}
+
+pub among_middle : (before : List Query) (q : Query) (behind : List Query) → among (map (λ (q : Query). q.contact) (before ++ q ∷ behind)) q.contact ≡ true
+among_middle [] q behind = ap (λ b. b || among (map (λ (x : Query). x.contact) behind) q.contact) (same_itself q.contact)
+among_middle (x ∷ before) q behind = either (same q.contact x.contact) (among (map (λ (q : Query). q.contact) (before ++ q ∷ behind)) q.contact) (among_middle before q behind)
+  where
+    either : (a b : Bool) → b ≡ true → (a || b) ≡ true
+    either true b h = refl
+    either false b h = h
+
+pub all_dropped : (P : Query → Type 0) (before : List Query) (q : Query) (behind : List Query) → AllByRecursion P (before ++ q ∷ behind) → AllByRecursion P (before ++ behind)
+all_dropped P [] q behind h = h.1
+all_dropped P (x ∷ before) q behind h = (h.0, all_dropped P before q behind h.1)
+
+-- what a reply gives closes one
+pub closing_of : (quest : Quest) (J : List Entry) (c : Contact) (what : Reply) (e : Entry) → ReplyGives quest (query_to J c) what e → open_any (J ++ e ∷ []) ≡ without (open_any J) (c ∷ [])
+closing_of quest J c (reply.Answer answer) e (inl own) = subst (λ x. open_any (J ++ x ∷ []) ≡ without (open_any J) (c ∷ [])) (sym own.1) (opens_heard (asker c J) J c _)
+closing_of quest J c (reply.Answer answer) e (inr other) = subst (λ x. open_any (J ++ x ∷ []) ≡ without (open_any J) (c ∷ [])) (sym other.1) (opens_lost (asker c J) J c WrongId)
+closing_of quest J c (reply.Error code) e is = subst (λ x. open_any (J ++ x ∷ []) ≡ without (open_any J) (c ∷ [])) (sym is) (opens_lost (asker c J) J c (Error code))
+
+-- one of the open contacts is closed with its query
+pub one_closed : (c : Contact) (J K : List Entry) (before behind old new : List Query) (q : Query) → q.contact ≡ c → old ≡ before ++ q ∷ behind → new ≡ before ++ behind → map (λ (x : Query). x.contact) old ≡ open_any J → IsDistinct same (open_any J) → open_any K ≡ without (open_any J) (c ∷ [])
+    → map (λ (x : Query). x.contact) new ≡ open_any K
+one_closed c J K before behind old new q is was closes opens distinct after =
+    let cs = map (λ (x : Query). x.contact) before in
+    let ds = map (λ (x : Query). x.contact) behind in
+    let were : open_any J ≡ cs ++ c ∷ ds = sym opens ∙ ap (map (λ (x : Query). x.contact)) was ∙ map_append (λ (x : Query). x.contact) before (q ∷ behind) ∙ ap (λ x. cs ++ x ∷ ds) is in
+    ap (map (λ (x : Query). x.contact)) closes ∙ map_append (λ (x : Query). x.contact) before behind
+    ∙ sym (after ∙ ap (λ l. without l (c ∷ [])) were ∙ without_one c cs ds (subst (IsDistinct same) were distinct))
+
+match_holds : (quest : Quest) (from : Addr) (bytes : List ℕ) (old new : Lookup) (heard : List Answered) → Holds old → Legal old.book.setting old.book.journal → IsMatch quest from bytes old new heard → Holds new
+match_holds quest from bytes old new heard holds legal m =
+    let J = old.book.journal in
+    let c = m.query.contact in
+    record {
+      is_open = one_closed c J new.book.journal m.before m.behind old.queries new.queries m.query refl m.was_open m.closes holds.is_open (opens_distinct old.book.setting J legal)
+          (ap (λ (b : BookState). open_any b.journal) m.hears.after ∙ closing_of quest J c m.what m.hears.entry m.hears.gives);
+      ids = subst (AllByRecursion (λ (q : Query). q.tx < 2 ^ 32)) (sym m.closes) (all_dropped (λ (q : Query). q.tx < 2 ^ 32) m.before m.query m.behind (subst (AllByRecursion (λ (q : Query). q.tx < 2 ^ 32)) m.was_open holds.ids));
+    }
+
+-- whatever the datagram was
+pub take_holds : (quest : Quest) (from : Addr) (bytes : List ℕ) (old new : Lookup) (out : Taken) → Holds old → Legal old.book.setting old.book.journal → Takes quest from bytes old new out → Holds new
+take_holds quest from bytes old new taken.Stray holds legal t = subst Holds (sym t.1) holds
+take_holds quest from bytes old new (taken.Heard answered) holds legal t = match_holds quest from bytes old new (answered ∷ []) holds legal t
+take_holds quest from bytes old new taken.Lost holds legal t = match_holds quest from bytes old new [] holds legal t
+
+pub held_result : (quest : Quest) (from : Addr) (bytes : List ℕ) (old new : Lookup) (result : Result Taken NoMemory) → Holds old → Legal old.book.setting old.book.journal → IfOk result (Takes quest from bytes old new) → OnOk result (Holds new)
+held_result quest from bytes old new (Ok out) holds legal t = take_holds quest from bytes old new out holds legal t
+held_result quest from bytes old new (Err e) holds legal t = tt

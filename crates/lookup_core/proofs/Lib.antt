@@ -1,0 +1,10 @@
+pub mod Lists
+pub mod Opens
+pub mod Room
+pub mod Nexts
+pub mod Replying
+pub mod Hearing
+pub mod Matching
+pub mod Opening
+pub mod Holding
+pub mod Expiring

@@ -1,0 +1,100 @@
+-- To which of the open queries a datagram replies.
+use Rattle.std.proofs.Common.{◌≡◌, ℕ, suc, ◌^◌, ◌<◌, List, [], ◌∷◌, take, drop, Some, Result, Ok, Err, true, inl, inr, refl, sym, ap, subst, ◌∙◌, arith}
+use Rattle.std.specs.Prelude.{Contains, map, slice_get, IfOk}
+use Rattle.std.specs.List.{All}
+use Rattle.std.proofs.lemmas.Option.{slice_get-get_or, get_or_from_slice_get, slice_get_within}
+use Rattle.std.proofs.lemmas.Bool.{cases_lt}
+use Rattle.kad_base.specs.declared.plain.Addr.{Addr}
+use Rattle.kad_base.specs.declared.plain.Contact.{Contact}
+use Rattle.kad_base.specs.declared.plain.NoMemory.{NoMemory}
+use Rattle.kad_base.specs.Contacts.{among}
+use Rattle.kad_base.specs.Words.{word_bytes}
+use Rattle.query_book.specs.declared.Query.{Query}
+use Rattle.query_book.specs.Queries.{IsQueries, IsOf, Closes}
+use Rattle.claim_book.specs.declared.plain.Entry.{Entry}
+use Rattle.claim_book.specs.Journal.{open_any}
+use Rattle.lookup_core.specs.declared.hear.Answered.{Answered}
+use Rattle.lookup_core.specs.declared.hear.Taken.{Taken}
+use Rattle.lookup_core.specs.declared.hear.Taken.TheVariants as taken
+use Rattle.lookup_core.specs.declared.quest.Quest.{Quest}
+use Rattle.lookup_core.specs.declared.reply.Reply.{Reply}
+use Rattle.lookup_core.specs.declared.reply.Said.{Said}
+use Rattle.lookup_core.specs.declared.state.Lookup.{Lookup}
+use Rattle.lookup_core.specs.Matching.{SaysTo, Replies}
+use Rattle.lookup_core.specs.Says.{RepliesTo, IsReply, IsNoReply}
+use Rattle.lookup_core.specs.Steps.{as_open, Holds, HearsOne, HearsIn, HearsReply, IsMatch, RepliesToNone, Takes}
+use Rattle.lookup_core.proofs.Lists.{split_at, all_in}
+use Rattle.lookup_core.proofs.Holding.{among_middle}
+
+-- ---- queries
+
+place_is : {A : Type 0} (xs : List A) (x : A) (h : Contains xs x) → slice_get xs h.0 ≡ Some x
+place_is xs x h = slice_get-get_or xs h.0 x h.1 ∙ ap Some h.2
+
+-- no two queries have one transaction id
+pub only_one : (qs : List Query) (place : ℕ) (q : Query) → IsQueries qs → slice_get qs place ≡ Some q → (x : Query) → Contains qs x → x.tx ≡ q.tx → x ≡ q
+only_one qs place q is here x has same =
+    elim (cases_lt has.0 place) [
+      | inl below ↦ absurd (apart has.0 place x q below (place_is qs x has) here same)
+      | inr above ↦ elim (cases_lt place has.0) [
+        | inl below ↦ absurd (apart place has.0 q x below here (place_is qs x has) (sym same))
+        | inr other ↦ (let k : has.0 ≡ place = omega (arith, above, other) in let e : Some x ≡ Some q = sym (place_is qs x has) ∙ ap (slice_get qs) k ∙ here in cc)
+      ]
+    ]
+  where
+    apart : (i j : ℕ) (a b : Query) → i < j → slice_get qs i ≡ Some a → slice_get qs j ≡ Some b → a.tx ≡ b.tx → ⊥
+    apart i j a b lt ga gb e =
+        is.ids i j a lt (slice_get_within qs j b gb)
+        (ap (λ (z : Query). z.tx) (get_or_from_slice_get qs i a a ga) ∙ e ∙ sym (ap (λ (z : Query). z.tx) (get_or_from_slice_get qs j b a gb)))
+
+all_at : (P : Query → Type 0) (qs : List Query) (q : Query) → All P qs → Contains qs q → P q
+all_at P qs q all has = subst P has.2 (all has.0 q has.1)
+
+pub to_reply : (quest : Quest) (J : List Entry) (bytes : List ℕ) (from : Addr) (q : Query) (r : Reply) → Replies quest bytes from (as_open J q) r → RepliesTo bytes q.tx r
+to_reply quest J bytes from q r h = record { short = h.short; message = h.said; says = h.says; to_query = h.to_query }
+
+-- what is no reply replies to none
+pub silent : (quest : Quest) (k : Lookup) (from : Addr) (bytes : List ℕ) → Holds k → IsNoReply bytes → RepliesToNone quest from bytes k
+silent quest k from bytes holds nothing q has r h = nothing q.tx r (all_in (λ (q : Query). q.tx < 2 ^ 32) k.queries q holds.ids has) (to_reply quest k.book.journal bytes from q r h)
+
+-- and neither does a reply to nobody who was asked so
+pub unasked : (quest : Quest) (k : Lookup) (from : Addr) (bytes : List ℕ) (said : Said) → Holds k → IsReply bytes said → All (λ (q : Query). ¬ IsOf said.tx from q) k.queries → RepliesToNone quest from bytes k
+unasked quest k from bytes said holds reads none q has r h =
+    all_at (λ (q : Query). ¬ IsOf said.tx from q) k.queries q none has
+    (reads.same_id q.tx r (all_in (λ (q : Query). q.tx < 2 ^ 32) k.queries q holds.ids has) (to_reply quest k.book.journal bytes from q r h), sym h.source)
+
+-- who answers is open
+pub taken_open : (J : List Entry) (tx : ℕ) (from : Addr) (c : Contact) (old new : List Query) → map (λ (q : Query). q.contact) old ≡ open_any J → Closes tx from c old new → among (open_any J) c ≡ true
+taken_open J tx from c old new is h =
+    ap (λ l. among l c) (sym is) ∙ ap (λ x. among (map (λ (q : Query). q.contact) old) x) h.contact_is ∙ ap (λ l. among (map (λ (q : Query). q.contact) l) h.query.contact) (split_at old h.place h.query h.here)
+    ∙ among_middle (take h.place old) h.query (drop (suc h.place) old)
+
+matches : (quest : Quest) (from : Addr) (bytes : List ℕ) (said : Said) (c : Contact) (old new : Lookup) (heard : List Answered) → IsQueries old.queries → IsReply bytes said → Closes said.tx from c old.queries new.queries → HearsOne quest c said.reply old.book new.book → HearsIn c said.reply heard
+    → IsMatch quest from bytes old new heard
+matches quest from bytes said c old new heard is reads closes hears hears_in =
+    let q = closes.query in
+    let tx : q.tx ≡ said.tx = closes.answers.0 in
+    let replies = reads.replies in
+    record {
+      before = take closes.place old.queries;
+      query = q;
+      behind = drop (suc closes.place) old.queries;
+      what = said.reply;
+      was_open = split_at old.queries closes.place q closes.here;
+      alone = only_one old.queries closes.place q is closes.here;
+      replies = record { short = replies.short; said = replies.message; says = replies.says; to_query = subst (λ w. SaysTo (word_bytes w) replies.message said.reply) (sym tx) replies.to_query; source = sym closes.answers.1 };
+      reads = subst (λ w. IsReply bytes (record { tx = w; reply = said.reply })) (sym tx) reads;
+      closes = closes.others;
+      hears = subst (λ (x : Contact). HearsOne quest x said.reply old.book new.book) closes.contact_is hears;
+      hears_in = subst (λ (x : Contact). HearsIn x said.reply heard) closes.contact_is hears_in;
+    }
+
+-- what is heard of who was asked is taken
+pub takes_reply : (quest : Quest) (from : Addr) (bytes : List ℕ) (said : Said) (c : Contact) (old new : Lookup) (out : Taken) → IsQueries old.queries → IsReply bytes said → Closes said.tx from c old.queries new.queries → HearsReply quest c said.reply old.book new.book out → Takes quest from bytes old new out
+takes_reply quest from bytes said c old new taken.Stray is reads closes h = absurd (h.taken refl)
+takes_reply quest from bytes said c old new (taken.Heard answered) is reads closes h = matches quest from bytes said c old new (answered ∷ []) is reads closes h.hears h.hears_in
+takes_reply quest from bytes said c old new taken.Lost is reads closes h = matches quest from bytes said c old new [] is reads closes h.hears h.hears_in
+
+pub take_result : (quest : Quest) (from : Addr) (bytes : List ℕ) (said : Said) (c : Contact) (old new : Lookup) (result : Result Taken NoMemory) → IsQueries old.queries → IsReply bytes said → Closes said.tx from c old.queries new.queries → IfOk result (HearsReply quest c said.reply old.book new.book) → IfOk result (Takes quest from bytes old new)
+take_result quest from bytes said c old new (Ok out) is reads closes h = takes_reply quest from bytes said c old new out is reads closes h
+take_result quest from bytes said c old new (Err e) is reads closes h = tt

@@ -1,0 +1,66 @@
+-- What a datagram says, and that it says nothing else.
+use Rattle.std.proofs.Common.{◌≡◌, ◌≢◌, ℕ, ◌+◌, ◌*◌, ◌^◌, ◌<◌, ◌≤◌, List, length, get_or, Option, Some, None, Result, Ok, Err, refl, sym, ap, subst, ◌∙◌, w32}
+use Rattle.std.specs.Prelude.{MatchOption, IfOk, ℤ}
+use Rattle.std.specs.Int.{from_le_bytes}
+use Rattle.std.proofs.lemmas.Nat.{from_le_bytes-to_le_bytes_4, le_bytes_4}
+use Rattle.kad_base.specs.Limits.{max_datagram}
+use Rattle.kad_base.specs.Words.{word_bytes}
+use Rattle.kad_krpc.specs.declared.message.Answer.{Answer}
+use Rattle.kad_krpc.specs.declared.message.Message.{Message}
+use Rattle.kad_krpc.specs.declared.message.Message.TheVariants as message
+use Rattle.kad_krpc.specs.declared.message.KrpcFault.{KrpcFault}
+use Rattle.kad_krpc.specs.declared.message.KrpcFault.TheVariants.{Bad, Missing, Shape, Records, NoMemory}
+use Rattle.kad_krpc.specs.Reading.{Says, Gives}
+use Rattle.lookup_core.specs.declared.reply.Reply.TheVariants as reply
+use Rattle.lookup_core.specs.declared.reply.Said.{Said}
+use Rattle.lookup_core.specs.Matching.{SaysTo}
+use Rattle.lookup_core.specs.Says.{SaysAll, SaysNothing, IsReply, IsNoReply}
+
+-- a word has its own four bytes
+pub word_same : (v w : ℕ) → v < 2 ^ 32 → w < 2 ^ 32 → word_bytes v ≡ word_bytes w → v ≡ w
+unfolding word_bytes
+word_same v w a b e = sym (from_le_bytes-to_le_bytes_4 v a) ∙ ap (from_le_bytes w32) e ∙ from_le_bytes-to_le_bytes_4 w b
+
+-- four bytes are those of a word
+pub four_bytes : (bytes : List ℕ) (w : ℕ) → length bytes ≡ 4 → ((i : ℕ) → get_or bytes i 0 < 256) → w ≡ get_or bytes 0 0 + get_or bytes 1 0 * 256 + get_or bytes 2 0 * 65536 + get_or bytes 3 0 * 16777216 → bytes ≡ word_bytes w
+unfolding word_bytes
+four_bytes bytes w len small is = sym (le_bytes_4 bytes w len small is)
+
+pub says_answer : (tx : List ℕ) (answer : Answer) (w : ℕ) → w < 2 ^ 32 → tx ≡ word_bytes w → SaysAll (message.Answer tx answer) (record { tx = w; reply = reply.Answer answer })
+says_answer tx answer w lt e = record {
+  says_it = (e, refl);
+  same_id = λ v r small h. word_same v w small lt (sym h.0 ∙ e);
+  same_reply = λ v r small h. h.1;
+}
+
+pub says_fault : (tx text : List ℕ) (code : ℤ) (w : ℕ) → w < 2 ^ 32 → tx ≡ word_bytes w → SaysAll (message.Fault tx code text) (record { tx = w; reply = reply.Error code })
+says_fault tx text code w lt e = record {
+  says_it = (e, refl);
+  same_id = λ v r small h. word_same v w small lt (sym h.0 ∙ e);
+  same_reply = λ v r small h. h.1;
+}
+
+same_ok : (x y : Message) → ◌≡◌ {A = Result Message KrpcFault} (Ok x) (Ok y) → x ≡ y
+same_ok x y e = cc
+
+-- what the message says the datagram says
+pub own_read : (bytes : List ℕ) (m : Message) (o : Option Said) → length bytes ≤ max_datagram → Says bytes m → ((other : Message) → Says bytes other → Gives (Ok other) (Ok m)) → MatchOption o (SaysNothing m) (SaysAll m) → MatchOption o (IsNoReply bytes) (IsReply bytes)
+own_read bytes m None short says once nothing = λ w r lt h. nothing w r lt (subst (λ x. SaysTo (word_bytes w) x r) (same_ok h.message m (once h.message h.says)) h.to_query)
+own_read bytes m (Some said) short says once all = record {
+  replies = record { short = short; message = m; says = says; to_query = all.says_it };
+  same_id = λ w r lt h. all.same_id w r lt (subst (λ x. SaysTo (word_bytes w) x r) (same_ok h.message m (once h.message h.says)) h.to_query);
+  same_reply = λ w r lt h. all.same_reply w r lt (subst (λ x. SaysTo (word_bytes w) x r) (same_ok h.message m (once h.message h.says)) h.to_query);
+}
+
+-- what is refused says nothing, where there is memory
+refused_not : (fault : KrpcFault) (m : Message) → fault ≢ NoMemory → ¬ Gives (Ok m) (Err fault)
+refused_not (Bad bad) m some h = absurd cc
+refused_not (Missing key) m some h = absurd cc
+refused_not (Shape key) m some h = absurd cc
+refused_not (Records key len) m some h = absurd cc
+refused_not NoMemory m some h = some refl
+
+pub refused_read : {F : Type 0} (bytes : List ℕ) (fault : KrpcFault) (result : Result (Option Said) F) → ((m : Message) → Says bytes m → Gives (Ok m) (Err fault)) → IfOk result (λ o. (o ≡ None) × (fault ≢ NoMemory)) → IfOk result (λ o. MatchOption o (IsNoReply bytes) (IsReply bytes))
+refused_read bytes fault (Ok None) only h = λ w r lt replies. refused_not fault replies.message h.1 (only replies.message replies.says)
+refused_read bytes fault (Ok (Some said)) only h = (let e = h.0 in absurd cc)
+refused_read bytes fault (Err e) only h = tt

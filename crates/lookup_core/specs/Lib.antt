@@ -1,0 +1,5 @@
+pub mod Quest
+pub mod Says
+pub mod Matching
+pub mod Timeouts
+pub mod Steps

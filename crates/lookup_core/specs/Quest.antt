@@ -1,0 +1,47 @@
+-- What a lookup asks, and what of an answer it believes.
+use Rattle.std.specs.Prelude.{ℕ, List, [], take, map, Option, Some, None, Bool, true, false}
+use Rattle.kad_base.specs.declared.plain.Id.{Id}
+use Rattle.kad_base.specs.declared.plain.Contact.{Contact}
+use Rattle.kad_base.specs.declared.plain.Report.{Report}
+use Rattle.kad_base.specs.declared.plain.Policy.{Policy}
+use Rattle.kad_base.specs.declared.plain.Policy.TheVariants.{Plain, Puzzled}
+use Rattle.kad_base.specs.Limits.{max_reports}
+use Rattle.kad_krpc.specs.declared.message.Answer.{Answer}
+use Rattle.kad_krpc.specs.declared.message.Message.{Message}
+use Rattle.kad_krpc.specs.Form.{find_node_query, get_peers_query}
+use Rattle.lookup_core.specs.declared.quest.AskKind.{AskKind}
+use Rattle.lookup_core.specs.declared.quest.AskKind.TheVariants.{FindNode, GetPeers}
+use Rattle.lookup_core.specs.declared.quest.Quest.{Quest}
+
+-- the query of each kind (BEP 5), read-only (BEP 43)
+abbrev pub message_of : AskKind → Id → Id → ℕ → Message
+message_of FindNode own target tx = find_node_query own target tx
+message_of GetPeers own target tx = get_peers_query own target tx
+
+-- whether a lookup gathers the peers and the tokens that answers give (BEP 5)
+abbrev pub wants_peers : AskKind → Bool
+wants_peers FindNode = false
+wants_peers GetPeers = true
+
+-- the query that a lookup sends
+abbrev pub query_message : Quest → ℕ → Message
+query_message quest tx = message_of quest.kind quest.own quest.target tx
+
+-- a contact as a report without a proof
+abbrev pub bare : Contact → Report
+bare c = record { contact = c; proof = None }
+
+-- the members of a list that may be missing
+abbrev pub part_of : {A : Type 0} → Option (List A) → List A
+part_of None = []
+part_of (Some items) = items
+
+-- the reports that an answer gives: the first 16 contacts of `nodes` (BEP 5), without proofs; where the lookup wants
+-- proofs the first 16 of `snodes` alone (this project's own key); none where that part is missing
+abbrev pub reports_by : Policy → Answer → List Report
+reports_by Plain answer = map bare (take max_reports (part_of answer.nodes))
+reports_by (Puzzled c1 c2) answer = take max_reports (part_of answer.snodes)
+
+-- the reports that a lookup believes
+abbrev pub reports_of : Quest → Answer → List Report
+reports_of quest answer = reports_by quest.policy answer

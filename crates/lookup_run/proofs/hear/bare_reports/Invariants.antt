@@ -1,7 +1,0 @@
-use Rattle.std.proofs.Common.{◌≡◌, take}
-use Rattle.std.specs.Prelude.{map}
-use Rattle.lookup_run.specs.Tells.{bare}
-use Rattle.lookup_run.proofs.hear.bare_reports.Given as goal
-
-abbrev pub invariant-loop-contact : goal.invariant-loop-contact
-invariant-loop-contact l = l.reports ≡ map bare (take l.contact-index l.contacts)

@@ -1,0 +1,288 @@
+-- Both ways to say what a node answers are one.
+use Rattle.std.proofs.Common.{◌≡◌, ◌↔◌, ℕ, List, [], ◌∷◌, ◌++◌, map, Bool, true, false, cond, refl, sym, ap, subst, ◌∙◌, All}
+use Rattle.std.specs.Prelude.{Option, Some, None}
+use Rattle.std.specs.List.{list_any}
+use Rattle.std.specs.Map.{keys_of}
+use Rattle.std.specs.Ordering.{is_eq}
+use Rattle.std.proofs.lemmas.List.{map-append}
+use Rattle.std.proofs.lemmas.List.Elements.{All-nil, All-cons, All-head, All-tail, All-append}
+use Rattle.kad_base.specs.declared.plain.Id.{Id}
+use Rattle.kad_base.specs.declared.plain.Addr.{Addr}
+use Rattle.kad_base.specs.declared.plain.Contact.{Contact}
+use Rattle.kad_distance.specs.KClosest.{k_closest}
+use Rattle.kad_krpc.specs.declared.message.Ask.{Ask}
+use Rattle.kad_krpc.specs.declared.message.Ask.TheVariants.{Ping, FindNode, GetPeers, AnnouncePeer, Other}
+use Rattle.kad_krpc.specs.declared.message.Port.{Port}
+use Rattle.kad_krpc.specs.declared.message.Message.{Message}
+use Rattle.kad_krpc.specs.Records.{ip_bytes}
+use Rattle.contact_table.specs.TableState.{TableState}
+use Rattle.contact_table.specs.TableStep.{table_after, contacts_of}
+use Rattle.contact_table.specs.declared.calls.TableCall.TheVariants.{Seen, Closest}
+use Rattle.contact_table.specs.declared.calls.TableReply.{TableReply}
+use Rattle.contact_table.specs.declared.calls.TableReply.TheVariants.{List as List_reply}
+use Rattle.peer_store.specs.declared.peers.Stored.{Stored}
+use Rattle.peer_store.specs.declared.peers.Stored.TheVariants.{New, Renewed}
+use Rattle.peer_store.specs.Peers.{Held, Pair, pair_cmp, purged, with_add, listed}
+use Rattle.node_serve.specs.AnswerOf.{AnswerOf, IsTold, told_by}
+use Rattle.node_serve.specs.NodeState.{NodeState}
+use Rattle.node_serve.specs.Replies.{Announces, Outcome, RepliesWith, refused, full, added, named, bad_token, server_error, peer_for}
+use Rattle.peer_store.specs.declared.calls.PeerCall.TheVariants.{List as List_call, Put}
+use Rattle.peer_store.specs.declared.calls.PeerReply.{PeerReply}
+use Rattle.peer_store.specs.declared.calls.PeerReply.TheVariants.{Listed, Stored as Stored_reply, Full, NoMemory}
+use Rattle.node_serve.specs.declared.setting.ServeSetting.{ServeSetting}
+use Rattle.node_serve.specs.Calls.{of_peers, Reply, by_peers, Did, on_table, on_peers, call_of, reply_of, HadMemory, is_accepted, calls_for, calls_told, listed_by, peers_by, found_from, peers_from, put_in, answer_with}
+use Rattle.node_serve.specs.AnswerBy.{setting_of, Steps, AnswerBy}
+use Rattle.peer_store.specs.PeersStep.{peers_after}
+use Rattle.node_serve.proofs.Accepting.{accepted, fails}
+use Rattle.node_serve.proofs.Inverting.{cut, made_none, one_table, one_peer, peer_and_table, closest_is, listed_is, had_memory, not_wanting}
+
+-- ---- steps in two parts
+
+pub steps_both : (t u v : TableState) (p q r : List Held) (xs ys : List Did) → Steps t p xs u q → Steps u q ys v r → Steps t p (xs ++ ys) v r
+steps_both t u v p q r [] ys s e = subst (λ x. Steps x p ys v r) s.0 (subst (λ x. Steps u x ys v r) s.1 e)
+steps_both t u v p q r (on_table call reply ∷ xs) ys s e = (s.0, steps_both (table_after t 0 call reply) u v p q r xs ys s.1 e)
+steps_both t u v p q r (on_peers call reply ∷ xs) ys s e = (s.0, steps_both t u v (peers_after p 0 call reply) q r xs ys s.1 e)
+
+-- ---- from the rules to the calls
+
+-- the calls of a query itself: they leave the table, and their replies give its reply whatever comes behind
+pub record Part (s : NodeState) (from : Addr) (at : ℕ) (tx : List ℕ) (ask : Ask) (o : Outcome) : Type 0 where
+  did : List Did
+  calls : map call_of did ≡ calls_for (setting_of s) from at ask
+  memory : All HadMemory did
+  steps : Steps s.table s.peers did s.table o.peers
+  reply : (more : List Reply) → o.message ≡ answer_with (setting_of s) from at tx ask (map reply_of did ++ more)
+
+-- whether a pair is held
+abbrev stored_as : List Held → Pair → Stored
+stored_as held pair = cond (list_any (λ p. is_eq (pair_cmp pair p)) (keys_of held)) Renewed New
+
+stored_is : (b : Bool) → (cond b Renewed New ≡ Renewed) ↔ (b ≡ true)
+stored_is true = (λ e. refl, λ e. refl)
+stored_is false = (λ e. absurd cc, λ e. absurd cc)
+
+outcome_is : (m n : Message) (p q : List Held) → m ≡ n → p ≡ q → ◌≡◌ {A = Outcome} (record { message = m; peers = p }) (record { message = n; peers = q })
+outcome_is m n p q e f = ap (λ x. record { message = x; peers = p }) e ∙ ap (λ y. record { message = n; peers = y }) f
+
+module _ (s : NodeState) (from : Addr) (at : ℕ) (tx : List ℕ) where
+  abbrev S : ServeSetting
+  S = setting_of s
+
+  abbrev takes : List ℕ → Bool
+  takes token = is_accepted s.tokens (ip_bytes from.ip) at token
+
+  announced_part : (id key : Id) (port : Port) (token : List ℕ) (o : Outcome) → Announces s from at tx key (peer_for from port) token o → Part s from at tx (AnnouncePeer id key port token) o
+  announced_part id key port token o (refused h e) =
+      let off : takes token ≡ false = fails (takes token) (accepted s.tokens (ip_bytes from.ip) at token) h in
+      record {
+        did = [];
+        calls = sym (ap (λ b. cond b (of_peers (Put key (peer_for from port) at) ∷ []) []) off);
+        memory = All-nil HadMemory;
+        steps = (refl, ap (λ (x : Outcome). x.peers) e);
+        reply = λ more. ap (λ (x : Outcome). x.message) e ∙ sym (ap (λ b. cond b (put_in tx s.own more) (bad_token tx)) off);
+      }
+  announced_part id key port token o (full h n e) =
+      let on : takes token ≡ true = (accepted s.tokens (ip_bytes from.ip) at token).1 h in
+      record {
+        did = on_peers (Put key (peer_for from port) at) Full ∷ [];
+        calls = sym (ap (λ b. cond b (of_peers (Put key (peer_for from port) at) ∷ []) []) on);
+        memory = All-cons HadMemory (on_peers (Put key (peer_for from port) at) Full) [] tt (All-nil HadMemory);
+        steps = (n, (refl, ap (λ (x : Outcome). x.peers) e));
+        reply = λ more. ap (λ (x : Outcome). x.message) e ∙ sym (ap (λ b. cond b (put_in tx s.own (by_peers Full ∷ more)) (bad_token tx)) on);
+      }
+  announced_part id key port token o (added h n e) =
+      let on : takes token ≡ true = (accepted s.tokens (ip_bytes from.ip) at token).1 h in
+      let peer : Addr = peer_for from port in
+      let pair : Pair = (key, peer) in
+      let stored : Stored = stored_as (purged s.peers at) pair in
+      record {
+        did = on_peers (Put key peer at) (Stored_reply stored) ∷ [];
+        calls = sym (ap (λ b. cond b (of_peers (Put key peer at) ∷ []) []) on);
+        memory = All-cons HadMemory (on_peers (Put key peer at) (Stored_reply stored)) [] tt (All-nil HadMemory);
+        steps = ((stored_is (list_any (λ p. is_eq (pair_cmp pair p)) (keys_of (purged s.peers at))), n), (refl, ap (λ (x : Outcome). x.peers) e));
+        reply = λ more. ap (λ (x : Outcome). x.message) e ∙ sym (ap (λ b. cond b (put_in tx s.own (by_peers (Stored_reply stored) ∷ more)) (bad_token tx)) on);
+      }
+
+  part : (ask : Ask) (o : Outcome) → RepliesWith s from at tx ask o → Part s from at tx ask o
+  part (Ping id) o e = record { did = []; calls = refl; memory = All-nil HadMemory; steps = (refl, ap (λ (x : Outcome). x.peers) e); reply = λ more. ap (λ (x : Outcome). x.message) e }
+  part (FindNode id target) o e =
+      let d : Did = on_table (Closest target s.k) (List_reply (k_closest target s.k (contacts_of s.table))) in
+      record { did = d ∷ []; calls = refl; memory = All-cons HadMemory d [] tt (All-nil HadMemory); steps = (refl, (refl, ap (λ (x : Outcome). x.peers) e)); reply = λ more. ap (λ (x : Outcome). x.message) e }
+  part (GetPeers id key) o e =
+      let d : Did = on_peers (List_call key at) (Listed (listed s.peers key at)) in
+      let f : Did = on_table (Closest key s.k) (List_reply (k_closest key s.k (contacts_of s.table))) in
+      record {
+        did = d ∷ f ∷ [];
+        calls = refl;
+        memory = All-cons HadMemory d (f ∷ []) tt (All-cons HadMemory f [] tt (All-nil HadMemory));
+        steps = (refl, (refl, (refl, ap (λ (x : Outcome). x.peers) e)));
+        reply = λ more. ap (λ (x : Outcome). x.message) e;
+      }
+  part (AnnouncePeer id key port token) o e = announced_part id key port token o e
+  part (Other method) o e = record { did = []; calls = refl; memory = All-nil HadMemory; steps = (refl, ap (λ (x : Outcome). x.peers) e); reply = λ more. ap (λ (x : Outcome). x.message) e }
+
+-- the table is told of the asker
+pub record ToldPart (o : Option Contact) (t u : TableState) (p : List Held) : Type 0 where
+  pub did : List Did
+  pub calls : map call_of did ≡ calls_told o
+  pub memory : All HadMemory did
+  pub steps : Steps t p did u p
+
+pub told_part : (o : Option Contact) (t u : TableState) (p : List Held) → IsTold o t u → ToldPart o t u p
+told_part None t u p h = record { did = []; calls = refl; memory = All-nil HadMemory; steps = (h, refl) }
+told_part (Some c) t u p h =
+    let d : Did = on_table (Seen c) h.reply in
+    record { did = d ∷ []; calls = refl; memory = All-cons HadMemory d [] (had_memory h.reply h.kept) (All-nil HadMemory); steps = (h.step, (h.leaves, refl)) }
+
+pub by_calls : (s : NodeState) (from : Addr) (bytes : List ℕ) (at : ℕ) (m : Message) (x : NodeState) → AnswerOf s from bytes at m x → AnswerBy s from bytes at m x
+by_calls s from bytes at m x a =
+    let S = setting_of s in
+    let main = part s from at a.tx a.ask (record { message = m; peers = x.peers }) a.replies in
+    let told = told_part (told_by s.policy a.read_only a.ask from) s.table x.table x.peers a.told in
+    record {
+      tx = a.tx;
+      read_only = a.read_only;
+      ask = a.ask;
+      query = a.query;
+      did = main.did ++ told.did;
+      calls = map-append call_of main.did told.did ∙ ap (λ l. l ++ map call_of told.did) main.calls ∙ ap (λ l. calls_for S from at a.ask ++ l) told.calls;
+      memory = All-append HadMemory main.did told.did main.memory told.memory;
+      steps = steps_both s.table s.table x.table s.peers x.peers x.peers main.did told.did main.steps told.steps;
+      reply_is = main.reply (map reply_of told.did) ∙ ap (answer_with S from at a.tx a.ask) (sym (map-append reply_of main.did told.did));
+      rest = a.rest;
+    }
+
+-- ---- from the calls to the rules
+
+pub record Mid (t v : TableState) (p r : List Held) (xs ys : List Did) : Type 0 where
+  pub table : TableState
+  pub peers : List Held
+  pub first : Steps t p xs table peers
+  pub rest : Steps table peers ys v r
+
+pub steps_cut : (t v : TableState) (p r : List Held) (xs ys : List Did) → Steps t p (xs ++ ys) v r → Mid t v p r xs ys
+steps_cut t v p r [] ys st = record { table = t; peers = p; first = (refl, refl); rest = st }
+steps_cut t v p r (on_table call reply ∷ xs) ys st =
+    let m = steps_cut (table_after t 0 call reply) v p r xs ys st.1 in
+    record { table = m.table; peers = m.peers; first = (st.0, m.first); rest = m.rest }
+steps_cut t v p r (on_peers call reply ∷ xs) ys st =
+    let m = steps_cut t v (peers_after p 0 call reply) r xs ys st.1 in
+    record { table = m.table; peers = m.peers; first = (st.0, m.first); rest = m.rest }
+
+closest_after : (t : TableState) (target : Id) (n : ℕ) (reply : TableReply) → table_after t 0 (Closest target n) reply ≡ t
+closest_after t target n (List_reply list) = refl
+closest_after t target n other = refl
+
+all_front : (xs ys : List Did) → All HadMemory (xs ++ ys) → All HadMemory xs
+all_front [] ys a = All-nil HadMemory
+all_front (x ∷ xs) ys a = All-cons HadMemory x xs (All-head HadMemory x (xs ++ ys) a) (all_front xs ys (All-tail HadMemory x (xs ++ ys) a))
+
+all_back : (xs ys : List Did) → All HadMemory (xs ++ ys) → All HadMemory ys
+all_back [] ys a = a
+all_back (x ∷ xs) ys a = all_back xs ys (All-tail HadMemory x (xs ++ ys) a)
+
+module _ (s : NodeState) (from : Addr) (at : ℕ) (tx : List ℕ) (u : TableState) (q : List Held) where
+  -- the calls of the query itself left the table, and their replies give the one of the rules
+  pub record Replied (ask : Ask) (did : List Did) : Type 0 where
+    pub table : u ≡ s.table
+    pub replies : (more : List Reply) → RepliesWith s from at tx ask (record { message = answer_with (setting_of s) from at tx ask (map reply_of did ++ more); peers = q })
+
+  abbrev pub Shows : Ask → List Did → Type 0
+  Shows ask did = All HadMemory did → Steps s.table s.peers did u q → Replied ask did
+
+  found_shows : (id target : Id) (reply : TableReply) → Shows (FindNode id target) (on_table (Closest target s.k) reply ∷ [])
+  found_shows id target reply memory st =
+      let is = closest_is s.table target s.k reply st.0 (All-head HadMemory (on_table (Closest target s.k) reply) [] memory) in
+      record {
+        table = st.1.0 ∙ closest_after s.table target s.k reply;
+        replies = λ more. outcome_is _ _ q s.peers (ap (λ x. found_from tx (setting_of s) (listed_by x)) is) st.1.1;
+      }
+
+  peers_shows : (id key : Id) (peers : PeerReply) (nodes : TableReply) → Shows (GetPeers id key) (on_peers (List_call key at) peers ∷ on_table (Closest key s.k) nodes ∷ [])
+  peers_shows id key peers nodes memory st =
+      let d : Did = on_peers (List_call key at) peers in
+      let f : Did = on_table (Closest key s.k) nodes in
+      let first = listed_is s.peers key at peers st.0 (All-head HadMemory d (f ∷ []) memory) in
+      let second = closest_is s.table key s.k nodes st.1.0 (All-head HadMemory f [] (All-tail HadMemory d (f ∷ []) memory)) in
+      record {
+        table = st.1.1.0 ∙ closest_after s.table key s.k nodes;
+        replies = λ more. outcome_is _ _ q s.peers
+            (ap (λ x. peers_from tx (setting_of s) from at (peers_by x) (listed_by nodes)) first ∙ ap (λ x. peers_from tx (setting_of s) from at (listed s.peers key at) (listed_by x)) second)
+            st.1.1.1;
+      }
+
+  put_shows : (id key : Id) (port : Port) (token : List ℕ) (reply : PeerReply) → is_accepted s.tokens (ip_bytes from.ip) at token ≡ true → Shows (AnnouncePeer id key port token) (on_peers (Put key (peer_for from port) at) reply ∷ [])
+  put_shows id key port token (Stored_reply stored) on memory st = record {
+    table = st.1.0;
+    replies = λ more. added ((accepted s.tokens (ip_bytes from.ip) at token).0 on) st.0.1
+        (outcome_is _ _ q (with_add (purged s.peers at) (key, peer_for from port) at) (ap (λ b. cond b (named tx s.own) (bad_token tx)) on) st.1.1);
+  }
+  put_shows id key port token Full on memory st = record {
+    table = st.1.0;
+    replies = λ more. full ((accepted s.tokens (ip_bytes from.ip) at token).0 on) st.0
+        (outcome_is _ _ q (purged s.peers at) (ap (λ b. cond b (server_error tx) (bad_token tx)) on) st.1.1);
+  }
+  put_shows id key port token NoMemory on memory st = absurd (All-head HadMemory (on_peers (Put key (peer_for from port) at) NoMemory) [] memory)
+  put_shows id key port token (Listed list) on memory st = absurd st.0
+
+  announced_shows : (id key : Id) (port : Port) (token : List ℕ) (did : List Did) (b : Bool) → is_accepted s.tokens (ip_bytes from.ip) at token ≡ b
+      → map call_of did ≡ cond b (of_peers (Put key (peer_for from port) at) ∷ []) [] → Shows (AnnouncePeer id key port token) did
+  announced_shows id key port token did true on calls =
+      let one = one_peer (Put key (peer_for from port) at) did calls in
+      subst (Shows (AnnouncePeer id key port token)) (sym one.is) (put_shows id key port token one.reply on)
+  announced_shows id key port token did false off calls =
+      subst (Shows (AnnouncePeer id key port token)) (sym (made_none did calls)) (λ memory st. record {
+        table = st.0;
+        replies = λ more. refused (λ h. (let on = (accepted s.tokens (ip_bytes from.ip) at token).1 h in absurd cc))
+            (outcome_is _ _ q s.peers (ap (λ b. cond b (put_in tx s.own more) (bad_token tx)) off) st.1);
+      })
+
+  pub shows : (ask : Ask) (did : List Did) → map call_of did ≡ calls_for (setting_of s) from at ask → Shows ask did
+  shows (Ping id) did calls = subst (Shows (Ping id)) (sym (made_none did calls)) (λ memory st. record { table = st.0; replies = λ more. outcome_is _ _ q s.peers refl st.1 })
+  shows (FindNode id target) did calls =
+      let one = one_table (Closest target s.k) did calls in
+      subst (Shows (FindNode id target)) (sym one.is) (found_shows id target one.reply)
+  shows (GetPeers id key) did calls =
+      let two = peer_and_table (List_call key at) (Closest key s.k) did calls in
+      subst (Shows (GetPeers id key)) (sym two.is) (peers_shows id key two.peers two.nodes)
+  shows (AnnouncePeer id key port token) did calls = announced_shows id key port token did (is_accepted s.tokens (ip_bytes from.ip) at token) refl calls
+  shows (Other method) did calls = subst (Shows (Other method)) (sym (made_none did calls)) (λ memory st. record { table = st.0; replies = λ more. outcome_is _ _ q s.peers refl st.1 })
+
+pub record WasTold (o : Option Contact) (t v : TableState) (q r : List Held) : Type 0 where
+  pub told : IsTold o t v
+  pub peers : r ≡ q
+
+seen_shows : (c : Contact) (t v : TableState) (q r : List Held) (reply : TableReply) → All HadMemory (on_table (Seen c) reply ∷ []) → Steps t q (on_table (Seen c) reply ∷ []) v r → WasTold (Some c) t v q r
+seen_shows c t v q r reply memory st = record {
+  told = record { reply = reply; step = st.0; kept = not_wanting reply (All-head HadMemory (on_table (Seen c) reply) [] memory); leaves = st.1.0 };
+  peers = st.1.1;
+}
+
+told_shows : (o : Option Contact) (t v : TableState) (q r : List Held) (did : List Did) → map call_of did ≡ calls_told o → All HadMemory did → Steps t q did v r → WasTold o t v q r
+told_shows None t v q r did calls memory st =
+    let none : Steps t q [] v r = subst (λ l. Steps t q l v r) (made_none did calls) st in
+    record { told = none.0; peers = none.1 }
+told_shows (Some c) t v q r did calls memory st =
+    let one = one_table (Seen c) did calls in
+    seen_shows c t v q r one.reply (subst (All HadMemory) one.is memory) (subst (λ l. Steps t q l v r) one.is st)
+
+pub by_rules : (s : NodeState) (from : Addr) (bytes : List ℕ) (at : ℕ) (m : Message) (x : NodeState) → AnswerBy s from bytes at m x → AnswerOf s from bytes at m x
+by_rules s from bytes at m x b =
+    let S = setting_of s in
+    let o = told_by s.policy b.read_only b.ask from in
+    let c = cut (calls_for S from at b.ask) (calls_told o) b.did b.calls in
+    let memory : All HadMemory (c.front ++ c.back) = subst (All HadMemory) c.whole b.memory in
+    let mid = steps_cut s.table x.table s.peers x.peers c.front c.back (subst (λ l. Steps s.table s.peers l x.table x.peers) c.whole b.steps) in
+    let main = shows s from at b.tx mid.table mid.peers b.ask c.front c.first (all_front c.front c.back memory) mid.first in
+    let told = told_shows o mid.table x.table mid.peers x.peers c.back c.rest (all_back c.front c.back memory) mid.rest in
+    let message : answer_with S from at b.tx b.ask (map reply_of c.front ++ map reply_of c.back) ≡ m =
+    sym (b.reply_is ∙ ap (λ l. answer_with S from at b.tx b.ask (map reply_of l)) c.whole ∙ ap (answer_with S from at b.tx b.ask) (map-append reply_of c.front c.back)) in
+    record {
+      tx = b.tx;
+      read_only = b.read_only;
+      ask = b.ask;
+      query = b.query;
+      replies = subst (λ (z : Outcome). RepliesWith s from at b.tx b.ask z) (outcome_is _ m mid.peers x.peers message (sym told.peers)) (main.replies (map reply_of c.back));
+      told = subst (λ t. IsTold o t x.table) main.table told.told;
+      rest = b.rest;
+    }

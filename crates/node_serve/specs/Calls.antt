@@ -1,0 +1,153 @@
+-- Which calls a datagram makes on what a node holds, and the reply that it is owed, computed from their replies alone. The
+-- rules are those of node_serve: the nodes that a reply names are Kademlia's (2002, section 2.3), peers and tokens BEP 5's.
+use Rattle.std.specs.Prelude.{ℕ, ◌-◌, ◌<◌, ◌≤◌, Bool, cond, ◌&&◌, ◌||◌, nat_lt, List, [], ◌∷◌, ◌++◌, drop, Option, Some, None}
+use Rattle.std.specs.List.{All}
+use Rattle.std.specs.Str.{bytes_eq}
+use Rattle.kad_base.specs.declared.plain.Id.{Id}
+use Rattle.kad_base.specs.declared.plain.Addr.{Addr}
+use Rattle.kad_base.specs.declared.plain.Contact.{Contact}
+use Rattle.kad_base.specs.Limits.{max_k}
+use Rattle.kad_base.specs.Puzzles.{Passes}
+use Rattle.kad_krpc.specs.declared.message.Ask.{Ask}
+use Rattle.kad_krpc.specs.declared.message.Ask.TheVariants.{Ping, FindNode, GetPeers, AnnouncePeer, Other}
+use Rattle.kad_krpc.specs.declared.message.Message.{Message}
+use Rattle.kad_krpc.specs.declared.message.Message.TheVariants as message
+use Rattle.kad_krpc.specs.Records.{ip_bytes}
+use Rattle.contact_table.specs.declared.calls.TableCall.{TableCall}
+use Rattle.contact_table.specs.declared.calls.TableCall.TheVariants.{Seen, Closest}
+use Rattle.contact_table.specs.declared.calls.TableReply.{TableReply}
+use Rattle.contact_table.specs.declared.calls.TableReply.TheVariants.{List as List_reply}
+use Rattle.contact_table.specs.Told.{HasMemory}
+use Rattle.peer_store.specs.Tokens.{TokensState, epoch_at, token_of}
+use Rattle.node_serve.specs.AnswerOf.{told_by}
+use Rattle.node_serve.specs.Replies.{of_ipv4, snodes_by, where_some, peer_for, named, server_error, bad_token, method_unknown}
+use Rattle.peer_store.specs.declared.calls.PeerCall.{PeerCall}
+use Rattle.peer_store.specs.declared.calls.PeerCall.TheVariants.{List as List_call, Put}
+use Rattle.peer_store.specs.declared.calls.PeerReply.{PeerReply}
+use Rattle.peer_store.specs.declared.calls.PeerReply.TheVariants.{Listed, Full, NoMemory}
+use Rattle.node_serve.specs.declared.setting.ServeSetting.{ServeSetting}
+
+-- k is within its limits, and each proof passes
+pub record IsSetting (s : ServeSetting) : Type 0 where
+  pub some_nodes : 0 < s.k
+  pub few_nodes : s.k ≤ max_k
+  pub proofs : All (Passes s.policy) s.proofs
+
+-- ---- calls, replies, and both
+
+pub data Call : Type 0 where
+  of_table : TableCall → Call
+  of_peers : PeerCall → Call
+
+pub data Reply : Type 0 where
+  by_table : TableReply → Reply
+  by_peers : PeerReply → Reply
+
+-- a call that was made, and its reply
+pub data Did : Type 0 where
+  on_table : TableCall → TableReply → Did
+  on_peers : PeerCall → PeerReply → Did
+
+abbrev pub call_of : Did → Call
+call_of (on_table call reply) = of_table call
+call_of (on_peers call reply) = of_peers call
+
+abbrev pub reply_of : Did → Reply
+reply_of (on_table call reply) = by_table reply
+reply_of (on_peers call reply) = by_peers reply
+
+-- there was memory for it
+abbrev pub HasRoom : PeerReply → Type 0
+HasRoom NoMemory = ⊥
+HasRoom other = Unit {0}
+
+abbrev pub HadMemory : Did → Type 0
+HadMemory (on_table call reply) = HasMemory reply
+HadMemory (on_peers call reply) = HasRoom reply
+
+-- ---- which calls
+
+-- the token is that of the address in the epoch of the moment, or in the one before it, where there is one
+abbrev pub is_accepted : TokensState → List ℕ → ℕ → List ℕ → Bool
+is_accepted t ip at token =
+    bytes_eq token (token_of t.seed (epoch_at t at) ip)
+    || (nat_lt 0 (epoch_at t at) && bytes_eq token (token_of t.seed (epoch_at t at - 1) ip))
+
+-- what a query asks
+abbrev pub calls_for : ServeSetting → Addr → ℕ → Ask → List Call
+calls_for s from at (Ping id) = []
+calls_for s from at (FindNode id target) = of_table (Closest target s.k) ∷ []
+calls_for s from at (GetPeers id key) = of_peers (List_call key at) ∷ of_table (Closest key s.k) ∷ []
+calls_for s from at (AnnouncePeer id key port token) =
+    cond (is_accepted s.tokens (ip_bytes from.ip) at token) (of_peers (Put key (peer_for from port) at) ∷ []) []
+calls_for s from at (Other method) = []
+
+-- whom the table is told of
+abbrev pub calls_told : Option Contact → List Call
+calls_told None = []
+calls_told (Some c) = of_table (Seen c) ∷ []
+
+-- the calls that a query makes, in order: what it asks, and then, where the table is told of the asker, that
+abbrev pub calls_of : ServeSetting → Addr → ℕ → Bool → Ask → List Call
+calls_of s from at read_only ask = calls_for s from at ask ++ calls_told (told_by s.policy read_only ask from)
+
+-- ---- the reply
+
+-- the closest contacts that the first reply lists
+abbrev pub listed_by : TableReply → List Contact
+listed_by (List_reply list) = list
+listed_by other = []
+
+abbrev pub closest_in : List Reply → List Contact
+closest_in [] = []
+closest_in (by_table reply ∷ rest) = listed_by reply
+closest_in (by_peers reply ∷ rest) = []
+
+-- the peers that the first reply lists
+abbrev pub peers_by : PeerReply → List Addr
+peers_by (Listed list) = list
+peers_by other = []
+
+abbrev pub peers_in : List Reply → List Addr
+peers_in [] = []
+peers_in (by_table reply ∷ rest) = []
+peers_in (by_peers reply ∷ rest) = peers_by reply
+
+-- what the first reply says of a peer that was to be added
+abbrev pub put_by : List ℕ → Id → PeerReply → Message
+put_by tx own Full = server_error tx
+put_by tx own other = named tx own
+
+abbrev pub put_in : List ℕ → Id → List Reply → Message
+put_in tx own [] = named tx own
+put_in tx own (by_table reply ∷ rest) = named tx own
+put_in tx own (by_peers reply ∷ rest) = put_by tx own reply
+
+-- the nodes of a reply, from the closest contacts
+abbrev pub found_from : List ℕ → ServeSetting → List Contact → Message
+found_from tx s closest = message.Answer tx (record {
+  id = s.own;
+  nodes = Some (of_ipv4 closest);
+  snodes = snodes_by s.policy s.proofs (of_ipv4 closest);
+  token = None;
+  values = None;
+})
+
+-- with the listed peers, and a token for whoever asks
+abbrev pub peers_from : List ℕ → ServeSetting → Addr → ℕ → List Addr → List Contact → Message
+peers_from tx s from at listed closest = message.Answer tx (record {
+  id = s.own;
+  nodes = Some (of_ipv4 closest);
+  snodes = snodes_by s.policy s.proofs (of_ipv4 closest);
+  token = Some (token_of s.tokens.seed (epoch_at s.tokens at) (ip_bytes from.ip));
+  values = where_some listed;
+})
+
+-- the reply to a query, from the replies to its calls
+abbrev pub answer_with : ServeSetting → Addr → ℕ → List ℕ → Ask → List Reply → Message
+answer_with s from at tx (Ping id) replies = named tx s.own
+answer_with s from at tx (FindNode id target) replies = found_from tx s (closest_in replies)
+answer_with s from at tx (GetPeers id key) replies = peers_from tx s from at (peers_in replies) (closest_in (drop 1 replies))
+answer_with s from at tx (AnnouncePeer id key port token) replies =
+    cond (is_accepted s.tokens (ip_bytes from.ip) at token) (put_in tx s.own replies) (bad_token tx)
+answer_with s from at tx (Other method) replies = method_unknown tx

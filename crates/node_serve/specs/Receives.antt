@@ -1,0 +1,92 @@
+-- The receive calls of a node that serves: each query among the datagrams which came was answered by the reply that a node owes
+-- it (BEP 5), as the datagrams before had left the node, and nothing else was sent.
+use Rattle.std.specs.Prelude.{◌≡◌, ◌⊎◌, ℕ, zero, suc, ◌+◌, ◌^◌, ◌-◌, ◌<◌, ◌≤◌, min, Bool, true, false, List, [], ◌∷◌, ◌++◌, length, filter}
+use Rattle.kad_base.specs.declared.plain.Addr.{Addr}
+use Rattle.kad_base.specs.declared.plain.Event.{Event}
+use Rattle.kad_base.specs.declared.plain.Event.TheVariants.{Got, Quiet, Sent, Unsent}
+use Rattle.kad_krpc.specs.declared.message.Message.{Message}
+use Rattle.kad_krpc.specs.Form.{form}
+use Rattle.node_serve.specs.AnswerOf.{AnswerOf, EndsEarly}
+use Rattle.node_serve.specs.NodeState.{NodeState}
+use Rattle.node_serve.specs.Queries.{IsSilent}
+
+-- ---- what is sent
+
+-- the event of a send: it went out, or the link refused it
+abbrev pub tried : Bool → Addr → List ℕ → Event
+tried true to bytes = Sent to bytes
+tried false to bytes = Unsent to bytes
+
+abbrev pub is_sent : Event → Bool
+is_sent (Sent to bytes) = true
+is_sent other = false
+
+-- how many datagrams were sent, those aside that the link refused
+abbrev pub sent_in : List Event → ℕ
+sent_in events = length (filter is_sent events)
+
+-- ---- the receive calls
+
+-- a node, and the last moment that its link told
+pub record ServeState : Type 0 where
+  pub node : NodeState
+  pub moment : ℕ
+
+-- each waits for a minute after the last moment that was told, or to the last moment that there is
+abbrev pub waits_until : ℕ → ℕ
+waits_until moment = min (moment + 60000) (2 ^ 64 - 1)
+
+-- What follows a datagram: nothing where no reply is owed, and the node stays as it was; else its reply was sent to its
+-- source, or the link refused it.
+pub data Responds (s : NodeState) (from : Addr) (bytes : List ℕ) (at : ℕ) (events : List Event) (next : NodeState) : Type 0 where
+  silent : IsSilent from bytes → events ≡ [] → next ≡ s → Responds s from bytes at events next
+  answered : (reply : Message) (was_sent : Bool) → AnswerOf s from bytes at reply next → events ≡ tried was_sent from (form reply) ∷ [] → Responds s from bytes at events next
+
+-- one receive call: nothing came, or a datagram with what follows it
+pub data ServesOne (s : ServeState) (events : List Event) (t : ServeState) : Type 0 where
+  quiet : events ≡ Quiet (waits_until s.moment) t.moment ∷ [] → t.node ≡ s.node → ServesOne s events t
+  came : (from : Addr) (bytes : List ℕ) (then : List Event) → events ≡ Got from bytes (waits_until s.moment) t.moment ∷ then
+      → Responds s.node from bytes t.moment then t.node → ServesOne s events t
+
+-- so many of them, one after another
+abbrev pub Serves : ℕ → ServeState → List Event → ServeState → Type 0
+Serves zero s events t = (events ≡ []) × (t ≡ s)
+Serves (suc n) s events t =
+    (one : List Event) × (u : ServeState) × (more : List Event) × (events ≡ one ++ more) × ServesOne s one u × Serves n u more t
+
+-- a query came whose answer found no memory
+pub record Unanswered (s : ServeState) (events : List Event) : Type 0 where
+  pub from : Addr
+  pub bytes : List ℕ
+  pub at : ℕ
+  pub next : NodeState
+  pub got : events ≡ Got from bytes (waits_until s.moment) at ∷ []
+  pub ends : EndsEarly s.node from bytes at next
+
+-- ---- how many
+
+abbrev pub is_got : Event → Bool
+is_got (Got from bytes until at) = true
+is_got other = false
+
+-- how many datagrams came
+abbrev pub got_in : List Event → ℕ
+got_in events = length (filter is_got events)
+
+-- all receive calls of a node, the datagrams that came, and the replies that were sent and not refused
+pub record ServesAll (s : ServeState) (receives received replied : ℕ) (events : List Event) : Type 0 where
+  pub end : ServeState
+  pub serves : Serves receives s events end
+  pub received_are : received ≡ got_in events
+  pub replied_are : replied ≡ sent_in events
+
+-- some of them; then no more, unless a query came whose answer found no memory
+pub record ServesSome (s : ServeState) (receives : ℕ) (events : List Event) : Type 0 where
+  pub made : ℕ
+  pub few : made ≤ receives
+  pub front : List Event
+  pub end : ServeState
+  pub serves : Serves made s front end
+  pub last : List Event
+  pub whole : events ≡ front ++ last
+  pub ended : (last ≡ []) ⊎ ((made < receives) × Unanswered end last)

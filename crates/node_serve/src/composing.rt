@@ -1,0 +1,107 @@
+//! The reply to a query, from what its calls gave.
+ghost use Rattle.std.specs.Prelude.{◌≡◌, IfOk, OnErr};
+ghost use Rattle.kad_krpc.specs.Records.{ip_bytes};
+ghost use Rattle.node_serve.specs.Calls.{found_from, peers_from};
+ghost use Rattle.node_serve.specs.Gains.{MayFail, reply_gained};
+
+use crate::asked::Asked;
+use crate::nodes::{snodes_under, with_ipv4};
+use crate::reply::{name, refuse_full, refuse_method, refuse_token, some_peers};
+use crate::setting::ServeSetting;
+use kad_base::{Addrs, Bytes, Contacts, List, NoMemory};
+use kad_krpc::{Answer, Message};
+use peer_store::Stored;
+use std::alloc::Global;
+
+/// What the calls of a query gave.
+#[derive(Debug, Drop)]
+pub enum Gained {
+    /// The node's identifier alone is wanted.
+    Name,
+    /// The closest contacts.
+    Nodes { nodes: Contacts },
+    /// The peers of the key, and the closest contacts.
+    Peers { list: Addrs, nodes: Contacts },
+    /// The peer is held.
+    Placed { stored: Stored },
+    /// The peer has no place.
+    Full,
+    /// The token isn't one of its source.
+    RefuseToken,
+    /// The method isn't known.
+    RefuseMethod,
+}
+
+/// The reply to a `find_node`.
+fn found(
+    alloc: Global,
+    setting: &ServeSetting,
+    tx: Bytes,
+    closest: Contacts,
+) -> Result<Message, NoMemory>
+    ensures { IfOk result (λ m. m ≡ found_from tx setting.now closest) }
+{
+    let nodes = with_ipv4(closest);
+    let proofs = setting.proofs.as_slice();
+    let snodes = snodes_under(alloc, setting.policy, proofs, nodes.as_slice())?;
+    let answer = Answer {
+        id: setting.own,
+        nodes: Some(nodes),
+        snodes,
+        token: None,
+        values: None,
+    };
+    Ok(Message::Answer { tx, answer })
+}
+
+/// The reply to a `get_peers`.
+fn peers_found(
+    alloc: Global,
+    setting: &ServeSetting,
+    asked: &Asked,
+    at: u64,
+    tx: Bytes,
+    list: Addrs,
+    closest: Contacts,
+) -> Result<Message, NoMemory>
+    requires { ip_bytes asked.now.from.ip ≡ asked.now.ip }
+    ensures { IfOk result (λ m. m ≡ peers_from tx setting.now asked.now.from at list closest) }
+{
+    let nodes = with_ipv4(closest);
+    let proofs = setting.proofs.as_slice();
+    let snodes = snodes_under(alloc, setting.policy, proofs, nodes.as_slice())?;
+    let token = List::from_slice(alloc, &setting.tokens.make(asked.ip, at))?;
+    let answer = Answer {
+        id: setting.own,
+        nodes: Some(nodes),
+        snodes,
+        token: Some(token),
+        values: some_peers(list),
+    };
+    Ok(Message::Answer { tx, answer })
+}
+
+/// The reply to a query that came at this moment, under its transaction id, from what its calls gave. It makes no call.
+pub fn compose(
+    alloc: Global,
+    setting: &ServeSetting,
+    asked: &Asked,
+    at: u64,
+    tx: Bytes,
+    gained: Gained,
+) -> Result<Message, NoMemory>
+    requires { ip_bytes asked.now.from.ip ≡ asked.now.ip }
+    ensures message { IfOk result (λ m. m ≡
+        reply_gained setting.now asked.now.from at tx gained) }
+    ensures err { OnErr result (MayFail gained) }
+{
+    match gained {
+        Gained::Name => Ok(name(tx, setting.own)),
+        Gained::Nodes { nodes } => found(alloc, setting, tx, nodes),
+        Gained::Peers { list, nodes } => peers_found(alloc, setting, asked, at, tx, list, nodes),
+        Gained::Placed { .. } => Ok(name(tx, setting.own)),
+        Gained::Full => refuse_full(alloc, tx),
+        Gained::RefuseToken => refuse_token(alloc, tx),
+        Gained::RefuseMethod => refuse_method(alloc, tx),
+    }
+}

@@ -1,0 +1,107 @@
+//! The calls of a query, made on a table and peers of one's own.
+ghost use Rattle.std.specs.Prelude.{◌≡◌, ◌≤◌, ◌≢◌, length, None, IfOk, OnOk, OnErr};
+ghost use Rattle.contact_table.specs.TableStep.{TableStep};
+ghost use Rattle.contact_table.specs.declared.calls.TableCall.{TableCall};
+ghost use Rattle.contact_table.specs.declared.calls.TableReply.{TableReply};
+ghost use Rattle.peer_store.specs.PeersStep.{PeersStep};
+ghost use Rattle.peer_store.specs.declared.calls.PeerCall.{PeerCall};
+ghost use Rattle.peer_store.specs.declared.calls.PeerReply.{PeerReply};
+ghost use Rattle.node_serve.specs.AnswerOf.{IsSeen, IsTold};
+ghost use Rattle.node_serve.specs.Gains.{IsFew};
+ghost use Rattle.node_serve.specs.Gathered.{Gathers, LeavesBy, LeavesPut};
+
+use crate::composing::Gained;
+use crate::planning::Wants;
+use contact_table::{Table, TableCall, TableReply};
+use kad_base::{Addrs, Contact, Contacts, Id, NoMemory, Serial};
+use peer_store::{PeerCall, PeerReply, Peers};
+
+/// The role under which a node calls what it holds.
+const SERVER: u8 = 0;
+
+/// The closest contacts.
+fn closest(table: &mut Table, target: Id, n: u8) -> Result<Contacts, NoMemory>
+    ensures few { IfOk result (λ list. length list ≤ n) }
+    ensures ok { IfOk result (λ list. TableStep table.old 0 (TableCall.Closest target n)
+        (TableReply.List list)) }
+    ensures same { table.new ≡ table.old }
+{
+    match table.apply(SERVER, TableCall::Closest { target, n }) {
+        TableReply::List { list } => Ok(list),
+        _ => Err(NoMemory),
+    }
+}
+
+/// The peers of the key.
+fn list(peers: &mut Peers, key: Id, at: u64) -> Result<Addrs, NoMemory>
+    ensures few { IfOk result (λ list. length list ≤ 50) }
+    ensures ok { IfOk result (λ list. PeersStep peers.old 0 (PeerCall.List key at)
+        (PeerReply.Listed list)) }
+    ensures same { peers.new ≡ peers.old }
+{
+    match peers.apply(SERVER, PeerCall::List { key, at }) {
+        PeerReply::Listed { list } => Ok(list),
+        _ => Err(NoMemory),
+    }
+}
+
+/// Makes the calls for what is wanted.
+pub(crate) fn gather(
+    table: &mut Table,
+    peers: &mut Peers,
+    k: u8,
+    at: u64,
+    wants: Wants,
+) -> Result<Gained, NoMemory>
+    requires { k ≤ 20 }
+    ensures table { table.new ≡ table.old }
+    ensures few { IfOk result IsFew }
+    ensures ok { IfOk result (λ g. Gathers k at wants g table.old peers.old peers.new) }
+    ensures left { IfOk result (λ g. LeavesBy at g peers.old peers.new) }
+    ensures err { OnErr result (LeavesPut at wants peers.old peers.new) }
+{
+    match wants {
+        Wants::Nodes { target } => match closest(table, target, k) {
+            Ok(nodes) => Ok(Gained::Nodes { nodes }),
+            Err(NoMemory) => Err(NoMemory),
+        },
+        Wants::Peers { key } => match list(peers, key, at) {
+            Ok(list) => match closest(table, key, k) {
+                Ok(nodes) => Ok(Gained::Peers { list, nodes }),
+                Err(NoMemory) => Err(NoMemory),
+            },
+            Err(NoMemory) => Err(NoMemory),
+        },
+        Wants::Place { key, peer } => match peers.apply(SERVER, PeerCall::Put { key, peer, at }) {
+            PeerReply::Stored { stored } => Ok(Gained::Placed { stored }),
+            PeerReply::Full => Ok(Gained::Full),
+            _ => Err(NoMemory),
+        },
+        Wants::Name => Ok(Gained::Name),
+        Wants::RefuseToken => Ok(Gained::RefuseToken),
+        Wants::RefuseMethod => Ok(Gained::RefuseMethod),
+    }
+}
+
+/// Tells the table that the contact asked. Without memory the table is as it was.
+fn tell_seen(table: &mut Table, contact: Contact) -> Result<(), NoMemory>
+    ensures ok { OnOk result (IsSeen contact table.old table.new) }
+    ensures err { OnErr result (table.new ≡ table.old) }
+{
+    match table.apply(SERVER, TableCall::Seen { contact }) {
+        TableReply::NoMemory => Err(NoMemory),
+        _ => Ok(()),
+    }
+}
+
+/// Tells the table who asked, where it is told.
+pub(crate) fn tell(table: &mut Table, told: Option<Contact>) -> Result<(), NoMemory>
+    ensures ok { OnOk result (IsTold told table.old table.new) }
+    ensures err { OnErr result (table.new ≡ table.old) }
+    ensures some { OnErr result (told ≢ None) }
+{
+    match told {
+        Some(contact) => tell_seen(table, contact),
+        None => Ok(()),
+    }
+}

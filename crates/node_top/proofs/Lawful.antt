@@ -1,0 +1,56 @@
+-- What every promise keeps: its ends exclude each other, and each status says the same of whatever command it ends.
+use Rattle.std.proofs.Common.{◌≡◌, ℕ, List, IsTrue, None}
+use Rattle.kad_base.specs.declared.plain.Event.{Event}
+use Rattle.node_top.specs.declared.status.Status.{Status}
+use Rattle.node_top.specs.declared.status.Status.TheVariants.{Usage, BadLine, LinkFault, SourceFault, Strays, NoSeeds, NoMemory, Unminted, TooLong}
+use Rattle.node_top.specs.Endings.{number_of, EndsEarly, MayEnd, OrNoMemory}
+use Rattle.node_top.specs.Input.{ReadsTooMuch, IsBadLine}
+use Rattle.node_top.specs.Looked.{GivesSeeds, GivesNoSeeds, MeetsLastStray}
+use Rattle.node_top.specs.Promise.{Promise}
+use Rattle.node_top.specs.Shown.{Shown, IsTold, HasFailed}
+
+-- what brings a status, whatever else holds
+abbrev pub Sign : Promise → List ℕ → Shown ℕ → Shown Event → Status → Type 0
+Sign p random source link (BadLine line) = IsBadLine source line
+Sign p random source link NoSeeds = GivesNoSeeds p.sought random source
+Sign p random source link Strays = MeetsLastStray p.sought random link
+Sign p random source link Unminted = p.nothing random
+Sign p random source link TooLong = ReadsTooMuch source.before source.after
+Sign p random source link other = ⊥
+
+-- the outside tells enough that the sign of this status decides
+abbrev pub IsJudged : Shown ℕ → Shown Event → Status → Type 0
+IsJudged source link (BadLine line) = IsTold source × (¬ HasFailed source)
+IsJudged source link NoSeeds = IsTold source × (¬ HasFailed source)
+IsJudged source link Strays = IsTold link
+IsJudged source link TooLong = IsTold source
+IsJudged source link other = Unit {0}
+
+-- what a status says of the source and the link, whatever the command is
+abbrev pub Means : Promise → List ℕ → Shown ℕ → Shown Event → Status → Type 0
+Means p random source link Usage = ⊥
+Means p random source link (BadLine line) = IsTrue p.reads × IsBadLine source line
+Means p random source link LinkFault = HasFailed link × p.started random source × p.begun random source link
+Means p random source link SourceFault = IsTrue p.reads × HasFailed source
+Means p random source link Strays = MeetsLastStray p.sought random link × GivesSeeds p.sought random source × p.begun random source link
+Means p random source link NoSeeds = GivesNoSeeds p.sought random source
+Means p random source link NoMemory = Unit {0}
+Means p random source link Unminted = p.nothing random
+Means p random source link TooLong = IsTrue p.reads × ReadsTooMuch source.before source.after
+
+-- nothing was told before the link was called
+abbrev pub IsUncalled : Shown Event → Status → Type 0
+IsUncalled link status = EndsEarly (number_of status) → link.after ≡ link.before
+
+pub record Lawful (p : Promise) : Type 0 where
+  -- with its text there is no sign of another end
+  pub no_sign : (random : List ℕ) (source : Shown ℕ) (link : Shown Event) (text : List ℕ) (t : Status) → IsJudged source link t → p.text random source link text → Sign p random source link t → ⊥
+  -- and with a cause no sign of another than that
+  pub one_sign : (random : List ℕ) (source : Shown ℕ) (link : Shown Event) (s t : Status) → IsJudged source link t → IsUncalled link s → p.cause random source link s → Sign p random source link t → OrNoMemory (number_of s) (number_of t)
+  -- with what it needs there is no cause but want of memory
+  pub needed : (random : List ℕ) (source : Shown ℕ) (link : Shown Event) (s : Status) → p.needs random source link → p.cause random source link s → number_of s ≡ 9
+  pub may_end : (random : List ℕ) (source : Shown ℕ) (link : Shown Event) (s : Status) → p.cause random source link s → MayEnd p (number_of s)
+  pub means : (random : List ℕ) (source : Shown ℕ) (link : Shown Event) (s : Status) → p.cause random source link s → Means p random source link s
+  -- what is looked up is so over the link, and a search needs none
+  pub seeks : ¬ IsTrue p.links → p.sought ≡ None
+  pub no_link : (random : List ℕ) → p.nothing random → ¬ IsTrue p.links

@@ -1,0 +1,104 @@
+-- What a command promises: one record of predicates, by the random bytes and by what the source and the link showed. Each
+-- command's own stands in its spec, and `promise_of` (`Commands`) is the table of all.
+use Rattle.std.specs.Prelude.{◌≡◌, ◌⊎◌, ℕ, List, [], ◌∷◌, Bool, true, false, Option, None}
+use Rattle.kad_base.specs.declared.plain.Event.{Event}
+use Rattle.lookup_core.specs.declared.quest.AskKind.{AskKind}
+use Rattle.kad_words.specs.declared.command.LookWords.{LookWords}
+use Rattle.node_top.specs.declared.status.Status.{Status}
+use Rattle.node_top.specs.declared.status.Status.TheVariants.{BadLine, SourceFault, NoMemory, Unminted, TooLong}
+use Rattle.node_top.specs.Input.{ReadsFew, ReadsTooMuch, IsBadLine}
+use Rattle.node_top.specs.Shown.{Shown, HasFailed}
+
+-- the query that a lookup asks by, and its options
+pub record Sought : Type 0 where
+  pub kind : AskKind
+  pub look : LookWords
+
+pub record Promise : Type 1 where
+  -- whether it reads the input, and takes the link
+  pub reads : Bool
+  pub links : Bool
+  -- what it looks up, if it does
+  pub sought : Option Sought
+  -- the statuses that it may end with besides 0 (done), 5 (cut short) and 9 (no memory)
+  pub ends : List ℕ
+  -- the values of its words are within the limits
+  pub ranges : Type 0
+  -- its text
+  pub text : List ℕ → Shown ℕ → Shown Event → List ℕ → Type 0
+  -- what it had read before it called the link
+  pub started : List ℕ → Shown ℕ → Type 0
+  -- what it had done over the link when it ended early
+  pub begun : List ℕ → Shown ℕ → Shown Event → Type 0
+  -- what it searches for isn't there to be found
+  pub nothing : List ℕ → Type 0
+  -- why it has no text
+  pub cause : List ℕ → Shown ℕ → Shown Event → Status → Type 0
+  -- what it needs to have one
+  pub needs : List ℕ → Shown ℕ → Shown Event → Type 0
+
+-- one of these numbers
+abbrev pub IsOneOf : List ℕ → ℕ → Type 0
+IsOneOf [] n = ⊥
+IsOneOf (x ∷ xs) n = (n ≡ x) ⊎ IsOneOf xs n
+
+-- ---- a command that reads an input
+
+-- what it does behind its input; the fields are those of its promise, where `ends` and `cause` leave out what any input brings
+pub record Aim : Type 1 where
+  pub links : Bool
+  pub sought : Option Sought
+  pub ends : List ℕ
+  pub ranges : Type 0
+  pub text : List ℕ → Shown ℕ → Shown Event → List ℕ → Type 0
+  pub started : List ℕ → Shown ℕ → Type 0
+  pub begun : List ℕ → Shown ℕ → Shown Event → Type 0
+  pub cause : List ℕ → Shown ℕ → Shown Event → Status → Type 0
+  pub needs : List ℕ → Shown ℕ → Shown Event → Type 0
+
+-- why an input, or what is done behind it, ended with no text
+abbrev pub ReadingCause : (Status → Type 0) → Shown ℕ → Status → Type 0
+ReadingCause behind source (BadLine line) = IsBadLine source line
+ReadingCause behind source SourceFault = HasFailed source × ReadsFew source.before source.after
+ReadingCause behind source NoMemory = Unit {0}
+ReadingCause behind source TooLong = ReadsTooMuch source.before source.after
+ReadingCause behind source other = behind other
+
+abbrev pub reading : Aim → Promise
+reading aim = record {
+  reads = true;
+  links = aim.links;
+  sought = aim.sought;
+  ends = 3 ∷ 6 ∷ 11 ∷ aim.ends;
+  ranges = aim.ranges;
+  text = aim.text;
+  started = aim.started;
+  begun = aim.begun;
+  nothing = λ random. ⊥;
+  cause = λ random source link status. ReadingCause (aim.cause random source link) source status;
+  needs = aim.needs;
+}
+
+-- ---- a command that reads nothing and takes no link
+
+-- why it has no text: there is nothing to be found, or no memory
+abbrev pub UnreadCause : Type 0 → Shown ℕ → Status → Type 0
+UnreadCause nothing source Unminted = nothing × (source.after ≡ source.before)
+UnreadCause nothing source NoMemory = Unit {0}
+UnreadCause nothing source other = ⊥
+
+-- its text is made from the random bytes alone
+abbrev pub unread : List ℕ → Type 0 → (List ℕ → List ℕ → Type 0) → (List ℕ → Type 0) → Promise
+unread ends ranges text nothing = record {
+  reads = false;
+  links = false;
+  sought = None;
+  ends = ends;
+  ranges = ranges;
+  text = λ random source link written. text random written × (source.after ≡ source.before);
+  started = λ random source. ⊥;
+  begun = λ random source link. ⊥;
+  nothing = nothing;
+  cause = λ random source link status. UnreadCause (nothing random) source status;
+  needs = λ random source link. ¬ nothing random;
+}

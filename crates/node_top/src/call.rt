@@ -1,0 +1,12 @@
+//! What every command is called with.
+
+use std::hash::RandomState;
+
+/// What every command is called with, below the top calls: 32 bytes that nobody else knows, how a contact's proof is
+/// checked, and the hasher of what it indexes.
+#[derive(Drop)]
+pub(crate) struct Call<'a, C> {
+    pub random: [u8; 32],
+    pub check: &'a C,
+    pub hasher: RandomState,
+}

@@ -1,0 +1,2 @@
+mod bencode;
+mod messages;

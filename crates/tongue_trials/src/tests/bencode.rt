@@ -1,0 +1,201 @@
+//! Rows from outside: refusals with their places, and the examples of BEP 3 and BEP 5.
+use kad_base::Bytes;
+use kad_bencode::{Bad, BenFault, Entries, Piece, Value, check, put_string, read, write};
+use std::alloc::Global;
+use std::process::Abort;
+use std::test::Fail;
+
+fn refused(rt: &impl Abort, alloc: Global, bytes: &[u8], bad: Bad) {
+    match read(alloc, bytes) {
+        Ok(_) => assert!(rt; false, "read"),
+        Err(fault) => assert_eq!(rt; fault, BenFault::Bad(bad)),
+    }
+    match check(bytes) {
+        Ok(()) => assert!(rt; false, "taken"),
+        Err(found) => assert_eq!(rt; found, bad),
+    }
+}
+
+fn written(rt: &impl Abort, alloc: Global, bytes: &[u8], form: &[u8]) {
+    assert!(rt; check(bytes).is_ok());
+    match read(alloc, bytes) {
+        Ok(value) => {
+            let mut out = Vec::new(alloc);
+            assert!(rt; write(&value, &mut out).is_ok());
+            assert_eq!(rt; out.as_slice(), form);
+        }
+        Err(_) => assert!(rt; false, "refused"),
+    }
+}
+
+fn same(rt: &impl Abort, alloc: Global, bytes: &[u8]) {
+    written(rt, alloc, bytes, bytes);
+}
+
+#[test]
+fn refusals_name_the_fault_and_its_place(rt: HostRuntime) {
+    let alloc = rt.alloc();
+    refused(&rt, alloc, b"i-0e", Bad::NotBencode { at: 2 });
+    refused(&rt, alloc, b"i03e", Bad::NotBencode { at: 2 });
+    refused(&rt, alloc, b"02:ab", Bad::NotBencode { at: 1 });
+    refused(&rt, alloc, b"", Bad::NotBencode { at: 0 });
+    refused(&rt, alloc, b"9:ab", Bad::NotBencode { at: 4 });
+    refused(
+        &rt,
+        alloc,
+        b"99999999999999999999999:ab",
+        Bad::NotBencode { at: 26 },
+    );
+    refused(&rt, alloc, b"i1ex", Bad::Trailing { at: 3 });
+    refused(&rt, alloc, b"d1:a0:1:a0:e", Bad::KeyTwice { at: 6 });
+    refused(
+        &rt,
+        alloc,
+        b"i9223372036854775808e",
+        Bad::NumberTooBig { at: 0 },
+    );
+    refused(
+        &rt,
+        alloc,
+        b"llllllllllllllllleeeeeeeeeeeeeeeee",
+        Bad::Deep { at: 16 },
+    );
+}
+
+#[test]
+fn examples_are_read_and_written(rt: HostRuntime) {
+    let alloc = rt.alloc();
+    written(&rt, alloc, b"d1:bi1e1:a0:e", b"d1:a0:1:bi1ee");
+    same(&rt, alloc, b"4:spam");
+    same(&rt, alloc, b"i3e");
+    same(&rt, alloc, b"i-3e");
+    same(&rt, alloc, b"i-9223372036854775808e");
+    same(&rt, alloc, b"i9223372036854775807e");
+    same(&rt, alloc, b"lllllllllllllllleeeeeeeeeeeeeeee");
+    same(&rt, alloc, b"l4:spam4:eggse");
+    same(&rt, alloc, b"d3:cow3:moo4:spam4:eggse");
+    same(&rt, alloc, b"d4:spaml1:a1:bee");
+    same(
+        &rt,
+        alloc,
+        b"d1:ad2:id20:abcdefghij0123456789e1:q4:ping1:t2:aa1:y1:qe",
+    );
+    same(
+        &rt,
+        alloc,
+        b"d1:rd2:id20:mnopqrstuvwxyz123456e1:t2:aa1:y1:re",
+    );
+    same(
+        &rt,
+        alloc,
+        b"d1:ad2:id20:abcdefghij01234567896:target20:mnopqrstuvwxyz123456e1:q9:find_node1:t2:aa1:y1:qe",
+    );
+    same(
+        &rt,
+        alloc,
+        b"d1:rd2:id20:0123456789abcdefghij5:nodes9:def456...e1:t2:aa1:y1:re",
+    );
+    same(
+        &rt,
+        alloc,
+        b"d1:ad2:id20:abcdefghij01234567899:info_hash20:mnopqrstuvwxyz123456e1:q9:get_peers1:t2:aa1:y1:qe",
+    );
+    same(
+        &rt,
+        alloc,
+        b"d1:rd2:id20:abcdefghij01234567895:token8:aoeusnth6:valuesl6:axje.u6:idhtnmee1:t2:aa1:y1:re",
+    );
+    same(
+        &rt,
+        alloc,
+        b"d1:ad2:id20:abcdefghij012345678912:implied_porti1e9:info_hash20:mnopqrstuvwxyz1234564:porti6881e5:token8:aoeusnthe1:q13:announce_peer1:t2:aa1:y1:qe",
+    );
+    same(
+        &rt,
+        alloc,
+        b"d1:eli201e23:A Generic Error Ocurrede1:t2:aa1:y1:ee",
+    );
+}
+
+#[test]
+fn a_dictionary_keeps_its_keys(rt: HostRuntime) -> Result<(), Fail> {
+    let alloc = rt.alloc();
+    let mut entries = Entries::new(alloc);
+    entries.set(Bytes::from_slice(alloc, b"b")?, Value::Int(1))?;
+    entries.set(Bytes::from_slice(alloc, b"a")?, Value::Int(2))?;
+    entries.set(Bytes::from_slice(alloc, b"b")?, Value::Int(3))?;
+    assert_eq!(rt; entries.as_slice().len(), 2);
+    assert!(rt; entries.get(b"c").is_none());
+    assert!(rt; entries.remove(b"a").is_some());
+    assert!(rt; entries.remove(b"a").is_none());
+    let value = Value::Dict(entries);
+    assert!(rt; value.get(b"b").is_some());
+    assert!(rt; value.get(b"a").is_none());
+    assert!(rt; value.as_list().is_none());
+    assert!(rt; value.as_bytes().is_none());
+    assert_eq!(rt; value.as_int(), None);
+    Ok(())
+}
+
+/// Memory is ample, so all of it is read, and written again.
+#[test]
+fn a_text_of_4096_bytes_is_read_and_written(rt: HostRuntime) -> Result<(), Fail> {
+    let alloc = rt.alloc();
+    let mut text = Vec::new(alloc);
+    text.extend_from_slice(b"4091:")?;
+    for _ in 0..4091 {
+        text.push(b'x')?;
+    }
+    assert_eq!(rt; text.len(), 4096);
+    same(&rt, alloc, text.as_slice());
+    Ok(())
+}
+
+#[test]
+fn a_text_is_written_behind_bytes_that_are_there(rt: HostRuntime) -> Result<(), Fail> {
+    let alloc = rt.alloc();
+    let mut out = Vec::new(alloc);
+    out.extend_from_slice(b"abc")?;
+    match read(alloc, b"d1:a1:be") {
+        Ok(value) => {
+            assert!(rt; write(&value, &mut out).is_ok());
+            assert_eq!(rt; out.as_slice(), b"abcd1:a1:be".as_slice());
+        }
+        Err(_) => assert!(rt; false, "refused"),
+    }
+    Ok(())
+}
+
+/// Each key has its value where it stands, whatever the order of the keys.
+#[test]
+fn a_value_is_found_where_it_stands(rt: HostRuntime) {
+    match Piece::parse(b"d1:bd2:idi2ee2:idi1e1:al1:x0:ee") {
+        Ok(top) => {
+            assert!(rt; top.is_dict());
+            assert!(rt; top.get(b"c").is_none());
+            match top.get(b"id") {
+                Some(id) => assert_eq!(rt; id.as_int(), Some(1)),
+                None => assert!(rt; false, "no id"),
+            }
+            match top.get(b"a") {
+                Some(list) => assert!(rt; list.is_list()),
+                None => assert!(rt; false, "no list"),
+            }
+        }
+        Err(_) => assert!(rt; false, "refused"),
+    }
+}
+
+/// Puts a string, and holds what then stands there against its form.
+fn put(rt: &impl Abort, room: &mut [u8], text: &[u8], form: &[u8]) {
+    let end = put_string(room, 0, text);
+    assert!(rt; end == form.len());
+    assert!(rt; room.starts_with(form));
+}
+
+/// A text of 8 bytes fits into 8.
+#[test]
+fn a_string_is_put_where_it_has_room(rt: HostRuntime) {
+    put(&rt, &mut [b'-'; 8], b"abcdef", b"6:abcdef");
+    put(&rt, &mut [b'-'; 32], b"abcdefghijkl", b"12:abcdefghijkl");
+}
