@@ -81,11 +81,3 @@ differ-id x y i ne = go (same_id x y) refl
     go : (t : Bool) → same_id x y ≡ t → false ≡ same_id x y
     go false e = sym e
     go true e = absurd (ne (ap (λ (l : List ℕ). get_or l i 0) (same_id-bytes x y e)))
-
--- so are contacts whose identifiers do
-pub differ-contact : (x y : Contact) (i : ℕ) → get_or x.id.0 i 0 ≢ get_or y.id.0 i 0 → false ≡ same x y
-differ-contact x y i ne = go (same x y) refl
-  where
-    go : (t : Bool) → same x y ≡ t → false ≡ same x y
-    go false e = sym e
-    go true e = absurd (ne (ap (λ (c : Contact). get_or c.id.0 i 0) (same_exact x y e)))

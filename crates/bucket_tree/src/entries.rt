@@ -8,18 +8,8 @@ ghost use Rattle.bucket_tree.specs.Steps.{without, mark as mark_of};
 
 use crate::plain::Live;
 use crate::prefix::Prefix;
-use kad_base::{Contact, Id, NoMemory};
+use kad_base::{Contact, Id, NoMemory, is_same};
 use std::alloc::Global;
-
-/// The two are one contact. Those of one bucket begin alike, so that most differ in the last byte of the identifier.
-fn is_same(a: &Contact, b: &Contact) -> bool
-    ensures { result ≡ same a.now b.now }
-{
-    if a.id.0[19] != b.id.0[19] {
-        return false;
-    }
-    a.cmp(b).is_eq()
-}
 
 /// The two are one identifier. Those of one bucket begin alike, so that most differ in the last byte.
 pub(crate) fn is_same_id(a: &Id, b: &Id) -> bool

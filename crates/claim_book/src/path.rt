@@ -11,7 +11,7 @@ ghost use Rattle.claim_book.specs.Index.{IsEmptyPath, HasPlace, Gains};
 
 use crate::plain::{Setting, Thing};
 use kad_base::limits::MAX_PATH_CONTACTS;
-use kad_base::{Contact, Id, NoMemory, Report};
+use kad_base::{Contact, Id, NoMemory, Report, is_same};
 use kad_distance::{place, put_closest};
 use std::alloc::Global;
 use std::collections::VecDeque;
@@ -199,7 +199,7 @@ fn give_one(queue: &mut VecDeque<Thing>, thing: Thing)
 fn is_another(one: &Contact, other: &Contact) -> bool
     ensures { result ≡ not (same one.now other.now) }
 {
-    !one.cmp(other).is_eq()
+    !is_same(one, other)
 }
 
 /// Takes the contact out.

@@ -1,5 +1,5 @@
 -- Contacts are told apart by their order.
-use Rattle.std.proofs.Common.{◌≡◌, ℕ, List, ◌++◌, get_or, true, ◌||◌, refl, ap, arith}
+use Rattle.std.proofs.Common.{◌≡◌, ◌≢◌, ℕ, List, ◌++◌, get_or, Bool, true, false, ◌||◌, refl, sym, ap, arith}
 use Rattle.std.specs.Ordering.{ordering_then, nat_cmp, is_eq}
 use Rattle.std.specs.Cmp.{IsTotalOrder}
 use Rattle.std.specs.Cmp.Lexicographic.{slice_cmp}
@@ -59,3 +59,11 @@ same_exact a b e = contact_exact a b (is_eq_tie (contact_cmp a b) e)
 
 pub among_more : (cs ds : List Contact) (c : Contact) → among (cs ++ ds) c ≡ (among cs c || among ds c)
 among_more cs ds c = list_any-append (same c) cs ds
+
+-- contacts that differ in a byte of the identifier are two
+pub differ_contact : (x y : Contact) (i : ℕ) → get_or x.id.0 i 0 ≢ get_or y.id.0 i 0 → false ≡ same x y
+differ_contact x y i ne = go (same x y) refl
+  where
+    go : (t : Bool) → same x y ≡ t → false ≡ same x y
+    go false e = sym e
+    go true e = absurd (ne (ap (λ (c : Contact). get_or c.id.0 i 0) (same_exact x y e)))

@@ -1,5 +1,4 @@
 pub mod Grown
-pub mod Copied
 pub mod Runs
 pub mod Contacts
 pub mod Xors

@@ -22,7 +22,7 @@ pub use list::{Addrs, Bytes, Contacts, List, Numbers, Reports};
 pub use memory::{BytesSink, BytesSource};
 pub use outside::{Check, Link, Sink, Source};
 pub use plain::{
-    Addr, Came, Contact, Event, Failed, Id, Ip, NoMemory, Policy, Proof, Report, is_usable,
+    Addr, Came, Contact, Event, Failed, Id, Ip, NoMemory, Policy, Proof, Report, is_same, is_usable,
 };
 pub use serial::{Made, Serial};
 pub use steady::{SteadySink, SteadySource};

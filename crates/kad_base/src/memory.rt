@@ -1,10 +1,24 @@
 //! A source and a sink in memory, whose calls fail where they are told to.
-ghost use Rattle.std.specs.Prelude.{◌≡◌, ◌<◌, ◌≤◌, [], length, drop, Some, IfOk, OnErr};
+ghost use Rattle.std.specs.Prelude.{◌≡◌, ◌<◌, ◌≤◌, ◌++◌, ◌↔◌, [], length, take, drop, min, Contains, Some, IfOk, OnOk, OnErr, IsErr, IsTrue};
+ghost use Rattle.kad_base.specs.Memory.{counted};
 
 use crate::list::{Bytes, Numbers};
 use crate::outside::{Sink, Source};
 use crate::plain::Failed;
 use std::marker::Model;
+
+/// One more, where it isn't the last number.
+fn counted(count: u64) -> u64
+    ensures { result ≡ counted count }
+{
+    count.saturating_add(1)
+}
+
+fn is_in(numbers: &[u64], number: u64) -> bool
+    ensures { IsTrue result ↔ Contains numbers.now number }
+{
+    numbers.contains(&number)
+}
 
 /// Gives at most `piece` bytes a call. The calls whose numbers, from 0, are in `failing` fail and take nothing.
 #[derive(Drop)]
@@ -23,7 +37,7 @@ impl Model for BytesSource {
 
     ghost Value = { SourceState };
 
-    ghost view = { λ s. record { rest = drop s.at s.bytes; failures = s.faults } };
+    ghost view = { λ s. record { rest = drop s.at s.bytes; piece = s.piece; failing = s.failing; calls = s.calls; failures = s.faults } };
 
     ghost invariant = { λ s. (s.at ≤ length s.bytes) × (0 < s.piece) };
 }
@@ -32,6 +46,9 @@ impl BytesSource {
     pub fn new(bytes: Bytes, piece: usize, failing: Numbers) -> Self
         requires { 0 < piece }
         ensures rest { result.rest ≡ bytes }
+        ensures piece { result.piece ≡ piece }
+        ensures failing { result.failing ≡ failing }
+        ensures calls { result.calls ≡ 0 }
         ensures failures { result.failures ≡ 0 }
     {
         BytesSource {
@@ -50,11 +67,28 @@ impl Source for BytesSource {
 
     ghost faults = { λ s. s.failures };
 
-    fn take(&mut self, buf: &mut [u8]) -> Result<usize, Failed> {
-        let fails = self.failing.as_slice().contains(&self.calls);
-        self.calls = self.calls.saturating_add(1);
+    fn take(&mut self, buf: &mut [u8]) -> Result<usize, Failed>
+        requires { 0 < length buf.old }
+        ensures fails { IsErr result ↔ Contains self.old.failing self.old.calls }
+        ensures gives { IfOk result (λ n.
+            n ≡ min (length self.old.rest) (min self.old.piece (length buf.old))) }
+        ensures bytes { IfOk result (λ n. take n buf.new ≡ take n self.old.rest) }
+        ensures beyond { IfOk result (λ n. drop n buf.new ≡ drop n buf.old) }
+        ensures end { IfOk result (λ n. n ≡ 0 → self.old.rest ≡ []) }
+        ensures rest { IfOk result (λ n. self.new.rest ≡ drop n self.old.rest) }
+        ensures nothing { OnErr result (self.new.rest ≡ self.old.rest) }
+        ensures untouched { OnErr result (buf.new ≡ buf.old) }
+        ensures calls { self.new.calls ≡ counted self.old.calls }
+        ensures fault { OnErr result (self.new.failures ≡ counted self.old.failures) }
+        ensures no_fault { OnOk result (self.new.failures ≡ self.old.failures) }
+        ensures no_less { self.old.failures ≤ self.new.failures }
+        ensures same_piece { self.new.piece ≡ self.old.piece }
+        ensures same_failing { self.new.failing ≡ self.old.failing }
+    {
+        let fails = is_in(self.failing.as_slice(), self.calls);
+        self.calls = counted(self.calls);
         if fails {
-            self.faults = self.faults.saturating_add(1);
+            self.faults = counted(self.faults);
             return Err(Failed);
         }
         let rest = &self.bytes.as_slice()[self.at..];
@@ -82,7 +116,7 @@ impl Model for BytesSink {
 
     ghost Value = { SinkState };
 
-    ghost view = { λ s. record { taken = s.room; failures = s.faults } };
+    ghost view = { λ s. record { taken = s.room; piece = s.piece; failing = s.failing; calls = s.calls; failures = s.faults } };
 
     ghost invariant = { λ s. 0 < s.piece };
 }
@@ -92,6 +126,9 @@ impl BytesSink {
     pub fn new(piece: usize, failing: Numbers, room: Bytes) -> Self
         requires { 0 < piece }
         ensures taken { result.taken ≡ room }
+        ensures piece { result.piece ≡ piece }
+        ensures failing { result.failing ≡ failing }
+        ensures calls { result.calls ≡ 0 }
         ensures failures { result.failures ≡ 0 }
     {
         BytesSink {
@@ -116,18 +153,32 @@ impl Sink for BytesSink {
 
     ghost faults = { λ s. s.failures };
 
-    fn give(&mut self, bytes: &[u8]) -> Result<usize, Failed> {
-        let fails = self.failing.as_slice().contains(&self.calls);
-        self.calls = self.calls.saturating_add(1);
+    fn give(&mut self, bytes: &[u8]) -> Result<usize, Failed>
+        requires { 0 < length bytes.now }
+        // Where it fails otherwise, the bytes had no memory.
+        ensures fails { Contains self.old.failing self.old.calls → IsErr result }
+        ensures takes { IfOk result (λ n. n ≡ min (length bytes.now) self.old.piece) }
+        ensures some { IfOk result (λ n. 0 < n) }
+        ensures taken { IfOk result (λ n. self.new.taken ≡ self.old.taken ++ take n bytes.now) }
+        ensures nothing { OnErr result (self.new.taken ≡ self.old.taken) }
+        ensures calls { self.new.calls ≡ counted self.old.calls }
+        ensures fault { OnErr result (self.new.failures ≡ counted self.old.failures) }
+        ensures no_fault { OnOk result (self.new.failures ≡ self.old.failures) }
+        ensures no_less { self.old.failures ≤ self.new.failures }
+        ensures same_piece { self.new.piece ≡ self.old.piece }
+        ensures same_failing { self.new.failing ≡ self.old.failing }
+    {
+        let fails = is_in(self.failing.as_slice(), self.calls);
+        self.calls = counted(self.calls);
         if fails {
-            self.faults = self.faults.saturating_add(1);
+            self.faults = counted(self.faults);
             return Err(Failed);
         }
         let n = bytes.len().min(self.piece);
         match self.room.extend(&bytes[..n]) {
             Ok(()) => Ok(n),
             Err(_) => {
-                self.faults = self.faults.saturating_add(1);
+                self.faults = counted(self.faults);
                 Err(Failed)
             }
         }

@@ -1,6 +1,6 @@
 //! Plain data: identifiers, addresses, contacts, and what a link did.
-ghost use Rattle.std.specs.Prelude.{◌↔◌, IsTrue};
-ghost use Rattle.kad_base.specs.Contacts.{IsUsable};
+ghost use Rattle.std.specs.Prelude.{◌≡◌, ◌↔◌, IsTrue};
+ghost use Rattle.kad_base.specs.Contacts.{IsUsable, same};
 
 use crate::list::Bytes;
 use std::alloc::{AllocError, AllocFailed};
@@ -113,4 +113,15 @@ pub fn is_usable(own: &Id, contact: &Contact) -> bool
     ensures { IsTrue result ↔ IsUsable own.now contact.now }
 {
     contact.id != *own && contact.addr.port != 0
+}
+
+/// Whether the two are one contact: identifier, address and port. Near ones begin alike, so that most differ in the last
+/// byte of the identifier.
+pub fn is_same(a: &Contact, b: &Contact) -> bool
+    ensures { result ≡ same a.now b.now }
+{
+    if a.id.0[19] != b.id.0[19] {
+        return false;
+    }
+    a.cmp(b).is_eq()
 }

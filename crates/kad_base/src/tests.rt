@@ -41,7 +41,8 @@ fn sinks_take_pieces_and_fail_where_told(rt: HostRuntime) -> Result<(), Fail> {
     let mut steady = SteadySink::new(alloc, 4)?;
     assert_eq!(rt; steady.give(b"abc"), Ok(3));
     assert_eq!(rt; steady.give(b"de"), Ok(2));
-    assert_eq!(rt; steady.written(), b"abc".as_slice());
+    assert_eq!(rt; steady.give(b"f"), Ok(1));
+    assert_eq!(rt; steady.written(), b"abcd".as_slice());
     Ok(())
 }
 

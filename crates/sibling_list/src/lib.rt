@@ -1,6 +1,6 @@
 //! The siblings of a node: the contacts closest to its own identifier, at most `MAX_SIBLINGS`, which answer for it
 //! (S/Kademlia, section 4.2).
-//! After `new` it takes no memory, and it knows no bucket and no socket.
+//! Calls on it take no memory; making it and copying its contacts out do. It knows no bucket and no socket.
 #![tactic(auto)]
 
 ghost use Rattle.std.specs.Prelude.{◌≡◌, ◌↔◌, [], not, IfOk, IsTrue, MatchOption};
@@ -9,7 +9,7 @@ ghost use Rattle.kad_base.specs.Contacts.{same};
 ghost use Rattle.sibling_list.specs.Siblings.{IsSiblings, with_one, without_one};
 
 use kad_base::limits::MAX_SIBLINGS;
-use kad_base::{Contact, Contacts, Id, List, NoMemory};
+use kad_base::{Contact, Contacts, Id, List, NoMemory, is_same};
 use kad_distance::put_closest;
 use std::alloc::Global;
 use std::marker::Model;
@@ -113,5 +113,5 @@ fn are_same(a: &[Contact], b: &[Contact]) -> bool
 fn is_another(a: &Contact, b: &Contact) -> bool
     ensures { result ≡ not (same a.now b.now) }
 {
-    !a.cmp(b).is_eq()
+    !is_same(a, b)
 }
