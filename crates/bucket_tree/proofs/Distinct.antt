@@ -2,8 +2,8 @@
 use Rattle.std.proofs.Common.{◌≡◌, ◌≤◌, ◌&&◌, List, [], ◌∷◌, length, Bool, true, false, cond, not, refl, ap, subst, ◌∙◌, arith}
 use Rattle.std.specs.Prelude.{filter}
 use Rattle.std.specs.List.{list_any}
-use Rattle.kad_base.specs.declared.plain.Id.{Id}
-use Rattle.kad_base.specs.declared.plain.Contact.{Contact}
+use Rattle.kad_base.specs.declared.types.Id.{Id}
+use Rattle.kad_base.specs.declared.types.Contact.{Contact}
 use Rattle.bucket_tree.specs.Rows.{same_id, IsOnce}
 use Rattle.bucket_tree.specs.States.{distinct}
 use Rattle.bucket_tree.proofs.Begun.{and_left, and_right}

@@ -3,14 +3,14 @@ use Rattle.std.proofs.Common.{◌≡◌, ℕ, ◌≤◌, List, [], ◌∷◌, �
 use Rattle.std.specs.List.{All}
 use Rattle.std.proofs.lemmas.List.{append_assoc}
 use Rattle.std.proofs.lemmas.List.Elements.{All-append}
-use Rattle.kad_base.specs.declared.plain.Id.{Id}
+use Rattle.kad_base.specs.declared.types.Id.{Id}
 use Rattle.kad_base.specs.Contacts.{same, among}
-use Rattle.bucket_tree.specs.declared.plain.Live.{Live}
-use Rattle.kad_base.specs.declared.plain.Contact.{Contact}
-use Rattle.bucket_tree.specs.declared.plain.Gone.{Gone}
-use Rattle.bucket_tree.specs.declared.plain.Gone.TheVariants.{Kept, Removed, Replaced, Unknown}
+use Rattle.bucket_tree.specs.declared.types.Live.{Live}
+use Rattle.kad_base.specs.declared.types.Contact.{Contact}
+use Rattle.bucket_tree.specs.declared.types.Gone.{Gone}
+use Rattle.bucket_tree.specs.declared.types.Gone.TheVariants.{Kept, Removed, Replaced, Unknown}
 use Rattle.bucket_tree.specs.Rows.{RowState, IsRow, SoundRows, contact_of, live_in, live_of}
-use Rattle.bucket_tree.specs.Steps.{fresh, without, marked, removed, RowFailed, InItsRow, FailedStep}
+use Rattle.bucket_tree.specs.BucketSteps.{fresh, without, marked, removed, RowFailed, InItsRow, FailedStep}
 use Rattle.bucket_tree.proofs.Counted.{any-map}
 use Rattle.bucket_tree.proofs.Every.{all-left, all-right, all-here, all-put}
 use Rattle.bucket_tree.proofs.Places.{unknown-rows}

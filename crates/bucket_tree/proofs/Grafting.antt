@@ -3,7 +3,7 @@ use Rattle.std.proofs.Common.{◌≡◌, ℕ, ◌+◌, ◌<◌, ◌≤◌, List,
 use Rattle.std.specs.List.{All}
 use Rattle.std.proofs.lemmas.List.{append-nil, append_assoc, append_cancel_left, length-drop, length-map, drop_more, drop_all}
 use Rattle.std.proofs.lemmas.List.Elements.{All-append, All-same}
-use Rattle.kad_base.specs.declared.plain.Id.{Id}
+use Rattle.kad_base.specs.declared.types.Id.{Id}
 use Rattle.bucket_tree.specs.Rows.{RowState, IsRow, SoundRows}
 use Rattle.bucket_tree.specs.declared.node.Node.{Node}
 use Rattle.bucket_tree.specs.Trees.{rows_of, IsUnder, IsShort, IsWholeRow, IsTree}

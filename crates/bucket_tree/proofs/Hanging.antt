@@ -1,7 +1,7 @@
 -- Rows that are the leaves of a tree: in one way, and exactly where their prefixes are a partition in ascending order.
 use Rattle.std.proofs.Common.{◌≡◌, ℕ, ◌+◌, ◌≤◌, List, [], ◌∷◌, ◌++◌, length, Bool, true, false, refl, sym, ap, ◌∙◌, arith}
 use Rattle.std.proofs.lemmas.List.{append-nil, append_assoc, append_cancel_left, length-append}
-use Rattle.kad_base.specs.declared.plain.Id.{Id}
+use Rattle.kad_base.specs.declared.types.Id.{Id}
 use Rattle.bucket_tree.specs.Partition.{Partition, whole, halves, NoneEmpty, after_bit, BeforeAll, Ascending}
 use Rattle.bucket_tree.specs.Rows.{RowState, SoundRows, prefixes_of}
 use Rattle.bucket_tree.specs.declared.node.Node.{Node}

@@ -4,10 +4,10 @@ use Rattle.std.specs.Prelude.{filter}
 use Rattle.std.specs.List.{All}
 use Rattle.std.proofs.lemmas.List.{length-map}
 use Rattle.std.proofs.lemmas.List.Elements.{All-map, All-head, All-tail}
-use Rattle.kad_base.specs.declared.plain.Id.{Id}
+use Rattle.kad_base.specs.declared.types.Id.{Id}
 use Rattle.bucket_tree.specs.Partition.{id_bits, begins, Partition}
 use Rattle.bucket_tree.specs.Rows.{RowState, IsRow, SoundRows, prefix_of, prefixes_of, live_in, live_of}
-use Rattle.kad_base.specs.declared.plain.Contact.{Contact}
+use Rattle.kad_base.specs.declared.types.Contact.{Contact}
 use Rattle.kad_base.specs.Contacts.{same, among}
 use Rattle.kad_base.proofs.Contacts.{same_exact, among_more}
 use Rattle.bucket_tree.proofs.Every.{all-left, all-after, count-append, flat_map-append}

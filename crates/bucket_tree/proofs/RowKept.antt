@@ -6,16 +6,16 @@ use Rattle.std.proofs.lemmas.Bool.{cases_lt}
 use Rattle.std.proofs.lemmas.List.{length-append, append-nil, map-append, length-map}
 use Rattle.std.proofs.lemmas.List.Filters.{length-filter_both}
 use Rattle.std.proofs.lemmas.List.Elements.{All-append, All-filter, All-drop, All-head, All-tail, All-push, filter_passes}
-use Rattle.kad_base.specs.declared.plain.Id.{Id}
-use Rattle.kad_base.specs.declared.plain.Contact.{Contact}
+use Rattle.kad_base.specs.declared.types.Id.{Id}
+use Rattle.kad_base.specs.declared.types.Contact.{Contact}
 use Rattle.kad_base.specs.Contacts.{same, among}
 use Rattle.kad_base.proofs.Contacts.{same_exact}
-use Rattle.bucket_tree.specs.declared.plain.Live.{Live}
-use Rattle.bucket_tree.specs.declared.plain.Gone.{Gone}
-use Rattle.bucket_tree.specs.declared.plain.Gone.TheVariants.{Kept, Removed, Replaced, Unknown}
+use Rattle.bucket_tree.specs.declared.types.Live.{Live}
+use Rattle.bucket_tree.specs.declared.types.Gone.{Gone}
+use Rattle.bucket_tree.specs.declared.types.Gone.TheVariants.{Kept, Removed, Replaced, Unknown}
 use Rattle.bucket_tree.specs.Partition.{id_bits, begins}
 use Rattle.bucket_tree.specs.Rows.{RowState, IsRow, contact_of, live_in, same_id}
-use Rattle.bucket_tree.specs.Steps.{knows_id, fresh, without, with_room, half, failures_of, RowFailed}
+use Rattle.bucket_tree.specs.BucketSteps.{knows_id, fresh, without, with_room, half, failures_of, RowFailed}
 use Rattle.bucket_tree.specs.Refills.{Refilled}
 use Rattle.bucket_tree.proofs.Begun.{begins-whole}
 use Rattle.bucket_tree.proofs.OneBit.{id_bits-length}

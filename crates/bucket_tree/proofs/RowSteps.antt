@@ -5,17 +5,17 @@ use Rattle.std.specs.List.{All, list_any}
 use Rattle.std.proofs.lemmas.Bool.{le-leb, cases_lt}
 use Rattle.std.proofs.lemmas.List.{length-append, length-map, length-drop}
 use Rattle.std.proofs.lemmas.List.Elements.{All-append, All-filter, All-push, All-map, All-nil, All-cons, All-head, All-tail}
-use Rattle.kad_base.specs.declared.plain.Id.{Id}
-use Rattle.kad_base.specs.declared.plain.Contact.{Contact}
+use Rattle.kad_base.specs.declared.types.Id.{Id}
+use Rattle.kad_base.specs.declared.types.Contact.{Contact}
 use Rattle.kad_base.specs.Contacts.{same}
-use Rattle.bucket_tree.specs.declared.plain.Live.{Live}
-use Rattle.bucket_tree.specs.declared.plain.Seen.{Seen}
-use Rattle.bucket_tree.specs.declared.plain.Seen.TheVariants.{Added, Moved, Spared, Conflict, Own}
-use Rattle.bucket_tree.specs.declared.plain.Gone.{Gone}
-use Rattle.bucket_tree.specs.declared.plain.Gone.TheVariants.{Kept, Removed, Replaced, Unknown}
+use Rattle.bucket_tree.specs.declared.types.Live.{Live}
+use Rattle.bucket_tree.specs.declared.types.Seen.{Seen}
+use Rattle.bucket_tree.specs.declared.types.Seen.TheVariants.{Added, Moved, Spared, Conflict, Own}
+use Rattle.bucket_tree.specs.declared.types.Gone.{Gone}
+use Rattle.bucket_tree.specs.declared.types.Gone.TheVariants.{Kept, Removed, Replaced, Unknown}
 use Rattle.bucket_tree.specs.Partition.{id_bits, begins}
 use Rattle.bucket_tree.specs.Rows.{RowState, IsRow, contact_of, live_in, same_id, may_split}
-use Rattle.bucket_tree.specs.Steps.{knows_id, fresh, without, added, with_room, spared, NeedsSplit, RowSeen, mark, marked, removed, IsReplaced, RowFailed}
+use Rattle.bucket_tree.specs.BucketSteps.{knows_id, fresh, without, added, with_room, spared, NeedsSplit, RowSeen, mark, marked, removed, IsReplaced, RowFailed}
 use Rattle.bucket_tree.proofs.Counted.{filter-few, any-map}
 use Rattle.bucket_tree.proofs.Every.{all-left, all-right, all-here, count-append, count-one, count-filter, count-not}
 use Rattle.bucket_tree.proofs.Ids.{same_id-exact}

@@ -2,12 +2,12 @@
 use Rattle.std.proofs.Common.{◌≡◌, ℕ, ◌<◌, ◌≤◌, List, [], ◌∷◌, ◌++◌, length, Bool, true, false, sym, ap, subst, ◌∙◌, arith}
 use Rattle.std.proofs.lemmas.List.{map-append, length-append}
 use Rattle.std.proofs.lemmas.List.Elements.{All-append, All-cons, All-nil}
-use Rattle.kad_base.specs.declared.plain.Id.{Id}
-use Rattle.kad_base.specs.declared.plain.Contact.{Contact}
-use Rattle.bucket_tree.specs.declared.plain.Live.{Live}
+use Rattle.kad_base.specs.declared.types.Id.{Id}
+use Rattle.kad_base.specs.declared.types.Contact.{Contact}
+use Rattle.bucket_tree.specs.declared.types.Live.{Live}
 use Rattle.bucket_tree.specs.Partition.{id_bits, begins, Partition, Ascending, whole}
 use Rattle.bucket_tree.specs.Rows.{RowState, IsRow, SoundRows, Sound, prefix_of, prefixes_of, same_id}
-use Rattle.bucket_tree.specs.Steps.{half}
+use Rattle.bucket_tree.specs.BucketSteps.{half}
 use Rattle.bucket_tree.proofs.Shares.{partition-split, ascending-split}
 use Rattle.bucket_tree.proofs.Every.{all-left, all-after, all-here, all-put, all-one}
 use Rattle.bucket_tree.proofs.RowKept.{row_of, half-kept}

@@ -5,13 +5,13 @@ use Rattle.std.specs.List.{All}
 use Rattle.std.proofs.lemmas.Result.{IfOk-weaker}
 use Rattle.std.proofs.lemmas.List.{append-nil, append_assoc, length-append}
 use Rattle.std.proofs.lemmas.List.Elements.{All-head}
-use Rattle.kad_base.specs.declared.plain.Id.{Id}
-use Rattle.kad_base.specs.declared.plain.Contact.{Contact}
-use Rattle.kad_base.specs.declared.plain.NoMemory.{NoMemory}
-use Rattle.bucket_tree.specs.declared.plain.Seen.{Seen}
+use Rattle.kad_base.specs.declared.types.Id.{Id}
+use Rattle.kad_base.specs.declared.types.Contact.{Contact}
+use Rattle.kad_base.specs.declared.types.NoMemory.{NoMemory}
+use Rattle.bucket_tree.specs.declared.types.Seen.{Seen}
 use Rattle.bucket_tree.specs.Partition.{bit, id_bits, begins}
 use Rattle.bucket_tree.specs.Rows.{RowState, IsRow, same_id}
-use Rattle.bucket_tree.specs.Steps.{SeenStep, NeedsSplit, RowSeen, half, is_own, in_row, split}
+use Rattle.bucket_tree.specs.BucketSteps.{SeenStep, NeedsSplit, RowSeen, half, is_own, in_row, split}
 use Rattle.bucket_tree.proofs.Begun.{begins-halves}
 use Rattle.bucket_tree.proofs.Every.{all-left, all-right, all-one}
 use Rattle.bucket_tree.proofs.OneBit.{id_bits-length}

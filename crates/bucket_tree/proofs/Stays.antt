@@ -1,18 +1,18 @@
 -- What the rows keep when a contact was seen.
 use Rattle.std.proofs.Common.{◌≡◌, ℕ, suc, zero, ◌<◌, ◌≤◌, ◌||◌, List, [], ◌∷◌, ◌++◌, length, get_or, map, Bool, true, false, sym, subst, arith}
 use Rattle.std.specs.Prelude.{filter, not, IfOk, OnErr, Result, Ok, Err}
-use Rattle.kad_base.specs.declared.plain.NoMemory.{NoMemory}
+use Rattle.kad_base.specs.declared.types.NoMemory.{NoMemory}
 use Rattle.std.specs.List.{All, list_any}
 use Rattle.std.proofs.lemmas.List.{length-append}
 use Rattle.std.proofs.lemmas.List.Elements.{All-append, All-cons, All-nil, All-filter}
-use Rattle.kad_base.specs.declared.plain.Id.{Id}
-use Rattle.kad_base.specs.declared.plain.Contact.{Contact}
-use Rattle.bucket_tree.specs.declared.plain.Live.{Live}
-use Rattle.bucket_tree.specs.declared.plain.Seen.{Seen}
-use Rattle.bucket_tree.specs.declared.plain.Seen.TheVariants.{Added, Moved, Spared, Conflict, Own}
+use Rattle.kad_base.specs.declared.types.Id.{Id}
+use Rattle.kad_base.specs.declared.types.Contact.{Contact}
+use Rattle.bucket_tree.specs.declared.types.Live.{Live}
+use Rattle.bucket_tree.specs.declared.types.Seen.{Seen}
+use Rattle.bucket_tree.specs.declared.types.Seen.TheVariants.{Added, Moved, Spared, Conflict, Own}
 use Rattle.bucket_tree.specs.Partition.{id_bits, begins}
 use Rattle.bucket_tree.specs.Rows.{RowState, IsRow, contact_of, live_in, same_id}
-use Rattle.bucket_tree.specs.Steps.{SeenStep, NeedsSplit, RowSeen, half, without, with_room, moved, added, is_own, in_row, split}
+use Rattle.bucket_tree.specs.BucketSteps.{SeenStep, NeedsSplit, RowSeen, half, without, with_room, moved, added, is_own, in_row, split}
 use Rattle.bucket_tree.proofs.Counted.{filter-map}
 use Rattle.bucket_tree.proofs.Every.{all-left, all-right, all-here, all-after, all-one, all-put}
 use Rattle.bucket_tree.proofs.Ids.{same_bits-id}

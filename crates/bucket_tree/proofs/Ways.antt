@@ -3,7 +3,7 @@ use Rattle.std.proofs.Common.{◌≡◌, ℕ, ◌+◌, ◌-◌, ◌<◌, ◌≤�
 use Rattle.std.specs.List.{All}
 use Rattle.std.proofs.lemmas.List.{length-append}
 use Rattle.std.proofs.lemmas.List.Elements.{All-head}
-use Rattle.kad_base.specs.declared.plain.Id.{Id}
+use Rattle.kad_base.specs.declared.types.Id.{Id}
 use Rattle.bucket_tree.specs.Partition.{bit, bits_from, id_bits, begins}
 use Rattle.bucket_tree.proofs.Begun.{same_bit-itself}
 use Rattle.bucket_tree.proofs.Every.{all-left}

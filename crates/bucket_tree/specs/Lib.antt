@@ -1,7 +1,7 @@
 pub mod Stored
 pub mod Partition
 pub mod Rows
-pub mod Steps
+pub mod BucketSteps
 pub mod Refills
 pub mod Trees
 pub mod States

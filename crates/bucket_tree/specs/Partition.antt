@@ -2,7 +2,7 @@
 -- identifiers.
 use Rattle.std.specs.Prelude.{◌≡◌, ℕ, zero, suc, ◌+◌, ◌-◌, ◌/◌, ◌%◌, Bool, true, false, cond, ◌&&◌, ◌==◌, List, [], ◌∷◌, get_or}
 use Rattle.std.specs.Int.{bit_at}
-use Rattle.kad_base.specs.declared.plain.Id.{Id}
+use Rattle.kad_base.specs.declared.types.Id.{Id}
 
 -- the bit at a place of some bytes, the highest bit first
 abbrev pub bit : List ℕ → ℕ → Bool

@@ -1,10 +1,10 @@
 -- Where the newest spare goes.
 use Rattle.std.specs.Prelude.{◌≡◌, List, [], ◌∷◌, ◌++◌}
-use Rattle.kad_base.specs.declared.plain.Contact.{Contact}
-use Rattle.bucket_tree.specs.declared.plain.Gone.{Gone}
-use Rattle.bucket_tree.specs.declared.plain.Gone.TheVariants.{Removed, Replaced}
-use Rattle.bucket_tree.specs.declared.plain.Live.{Live}
-use Rattle.bucket_tree.specs.Steps.{fresh}
+use Rattle.kad_base.specs.declared.types.Contact.{Contact}
+use Rattle.bucket_tree.specs.declared.types.Gone.{Gone}
+use Rattle.bucket_tree.specs.declared.types.Gone.TheVariants.{Removed, Replaced}
+use Rattle.bucket_tree.specs.declared.types.Live.{Live}
+use Rattle.bucket_tree.specs.BucketSteps.{fresh}
 
 -- the newest spare stands at the end of the live entries
 pub record Refill (live : List Live) (spares : List Contact) (live' : List Live) (spares' : List Contact) : Type 0 where

@@ -1,8 +1,8 @@
 -- A tree of rows: what it means as a list, and what a call owes that changes one of its rows.
 use Rattle.std.specs.Prelude.{◌≡◌, ℕ, ◌<◌, ◌≤◌, get_or, Bool, true, false, List, [], ◌∷◌, ◌++◌, length}
 use Rattle.std.specs.List.{All}
-use Rattle.kad_base.specs.declared.plain.Id.{Id}
-use Rattle.kad_base.specs.declared.plain.Contact.{Contact}
+use Rattle.kad_base.specs.declared.types.Id.{Id}
+use Rattle.kad_base.specs.declared.types.Contact.{Contact}
 use Rattle.kad_distance.specs.Order.{IsCloser}
 use Rattle.bucket_tree.specs.Partition.{bits_from, id_bits, begins}
 use Rattle.bucket_tree.specs.Rows.{RowState, IsRow, live_in}

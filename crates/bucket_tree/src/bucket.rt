@@ -5,12 +5,12 @@ ghost use Rattle.bucket_tree.specs.Partition.{id_bits, begins};
 ghost use Rattle.bucket_tree.specs.Rows.{RowState, contact_of, live_in, may_split, same_id};
 ghost use Rattle.bucket_tree.specs.Refills.{Refilled};
 ghost use Rattle.bucket_tree.specs.States.{state_of};
-ghost use Rattle.bucket_tree.specs.Steps.{NeedsSplit, RowSeen, RowFailed, half as half_of, fresh as fresh_of, without, with_room as with_room_of};
+ghost use Rattle.bucket_tree.specs.BucketSteps.{NeedsSplit, RowSeen, RowFailed, half as half_of, fresh as fresh_of, without, with_room as with_room_of};
 
 use crate::entries::{append, covered, failures, has, has_id, mark, take_id_out, take_out};
-use crate::plain::{Gone, Live, Seen, Setting};
 use crate::prefix::Prefix;
 use crate::rows::Row;
+use crate::types::{Gone, Live, Seen, Setting};
 use kad_base::{Contact, Id, List, NoMemory};
 use std::alloc::Global;
 use std::marker::Model;

@@ -3,7 +3,7 @@ ghost use Rattle.std.specs.Prelude.{◌≡◌, ◌<◌, ◌≤◌, ◌++◌, ◌
 ghost use Rattle.kad_distance.specs.KClosest.{k_closest};
 ghost use Rattle.bucket_tree.specs.Rows.{BucketsState, Sound, live_of, prefixes_of};
 ghost use Rattle.bucket_tree.specs.States.{states_of};
-ghost use Rattle.bucket_tree.specs.Steps.{SeenStep, FailedStep};
+ghost use Rattle.bucket_tree.specs.BucketSteps.{SeenStep, FailedStep};
 ghost use Rattle.bucket_tree.specs.Trees.{IsWhole};
 
 use crate::bucket::Bucket;
@@ -11,12 +11,12 @@ use crate::entries::is_same_id;
 use crate::failing::fail_in;
 use crate::nearest;
 use crate::node::{Node, leaf, list_live, list_prefixes, list_rows};
-use crate::plain::{Gone, Seen, Setting};
 use crate::prefix::Prefixes;
 use crate::rebuilt::whole_tree;
 use crate::rows::{Rows, TableFault};
 use crate::sound::is_within;
 use crate::taking::see;
+use crate::types::{Gone, Seen, Setting};
 use kad_base::{Contact, Contacts, Id, List, NoMemory};
 use std::alloc::Global;
 use std::marker::Model;

@@ -4,10 +4,10 @@ ghost use Rattle.std.specs.List.{All, list_any};
 ghost use Rattle.kad_base.specs.Contacts.{same, among};
 ghost use Rattle.bucket_tree.specs.Partition.{id_bits, begins};
 ghost use Rattle.bucket_tree.specs.Rows.{contact_of, same_id};
-ghost use Rattle.bucket_tree.specs.Steps.{without, mark as mark_of};
+ghost use Rattle.bucket_tree.specs.BucketSteps.{without, mark as mark_of};
 
-use crate::plain::Live;
 use crate::prefix::Prefix;
+use crate::types::Live;
 use kad_base::{Contact, Id, NoMemory, is_same};
 use std::alloc::Global;
 

@@ -1,12 +1,12 @@
 //! A contact that didn't answer.
 ghost use Rattle.std.specs.Prelude.{◌≡◌, ◌≤◌};
 ghost use Rattle.std.specs.List.{All};
-ghost use Rattle.bucket_tree.specs.Steps.{InItsRow};
+ghost use Rattle.bucket_tree.specs.BucketSteps.{InItsRow};
 ghost use Rattle.bucket_tree.specs.Trees.{rows_of, IsUnder, IsShort, IsFailable, path};
 
 use crate::bits::bit;
 use crate::node::Node;
-use crate::plain::Gone;
+use crate::types::Gone;
 use kad_base::Contact;
 
 /// The row of the contact counts a failure of it.

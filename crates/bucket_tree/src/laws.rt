@@ -1,7 +1,7 @@
 //! What holds of every partition. Each law is the clause of a function that does nothing.
 ghost use Rattle.std.specs.Prelude.{◌≡◌, ◌≤◌, Bool, List, length, filter};
 ghost use Rattle.std.specs.List.{All};
-ghost use Rattle.kad_base.specs.declared.plain.Id.{Id};
+ghost use Rattle.kad_base.specs.declared.types.Id.{Id};
 ghost use Rattle.bucket_tree.specs.Partition.{Partition, begins, id_bits};
 
 /// Each identifier begins with exactly one prefix of a partition.

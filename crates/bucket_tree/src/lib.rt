@@ -11,15 +11,15 @@ mod failing;
 mod laws;
 mod nearest;
 mod node;
-mod plain;
 mod prefix;
 mod rebuilt;
 mod rows;
 mod sound;
 mod taking;
+mod types;
 
 pub use buckets::Buckets;
 pub use laws::one_prefix;
-pub use plain::{Gone, Live, Seen};
 pub use prefix::{Prefix, Prefixes};
 pub use rows::{Lives, Row, Rows, TableFault};
+pub use types::{Gone, Live, Seen};

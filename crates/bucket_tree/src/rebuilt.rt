@@ -7,10 +7,10 @@ ghost use Rattle.bucket_tree.specs.Trees.{rows_of, IsTree};
 
 use crate::bucket::Bucket;
 use crate::node::{Node, fork, leaf};
-use crate::plain::Setting;
 use crate::prefix::Prefix;
 use crate::rows::{Row, TableFault};
 use crate::sound::is_row;
+use crate::types::Setting;
 use std::alloc::Global;
 
 /// A row as a leaf under a prefix that is as long as its own at least, where a bucket can be this row.

@@ -1,7 +1,7 @@
 //! The buckets as rows: a list that has all that they hold, so that they can be saved and made again.
 
-use crate::plain::Live;
 use crate::prefix::Prefix;
+use crate::types::Live;
 use kad_base::{Contacts, List, NoMemory};
 
 /// Live contacts, the least recently seen first.

@@ -1,16 +1,16 @@
 //! Whether a row is one that a bucket can be.
 ghost use Rattle.std.specs.Prelude.{◌≡◌, ◌↔◌, ◌<◌, ◌≤◌, IsTrue, IfOk, false, length};
 ghost use Rattle.std.specs.List.{All, list_any};
-ghost use Rattle.kad_base.specs.declared.plain.Id.{Id};
+ghost use Rattle.kad_base.specs.declared.types.Id.{Id};
 ghost use Rattle.bucket_tree.specs.Rows.{IsRow, IsOnce, may_split, same_id};
 ghost use Rattle.bucket_tree.specs.States.{IsHome, distinct, state_of, kept_in};
 ghost use Rattle.bucket_tree.specs.Trees.{IsWhole, IsWholeRow};
 
 use crate::bucket::splits;
 use crate::entries::is_same_id;
-use crate::plain::{Live, Setting};
 use crate::prefix::Prefix;
 use crate::rows::Row;
+use crate::types::{Live, Setting};
 use kad_base::{Contact, Id, NoMemory};
 use std::alloc::Global;
 

@@ -3,13 +3,13 @@ ghost use Rattle.std.specs.Prelude.{◌≡◌, ◌<◌, ◌≤◌, Bool, List, �
 ghost use Rattle.std.specs.List.{All};
 ghost use Rattle.bucket_tree.specs.Partition.{begins, id_bits};
 ghost use Rattle.bucket_tree.specs.Rows.{IsRow, same_id};
-ghost use Rattle.bucket_tree.specs.Steps.{SeenStep, NeedsSplit};
+ghost use Rattle.bucket_tree.specs.BucketSteps.{SeenStep, NeedsSplit};
 ghost use Rattle.bucket_tree.specs.Trees.{rows_of, IsLeaf, IsUnder, IsShort, path};
 
 use crate::bits::bit;
 use crate::bucket::Bucket;
 use crate::node::{Node, fork, leaf};
-use crate::plain::{Seen, Setting};
+use crate::types::{Seen, Setting};
 use kad_base::{Contact, NoMemory};
 use std::alloc::Global;
 

@@ -3,7 +3,7 @@ use Rattle.std.proofs.Common.{◌≡◌, ◌+◌, List, [], ◌∷◌, length, B
 use Rattle.std.specs.Prelude.{filter, find, Some, None}
 use Rattle.std.specs.List.{IsDistinct, AllByRecursion}
 use Rattle.std.proofs.lemmas.Bool.{or_left, or_right, and_parts, and_from, not-true}
-use Rattle.kad_base.specs.declared.plain.Contact.{Contact}
+use Rattle.kad_base.specs.declared.types.Contact.{Contact}
 use Rattle.kad_base.specs.Contacts.{same, among, without}
 use Rattle.kad_base.proofs.Contacts.{same_exact, same_itself, same_back}
 

@@ -6,13 +6,13 @@ use Rattle.std.proofs.lemmas.Cmp.{eq_by_cmp_equiv}
 use Rattle.std.proofs.lemmas.Map.Keys.{IsDistinct-push}
 use Rattle.std.proofs.lemmas.List.{append-nil}
 use Rattle.std.proofs.lemmas.Bool.{or_cases, or_left, or_right, or_parts, and_parts, not-true, eqb-true, ltb-true}
-use Rattle.kad_base.specs.declared.plain.Contact.{Contact}
+use Rattle.kad_base.specs.declared.types.Contact.{Contact}
 use Rattle.kad_base.specs.Contacts.{same, among}
 use Rattle.kad_base.proofs.Contacts.{same_back, contact_total, among_more}
 use Rattle.kad_distance.specs.KClosest.{k_closest}
-use Rattle.claim_book.specs.declared.plain.Setting.{Setting}
-use Rattle.claim_book.specs.declared.plain.Entry.{Entry}
-use Rattle.claim_book.specs.declared.plain.Entry.TheVariants.{Seed, Ask, Heard, Lost, Taken}
+use Rattle.claim_book.specs.declared.types.Setting.{Setting}
+use Rattle.claim_book.specs.declared.types.Entry.{Entry}
+use Rattle.claim_book.specs.declared.types.Entry.TheVariants.{Seed, Ask, Heard, Lost, Taken}
 use Rattle.claim_book.specs.Journal.{on_path, took_of, path_of, ask_of, ask_on, answer_of, fail_of, took, path, asked, asked_on, answered, failed, open_any, open_on, alive, may_ask}
 use Rattle.claim_book.specs.Legal.{Fits, Legal}
 use Rattle.claim_book.proofs.More.{took_more, path_more, asked_more, asked_on_more, answered_more, failed_more, legal_more, along}

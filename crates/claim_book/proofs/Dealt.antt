@@ -6,14 +6,14 @@ use Rattle.std.specs.Prelude.{vec_capacity}
 use Rattle.std.proofs.lemmas.List.{length-take-le}
 use Rattle.std.proofs.lemmas.Bool.{eq-eqb}
 use Rattle.kad_base.specs.Limits.{max_path_contacts}
-use Rattle.kad_base.specs.declared.plain.Contact.{Contact}
+use Rattle.kad_base.specs.declared.types.Contact.{Contact}
 use Rattle.kad_base.specs.Contacts.{among, IsUsable}
 use Rattle.kad_distance.specs.Order.{closeness}
 use Rattle.kad_distance.specs.KClosest.{put}
-use Rattle.claim_book.specs.declared.plain.Setting.{Setting}
-use Rattle.claim_book.specs.declared.plain.Counts.{Counts}
-use Rattle.claim_book.specs.declared.plain.Entry.{Entry}
-use Rattle.claim_book.specs.declared.plain.Entry.TheVariants.{Seed}
+use Rattle.claim_book.specs.declared.types.Setting.{Setting}
+use Rattle.claim_book.specs.declared.types.Counts.{Counts}
+use Rattle.claim_book.specs.declared.types.Entry.{Entry}
+use Rattle.claim_book.specs.declared.types.Entry.TheVariants.{Seed}
 use Rattle.claim_book.specs.declared.path.Path.{Path}
 use Rattle.claim_book.specs.Journal.{took, path, asked, failed, turned}
 use Rattle.claim_book.specs.Legal.{SeedFits, Legal, seeded_from, seeded}

@@ -3,14 +3,14 @@ use Rattle.std.proofs.Common.{◌≡◌, ℕ, zero, suc, ◌+◌, ◌<◌, ◌�
 use Rattle.std.specs.Prelude.{find, slice_get, MatchOption}
 use Rattle.std.proofs.lemmas.Option.{get_or_from_slice_get}
 use Rattle.std.proofs.lemmas.Bool.{and_from, eq-eqb, or_left, or_right, le-ltb, lt-ltb, false_from_ne_true}
-use Rattle.kad_base.specs.declared.plain.Contact.{Contact}
+use Rattle.kad_base.specs.declared.types.Contact.{Contact}
 use Rattle.kad_base.specs.Contacts.{same, among}
 use Rattle.kad_base.proofs.Contacts.{among_more}
 use Rattle.kad_distance.specs.KClosest.{k_closest}
-use Rattle.claim_book.specs.declared.plain.Setting.{Setting}
-use Rattle.claim_book.specs.declared.plain.Thing.{Thing}
-use Rattle.claim_book.specs.declared.plain.Entry.{Entry}
-use Rattle.claim_book.specs.declared.plain.Entry.TheVariants.{Seed, Ask, Taken}
+use Rattle.claim_book.specs.declared.types.Setting.{Setting}
+use Rattle.claim_book.specs.declared.types.Thing.{Thing}
+use Rattle.claim_book.specs.declared.types.Entry.{Entry}
+use Rattle.claim_book.specs.declared.types.Entry.TheVariants.{Seed, Ask, Taken}
 use Rattle.claim_book.specs.Journal.{on_path, asked, asked_on, askers, holders, took, path, answered, failed, alive, open_any, open_on, unsettled, first_unsettled, may_ask}
 use Rattle.claim_book.specs.Calls.{asker}
 use Rattle.claim_book.proofs.Among.{among_without}

@@ -6,15 +6,15 @@ use Rattle.std.proofs.lemmas.List.Elements.{Contains-append_left, Contains-appen
 use Rattle.std.proofs.lemmas.Option.{get_or_from_slice_get}
 use Rattle.std.proofs.lemmas.Bool.{eqb-true, eq-eqb}
 use Rattle.kad_base.specs.Limits.{max_path_contacts}
-use Rattle.kad_base.specs.declared.plain.Contact.{Contact}
-use Rattle.kad_base.specs.declared.plain.Report.{Report}
+use Rattle.kad_base.specs.declared.types.Contact.{Contact}
+use Rattle.kad_base.specs.declared.types.Report.{Report}
 use Rattle.kad_base.specs.Contacts.{among, IsUsable}
 use Rattle.kad_base.specs.Puzzles.{Passes}
-use Rattle.claim_book.specs.declared.plain.Setting.{Setting}
-use Rattle.claim_book.specs.declared.plain.Thing.{Thing}
-use Rattle.claim_book.specs.declared.plain.Thing.TheVariants.{Responder, Told}
-use Rattle.claim_book.specs.declared.plain.Entry.{Entry}
-use Rattle.claim_book.specs.declared.plain.Entry.TheVariants.{Seed, Heard, Note, Taken, Held, Turned, Rejected, Skipped}
+use Rattle.claim_book.specs.declared.types.Setting.{Setting}
+use Rattle.claim_book.specs.declared.types.Thing.{Thing}
+use Rattle.claim_book.specs.declared.types.Thing.TheVariants.{Responder, Told}
+use Rattle.claim_book.specs.declared.types.Entry.{Entry}
+use Rattle.claim_book.specs.declared.types.Entry.TheVariants.{Seed, Heard, Note, Taken, Held, Turned, Rejected, Skipped}
 use Rattle.claim_book.specs.Journal.{things_in, things_of, took_of, path_of, ask_on, settles_on, took, path, asked_on, things, settled, unsettled, first_unsettled}
 use Rattle.claim_book.specs.Legal.{Fits, Legal, Believed}
 use Rattle.claim_book.specs.Lineage.{Names, Descends, HasLineage, Closed, IsContained, SettlesReport, TakesUnlessHeld, DropsNone, GoesByOwnAnswers}

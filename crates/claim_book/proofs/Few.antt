@@ -5,10 +5,10 @@ use Rattle.std.proofs.lemmas.List.Sums.{sum_by-cons}
 use Rattle.std.proofs.lemmas.List.{length-drop}
 use Rattle.std.proofs.lemmas.Bool.{cases_lt}
 use Rattle.kad_base.specs.Limits.{max_path_contacts}
-use Rattle.claim_book.specs.declared.plain.Setting.{Setting}
-use Rattle.claim_book.specs.declared.plain.Thing.{Thing}
-use Rattle.claim_book.specs.declared.plain.Thing.TheVariants.{Responder, Told}
-use Rattle.claim_book.specs.declared.plain.Entry.{Entry}
+use Rattle.claim_book.specs.declared.types.Setting.{Setting}
+use Rattle.claim_book.specs.declared.types.Thing.{Thing}
+use Rattle.claim_book.specs.declared.types.Thing.TheVariants.{Responder, Told}
+use Rattle.claim_book.specs.declared.types.Entry.{Entry}
 use Rattle.claim_book.specs.Journal.{things, settled, unsettled}
 use Rattle.claim_book.specs.Legal.{Legal}
 use Rattle.claim_book.specs.Room.{thing_room, unsettled_room}

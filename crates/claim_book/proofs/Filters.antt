@@ -5,14 +5,14 @@ use Rattle.std.specs.List.{IsDistinct}
 use Rattle.std.proofs.lemmas.List.{append-nil, length-append}
 use Rattle.std.proofs.lemmas.List.Elements.{filter-append, filter_agree}
 use Rattle.std.proofs.lemmas.Bool.{eq-eqb, eqb-false}
-use Rattle.kad_base.specs.declared.plain.Contact.{Contact}
-use Rattle.kad_base.specs.declared.plain.Report.{Report}
+use Rattle.kad_base.specs.declared.types.Contact.{Contact}
+use Rattle.kad_base.specs.declared.types.Report.{Report}
 use Rattle.kad_base.specs.Contacts.{same, among, without}
 use Rattle.kad_base.proofs.Contacts.{same_exact, among_more}
-use Rattle.claim_book.specs.declared.plain.Setting.{Setting}
-use Rattle.claim_book.specs.declared.plain.Cause.{Cause}
-use Rattle.claim_book.specs.declared.plain.Entry.{Entry}
-use Rattle.claim_book.specs.declared.plain.Entry.TheVariants.{Ask, Heard, Lost}
+use Rattle.claim_book.specs.declared.types.Setting.{Setting}
+use Rattle.claim_book.specs.declared.types.Cause.{Cause}
+use Rattle.claim_book.specs.declared.types.Entry.{Entry}
+use Rattle.claim_book.specs.declared.types.Entry.TheVariants.{Ask, Heard, Lost}
 use Rattle.claim_book.specs.Journal.{on_path, path_of, ask_of, ask_on, answer_of, fail_of, took, path, asked, asked_on, answered, failed, open_on, alive}
 use Rattle.claim_book.specs.Legal.{Fits, Legal, is_of}
 use Rattle.claim_book.proofs.More.{path_more, asked_more, asked_on_more, answered_more, failed_more}

@@ -2,10 +2,10 @@
 use Rattle.std.proofs.Common.{◌≡◌, Bool, true, false, ◌&&◌, refl, sym, ap, subst, eqb}
 use Rattle.std.specs.Cmp.Lexicographic.{pointwise, bytes_decides}
 use Rattle.std.proofs.lemmas.Bool.{and_parts, and_from, eqb-true, eq-eqb}
-use Rattle.kad_base.specs.declared.plain.Ip.{Ip}
-use Rattle.kad_base.specs.declared.plain.Ip.TheVariants.{V4, V6}
-use Rattle.kad_base.specs.declared.plain.Contact.{Contact}
-use Rattle.kad_base.specs.contracts.plain.IpPartialEq.TheImpl as ip_eq
+use Rattle.kad_base.specs.declared.types.Ip.{Ip}
+use Rattle.kad_base.specs.declared.types.Ip.TheVariants.{V4, V6}
+use Rattle.kad_base.specs.declared.types.Contact.{Contact}
+use Rattle.kad_base.specs.contracts.types.IpPartialEq.TheImpl as ip_eq
 use Rattle.kad_base.specs.Contacts.{same}
 use Rattle.kad_base.proofs.Contacts.{same_exact, same_itself, same_contact}
 use Rattle.claim_book.specs.Claims.{key_eq}

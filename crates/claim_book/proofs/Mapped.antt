@@ -5,17 +5,17 @@ use Rattle.std.specs.List.{All}
 use Rattle.std.specs.Map.{lookup}
 use Rattle.std.proofs.lemmas.List.Elements.{All-weaker, All-head, All-drop, All-same, All-append, All-nil, All-cons, All-map}
 use Rattle.indexmap.specs.IndexMap.{get}
-use Rattle.kad_base.specs.declared.plain.Id.{Id}
-use Rattle.kad_base.specs.declared.plain.Contact.{Contact}
-use Rattle.kad_base.specs.declared.plain.Report.{Report}
+use Rattle.kad_base.specs.declared.types.Id.{Id}
+use Rattle.kad_base.specs.declared.types.Contact.{Contact}
+use Rattle.kad_base.specs.declared.types.Report.{Report}
 use Rattle.kad_base.specs.Contacts.{same, among, IsUsable}
 use Rattle.kad_base.proofs.Contacts.{same_back, same_itself, among_more}
-use Rattle.claim_book.specs.declared.plain.Setting.{Setting}
-use Rattle.claim_book.specs.declared.plain.Cause.{Cause}
-use Rattle.claim_book.specs.declared.plain.Thing.{Thing}
-use Rattle.claim_book.specs.declared.plain.Thing.TheVariants.{Responder, Told}
-use Rattle.claim_book.specs.declared.plain.Entry.{Entry}
-use Rattle.claim_book.specs.declared.plain.Entry.TheVariants.{Seed, Ask, Heard, Lost, Taken}
+use Rattle.claim_book.specs.declared.types.Setting.{Setting}
+use Rattle.claim_book.specs.declared.types.Cause.{Cause}
+use Rattle.claim_book.specs.declared.types.Thing.{Thing}
+use Rattle.claim_book.specs.declared.types.Thing.TheVariants.{Responder, Told}
+use Rattle.claim_book.specs.declared.types.Entry.{Entry}
+use Rattle.claim_book.specs.declared.types.Entry.TheVariants.{Seed, Ask, Heard, Lost, Taken}
 use Rattle.claim_book.specs.declared.claim_map.Claim.{Claim}
 use Rattle.claim_book.specs.Journal.{ask_of, answer_of, fail_of, holder_of, things_in, things_of, settles_on, took, asked, holders, answered, failed, open_on, things, settled, unsettled, may_ask}
 use Rattle.claim_book.specs.Legal.{Fits, Legal}

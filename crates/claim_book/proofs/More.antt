@@ -4,9 +4,9 @@ use Rattle.std.specs.List.{flat_map}
 use Rattle.std.proofs.lemmas.List.{append-nil, append_assoc}
 use Rattle.std.proofs.lemmas.List.Concat.{flat_map-append}
 use Rattle.std.proofs.lemmas.List.Elements.{filter-append}
-use Rattle.kad_base.specs.declared.plain.Contact.{Contact}
-use Rattle.claim_book.specs.declared.plain.Setting.{Setting}
-use Rattle.claim_book.specs.declared.plain.Entry.{Entry}
+use Rattle.kad_base.specs.declared.types.Contact.{Contact}
+use Rattle.claim_book.specs.declared.types.Setting.{Setting}
+use Rattle.claim_book.specs.declared.types.Entry.{Entry}
 use Rattle.claim_book.specs.Journal.{seed_of, took_of, path_of, ask_of, ask_on, asker_of, holder_of, answer_of, fail_of, turned_of, things_of, settles_on, seeds, took, path, asked, asked_on, askers, holders, answered, failed, turned, things, settled}
 use Rattle.claim_book.specs.Legal.{Fits, LegalAfter, Legal}
 

@@ -3,15 +3,15 @@ use Rattle.std.proofs.Common.{◌≡◌, ℕ, ◌<◌, ◌≤◌, List, [], leng
 use Rattle.std.specs.Prelude.{filter, find, slice_get, MatchOption}
 use Rattle.std.proofs.lemmas.List.{nil_from_length}
 use Rattle.std.proofs.lemmas.Option.{get_or_from_slice_get}
-use Rattle.kad_base.specs.declared.plain.Contact.{Contact}
+use Rattle.kad_base.specs.declared.types.Contact.{Contact}
 use Rattle.kad_base.specs.Contacts.{among}
 use Rattle.kad_base.proofs.Contacts.{among_more}
 use Rattle.kad_distance.specs.KClosest.{k_closest}
 use Rattle.kad_distance.proofs.Orders.{closeness_total}
 use Rattle.kad_distance.proofs.Least.{least_take}
-use Rattle.claim_book.specs.declared.plain.Setting.{Setting}
-use Rattle.claim_book.specs.declared.plain.Thing.{Thing}
-use Rattle.claim_book.specs.declared.plain.Entry.{Entry}
+use Rattle.claim_book.specs.declared.types.Setting.{Setting}
+use Rattle.claim_book.specs.declared.types.Thing.{Thing}
+use Rattle.claim_book.specs.declared.types.Entry.{Entry}
 use Rattle.claim_book.specs.declared.path.Path.{Path}
 use Rattle.claim_book.specs.Journal.{path, asked, answered, failed, open_any, open_on, alive, unsettled, first_unsettled, first_unasked, may_ask, askers, holders}
 use Rattle.claim_book.specs.Legal.{Legal}

@@ -7,12 +7,12 @@ use Rattle.std.specs.declared.cmp.Ordering.{Ordering}
 use Rattle.std.specs.declared.cmp.Ordering.TheVariants.{Less}
 use Rattle.std.proofs.lemmas.List.{take_more, take_all, length-take-le}
 use Rattle.kad_base.specs.Limits.{max_path_contacts}
-use Rattle.kad_base.specs.declared.plain.Contact.{Contact}
+use Rattle.kad_base.specs.declared.types.Contact.{Contact}
 use Rattle.kad_base.specs.Contacts.{without, IsUsable}
 use Rattle.kad_distance.specs.Order.{closeness}
-use Rattle.claim_book.specs.declared.plain.Setting.{Setting}
-use Rattle.claim_book.specs.declared.plain.Entry.{Entry}
-use Rattle.claim_book.specs.declared.plain.Entry.TheVariants.{Seed}
+use Rattle.claim_book.specs.declared.types.Setting.{Setting}
+use Rattle.claim_book.specs.declared.types.Entry.{Entry}
+use Rattle.claim_book.specs.declared.types.Entry.TheVariants.{Seed}
 use Rattle.claim_book.specs.Journal.{seeds, took, asked, answered, failed, open_any, things, settled, unsettled}
 use Rattle.claim_book.specs.Legal.{SeedFits, Legal, seeded_from, seeded}
 use Rattle.claim_book.specs.Room.{thing_room, unsettled_room, room_for, IsBook}

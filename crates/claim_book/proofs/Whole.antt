@@ -4,17 +4,17 @@ use Rattle.std.specs.Prelude.{drop, vec_capacity}
 use Rattle.std.specs.List.{All}
 use Rattle.std.proofs.lemmas.List.{length-append}
 use Rattle.std.proofs.lemmas.Bool.{eq-eqb}
-use Rattle.kad_base.specs.declared.plain.Contact.{Contact}
-use Rattle.kad_base.specs.declared.plain.Report.{Report}
+use Rattle.kad_base.specs.declared.types.Contact.{Contact}
+use Rattle.kad_base.specs.declared.types.Report.{Report}
 use Rattle.kad_base.specs.Contacts.{among, without}
 use Rattle.kad_distance.specs.Order.{closeness}
 use Rattle.kad_distance.specs.KClosest.{put}
-use Rattle.claim_book.specs.declared.plain.Setting.{Setting}
-use Rattle.claim_book.specs.declared.plain.Cause.{Cause}
-use Rattle.claim_book.specs.declared.plain.Counts.{Counts}
-use Rattle.claim_book.specs.declared.plain.Thing.TheVariants.{Told}
-use Rattle.claim_book.specs.declared.plain.Entry.{Entry}
-use Rattle.claim_book.specs.declared.plain.Entry.TheVariants.{Ask, Heard, Lost, Taken, Turned}
+use Rattle.claim_book.specs.declared.types.Setting.{Setting}
+use Rattle.claim_book.specs.declared.types.Cause.{Cause}
+use Rattle.claim_book.specs.declared.types.Counts.{Counts}
+use Rattle.claim_book.specs.declared.types.Thing.TheVariants.{Told}
+use Rattle.claim_book.specs.declared.types.Entry.{Entry}
+use Rattle.claim_book.specs.declared.types.Entry.TheVariants.{Ask, Heard, Lost, Taken, Turned}
 use Rattle.claim_book.specs.declared.path.Path.{Path}
 use Rattle.claim_book.specs.Journal.{ask_of, fail_of, turned_of, things_in, settles_on, asked, failed, turned, open_on, may_ask}
 use Rattle.claim_book.specs.Legal.{Fits, is_of}

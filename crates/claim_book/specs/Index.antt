@@ -1,15 +1,15 @@
 -- What a book keeps to answer without its journal: each part is a filter of the journal.
 use Rattle.std.specs.Prelude.{◌≡◌, ℕ, ◌+◌, ◌<◌, ◌≤◌, List, [], length, get_or, vec_capacity}
 use Rattle.std.specs.List.Sorted.{IsStrictlySortedBy}
-use Rattle.kad_base.specs.declared.plain.Contact.{Contact}
+use Rattle.kad_base.specs.declared.types.Contact.{Contact}
 use Rattle.kad_base.specs.Limits.{max_path_contacts}
 use Rattle.kad_distance.specs.Order.{closeness}
 use Rattle.kad_distance.specs.KClosest.{put, each_once}
 use Rattle.kad_base.specs.Contacts.{without}
-use Rattle.claim_book.specs.declared.plain.Setting.{Setting}
-use Rattle.claim_book.specs.declared.plain.Counts.{Counts}
-use Rattle.claim_book.specs.declared.plain.Entry.{Entry}
-use Rattle.claim_book.specs.declared.plain.Entry.TheVariants.{Note, Held, Rejected, Skipped}
+use Rattle.claim_book.specs.declared.types.Setting.{Setting}
+use Rattle.claim_book.specs.declared.types.Counts.{Counts}
+use Rattle.claim_book.specs.declared.types.Entry.{Entry}
+use Rattle.claim_book.specs.declared.types.Entry.TheVariants.{Note, Held, Rejected, Skipped}
 use Rattle.claim_book.specs.declared.path.Path.{Path}
 use Rattle.claim_book.specs.Journal.{path, alive, asked, open_on, unsettled}
 use Rattle.claim_book.specs.Calls.{Counted}

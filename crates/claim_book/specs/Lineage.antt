@@ -2,14 +2,14 @@
 -- one path meets don't misdirect the others): from its own seeds, and from the answers to its own queries.
 use Rattle.std.specs.Prelude.{◌≡◌, ◌⊎◌, ℕ, ◌≤◌, List, [], ◌∷◌, ◌++◌, length, Some, true, Contains}
 use Rattle.kad_base.specs.Limits.{max_path_contacts}
-use Rattle.kad_base.specs.declared.plain.Contact.{Contact}
-use Rattle.kad_base.specs.declared.plain.Report.{Report}
+use Rattle.kad_base.specs.declared.types.Contact.{Contact}
+use Rattle.kad_base.specs.declared.types.Report.{Report}
 use Rattle.kad_base.specs.Contacts.{among, IsUsable}
 use Rattle.kad_base.specs.Puzzles.{Passes}
-use Rattle.claim_book.specs.declared.plain.Setting.{Setting}
-use Rattle.claim_book.specs.declared.plain.Thing.TheVariants.{Told}
-use Rattle.claim_book.specs.declared.plain.Entry.{Entry}
-use Rattle.claim_book.specs.declared.plain.Entry.TheVariants.{Seed, Heard, Taken}
+use Rattle.claim_book.specs.declared.types.Setting.{Setting}
+use Rattle.claim_book.specs.declared.types.Thing.TheVariants.{Told}
+use Rattle.claim_book.specs.declared.types.Entry.{Entry}
+use Rattle.claim_book.specs.declared.types.Entry.TheVariants.{Seed, Heard, Taken}
 use Rattle.claim_book.specs.Journal.{settles_on, took, path, asked_on, unsettled, first_unsettled}
 
 -- The responder named the contact to path p: its answer to that path has a report of it, which passes the policy, and the

@@ -3,8 +3,8 @@ use Rattle.std.specs.Prelude.{◌≡◌, ℕ, List, [], true}
 use Rattle.std.specs.List.{All}
 use Rattle.kad_base.specs.Contacts.{among}
 use Rattle.kad_distance.specs.KClosest.{k_closest}
-use Rattle.claim_book.specs.declared.plain.Setting.{Setting}
-use Rattle.claim_book.specs.declared.plain.Entry.{Entry}
+use Rattle.claim_book.specs.declared.types.Setting.{Setting}
+use Rattle.claim_book.specs.declared.types.Entry.{Entry}
 use Rattle.claim_book.specs.Journal.{answered, open_on, alive, unsettled}
 
 pub record RunOut (s : Setting) (p : ℕ) (J : List Entry) : Type 0 where

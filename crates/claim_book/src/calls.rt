@@ -1,5 +1,5 @@
 //! The calls of a book, and what it replies.
-use crate::plain::{Cause, Counts};
+use crate::types::{Cause, Counts};
 use crate::verdict::Checked;
 use kad_base::{Contact, Contacts, Report, Reports};
 

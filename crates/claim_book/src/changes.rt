@@ -3,10 +3,10 @@ ghost use Rattle.std.specs.Prelude.{◌≡◌, ◌<◌, ◌≤◌, ◌+◌, ◌*
 ghost use Rattle.std.specs.List.{All};
 ghost use Rattle.std.specs.VecDeque.{deque_capacity};
 ghost use Rattle.kad_base.specs.Limits.{max_reports};
-ghost use Rattle.kad_base.specs.declared.plain.Contact.{Contact};
+ghost use Rattle.kad_base.specs.declared.types.Contact.{Contact};
 ghost use Rattle.kad_base.specs.Contacts.{among};
-ghost use Rattle.claim_book.specs.declared.plain.Entry.TheVariants.{Ask, Heard, Lost, Taken, Turned};
-ghost use Rattle.claim_book.specs.declared.plain.Thing.TheVariants.{Told};
+ghost use Rattle.claim_book.specs.declared.types.Entry.TheVariants.{Ask, Heard, Lost, Taken, Turned};
+ghost use Rattle.claim_book.specs.declared.types.Thing.TheVariants.{Told};
 ghost use Rattle.claim_book.specs.Journal.{may_ask, open_on};
 ghost use Rattle.claim_book.specs.Legal.{Fits};
 ghost use Rattle.claim_book.specs.Room.{frees};
@@ -16,8 +16,8 @@ ghost use Rattle.claim_book.specs.Index.{IsSettledOnly};
 
 use crate::claim_map::{Claims, learn, mark_asked, mark_ended, mark_taken};
 use crate::path::{Path, ask_one, hear_one, lose_one, pass_one, take_one, widen};
-use crate::plain::{Cause, Entry};
 use crate::state::Book;
+use crate::types::{Cause, Entry};
 use kad_base::{Contact, Id, NoMemory, Report, Reports};
 
 impl Book {

@@ -2,8 +2,8 @@
 ghost use Rattle.std.specs.Prelude.{◌≡◌, ◌≤◌, IsSome, Some, if◌then◌else◌, OnOk};
 ghost use Rattle.std.specs.List.{All};
 ghost use Rattle.indexmap.specs.IndexMap.{get};
-ghost use Rattle.kad_base.specs.declared.plain.Contact.{Contact};
-ghost use Rattle.claim_book.specs.declared.plain.Thing.TheVariants.{Told};
+ghost use Rattle.kad_base.specs.declared.types.Contact.{Contact};
+ghost use Rattle.claim_book.specs.declared.types.Thing.TheVariants.{Told};
 ghost use Rattle.claim_book.specs.Claims.{key_eq, blank, shown, asked_claim, ended_claim, taken_claim, IsKnown, Sets, Keeps};
 
 use indexmap::IndexMap;

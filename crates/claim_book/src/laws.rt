@@ -2,10 +2,10 @@
 ghost use Rattle.std.specs.Prelude.{◌≡◌, ◌<◌, ◌≤◌, ◌*◌, ◌⊎◌, ◌++◌, ◌∷◌, [], List, ℕ, length, filter, true, IsSome};
 ghost use Rattle.std.specs.List.{IsDistinct};
 ghost use Rattle.kad_base.specs.Limits.{max_path_contacts};
-ghost use Rattle.kad_base.specs.declared.plain.Contact.{Contact};
+ghost use Rattle.kad_base.specs.declared.types.Contact.{Contact};
 ghost use Rattle.kad_base.specs.Contacts.{same, among};
-ghost use Rattle.claim_book.specs.declared.plain.Setting.{Setting};
-ghost use Rattle.claim_book.specs.declared.plain.Entry.{Entry};
+ghost use Rattle.claim_book.specs.declared.types.Setting.{Setting};
+ghost use Rattle.claim_book.specs.declared.types.Entry.{Entry};
 ghost use Rattle.claim_book.specs.Journal.{seeds, took, path, asked, asked_on, answered, open_any, open_on, unsettled, may_ask};
 ghost use Rattle.claim_book.specs.Legal.{Legal, is_of, IsSeed};
 ghost use Rattle.claim_book.specs.RunOut.{RunOut};

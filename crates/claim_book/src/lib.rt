@@ -9,11 +9,11 @@ mod changes;
 mod claim_map;
 mod laws;
 mod path;
-mod plain;
 mod reads;
 mod serial;
 mod starting;
 mod state;
+mod types;
 mod verdict;
 
 pub use calls::{BookCall, BookReply};
@@ -21,6 +21,6 @@ pub use laws::{
     answered, bounded, contained, disjoint, lineage, lively, one_path, open_on_asker,
     past_the_last, stable, taken_unless_held,
 };
-pub use plain::{Cause, Counts, Entry, Journal, Setting, Thing};
 pub use state::Book;
+pub use types::{Cause, Counts, Entry, Journal, Setting, Thing};
 pub use verdict::Checked;

@@ -2,14 +2,14 @@
 ghost use Rattle.std.specs.Prelude.{◌≡◌, ◌≤◌, ◌<◌, ◌+◌, ◌++◌, ◌∷◌, [], List, length, take, drop, filter, find, slice_get, IfOk, OnOk, vec_capacity, not, Bool};
 ghost use Rattle.std.specs.List.Sorted.{IsStrictlySortedBy};
 ghost use Rattle.std.specs.VecDeque.{deque_capacity};
-ghost use Rattle.kad_base.specs.declared.plain.Contact.{Contact};
+ghost use Rattle.kad_base.specs.declared.types.Contact.{Contact};
 ghost use Rattle.kad_base.specs.Contacts.{same, among, without};
 ghost use Rattle.kad_distance.specs.Order.{closeness};
 ghost use Rattle.kad_distance.specs.KClosest.{put};
 ghost use Rattle.claim_book.specs.Journal.{things_in};
 ghost use Rattle.claim_book.specs.Index.{IsEmptyPath, HasPlace, Gains};
 
-use crate::plain::{Setting, Thing};
+use crate::types::{Setting, Thing};
 use kad_base::limits::MAX_PATH_CONTACTS;
 use kad_base::{Contact, Id, NoMemory, Report, is_same};
 use kad_distance::{place, put_closest};

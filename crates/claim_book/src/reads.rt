@@ -2,7 +2,7 @@
 ghost use Rattle.std.specs.Prelude.{◌≡◌, ◌↔◌, ◌<◌, ℕ, IsTrue, Some, MatchOption, true, false, length, slice_get, IfOk};
 ghost use Rattle.kad_base.specs.Limits.{max_path_contacts};
 ghost use Rattle.kad_base.specs.Contacts.{among};
-ghost use Rattle.claim_book.specs.declared.plain.Thing.TheVariants.{Responder, Told};
+ghost use Rattle.claim_book.specs.declared.types.Thing.TheVariants.{Responder, Told};
 ghost use Rattle.claim_book.specs.Journal.{holders, path as path_of_journal, open_any, first_unsettled, first_unasked, may_ask};
 ghost use Rattle.claim_book.specs.RunOut.{RunOut};
 ghost use Rattle.claim_book.specs.Result.{result_of};
@@ -11,9 +11,9 @@ ghost use Rattle.claim_book.specs.Calls.{asker, Counted, IsNotYet, IsSound, Sett
 use crate::calls::BookReply;
 use crate::claim_map::claim_at;
 use crate::path::{first_fresh, first_thing};
-use crate::plain::{Counts, Thing};
 use crate::starting::nearest_lists;
 use crate::state::Book;
+use crate::types::{Counts, Thing};
 use crate::verdict::Checked;
 use kad_base::limits::MAX_PATH_CONTACTS;
 use kad_base::{Contact, Contacts, NoMemory, Report, is_usable};

@@ -12,7 +12,7 @@ ghost use Rattle.claim_book.specs.Index.{IsEmptyPath, IsPaths};
 
 use crate::claim_map::{Claims, enter};
 use crate::path::{Path, add_one, new_path};
-use crate::plain::{Entry, Setting};
+use crate::types::{Entry, Setting};
 use kad_base::{Contact, Contacts, List, NoMemory};
 use std::alloc::Global;
 

@@ -5,14 +5,14 @@ ghost use Rattle.std.specs.List.Sorted.{IsStrictlySortedBy};
 ghost use Rattle.kad_base.specs.Limits.{max_reports};
 ghost use Rattle.kad_base.specs.Contacts.{IsUsable};
 ghost use Rattle.kad_distance.specs.Order.{closeness};
-ghost use Rattle.claim_book.specs.declared.plain.Entry.TheVariants.{Heard, Lost, Note};
+ghost use Rattle.claim_book.specs.declared.types.Entry.TheVariants.{Heard, Lost, Note};
 ghost use Rattle.claim_book.specs.Journal.{unsettled};
 
 use crate::calls::BookReply;
 use crate::claim_map::Claims;
 use crate::path::Path;
-use crate::plain::{Cause, Counts, Entry, Journal, Setting, Thing};
 use crate::starting::{new_paths, seed};
+use crate::types::{Cause, Counts, Entry, Journal, Setting, Thing};
 use crate::verdict::Checked;
 use indexmap::IndexMap;
 use kad_base::{Contact, List, NoMemory, Reports};

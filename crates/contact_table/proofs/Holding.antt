@@ -7,20 +7,20 @@ use Rattle.std.proofs.lemmas.List.{map-append}
 use Rattle.std.proofs.lemmas.List.Concat.{flat_map-cons}
 use Rattle.std.proofs.lemmas.List.Elements.{All-head, All-tail, All-append, All-cons, All-nil, All-filter, All-take, All-drop, All-contains_itself, Contains-append_left, Contains-append_right}
 use Rattle.kad_base.specs.Limits.{max_siblings}
-use Rattle.kad_base.specs.declared.plain.Id.{Id}
-use Rattle.kad_base.specs.declared.plain.Contact.{Contact}
+use Rattle.kad_base.specs.declared.types.Id.{Id}
+use Rattle.kad_base.specs.declared.types.Contact.{Contact}
 use Rattle.kad_base.specs.declared.serial.Made.{Made}
 use Rattle.kad_base.specs.Contacts.{same}
 use Rattle.kad_base.specs.Serial.{left_by}
 use Rattle.kad_distance.specs.KClosest.{k_closest}
 use Rattle.kad_distance.proofs.Chosen.{closest_all}
-use Rattle.bucket_tree.specs.declared.plain.Seen.{Seen}
-use Rattle.bucket_tree.specs.declared.plain.Seen.TheVariants.{Added, Moved, Spared, Conflict, Own}
-use Rattle.bucket_tree.specs.declared.plain.Gone.{Gone}
-use Rattle.bucket_tree.specs.declared.plain.Gone.TheVariants.{Kept, Removed, Replaced, Unknown}
+use Rattle.bucket_tree.specs.declared.types.Seen.{Seen}
+use Rattle.bucket_tree.specs.declared.types.Seen.TheVariants.{Added, Moved, Spared, Conflict, Own}
+use Rattle.bucket_tree.specs.declared.types.Gone.{Gone}
+use Rattle.bucket_tree.specs.declared.types.Gone.TheVariants.{Kept, Removed, Replaced, Unknown}
 use Rattle.bucket_tree.specs.Partition.{id_bits, begins}
 use Rattle.bucket_tree.specs.Rows.{RowState, contact_of, live_in, live_of, same_id}
-use Rattle.bucket_tree.specs.Steps.{knows, knows_id, fresh, without, moved, added, spared, with_room, half, marked, removed}
+use Rattle.bucket_tree.specs.BucketSteps.{knows, knows_id, fresh, without, moved, added, spared, with_room, half, marked, removed}
 use Rattle.bucket_tree.proofs.Counted.{filter-map}
 use Rattle.bucket_tree.proofs.Every.{all-left, all-right, all-one}
 use Rattle.bucket_tree.proofs.RowKept.{all-without, all-ended, all-room}

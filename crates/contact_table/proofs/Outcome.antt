@@ -3,16 +3,16 @@ use Rattle.std.proofs.Common.{◌≡◌, ◌≢◌, ℕ, suc, ◌<◌, ◌≤◌
 use Rattle.std.specs.Prelude.{filter}
 use Rattle.std.specs.List.{All}
 use Rattle.std.proofs.lemmas.List.Elements.{All-head, All-tail}
-use Rattle.kad_base.specs.declared.plain.Id.{Id}
-use Rattle.kad_base.specs.declared.plain.Contact.{Contact}
+use Rattle.kad_base.specs.declared.types.Id.{Id}
+use Rattle.kad_base.specs.declared.types.Contact.{Contact}
 use Rattle.kad_base.specs.declared.serial.Made.{Made}
 use Rattle.kad_base.specs.Serial.{IsRun, left_by}
-use Rattle.bucket_tree.specs.declared.plain.Seen.{Seen}
-use Rattle.bucket_tree.specs.declared.plain.Seen.TheVariants.{Added, Moved, Spared, Conflict, Own}
-use Rattle.bucket_tree.specs.declared.plain.Gone.{Gone}
-use Rattle.bucket_tree.specs.declared.plain.Gone.TheVariants.{Kept, Removed, Replaced, Unknown}
+use Rattle.bucket_tree.specs.declared.types.Seen.{Seen}
+use Rattle.bucket_tree.specs.declared.types.Seen.TheVariants.{Added, Moved, Spared, Conflict, Own}
+use Rattle.bucket_tree.specs.declared.types.Gone.{Gone}
+use Rattle.bucket_tree.specs.declared.types.Gone.TheVariants.{Kept, Removed, Replaced, Unknown}
 use Rattle.bucket_tree.specs.Rows.{RowState, SoundRows, same_id, live_of, live_in, contact_of}
-use Rattle.bucket_tree.specs.Steps.{half, NeedsSplit, RowSeen, SeenStep, is_own, in_row, split, RowFailed, FailedStep, InItsRow}
+use Rattle.bucket_tree.specs.BucketSteps.{half, NeedsSplit, RowSeen, SeenStep, is_own, in_row, split, RowFailed, FailedStep, InItsRow}
 use Rattle.kad_base.specs.Contacts.{same, among}
 use Rattle.bucket_tree.proofs.Counted.{any-map}
 use Rattle.bucket_tree.proofs.RowKept.{failed-known}

@@ -2,17 +2,17 @@
 use Rattle.std.proofs.Common.{◌≡◌, ℕ, ◌<◌, ◌≤◌, List, [], ◌∷◌, ◌++◌, Bool, true, false, cond, refl, sym, subst, arith}
 use Rattle.std.specs.Str.{bytes_eq}
 use Rattle.kad_base.specs.Limits.{max_siblings}
-use Rattle.kad_base.specs.declared.plain.Id.{Id}
-use Rattle.kad_base.specs.declared.plain.Contact.{Contact}
+use Rattle.kad_base.specs.declared.types.Id.{Id}
+use Rattle.kad_base.specs.declared.types.Contact.{Contact}
 use Rattle.kad_base.specs.declared.serial.Made.{Made}
 use Rattle.kad_base.specs.Serial.{IsRun, left_by}
 use Rattle.kad_distance.specs.KClosest.{k_closest}
-use Rattle.bucket_tree.specs.declared.plain.Seen.{Seen}
-use Rattle.bucket_tree.specs.declared.plain.Seen.TheVariants.{Added, Moved, Spared, Conflict, Own}
-use Rattle.bucket_tree.specs.declared.plain.Gone.{Gone}
-use Rattle.bucket_tree.specs.declared.plain.Gone.TheVariants.{Kept, Removed, Replaced, Unknown}
+use Rattle.bucket_tree.specs.declared.types.Seen.{Seen}
+use Rattle.bucket_tree.specs.declared.types.Seen.TheVariants.{Added, Moved, Spared, Conflict, Own}
+use Rattle.bucket_tree.specs.declared.types.Gone.{Gone}
+use Rattle.bucket_tree.specs.declared.types.Gone.TheVariants.{Kept, Removed, Replaced, Unknown}
 use Rattle.bucket_tree.specs.Rows.{RowState, IsRow, SoundRows, Sound}
-use Rattle.bucket_tree.specs.Steps.{half, SeenStep, is_own, in_row, split, FailedStep, InItsRow}
+use Rattle.bucket_tree.specs.BucketSteps.{half, SeenStep, is_own, in_row, split, FailedStep, InItsRow}
 use Rattle.bucket_tree.proofs.Every.{all-here, count-append}
 use Rattle.bucket_tree.proofs.Places.{covers, one-covers}
 use Rattle.bucket_tree.proofs.RowsKept.{sound-put, sound-split, sound-new}

@@ -1,12 +1,12 @@
 -- What a contact that was seen, and one that failed, leaves of the rows, as functions of the rows before.
 use Rattle.std.specs.Prelude.{ℕ, zero, suc, ◌-◌, Bool, true, false, cond, not, ◌&&◌, nat_le, List, [], ◌∷◌, ◌++◌, length, take, drop, map}
-use Rattle.kad_base.specs.declared.plain.Id.{Id}
-use Rattle.kad_base.specs.declared.plain.Contact.{Contact}
-use Rattle.bucket_tree.specs.declared.plain.Gone.{Gone}
-use Rattle.bucket_tree.specs.declared.plain.Gone.TheVariants.{Kept, Removed, Replaced, Unknown}
+use Rattle.kad_base.specs.declared.types.Id.{Id}
+use Rattle.kad_base.specs.declared.types.Contact.{Contact}
+use Rattle.bucket_tree.specs.declared.types.Gone.{Gone}
+use Rattle.bucket_tree.specs.declared.types.Gone.TheVariants.{Kept, Removed, Replaced, Unknown}
 use Rattle.bucket_tree.specs.Partition.{id_bits, begins}
 use Rattle.bucket_tree.specs.Rows.{RowState, same_id, may_split}
-use Rattle.bucket_tree.specs.Steps.{knows, knows_id, fresh, without, moved, added, spared, half, marked, removed}
+use Rattle.bucket_tree.specs.BucketSteps.{knows, knows_id, fresh, without, moved, added, spared, half, marked, removed}
 
 -- the rows, of which that of the identifier has others in its place
 abbrev pub put_rows : (RowState → List RowState) → Id → List RowState → List RowState

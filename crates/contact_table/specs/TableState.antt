@@ -1,7 +1,7 @@
 -- What callers see of the routing table: its buckets as a list of rows, and its siblings.
 use Rattle.std.specs.Prelude.{ℕ, List}
-use Rattle.kad_base.specs.declared.plain.Id.{Id}
-use Rattle.kad_base.specs.declared.plain.Contact.{Contact}
+use Rattle.kad_base.specs.declared.types.Id.{Id}
+use Rattle.kad_base.specs.declared.types.Contact.{Contact}
 use Rattle.bucket_tree.specs.Rows.{RowState, BucketsState, Sound}
 use Rattle.sibling_list.specs.Siblings.{SiblingList, IsSiblings}
 

@@ -1,14 +1,14 @@
 -- The routing table as an object whose calls are steps: who may make which call, when each reply comes, and what it
 -- leaves (the buckets are Kademlia's, 2002, section 2.4; the siblings are S/Kademlia's, 2007, section 4.2).
 use Rattle.std.specs.Prelude.{◌≡◌, ℕ, List, ◌++◌}
-use Rattle.kad_base.specs.declared.plain.Contact.{Contact}
+use Rattle.kad_base.specs.declared.types.Contact.{Contact}
 use Rattle.kad_distance.specs.KClosest.{k_closest}
-use Rattle.bucket_tree.specs.declared.plain.Seen.{Seen}
-use Rattle.bucket_tree.specs.declared.plain.Seen.TheVariants.{Added, Moved, Spared, Conflict, Own}
-use Rattle.bucket_tree.specs.declared.plain.Gone.{Gone}
-use Rattle.bucket_tree.specs.declared.plain.Gone.TheVariants.{Kept, Removed, Replaced, Unknown}
+use Rattle.bucket_tree.specs.declared.types.Seen.{Seen}
+use Rattle.bucket_tree.specs.declared.types.Seen.TheVariants.{Added, Moved, Spared, Conflict, Own}
+use Rattle.bucket_tree.specs.declared.types.Gone.{Gone}
+use Rattle.bucket_tree.specs.declared.types.Gone.TheVariants.{Kept, Removed, Replaced, Unknown}
 use Rattle.bucket_tree.specs.Rows.{RowState, live_of}
-use Rattle.bucket_tree.specs.Steps.{SeenStep, FailedStep}
+use Rattle.bucket_tree.specs.BucketSteps.{SeenStep, FailedStep}
 use Rattle.sibling_list.specs.Siblings.{SiblingList, with_one, without_one}
 use Rattle.contact_table.specs.declared.calls.TableCall.{TableCall}
 use Rattle.contact_table.specs.declared.calls.TableCall.TheVariants.{Seen as Seen_call, Failed, Closest}

@@ -1,8 +1,8 @@
 -- What a run tells a table, and which contacts a table has.
 use Rattle.std.specs.Prelude.{ℕ, List, [], ◌∷◌, ◌++◌, map}
 use Rattle.std.specs.List.{flat_map}
-use Rattle.kad_base.specs.declared.plain.Id.{Id}
-use Rattle.kad_base.specs.declared.plain.Contact.{Contact}
+use Rattle.kad_base.specs.declared.types.Id.{Id}
+use Rattle.kad_base.specs.declared.types.Contact.{Contact}
 use Rattle.kad_base.specs.declared.serial.Made.{Made}
 use Rattle.bucket_tree.specs.Rows.{RowState, live_in}
 use Rattle.contact_table.specs.declared.calls.TableCall.{TableCall}

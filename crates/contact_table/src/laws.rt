@@ -1,8 +1,8 @@
 //! What holds of every table, whoever calls it. Each law is the clause of a function that does nothing.
 ghost use Rattle.std.specs.Prelude.{◌≡◌, ◌<◌, ◌≤◌, ℕ, List, ◌++◌};
 ghost use Rattle.std.specs.List.{All, Contains};
-ghost use Rattle.kad_base.specs.declared.plain.Id.{Id};
-ghost use Rattle.kad_base.specs.declared.plain.Contact.{Contact};
+ghost use Rattle.kad_base.specs.declared.types.Id.{Id};
+ghost use Rattle.kad_base.specs.declared.types.Contact.{Contact};
 ghost use Rattle.kad_base.specs.declared.serial.Made.{Made};
 ghost use Rattle.kad_base.specs.Serial.{IsRun, left_by};
 ghost use Rattle.contact_table.specs.declared.calls.TableCall.{TableCall};

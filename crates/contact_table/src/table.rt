@@ -1,7 +1,7 @@
 //! The table, and what its calls do.
 ghost use Rattle.std.specs.Prelude.{◌≡◌, ◌<◌, ◌≤◌, [], ◌∷◌, IfOk, OnErr, Err};
 ghost use Rattle.kad_distance.specs.KClosest.{k_closest};
-ghost use Rattle.bucket_tree.specs.Steps.{SeenStep, FailedStep};
+ghost use Rattle.bucket_tree.specs.BucketSteps.{SeenStep, FailedStep};
 ghost use Rattle.contact_table.specs.RowsAfter.{seen_rows, failed_rows};
 ghost use Rattle.contact_table.specs.TableStep.{TableMay, TableStep, table_after, contacts_of, seen_siblings, failed_siblings};
 ghost use Rattle.contact_table.specs.SavedState.{state_of};

@@ -3,11 +3,11 @@ use Rattle.std.proofs.Common.{◌≡◌, ℕ, ◌+◌, ◌≤◌, List, [], ◌�
 use Rattle.std.proofs.lemmas.List.{length-append}
 use Rattle.std.proofs.lemmas.List.Edits.{length-remove}
 use Rattle.std.proofs.lemmas.Option.{slice_get_within}
-use Rattle.kad_base.specs.declared.plain.Addr.{Addr}
-use Rattle.kad_base.specs.declared.plain.Came.{Came}
-use Rattle.kad_base.specs.declared.plain.Came.TheVariants.{Packet, Quiet}
-use Rattle.kad_base.specs.declared.plain.Event.{Event}
-use Rattle.kad_base.specs.declared.plain.Event.TheVariants as event
+use Rattle.kad_base.specs.declared.types.Addr.{Addr}
+use Rattle.kad_base.specs.declared.types.Came.{Came}
+use Rattle.kad_base.specs.declared.types.Came.TheVariants.{Packet, Quiet}
+use Rattle.kad_base.specs.declared.types.Event.{Event}
+use Rattle.kad_base.specs.declared.types.Event.TheVariants as event
 use Rattle.kad_base.specs.Outside.{EventOf}
 use Rattle.kad_krpc.specs.declared.message.Message.{Message}
 use Rattle.fake_net.specs.declared.waiting.Waiting.{Waiting}

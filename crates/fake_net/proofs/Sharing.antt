@@ -3,7 +3,7 @@ use Rattle.std.proofs.Common.{◌≡◌, ℕ, ◌+◌, ◌-◌, ◌*◌, ◌^◌
 use Rattle.std.specs.Prelude.{filter}
 use Rattle.std.proofs.Math.Nat.{pow-le-pow_right}
 use Rattle.std.proofs.lemmas.Bool.{lt-ltb, le-ltb, cases_lt}
-use Rattle.kad_base.specs.declared.plain.Id.{Id}
+use Rattle.kad_base.specs.declared.types.Id.{Id}
 use Rattle.kad_base.specs.Bits.{xor_bytes, number_of, BeginsWithZeros}
 use Rattle.fake_net.specs.Network.{begins, shared, numbers}
 use Rattle.fake_net.proofs.Numbering.{front_passes, whole_passes}

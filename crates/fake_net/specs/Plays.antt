@@ -1,9 +1,9 @@
 -- What a network plays: all events of a link to it, from the first on. This project's own.
 use Rattle.std.specs.Prelude.{ℕ, List, [], ◌∷◌, ◌++◌}
-use Rattle.kad_base.specs.declared.plain.Addr.{Addr}
-use Rattle.kad_base.specs.declared.plain.Came.{Came}
-use Rattle.kad_base.specs.declared.plain.Event.{Event}
-use Rattle.kad_base.specs.declared.plain.Event.TheVariants.{Now, Sent}
+use Rattle.kad_base.specs.declared.types.Addr.{Addr}
+use Rattle.kad_base.specs.declared.types.Came.{Came}
+use Rattle.kad_base.specs.declared.types.Event.{Event}
+use Rattle.kad_base.specs.declared.types.Event.TheVariants.{Now, Sent}
 use Rattle.kad_base.specs.Outside.{EventOf, came_at}
 use Rattle.fake_net.specs.declared.waiting.Waiting.{Waiting}
 use Rattle.fake_net.specs.Network.{Network}

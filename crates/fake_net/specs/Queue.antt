@@ -1,10 +1,10 @@
 -- Answers that wait to be received: what a receive gives, and what is left. This project's own.
 use Rattle.std.specs.Prelude.{◌≡◌, ℕ, ◌<◌, ◌≤◌, min, max, List, ◌++◌, length, take, remove, All, Option, Some, slice_get, MatchOption}
 use Rattle.std.specs.List.{AllWithin}
-use Rattle.kad_base.specs.declared.plain.Addr.{Addr}
-use Rattle.kad_base.specs.declared.plain.Came.{Came}
-use Rattle.kad_base.specs.declared.plain.Came.TheVariants.{Packet, Quiet}
-use Rattle.kad_base.specs.declared.plain.Event.{Event}
+use Rattle.kad_base.specs.declared.types.Addr.{Addr}
+use Rattle.kad_base.specs.declared.types.Came.{Came}
+use Rattle.kad_base.specs.declared.types.Came.TheVariants.{Packet, Quiet}
+use Rattle.kad_base.specs.declared.types.Event.{Event}
 use Rattle.fake_net.specs.declared.waiting.Waiting.{Waiting}
 use Rattle.fake_net.specs.Network.{Network}
 use Rattle.fake_net.specs.Replies.{BringsAbout}

@@ -1,10 +1,10 @@
 -- What a node of the network answers to a query, and when. Messages are KRPC's (BEP 5); who answers what is this project's
 -- own.
 use Rattle.std.specs.Prelude.{◌≡◌, ℕ, zero, suc, ◌+◌, ◌/◌, ◌%◌, ◌<◌, pos, Bool, cond, List, [], ◌∷◌, map, get_or, set, codes, bit_xor, Option, Some, None}
-use Rattle.kad_base.specs.declared.plain.Id.{Id}
-use Rattle.kad_base.specs.declared.plain.Ip.TheVariants.{V4}
-use Rattle.kad_base.specs.declared.plain.Addr.{Addr}
-use Rattle.kad_base.specs.declared.plain.Contact.{Contact}
+use Rattle.kad_base.specs.declared.types.Id.{Id}
+use Rattle.kad_base.specs.declared.types.Ip.TheVariants.{V4}
+use Rattle.kad_base.specs.declared.types.Addr.{Addr}
+use Rattle.kad_base.specs.declared.types.Contact.{Contact}
 use Rattle.kad_distance.specs.KClosest.{k_closest}
 use Rattle.kad_krpc.specs.declared.message.Message.{Message}
 use Rattle.kad_krpc.specs.declared.message.Message.TheVariants as message

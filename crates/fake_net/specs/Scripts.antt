@@ -2,10 +2,10 @@
 -- written are KRPC's (BEP 5).
 use Rattle.std.specs.Prelude.{◌≡◌, ◌≢◌, ℕ, ◌+◌, ◌-◌, ◌^◌, ◌<◌, ◌≤◌, min, max, Bool, List, [], ◌∷◌, ◌++◌, length, take, drop, All, Any, Option, Some, None, slice_get, MatchOption}
 use Rattle.std.specs.List.{AllWithin}
-use Rattle.kad_base.specs.declared.plain.Addr.{Addr}
-use Rattle.kad_base.specs.declared.plain.Came.{Came}
-use Rattle.kad_base.specs.declared.plain.Came.TheVariants.{Packet, Quiet}
-use Rattle.kad_base.specs.declared.plain.Event.{Event}
+use Rattle.kad_base.specs.declared.types.Addr.{Addr}
+use Rattle.kad_base.specs.declared.types.Came.{Came}
+use Rattle.kad_base.specs.declared.types.Came.TheVariants.{Packet, Quiet}
+use Rattle.kad_base.specs.declared.types.Event.{Event}
 use Rattle.kad_krpc.specs.declared.message.Message.{Message}
 use Rattle.kad_krpc.specs.declared.message.Message.TheVariants as message
 use Rattle.kad_krpc.specs.declared.message.Ask.{Ask}

@@ -1,6 +1,6 @@
 //! The link that plays a script.
 ghost use Rattle.std.specs.Prelude.{◌≡◌, ◌≤◌, ◌⊎◌, ◌++◌, ◌∷◌, [], ◌↔◌, length, All, Contains, Some, None, IfOk, OnOk, OnErr, IsErr, IsTrue, MatchOption};
-ghost use Rattle.kad_base.specs.declared.plain.Event.{Event};
+ghost use Rattle.kad_base.specs.declared.types.Event.{Event};
 ghost use Rattle.kad_base.specs.Outside.{Grows, EventOf, Arrives, came_at};
 ghost use Rattle.fake_net.specs.Scripts.{one_more, SameSends, SameReceives, Asks, IsWritableEvent, AnswerNext, Receives};
 

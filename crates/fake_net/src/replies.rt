@@ -1,6 +1,6 @@
 //! What a node of the network answers to a datagram, and when.
 ghost use Rattle.std.specs.Prelude.{◌≡◌, ◌≢◌, ◌%◌, ◌<◌, ◌≤◌, ℕ, List, map, codes, IfOk, IfSome, OnOk, Some, None, option_to_list};
-ghost use Rattle.kad_base.specs.declared.plain.Id.{Id};
+ghost use Rattle.kad_base.specs.declared.types.Id.{Id};
 ghost use Rattle.kad_krpc.specs.declared.message.KrpcFault.TheVariants as fault_of;
 ghost use Rattle.fake_net.specs.Network.{numbers};
 ghost use Rattle.fake_net.specs.Replies.{SaysFindNode, asked_for, find_node_of, misconduct, conduct_of, invented, naming, reply_of, on_its_way, BringsAbout};

@@ -1,6 +1,6 @@
 //! The link to a whole network that follows from a seed.
 ghost use Rattle.std.specs.Prelude.{◌≡◌, ◌<◌, ◌≤◌, ◌++◌, ◌∷◌, ◌↔◌, [], length, Some, None, IfOk, IsOk, OnOk, IfSome, IsTrue};
-ghost use Rattle.kad_base.specs.declared.plain.Event.{Event};
+ghost use Rattle.kad_base.specs.declared.types.Event.{Event};
 ghost use Rattle.kad_base.specs.Outside.{Grows, EventOf, Arrives, came_at};
 ghost use Rattle.kad_distance.specs.KClosest.{k_closest};
 ghost use Rattle.fake_net.specs.Network.{own_of, target_of, node, honest};

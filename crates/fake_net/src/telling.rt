@@ -1,6 +1,6 @@
 //! The transcript of a link in memory: each event is appended while there is memory for it, and none after that.
 ghost use Rattle.std.specs.Prelude.{◌≡◌, ◌∷◌, [], length};
-ghost use Rattle.kad_base.specs.declared.plain.Event.{Event};
+ghost use Rattle.kad_base.specs.declared.types.Event.{Event};
 ghost use Rattle.kad_base.specs.Outside.{Grows, EventOf, came_at};
 ghost use Rattle.fake_net.specs.Scripts.{IsWithin};
 

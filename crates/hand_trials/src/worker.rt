@@ -2,7 +2,7 @@
 //! 6000 + n; the target is 20 zero bytes, and the node's own identifier 20 bytes of 255. So seed n is dealt to path n - 1.
 ghost use Rattle.std.specs.Prelude.{◌≡◌, ◌<◌, ◌≤◌, length, IfOk};
 ghost use Rattle.kad_base.specs.Limits.{max_paths};
-ghost use Rattle.kad_base.specs.declared.plain.Policy.TheVariants.{Plain};
+ghost use Rattle.kad_base.specs.declared.types.Policy.TheVariants.{Plain};
 ghost use Rattle.claim_book.specs.State.{BookState};
 
 use bucket_tree::Seen;

@@ -11,8 +11,8 @@ use Rattle.std.proofs.lemmas.Bool.{lt-ltb}
 use Rattle.std.proofs.lemmas.Map.Text.{is_eq-slice_cmp}
 use Rattle.std.proofs.lemmas.Slice.Eq.{bytes_eq-Decides}
 use Rattle.std.proofs.lemmas.List.Elements.{All-nil, All-cons, All-head, All-tail, All-filter, All-weaker}
-use Rattle.kad_base.specs.declared.plain.Id.{Id}
-use Rattle.kad_base.specs.declared.plain.NoMemory.{NoMemory}
+use Rattle.kad_base.specs.declared.types.Id.{Id}
+use Rattle.kad_base.specs.declared.types.NoMemory.{NoMemory}
 use Rattle.peer_store.specs.declared.peers.Stored.{Stored}
 use Rattle.peer_store.specs.declared.peers.Stored.TheVariants.{New, Renewed}
 use Rattle.item_store.specs.declared.held.Item.{Item}

@@ -8,7 +8,7 @@ use Rattle.std.specs.Ordering.{is_eq, nat_cmp}
 use Rattle.std.specs.Cmp.Lexicographic.{slice_cmp}
 use Rattle.std.specs.declared.cmp.Ordering.{Ordering}
 use Rattle.kad_base.specs.Puzzles.{hash}
-use Rattle.kad_base.specs.declared.plain.Id.{Id}
+use Rattle.kad_base.specs.declared.types.Id.{Id}
 use Rattle.kad_bencode.specs.Spelling.{Fits, text_of, in_order}
 use Rattle.kad_bencode.specs.declared.value.Value.{Value}
 use Rattle.item_store.specs.declared.held.Item.{Item}

@@ -1,3 +1,3 @@
 pub mod Items
 pub mod Kept
-pub mod Steps
+pub mod ItemSteps

@@ -1,7 +1,7 @@
 //! A store of items as an object whose calls are steps.
 ghost use Rattle.std.specs.Prelude.{◌≡◌};
 ghost use Rattle.item_store.specs.Items.{IsItem};
-ghost use Rattle.item_store.specs.Steps.{ItemMay, ItemStep, item_after};
+ghost use Rattle.item_store.specs.ItemSteps.{ItemMay, ItemStep, item_after};
 ghost use Rattle.item_store.specs.declared.calls.ItemCall.{ItemCall};
 
 use crate::calls::{ItemCall, ItemReply};

@@ -8,9 +8,9 @@ use Rattle.std.specs.declared.cmp.Ordering.TheVariants.{Less, Equal, Greater}
 use Rattle.std.proofs.lemmas.Cmp.{nat_list_cmp_total, nat_cmp_total, on_total, then_total, eq_by_cmp_equiv, tied_itself}
 use Rattle.std.proofs.lemmas.Map.Lookups.{exact_pairs, exact_unsigned, exact_bytes}
 use Rattle.std.proofs.lemmas.List.Folds.{list_any-append}
-use Rattle.kad_base.specs.declared.plain.Ip.{Ip}
-use Rattle.kad_base.specs.declared.plain.Ip.TheVariants.{V4, V6}
-use Rattle.kad_base.specs.declared.plain.Contact.{Contact}
+use Rattle.kad_base.specs.declared.types.Ip.{Ip}
+use Rattle.kad_base.specs.declared.types.Ip.TheVariants.{V4, V6}
+use Rattle.kad_base.specs.declared.types.Contact.{Contact}
 use Rattle.kad_base.specs.Contacts.{address_bytes, contact_cmp, same, among}
 
 pub contact_total : IsTotalOrder contact_cmp

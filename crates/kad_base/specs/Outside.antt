@@ -1,8 +1,8 @@
 use Rattle.std.specs.Prelude.{◌≡◌, ◌⊎◌, ℕ, ◌+◌, ◌^◌, ◌<◌, ◌≤◌, List, ◌++◌, take, Option, Some, IfSome}
-use Rattle.kad_base.specs.declared.plain.Came.{Came}
-use Rattle.kad_base.specs.declared.plain.Came.TheVariants.{Packet, Quiet as Quiet_came}
-use Rattle.kad_base.specs.declared.plain.Event.{Event}
-use Rattle.kad_base.specs.declared.plain.Event.TheVariants.{Got, Quiet}
+use Rattle.kad_base.specs.declared.types.Came.{Came}
+use Rattle.kad_base.specs.declared.types.Came.TheVariants.{Packet, Quiet as Quiet_came}
+use Rattle.kad_base.specs.declared.types.Event.{Event}
+use Rattle.kad_base.specs.declared.types.Event.TheVariants.{Got, Quiet}
 
 -- the content after is the content before and what was added, of which P holds
 pub record Added {A : Type 0} (old : Option (List A)) (after : List A) (P : List A → Type 0) : Type 0 where

@@ -10,19 +10,19 @@ pub mod limits;
 pub mod list;
 pub mod memory;
 pub mod outside;
-pub mod plain;
 pub mod serial;
 pub mod steady;
 #[cfg(test)]
 mod tests;
+pub mod types;
 
 pub use bits::{leading_zeros, xor};
 pub use bytes::put_bytes;
 pub use list::{Addrs, Bytes, Contacts, List, Numbers, Reports};
 pub use memory::{BytesSink, BytesSource};
 pub use outside::{Check, Link, Sink, Source};
-pub use plain::{
-    Addr, Came, Contact, Event, Failed, Id, Ip, NoMemory, Policy, Proof, Report, is_same, is_usable,
-};
 pub use serial::{Made, Serial};
 pub use steady::{SteadySink, SteadySource};
+pub use types::{
+    Addr, Came, Contact, Event, Failed, Id, Ip, NoMemory, Policy, Proof, Report, is_same, is_usable,
+};

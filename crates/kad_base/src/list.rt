@@ -1,7 +1,7 @@
 //! The list type that contracts see as a list, and its instances.
 ghost use Rattle.std.specs.Prelude.{◌≡◌, [], ◌∷◌, ◌++◌, List, length, OnOk, OnErr, IfOk, IfSome, IsOk, IsNone, slice_get};
 
-use crate::plain::{Addr, Contact, NoMemory, Report};
+use crate::types::{Addr, Contact, NoMemory, Report};
 use std::alloc::{AllocError, Global};
 use std::marker::Model;
 

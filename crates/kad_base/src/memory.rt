@@ -4,7 +4,7 @@ ghost use Rattle.kad_base.specs.Memory.{counted};
 
 use crate::list::{Bytes, Numbers};
 use crate::outside::{Sink, Source};
-use crate::plain::Failed;
+use crate::types::Failed;
 use std::marker::Model;
 
 /// One more, where it isn't the last number.

@@ -2,11 +2,11 @@
 //! alone see: where it is told when a call returns it was told before, so who stops telling never tells again. Each
 //! counts its failures, and a call fails only where its count rose, or stands at its last value, 2^64 - 1.
 ghost use Rattle.std.specs.Prelude.{◌≡◌, ◌<◌, ◌≤◌, [], ◌∷◌, List, ℕ, length, take, Option, IfOk, OnOk, OnErr, IfSome, ◌↔◌, IsTrue};
-ghost use Rattle.kad_base.specs.declared.plain.Event.{Event};
+ghost use Rattle.kad_base.specs.declared.types.Event.{Event};
 ghost use Rattle.kad_base.specs.Puzzles.{Passes};
 ghost use Rattle.kad_base.specs.Outside.{Grows, Shrinks, Rose, EventOf, Arrives, came_at};
 
-use crate::plain::{Addr, Came, Event, Failed, Policy, Report};
+use crate::types::{Addr, Came, Event, Failed, Policy, Report};
 
 pub trait Source {
     /// The bytes that are left, where they are told.

@@ -4,7 +4,7 @@ ghost use Rattle.std.specs.Prelude.{◌≡◌, ◌≤◌, ◌+◌, ◌-◌, ◌^
 use crate::bytes::put_bytes;
 use crate::list::Bytes;
 use crate::outside::{Sink, Source};
-use crate::plain::{Failed, NoMemory};
+use crate::types::{Failed, NoMemory};
 use std::alloc::Global;
 use std::marker::Model;
 

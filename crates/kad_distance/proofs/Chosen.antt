@@ -10,8 +10,8 @@ use Rattle.std.proofs.lemmas.List.{length-take, take_all, take_more}
 use Rattle.std.proofs.lemmas.List.Elements.{All-filter, All-from_recursion, All-contains, All-contains_itself, Contains-append_cases, Contains-append_left, Contains-append_right}
 use Rattle.std.proofs.lemmas.List.Sums.{fold-append}
 use Rattle.std.proofs.lemmas.List.Kept.{IsStrictlySortedBy-filter}
-use Rattle.kad_base.specs.declared.plain.Id.{Id}
-use Rattle.kad_base.specs.declared.plain.Contact.{Contact}
+use Rattle.kad_base.specs.declared.types.Id.{Id}
+use Rattle.kad_base.specs.declared.types.Contact.{Contact}
 use Rattle.kad_distance.specs.Order.{closeness, IsCloser, TiesAreEqual}
 use Rattle.kad_distance.specs.KClosest.{by_ordering, put, each_once, least, k_closest}
 use Rattle.kad_distance.proofs.Orders.{closeness_total, closeness_exact}

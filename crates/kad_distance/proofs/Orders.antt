@@ -7,8 +7,8 @@ use Rattle.std.specs.Cmp.{IsTotalOrder}
 use Rattle.std.specs.Cmp.Lexicographic.{slice_cmp}
 use Rattle.std.proofs.lemmas.Cmp.{nat_list_cmp_total, nat_cmp_total, on_total, then_total}
 use Rattle.std.proofs.lemmas.Map.Lookups.{exact_pairs, exact_unsigned, exact_bytes}
-use Rattle.kad_base.specs.declared.plain.Id.{Id}
-use Rattle.kad_base.specs.declared.plain.Contact.{Contact}
+use Rattle.kad_base.specs.declared.types.Id.{Id}
+use Rattle.kad_base.specs.declared.types.Contact.{Contact}
 use Rattle.kad_base.specs.Bits.{xor_bytes}
 use Rattle.kad_base.specs.Contacts.{address_bytes}
 use Rattle.kad_base.proofs.Contacts.{address_exact, same_contact}

@@ -2,9 +2,9 @@
 use Rattle.std.proofs.Common.{◌≡◌, ℕ, ◌≤◌, Bool, true, false, cond, List, [], ◌∷◌, ◌++◌, map, length, Option, Some, None, Ok, refl, ap, ◌∙◌, nat_eq, eq-eqb, arith}
 use Rattle.std.specs.Prelude.{codes, flat_map, option_to_list, option_map}
 use Rattle.std.specs.List.{AllByRecursion}
-use Rattle.kad_base.specs.declared.plain.Addr.{Addr}
-use Rattle.kad_base.specs.declared.plain.Contact.{Contact}
-use Rattle.kad_base.specs.declared.plain.Report.{Report}
+use Rattle.kad_base.specs.declared.types.Addr.{Addr}
+use Rattle.kad_base.specs.declared.types.Contact.{Contact}
+use Rattle.kad_base.specs.declared.types.Report.{Report}
 use Rattle.kad_bencode.specs.Keys.{key_cmp, keys_of, value_of}
 use Rattle.kad_bencode.specs.Parts.{bytes_of, list_of}
 use Rattle.kad_bencode.specs.Spelling.{depth_of, greatest, each_once, put_all}

@@ -1,7 +1,7 @@
 -- The queries of a lookup, spelled out: an identifier has 20 bytes, and a transaction id four.
 use Rattle.std.proofs.Common.{◌≡◌, ℕ, true, List, [], ◌∷◌, ◌++◌, length, pos, ap, ◌∙◌, append-nil, append_assoc}
 use Rattle.std.specs.Prelude.{codes}
-use Rattle.kad_base.specs.declared.plain.Id.{Id}
+use Rattle.kad_base.specs.declared.types.Id.{Id}
 use Rattle.kad_bencode.specs.Spelling.{numeral, string_text, pairs_text, text_of}
 use Rattle.kad_bencode.specs.declared.value.Value.TheVariants.{Text, Dict}
 use Rattle.kad_bencode.proofs.Folds.{text_of-int, text_of-text, text_of-dict}

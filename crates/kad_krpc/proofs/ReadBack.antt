@@ -18,7 +18,7 @@ use Rattle.kad_krpc.specs.Asking.{arguments_of, name_of, is_read_only, is_one, I
 use Rattle.kad_krpc.specs.Answering.{answer_pairs}
 use Rattle.kad_krpc.specs.Reading.{kind_of, kind_in, code_text_of, code_text_in, code_text, query_by, body_at, said, Says}
 use Rattle.kad_krpc.specs.Form.{IsWritable, message_pairs}
-use Rattle.kad_krpc.specs.Well.{IsWell}
+use Rattle.kad_krpc.specs.WellTyped.{IsWell}
 use Rattle.kad_krpc.proofs.Stepping.{bytes_text, integer_int, list_list, look_dict, stepped, had}
 use Rattle.kad_krpc.proofs.Asking.{ask_back}
 use Rattle.kad_krpc.proofs.Answering.{answer_back}

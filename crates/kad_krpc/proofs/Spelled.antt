@@ -11,7 +11,7 @@ use Rattle.kad_krpc.specs.declared.message.Message.TheVariants as message
 use Rattle.kad_krpc.specs.Asking.{arguments_of, name_of}
 use Rattle.kad_krpc.specs.Answering.{answer_pairs}
 use Rattle.kad_krpc.specs.Form.{message_pairs, form}
-use Rattle.kad_krpc.specs.Well.{IsWell}
+use Rattle.kad_krpc.specs.WellTyped.{IsWell}
 use Rattle.kad_krpc.proofs.Pairing.{Good, good_text, good_int, good_list, good_dict, Within, dict_within, text_within, int_within}
 use Rattle.kad_krpc.proofs.Asking.{good_ask, ask_within}
 use Rattle.kad_krpc.proofs.Answering.{good_answer_dict, answer_within}

@@ -5,7 +5,7 @@ use Rattle.std.specs.Prelude.{bytes_eq, option_map}
 use Rattle.std.specs.List.{AllByRecursion, range_with_len}
 use Rattle.std.specs.Bool.{Decides}
 use Rattle.std.proofs.lemmas.Slice.Eq.{bytes_eq-Decides}
-use Rattle.kad_base.specs.declared.plain.Id.{Id}
+use Rattle.kad_base.specs.declared.types.Id.{Id}
 use Rattle.kad_bencode.specs.Keys.{value_of}
 use Rattle.kad_bencode.specs.Parts.{bytes_of, bytes_in, integer_of, integer_in, list_of, list_in, dict_of, dict_in, member_of, member_in}
 use Rattle.kad_bencode.specs.declared.entries.Pair.{Pair}

@@ -1,9 +1,9 @@
 -- The dictionary `r` of an answer (BEP 5; `snodes` and the order of the steps are this project's own): how it is read,
 -- how it is written, and which answers have a written form. A key more is a line in each part.
 use Rattle.std.specs.Prelude.{List, ◌++◌, codes, Option, option_copied, Result, Ok, Err}
-use Rattle.kad_base.specs.declared.plain.Addr.{Addr}
-use Rattle.kad_base.specs.declared.plain.Contact.{Contact}
-use Rattle.kad_base.specs.declared.plain.Report.{Report}
+use Rattle.kad_base.specs.declared.types.Addr.{Addr}
+use Rattle.kad_base.specs.declared.types.Contact.{Contact}
+use Rattle.kad_base.specs.declared.types.Report.{Report}
 use Rattle.kad_bencode.specs.Parts.{bytes_of, list_of}
 use Rattle.kad_bencode.specs.declared.entries.Pair.{Pair}
 use Rattle.kad_bencode.specs.declared.value.Value.{Value}

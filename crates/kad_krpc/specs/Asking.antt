@@ -1,7 +1,7 @@
 -- The dictionary `a` of a query, by its method (BEP 5; the order of the steps is this project's own; `ro` is BEP 43's): how
 -- it is read, how it is written, and which queries have a written form. A method more is a line in each part.
 use Rattle.std.specs.Prelude.{◌≢◌, ◌<◌, ℕ, Bool, true, false, cond, ◌&&◌, List, [], ◌++◌, codes, bytes_eq, nat_eq, nat_le, nat_lt, ℤ, pos, negsuc, Option, Some, None, Result, Ok, Err}
-use Rattle.kad_base.specs.declared.plain.Id.{Id}
+use Rattle.kad_base.specs.declared.types.Id.{Id}
 use Rattle.kad_bencode.specs.Parts.{bytes_of, integer_of}
 use Rattle.kad_bencode.specs.declared.entries.Pair.{Pair}
 use Rattle.kad_bencode.specs.declared.value.Value.{Value}
@@ -188,6 +188,6 @@ ask_seen (seen.AnnouncePeer id info_hash port token) = AnnouncePeer id info_hash
 ask_seen (seen.Other method) = Other method.now
 
 -- what was asked, by a view of it, or the refusal
-abbrev pub asked : Result AskView KrpcFault → Step Ask
-asked (Ok x) = Ok (ask_seen x)
-asked (Err fault) = Err fault
+abbrev pub ask_outcome : Result AskView KrpcFault → Step Ask
+ask_outcome (Ok x) = Ok (ask_seen x)
+ask_outcome (Err fault) = Err fault

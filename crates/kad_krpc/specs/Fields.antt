@@ -2,8 +2,8 @@
 -- the key that it reads.
 use Rattle.std.specs.Prelude.{ℕ, ◌%◌, cond, List, [], ◌∷◌, length, flat_map, nat_eq, Option, Some, None, option_map, option_to_list, Result, Ok, Err}
 use Rattle.std.specs.List.{AllByRecursion}
-use Rattle.kad_base.specs.declared.plain.Id.{Id}
-use Rattle.kad_base.specs.declared.plain.Addr.{Addr}
+use Rattle.kad_base.specs.declared.types.Id.{Id}
+use Rattle.kad_base.specs.declared.types.Addr.{Addr}
 use Rattle.kad_bencode.specs.Keys.{value_of}
 use Rattle.kad_bencode.specs.Parts.{bytes_of, dict_of}
 use Rattle.kad_bencode.specs.declared.entries.Pair.{Pair}

@@ -4,6 +4,6 @@ pub mod Answering
 pub mod Asking
 pub mod Reading
 pub mod Form
-pub mod Well
+pub mod WellTyped
 pub mod Views
 pub mod Gathering

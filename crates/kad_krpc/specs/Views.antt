@@ -9,7 +9,7 @@ use Rattle.kad_krpc.specs.declared.message.KrpcFault.{KrpcFault}
 use Rattle.kad_krpc.specs.declared.borrowed.View.{View}
 use Rattle.kad_krpc.specs.declared.borrowed.View.TheVariants as view
 use Rattle.kad_krpc.specs.Fields.{Step, Look}
-pub use Rattle.kad_krpc.specs.Asking.{ask_seen, asked}
+pub use Rattle.kad_krpc.specs.Asking.{ask_seen, ask_outcome}
 pub use Rattle.kad_krpc.specs.Answering.{answer_seen, answered}
 
 -- what a view says

@@ -13,7 +13,7 @@ use crate::fields::{
 use crate::members::{keys, members};
 use crate::message::{Answer, Key, KrpcFault};
 use crate::owned::{maybe_peers, maybe_records, maybe_text};
-use crate::well::{tell_nodes, tell_snodes, tell_values};
+use crate::well_typed::{tell_nodes, tell_snodes, tell_values};
 use kad_base::{Id, NoMemory};
 use kad_bencode::{Items, Piece, put_part};
 use kad_records::{Node, Proved, Records, tell_id};

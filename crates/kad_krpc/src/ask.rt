@@ -5,7 +5,7 @@ ghost use Rattle.kad_bencode.specs.Spelling.{text_of};
 ghost use Rattle.kad_bencode.specs.Written.{Puts, PutsPairs};
 ghost use Rattle.kad_bencode.specs.declared.value.Value.TheVariants as value;
 ghost use Rattle.kad_krpc.specs.Fields.{pair};
-ghost use Rattle.kad_krpc.specs.Asking.{port_by, announced_by, find_node_at, get_peers_at, announce_peer_at, rest_at, arguments_at, ask_of, method_in, is_read_only, is_implied, announced, arguments_of, name_of, read_only_pair, ask_seen, asked, IsWellPort, IsWellAsk};
+ghost use Rattle.kad_krpc.specs.Asking.{port_by, announced_by, find_node_at, get_peers_at, announce_peer_at, rest_at, arguments_at, ask_of, method_in, is_read_only, is_implied, announced, arguments_of, name_of, read_only_pair, ask_seen, ask_outcome, IsWellPort, IsWellAsk};
 ghost use Rattle.kad_records.specs.Records.{IsWellId};
 
 use crate::fields::{
@@ -74,14 +74,14 @@ fn read_port(implied_port: Option<Piece>, port: Option<Piece>) -> Result<Port, K
 }
 
 fn read_find_node<'a>(a: &Piece<'a>, id: Id) -> Result<AskView<'a>, KrpcFault>
-    ensures { asked result ≡ find_node_at (member_of a.now) id }
+    ensures { ask_outcome result ≡ find_node_at (member_of a.now) id }
 {
     let target = needed_id(a.get(b"target"), Key::Target)?;
     Ok(AskView::FindNode { id, target })
 }
 
 fn read_get_peers<'a>(a: &Piece<'a>, id: Id) -> Result<AskView<'a>, KrpcFault>
-    ensures { asked result ≡ get_peers_at (member_of a.now) id }
+    ensures { ask_outcome result ≡ get_peers_at (member_of a.now) id }
 {
     let info_hash = needed_id(a.get(b"info_hash"), Key::InfoHash)?;
     Ok(AskView::GetPeers { id, info_hash })
@@ -94,7 +94,7 @@ fn read_announced<'a>(
     implied_port: Option<Piece<'a>>,
     port: Option<Piece<'a>>,
 ) -> Result<AskView<'a>, KrpcFault>
-    ensures { asked result ≡ announced_by id info_hash.entry token.entry implied_port.entry
+    ensures { ask_outcome result ≡ announced_by id info_hash.entry token.entry implied_port.entry
         port.entry }
 {
     let info_hash = needed_id(info_hash, Key::InfoHash)?;
@@ -109,7 +109,7 @@ fn read_announced<'a>(
 }
 
 fn read_announce_peer<'a>(a: &Piece<'a>, id: Id) -> Result<AskView<'a>, KrpcFault>
-    ensures { asked result ≡ announce_peer_at (member_of a.now) id }
+    ensures { ask_outcome result ≡ announce_peer_at (member_of a.now) id }
 {
     read_announced(
         id,
@@ -141,7 +141,7 @@ fn method_of(name: &[u8]) -> Option<Method>
 
 /// What a method asks behind who asks it.
 fn read_rest<'a>(method: Method, a: &Piece<'a>, id: Id) -> Result<AskView<'a>, KrpcFault>
-    ensures { asked result ≡ rest_at method (member_of a.now) id }
+    ensures { ask_outcome result ≡ rest_at method (member_of a.now) id }
 {
     match method {
         Method::Ping => Ok(AskView::Ping { id }),
@@ -156,7 +156,7 @@ fn read_arguments<'a>(
     method: Method,
     arguments: Option<Piece<'a>>,
 ) -> Result<AskView<'a>, KrpcFault>
-    ensures { asked result ≡ arguments_at method arguments.entry }
+    ensures { ask_outcome result ≡ arguments_at method arguments.entry }
 {
     let a = needed_dict(arguments, Key::A)?;
     let id = needed_id(a.get(b"id"), Key::Id)?;
@@ -168,7 +168,7 @@ pub(crate) fn read_ask<'a>(
     name: &'a [u8],
     arguments: Option<Piece<'a>>,
 ) -> Result<AskView<'a>, KrpcFault>
-    ensures { asked result ≡ ask_of name.now arguments.entry }
+    ensures { ask_outcome result ≡ ask_of name.now arguments.entry }
 {
     match method_of(name) {
         Some(method) => read_arguments(method, arguments),

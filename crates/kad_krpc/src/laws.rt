@@ -2,7 +2,7 @@
 ghost use Rattle.std.specs.Prelude.{◌≡◌, List, ℕ};
 ghost use Rattle.kad_krpc.specs.declared.message.Message.{Message};
 ghost use Rattle.kad_krpc.specs.Form.{IsWritable, form};
-ghost use Rattle.kad_krpc.specs.Well.{IsWell};
+ghost use Rattle.kad_krpc.specs.WellTyped.{IsWell};
 ghost use Rattle.kad_krpc.specs.Reading.{Says};
 
 /// The written form of a message says it, where its arrays and numbers are as its types have them.

@@ -12,7 +12,7 @@ mod message;
 mod owned;
 mod query;
 mod reader;
-mod well;
+mod well_typed;
 mod writer;
 
 pub use answer::AnswerView;
@@ -23,7 +23,7 @@ pub use laws::{form_says, one_message, said_is_writable};
 pub use message::{Answer, Ask, Key, KrpcFault, Message, Port};
 pub use query::{find_node_into, get_peers_into};
 pub use reader::{decode, decode_view};
-pub use well::message_is_well;
+pub use well_typed::message_is_well_typed;
 pub use writer::{encode, encode_into};
 
 /// The `nodes` of an answer where they stand.

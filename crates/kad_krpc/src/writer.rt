@@ -11,7 +11,7 @@ use crate::answer::put_answer;
 use crate::ask::{name, put_arguments, put_ro};
 use crate::fields::put_text;
 use crate::message::{Answer, Ask, Message};
-use crate::well::message_is_well;
+use crate::well_typed::message_is_well_typed;
 use kad_base::{Bytes, List, NoMemory};
 use kad_bencode::{put_integer, put_part, put_string};
 use std::alloc::Global;
@@ -93,7 +93,7 @@ pub fn encode(alloc: Global, message: &Message) -> Result<Bytes, NoMemory>
     ensures form { IfOk result (λ bytes. bytes ≡ form message.now) }
     ensures says { IfOk result (λ bytes. Says bytes message.now) }
 {
-    message_is_well(message);
+    message_is_well_typed(message);
     let mut nowhere = [0u8; 0];
     let length = put_message(&mut nowhere, message);
     if length == usize::MAX {

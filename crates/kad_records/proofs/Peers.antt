@@ -2,7 +2,7 @@
 use Rattle.std.proofs.Common.{◌≡◌, List, [], ◌∷◌, ◌++◌, map, refl, ap, ◌∙◌}
 use Rattle.std.specs.Prelude.{flat_map}
 use Rattle.std.specs.List.{concat}
-use Rattle.kad_base.specs.declared.plain.Addr.{Addr}
+use Rattle.kad_base.specs.declared.types.Addr.{Addr}
 use Rattle.kad_bencode.specs.Spelling.{string_text, text_of}
 use Rattle.kad_bencode.specs.declared.value.Value.TheVariants.{Text}
 use Rattle.kad_bencode.proofs.Folds.{text_of-text, text_of-list}

@@ -2,13 +2,13 @@
 -- project's own.
 use Rattle.std.specs.Prelude.{◌≡◌, ◌<◌, ℕ, ◌+◌, ◌*◌, ◌/◌, ◌%◌, List, [], ◌∷◌, ◌++◌, map, flat_map, take, drop, get_or, length, Option, Some, None}
 use Rattle.std.specs.List.{range_with_len}
-use Rattle.kad_base.specs.declared.plain.Id.{Id}
-use Rattle.kad_base.specs.declared.plain.Ip.{Ip}
-use Rattle.kad_base.specs.declared.plain.Ip.TheVariants.{V4, V6}
-use Rattle.kad_base.specs.declared.plain.Addr.{Addr}
-use Rattle.kad_base.specs.declared.plain.Contact.{Contact}
-use Rattle.kad_base.specs.declared.plain.Proof.{Proof}
-use Rattle.kad_base.specs.declared.plain.Report.{Report}
+use Rattle.kad_base.specs.declared.types.Id.{Id}
+use Rattle.kad_base.specs.declared.types.Ip.{Ip}
+use Rattle.kad_base.specs.declared.types.Ip.TheVariants.{V4, V6}
+use Rattle.kad_base.specs.declared.types.Addr.{Addr}
+use Rattle.kad_base.specs.declared.types.Contact.{Contact}
+use Rattle.kad_base.specs.declared.types.Proof.{Proof}
+use Rattle.kad_base.specs.declared.types.Report.{Report}
 use Rattle.kad_bencode.specs.declared.value.Value.{Value}
 use Rattle.kad_bencode.specs.declared.value.Value.TheVariants.{Text, List as Values}
 

@@ -1,7 +1,7 @@
 //! The kinds of records that a string is packed with.
 ghost use Rattle.std.specs.Prelude.{◌≡◌, length};
-ghost use Rattle.kad_base.specs.declared.plain.Contact.{Contact};
-ghost use Rattle.kad_base.specs.declared.plain.Report.{Report};
+ghost use Rattle.kad_base.specs.declared.types.Contact.{Contact};
+ghost use Rattle.kad_base.specs.declared.types.Report.{Report};
 ghost use Rattle.kad_records.specs.Records.{node_in, node_bytes, proved_in, proved_bytes};
 
 use crate::into::{put_node, put_proved};

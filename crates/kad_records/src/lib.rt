@@ -6,10 +6,10 @@ mod into;
 mod kinds;
 mod record;
 mod records;
-mod well;
+mod well_typed;
 
 pub use into::{put_peers, put_records};
 pub use kinds::{Node, Proved, Record};
 pub use record::{read_addr, split_record};
 pub use records::{Records, with_room};
-pub use well::{tell_addrs, tell_contacts, tell_id, tell_reports};
+pub use well_typed::{tell_addrs, tell_contacts, tell_id, tell_reports};

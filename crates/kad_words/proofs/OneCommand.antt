@@ -1,8 +1,8 @@
 -- Words ask for one command.
 use Rattle.std.proofs.Common.{◌≡◌, ℕ, ◌^◌, ◌<◌, true, true≢false, List, Option, Some, None, refl, sym, ap, ◌∙◌, subst, lit<}
 use Rattle.std.specs.Prelude.{Contains, bytes_eq}
-use Rattle.kad_base.specs.declared.plain.Policy.{Policy}
-use Rattle.kad_base.specs.declared.plain.Policy.TheVariants as policy
+use Rattle.kad_base.specs.declared.types.Policy.{Policy}
+use Rattle.kad_base.specs.declared.types.Policy.TheVariants as policy
 use Rattle.kad_words.specs.Text.{SpellsHex, SpellsId, SpellsNumber}
 use Rattle.kad_words.specs.Table.{commands, Entry, Word}
 use Rattle.kad_words.specs.Plain.{CommandOf, IsGiven, IsGivenOr, IsLook, IsPlain, MayBeGiven, PolicyBy, Says, Values, pairs_of, values_of, word_of}

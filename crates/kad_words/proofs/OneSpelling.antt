@@ -5,10 +5,10 @@ use Rattle.std.specs.Net.Text.{ipv4_text, dotted_text}
 use Rattle.std.proofs.lemmas.Fmt.{decimal_injective}
 use Rattle.std.proofs.lemmas.List.{append_assoc}
 use Rattle.std.proofs.lemmas.List.Elements.{All-head, All-tail}
-use Rattle.kad_base.specs.declared.plain.Id.{Id}
-use Rattle.kad_base.specs.declared.plain.Ip.{Ip}
-use Rattle.kad_base.specs.declared.plain.Ip.TheVariants.{V4, V6}
-use Rattle.kad_base.specs.declared.plain.Addr.{Addr}
+use Rattle.kad_base.specs.declared.types.Id.{Id}
+use Rattle.kad_base.specs.declared.types.Ip.{Ip}
+use Rattle.kad_base.specs.declared.types.Ip.TheVariants.{V4, V6}
+use Rattle.kad_base.specs.declared.types.Addr.{Addr}
 use Rattle.kad_words.specs.Text.{IsV4, SpellsAddr, SpellsHex, SpellsId, SpellsNumber, ip_text}
 use Rattle.kad_words.proofs.AddrSpelling.{decimal_digits, four, v4_bytes}
 use Rattle.kad_words.proofs.HexSpelling.{encode_lower-same}

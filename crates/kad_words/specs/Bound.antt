@@ -1,7 +1,7 @@
 -- What is known of the words before a command is read: where to bind, and whether there is anything to bind.
 use Rattle.std.specs.Prelude.{◌≡◌, List, [], ◌∷◌, ◌⊎◌, Option, Some, None, Contains}
-use Rattle.kad_base.specs.declared.plain.Addr.{Addr}
-use Rattle.kad_base.specs.declared.plain.Ip.TheVariants.{V4}
+use Rattle.kad_base.specs.declared.types.Addr.{Addr}
+use Rattle.kad_base.specs.declared.types.Ip.TheVariants.{V4}
 use Rattle.kad_words.specs.Text.{SpellsAddr}
 use Rattle.kad_words.specs.Table.{Word, bind_option, links, option_word}
 use Rattle.kad_words.specs.Plain.{pairs_of, value_of}

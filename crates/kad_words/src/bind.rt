@@ -3,7 +3,7 @@ ghost use Rattle.std.specs.Prelude.{◌≡◌, ◌↔◌, Contains, IsTrue, map,
 ghost use Rattle.kad_words.specs.Bound.{IsBind, TakesLink, any_address, bound_by};
 ghost use Rattle.kad_words.specs.Table.{links};
 
-use crate::plain::value_of;
+use crate::grammar::value_of;
 use crate::text::read_addr;
 use kad_base::{Addr, Ip};
 

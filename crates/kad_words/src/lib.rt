@@ -5,9 +5,9 @@
 mod bind;
 mod choice;
 pub mod command;
+mod grammar;
 mod matched;
 mod options;
-mod plain;
 mod reading;
 pub mod text;
 mod values;

@@ -9,12 +9,12 @@ ghost use Rattle.kad_words.specs.Fitting.{AllFit, IsPlainBy, LookFits};
 
 use crate::choice::{Choice, Kind, Need};
 use crate::command::{Command, LookWords, WordsFault};
+use crate::grammar::is_plain;
 use crate::matched::matched;
 use crate::options::{
     ALPHA, ANNOUNCE, BITS, C1, C2, HOSTILE, K, KEY, NODES, Name, OWN, PATHS, RECEIVES, SEED,
     TARGET, TIMEOUT, TRIES, name_of, options,
 };
-use crate::plain::is_plain;
 use crate::values::{id, needed_id, number, policy, port, seed, small};
 use clap::ArgMatches;
 use kad_base::NoMemory;

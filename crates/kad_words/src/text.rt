@@ -1,7 +1,7 @@
 //! How identifiers, numbers and addresses are read from text and printed.
 ghost use Rattle.std.specs.Prelude.{◌≡◌, ◌<◌, ◌^◌, ℕ, List, MatchOption};
-ghost use Rattle.kad_base.specs.declared.plain.Id.{Id};
-ghost use Rattle.kad_base.specs.declared.plain.Addr.{Addr};
+ghost use Rattle.kad_base.specs.declared.types.Id.{Id};
+ghost use Rattle.kad_base.specs.declared.types.Addr.{Addr};
 ghost use Rattle.kad_words.specs.Text.{SpellsHex, SpellsId, SpellsNumber, SpellsAddr};
 
 use hex::FromHex;

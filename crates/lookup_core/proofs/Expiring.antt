@@ -5,19 +5,19 @@ use Rattle.std.specs.List.{All, AllByRecursion}
 use Rattle.std.proofs.lemmas.Bool.Decides.{nat_tests}
 use Rattle.std.proofs.lemmas.List.{append-nil, append_assoc}
 use Rattle.std.proofs.lemmas.List.Elements.{All-head, All-tail}
-use Rattle.kad_base.specs.declared.plain.Contact.{Contact}
+use Rattle.kad_base.specs.declared.types.Contact.{Contact}
 use Rattle.kad_base.specs.Contacts.{among}
 use Rattle.query_book.specs.declared.Query.{Query}
 use Rattle.query_book.specs.Queries.{ClosesOldest}
-use Rattle.claim_book.specs.declared.plain.Cause.TheVariants.{Timeout}
-use Rattle.claim_book.specs.declared.plain.Entry.{Entry}
-use Rattle.claim_book.specs.declared.plain.Entry.TheVariants.{Lost}
+use Rattle.claim_book.specs.declared.types.Cause.TheVariants.{Timeout}
+use Rattle.claim_book.specs.declared.types.Entry.{Entry}
+use Rattle.claim_book.specs.declared.types.Entry.TheVariants.{Lost}
 use Rattle.claim_book.specs.Journal.{asked, open_any}
 use Rattle.claim_book.specs.Calls.{asker}
 use Rattle.claim_book.specs.State.{BookState}
 use Rattle.lookup_core.specs.declared.state.Lookup.{Lookup}
 use Rattle.lookup_core.specs.Timeouts.{is_overdue, timed_out, closed_at}
-use Rattle.lookup_core.specs.Steps.{as_open, Holds, LosesOldest, LosesOverdue}
+use Rattle.lookup_core.specs.LookupSteps.{as_open, Holds, LosesOldest, LosesOverdue}
 use Rattle.lookup_core.proofs.Lists.{map_append, all_append}
 use Rattle.lookup_core.proofs.Holding.{among_middle, one_closed}
 use Rattle.lookup_core.proofs.Opens.{opens_lost, opens_distinct, asker_kept, each_asked}

@@ -1,21 +1,21 @@
 -- What the book is told of a reply.
 use Rattle.std.proofs.Common.{◌≡◌, ◌≢◌, ◌≤◌, List, length, take, inl, inr, refl, ap, ◌∙◌, arith}
 use Rattle.std.proofs.lemmas.List.{length-map, length-take}
-use Rattle.kad_base.specs.declared.plain.Contact.{Contact}
-use Rattle.kad_base.specs.declared.plain.Report.{Report}
-use Rattle.kad_base.specs.declared.plain.Policy.{Policy}
-use Rattle.kad_base.specs.declared.plain.Policy.TheVariants.{Plain, Puzzled}
+use Rattle.kad_base.specs.declared.types.Contact.{Contact}
+use Rattle.kad_base.specs.declared.types.Report.{Report}
+use Rattle.kad_base.specs.declared.types.Policy.{Policy}
+use Rattle.kad_base.specs.declared.types.Policy.TheVariants.{Plain, Puzzled}
 use Rattle.kad_base.specs.Limits.{max_reports}
 use Rattle.kad_krpc.specs.declared.message.Answer.{Answer}
-use Rattle.claim_book.specs.declared.plain.Cause.TheVariants.{WrongId, Error}
-use Rattle.claim_book.specs.declared.plain.Entry.TheVariants.{Heard, Lost}
+use Rattle.claim_book.specs.declared.types.Cause.TheVariants.{WrongId, Error}
+use Rattle.claim_book.specs.declared.types.Entry.TheVariants.{Heard, Lost}
 use Rattle.claim_book.specs.Calls.{asker}
 use Rattle.claim_book.specs.State.{BookState, added}
-use Rattle.lookup_core.specs.declared.hear.Taken.TheVariants as taken
+use Rattle.lookup_core.specs.declared.on_reply.Taken.TheVariants as taken
 use Rattle.lookup_core.specs.declared.quest.Quest.{Quest}
 use Rattle.lookup_core.specs.declared.reply.Reply.TheVariants as reply
 use Rattle.lookup_core.specs.Quest.{bare, part_of, reports_by, reports_of}
-use Rattle.lookup_core.specs.Steps.{HearsReply}
+use Rattle.lookup_core.specs.LookupSteps.{HearsReply}
 
 few_by : (policy : Policy) (answer : Answer) → length (reports_by policy answer) ≤ max_reports
 few_by Plain answer = (let a = length-map (take max_reports (part_of answer.nodes)) bare in let b = length-take max_reports (part_of answer.nodes) in omega (arith, a, b))

@@ -2,27 +2,27 @@
 use Rattle.std.proofs.Common.{◌≡◌, ℕ, ◌^◌, ◌<◌, List, [], ◌∷◌, ◌++◌, Bool, true, false, ◌||◌, Result, Ok, Err, inl, inr, sym, ap, subst, ◌∙◌, refl}
 use Rattle.std.specs.Prelude.{map, IfOk, OnOk}
 use Rattle.std.specs.List.{AllByRecursion, IsDistinct}
-use Rattle.kad_base.specs.declared.plain.Addr.{Addr}
-use Rattle.kad_base.specs.declared.plain.Contact.{Contact}
-use Rattle.kad_base.specs.declared.plain.NoMemory.{NoMemory}
+use Rattle.kad_base.specs.declared.types.Addr.{Addr}
+use Rattle.kad_base.specs.declared.types.Contact.{Contact}
+use Rattle.kad_base.specs.declared.types.NoMemory.{NoMemory}
 use Rattle.kad_base.specs.Contacts.{same, among, without}
 use Rattle.kad_base.proofs.Contacts.{same_itself}
 use Rattle.query_book.specs.declared.Query.{Query}
-use Rattle.claim_book.specs.declared.plain.Cause.TheVariants.{WrongId, Error}
-use Rattle.claim_book.specs.declared.plain.Entry.{Entry}
+use Rattle.claim_book.specs.declared.types.Cause.TheVariants.{WrongId, Error}
+use Rattle.claim_book.specs.declared.types.Entry.{Entry}
 use Rattle.claim_book.specs.Journal.{open_any}
 use Rattle.claim_book.specs.Legal.{Legal}
 use Rattle.claim_book.specs.Calls.{asker}
 use Rattle.claim_book.specs.State.{BookState}
-use Rattle.lookup_core.specs.declared.hear.Answered.{Answered}
-use Rattle.lookup_core.specs.declared.hear.Taken.{Taken}
-use Rattle.lookup_core.specs.declared.hear.Taken.TheVariants as taken
+use Rattle.lookup_core.specs.declared.on_reply.Answered.{Answered}
+use Rattle.lookup_core.specs.declared.on_reply.Taken.{Taken}
+use Rattle.lookup_core.specs.declared.on_reply.Taken.TheVariants as taken
 use Rattle.lookup_core.specs.declared.quest.Quest.{Quest}
 use Rattle.lookup_core.specs.declared.reply.Reply.{Reply}
 use Rattle.lookup_core.specs.declared.reply.Reply.TheVariants as reply
 use Rattle.lookup_core.specs.declared.state.Lookup.{Lookup}
 use Rattle.lookup_core.specs.Matching.{ReplyGives}
-use Rattle.lookup_core.specs.Steps.{Holds, query_to, IsMatch, Takes}
+use Rattle.lookup_core.specs.LookupSteps.{Holds, query_to, IsMatch, Takes}
 use Rattle.lookup_core.proofs.Lists.{map_append}
 use Rattle.lookup_core.proofs.Opens.{opens_heard, opens_lost, opens_distinct, without_one}
 

@@ -4,25 +4,25 @@ use Rattle.std.specs.Prelude.{Contains, map, slice_get, IfOk}
 use Rattle.std.specs.List.{All}
 use Rattle.std.proofs.lemmas.Option.{slice_get-get_or, get_or_from_slice_get, slice_get_within}
 use Rattle.std.proofs.lemmas.Bool.{cases_lt}
-use Rattle.kad_base.specs.declared.plain.Addr.{Addr}
-use Rattle.kad_base.specs.declared.plain.Contact.{Contact}
-use Rattle.kad_base.specs.declared.plain.NoMemory.{NoMemory}
+use Rattle.kad_base.specs.declared.types.Addr.{Addr}
+use Rattle.kad_base.specs.declared.types.Contact.{Contact}
+use Rattle.kad_base.specs.declared.types.NoMemory.{NoMemory}
 use Rattle.kad_base.specs.Contacts.{among}
 use Rattle.kad_base.specs.Words.{word_bytes}
 use Rattle.query_book.specs.declared.Query.{Query}
 use Rattle.query_book.specs.Queries.{IsQueries, IsOf, Closes}
-use Rattle.claim_book.specs.declared.plain.Entry.{Entry}
+use Rattle.claim_book.specs.declared.types.Entry.{Entry}
 use Rattle.claim_book.specs.Journal.{open_any}
-use Rattle.lookup_core.specs.declared.hear.Answered.{Answered}
-use Rattle.lookup_core.specs.declared.hear.Taken.{Taken}
-use Rattle.lookup_core.specs.declared.hear.Taken.TheVariants as taken
+use Rattle.lookup_core.specs.declared.on_reply.Answered.{Answered}
+use Rattle.lookup_core.specs.declared.on_reply.Taken.{Taken}
+use Rattle.lookup_core.specs.declared.on_reply.Taken.TheVariants as taken
 use Rattle.lookup_core.specs.declared.quest.Quest.{Quest}
 use Rattle.lookup_core.specs.declared.reply.Reply.{Reply}
 use Rattle.lookup_core.specs.declared.reply.Said.{Said}
 use Rattle.lookup_core.specs.declared.state.Lookup.{Lookup}
 use Rattle.lookup_core.specs.Matching.{SaysTo, Replies}
 use Rattle.lookup_core.specs.Says.{RepliesTo, IsReply, IsNoReply}
-use Rattle.lookup_core.specs.Steps.{as_open, Holds, HearsOne, HearsIn, HearsReply, IsMatch, RepliesToNone, Takes}
+use Rattle.lookup_core.specs.LookupSteps.{as_open, Holds, HearsOne, HearsIn, HearsReply, IsMatch, RepliesToNone, Takes}
 use Rattle.lookup_core.proofs.Lists.{split_at, all_in}
 use Rattle.lookup_core.proofs.Holding.{among_middle}
 

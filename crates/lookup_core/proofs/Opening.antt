@@ -4,7 +4,7 @@ use Rattle.std.specs.Prelude.{slice_get, remove, IfSome, IsNone, ◌↔◌, map}
 use Rattle.std.specs.List.{All, AllByRecursion}
 use Rattle.std.proofs.lemmas.List.{length-map, append-nil}
 use Rattle.std.proofs.lemmas.List.Elements.{recursion_from_All}
-use Rattle.kad_base.specs.declared.plain.Contact.{Contact}
+use Rattle.kad_base.specs.declared.types.Contact.{Contact}
 use Rattle.kad_base.specs.Contacts.{among}
 use Rattle.kad_base.specs.Limits.{max_open}
 use Rattle.query_book.specs.declared.Query.{Query}
@@ -18,11 +18,11 @@ use Rattle.claim_book.proofs.Claims.{among_right}
 use Rattle.lookup_core.specs.declared.ask.Asked.{Asked}
 use Rattle.lookup_core.specs.declared.quest.Quest.{Quest}
 use Rattle.lookup_core.specs.declared.state.Lookup.{Lookup}
-use Rattle.lookup_core.specs.Steps.{CanAsk, AsksNext, IsLastOpened, Holds}
+use Rattle.lookup_core.specs.LookupSteps.{CanAsk, AsksNext, IsLastOpened, Holds}
 use Rattle.lookup_core.proofs.Opens.{opens_ask, opens_lost, opens_distinct}
 use Rattle.lookup_core.proofs.Room.{room_to_ask}
-use Rattle.claim_book.specs.declared.plain.Cause.TheVariants.{SendFault}
-use Rattle.claim_book.specs.declared.plain.Entry.TheVariants.{Lost}
+use Rattle.claim_book.specs.declared.types.Cause.TheVariants.{SendFault}
+use Rattle.claim_book.specs.declared.types.Entry.TheVariants.{Lost}
 use Rattle.claim_book.specs.Calls.{asker}
 use Rattle.lookup_core.proofs.Lists.{map_append, all_append}
 use Rattle.lookup_core.proofs.Holding.{one_closed}

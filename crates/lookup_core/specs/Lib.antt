@@ -2,4 +2,4 @@ pub mod Quest
 pub mod Says
 pub mod Matching
 pub mod Timeouts
-pub mod Steps
+pub mod LookupSteps

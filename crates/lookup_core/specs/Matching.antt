@@ -1,8 +1,8 @@
 -- Which datagrams reply to a lookup's open queries, and what a reply gives to its journal. Answers and error messages are
 -- matched to queries by transaction id and source address (BEP 5).
 use Rattle.std.specs.Prelude.{◌≡◌, ◌≢◌, ◌⊎◌, ℕ, ◌≤◌, List, ◌∷◌, ◌++◌, length, map, Contains}
-use Rattle.kad_base.specs.declared.plain.Addr.{Addr}
-use Rattle.kad_base.specs.declared.plain.Contact.{Contact}
+use Rattle.kad_base.specs.declared.types.Addr.{Addr}
+use Rattle.kad_base.specs.declared.types.Contact.{Contact}
 use Rattle.kad_base.specs.Limits.{max_datagram}
 use Rattle.kad_base.specs.Words.{word_bytes}
 use Rattle.kad_krpc.specs.declared.message.Answer.{Answer}
@@ -12,9 +12,9 @@ use Rattle.kad_krpc.specs.Form.{form}
 use Rattle.kad_krpc.specs.Reading.{Says}
 use Rattle.query_book.specs.declared.Query.{Query}
 use Rattle.query_book.specs.Queries.{IsFirstFree}
-use Rattle.claim_book.specs.declared.plain.Cause.TheVariants.{WrongId, Error}
-use Rattle.claim_book.specs.declared.plain.Entry.{Entry}
-use Rattle.claim_book.specs.declared.plain.Entry.TheVariants.{Heard, Lost}
+use Rattle.claim_book.specs.declared.types.Cause.TheVariants.{WrongId, Error}
+use Rattle.claim_book.specs.declared.types.Entry.{Entry}
+use Rattle.claim_book.specs.declared.types.Entry.TheVariants.{Heard, Lost}
 use Rattle.lookup_core.specs.declared.quest.Quest.{Quest}
 use Rattle.lookup_core.specs.declared.reply.Reply.{Reply}
 use Rattle.lookup_core.specs.declared.reply.Reply.TheVariants as reply

@@ -1,8 +1,8 @@
 -- When a lookup's open queries run out.
 use Rattle.std.specs.Prelude.{ℕ, ◌+◌, ◌-◌, ◌^◌, min, List, map, filter, Bool, not, nat_lt}
-use Rattle.claim_book.specs.declared.plain.Cause.TheVariants.{Timeout}
-use Rattle.claim_book.specs.declared.plain.Entry.{Entry}
-use Rattle.claim_book.specs.declared.plain.Entry.TheVariants.{Lost}
+use Rattle.claim_book.specs.declared.types.Cause.TheVariants.{Timeout}
+use Rattle.claim_book.specs.declared.types.Entry.{Entry}
+use Rattle.claim_book.specs.declared.types.Entry.TheVariants.{Lost}
 use Rattle.lookup_core.specs.Matching.{OpenQuery}
 
 -- A moment that a sum would put past the last one is the last one.

@@ -1,8 +1,8 @@
 //! Expiring: whose time has passed is lost.
 ghost use Rattle.std.specs.Prelude.{◌≡◌, ◌<◌, All, IfSome, IfNone};
-ghost use Rattle.lookup_core.specs.Steps.{Holds, LosesOldest};
+ghost use Rattle.lookup_core.specs.LookupSteps.{Holds, LosesOldest};
 
-use crate::hear::lose;
+use crate::on_reply::lose;
 use crate::state::Lookup;
 use claim_book::Cause;
 use kad_base::{Contact, Serial};

@@ -4,13 +4,13 @@
 
 mod ask;
 mod expire;
-mod hear;
+mod on_reply;
 mod quest;
 mod reply;
 mod state;
 
 pub use ask::Asked;
-pub use hear::{Answered, Taken};
+pub use on_reply::{Answered, Taken};
 pub use quest::{AskKind, Quest};
 pub use reply::{Reply, Said};
 pub use state::Lookup;

@@ -5,9 +5,9 @@ use Rattle.std.specs.List.{AllByRecursion}
 use Rattle.std.proofs.Math.Nat.{mul-le-mul_left, mul-le-mul_right}
 use Rattle.std.proofs.lemmas.Bool.{cases_lt}
 use Rattle.std.proofs.lemmas.List.{append-nil, append_assoc, length-append}
-use Rattle.kad_base.specs.declared.plain.Contact.{Contact}
-use Rattle.kad_base.specs.declared.plain.Event.{Event}
-use Rattle.kad_base.specs.declared.plain.Event.TheVariants.{Sent, Unsent}
+use Rattle.kad_base.specs.declared.types.Contact.{Contact}
+use Rattle.kad_base.specs.declared.types.Event.{Event}
+use Rattle.kad_base.specs.declared.types.Event.TheVariants.{Sent, Unsent}
 use Rattle.kad_base.specs.Contacts.{among}
 use Rattle.kad_base.specs.Limits.{max_open}
 use Rattle.kad_base.specs.Outside.{Grows}
@@ -16,10 +16,10 @@ use Rattle.kad_krpc.specs.Form.{form}
 use Rattle.id_puzzles.specs.Drawn.{WordsState}
 use Rattle.query_book.specs.declared.Query.{Query}
 use Rattle.query_book.specs.Queries.{IsFirstFree}
-use Rattle.claim_book.specs.declared.plain.Setting.{Setting}
-use Rattle.claim_book.specs.declared.plain.Cause.TheVariants.{SendFault}
-use Rattle.claim_book.specs.declared.plain.Entry.{Entry}
-use Rattle.claim_book.specs.declared.plain.Entry.TheVariants.{Ask, Lost}
+use Rattle.claim_book.specs.declared.types.Setting.{Setting}
+use Rattle.claim_book.specs.declared.types.Cause.TheVariants.{SendFault}
+use Rattle.claim_book.specs.declared.types.Entry.{Entry}
+use Rattle.claim_book.specs.declared.types.Entry.TheVariants.{Ask, Lost}
 use Rattle.claim_book.specs.Journal.{seeds, path, asked, may_ask}
 use Rattle.claim_book.specs.Legal.{Legal}
 use Rattle.claim_book.specs.State.{BookState, added}
@@ -27,18 +27,18 @@ use Rattle.claim_book.specs.Calls.{asker}
 use Rattle.claim_book.proofs.More.{asked_more, path_more, legal_more}
 use Rattle.claim_book.proofs.Bounds.{asked_few}
 use Rattle.claim_book.proofs.Claims.{may_ask_says, may_ask_on_path}
-use Rattle.lookup_run.specs.declared.plain.LookSetting.{LookSetting}
-use Rattle.lookup_run.specs.declared.plain.Progress.{Progress}
-use Rattle.lookup_run.specs.declared.plain.Work.{Work}
+use Rattle.lookup_run.specs.declared.types.LookSetting.{LookSetting}
+use Rattle.lookup_run.specs.declared.types.Progress.{Progress}
+use Rattle.lookup_run.specs.declared.types.LookupState.{LookupState}
 use Rattle.lookup_core.specs.Matching.{OpenQuery, query_of}
 use Rattle.lookup_core.specs.Timeouts.{deadline_of}
 use Rattle.lookup_core.specs.Quest.{query_message, wants_peers}
 use Rattle.lookup_run.specs.Tells.{Seen, driven, gives}
 use Rattle.lookup_run.specs.Rounds.{path_number, AllSettled, NoneAsks}
 use Rattle.lookup_run.specs.Lookup.{setting_of, given_of, drawn_for, IsWithinLimits, quest_of}
-use Rattle.lookup_core.specs.Steps.{as_open, AsksNext, CanAsk, Holds}
-use Rattle.lookup_run.specs.Between.{IsBare, Keeps, HasWords, max_asks, weight_of, KeepsSeen}
-use Rattle.lookup_run.specs.Steps.{Asks, AsksNone}
+use Rattle.lookup_core.specs.LookupSteps.{as_open, AsksNext, CanAsk, Holds}
+use Rattle.lookup_run.specs.DriverInvariant.{IsBare, Keeps, HasWords, max_asks, weight_of, KeepsSeen}
+use Rattle.lookup_run.specs.RoundSteps.{Asks, AsksNone}
 use Rattle.lookup_run.proofs.Walking.{OneEvent, NextStep, along_next, along_later, table_same}
 use Rattle.lookup_core.proofs.Opens.{opens_kept, each_asked, asker_new}
 use Rattle.lookup_run.proofs.Others.{none_after_ask, none_after_lost, settled_after_ask, settled_after_lost}
@@ -47,13 +47,13 @@ use Rattle.lookup_core.specs.declared.state.Lookup.{Lookup}
 use Rattle.lookup_core.specs.declared.ask.Asked.{Asked}
 
 -- nothing but the book and the open queries changed
-pub record SameRest (old new : Work) : Type 0 where
+pub record SameRest (old new : LookupState) : Type 0 where
   pub table : new.table ≡ old.table
   pub progress : new.progress ≡ old.progress
   pub gathered : new.gathered ≡ old.gathered
 
 -- what an ask depends on
-pub record Asking (look : LookSetting) (p : ℕ) (c : Contact) (tx : ℕ) (words words' : WordsState) (old : Work) : Type 0 where
+pub record Asking (look : LookSetting) (p : ℕ) (c : Contact) (tx : ℕ) (words words' : WordsState) (old : LookupState) : Type 0 where
   pub limits : IsWithinLimits look
   pub path : p < look.paths
   pub keeps : Keeps look old
@@ -69,7 +69,7 @@ pub record Asking (look : LookSetting) (p : ℕ) (c : Contact) (tx : ℕ) (words
 abbrev query_bytes : LookSetting → ℕ → List ℕ
 query_bytes look tx = form (query_message (quest_of look) tx)
 
-abbrev the_query : LookSetting → Contact → ℕ → Work → Query
+abbrev the_query : LookSetting → Contact → ℕ → LookupState → Query
 the_query look c tx old = record { tx = tx; contact = c; deadline = deadline_of old.progress.moment look.timeout }
 
 ask_counts : (p : ℕ) (J : List Entry) (c : Contact) → length (asked (J ++ Ask p c ∷ [])) ≡ length (asked J) + 1
@@ -91,7 +91,7 @@ drawn_more words words' start J J' next one is =
     let place : words.place + 1 ≡ start.place + length (asked J') = (let p = ap (λ (w : WordsState). w.place) is in omega (arith, p, one)) in
     next ∙ ap (λ n. record { seed = words.seed; place = n }) place ∙ ap (λ (w : WordsState). record { seed = w.seed; place = start.place + length (asked J') }) is
 
-id_of : (look : LookSetting) (p : ℕ) (c : Contact) (tx : ℕ) (words words' start : WordsState) (old : Work) (s : Seen) → Asking look p c tx words words' old → words ≡ drawn_for start old.lookup.book.journal → KeepsSeen (given_of look start) old words.place s
+id_of : (look : LookSetting) (p : ℕ) (c : Contact) (tx : ℕ) (words words' start : WordsState) (old : LookupState) (s : Seen) → Asking look p c tx words words' old → words ≡ drawn_for start old.lookup.book.journal → KeepsSeen (given_of look start) old words.place s
     → IsFirstFree (map query_of s.queries) (word start.seed (start.place + s.sends)) tx
 id_of look p c tx words words' start old s a is st =
     let J = old.lookup.book.journal in
@@ -100,7 +100,7 @@ id_of look p c tx words words' start old s a is st =
     subst (λ l. IsFirstFree l (word start.seed (start.place + s.sends)) tx) (sym queries) (subst (λ w. IsFirstFree old.lookup.queries w tx) (sym drawn) a.id)
 
 -- the query is open
-sent_event : (look : LookSetting) (p : ℕ) (c : Contact) (tx : ℕ) (words words' start : WordsState) (old new : Work) (s : Seen) → Asking look p c tx words words' old → SameRest old new → new.lookup.book ≡ added old.lookup.book (Ask p c) → new.lookup.queries ≡ old.lookup.queries ++ the_query look c tx old ∷ []
+sent_event : (look : LookSetting) (p : ℕ) (c : Contact) (tx : ℕ) (words words' start : WordsState) (old new : LookupState) (s : Seen) → Asking look p c tx words words' old → SameRest old new → new.lookup.book ≡ added old.lookup.book (Ask p c) → new.lookup.queries ≡ old.lookup.queries ++ the_query look c tx old ∷ []
     → words ≡ drawn_for start old.lookup.book.journal → KeepsSeen (given_of look start) old words.place s → AllByRecursion (λ (x : Entry). path_number x ≤ p) s.since → OneEvent (given_of look start) old new (Ask p c ∷ []) words'.place p s (Sent c.addr (query_bytes look tx))
 sent_event look p c tx words words' start old new s a rest book queries is st asc =
     let J = old.lookup.book.journal in
@@ -133,7 +133,7 @@ sent_event look p c tx words words' start old new s a rest book queries is st as
       keeps = keeps_none (wants_peers look.kind) old.gathered new.gathered rest.gathered;
     }
 
-pub sent_step : (look : LookSetting) (p : ℕ) (c : Contact) (tx : ℕ) (words words' : WordsState) (old new : Work) → Asking look p c tx words words' old → SameRest old new → new.lookup.book ≡ added old.lookup.book (Ask p c) → new.lookup.queries ≡ old.lookup.queries ++ the_query look c tx old ∷ []
+pub sent_step : (look : LookSetting) (p : ℕ) (c : Contact) (tx : ℕ) (words words' : WordsState) (old new : LookupState) → Asking look p c tx words words' old → SameRest old new → new.lookup.book ≡ added old.lookup.book (Ask p c) → new.lookup.queries ≡ old.lookup.queries ++ the_query look c tx old ∷ []
     → NextStep look words words' old new p p (Sent c.addr (query_bytes look tx))
 sent_step look p c tx words words' old new a rest book queries =
     let J = old.lookup.book.journal in
@@ -148,7 +148,7 @@ sent_step look p c tx words words' old new a rest book queries =
     }
 
 -- it could not be sent
-unsent_event : (look : LookSetting) (p : ℕ) (c : Contact) (tx : ℕ) (words words' start : WordsState) (old new : Work) (s : Seen) → Asking look p c tx words words' old → SameRest old new → new.lookup.book ≡ added (added old.lookup.book (Ask p c)) (Lost p c SendFault) → new.lookup.queries ≡ old.lookup.queries
+unsent_event : (look : LookSetting) (p : ℕ) (c : Contact) (tx : ℕ) (words words' start : WordsState) (old new : LookupState) (s : Seen) → Asking look p c tx words words' old → SameRest old new → new.lookup.book ≡ added (added old.lookup.book (Ask p c)) (Lost p c SendFault) → new.lookup.queries ≡ old.lookup.queries
     → words ≡ drawn_for start old.lookup.book.journal → KeepsSeen (given_of look start) old words.place s → AllByRecursion (λ (x : Entry). path_number x ≤ p) s.since → OneEvent (given_of look start) old new (Ask p c ∷ Lost p c SendFault ∷ []) words'.place p s (Unsent c.addr (query_bytes look tx))
 unsent_event look p c tx words words' start old new s a rest book queries is st asc =
     let J = old.lookup.book.journal in
@@ -178,7 +178,7 @@ unsent_event look p c tx words words' start old new s a rest book queries is st 
       keeps = keeps_none (wants_peers look.kind) old.gathered new.gathered rest.gathered;
     }
 
-unsent_step : (look : LookSetting) (p : ℕ) (c : Contact) (tx : ℕ) (words words' : WordsState) (old new : Work) → Asking look p c tx words words' old → SameRest old new → new.lookup.book ≡ added (added old.lookup.book (Ask p c)) (Lost p c SendFault) → new.lookup.queries ≡ old.lookup.queries
+unsent_step : (look : LookSetting) (p : ℕ) (c : Contact) (tx : ℕ) (words words' : WordsState) (old new : LookupState) → Asking look p c tx words words' old → SameRest old new → new.lookup.book ≡ added (added old.lookup.book (Ask p c)) (Lost p c SendFault) → new.lookup.queries ≡ old.lookup.queries
     → NextStep look words words' old new p p (Unsent c.addr (query_bytes look tx))
 unsent_step look p c tx words words' old new a rest book queries =
     let J = old.lookup.book.journal in
@@ -204,7 +204,7 @@ all_settled look p J c l h = λ q lt. settled_after_ask (setting_of look) p q J 
 none_ask : (look : LookSetting) (p : ℕ) (J : List Entry) (c : Contact) → NoneAsks (setting_of look) p J → NoneAsks (setting_of look) p (J ++ Ask p c ∷ [])
 none_ask look p J c h = λ q lt. none_after_ask (setting_of look) p q J c (λ e. absurd (omega (arith, lt, e))) (h q lt)
 
-pub sent_asks : (look : LookSetting) (p : ℕ) (c : Contact) (tx : ℕ) (words words' : WordsState) (old new : Work) (told told' : Option (List Event)) → Asking look p c tx words words' old → SameRest old new → new.lookup.book ≡ added old.lookup.book (Ask p c) → new.lookup.queries ≡ old.lookup.queries ++ the_query look c tx old ∷ [] → Holds new.lookup
+pub sent_asks : (look : LookSetting) (p : ℕ) (c : Contact) (tx : ℕ) (words words' : WordsState) (old new : LookupState) (told told' : Option (List Event)) → Asking look p c tx words words' old → SameRest old new → new.lookup.book ≡ added old.lookup.book (Ask p c) → new.lookup.queries ≡ old.lookup.queries ++ the_query look c tx old ∷ [] → Holds new.lookup
     → Grows told told' (λ es. es ≡ Sent c.addr (query_bytes look tx) ∷ []) → Asks look p p words words' old new told told' × (weight_of new < weight_of old)
 sent_asks look p c tx words words' old new told told' a rest book queries holds grows =
     let J = old.lookup.book.journal in
@@ -242,7 +242,7 @@ sent_asks look p c tx words words' old new told told' a rest book queries holds 
 on_path_still : (p : ℕ) (J : List Entry) (c : Contact) → among (path p J) c ≡ true → among (path p (J ++ Ask p c ∷ [])) c ≡ true
 on_path_still p J c h = ap (λ l. among l c) (path_more p J (Ask p c) ∙ append-nil (path p J)) ∙ h
 
-pub unsent_asks : (look : LookSetting) (p : ℕ) (c : Contact) (tx : ℕ) (words words' : WordsState) (old new : Work) (told told' : Option (List Event)) → Asking look p c tx words words' old → SameRest old new → new.lookup.book ≡ added (added old.lookup.book (Ask p c)) (Lost p c SendFault) → new.lookup.queries ≡ old.lookup.queries → Holds new.lookup
+pub unsent_asks : (look : LookSetting) (p : ℕ) (c : Contact) (tx : ℕ) (words words' : WordsState) (old new : LookupState) (told told' : Option (List Event)) → Asking look p c tx words words' old → SameRest old new → new.lookup.book ≡ added (added old.lookup.book (Ask p c)) (Lost p c SendFault) → new.lookup.queries ≡ old.lookup.queries → Holds new.lookup
     → Grows told told' (λ es. es ≡ Unsent c.addr (query_bytes look tx) ∷ []) → Asks look p p words words' old new told told' × (weight_of new < weight_of old)
 unsent_asks look p c tx words words' old new told told' a rest book queries holds grows =
     let J = old.lookup.book.journal in
@@ -280,7 +280,7 @@ unsent_asks look p c tx words words' old new told told' a rest book queries hold
     )
 
 -- what the path asked is an ask of the lookup
-pub asking_of : (look : LookSetting) (p : ℕ) (words words' : WordsState) (old : Work) (mid : Lookup) (asked : Asked) → IsWithinLimits look → p < look.paths → Keeps look old → HasWords words old.lookup.book.journal → old.progress.receives ≡ 0 → AllSettled look.paths old.lookup.book.journal → NoneAsks (setting_of look) p old.lookup.book.journal
+pub asking_of : (look : LookSetting) (p : ℕ) (words words' : WordsState) (old : LookupState) (mid : Lookup) (asked : Asked) → IsWithinLimits look → p < look.paths → Keeps look old → HasWords words old.lookup.book.journal → old.progress.receives ≡ 0 → AllSettled look.paths old.lookup.book.journal → NoneAsks (setting_of look) p old.lookup.book.journal
     → AsksNext (word words.seed words.place) (deadline_of old.progress.moment look.timeout) p old.lookup mid asked → words' ≡ record words { place = words.place + 1 } → Asking look p asked.contact asked.tx words words' old
 asking_of look p words words' old mid asked limits lt keeps has begins settled none a drawn = record {
   limits = limits;
@@ -304,7 +304,7 @@ lost_added drawn deadline p old mid new asked a lost =
     lost ∙ ap (λ n. added mid.book (Lost n c SendFault)) by ∙ ap (λ (b : BookState). added b (Lost p c SendFault)) a.book
 
 -- the lookup can be asked for more
-pub can_ask : (look : LookSetting) (words : WordsState) (old : Work) → IsWithinLimits look → Keeps look old → HasWords words old.lookup.book.journal → Legal old.lookup.book.setting old.lookup.book.journal → CanAsk (quest_of look) old.progress.moment words old.lookup
+pub can_ask : (look : LookSetting) (words : WordsState) (old : LookupState) → IsWithinLimits look → Keeps look old → HasWords words old.lookup.book.journal → Legal old.lookup.book.setting old.lookup.book.journal → CanAsk (quest_of look) old.progress.moment words old.lookup
 can_ask look words old limits keeps has l =
     let few = few_asks look old.lookup.book.journal limits (subst (λ (s : Setting). Legal s old.lookup.book.journal) keeps.setting l) in
     record {
@@ -319,7 +319,7 @@ can_ask look words old limits keeps has l =
     at_most a n ha hn = (let x = mul-le-mul_left a hn in let y = mul-le-mul_right 8 ha in omega (arith, x, y))
 
 -- nothing was asked so far
-pub asks_not : (look : LookSetting) (p : ℕ) (words : WordsState) (work : Work) (told : Option (List Event)) → Keeps look work → HasWords words work.lookup.book.journal → AllSettled look.paths work.lookup.book.journal → NoneAsks (setting_of look) p work.lookup.book.journal → Asks look p p words words work work told told
+pub asks_not : (look : LookSetting) (p : ℕ) (words : WordsState) (work : LookupState) (told : Option (List Event)) → Keeps look work → HasWords words work.lookup.book.journal → AllSettled look.paths work.lookup.book.journal → NoneAsks (setting_of look) p work.lookup.book.journal → Asks look p p words words work work told told
 asks_not look p words work told keeps has settled none = record {
   keeps = keeps;
   has_words = has;
@@ -327,14 +327,14 @@ asks_not look p words work told keeps has settled none = record {
   none_below = none;
   progress = refl;
   lighter = omega arith;
-  goes = λ b manner start table began h. h;
+  goes = λ b scheduling start table began h. h;
 }
 
 none_more : (s : Setting) (p : ℕ) (J : List Entry) → NoneAsks s p J → may_ask s p J ≡ None → NoneAsks s (p + 1) J
 none_more s p J below here q lt = elim (cases_lt q p) [ inl less ↦ below q less | inr more ↦ (let is : q ≡ p = omega (arith, lt, more) in ap (λ n. may_ask s n J) is ∙ here) ]
 
 -- asks after asks
-pub asks_then : (look : LookSetting) (p q r : ℕ) (words words' words'' : WordsState) (old mid new : Work) (a b c : Option (List Event)) → Asks look p q words words' old mid a b → Asks look q r words' words'' mid new b c → Asks look p r words words'' old new a c
+pub asks_then : (look : LookSetting) (p q r : ℕ) (words words' words'' : WordsState) (old mid new : LookupState) (a b c : Option (List Event)) → Asks look p q words words' old mid a b → Asks look q r words' words'' mid new b c → Asks look p r words words'' old new a c
 asks_then look p q r words words' words'' old mid new a b c h k = record {
   keeps = k.keeps;
   has_words = k.has_words;
@@ -342,11 +342,11 @@ asks_then look p q r words words' words'' old mid new a b c h k = record {
   none_below = k.none_below;
   progress = k.progress ∙ h.progress;
   lighter = (let x = h.lighter in let y = k.lighter in omega (arith, x, y));
-  goes = λ d manner start table began x. k.goes d manner start table began (h.goes d manner start table began x);
+  goes = λ d scheduling start table began x. k.goes d scheduling start table began (h.goes d scheduling start table began x);
 }
 
 -- the path may ask nothing more
-pub asks_over : (look : LookSetting) (p : ℕ) (words words' words'' : WordsState) (old mid new : Work) (a b c : Option (List Event)) → Asks look p p words words' old mid a b → AsksNone look p words' words'' mid new b c → Asks look p (p + 1) words words'' old new a c
+pub asks_over : (look : LookSetting) (p : ℕ) (words words' words'' : WordsState) (old mid new : LookupState) (a b c : Option (List Event)) → Asks look p p words words' old mid a b → AsksNone look p words' words'' mid new b c → Asks look p (p + 1) words words'' old new a c
 asks_over look p words words' words'' old mid new a b c h k =
     let none : NoneAsks (setting_of look) (p + 1) mid.lookup.book.journal = none_more (setting_of look) p mid.lookup.book.journal h.none_below k.none in
     let over : Asks look p (p + 1) words words' old mid a b = record {
@@ -356,8 +356,8 @@ asks_over look p words words' words'' old mid new a b c h k =
       none_below = none;
       progress = h.progress;
       lighter = h.lighter;
-      goes = λ d manner start table began x. along_later manner look start table began words' mid d p (p + 1) b (omega arith) (h.goes d manner start table began x);
+      goes = λ d scheduling start table began x. along_later scheduling look start table began words' mid d p (p + 1) b (omega arith) (h.goes d scheduling start table began x);
     } in
     subst (λ (w : WordsState). Asks look p (p + 1) words w old new a c) (sym k.same_words)
-    (subst (λ (x : Work). Asks look p (p + 1) words words' old x a c) (sym k.same_work)
+    (subst (λ (x : LookupState). Asks look p (p + 1) words words' old x a c) (sym k.same_work)
     (subst (λ (o : Option (List Event)). Asks look p (p + 1) words words' old mid a o) (sym k.same_told) over))

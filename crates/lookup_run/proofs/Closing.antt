@@ -3,18 +3,18 @@ use Rattle.std.proofs.Common.{◌≡◌, ◌≢◌, ◌≤◌, ℕ, inl, inr, ar
 use Rattle.std.specs.Prelude.{IfErr, OnOk, OnErr, IsErrOf}
 use Rattle.std.proofs.lemmas.Bool.{false≢true}
 use Rattle.kad_base.specs.Outside.{Rose}
-use Rattle.lookup_run.specs.declared.plain.LookFault.{LookFault}
-use Rattle.lookup_run.specs.declared.plain.LookFault.TheVariants.{NoMemory}
-use Rattle.lookup_run.specs.declared.plain.Outcome.{Outcome}
-use Rattle.lookup_run.specs.declared.plain.Work.{Work}
-use Rattle.lookup_run.specs.Steps.{IsClosed}
+use Rattle.lookup_run.specs.declared.types.LookFault.{LookFault}
+use Rattle.lookup_run.specs.declared.types.LookFault.TheVariants.{NoMemory}
+use Rattle.lookup_run.specs.declared.types.Outcome.{Outcome}
+use Rattle.lookup_run.specs.declared.types.LookupState.{LookupState}
+use Rattle.lookup_run.specs.RoundSteps.{IsClosed}
 
 pub on_ok_then : {T F X Y : Type 0} (r : Result T F) → OnOk r X → (X → Y) → OnOk r Y
 on_ok_then (Ok x) h k = k h
 on_ok_then (Err e) h k = tt
 
 -- what it found
-pub closed_well : {X : Type 0} (work : Work) (ended : Result (Unit {0}) LookFault) (r : Result Outcome LookFault) (Q : Outcome → Type 0) → OnOk ended X → IfOk r (IsClosed work ended) → (X → (o : Outcome) → IsClosed work ended o → Q o) → IfOk r Q
+pub closed_well : {X : Type 0} (work : LookupState) (ended : Result (Unit {0}) LookFault) (r : Result Outcome LookFault) (Q : Outcome → Type 0) → OnOk ended X → IfOk r (IsClosed work ended) → (X → (o : Outcome) → IsClosed work ended o → Q o) → IfOk r Q
 closed_well work (Ok u) (Ok o) Q x h k = k x o h
 closed_well work (Err e) (Ok o) Q x h k = absurd (false≢true h.well)
 closed_well work ended (Err e) Q x h k = tt

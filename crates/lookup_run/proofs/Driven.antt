@@ -6,12 +6,12 @@ use Rattle.std.proofs.lemmas.List.{append-nil}
 use Rattle.std.proofs.lemmas.List.Elements.{filter-append}
 use Rattle.query_book.specs.declared.Query.{Query}
 use Rattle.query_book.specs.Queries.{IsFirstFree}
-use Rattle.claim_book.specs.declared.plain.Entry.{Entry}
-use Rattle.lookup_run.specs.declared.plain.Gathered.{Gathered}
+use Rattle.claim_book.specs.declared.types.Entry.{Entry}
+use Rattle.lookup_run.specs.declared.types.Gathered.{Gathered}
 use Rattle.lookup_core.specs.Matching.{query_of}
 use Rattle.lookup_run.specs.Tells.{is_driven, driven}
-use Rattle.lookup_core.specs.Steps.{as_open}
-use Rattle.lookup_run.specs.Steps.{KeepsFor}
+use Rattle.lookup_core.specs.LookupSteps.{as_open}
+use Rattle.lookup_run.specs.RoundSteps.{KeepsFor}
 
 pub driven_append : (J K : List Entry) → driven (J ++ K) ≡ driven J ++ driven K
 unfolding driven

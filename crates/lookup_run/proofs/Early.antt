@@ -2,70 +2,70 @@
 use Rattle.std.proofs.Common.{◌≡◌, ◌⊎◌, ℕ, ◌+◌, List, [], ◌∷◌, ◌++◌, Option, Result, Ok, Err, inl, inr, refl, sym, ap, subst, ◌∙◌}
 use Rattle.std.specs.Prelude.{map, IfOk, IfErr, OnOk, OnErr, IsErrOf}
 use Rattle.std.proofs.lemmas.List.{append-nil}
-use Rattle.kad_base.specs.declared.plain.Addr.{Addr}
-use Rattle.kad_base.specs.declared.plain.Event.{Event}
-use Rattle.kad_base.specs.declared.plain.Event.TheVariants.{Got}
+use Rattle.kad_base.specs.declared.types.Addr.{Addr}
+use Rattle.kad_base.specs.declared.types.Event.{Event}
+use Rattle.kad_base.specs.declared.types.Event.TheVariants.{Got}
 use Rattle.kad_base.specs.Outside.{Grows}
 use Rattle.kad_base.specs.Limits.{max_strays}
 use Rattle.kad_base.proofs.Grown.{grows_then}
 use Rattle.id_puzzles.specs.Drawn.{WordsState}
 use Rattle.contact_table.specs.TableState.{TableState}
-use Rattle.claim_book.specs.declared.plain.Entry.{Entry}
+use Rattle.claim_book.specs.declared.types.Entry.{Entry}
 use Rattle.claim_book.specs.Legal.{Legal, seeded}
 use Rattle.claim_book.specs.Journal.{seeds}
-use Rattle.lookup_run.specs.declared.plain.LookFault.{LookFault}
-use Rattle.lookup_run.specs.declared.plain.LookSetting.{LookSetting}
-use Rattle.lookup_run.specs.declared.plain.Work.{Work}
+use Rattle.lookup_run.specs.declared.types.LookFault.{LookFault}
+use Rattle.lookup_run.specs.declared.types.LookSetting.{LookSetting}
+use Rattle.lookup_run.specs.declared.types.LookupState.{LookupState}
 use Rattle.lookup_core.specs.Matching.{IsStray}
 use Rattle.lookup_run.specs.Tells.{Given, Seen, TellsFrom, TellsSoFar, begun}
-use Rattle.lookup_run.specs.Rounds.{Manner}
-use Rattle.lookup_core.specs.declared.hear.Answered.{Answered}
+use Rattle.lookup_run.specs.Rounds.{Scheduling}
+use Rattle.lookup_core.specs.declared.on_reply.Answered.{Answered}
 use Rattle.lookup_run.specs.Lookup.{setting_of, given_of, TellsEarly, Told, TableToldBy, TableRan, quest_of}
-use Rattle.lookup_core.specs.Steps.{as_open}
-use Rattle.lookup_run.specs.Between.{Walk, Shows}
-use Rattle.lookup_run.specs.Steps.{Stops, EndsByStray}
+use Rattle.lookup_core.specs.LookupSteps.{as_open}
+use Rattle.lookup_run.specs.DriverInvariant.{Walk, Shows}
+use Rattle.lookup_run.specs.RoundSteps.{Stops, EndsByStray}
 
-pub tells_of : (manner : Manner) (g : Given) (J P : List Entry) (s : Seen) (es : List Event) (t : Seen) (Q : List Entry) (heard : List Answered) → Walk manner g J P s es t Q heard → TellsFrom g J s es t
-tells_of manner g J P s [] t Q heard h = h.0
-tells_of manner g J P s (e ∷ es) t Q heard h = (h.0.mid, h.0.gives, tells_of manner g J ((P ++ h.0.between) ++ h.0.gave) h.0.mid es t Q h.1 h.2)
+pub tells_of : (scheduling : Scheduling) (g : Given) (J P : List Entry) (s : Seen) (es : List Event) (t : Seen) (Q : List Entry) (heard : List Answered) → Walk scheduling g J P s es t Q heard → TellsFrom g J s es t
+tells_of scheduling g J P s [] t Q heard h = h.0
+tells_of scheduling g J P s (e ∷ es) t Q heard h = (h.0.mid, h.0.gives, tells_of scheduling g J ((P ++ h.0.between) ++ h.0.gave) h.0.mid es t Q h.1 h.2)
 
-pub so_far_of : (manner : Manner) (g : Given) (work : Work) (place b a : ℕ) (es : List Event) (h : Shows manner g work place b a es) → TellsSoFar g work.lookup.book.journal es h.end
-so_far_of manner g work place b a es h =
+pub so_far_of : (scheduling : Scheduling) (g : Given) (work : LookupState) (place b a : ℕ) (es : List Event) (h : Shows scheduling g work place b a es) → TellsSoFar g work.lookup.book.journal es h.end
+so_far_of scheduling g work place b a es h =
     subst (λ l. TellsSoFar g work.lookup.book.journal l h.end) (sym h.first)
-    (tells_of manner g work.lookup.book.journal (seeded g.setting.paths (seeds work.lookup.book.journal)) (begun h.at) h.rest h.end h.last h.heard h.walk, h.stands.given)
+    (tells_of scheduling g work.lookup.book.journal (seeded g.setting.paths (seeds work.lookup.book.journal)) (begun h.at) h.rest h.end h.last h.heard h.walk, h.stands.given)
 
-pub ran_of : (manner : Manner) (calls : List Told) (t u v : TableState) → v ≡ u → TableToldBy manner calls t u → TableRan t v
-ran_of manner calls t u v same h = record { run = h.run; is_run = h.is_run; leaves = same ∙ h.leaves }
+pub ran_of : (scheduling : Scheduling) (calls : List Told) (t u v : TableState) → v ≡ u → TableToldBy scheduling calls t u → TableRan t v
+ran_of scheduling calls t u v same h = record { run = h.run; is_run = h.is_run; leaves = same ∙ h.leaves }
 
 -- nothing more was told, or a datagram
 abbrev pub IsEarly : List Event → Type 0
 IsEarly more = (more ≡ []) ⊎ ((from : Addr) × (bytes : List ℕ) × (until : ℕ) × (at : ℕ) × (more ≡ Got from bytes until at ∷ []))
 
-early_of : (manner : Manner) (g : Given) (work : Work) (place b a : ℕ) (es fs : List Event) → Shows manner g work place b a es → IsEarly fs → TellsEarly g work.lookup.book.journal (es ++ fs)
-early_of manner g work place b a es fs h (inl is) = record { front = es; end = h.end; so_far = so_far_of manner g work place b a es h; whole = inl (ap (λ l. es ++ l) is ∙ append-nil es) }
-early_of manner g work place b a es fs h (inr got) = record { front = es; end = h.end; so_far = so_far_of manner g work place b a es h; whole = inr (got.0, got.1, got.2, got.3, ap (λ l. es ++ l) got.4) }
+early_of : (scheduling : Scheduling) (g : Given) (work : LookupState) (place b a : ℕ) (es fs : List Event) → Shows scheduling g work place b a es → IsEarly fs → TellsEarly g work.lookup.book.journal (es ++ fs)
+early_of scheduling g work place b a es fs h (inl is) = record { front = es; end = h.end; so_far = so_far_of scheduling g work place b a es h; whole = inl (ap (λ l. es ++ l) is ∙ append-nil es) }
+early_of scheduling g work place b a es fs h (inr got) = record { front = es; end = h.end; so_far = so_far_of scheduling g work place b a es h; whole = inr (got.0, got.1, got.2, got.3, ap (λ l. es ++ l) got.4) }
 
 -- nothing more was told
-pub early_now : (manner : Manner) (g : Given) (work : Work) (place b a : ℕ) (es : List Event) → Shows manner g work place b a es → TellsEarly g work.lookup.book.journal es
-early_now manner g work place b a es h = record { front = es; end = h.end; so_far = so_far_of manner g work place b a es h; whole = inl refl }
+pub early_now : (scheduling : Scheduling) (g : Given) (work : LookupState) (place b a : ℕ) (es : List Event) → Shows scheduling g work place b a es → TellsEarly g work.lookup.book.journal es
+early_now scheduling g work place b a es h = record { front = es; end = h.end; so_far = so_far_of scheduling g work place b a es h; whole = inl refl }
 
 -- the journal is that from before the step
-pub stops_of : (look : LookSetting) (words : WordsState) (old new : Work) (told told' : Option (List Event)) → Legal (setting_of look) old.lookup.book.journal → new.table ≡ old.table → Grows told told' IsEarly → Stops look words words old new told told'
-stops_of look words old new told told' legal table grows manner start from began b a h = record {
+pub stops_of : (look : LookSetting) (words : WordsState) (old new : LookupState) (told told' : Option (List Event)) → Legal (setting_of look) old.lookup.book.journal → new.table ≡ old.table → Grows told told' IsEarly → Stops look words words old new told told'
+stops_of look words old new told told' legal table grows scheduling start from began b a h = record {
   unfinished = record {
     journal = old.lookup.book.journal;
     legal = legal;
     seeds_are = h.seeds_are;
-    tells = grows_then began told told' _ _ _ h.shows grows (λ es fs p is. early_of manner (given_of look start) old words.place b a es fs p is);
+    tells = grows_then began told told' _ _ _ h.shows grows (λ es fs p is. early_of scheduling (given_of look start) old words.place b a es fs p is);
     drawn = h.drawn;
   };
-  ran = ran_of manner _ from old.table new.table table h.tabled;
+  ran = ran_of scheduling _ from old.table new.table table h.tabled;
 }
 
 -- the last stray that a lookup takes
-pub ends_by_stray : (look : LookSetting) (words : WordsState) (old : Work) (told told' : Option (List Event)) (source : Addr) (bytes : List ℕ) (until at : ℕ) → ((s : Seen) → s.queries ≡ map (as_open old.lookup.book.journal) old.lookup.queries → IsStray (quest_of look) s.queries source bytes) → Grows told told' (λ es. es ≡ Got source bytes until at ∷ []) → old.progress.strays + 1 ≡ max_strays
+pub ends_by_stray : (look : LookSetting) (words : WordsState) (old : LookupState) (told told' : Option (List Event)) (source : Addr) (bytes : List ℕ) (until at : ℕ) → ((s : Seen) → s.queries ≡ map (as_open old.lookup.book.journal) old.lookup.queries → IsStray (quest_of look) s.queries source bytes) → Grows told told' (λ es. es ≡ Got source bytes until at ∷ []) → old.progress.strays + 1 ≡ max_strays
     → EndsByStray look words old told told'
-ends_by_stray look words old told told' source bytes until at none grows number manner start table began b a h =
+ends_by_stray look words old told told' source bytes until at none grows number scheduling start table began b a h =
     grows_then began told told' _ _ _ h.shows grows (λ es fs p is. record {
       journal = old.lookup.book.journal;
       before = es;
@@ -74,7 +74,7 @@ ends_by_stray look words old told told' source bytes until at none grows number 
       bytes = bytes;
       until = until;
       at = at;
-      so_far = so_far_of manner (given_of look start) old words.place b a es p;
+      so_far = so_far_of scheduling (given_of look start) old words.place b a es p;
       last = ap (λ l. es ++ l) is;
       stray = none p.end p.stands.queries;
       count = ap (λ n. n + 1) p.stands.strays ∙ number;

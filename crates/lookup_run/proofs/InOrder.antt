@@ -14,12 +14,12 @@ use Rattle.std.proofs.lemmas.List.Filters.{dedup_is}
 use Rattle.std.proofs.lemmas.List.Kept.{Any-dedup, Contains-from_dedup, IsStrictlySortedBy-dedup}
 use Rattle.std.proofs.lemmas.List.Sorted.{IsPermutation-sym, Contains-permutation}
 use Rattle.std.proofs.lemmas.Map.Lookups.{exact_pairs, exact_unsigned, exact_bytes}
-use Rattle.kad_base.specs.declared.plain.Ip.{Ip}
-use Rattle.kad_base.specs.declared.plain.Ip.TheVariants.{V4, V6}
-use Rattle.kad_base.specs.declared.plain.Addr.{Addr}
+use Rattle.kad_base.specs.declared.types.Ip.{Ip}
+use Rattle.kad_base.specs.declared.types.Ip.TheVariants.{V4, V6}
+use Rattle.kad_base.specs.declared.types.Addr.{Addr}
 use Rattle.kad_base.specs.Contacts.{address_bytes}
 use Rattle.kad_base.proofs.Contacts.{address_exact}
-use Rattle.kad_base.specs.contracts.plain.AddrOrd.TheImpl as order
+use Rattle.kad_base.specs.contracts.types.AddrOrd.TheImpl as order
 use Rattle.lookup_run.specs.Gathered.{addr_cmp, IsEachOnce}
 
 -- ---- the order of addresses

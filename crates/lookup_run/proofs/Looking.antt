@@ -5,10 +5,10 @@ use Rattle.std.specs.List.{All, AllByRecursion, flat_map}
 use Rattle.std.specs.List.Sorted.{IsStrictlySortedBy}
 use Rattle.std.proofs.lemmas.List.{append-nil}
 use Rattle.std.proofs.lemmas.List.Elements.{All-from_recursion}
-use Rattle.kad_base.specs.declared.plain.Addr.{Addr}
-use Rattle.kad_base.specs.declared.plain.Contact.{Contact}
-use Rattle.kad_base.specs.declared.plain.Event.{Event}
-use Rattle.kad_base.specs.declared.plain.Event.TheVariants.{Now}
+use Rattle.kad_base.specs.declared.types.Addr.{Addr}
+use Rattle.kad_base.specs.declared.types.Contact.{Contact}
+use Rattle.kad_base.specs.declared.types.Event.{Event}
+use Rattle.kad_base.specs.declared.types.Event.TheVariants.{Now}
 use Rattle.kad_base.specs.declared.serial.Made.{Made}
 use Rattle.kad_base.specs.Contacts.{among, without, IsUsable}
 use Rattle.kad_base.specs.Limits.{max_strays}
@@ -24,8 +24,8 @@ use Rattle.contact_table.specs.declared.calls.TableCall.TheVariants.{Closest}
 use Rattle.contact_table.specs.declared.calls.TableReply.{TableReply}
 use Rattle.contact_table.specs.declared.calls.TableReply.TheVariants.{List as List_reply, NoMemory}
 use Rattle.contact_table.specs.TableStep.{TableStep, table_after, contacts_of}
-use Rattle.claim_book.specs.declared.plain.Setting.{Setting}
-use Rattle.claim_book.specs.declared.plain.Entry.{Entry}
+use Rattle.claim_book.specs.declared.types.Setting.{Setting}
+use Rattle.claim_book.specs.declared.types.Entry.{Entry}
 use Rattle.claim_book.specs.Journal.{seeds, asked, answered, failed, open_any, open_on, things, settled, unsettled}
 use Rattle.claim_book.specs.Legal.{Legal, seeded_from, seeded}
 use Rattle.claim_book.specs.RunOut.{RunOut}
@@ -37,21 +37,21 @@ use Rattle.claim_book.proofs.Ends.{over_or_ask}
 use Rattle.claim_book.proofs.Kept.{open_on_any}
 use Rattle.claim_book.proofs.Seeding.{legal_seeded}
 use Rattle.lookup_core.specs.declared.quest.AskKind.TheVariants.{FindNode}
-use Rattle.lookup_run.specs.declared.plain.LookSetting.{LookSetting}
-use Rattle.lookup_run.specs.declared.plain.Gathered.{Gathered}
-use Rattle.lookup_run.specs.declared.plain.Outcome.{Outcome}
-use Rattle.lookup_run.specs.declared.plain.Progress.{Progress}
-use Rattle.lookup_run.specs.declared.plain.Token.{Token}
-use Rattle.lookup_run.specs.declared.plain.Work.{Work}
+use Rattle.lookup_run.specs.declared.types.LookSetting.{LookSetting}
+use Rattle.lookup_run.specs.declared.types.Gathered.{Gathered}
+use Rattle.lookup_run.specs.declared.types.Outcome.{Outcome}
+use Rattle.lookup_run.specs.declared.types.Progress.{Progress}
+use Rattle.lookup_run.specs.declared.types.Token.{Token}
+use Rattle.lookup_run.specs.declared.types.LookupState.{LookupState}
 use Rattle.lookup_core.specs.Timeouts.{deadline_of}
 use Rattle.lookup_run.specs.Tells.{Given, Seen, driven, begun, Tells, EndsAtStray}
-use Rattle.lookup_run.specs.Rounds.{Manner, SettlesIn, AllSettled, NoneAsks, RoundsFrom, Rounds}
-use Rattle.lookup_core.specs.declared.hear.Answered.{Answered}
+use Rattle.lookup_run.specs.Rounds.{Scheduling, SettlesIn, AllSettled, NoneAsks, RoundsFrom, Rounds}
+use Rattle.lookup_core.specs.declared.on_reply.Answered.{Answered}
 use Rattle.lookup_run.specs.Gathered.{HearsFrom, IsEachOnce, GathersOf, Gathers}
 use Rattle.lookup_run.specs.Lookup.{setting_of, given_of, seeds_in, drawn_for, IsWithinLimits, told_of, table_calls, Finished, Unfinished, TableTold, TableToldBy}
-use Rattle.lookup_core.specs.Steps.{as_open}
-use Rattle.lookup_run.specs.Between.{Keeps, Walk, Keeping, Along}
-use Rattle.lookup_run.specs.Steps.{Begins, IsOver, IsDone, IsBookOf, asks_seeds, IsBegun, Ended}
+use Rattle.lookup_core.specs.LookupSteps.{as_open}
+use Rattle.lookup_run.specs.DriverInvariant.{Keeps, Walk, Keeping, TraceInvariant}
+use Rattle.lookup_run.specs.RoundSteps.{Begins, IsOver, IsDone, IsBookOf, asks_seeds, IsBegun, Ended}
 use Rattle.lookup_run.proofs.Early.{so_far_of, ran_of}
 use Rattle.lookup_run.proofs.Fewer.{few_along}
 use Rattle.lookup_run.proofs.Walking.{told_in_any}
@@ -98,17 +98,17 @@ seeds_open paths cs = ap (λ l. without l (answered (seeded paths cs) ++ failed 
 -- ---- the beginning
 
 -- what a lookup begins with
-pub record Opening (look : LookSetting) (words : WordsState) (table table' : TableState) (book : BookState) (moment : ℕ) (work : Work) (told told' : Option (List Event)) : Type 0 where
+pub record Opening (look : LookSetting) (words : WordsState) (table table' : TableState) (book : BookState) (moment : ℕ) (work : LookupState) (told told' : Option (List Event)) : Type 0 where
   pub book_of : IsBookOf look table book
   pub tabled : TableTold (asks_seeds look) table table'
   pub begun_at : IsBegun book table' moment work
   pub grows : Grows told told' (λ es. es ≡ Now moment ∷ [])
   pub place : words.place < 2 ^ 59
 
-journal_of : (look : LookSetting) (words : WordsState) (table table' : TableState) (book : BookState) (moment : ℕ) (work : Work) (told told' : Option (List Event)) → Opening look words table table' book moment work told told' → work.lookup.book.journal ≡ seeded look.paths (seeds_in look table)
+journal_of : (look : LookSetting) (words : WordsState) (table table' : TableState) (book : BookState) (moment : ℕ) (work : LookupState) (told told' : Option (List Event)) → Opening look words table table' book moment work told told' → work.lookup.book.journal ≡ seeded look.paths (seeds_in look table)
 journal_of look words table table' book moment work told told' o = ap (λ (b : BookState). b.journal) o.begun_at.book_is ∙ o.book_of.journal
 
-pub begins_of : (look : LookSetting) (words : WordsState) (table table' : TableState) (book : BookState) (moment : ℕ) (work : Work) (told told' : Option (List Event)) → Opening look words table table' book moment work told told' → Begins look words work
+pub begins_of : (look : LookSetting) (words : WordsState) (table table' : TableState) (book : BookState) (moment : ℕ) (work : LookupState) (told told' : Option (List Event)) → Opening look words table table' book moment work told told' → Begins look words work
 begins_of look words table table' book moment work told told' o =
     let b = o.begun_at in
     let journal = journal_of look words table table' book moment work told told' o in
@@ -132,8 +132,8 @@ begun_keeping : (wants : Bool) (g : Gathered) → g.peers ≡ [] → g.tokens �
 begun_keeping false g p t = (p, t)
 begun_keeping true g p t = (p, t)
 
-pub along_of : (manner : Manner) (look : LookSetting) (words : WordsState) (table table' : TableState) (book : BookState) (moment : ℕ) (work : Work) (told told' : Option (List Event)) → Opening look words table table' book moment work told told' → Along manner look words table told words work look.paths 0 told'
-along_of manner look words table table' book moment work told told' o =
+pub along_of : (scheduling : Scheduling) (look : LookSetting) (words : WordsState) (table table' : TableState) (book : BookState) (moment : ℕ) (work : LookupState) (told told' : Option (List Event)) → Opening look words table table' book moment work told told' → TraceInvariant scheduling look words table told words work look.paths 0 told'
+along_of scheduling look words table table' book moment work told told' o =
     let b = o.begun_at in
     let cs = seeds_in look table in
     let journal = journal_of look words table table' book moment work told told' o in
@@ -143,8 +143,8 @@ along_of manner look words table table' book moment work told told' o =
     record {
       drawn = ap (λ n. record { seed = words.seed; place = n }) place;
       seeds_are = begins;
-      tabled = subst (λ (t : TableState). TableToldBy manner (table_calls look work.lookup.book.journal) table t) (sym b.table_is)
-          (subst (λ calls. TableToldBy manner calls table table') (sym (ap (table_calls look) journal ∙ ap (λ l. asks_seeds look ++ l) (seeds_tell look.paths 0 cs))) (told_in_any manner (asks_seeds look) table table' o.tabled));
+      tabled = subst (λ (t : TableState). TableToldBy scheduling (table_calls look work.lookup.book.journal) table t) (sym b.table_is)
+          (subst (λ calls. TableToldBy scheduling calls table table') (sym (ap (table_calls look) journal ∙ ap (λ l. asks_seeds look ++ l) (seeds_tell look.paths 0 cs))) (told_in_any scheduling (asks_seeds look) table table' o.tabled));
       shows = grows_weaker told told' _ _ o.grows (λ es is. record {
         at = moment;
         rest = [];
@@ -212,16 +212,16 @@ never_began look table words told usable =
 
 -- ---- the end
 
-rounds_of : (manner : Manner) (g : Given) (J P : List Entry) (s : Seen) (es : List Event) (t : Seen) (Q behind : List Entry) (heard : List Answered) → Walk manner g J P s es t Q heard → J ≡ Q ++ behind → SettlesIn manner t.receives behind → RoundsFrom manner g J P s es
-rounds_of manner g J P s [] t Q behind heard h is settles = (behind, is ∙ ap (λ l. l ++ behind) h.1, subst (λ (x : Seen). SettlesIn manner x.receives behind) h.0 settles)
-rounds_of manner g J P s (e ∷ es) t Q behind heard h is settles = (
+rounds_of : (scheduling : Scheduling) (g : Given) (J P : List Entry) (s : Seen) (es : List Event) (t : Seen) (Q behind : List Entry) (heard : List Answered) → Walk scheduling g J P s es t Q heard → J ≡ Q ++ behind → SettlesIn scheduling t.receives behind → RoundsFrom scheduling g J P s es
+rounds_of scheduling g J P s [] t Q behind heard h is settles = (behind, is ∙ ap (λ l. l ++ behind) h.1, subst (λ (x : Seen). SettlesIn scheduling x.receives behind) h.0 settles)
+rounds_of scheduling g J P s (e ∷ es) t Q behind heard h is settles = (
   record { mid = h.0.mid; between = h.0.between; gave = h.0.gave; gives = h.0.gives; given = h.0.given; settles = h.0.settles; in_turn = h.0.in_turn },
-  rounds_of manner g J ((P ++ h.0.between) ++ h.0.gave) h.0.mid es t Q behind h.1 h.2 is settles,
+  rounds_of scheduling g J ((P ++ h.0.between) ++ h.0.gave) h.0.mid es t Q behind h.1 h.2 is settles,
 )
 
-hears_of : (manner : Manner) (g : Given) (J P : List Entry) (s : Seen) (es : List Event) (t : Seen) (Q : List Entry) (heard : List Answered) → Walk manner g J P s es t Q heard → HearsFrom g J s es heard
-hears_of manner g J P s [] t Q heard h = h.2
-hears_of manner g J P s (e ∷ es) t Q heard h = (record { mid = h.0.mid; gives = h.0.gives; found = h.0.found; hears = h.0.hears }, h.1, hears_of manner g J ((P ++ h.0.between) ++ h.0.gave) h.0.mid es t Q h.1 h.2, h.3)
+hears_of : (scheduling : Scheduling) (g : Given) (J P : List Entry) (s : Seen) (es : List Event) (t : Seen) (Q : List Entry) (heard : List Answered) → Walk scheduling g J P s es t Q heard → HearsFrom g J s es heard
+hears_of scheduling g J P s [] t Q heard h = h.2
+hears_of scheduling g J P s (e ∷ es) t Q heard h = (record { mid = h.0.mid; gives = h.0.gives; found = h.0.found; hears = h.0.hears }, h.1, hears_of scheduling g J ((P ++ h.0.between) ++ h.0.gave) h.0.mid es t Q h.1 h.2, h.3)
 
 -- where no contact is open, none is on a path
 none_on : (p : ℕ) (J : List Entry) → open_any J ≡ [] → open_on p J ≡ []
@@ -232,8 +232,8 @@ none_on p J none = none_among (open_on p J) (λ c. no_true (among (open_on p J) 
     no_true false n = refl
 
 -- every path has run out
-pub all_over : (manner : Manner) (look : LookSetting) (words words' : WordsState) (old new : Work) (told told' : Option (List Event)) → IsWithinLimits look → IsOver manner look words words' old new told told' → Legal new.lookup.book.setting new.lookup.book.journal → (p : ℕ) → p < new.lookup.book.setting.paths → RunOut new.lookup.book.setting p new.lookup.book.journal
-all_over manner look words words' old new told told' limits over legal p lt =
+pub all_over : (scheduling : Scheduling) (look : LookSetting) (words words' : WordsState) (old new : LookupState) (told told' : Option (List Event)) → IsWithinLimits look → IsOver scheduling look words words' old new told told' → Legal new.lookup.book.setting new.lookup.book.journal → (p : ℕ) → p < new.lookup.book.setting.paths → RunOut new.lookup.book.setting p new.lookup.book.journal
+all_over scheduling look words words' old new told told' limits over legal p lt =
     let k = over.keeps in
     let J = new.lookup.book.journal in
     let less : p < look.paths = (let e = ap (λ (s : Setting). s.paths) k.setting in omega (arith, lt, e)) in
@@ -254,20 +254,20 @@ gathers_of false heard g peers tokens h once is = (each_of_none g.peers peers h.
 gathers_of true heard g peers tokens h once is = (subst (λ l. IsEachOnce l peers) h.0 once, is ∙ h.1)
 
 -- where no peers are asked for, there are none
-pub none_gathered : (look : LookSetting) (work : Work) (peers : List Addr) (tokens : List Token) → Keeps look work → IsEachOnce work.gathered.peers peers → tokens ≡ work.gathered.tokens → look.kind ≡ FindNode → (peers ≡ []) × (tokens ≡ [])
+pub none_gathered : (look : LookSetting) (work : LookupState) (peers : List Addr) (tokens : List Token) → Keeps look work → IsEachOnce work.gathered.peers peers → tokens ≡ work.gathered.tokens → look.kind ≡ FindNode → (peers ≡ []) × (tokens ≡ [])
 none_gathered look work peers tokens k once is kind = (let none = k.no_peers (ap wants_peers kind) in (each_of_none work.gathered.peers peers none.no_peers once, is ∙ none.no_tokens))
 
 -- what a lookup that is over has
-pub record Done (manner : Manner) (look : LookSetting) (start words' : WordsState) (table : TableState) (work : Work) (began told' : Option (List Event)) (o : Outcome) : Type 0 where
+pub record Done (scheduling : Scheduling) (look : LookSetting) (start words' : WordsState) (table : TableState) (work : LookupState) (began told' : Option (List Event)) (o : Outcome) : Type 0 where
   pub keeps : Keeps look work
   pub none_open : work.lookup.queries ≡ []
   pub settled : AllSettled look.paths work.lookup.book.journal
   pub none_asks : NoneAsks (setting_of look) look.paths work.lookup.book.journal
-  pub along : Along manner look start table began words' work look.paths look.paths told'
+  pub along : TraceInvariant scheduling look start table began words' work look.paths look.paths told'
   pub done : IsDone work.lookup.book o
 
-pub looks_up : (manner : Manner) (look : LookSetting) (start words' : WordsState) (table : TableState) (work : Work) (began told' : Option (List Event)) (o : Outcome) → Done manner look start words' table work began told' o → Finished look table start words' began told' o
-looks_up manner look start words' table work began told' o d =
+pub looks_up : (scheduling : Scheduling) (look : LookSetting) (start words' : WordsState) (table : TableState) (work : LookupState) (began told' : Option (List Event)) (o : Outcome) → Done scheduling look start words' table work began told' o → Finished look table start words' began told' o
+looks_up scheduling look start words' table work began told' o d =
     let k = d.keeps in
     let a = d.along in
     let J = work.lookup.book.journal in
@@ -277,7 +277,7 @@ looks_up manner look start words' table work began told' o d =
       tells = subst (λ K. Grows began told' (λ events. Tells (given_of look start) K events)) (sym d.done.journal)
           (grows_weaker began told' _ _ a.shows (λ es h. record {
             end = h.end;
-            so_far = so_far_of manner (given_of look start) work words'.place look.paths look.paths es h;
+            so_far = so_far_of scheduling (given_of look start) work words'.place look.paths look.paths es h;
             none_open = h.stands.queries ∙ ap (map (as_open J)) d.none_open;
           }));
       run_out = subst (λ (s : Setting). (p : ℕ) → p < s.paths → RunOut s p o.journal) k.setting d.done.run_out;
@@ -286,21 +286,21 @@ looks_up manner look start words' table work began told' o d =
       drawn = a.drawn ∙ ap (drawn_for start) (sym d.done.journal);
     }
 
-pub goes_by_rounds : (manner : Manner) (look : LookSetting) (start words' : WordsState) (table : TableState) (work : Work) (began told' : Option (List Event)) (o : Outcome) → Done manner look start words' table work began told' o → Grows began told' (λ events. Rounds manner (given_of look start) o.journal events)
-goes_by_rounds manner look start words' table work began told' o d =
+pub goes_by_rounds : (scheduling : Scheduling) (look : LookSetting) (start words' : WordsState) (table : TableState) (work : LookupState) (began told' : Option (List Event)) (o : Outcome) → Done scheduling look start words' table work began told' o → Grows began told' (λ events. Rounds scheduling (given_of look start) o.journal events)
+goes_by_rounds scheduling look start words' table work began told' o d =
     let J = work.lookup.book.journal in
-    subst (λ K. Grows began told' (λ events. Rounds manner (given_of look start) K events)) (sym d.done.journal)
+    subst (λ K. Grows began told' (λ events. Rounds scheduling (given_of look start) K events)) (sym d.done.journal)
     (grows_weaker began told' _ _ d.along.shows (λ es h. record {
       at = h.at;
       rest = h.rest;
       first = h.first;
-      goes = rounds_of manner (given_of look start) J (seeded look.paths (seeds J)) (begun h.at) h.rest h.end h.last h.behind h.heard h.walk h.journal h.settles;
+      goes = rounds_of scheduling (given_of look start) J (seeded look.paths (seeds J)) (begun h.at) h.rest h.end h.last h.behind h.heard h.walk h.journal h.settles;
       settled = d.settled;
       none_asks = d.none_asks;
     }))
 
-pub gathered_all : (manner : Manner) (look : LookSetting) (start words' : WordsState) (table : TableState) (work : Work) (began told' : Option (List Event)) (o : Outcome) → Done manner look start words' table work began told' o → IsEachOnce work.gathered.peers o.peers → o.tokens ≡ work.gathered.tokens → Grows began told' (λ events. Gathers (given_of look start) o.journal events o.peers o.tokens)
-gathered_all manner look start words' table work began told' o d once tokens =
+pub gathered_all : (scheduling : Scheduling) (look : LookSetting) (start words' : WordsState) (table : TableState) (work : LookupState) (began told' : Option (List Event)) (o : Outcome) → Done scheduling look start words' table work began told' o → IsEachOnce work.gathered.peers o.peers → o.tokens ≡ work.gathered.tokens → Grows began told' (λ events. Gathers (given_of look start) o.journal events o.peers o.tokens)
+gathered_all scheduling look start words' table work began told' o d once tokens =
     let J = work.lookup.book.journal in
     subst (λ K. Grows began told' (λ events. Gathers (given_of look start) K events o.peers o.tokens)) (sym d.done.journal)
     (grows_weaker began told' _ _ d.along.shows (λ es h. record {
@@ -308,24 +308,24 @@ gathered_all manner look start words' table work began told' o d once tokens =
       rest = h.rest;
       first = h.first;
       heard = h.heard;
-      hears = hears_of manner (given_of look start) J (seeded look.paths (seeds J)) (begun h.at) h.rest h.end h.last h.heard h.walk;
+      hears = hears_of scheduling (given_of look start) J (seeded look.paths (seeds J)) (begun h.at) h.rest h.end h.last h.heard h.walk;
       gathers = gathers_of (wants_peers look.kind) h.heard work.gathered o.peers o.tokens h.keeping once tokens;
     }))
 
-pub table_told : (manner : Manner) (look : LookSetting) (start words' : WordsState) (table : TableState) (work : Work) (began told' : Option (List Event)) (o : Outcome) → Done manner look start words' table work began told' o → TableToldBy manner (table_calls look o.journal) table work.table
-table_told manner look start words' table work began told' o d = subst (λ K. TableToldBy manner (table_calls look K) table work.table) (sym d.done.journal) d.along.tabled
+pub table_told : (scheduling : Scheduling) (look : LookSetting) (start words' : WordsState) (table : TableState) (work : LookupState) (began told' : Option (List Event)) (o : Outcome) → Done scheduling look start words' table work began told' o → TableToldBy scheduling (table_calls look o.journal) table work.table
+table_told scheduling look start words' table work began told' o d = subst (λ K. TableToldBy scheduling (table_calls look K) table work.table) (sym d.done.journal) d.along.tabled
 
 -- a lookup that is over, and for which there was no memory
-pub over_ended : (manner : Manner) (look : LookSetting) (start words' : WordsState) (table : TableState) (work : Work) (began told' : Option (List Event)) (b a : ℕ) → Legal (setting_of look) work.lookup.book.journal → Along manner look start table began words' work b a told' → Ended look start table began words' work.table told'
-over_ended manner look start words' table work began told' b a legal h = record {
+pub over_ended : (scheduling : Scheduling) (look : LookSetting) (start words' : WordsState) (table : TableState) (work : LookupState) (began told' : Option (List Event)) (b a : ℕ) → Legal (setting_of look) work.lookup.book.journal → TraceInvariant scheduling look start table began words' work b a told' → Ended look start table began words' work.table told'
+over_ended scheduling look start words' table work began told' b a legal h = record {
   unfinished = record {
     journal = work.lookup.book.journal;
     legal = legal;
     seeds_are = h.seeds_are;
-    tells = grows_weaker began told' _ _ h.shows (λ es x. record { front = es; end = x.end; so_far = so_far_of manner (given_of look start) work words'.place b a es x; whole = inl refl });
+    tells = grows_weaker began told' _ _ h.shows (λ es x. record { front = es; end = x.end; so_far = so_far_of scheduling (given_of look start) work words'.place b a es x; whole = inl refl });
     drawn = h.drawn;
   };
-  ran = ran_of manner (table_calls look work.lookup.book.journal) table work.table work.table refl h.tabled;
+  ran = ran_of scheduling (table_calls look work.lookup.book.journal) table work.table work.table refl h.tabled;
 }
 
 pub ok_then : {T F : Type 0} (r : Result T F) (P Q : T → Type 0) → IfOk r P → ((x : T) → P x → Q x) → IfOk r Q
@@ -367,25 +367,25 @@ is_done book after o same found journal legal =
 
 -- ---- the whole
 
-pub opening_of : (look : LookSetting) (words : WordsState) (table table' : TableState) (book : BookState) (moment : ℕ) (work : Work) (told told' : Option (List Event)) → IsBookOf look table book → TableTold (asks_seeds look) table table' → IsBegun book table' moment work → Grows told told' (λ es. es ≡ Now moment ∷ []) → words.place < 2 ^ 59
+pub opening_of : (look : LookSetting) (words : WordsState) (table table' : TableState) (book : BookState) (moment : ℕ) (work : LookupState) (told told' : Option (List Event)) → IsBookOf look table book → TableTold (asks_seeds look) table table' → IsBegun book table' moment work → Grows told told' (λ es. es ≡ Now moment ∷ []) → words.place < 2 ^ 59
     → Opening look words table table' book moment work told told'
 opening_of look words table table' book moment work told told' b t w g lt = record { book_of = b; tabled = t; begun_at = w; grows = g; place = lt }
 
 -- what a lookup that is over leaves, whether or not there is memory for what it found
-pub record Ends (manner : Manner) (look : LookSetting) (words words' : WordsState) (table : TableState) (work : Work) (told told' : Option (List Event)) : Type 0 where
-  pub done : (o : Outcome) → IsDone work.lookup.book o → Done manner look words words' table work told told' o
+pub record Ends (scheduling : Scheduling) (look : LookSetting) (words words' : WordsState) (table : TableState) (work : LookupState) (told told' : Option (List Event)) : Type 0 where
+  pub done : (o : Outcome) → IsDone work.lookup.book o → Done scheduling look words words' table work told told' o
   pub left : Ended look words table told words' work.table told'
   pub few : Grows told told' (λ events. ¬ EndsAtStray (given_of look words) events max_strays)
 
 -- it went its rounds from its opening
-pub ends_of : (manner : Manner) (look : LookSetting) (words words' : WordsState) (table table' : TableState) (book : BookState) (moment : ℕ) (begun_ work : Work) (told mid told' : Option (List Event)) → Opening look words table table' book moment begun_ told mid → IsOver manner look words words' begun_ work mid told'
-    → Legal work.lookup.book.setting work.lookup.book.journal → Ends manner look words words' table work told told'
-ends_of manner look words words' table table' book moment begun_ work told mid told' opening over legal =
-    let along = over.goes words table told (along_of manner look words table table' book moment begun_ told mid opening) in
+pub ends_of : (scheduling : Scheduling) (look : LookSetting) (words words' : WordsState) (table table' : TableState) (book : BookState) (moment : ℕ) (begun_ work : LookupState) (told mid told' : Option (List Event)) → Opening look words table table' book moment begun_ told mid → IsOver scheduling look words words' begun_ work mid told'
+    → Legal work.lookup.book.setting work.lookup.book.journal → Ends scheduling look words words' table work told told'
+ends_of scheduling look words words' table table' book moment begun_ work told mid told' opening over legal =
+    let along = over.goes words table told (along_of scheduling look words table table' book moment begun_ told mid opening) in
     record {
       done = λ o d. record { keeps = over.keeps; none_open = over.none_open; settled = over.settled; none_asks = over.none_asks; along = along; done = d };
-      left = over_ended manner look words words' table work told told' look.paths look.paths (subst (λ (s : Setting). Legal s work.lookup.book.journal) over.keeps.setting legal) along;
-      few = few_along manner look words table told words' work look.paths look.paths told' over.keeps.few_strays along;
+      left = over_ended scheduling look words words' table work told told' look.paths look.paths (subst (λ (s : Setting). Legal s work.lookup.book.journal) over.keeps.setting legal) along;
+      few = few_along scheduling look words table told words' work look.paths look.paths told' over.keeps.few_strays along;
     }
 
 pub ok_three : {T F : Type 0} (r : Result T F) (P Q R S : T → Type 0) → IfOk r P → IfOk r Q → IfOk r R → ((x : T) → P x → Q x → R x → S x) → IfOk r S

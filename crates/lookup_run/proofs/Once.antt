@@ -1,14 +1,14 @@
 -- The events of a lookup that goes by rounds tell one journal alone.
 use Rattle.std.proofs.Common.{◌≡◌, ℕ, zero, suc, ◌<◌, List, [], ◌∷◌, ◌++◌, refl, sym, ap, subst, ◌∙◌}
 use Rattle.std.proofs.lemmas.List.{append-nil, append_assoc, append_cancel_left}
-use Rattle.kad_base.specs.declared.plain.Event.{Event}
-use Rattle.kad_base.specs.declared.plain.Event.TheVariants.{Now, Sent, Unsent, Got, Quiet}
-use Rattle.claim_book.specs.declared.plain.Setting.{Setting}
-use Rattle.claim_book.specs.declared.plain.Entry.{Entry}
+use Rattle.kad_base.specs.declared.types.Event.{Event}
+use Rattle.kad_base.specs.declared.types.Event.TheVariants.{Now, Sent, Unsent, Got, Quiet}
+use Rattle.claim_book.specs.declared.types.Setting.{Setting}
+use Rattle.claim_book.specs.declared.types.Entry.{Entry}
 use Rattle.claim_book.specs.Journal.{seeds}
 use Rattle.claim_book.specs.Legal.{LegalAfter, Legal, seeded}
 use Rattle.lookup_run.specs.Tells.{Given, Seen, Gives, begun}
-use Rattle.lookup_run.specs.Rounds.{path_by_path, AllSettled, SettlesIn, InTurn, WaitsInTurn, RoundsFrom, Rounds}
+use Rattle.lookup_run.specs.Rounds.{sequential, AllSettled, SettlesIn, InTurn, WaitsInTurn, RoundsFrom, Rounds}
 use Rattle.lookup_run.proofs.OnceSettled.{settled_once}
 use Rattle.lookup_run.proofs.OnceEvents.{Apart, apart_gives, got_once, sent_once, unsent_once}
 
@@ -25,7 +25,7 @@ unfolding Legal
 legal_split s P xs h = legal_after_split s [] P xs h
 
 -- the part of the journal that is still to come
-later : (g : Given) (J P : List Entry) (s : Seen) (es : List Event) → RoundsFrom path_by_path g J P s es → (rest : List Entry) × (J ≡ P ++ rest)
+later : (g : Given) (J P : List Entry) (s : Seen) (es : List Event) → RoundsFrom sequential g J P s es → (rest : List Entry) × (J ≡ P ++ rest)
 later g J P s [] h = (h.0, h.1)
 later g J P s (e ∷ es) h =
     let rest = later g J ((P ++ h.0.between) ++ h.0.gave) h.0.mid es h.1 in
@@ -38,7 +38,7 @@ pub record LegalStep (setting : Setting) (P between gave : List Entry) : Type 0 
   pub gives : LegalAfter setting (P ++ between) gave
   pub after : Legal setting ((P ++ between) ++ gave)
 
-legal_step : (g : Given) (J P : List Entry) (s : Seen) (e : Event) (es : List Event) → Legal g.setting J → (h : RoundsFrom path_by_path g J P s (e ∷ es)) → LegalStep g.setting P h.0.between h.0.gave
+legal_step : (g : Given) (J P : List Entry) (s : Seen) (e : Event) (es : List Event) → Legal g.setting J → (h : RoundsFrom sequential g J P s (e ∷ es)) → LegalStep g.setting P h.0.between h.0.gave
 legal_step g J P s e es l h =
     let rest = later g J ((P ++ h.0.between) ++ h.0.gave) h.0.mid es h.1 in
     let all = subst (Legal g.setting) rest.1 l in
@@ -56,7 +56,7 @@ settled_at setting Q s (Unsent to bytes) gave zero_ h = h.settled
 settled_at setting Q s (Got from bytes until at) gave zero_ h = (subst (WaitsInTurn setting Q) zero_ h).0
 settled_at setting Q s (Quiet until at) gave zero_ h = (subst (WaitsInTurn setting Q) zero_ h).0
 
-between_once : (setting : Setting) (P xs ys : List Entry) (n : ℕ) → 0 < setting.paths → Legal setting P → LegalAfter setting P xs → LegalAfter setting P ys → SettlesIn path_by_path n xs → SettlesIn path_by_path n ys → (n ≡ 0 → AllSettled setting.paths (P ++ xs)) → (n ≡ 0 → AllSettled setting.paths (P ++ ys)) → xs ≡ ys
+between_once : (setting : Setting) (P xs ys : List Entry) (n : ℕ) → 0 < setting.paths → Legal setting P → LegalAfter setting P xs → LegalAfter setting P ys → SettlesIn sequential n xs → SettlesIn sequential n ys → (n ≡ 0 → AllSettled setting.paths (P ++ xs)) → (n ≡ 0 → AllSettled setting.paths (P ++ ys)) → xs ≡ ys
 between_once setting P xs ys zero some l h k a b c d = settled_once setting setting.paths 0 P xs ys some refl l h k a b (c refl) (d refl)
 between_once setting P xs ys (suc n) some l h k a b c d = a ∙ sym b
 
@@ -69,7 +69,7 @@ step_once g J K Q s t u (Unsent to bytes) gave gave' apart j k a b c d l m = uns
 step_once g J K Q s t u (Got from bytes until at) gave gave' apart j k a b c d l m = got_once g s t u from bytes at apart j.1 k.1
 step_once g J K Q s t u (Quiet until at) gave gave' apart j k a b c d l m = j.1 ∙ sym k.1
 
-once_from : (g : Given) (J K P : List Entry) (s : Seen) (es : List Event) → 0 < g.setting.paths → Legal g.setting J → Legal g.setting K → AllSettled g.setting.paths J → AllSettled g.setting.paths K → Apart s.queries → RoundsFrom path_by_path g J P s es → RoundsFrom path_by_path g K P s es → J ≡ K
+once_from : (g : Given) (J K P : List Entry) (s : Seen) (es : List Event) → 0 < g.setting.paths → Legal g.setting J → Legal g.setting K → AllSettled g.setting.paths J → AllSettled g.setting.paths K → Apart s.queries → RoundsFrom sequential g J P s es → RoundsFrom sequential g K P s es → J ≡ K
 once_from g J K P s [] some l m a b apart h k =
     let x = legal_split g.setting P h.0 (subst (Legal g.setting) h.1 l) in
     let y = legal_split g.setting P k.0 (subst (Legal g.setting) k.1 m) in
@@ -87,13 +87,13 @@ once_from g J K P s (e ∷ es) some l m a b apart h k =
     let gave : h.0.gave ≡ k.0.gave = append_cancel_left s.given h.0.gave k.0.gave (sym h.0.given ∙ ap (λ (t : Seen). t.given) mid ∙ k.0.given) in
     let front : (P ++ h.0.between) ++ h.0.gave ≡ Q ++ k.0.gave = ap (λ l. l ++ h.0.gave) to_Q ∙ ap (λ l. Q ++ l) gave in
     once_from g J K (Q ++ k.0.gave) k.0.mid es some l m a b (apart_gives g K s k.0.mid e apart k.0.gives)
-    (subst (λ (t : Seen). RoundsFrom path_by_path g J (Q ++ k.0.gave) t es) mid (subst (λ R. RoundsFrom path_by_path g J R h.0.mid es) front h.1)) k.1
+    (subst (λ (t : Seen). RoundsFrom sequential g J (Q ++ k.0.gave) t es) mid (subst (λ R. RoundsFrom sequential g J R h.0.mid es) front h.1)) k.1
 
 -- one journal alone
-pub rounds_once : (g : Given) (J K : List Entry) (events : List Event) → 0 < g.setting.paths → Legal g.setting J → Legal g.setting K → seeds J ≡ seeds K → Rounds path_by_path g J events → Rounds path_by_path g K events → J ≡ K
+pub rounds_once : (g : Given) (J K : List Entry) (events : List Event) → 0 < g.setting.paths → Legal g.setting J → Legal g.setting K → seeds J ≡ seeds K → Rounds sequential g J events → Rounds sequential g K events → J ≡ K
 rounds_once g J K events some l m same h k =
     let first : Now h.at ∷ h.rest ≡ Now k.at ∷ k.rest = sym h.first ∙ k.first in
     let at : h.at ≡ k.at = cc in
     let rest : h.rest ≡ k.rest = cc in
     once_from g J K (seeded g.setting.paths (seeds K)) (begun k.at) k.rest some l m h.settled k.settled tt
-    (subst (λ es. RoundsFrom path_by_path g J (seeded g.setting.paths (seeds K)) (begun k.at) es) rest (subst (λ n. RoundsFrom path_by_path g J (seeded g.setting.paths (seeds K)) (begun n) h.rest) at (subst (λ cs. RoundsFrom path_by_path g J (seeded g.setting.paths cs) (begun h.at) h.rest) same h.goes))) k.goes
+    (subst (λ es. RoundsFrom sequential g J (seeded g.setting.paths (seeds K)) (begun k.at) es) rest (subst (λ n. RoundsFrom sequential g J (seeded g.setting.paths (seeds K)) (begun n) h.rest) at (subst (λ cs. RoundsFrom sequential g J (seeded g.setting.paths cs) (begun h.at) h.rest) same h.goes))) k.goes

@@ -3,14 +3,14 @@ use Rattle.std.proofs.Common.{◌≡◌, ℕ, ◌<◌, List, [], ◌∷◌, ◌+
 use Rattle.std.specs.Prelude.{slice_get}
 use Rattle.std.proofs.lemmas.Bool.{cases_lt}
 use Rattle.std.proofs.lemmas.List.{append-nil, append_assoc}
-use Rattle.kad_base.specs.declared.plain.Report.{Report}
+use Rattle.kad_base.specs.declared.types.Report.{Report}
 use Rattle.kad_base.specs.Contacts.{among, IsUsable}
 use Rattle.kad_base.specs.Puzzles.{Passes}
-use Rattle.claim_book.specs.declared.plain.Setting.{Setting}
-use Rattle.claim_book.specs.declared.plain.Thing.{Thing}
-use Rattle.claim_book.specs.declared.plain.Thing.TheVariants.{Responder, Told}
-use Rattle.claim_book.specs.declared.plain.Entry.{Entry}
-use Rattle.claim_book.specs.declared.plain.Entry.TheVariants.{Note, Taken, Held, Turned, Rejected, Skipped}
+use Rattle.claim_book.specs.declared.types.Setting.{Setting}
+use Rattle.claim_book.specs.declared.types.Thing.{Thing}
+use Rattle.claim_book.specs.declared.types.Thing.TheVariants.{Responder, Told}
+use Rattle.claim_book.specs.declared.types.Entry.{Entry}
+use Rattle.claim_book.specs.declared.types.Entry.TheVariants.{Note, Taken, Held, Turned, Rejected, Skipped}
 use Rattle.claim_book.specs.Journal.{took, path, things_of, settles_on, unsettled, first_unsettled}
 use Rattle.claim_book.specs.Legal.{Fits, LegalAfter, Legal}
 use Rattle.claim_book.proofs.More.{legal_more}
@@ -18,7 +18,7 @@ use Rattle.claim_book.proofs.Claims.{one_path, path_took}
 use Rattle.claim_book.proofs.Ends.{first_below}
 use Rattle.claim_book.proofs.Kept.{off_this}
 use Rattle.claim_book.proofs.Unsettled.{settles, unsettled_kept}
-use Rattle.lookup_run.specs.Rounds.{path_by_path, path_number, is_settling, SettlesFrom, AllSettled}
+use Rattle.lookup_run.specs.Rounds.{sequential, path_number, is_settling, SettlesFrom, AllSettled}
 
 same_first : (P : List Entry) (q p : ℕ) (t u : Thing) → q ≡ p → first_unsettled q P ≡ Some t → first_unsettled p P ≡ Some u → t ≡ u
 same_first P q p t u e f h = (let same : ◌≡◌ {A = Option Thing} (Some t) (Some u) = sym f ∙ ap (λ n. first_unsettled n P) e ∙ h in cc)
@@ -80,7 +80,7 @@ settling_elsewhere p (Rejected q r) lt h = (off_this q p (λ e. absurd (omega (a
 settling_elsewhere p (Skipped q r) lt h = (off_this q p (λ e. absurd (omega (arith, lt, e))), refl)
 settling_elsewhere p other lt h = absurd cc
 
-pub settled_later : (s : Setting) (p low : ℕ) (P es : List Entry) → p < low → Legal s P → LegalAfter s P es → SettlesFrom path_by_path low es → unsettled p (P ++ es) ≡ unsettled p P
+pub settled_later : (s : Setting) (p low : ℕ) (P es : List Entry) → p < low → Legal s P → LegalAfter s P es → SettlesFrom sequential low es → unsettled p (P ++ es) ≡ unsettled p P
 settled_later s p low P [] lt l h k = ap (unsettled p) (append-nil P)
 settled_later s p low P (e ∷ es) lt l h k =
     let less : p < path_number e = (let le = k.0 in omega (arith, lt, le)) in
@@ -94,7 +94,7 @@ unfolding first_unsettled
 none_left p P t none f = (let g : slice_get {X = Thing} [] 0 ≡ Some t = sym (ap (λ l. slice_get l 0) none) ∙ f in absurd cc)
 
 -- where an entry settles something, and all is settled later, not all comes on later paths
-not_later : (s : Setting) (n low : ℕ) (P es : List Entry) (e : Entry) → 0 < s.paths → n ≡ s.paths → Legal s P → LegalAfter s P es → SettlesFrom path_by_path low es → path_number e < low → Fits s P e → is_settling e ≡ true → AllSettled n (P ++ es) → ⊥
+not_later : (s : Setting) (n low : ℕ) (P es : List Entry) (e : Entry) → 0 < s.paths → n ≡ s.paths → Legal s P → LegalAfter s P es → SettlesFrom sequential low es → path_number e < low → Fits s P e → is_settling e ≡ true → AllSettled n (P ++ es) → ⊥
 not_later s n low P es e some is l h k lt f settling all =
     let q = path_number e in
     let at = settles s P e q f settling in
@@ -103,7 +103,7 @@ not_later s n low P es e some is l h k lt f settling all =
     none_left q P at.thing (sym stays ∙ all q (omega (arith, below, is))) at.front
 
 -- from there on all is settled in one way
-pub settled_once : (s : Setting) (n low : ℕ) (P xs ys : List Entry) → 0 < s.paths → n ≡ s.paths → Legal s P → LegalAfter s P xs → LegalAfter s P ys → SettlesFrom path_by_path low xs → SettlesFrom path_by_path low ys → AllSettled n (P ++ xs) → AllSettled n (P ++ ys) → xs ≡ ys
+pub settled_once : (s : Setting) (n low : ℕ) (P xs ys : List Entry) → 0 < s.paths → n ≡ s.paths → Legal s P → LegalAfter s P xs → LegalAfter s P ys → SettlesFrom sequential low xs → SettlesFrom sequential low ys → AllSettled n (P ++ xs) → AllSettled n (P ++ ys) → xs ≡ ys
 settled_once s n low P [] [] some is l h k a b c d = refl
 settled_once s n low P [] (y ∷ ys) some is l h k a b c d =
     let q = path_number y in
@@ -122,7 +122,7 @@ settled_once s n low P (x ∷ xs) (y ∷ ys) some is l h k a b c d =
         | inl lt ↦ absurd (not_later s n (path_number x) P (x ∷ xs) y some is l h (omega arith, a.1, a.2) lt k.0 b.1 c)
         | inr le ↦
             let one : x ≡ y = entry_once s P x y l h.0 k.0 a.1 b.1 (omega (arith, ge, le)) in
-            let rest : xs ≡ ys = settled_once s n (path_number x) (P ++ x ∷ []) xs ys some is (legal_more s P x l h.0) h.1 (subst (λ e. LegalAfter s (P ++ e ∷ []) ys) (sym one) k.1) a.2 (subst (λ e. SettlesFrom path_by_path (path_number e) ys) (sym one) b.2)
+            let rest : xs ≡ ys = settled_once s n (path_number x) (P ++ x ∷ []) xs ys some is (legal_more s P x l h.0) h.1 (subst (λ e. LegalAfter s (P ++ e ∷ []) ys) (sym one) k.1) a.2 (subst (λ e. SettlesFrom sequential (path_number e) ys) (sym one) b.2)
             (subst (AllSettled n) (sym (append_assoc P (x ∷ []) xs)) c)
             (subst (λ e. AllSettled n ((P ++ e ∷ []) ++ ys)) (sym one) (subst (AllSettled n) (sym (append_assoc P (y ∷ []) ys)) d)) in
             ap (λ e. e ∷ xs) one ∙ ap (λ l. y ∷ l) rest

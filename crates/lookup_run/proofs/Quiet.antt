@@ -7,13 +7,13 @@ use Rattle.std.proofs.lemmas.Bool.Decides.{eqb_tells}
 use Rattle.std.proofs.lemmas.List.{append-nil}
 use Rattle.std.proofs.lemmas.List.Concat.{flat_map-append}
 use Rattle.std.proofs.lemmas.List.Elements.{All-head, All-tail, filter-append}
-use Rattle.kad_base.specs.declared.plain.Contact.{Contact}
+use Rattle.kad_base.specs.declared.types.Contact.{Contact}
 use Rattle.kad_base.specs.Contacts.{without}
-use Rattle.claim_book.specs.declared.plain.Entry.{Entry}
-use Rattle.claim_book.specs.declared.plain.Entry.TheVariants.{Seed, Ask, Heard, Lost, Note, Taken, Held, Turned, Rejected, Skipped}
+use Rattle.claim_book.specs.declared.types.Entry.{Entry}
+use Rattle.claim_book.specs.declared.types.Entry.TheVariants.{Seed, Ask, Heard, Lost, Note, Taken, Held, Turned, Rejected, Skipped}
 use Rattle.claim_book.specs.Journal.{seed_of, ask_of, answer_of, fail_of, asker_of, things_of, settles_on, seeds, asked, answered, failed, open_any, things, settled, unsettled}
 use Rattle.lookup_run.specs.Tells.{is_driven, driven}
-use Rattle.lookup_run.specs.Rounds.{Manner, path_by_path, at_once, MayFollow, path_number, is_settling, SettlesFrom}
+use Rattle.lookup_run.specs.Rounds.{Scheduling, sequential, concurrent, MayFollow, path_number, is_settling, SettlesFrom}
 
 -- an entry that settles something shows nothing else
 pub record IsMute (e : Entry) : Type 0 where
@@ -115,21 +115,21 @@ pub unsettled_same : (p q : ℕ) (J es : List Entry) → q ≢ p → AllByRecurs
 unfolding unsettled
 unsettled_same p q J es ne h = ap (λ l. drop (length l) (things q (J ++ es))) (settled_same p q J es ne h) ∙ ap (λ l. drop (length (settled q J)) l) (things_same q J es (each_mute p es h))
 
--- ---- in the manner of the rounds
+-- ---- in the scheduling of the rounds
 
-may_follow : (manner : Manner) (p q : ℕ) → p ≤ q → MayFollow manner p q
-may_follow path_by_path p q le = le
-may_follow at_once p q le = tt
+may_follow : (scheduling : Scheduling) (p q : ℕ) → p ≤ q → MayFollow scheduling p q
+may_follow sequential p q le = le
+may_follow concurrent p q le = tt
 
--- in ascending path, and so in whatever manner
-pub settles_from : (manner : Manner) (n p : ℕ) (front es : List Entry) → n ≤ p → SettlesFrom manner n front → AllByRecursion (λ e. path_number e < p) front → AllByRecursion (IsQuiet p) es → SettlesFrom manner n (front ++ es)
-settles_from manner n p [] [] le s b h = tt
-settles_from manner n p [] (e ∷ es) le s b h =
-    (may_follow manner n (path_number e) (omega (arith, le, h.0.number)), h.0.mute.settles, settles_from manner (path_number e) p [] es (omega (arith, h.0.number)) tt tt h.1)
-settles_from manner n p (f ∷ front) es le s b h = (s.0, s.1, settles_from manner (path_number f) p front es (omega (arith, b.0)) s.2 b.1 h)
+-- in ascending path, and so in whatever scheduling
+pub settles_from : (scheduling : Scheduling) (n p : ℕ) (front es : List Entry) → n ≤ p → SettlesFrom scheduling n front → AllByRecursion (λ e. path_number e < p) front → AllByRecursion (IsQuiet p) es → SettlesFrom scheduling n (front ++ es)
+settles_from scheduling n p [] [] le s b h = tt
+settles_from scheduling n p [] (e ∷ es) le s b h =
+    (may_follow scheduling n (path_number e) (omega (arith, le, h.0.number)), h.0.mute.settles, settles_from scheduling (path_number e) p [] es (omega (arith, h.0.number)) tt tt h.1)
+settles_from scheduling n p (f ∷ front) es le s b h = (s.0, s.1, settles_from scheduling (path_number f) p front es (omega (arith, b.0)) s.2 b.1 h)
 
 -- in any order of paths
-pub settles_mixed : (n : ℕ) (front es : List Entry) → SettlesFrom at_once n front → AllByRecursion IsMute es → SettlesFrom at_once n (front ++ es)
+pub settles_mixed : (n : ℕ) (front es : List Entry) → SettlesFrom concurrent n front → AllByRecursion IsMute es → SettlesFrom concurrent n (front ++ es)
 settles_mixed n [] [] s h = tt
 settles_mixed n [] (e ∷ es) s h = (tt, h.0.settles, settles_mixed (path_number e) [] es tt h.1)
 settles_mixed n (f ∷ front) es s h = (tt, s.1, settles_mixed (path_number f) front es s.2 h)

@@ -6,40 +6,40 @@ use Rattle.std.proofs.lemmas.Bool.Decides.{nat_tests}
 use Rattle.std.proofs.lemmas.List.{append-nil, append_assoc, length-append}
 use Rattle.std.proofs.lemmas.List.Concat.{flat_map-append}
 use Rattle.std.proofs.lemmas.List.Elements.{filter-append}
-use Rattle.kad_base.specs.declared.plain.Addr.{Addr}
-use Rattle.kad_base.specs.declared.plain.Contact.{Contact}
-use Rattle.kad_base.specs.declared.plain.Event.{Event}
-use Rattle.kad_base.specs.declared.plain.Event.TheVariants.{Got, Quiet}
+use Rattle.kad_base.specs.declared.types.Addr.{Addr}
+use Rattle.kad_base.specs.declared.types.Contact.{Contact}
+use Rattle.kad_base.specs.declared.types.Event.{Event}
+use Rattle.kad_base.specs.declared.types.Event.TheVariants.{Got, Quiet}
 use Rattle.kad_base.specs.Contacts.{same, among}
 use Rattle.kad_base.specs.Limits.{max_strays, max_round_receives}
 use Rattle.kad_base.specs.Outside.{Grows}
 use Rattle.kad_krpc.specs.declared.message.Answer.{Answer}
 use Rattle.id_puzzles.specs.Drawn.{WordsState}
 use Rattle.query_book.specs.declared.Query.{Query}
-use Rattle.claim_book.specs.declared.plain.Entry.{Entry}
-use Rattle.claim_book.specs.declared.plain.Entry.TheVariants.{Heard, Lost}
-use Rattle.claim_book.specs.declared.plain.Cause.TheVariants.{WrongId, Error}
+use Rattle.claim_book.specs.declared.types.Entry.{Entry}
+use Rattle.claim_book.specs.declared.types.Entry.TheVariants.{Heard, Lost}
+use Rattle.claim_book.specs.declared.types.Cause.TheVariants.{WrongId, Error}
 use Rattle.claim_book.specs.Journal.{ask_of, seeds, asked, open_any}
 use Rattle.claim_book.specs.Legal.{Legal}
 use Rattle.claim_book.specs.State.{BookState}
-use Rattle.lookup_run.specs.declared.plain.LookSetting.{LookSetting}
-use Rattle.lookup_run.specs.declared.plain.Gathered.{Gathered}
-use Rattle.lookup_run.specs.declared.plain.Progress.{Progress}
-use Rattle.lookup_run.specs.declared.plain.Work.{Work}
+use Rattle.lookup_run.specs.declared.types.LookSetting.{LookSetting}
+use Rattle.lookup_run.specs.declared.types.Gathered.{Gathered}
+use Rattle.lookup_run.specs.declared.types.Progress.{Progress}
+use Rattle.lookup_run.specs.declared.types.LookupState.{LookupState}
 use Rattle.lookup_core.specs.declared.reply.Reply.{Reply}
 use Rattle.lookup_core.specs.declared.reply.Reply.TheVariants as reply
 use Rattle.lookup_core.specs.Matching.{OpenQuery, Replies, ReplyGives, IsStray}
 use Rattle.lookup_core.specs.Timeouts.{deadline_of, is_overdue, timed_out, closed_at, open_at}
 use Rattle.lookup_run.specs.Tells.{Given, Seen, is_driven, driven, IsEarliest, WaitsUntil, HaveAsked, Receives, Gives, received, receives_seen, after_match}
 use Rattle.lookup_run.specs.Rounds.{WaitsInTurn, InTurn}
-use Rattle.lookup_core.specs.declared.hear.Answered.{Answered}
+use Rattle.lookup_core.specs.declared.on_reply.Answered.{Answered}
 use Rattle.lookup_run.specs.Gathered.{HeardIn, Hears}
 use Rattle.lookup_run.specs.Lookup.{setting_of, given_of, told_of, TableTold, quest_of}
 use Rattle.lookup_core.specs.Says.{IsReply}
-use Rattle.lookup_core.specs.Steps.{as_open}
-use Rattle.lookup_run.specs.Between.{IsBare, Keeps, max_asks, KeepsSeen}
-use Rattle.lookup_core.specs.Steps.{query_to, RepliesToNone, HearsIn}
-use Rattle.lookup_run.specs.Steps.{IsDue, WaitsFor, receives_kept, KeepsFor, Expires, IsStrayFor, IsMatchFor, TakesDatagram, MayReceive, ReceivesOne}
+use Rattle.lookup_core.specs.LookupSteps.{as_open}
+use Rattle.lookup_run.specs.DriverInvariant.{IsBare, Keeps, max_asks, KeepsSeen}
+use Rattle.lookup_core.specs.LookupSteps.{query_to, RepliesToNone, HearsIn}
+use Rattle.lookup_run.specs.RoundSteps.{IsDue, WaitsFor, receives_kept, KeepsFor, Expires, IsStrayFor, IsMatchFor, TakesDatagram, MayReceive, ReceivesOne}
 use Rattle.lookup_run.proofs.Walking.{OneEvent, NextStep, along_next, seeds_append}
 use Rattle.lookup_core.proofs.Opens.{opens_kept, each_asked}
 use Rattle.lookup_core.proofs.Lists.{in_cons, in_map, map_in, in_middle, all_in, none_in}
@@ -83,7 +83,7 @@ some_left : (J : List Entry) (qs : List Query) → qs ≢ [] → map (as_open J)
 some_left J [] some e = some refl
 some_left J (q ∷ qs) some e = absurd cc
 
-receives_of : (look : LookSetting) (start : WordsState) (old : Work) (more : List Entry) (place : ℕ) (s : Seen) (until : ℕ) → MayReceive look old → WaitsFor old.progress.receives old.progress.moment old.lookup.queries until → KeepsSeen (given_of look start) old place s
+receives_of : (look : LookSetting) (start : WordsState) (old : LookupState) (more : List Entry) (place : ℕ) (s : Seen) (until : ℕ) → MayReceive look old → WaitsFor old.progress.receives old.progress.moment old.lookup.queries until → KeepsSeen (given_of look start) old place s
     → Receives (given_of look start) (old.lookup.book.journal ++ more) s until
 receives_of look start old more place s until may waits st = record {
   some_open = λ none. some_left old.lookup.book.journal old.lookup.queries may.some_open (sym st.queries ∙ none);
@@ -91,7 +91,7 @@ receives_of look start old more place s until may waits st = record {
   asked = subst (λ n. HaveAsked n (given_of look start) (old.lookup.book.journal ++ more) s) (sym st.receives) (asked_of old.progress.receives (given_of look start) old.lookup.book.journal more s may.in_turn st.given);
 }
 
-turn_of : (look : LookSetting) (start : WordsState) (old : Work) (place : ℕ) (s : Seen) → MayReceive look old → KeepsSeen (given_of look start) old place s → WaitsInTurn (setting_of look) old.lookup.book.journal s.receives
+turn_of : (look : LookSetting) (start : WordsState) (old : LookupState) (place : ℕ) (s : Seen) → MayReceive look old → KeepsSeen (given_of look start) old place s → WaitsInTurn (setting_of look) old.lookup.book.journal s.receives
 turn_of look start old place s may st = subst (WaitsInTurn (setting_of look) old.lookup.book.journal) (sym st.receives) may.in_turn
 
 -- ---- what is overdue
@@ -232,7 +232,7 @@ among_dropped (x ∷ before) q behind c h = both (same c x.contact) (among (map 
     both false b d h f = f h
 
 -- the entries `first`, and then those of the queries `left` that are overdue
-pub record Left (look : LookSetting) (at : ℕ) (old new : Work) (first : List Entry) (left : List Query) : Type 0 where
+pub record Left (look : LookSetting) (at : ℕ) (old new : LookupState) (first : List Entry) (left : List Query) : Type 0 where
   pub ends : IsEnds first
   pub setting : new.lookup.book.setting ≡ old.lookup.book.setting
   pub journal : new.lookup.book.journal ≡ old.lookup.book.journal ++ (first ++ closed_at at (map (as_open old.lookup.book.journal) left))
@@ -245,7 +245,7 @@ pub record Left (look : LookSetting) (at : ℕ) (old new : Work) (first : List E
   pub moment : new.progress.moment ≡ at
   pub later : old.progress.moment ≤ at
 
-left_of : (look : LookSetting) (at : ℕ) (old mid late : Work) (progress : Progress) (first : List Entry) (left : List Query) → IsEnds first → mid.lookup.book.setting ≡ old.lookup.book.setting → mid.lookup.book.journal ≡ old.lookup.book.journal ++ first → mid.lookup.queries ≡ left → mid.table ≡ old.table
+left_of : (look : LookSetting) (at : ℕ) (old mid late : LookupState) (progress : Progress) (first : List Entry) (left : List Query) → IsEnds first → mid.lookup.book.setting ≡ old.lookup.book.setting → mid.lookup.book.journal ≡ old.lookup.book.journal ++ first → mid.lookup.queries ≡ left → mid.table ≡ old.table
     → ((c : Contact) → among (map (λ (q : Query). q.contact) left) c ≡ true → among (asked old.lookup.book.journal) c ≡ true)
     → AllByRecursion (λ (q : Query). q.tx < 2 ^ 32) left → AllByRecursion (λ (q : Query). q.deadline ≤ deadline_of old.progress.moment look.timeout) left → Expires at mid late → progress.moment ≡ at → old.progress.moment ≤ at
     → Left look at old (record late { progress = progress }) first left
@@ -278,11 +278,11 @@ seeds_left first qs ends = seeds_append first (map timed_out qs) ∙ ap (λ l. l
 asks_left : (J first : List Entry) (qs : List OpenQuery) → IsEnds first → asked (J ++ (first ++ map timed_out qs)) ≡ asked J
 asks_left J first qs ends = asked_append J (first ++ map timed_out qs) ∙ ap (λ l. asked J ++ l) (asked_append first (map timed_out qs) ∙ ap (λ l. l ++ asked (map timed_out qs)) ends.no_asks ∙ asks_closed qs) ∙ append-nil (asked J)
 
-same_asks : (look : LookSetting) (at : ℕ) (old new : Work) (first : List Entry) (left : List Query) → Left look at old new first left → length (asked new.lookup.book.journal) ≡ length (asked old.lookup.book.journal)
+same_asks : (look : LookSetting) (at : ℕ) (old new : LookupState) (first : List Entry) (left : List Query) → Left look at old new first left → length (asked new.lookup.book.journal) ≡ length (asked old.lookup.book.journal)
 same_asks look at old new first left l =
     ap (λ J. length (asked J)) l.journal ∙ ap length (asks_left old.lookup.book.journal first (filter (is_overdue at) (map (as_open old.lookup.book.journal) left)) l.ends)
 
-stands_left : (look : LookSetting) (g : Given) (place at : ℕ) (old new : Work) (first : List Entry) (left : List Query) (strays receives : ℕ) (s : Seen) → Left look at old new first left → KeepsSeen g old place s → strays ≡ new.progress.strays → receives ≡ new.progress.receives
+stands_left : (look : LookSetting) (g : Given) (place at : ℕ) (old new : LookupState) (first : List Entry) (left : List Query) (strays receives : ℕ) (s : Seen) → Left look at old new first left → KeepsSeen g old place s → strays ≡ new.progress.strays → receives ≡ new.progress.receives
     → KeepsSeen g new place (received s at first (map (as_open old.lookup.book.journal) left) strays receives)
 stands_left look g place at old new first left strays receives s l st is_strays is_receives =
     let J = old.lookup.book.journal in
@@ -303,7 +303,7 @@ round_is n J (q ∷ qs) = refl
 round_left : (n m at : ℕ) (J : List Entry) (left new : List Query) → n ≡ m → new ≡ filter (λ (q : Query). nat_lt at q.deadline) left → receives_seen n (open_at at (map (as_open J) left)) ≡ receives_kept m new
 round_left n m at J left new same is = ap (receives_seen n) (open_still at J left ∙ ap (map (as_open J)) (sym is)) ∙ round_is n J new ∙ ap (λ k. receives_kept k new) same
 
-next_of : (look : LookSetting) (words : WordsState) (at : ℕ) (old new : Work) (first : List Entry) (left : List Query) (a : ℕ) (e : Event) → Left look at old new first left
+next_of : (look : LookSetting) (words : WordsState) (at : ℕ) (old new : LookupState) (first : List Entry) (left : List Query) (a : ℕ) (e : Event) → Left look at old new first left
     → ((start : WordsState) (s : Seen) → KeepsSeen (given_of look start) old words.place s → OneEvent (given_of look start) old new (first ++ closed_at at (map (as_open old.lookup.book.journal) left)) words.place 0 s e)
     → NextStep look words words old new a 0 e
 next_of look words at old new first left a e l next =
@@ -337,7 +337,7 @@ later_deadlines : (m at timeout : ℕ) (qs : List Query) → m ≤ at → AllByR
 later_deadlines m at timeout [] le h = tt
 later_deadlines m at timeout (q ∷ qs) le h = ((let a = h.0 in omega (arith, a, le)), later_deadlines m at timeout qs le h.1)
 
-keeps_left : (look : LookSetting) (at : ℕ) (old new : Work) (first : List Entry) (left : List Query) → Left look at old new first left → Keeps look old → new.progress.strays < max_strays → RoundGoes old.progress new.progress new.lookup.queries → (wants_peers look.kind ≡ false → new.gathered ≡ old.gathered) → Keeps look new
+keeps_left : (look : LookSetting) (at : ℕ) (old new : LookupState) (first : List Entry) (left : List Query) → Left look at old new first left → Keeps look old → new.progress.strays < max_strays → RoundGoes old.progress new.progress new.lookup.queries → (wants_peers look.kind ≡ false → new.gathered ≡ old.gathered) → Keeps look new
 keeps_left look at old new first left l keeps strays round bare = record {
   setting = l.setting ∙ keeps.setting;
   is_open = l.is_open;
@@ -361,7 +361,7 @@ goes_count : (from to : Progress) (qs : List Query) → RoundGoes from to qs →
 goes_count from to qs (inl z) = inl z
 goes_count from to qs (inr more) = inr more.0
 
-receives_one : (look : LookSetting) (at : ℕ) (old new : Work) (first : List Entry) (left : List Query) (e : Event) (told told' : Option (List Event)) → Left look at old new first left → Keeps look old → new.progress.strays < max_strays → RoundGoes old.progress new.progress new.lookup.queries → (wants_peers look.kind ≡ false → new.gathered ≡ old.gathered)
+receives_one : (look : LookSetting) (at : ℕ) (old new : LookupState) (first : List Entry) (left : List Query) (e : Event) (told told' : Option (List Event)) → Left look at old new first left → Keeps look old → new.progress.strays < max_strays → RoundGoes old.progress new.progress new.lookup.queries → (wants_peers look.kind ≡ false → new.gathered ≡ old.gathered)
     → length new.lookup.queries + (max_strays - new.progress.strays) ≤ length old.lookup.queries + (max_strays - old.progress.strays)
     → (old.progress.receives ≡ 0 → length new.lookup.queries + (max_strays - new.progress.strays) < length old.lookup.queries + (max_strays - old.progress.strays))
     → ((words : WordsState) (start : WordsState) (s : Seen) → KeepsSeen (given_of look start) old words.place s → OneEvent (given_of look start) old new (first ++ closed_at at (map (as_open old.lookup.book.journal) left)) words.place 0 s e)
@@ -395,7 +395,7 @@ keeps_none true g h is = record { peers = ap (λ (x : Gathered). x.peers) is ∙
 
 -- ---- a datagram that replies to none
 
-pub stray_of : (quest : Quest) (work : Work) (s : Seen) (from : Addr) (bytes : List ℕ) → s.queries ≡ map (as_open work.lookup.book.journal) work.lookup.queries → RepliesToNone quest from bytes work.lookup → IsStray quest s.queries from bytes
+pub stray_of : (quest : Quest) (work : LookupState) (s : Seen) (from : Addr) (bytes : List ℕ) → s.queries ≡ map (as_open work.lookup.book.journal) work.lookup.queries → RepliesToNone quest from bytes work.lookup → IsStray quest s.queries from bytes
 stray_of quest work s from bytes queries none q has r h =
     let found = in_map (as_open work.lookup.book.journal) work.lookup.queries q (subst (λ l. Contains l q) queries has) in
     none found.0 found.1 r (subst (λ y. Replies quest bytes from y r) found.2 h)
@@ -403,11 +403,11 @@ stray_of quest work s from bytes queries none q has r h =
 light_stray : (a b c d most : ℕ) → a ≤ b → d ≡ c + 1 → d < most → a + (most - d) < b + (most - c)
 light_stray a b c d most le is lt = omega (arith, le, is, lt)
 
-fewer_left : (look : LookSetting) (at : ℕ) (old new : Work) (first : List Entry) (left : List Query) → Left look at old new first left → length new.lookup.queries ≤ length left
+fewer_left : (look : LookSetting) (at : ℕ) (old new : LookupState) (first : List Entry) (left : List Query) → Left look at old new first left → length new.lookup.queries ≤ length left
 fewer_left look at old new first left l = subst (λ qs. length qs ≤ length left) (sym l.queries) (fewer_still at left)
 
 -- the events of a receive that gives no entry at first
-one_quiet : (look : LookSetting) (words start : WordsState) (at : ℕ) (old new : Work) (s : Seen) (e : Event) (strays receives : ℕ) → Left look at old new [] old.lookup.queries → KeepsSeen (given_of look start) old words.place s → new.gathered ≡ old.gathered
+one_quiet : (look : LookSetting) (words start : WordsState) (at : ℕ) (old new : LookupState) (s : Seen) (e : Event) (strays receives : ℕ) → Left look at old new [] old.lookup.queries → KeepsSeen (given_of look start) old words.place s → new.gathered ≡ old.gathered
     → strays ≡ new.progress.strays → receives ≡ new.progress.receives → Gives (given_of look start) new.lookup.book.journal s e (received s at [] s.queries strays receives) → InTurn (setting_of look) old.lookup.book.journal s e ([] ++ closed_at at (map (as_open old.lookup.book.journal) old.lookup.queries)) → Hears (quest_of look) s e []
     → OneEvent (given_of look start) old new ([] ++ closed_at at (map (as_open old.lookup.book.journal) old.lookup.queries)) words.place 0 s e
 one_quiet look words start at old new s e strays receives l st gathered is_strays is_receives gives turn hears = record {
@@ -424,21 +424,21 @@ one_quiet look words start at old new s e strays receives l st gathered is_stray
 }
 
 -- what a receive depends on
-pub record Receiving (look : LookSetting) (old : Work) (until at : ℕ) : Type 0 where
+pub record Receiving (look : LookSetting) (old : LookupState) (until at : ℕ) : Type 0 where
   pub may : MayReceive look old
   pub legal : Legal old.lookup.book.setting old.lookup.book.journal
   pub waits : WaitsFor old.progress.receives old.progress.moment old.lookup.queries until
   pub later : old.progress.moment ≤ at
 
-no_heard : (quest : Quest) (work : Work) (s : Seen) (from : Addr) (bytes : List ℕ) → s.queries ≡ map (as_open work.lookup.book.journal) work.lookup.queries → RepliesToNone quest from bytes work.lookup → (a : Answered) → ¬ HeardIn quest s from bytes a
+no_heard : (quest : Quest) (work : LookupState) (s : Seen) (from : Addr) (bytes : List ℕ) → s.queries ≡ map (as_open work.lookup.book.journal) work.lookup.queries → RepliesToNone quest from bytes work.lookup → (a : Answered) → ¬ HeardIn quest s from bytes a
 no_heard quest work s from bytes queries none a h = stray_of quest work s from bytes queries none h.query h.is_open (reply.Answer a.answer) h.replies
 
-stray_receives : (look : LookSetting) (from : Addr) (bytes : List ℕ) (until at n : ℕ) (old mid late : Work) (told told' : Option (List Event)) → Receiving look old until at → IsStrayFor look from bytes old mid → Expires at mid late → n ≡ receives_kept late.progress.receives late.lookup.queries
+stray_receives : (look : LookSetting) (from : Addr) (bytes : List ℕ) (until at n : ℕ) (old mid late : LookupState) (told told' : Option (List Event)) → Receiving look old until at → IsStrayFor look from bytes old mid → Expires at mid late → n ≡ receives_kept late.progress.receives late.lookup.queries
     → Grows told told' (λ es. es ≡ Got from bytes until at ∷ []) → ReceivesOne look old (record late { progress = record { moment = at; receives = n; strays = late.progress.strays } }) told told'
 stray_receives look from bytes until at n old mid late told told' r t e is grows =
     let keeps = r.may.keeps in
     let progress : Progress = record { moment = at; receives = n; strays = late.progress.strays } in
-    let new : Work = record late { progress = progress } in
+    let new : LookupState = record late { progress = progress } in
     let l : Left look at old new [] old.lookup.queries =
     left_of look at old mid late progress [] old.lookup.queries ends_none (ap (λ (k : Lookup). k.book.setting) t.lookup) (ap (λ (k : Lookup). k.book.journal) t.lookup ∙ sym (append-nil old.lookup.book.journal)) (ap (λ (k : Lookup). k.queries) t.lookup) t.table
     (each_asked old.lookup.book.journal old.lookup.queries keeps.is_open) keeps.ids keeps.deadlines e refl r.later in
@@ -464,12 +464,12 @@ quiet_light n at until x y qs qs' moment is strays le begins waits =
     let few : length qs' < length qs = subst (λ l. length l < length qs) (sym is) less in
     omega (arith, few, strays)
 
-pub quiet_receives : (look : LookSetting) (until at : ℕ) (old late : Work) (told told' : Option (List Event)) → Receiving look old until at → until ≤ at → Expires at old late → Grows told told' (λ es. es ≡ Quiet until at ∷ [])
+pub quiet_receives : (look : LookSetting) (until at : ℕ) (old late : LookupState) (told told' : Option (List Event)) → Receiving look old until at → until ≤ at → Expires at old late → Grows told told' (λ es. es ≡ Quiet until at ∷ [])
     → ReceivesOne look old (record late { progress = record { moment = at; receives = 0; strays = late.progress.strays } }) told told'
 quiet_receives look until at old late told told' r le e grows =
     let keeps = r.may.keeps in
     let progress : Progress = record { moment = at; receives = 0; strays = late.progress.strays } in
-    let new : Work = record late { progress = progress } in
+    let new : LookupState = record late { progress = progress } in
     let l : Left look at old new [] old.lookup.queries =
     left_of look at old old late progress [] old.lookup.queries ends_none refl (sym (append-nil old.lookup.book.journal)) refl refl (each_asked old.lookup.book.journal old.lookup.queries keeps.is_open) keeps.ids keeps.deadlines e refl r.later in
     let strays : late.progress.strays ≡ old.progress.strays = ap (λ (x : Progress). x.strays) e.progress in
@@ -516,7 +516,7 @@ hears_one quest J qs q from bytes until at (reply.Error code) heard s queries ha
   none,
 )
 
-match_receives : (look : LookSetting) (from : Addr) (bytes : List ℕ) (until at n : ℕ) (old mid late : Work) (told told' : Option (List Event)) → Receiving look old until at → IsMatchFor look from bytes old mid → Expires at mid late → n ≡ receives_kept late.progress.receives late.lookup.queries
+match_receives : (look : LookSetting) (from : Addr) (bytes : List ℕ) (until at n : ℕ) (old mid late : LookupState) (told told' : Option (List Event)) → Receiving look old until at → IsMatchFor look from bytes old mid → Expires at mid late → n ≡ receives_kept late.progress.receives late.lookup.queries
     → Grows told told' (λ es. es ≡ Got from bytes until at ∷ []) → ReceivesOne look old (record late { progress = record { moment = at; receives = n; strays = late.progress.strays } }) told told'
 match_receives look from bytes until at n old mid late told told' r m e is grows =
     let keeps = r.may.keeps in
@@ -526,7 +526,7 @@ match_receives look from bytes until at n old mid late told told' r m e is grows
     let left = k.before ++ k.behind in
     let more = (entry ∷ []) ++ closed_at at (map (as_open J) left) in
     let progress : Progress = record { moment = at; receives = n; strays = late.progress.strays } in
-    let new : Work = record late { progress = progress } in
+    let new : LookupState = record late { progress = progress } in
     let l : Left look at old new (entry ∷ []) left =
     left_of look at old mid late progress (entry ∷ []) left (reply_ends (quest_of look) (query_to J k.query.contact) k.what entry k.hears.gives) (ap (λ (b : BookState). b.setting) k.hears.after) (ap (λ (b : BookState). b.journal) k.hears.after) k.closes m.table
     (λ c h. each_asked J old.lookup.queries keeps.is_open c (subst (λ qs. among (map (λ (q : Query). q.contact) qs) c ≡ true) (sym k.was_open) (among_dropped k.before k.query k.behind c h)))
@@ -576,7 +576,7 @@ match_receives look from bytes until at n old mid late told told' r m e is grows
 
 -- ---- a datagram
 
-pub datagram_receives : (look : LookSetting) (from : Addr) (bytes : List ℕ) (until at n : ℕ) (old mid late : Work) (told told' : Option (List Event)) → Receiving look old until at → TakesDatagram look from bytes old mid → Expires at mid late → n ≡ receives_kept late.progress.receives late.lookup.queries
+pub datagram_receives : (look : LookSetting) (from : Addr) (bytes : List ℕ) (until at n : ℕ) (old mid late : LookupState) (told told' : Option (List Event)) → Receiving look old until at → TakesDatagram look from bytes old mid → Expires at mid late → n ≡ receives_kept late.progress.receives late.lookup.queries
     → Grows told told' (λ es. es ≡ Got from bytes until at ∷ []) → ReceivesOne look old (record late { progress = record { moment = at; receives = n; strays = late.progress.strays } }) told told'
 datagram_receives look from bytes until at n old mid late told told' r (inl m) e is grows = match_receives look from bytes until at n old mid late told told' r m e is grows
 datagram_receives look from bytes until at n old mid late told told' r (inr t) e is grows = stray_receives look from bytes until at n old mid late told told' r t e is grows

@@ -5,8 +5,8 @@ use Rattle.std.specs.List.{All, AllByRecursion, flat_map}
 use Rattle.std.proofs.lemmas.Bool.{cases_lt, eqb-true, false≢true}
 use Rattle.std.proofs.lemmas.List.{append-nil, append_assoc, map-append}
 use Rattle.std.proofs.lemmas.List.Elements.{All-head, All-tail}
-use Rattle.kad_base.specs.declared.plain.Contact.{Contact}
-use Rattle.kad_base.specs.declared.plain.Event.{Event}
+use Rattle.kad_base.specs.declared.types.Contact.{Contact}
+use Rattle.kad_base.specs.declared.types.Event.{Event}
 use Rattle.kad_base.specs.declared.serial.Made.{Made}
 use Rattle.kad_base.specs.Limits.{max_strays, max_round_receives}
 use Rattle.kad_base.specs.Serial.{left_by, IsRun}
@@ -19,20 +19,20 @@ use Rattle.contact_table.specs.declared.calls.TableCall.TheVariants.{Seen as See
 use Rattle.contact_table.specs.declared.calls.TableReply.{TableReply}
 use Rattle.contact_table.specs.TableState.{TableState}
 use Rattle.contact_table.specs.TableStep.{TableMay, TableStep, table_after}
-use Rattle.claim_book.specs.declared.plain.Entry.{Entry}
-use Rattle.claim_book.specs.declared.plain.Entry.TheVariants.{Seed, Ask, Heard, Lost, Note, Taken, Held, Turned, Rejected, Skipped}
+use Rattle.claim_book.specs.declared.types.Entry.{Entry}
+use Rattle.claim_book.specs.declared.types.Entry.TheVariants.{Seed, Ask, Heard, Lost, Note, Taken, Held, Turned, Rejected, Skipped}
 use Rattle.claim_book.specs.Journal.{seeds, asked, open_any, unsettled, settles_on}
 use Rattle.claim_book.specs.Legal.{Legal, seeded}
 use Rattle.path_worker.specs.Settling.{role_of, seen_with, Settling}
-use Rattle.lookup_run.specs.declared.plain.LookSetting.{LookSetting}
-use Rattle.lookup_run.specs.declared.plain.Work.{Work}
+use Rattle.lookup_run.specs.declared.types.LookSetting.{LookSetting}
+use Rattle.lookup_run.specs.declared.types.LookupState.{LookupState}
 use Rattle.lookup_core.specs.Timeouts.{deadline_of}
 use Rattle.lookup_run.specs.Tells.{Given, driven, begun}
-use Rattle.lookup_run.specs.Rounds.{Manner, path_number, SettlesFrom, SettlesIn, AllSettled}
+use Rattle.lookup_run.specs.Rounds.{Scheduling, path_number, SettlesFrom, SettlesIn, AllSettled}
 use Rattle.lookup_run.specs.Lookup.{setting_of, given_of, drawn_for, Told, told_of, told_in, table_calls, TableTold, TableToldBy, TableRan}
-use Rattle.lookup_core.specs.Steps.{as_open}
-use Rattle.lookup_run.specs.Between.{IsBare, Keeps, Keeping, Walk, Shows}
-use Rattle.lookup_run.specs.Steps.{SettlesPaths, Stops}
+use Rattle.lookup_core.specs.LookupSteps.{as_open}
+use Rattle.lookup_run.specs.DriverInvariant.{IsBare, Keeps, Keeping, Walk, Shows}
+use Rattle.lookup_run.specs.RoundSteps.{SettlesPaths, Stops}
 use Rattle.lookup_run.proofs.Driven.{driven_append}
 use Rattle.lookup_run.proofs.Early.{early_now}
 use Rattle.lookup_core.proofs.Opens.{opens_kept, each_asked}
@@ -70,7 +70,7 @@ told_run p (m ∷ run) h =
     ap (λ n. record { role = n; call = m.call } ∷ map told_in run) (All-head (λ (m : Made TableCall TableReply). m.role ≡ role_of p) m run h)
     ∙ ap (λ l. record { role = p + 1; call = m.call } ∷ l) (told_run p run (All-tail (λ (m : Made TableCall TableReply). m.role ≡ role_of p) m run h))
 
-settling_told : (p : ℕ) (old new : Work) (h : Settling p old.lookup.book new.lookup.book old.table new.table) → TableTold (flat_map told_of h.more) old.table new.table
+settling_told : (p : ℕ) (old new : LookupState) (h : Settling p old.lookup.book new.lookup.book old.table new.table) → TableTold (flat_map told_of h.more) old.table new.table
 settling_told p old new h = record {
   run = h.run;
   is_run = h.is_run;
@@ -91,44 +91,44 @@ ran_then t u v h k = record {
 }
 
 -- a run after calls that were told
-ran_after : (manner : Manner) (calls : List Told) (t u v : TableState) → TableToldBy manner calls t u → TableRan u v → TableRan t v
-ran_after manner calls t u v h k = ran_then t u v (record { run = h.run; is_run = h.is_run; leaves = h.leaves }) k
+ran_after : (scheduling : Scheduling) (calls : List Told) (t u v : TableState) → TableToldBy scheduling calls t u → TableRan u v → TableRan t v
+ran_after scheduling calls t u v h k = ran_then t u v (record { run = h.run; is_run = h.is_run; leaves = h.leaves }) k
 
-pub ran_by : (p : ℕ) (old new : Work) → Settling p old.lookup.book new.lookup.book old.table new.table → TableRan old.table new.table
+pub ran_by : (p : ℕ) (old new : LookupState) → Settling p old.lookup.book new.lookup.book old.table new.table → TableRan old.table new.table
 ran_by p old new h = record { run = h.run; is_run = h.is_run; leaves = h.leaves }
 
 -- ---- what the events show
 
 -- such entries may stand behind what the first b paths settled, and are of the first b' paths
-pub record Continues (manner : Manner) (b b' : ℕ) (more : List Entry) : Type 0 where
+pub record Continues (scheduling : Scheduling) (b b' : ℕ) (more : List Entry) : Type 0 where
   pub mute : AllByRecursion IsMute more
-  pub settles : (front : List Entry) → SettlesFrom manner 0 front → AllByRecursion (λ e. path_number e < b) front → SettlesFrom manner 0 (front ++ more)
+  pub settles : (front : List Entry) → SettlesFrom scheduling 0 front → AllByRecursion (λ e. path_number e < b) front → SettlesFrom scheduling 0 (front ++ more)
   pub below : (front : List Entry) → AllByRecursion (λ e. path_number e < b) front → AllByRecursion (λ e. path_number e < b') (front ++ more)
 
 -- what was settled, and what stayed as it was
-pub record SettlesMore (manner : Manner) (b b' : ℕ) (old new : Work) (more : List Entry) : Type 0 where
+pub record SettlesMore (scheduling : Scheduling) (b b' : ℕ) (old new : LookupState) (more : List Entry) : Type 0 where
   pub setting : new.lookup.book.setting ≡ old.lookup.book.setting
   pub journal : new.lookup.book.journal ≡ old.lookup.book.journal ++ more
-  pub continues : Continues manner b b' more
-  pub tabled : TableToldBy manner (flat_map told_of more) old.table new.table
+  pub continues : Continues scheduling b b' more
+  pub tabled : TableToldBy scheduling (flat_map told_of more) old.table new.table
   pub queries : new.lookup.queries ≡ old.lookup.queries
   pub progress : new.progress ≡ old.progress
   pub gathered : new.gathered ≡ old.gathered
 
 -- the round is over, so what settles may stand here
-settles_in : (manner : Manner) (n b b' : ℕ) (front es : List Entry) → n ≡ 0 → Continues manner b b' es → SettlesIn manner n front → AllByRecursion (λ e. path_number e < b) front → SettlesIn manner n (front ++ es)
-settles_in manner zero b b' front es is c s below = c.settles front s below
-settles_in manner (suc n) b b' front es is c s below = absurd (omega (arith, is))
+settles_in : (scheduling : Scheduling) (n b b' : ℕ) (front es : List Entry) → n ≡ 0 → Continues scheduling b b' es → SettlesIn scheduling n front → AllByRecursion (λ e. path_number e < b) front → SettlesIn scheduling n (front ++ es)
+settles_in scheduling zero b b' front es is c s below = c.settles front s below
+settles_in scheduling (suc n) b b' front es is c s below = absurd (omega (arith, is))
 
-shows_settled : (manner : Manner) (g : Given) (old new : Work) (more : List Entry) (place b b' a : ℕ) (es : List Event) → old.progress.receives ≡ 0 → map (λ q. q.contact) old.lookup.queries ≡ open_any old.lookup.book.journal → SettlesMore manner b b' old new more
-    → Shows manner g old place b a es → Shows manner g new place b' a es
-shows_settled manner g old new more place b b' a es over is_open m h =
+shows_settled : (scheduling : Scheduling) (g : Given) (old new : LookupState) (more : List Entry) (place b b' a : ℕ) (es : List Event) → old.progress.receives ≡ 0 → map (λ q. q.contact) old.lookup.queries ≡ open_any old.lookup.book.journal → SettlesMore scheduling b b' old new more
+    → Shows scheduling g old place b a es → Shows scheduling g new place b' a es
+shows_settled scheduling g old new more place b b' a es over is_open m h =
     let J = old.lookup.book.journal in
     let J' = new.lookup.book.journal in
     let st = h.stands in
     let mute = m.continues.mute in
-    let longer : Walk manner g J' (seeded g.setting.paths (seeds J)) (begun h.at) h.rest h.end h.last h.heard =
-    subst (λ K. Walk manner g K (seeded g.setting.paths (seeds J)) (begun h.at) h.rest h.end h.last h.heard) (sym m.journal) (walk_longer manner g J more (seeded g.setting.paths (seeds J)) (begun h.at) h.rest h.end h.last h.heard h.walk) in
+    let longer : Walk scheduling g J' (seeded g.setting.paths (seeds J)) (begun h.at) h.rest h.end h.last h.heard =
+    subst (λ K. Walk scheduling g K (seeded g.setting.paths (seeds J)) (begun h.at) h.rest h.end h.last h.heard) (sym m.journal) (walk_longer scheduling g J more (seeded g.setting.paths (seeds J)) (begun h.at) h.rest h.end h.last h.heard h.walk) in
     let paths : map (as_open J') new.lookup.queries ≡ map (as_open J) old.lookup.queries =
     ap (map (as_open J')) m.queries ∙ ap (λ K. map (as_open K) old.lookup.queries) m.journal ∙ opens_kept J more old.lookup.queries (each_asked J old.lookup.queries is_open) in
     record {
@@ -138,10 +138,10 @@ shows_settled manner g old new more place b b' a es over is_open m h =
       end = h.end;
       last = h.last;
       heard = h.heard;
-      walk = subst (λ cs. Walk manner g J' (seeded g.setting.paths cs) (begun h.at) h.rest h.end h.last h.heard) (sym (seeds_same J more J' m.journal (no_seeds more mute))) longer;
+      walk = subst (λ cs. Walk scheduling g J' (seeded g.setting.paths cs) (begun h.at) h.rest h.end h.last h.heard) (sym (seeds_same J more J' m.journal (no_seeds more mute))) longer;
       behind = h.behind ++ more;
       journal = m.journal ∙ ap (λ l. l ++ more) h.journal ∙ append_assoc h.last h.behind more;
-      settles = settles_in manner h.end.receives b b' h.behind more (st.receives ∙ over) m.continues h.settles h.below;
+      settles = settles_in scheduling h.end.receives b b' h.behind more (st.receives ∙ over) m.continues h.settles h.below;
       below = m.continues.below h.behind h.below;
       ascends = h.ascends;
       stands = record {
@@ -158,8 +158,8 @@ shows_settled manner g old new more place b b' a es over is_open m h =
 drawn_same : (words start : WordsState) (J J' : List Entry) → asked J' ≡ asked J → words ≡ drawn_for start J → words ≡ drawn_for start J'
 drawn_same words start J J' same is = is ∙ ap (λ (cs : List Contact). record { seed = start.seed; place = start.place + length cs }) (sym same)
 
-pub settles_more : (manner : Manner) (look : LookSetting) (b b' : ℕ) (old new : Work) (more : List Entry) (told : Option (List Event)) → Keeps look old → old.progress.receives ≡ 0 → SettlesMore manner b b' old new more → AllSettled b' new.lookup.book.journal → SettlesPaths manner look b b' old new told
-settles_more manner look b b' old new more told k over m settled =
+pub settles_more : (scheduling : Scheduling) (look : LookSetting) (b b' : ℕ) (old new : LookupState) (more : List Entry) (told : Option (List Event)) → Keeps look old → old.progress.receives ≡ 0 → SettlesMore scheduling b b' old new more → AllSettled b' new.lookup.book.journal → SettlesPaths scheduling look b b' old new told
+settles_more scheduling look b b' old new more told k over m settled =
     let J = old.lookup.book.journal in
     let J' = new.lookup.book.journal in
     let mute = m.continues.mute in
@@ -183,8 +183,8 @@ settles_more manner look b b' old new more told k over m settled =
       goes = λ words a start table began al. record {
         drawn = drawn_same words start J J' same_asked al.drawn;
         seeds_are = seeds_same J more J' m.journal (no_seeds more mute) ∙ al.seeds_are;
-        tabled = subst (λ calls. TableToldBy manner calls table new.table) (calls_more look J more J' m.journal) (table_then manner (table_calls look J) (flat_map told_of more) table old.table new.table al.tabled m.tabled);
-        shows = grows_weaker began told _ _ al.shows (λ es s. shows_settled manner (given_of look start) old new more words.place b b' a es over k.is_open m s);
+        tabled = subst (λ calls. TableToldBy scheduling calls table new.table) (calls_more look J more J' m.journal) (table_then scheduling (table_calls look J) (flat_map told_of more) table old.table new.table al.tabled m.tabled);
+        shows = grows_weaker began told _ _ al.shows (λ es s. shows_settled scheduling (given_of look start) old new more words.place b b' a es over k.is_open m s);
       };
     }
 
@@ -196,44 +196,44 @@ settled_more p J more J' journal quiet below here q lt = elim (cases_lt q p) [
   | inr more_than ↦ (let is : q ≡ p = omega (arith, lt, more_than) in ap (λ n. unsettled n J') is ∙ here)
 ]
 
-path_continues : (manner : Manner) (p : ℕ) (more : List Entry) → AllByRecursion (IsQuiet p) more → Continues manner p (p + 1) more
-path_continues manner p more quiet = record {
+path_continues : (scheduling : Scheduling) (p : ℕ) (more : List Entry) → AllByRecursion (IsQuiet p) more → Continues scheduling p (p + 1) more
+path_continues scheduling p more quiet = record {
   mute = each_mute p more quiet;
-  settles = λ front s below. settles_from manner 0 p front more (omega arith) s below quiet;
+  settles = λ front s below. settles_from scheduling 0 p front more (omega arith) s below quiet;
   below = λ front below. below_more p front more below quiet;
 }
 
-pub settles_path : (manner : Manner) (look : LookSetting) (p : ℕ) (old new : Work) (told : Option (List Event)) → Keeps look old → old.progress.receives ≡ 0 → AllSettled p old.lookup.book.journal → (h : Settling p old.lookup.book new.lookup.book old.table new.table) → unsettled p new.lookup.book.journal ≡ []
-    → new.lookup.queries ≡ old.lookup.queries → new.progress ≡ old.progress → new.gathered ≡ old.gathered → SettlesPaths manner look p (p + 1) old new told
-settles_path manner look p old new told k over below h here queries progress gathered =
+pub settles_path : (scheduling : Scheduling) (look : LookSetting) (p : ℕ) (old new : LookupState) (told : Option (List Event)) → Keeps look old → old.progress.receives ≡ 0 → AllSettled p old.lookup.book.journal → (h : Settling p old.lookup.book new.lookup.book old.table new.table) → unsettled p new.lookup.book.journal ≡ []
+    → new.lookup.queries ≡ old.lookup.queries → new.progress ≡ old.progress → new.gathered ≡ old.gathered → SettlesPaths scheduling look p (p + 1) old new told
+settles_path scheduling look p old new told k over below h here queries progress gathered =
     let quiet = each_quiet p h.more h.settles in
-    settles_more manner look p (p + 1) old new h.more told k over (record {
+    settles_more scheduling look p (p + 1) old new h.more told k over (record {
       setting = h.setting;
       journal = h.journal;
-      continues = path_continues manner p h.more quiet;
-      tabled = told_in_any manner (flat_map told_of h.more) old.table new.table (settling_told p old new h);
+      continues = path_continues scheduling p h.more quiet;
+      tabled = told_in_any scheduling (flat_map told_of h.more) old.table new.table (settling_told p old new h);
       queries = queries;
       progress = progress;
       gathered = gathered;
     }) (settled_more p old.lookup.book.journal h.more new.lookup.book.journal h.journal quiet below here)
 
 -- where it ends early, the journal is that from before, and the table is what some run leaves
-pub stops_settling : (look : LookSetting) (old new : Work) (told : Option (List Event)) → Legal (setting_of look) old.lookup.book.journal → TableRan old.table new.table → (words : WordsState) → Stops look words words old new told told
-stops_settling look old new told legal ran words manner start table began b a al = record {
+pub stops_settling : (look : LookSetting) (old new : LookupState) (told : Option (List Event)) → Legal (setting_of look) old.lookup.book.journal → TableRan old.table new.table → (words : WordsState) → Stops look words words old new told told
+stops_settling look old new told legal ran words scheduling start table began b a al = record {
   unfinished = record {
     journal = old.lookup.book.journal;
     legal = legal;
     seeds_are = al.seeds_are;
-    tells = grows_weaker began told _ _ al.shows (λ es s. early_now manner (given_of look start) old words.place b a es s);
+    tells = grows_weaker began told _ _ al.shows (λ es s. early_now scheduling (given_of look start) old words.place b a es s);
     drawn = al.drawn;
   };
-  ran = ran_after manner (table_calls look old.lookup.book.journal) table old.table new.table al.tabled ran;
+  ran = ran_after scheduling (table_calls look old.lookup.book.journal) table old.table new.table al.tabled ran;
 }
 
 -- ---- path by path
 
-pub settles_nothing : (manner : Manner) (look : LookSetting) (work : Work) (told : Option (List Event)) → Keeps look work → SettlesPaths manner look 0 0 work work told
-settles_nothing manner look work told k = record {
+pub settles_nothing : (scheduling : Scheduling) (look : LookSetting) (work : LookupState) (told : Option (List Event)) → Keeps look work → SettlesPaths scheduling look 0 0 work work told
+settles_nothing scheduling look work told k = record {
   keeps = k;
   settled = λ p lt. absurd (omega arith);
   progress = refl;
@@ -243,8 +243,8 @@ settles_nothing manner look work told k = record {
   goes = λ words a start table began al. al;
 }
 
-pub settles_then : (manner : Manner) (look : LookSetting) (from mid to : ℕ) (a b c : Work) (told : Option (List Event)) → SettlesPaths manner look from mid a b told → SettlesPaths manner look mid to b c told → SettlesPaths manner look from to a c told
-settles_then manner look from mid to a b c told h k = record {
+pub settles_then : (scheduling : Scheduling) (look : LookSetting) (from mid to : ℕ) (a b c : LookupState) (told : Option (List Event)) → SettlesPaths scheduling look from mid a b told → SettlesPaths scheduling look mid to b c told → SettlesPaths scheduling look from to a c told
+settles_then scheduling look from mid to a b c told h k = record {
   keeps = k.keeps;
   settled = k.settled;
   progress = k.progress ∙ h.progress;

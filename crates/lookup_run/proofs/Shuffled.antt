@@ -8,24 +8,24 @@ use Rattle.std.proofs.lemmas.Bool.Decides.{eqb_tells}
 use Rattle.std.proofs.lemmas.List.{map-append}
 use Rattle.std.proofs.lemmas.List.Concat.{flat_map-append}
 use Rattle.std.proofs.lemmas.List.Elements.{All-head, All-tail, filter-append}
-use Rattle.kad_base.specs.declared.plain.Event.{Event}
+use Rattle.kad_base.specs.declared.types.Event.{Event}
 use Rattle.kad_base.specs.declared.serial.Made.{Made}
 use Rattle.kad_base.specs.Serial.{calls_of}
 use Rattle.contact_table.specs.declared.calls.TableCall.{TableCall}
 use Rattle.contact_table.specs.declared.calls.TableCall.TheVariants.{Seen as Seen_call}
 use Rattle.contact_table.specs.declared.calls.TableReply.{TableReply}
-use Rattle.claim_book.specs.declared.plain.Setting.{Setting}
-use Rattle.claim_book.specs.declared.plain.Entry.{Entry}
-use Rattle.claim_book.specs.declared.plain.Entry.TheVariants.{Seed, Ask, Heard, Lost, Note, Taken, Held, Turned, Rejected, Skipped}
+use Rattle.claim_book.specs.declared.types.Setting.{Setting}
+use Rattle.claim_book.specs.declared.types.Entry.{Entry}
+use Rattle.claim_book.specs.declared.types.Entry.TheVariants.{Seed, Ask, Heard, Lost, Note, Taken, Held, Turned, Rejected, Skipped}
 use Rattle.claim_book.specs.Journal.{settles_on, settled}
 use Rattle.path_worker.specs.Settling.{role_of, seen_with}
 use Rattle.path_worker.specs.Together.{IsSettling, IsWorkers, StopsTogether, SettlesTogether}
-use Rattle.lookup_run.specs.declared.plain.LookSetting.{LookSetting}
-use Rattle.lookup_run.specs.declared.plain.Work.{Work}
-use Rattle.lookup_run.specs.Rounds.{at_once, path_number}
+use Rattle.lookup_run.specs.declared.types.LookSetting.{LookSetting}
+use Rattle.lookup_run.specs.declared.types.LookupState.{LookupState}
+use Rattle.lookup_run.specs.Rounds.{concurrent, path_number}
 use Rattle.lookup_run.specs.Lookup.{Told, told_in, told_of, told_by, TableRan}
-use Rattle.lookup_run.specs.Between.{Keeps}
-use Rattle.lookup_run.specs.Steps.{SettlesPaths}
+use Rattle.lookup_run.specs.DriverInvariant.{Keeps}
+use Rattle.lookup_run.specs.RoundSteps.{SettlesPaths}
 use Rattle.lookup_run.proofs.Quiet.{IsMute, quiet_entry, settles_mixed}
 use Rattle.lookup_run.proofs.Settled.{settles_more}
 
@@ -177,18 +177,18 @@ below_zero : (n : ℕ) (front es : List Entry) → AllByRecursion (λ e. path_nu
 below_zero n [] es h b = h
 below_zero n (f ∷ front) es h b = (let lt = b.0 in absurd (omega (arith, lt)))
 
-pub ran_together : (old new : Work) → StopsTogether old.lookup.book new.lookup.book old.table new.table → TableRan old.table new.table
+pub ran_together : (old new : LookupState) → StopsTogether old.lookup.book new.lookup.book old.table new.table → TableRan old.table new.table
 ran_together old new h = record { run = h.run; is_run = h.is_run; leaves = h.leaves }
 
-pub settles_together : (look : LookSetting) (old new : Work) (told : Option (List Event)) → Keeps look old → old.progress.receives ≡ 0 → SettlesTogether old.lookup.book new.lookup.book old.table new.table → new.lookup.queries ≡ old.lookup.queries → new.progress ≡ old.progress → new.gathered ≡ old.gathered
-    → SettlesPaths at_once look 0 look.paths old new told
+pub settles_together : (look : LookSetting) (old new : LookupState) (told : Option (List Event)) → Keeps look old → old.progress.receives ≡ 0 → SettlesTogether old.lookup.book new.lookup.book old.table new.table → new.lookup.queries ≡ old.lookup.queries → new.progress ≡ old.progress → new.gathered ≡ old.gathered
+    → SettlesPaths concurrent look 0 look.paths old new told
 settles_together look old new told k over h queries progress gathered =
     let s = h.settling in
     let paths : old.lookup.book.setting.paths ≡ look.paths = ap (λ (x : Setting). x.paths) k.setting in
     let settles : All (IsSettling look.paths) s.more = subst (λ n. All (IsSettling n) s.more) paths s.settles in
     let roles : All (IsWorkers look.paths) s.run = subst (λ n. All (IsWorkers n) s.run) paths s.roles in
     let mute = each_mute look.paths s.more settles in
-    settles_more at_once look 0 look.paths old new s.more told k over (record {
+    settles_more concurrent look 0 look.paths old new s.more told k over (record {
       setting = s.setting;
       journal = s.journal;
       continues = record {

@@ -5,8 +5,8 @@ use Rattle.std.specs.List.{AllByRecursion, flat_map}
 use Rattle.std.proofs.lemmas.List.{append-nil, append_assoc}
 use Rattle.std.proofs.lemmas.List.Concat.{flat_map-append}
 use Rattle.std.proofs.lemmas.List.Elements.{All-append, filter-append}
-use Rattle.kad_base.specs.declared.plain.Event.{Event}
-use Rattle.kad_base.specs.declared.plain.Event.TheVariants.{Now, Sent, Unsent, Got, Quiet}
+use Rattle.kad_base.specs.declared.types.Event.{Event}
+use Rattle.kad_base.specs.declared.types.Event.TheVariants.{Now, Sent, Unsent, Got, Quiet}
 use Rattle.kad_base.specs.declared.serial.Made.{Made}
 use Rattle.kad_base.specs.Outside.{Grows}
 use Rattle.kad_base.specs.Serial.{left_by, IsRun}
@@ -18,19 +18,19 @@ use Rattle.contact_table.specs.declared.calls.TableReply.{TableReply}
 use Rattle.contact_table.specs.declared.calls.TableReply.TheVariants.{NoMemory}
 use Rattle.contact_table.specs.TableState.{TableState}
 use Rattle.contact_table.specs.TableStep.{TableMay, TableStep, table_after}
-use Rattle.claim_book.specs.declared.plain.Entry.{Entry}
+use Rattle.claim_book.specs.declared.types.Entry.{Entry}
 use Rattle.claim_book.specs.Journal.{seed_of, seeds}
 use Rattle.claim_book.specs.Legal.{seeded}
-use Rattle.lookup_run.specs.declared.plain.LookSetting.{LookSetting}
-use Rattle.lookup_run.specs.declared.plain.Gathered.{Gathered}
-use Rattle.lookup_run.specs.declared.plain.Work.{Work}
+use Rattle.lookup_run.specs.declared.types.LookSetting.{LookSetting}
+use Rattle.lookup_run.specs.declared.types.Gathered.{Gathered}
+use Rattle.lookup_run.specs.declared.types.LookupState.{LookupState}
 use Rattle.lookup_run.specs.Tells.{Given, Seen, HasAsked, HaveAsked, Receives, Gives, begun}
-use Rattle.lookup_run.specs.Rounds.{Manner, path_by_path, at_once, path_number, SettlesIn, InTurn}
-use Rattle.lookup_core.specs.declared.hear.Answered.{Answered}
+use Rattle.lookup_run.specs.Rounds.{Scheduling, sequential, concurrent, path_number, SettlesIn, InTurn}
+use Rattle.lookup_core.specs.declared.on_reply.Answered.{Answered}
 use Rattle.lookup_run.specs.Gathered.{Hears, values_of, token_of}
 use Rattle.lookup_run.specs.Lookup.{given_of, drawn_for, told_of, table_calls, told_in, told_by, Told, AreCalls, TableTold, TableToldBy}
-use Rattle.lookup_run.specs.Between.{Step, Walk, KeepsSeen, Keeping, Shows, Along, StepsAlong}
-use Rattle.lookup_run.specs.Steps.{KeepsFor}
+use Rattle.lookup_run.specs.DriverInvariant.{Step, Walk, KeepsSeen, Keeping, Shows, TraceInvariant, Preserves}
+use Rattle.lookup_run.specs.RoundSteps.{KeepsFor}
 use Rattle.lookup_core.specs.Quest.{wants_peers}
 
 -- ---- a longer journal
@@ -62,8 +62,8 @@ gives_longer g J more s t (Unsent to bytes) h = h
 gives_longer g J more s t (Got from bytes until at) h = (receives_longer g J more s until h.0, h.1)
 gives_longer g J more s t (Quiet until at) h = (receives_longer g J more s until h.0, h.1)
 
-step_longer : (manner : Manner) (g : Given) (J more P : List Entry) (s : Seen) (e : Event) → Step manner g J P s e → Step manner g (J ++ more) P s e
-step_longer manner g J more P s e h = record {
+step_longer : (scheduling : Scheduling) (g : Given) (J more P : List Entry) (s : Seen) (e : Event) → Step scheduling g J P s e → Step scheduling g (J ++ more) P s e
+step_longer scheduling g J more P s e h = record {
   mid = h.mid;
   between = h.between;
   gave = h.gave;
@@ -75,30 +75,30 @@ step_longer manner g J more P s e h = record {
   hears = h.hears;
 }
 
-pub walk_longer : (manner : Manner) (g : Given) (J more P : List Entry) (s : Seen) (es : List Event) (t : Seen) (Q : List Entry) (heard : List Answered) → Walk manner g J P s es t Q heard → Walk manner g (J ++ more) P s es t Q heard
+pub walk_longer : (scheduling : Scheduling) (g : Given) (J more P : List Entry) (s : Seen) (es : List Event) (t : Seen) (Q : List Entry) (heard : List Answered) → Walk scheduling g J P s es t Q heard → Walk scheduling g (J ++ more) P s es t Q heard
 unfolding step_longer
-walk_longer manner g J more P s [] t Q heard h = h
-walk_longer manner g J more P s (e ∷ es) t Q heard h = (step_longer manner g J more P s e h.0, h.1, walk_longer manner g J more ((P ++ h.0.between) ++ h.0.gave) h.0.mid es t Q h.1 h.2, h.3)
+walk_longer scheduling g J more P s [] t Q heard h = h
+walk_longer scheduling g J more P s (e ∷ es) t Q heard h = (step_longer scheduling g J more P s e h.0, h.1, walk_longer scheduling g J more ((P ++ h.0.between) ++ h.0.gave) h.0.mid es t Q h.1 h.2, h.3)
 
 -- ---- one event more
 
-pub walk_on : (manner : Manner) (g : Given) (J P : List Entry) (s : Seen) (es : List Event) (m : Seen) (Q : List Entry) (heard : List Answered) (e : Event) → Walk manner g J P s es m Q heard → (step : Step manner g J Q m e)
-    → Walk manner g J P s (es ++ e ∷ []) step.mid ((Q ++ step.between) ++ step.gave) (heard ++ step.found)
-walk_on manner g J P s [] m Q heard e h =
-    let here : (step : Step manner g J P s e) → Walk manner g J P s (e ∷ []) step.mid ((P ++ step.between) ++ step.gave) ([] ++ step.found) =
+pub walk_on : (scheduling : Scheduling) (g : Given) (J P : List Entry) (s : Seen) (es : List Event) (m : Seen) (Q : List Entry) (heard : List Answered) (e : Event) → Walk scheduling g J P s es m Q heard → (step : Step scheduling g J Q m e)
+    → Walk scheduling g J P s (es ++ e ∷ []) step.mid ((Q ++ step.between) ++ step.gave) (heard ++ step.found)
+walk_on scheduling g J P s [] m Q heard e h =
+    let here : (step : Step scheduling g J P s e) → Walk scheduling g J P s (e ∷ []) step.mid ((P ++ step.between) ++ step.gave) ([] ++ step.found) =
     (λ step. (step, [], (refl, refl, refl), sym (append-nil step.found))) in
-    let there = subst (λ (l : List Answered). (step : Step manner g J P s e) → Walk manner g J P s (e ∷ []) step.mid ((P ++ step.between) ++ step.gave) (l ++ step.found)) (sym h.2) here in
-    let these = subst (λ (R : List Entry). (step : Step manner g J R s e) → Walk manner g J P s (e ∷ []) step.mid ((R ++ step.between) ++ step.gave) (heard ++ step.found)) (sym h.1) there in
-    subst (λ (x : Seen). (step : Step manner g J Q x e) → Walk manner g J P s (e ∷ []) step.mid ((Q ++ step.between) ++ step.gave) (heard ++ step.found)) (sym h.0) these
-walk_on manner g J P s (x ∷ es) m Q heard e h = λ step. (
+    let there = subst (λ (l : List Answered). (step : Step scheduling g J P s e) → Walk scheduling g J P s (e ∷ []) step.mid ((P ++ step.between) ++ step.gave) (l ++ step.found)) (sym h.2) here in
+    let these = subst (λ (R : List Entry). (step : Step scheduling g J R s e) → Walk scheduling g J P s (e ∷ []) step.mid ((R ++ step.between) ++ step.gave) (heard ++ step.found)) (sym h.1) there in
+    subst (λ (x : Seen). (step : Step scheduling g J Q x e) → Walk scheduling g J P s (e ∷ []) step.mid ((Q ++ step.between) ++ step.gave) (heard ++ step.found)) (sym h.0) these
+walk_on scheduling g J P s (x ∷ es) m Q heard e h = λ step. (
   h.0,
   h.1 ++ step.found,
-  walk_on manner g J ((P ++ h.0.between) ++ h.0.gave) h.0.mid es m Q h.1 e h.2 step,
+  walk_on scheduling g J ((P ++ h.0.between) ++ h.0.gave) h.0.mid es m Q h.1 e h.2 step,
   ap (λ l. l ++ step.found) h.3 ∙ append_assoc h.0.found h.1 step.found,
 )
 
 -- what one event owes, where it gives these entries
-pub record OneEvent (g : Given) (old new : Work) (more : List Entry) (place' a' : ℕ) (s : Seen) (e : Event) : Type 0 where
+pub record OneEvent (g : Given) (old new : LookupState) (more : List Entry) (place' a' : ℕ) (s : Seen) (e : Event) : Type 0 where
   pub after : Seen
   pub gives : Gives g new.lookup.book.journal s e after
   pub given : after.given ≡ s.given ++ more
@@ -116,9 +116,9 @@ seeds_append J K = flat_map-append seed_of J K
 pub seeds_same : (J more J' : List Entry) → J' ≡ J ++ more → seeds more ≡ [] → seeds J' ≡ seeds J
 seeds_same J more J' is none = ap seeds is ∙ seeds_append J more ∙ ap (λ l. seeds J ++ l) none ∙ append-nil (seeds J)
 
-settles_none : (manner : Manner) (n : ℕ) → SettlesIn manner n []
-settles_none manner zero = tt
-settles_none manner (suc n) = refl
+settles_none : (scheduling : Scheduling) (n : ℕ) → SettlesIn scheduling n []
+settles_none scheduling zero = tt
+settles_none scheduling (suc n) = refl
 
 keeping_more : (wants : Bool) (heard found : List Answered) (old new : Gathered) → Keeping wants heard old → KeepsFor wants found old new → Keeping wants (heard ++ found) new
 keeping_more false heard found old new h k = (ap (λ (x : Gathered). x.peers) k ∙ h.0, ap (λ (x : Gathered). x.tokens) k ∙ h.1)
@@ -127,18 +127,18 @@ keeping_more true heard found old new h k = (
   k.tokens ∙ ap (λ l. l ++ flat_map token_of found) h.1 ∙ sym (flat_map-append token_of heard found),
 )
 
-pub shows_next : (manner : Manner) (g : Given) (old new : Work) (more : List Entry) (place place' b b' a a' : ℕ) (e : Event) (es fs : List Event) → new.lookup.book.journal ≡ old.lookup.book.journal ++ more → seeds more ≡ []
+pub shows_next : (scheduling : Scheduling) (g : Given) (old new : LookupState) (more : List Entry) (place place' b b' a a' : ℕ) (e : Event) (es fs : List Event) → new.lookup.book.journal ≡ old.lookup.book.journal ++ more → seeds more ≡ []
     → ((s : Seen) → KeepsSeen g old place s → AllByRecursion (λ (x : Entry). path_number x ≤ a) s.since → OneEvent g old new more place' a' s e)
-    → Shows manner g old place b a es → fs ≡ e ∷ [] → Shows manner g new place' b' a' (es ++ fs)
-shows_next manner g old new more place place' b b' a a' e es fs journal no_seeds next h is =
+    → Shows scheduling g old place b a es → fs ≡ e ∷ [] → Shows scheduling g new place' b' a' (es ++ fs)
+shows_next scheduling g old new more place place' b b' a a' e es fs journal no_seeds next h is =
     let J = old.lookup.book.journal in
     let J' = new.lookup.book.journal in
     let on = next h.end h.stands h.ascends in
-    let longer : Walk manner g J' (seeded g.setting.paths (seeds J)) (begun h.at) h.rest h.end h.last h.heard =
-    subst (λ K. Walk manner g K (seeded g.setting.paths (seeds J)) (begun h.at) h.rest h.end h.last h.heard) (sym journal) (walk_longer manner g J more (seeded g.setting.paths (seeds J)) (begun h.at) h.rest h.end h.last h.heard h.walk) in
-    let begins : Walk manner g J' (seeded g.setting.paths (seeds J')) (begun h.at) h.rest h.end h.last h.heard =
-    subst (λ cs. Walk manner g J' (seeded g.setting.paths cs) (begun h.at) h.rest h.end h.last h.heard) (sym (seeds_same J more J' journal no_seeds)) longer in
-    let step : Step manner g J' h.last h.end e = record {
+    let longer : Walk scheduling g J' (seeded g.setting.paths (seeds J)) (begun h.at) h.rest h.end h.last h.heard =
+    subst (λ K. Walk scheduling g K (seeded g.setting.paths (seeds J)) (begun h.at) h.rest h.end h.last h.heard) (sym journal) (walk_longer scheduling g J more (seeded g.setting.paths (seeds J)) (begun h.at) h.rest h.end h.last h.heard h.walk) in
+    let begins : Walk scheduling g J' (seeded g.setting.paths (seeds J')) (begun h.at) h.rest h.end h.last h.heard =
+    subst (λ cs. Walk scheduling g J' (seeded g.setting.paths cs) (begun h.at) h.rest h.end h.last h.heard) (sym (seeds_same J more J' journal no_seeds)) longer in
+    let step : Step scheduling g J' h.last h.end e = record {
       mid = on.after;
       between = h.behind;
       gave = more;
@@ -156,10 +156,10 @@ shows_next manner g old new more place place' b b' a a' e es fs journal no_seeds
       end = on.after;
       last = (h.last ++ h.behind) ++ more;
       heard = h.heard ++ on.found;
-      walk = walk_on manner g J' (seeded g.setting.paths (seeds J')) (begun h.at) h.rest h.end h.last h.heard e begins step;
+      walk = walk_on scheduling g J' (seeded g.setting.paths (seeds J')) (begun h.at) h.rest h.end h.last h.heard e begins step;
       behind = [];
       journal = journal ∙ ap (λ l. l ++ more) h.journal ∙ sym (append-nil ((h.last ++ h.behind) ++ more));
-      settles = settles_none manner on.after.receives;
+      settles = settles_none scheduling on.after.receives;
       below = tt;
       ascends = on.ascends;
       stands = on.stands;
@@ -180,24 +180,24 @@ map-append f (x ∷ xs) ys = ap (λ l. f x ∷ l) (map-append f xs ys)
 told_append : (role : ℕ) (xs ys : List Told) → told_by role (xs ++ ys) ≡ told_by role xs ++ told_by role ys
 told_append role xs ys = filter-append (λ t. t.role == role) xs ys
 
-are_both : (manner : Manner) (xs ys made made' : List Told) → AreCalls manner made xs → AreCalls manner made' ys → AreCalls manner (made ++ made') (xs ++ ys)
-are_both path_by_path xs ys made made' h k = ap (λ l. l ++ made') h ∙ ap (λ l. xs ++ l) k
-are_both at_once xs ys made made' h k = λ role. told_append role made made' ∙ ap (λ l. l ++ told_by role made') (h role) ∙ ap (λ l. told_by role xs ++ l) (k role) ∙ sym (told_append role xs ys)
+are_both : (scheduling : Scheduling) (xs ys made made' : List Told) → AreCalls scheduling made xs → AreCalls scheduling made' ys → AreCalls scheduling (made ++ made') (xs ++ ys)
+are_both sequential xs ys made made' h k = ap (λ l. l ++ made') h ∙ ap (λ l. xs ++ l) k
+are_both concurrent xs ys made made' h k = λ role. told_append role made made' ∙ ap (λ l. l ++ told_by role made') (h role) ∙ ap (λ l. told_by role xs ++ l) (k role) ∙ sym (told_append role xs ys)
 
-are_exactly : (manner : Manner) (calls made : List Told) → made ≡ calls → AreCalls manner made calls
-are_exactly path_by_path calls made is = is
-are_exactly at_once calls made is = λ role. ap (told_by role) is
+are_exactly : (scheduling : Scheduling) (calls made : List Told) → made ≡ calls → AreCalls scheduling made calls
+are_exactly sequential calls made is = is
+are_exactly concurrent calls made is = λ role. ap (told_by role) is
 
--- what was told in an order was told in whatever manner
-pub told_in_any : (manner : Manner) (calls : List Told) (t u : TableState) → TableTold calls t u → TableToldBy manner calls t u
-told_in_any manner calls t u h = record { run = h.run; is_run = h.is_run; leaves = h.leaves; calls_are = are_exactly manner calls (map told_in h.run) h.calls_are; kept = h.kept }
+-- what was told in an order was told in whatever scheduling
+pub told_in_any : (scheduling : Scheduling) (calls : List Told) (t u : TableState) → TableTold calls t u → TableToldBy scheduling calls t u
+told_in_any scheduling calls t u h = record { run = h.run; is_run = h.is_run; leaves = h.leaves; calls_are = are_exactly scheduling calls (map told_in h.run) h.calls_are; kept = h.kept }
 
-pub table_then : (manner : Manner) (xs ys : List Told) (t u v : TableState) → TableToldBy manner xs t u → TableToldBy manner ys u v → TableToldBy manner (xs ++ ys) t v
-table_then manner xs ys t u v h k = record {
+pub table_then : (scheduling : Scheduling) (xs ys : List Told) (t u v : TableState) → TableToldBy scheduling xs t u → TableToldBy scheduling ys u v → TableToldBy scheduling (xs ++ ys) t v
+table_then scheduling xs ys t u v h k = record {
   run = h.run ++ k.run;
   is_run = IsRun-append t h.run k.run h.is_run (subst (λ (s : TableState). IsRun TableMay TableStep table_after s k.run) h.leaves k.is_run);
   leaves = k.leaves ∙ ap (λ (s : TableState). left_by table_after s k.run) h.leaves ∙ sym (left_by-append table_after t h.run k.run);
-  calls_are = subst (λ made. AreCalls manner made (xs ++ ys)) (sym (map-append told_in h.run k.run)) (are_both manner xs ys (map told_in h.run) (map told_in k.run) h.calls_are k.calls_are);
+  calls_are = subst (λ made. AreCalls scheduling made (xs ++ ys)) (sym (map-append told_in h.run k.run)) (are_both scheduling xs ys (map told_in h.run) (map told_in k.run) h.calls_are k.calls_are);
   kept = All-append (λ (m : Made TableCall TableReply). m.reply ≢ NoMemory) h.run k.run h.kept k.kept;
 }
 
@@ -211,7 +211,7 @@ calls_more look J more J' is = sym (ap (table_calls look) is ∙ ap (λ l. table
 -- ---- the whole of what is known
 
 -- what a step with one event owes
-pub record NextStep (look : LookSetting) (words words' : WordsState) (old new : Work) (a a' : ℕ) (e : Event) : Type 0 where
+pub record NextStep (look : LookSetting) (words words' : WordsState) (old new : LookupState) (a a' : ℕ) (e : Event) : Type 0 where
   pub more : List Entry
   pub journal : new.lookup.book.journal ≡ old.lookup.book.journal ++ more
   pub no_seeds : seeds more ≡ []
@@ -220,13 +220,13 @@ pub record NextStep (look : LookSetting) (words words' : WordsState) (old new : 
   pub next : (start : WordsState) → words ≡ drawn_for start old.lookup.book.journal → (s : Seen) → KeepsSeen (given_of look start) old words.place s
       → AllByRecursion (λ (x : Entry). path_number x ≤ a) s.since → OneEvent (given_of look start) old new more words'.place a' s e
 
-pub along_next : (look : LookSetting) (words words' : WordsState) (old new : Work) (b b' a a' : ℕ) (e : Event) (told told' : Option (List Event)) → NextStep look words words' old new a a' e → Grows told told' (λ es. es ≡ e ∷ []) → StepsAlong look words words' old new b a b' a' told told'
-along_next look words words' old new b b' a a' e told told' n grows manner start table began h = record {
+pub along_next : (look : LookSetting) (words words' : WordsState) (old new : LookupState) (b b' a a' : ℕ) (e : Event) (told told' : Option (List Event)) → NextStep look words words' old new a a' e → Grows told told' (λ es. es ≡ e ∷ []) → Preserves look words words' old new b a b' a' told told'
+along_next look words words' old new b b' a a' e told told' n grows scheduling start table began h = record {
   drawn = n.drawn start h.drawn;
   seeds_are = seeds_same old.lookup.book.journal n.more new.lookup.book.journal n.journal n.no_seeds ∙ h.seeds_are;
-  tabled = subst (λ calls. TableToldBy manner calls table new.table) (calls_more look old.lookup.book.journal n.more new.lookup.book.journal n.journal)
-      (table_then manner (table_calls look old.lookup.book.journal) (flat_map told_of n.more) table old.table new.table h.tabled (told_in_any manner (flat_map told_of n.more) old.table new.table n.tabled));
-  shows = grows_then began told told' _ _ _ h.shows grows (λ es fs p is. shows_next manner (given_of look start) old new n.more words.place words'.place b b' a a' e es fs n.journal n.no_seeds (n.next start h.drawn) p is);
+  tabled = subst (λ calls. TableToldBy scheduling calls table new.table) (calls_more look old.lookup.book.journal n.more new.lookup.book.journal n.journal)
+      (table_then scheduling (table_calls look old.lookup.book.journal) (flat_map told_of n.more) table old.table new.table h.tabled (told_in_any scheduling (flat_map told_of n.more) old.table new.table n.tabled));
+  shows = grows_then began told told' _ _ _ h.shows grows (λ es fs p is. shows_next scheduling (given_of look start) old new n.more words.place words'.place b b' a a' e es fs n.journal n.no_seeds (n.next start h.drawn) p is);
 }
 
 -- ---- weaker bounds
@@ -235,8 +235,8 @@ pub all_weaker : {A : Type 0} (P Q : A → Type 0) → ((x : A) → P x → Q x)
 all_weaker P Q f [] h = tt
 all_weaker P Q f (x ∷ xs) h = (f x h.0, all_weaker P Q f xs h.1)
 
-shows_later : (manner : Manner) (g : Given) (work : Work) (place b a a' : ℕ) (es : List Event) → a ≤ a' → Shows manner g work place b a es → Shows manner g work place b a' es
-shows_later manner g work place b a a' es le h = record {
+shows_later : (scheduling : Scheduling) (g : Given) (work : LookupState) (place b a a' : ℕ) (es : List Event) → a ≤ a' → Shows scheduling g work place b a es → Shows scheduling g work place b a' es
+shows_later scheduling g work place b a a' es le h = record {
   at = h.at;
   rest = h.rest;
   first = h.first;
@@ -253,10 +253,10 @@ shows_later manner g work place b a a' es le h = record {
   keeping = h.keeping;
 }
 
-pub along_later : (manner : Manner) (look : LookSetting) (start : WordsState) (table : TableState) (began : Option (List Event)) (words : WordsState) (work : Work) (b a a' : ℕ) (told : Option (List Event)) → a ≤ a' → Along manner look start table began words work b a told → Along manner look start table began words work b a' told
-along_later manner look start table began words work b a a' told le h = record {
+pub along_later : (scheduling : Scheduling) (look : LookSetting) (start : WordsState) (table : TableState) (began : Option (List Event)) (words : WordsState) (work : LookupState) (b a a' : ℕ) (told : Option (List Event)) → a ≤ a' → TraceInvariant scheduling look start table began words work b a told → TraceInvariant scheduling look start table began words work b a' told
+along_later scheduling look start table began words work b a a' told le h = record {
   drawn = h.drawn;
   seeds_are = h.seeds_are;
   tabled = h.tabled;
-  shows = grows_weaker began told _ _ h.shows (λ es x. shows_later manner (given_of look start) work words.place b a a' es le x);
+  shows = grows_weaker began told _ _ h.shows (λ es x. shows_later scheduling (given_of look start) work words.place b a a' es le x);
 }

@@ -1,42 +1,42 @@
 -- The receives of a round, one after another.
 use Rattle.std.proofs.Common.{◌≡◌, ◌≢◌, ℕ, zero, suc, ◌-◌, ◌<◌, ◌≤◌, [], List, length, Option, ◌∙◌, arith}
-use Rattle.kad_base.specs.declared.plain.Event.{Event}
+use Rattle.kad_base.specs.declared.types.Event.{Event}
 use Rattle.kad_base.specs.Limits.{max_round_receives}
 use Rattle.id_puzzles.specs.Drawn.{WordsState}
 use Rattle.claim_book.specs.Journal.{asked}
-use Rattle.lookup_run.specs.declared.plain.LookSetting.{LookSetting}
-use Rattle.lookup_run.specs.declared.plain.Work.{Work}
-use Rattle.lookup_run.specs.Between.{Keeps, weight_of, StepsAlong}
-use Rattle.lookup_run.specs.Steps.{ReceivesOne, Stops, EndsByStray, FewStrays}
+use Rattle.lookup_run.specs.declared.types.LookSetting.{LookSetting}
+use Rattle.lookup_run.specs.declared.types.LookupState.{LookupState}
+use Rattle.lookup_run.specs.DriverInvariant.{Keeps, weight_of, Preserves}
+use Rattle.lookup_run.specs.RoundSteps.{ReceivesOne, Stops, EndsByStray, FewStrays}
 
 -- one receive or more
-pub record Rounding (look : LookSetting) (old new : Work) (told told' : Option (List Event)) : Type 0 where
+pub record Rounding (look : LookSetting) (old new : LookupState) (told told' : Option (List Event)) : Type 0 where
   pub keeps : Keeps look new
   pub some_open : new.progress.receives ≢ 0 → new.lookup.queries ≢ []
   pub same_asks : length (asked new.lookup.book.journal) ≡ length (asked old.lookup.book.journal)
   pub lighter : weight_of new < weight_of old
-  pub goes : (words : WordsState) (b a : ℕ) → StepsAlong look words words old new b a 0 0 told told'
+  pub goes : (words : WordsState) (b a : ℕ) → Preserves look words words old new b a 0 0 told told'
 
-pub next_receive : (look : LookSetting) (old w new : Work) (told mid told' : Option (List Event)) → Rounding look old w told mid → ReceivesOne look w new mid told' → Rounding look old new told told'
+pub next_receive : (look : LookSetting) (old w new : LookupState) (told mid told' : Option (List Event)) → Rounding look old w told mid → ReceivesOne look w new mid told' → Rounding look old new told told'
 next_receive look old w new told mid told' h r = record {
   keeps = r.keeps;
   some_open = r.some_open;
   same_asks = r.same_asks ∙ h.same_asks;
   lighter = (let a = r.lighter in let b = h.lighter in less (weight_of new) (weight_of w) (weight_of old) a b);
-  goes = λ words b a manner start table began along. r.goes words 0 0 manner start table began (h.goes words b a manner start table began along);
+  goes = λ words b a scheduling start table began along. r.goes words 0 0 scheduling start table began (h.goes words b a scheduling start table began along);
 }
   where
     less : (x y z : ℕ) → x ≤ y → y < z → x < z
     less x y z a b = omega (arith, a, b)
 
-pub stops_after : (look : LookSetting) (old w new : Work) (told mid told' : Option (List Event)) → Rounding look old w told mid → ((words : WordsState) → Stops look words words w new mid told') → (words : WordsState) → Stops look words words old new told told'
-stops_after look old w new told mid told' h stops words manner start table began b a along = stops words manner start table began 0 0 (h.goes words b a manner start table began along)
+pub stops_after : (look : LookSetting) (old w new : LookupState) (told mid told' : Option (List Event)) → Rounding look old w told mid → ((words : WordsState) → Stops look words words w new mid told') → (words : WordsState) → Stops look words words old new told told'
+stops_after look old w new told mid told' h stops words scheduling start table began b a along = stops words scheduling start table began 0 0 (h.goes words b a scheduling start table began along)
 
-pub stray_after : (look : LookSetting) (old w : Work) (told mid told' : Option (List Event)) → Rounding look old w told mid → ((words : WordsState) → EndsByStray look words w mid told') → (words : WordsState) → EndsByStray look words old told told'
-stray_after look old w told mid told' h ends words manner start table began b a along = ends words manner start table began 0 0 (h.goes words b a manner start table began along)
+pub stray_after : (look : LookSetting) (old w : LookupState) (told mid told' : Option (List Event)) → Rounding look old w told mid → ((words : WordsState) → EndsByStray look words w mid told') → (words : WordsState) → EndsByStray look words old told told'
+stray_after look old w told mid told' h ends words scheduling start table began b a along = ends words scheduling start table began 0 0 (h.goes words b a scheduling start table began along)
 
-pub few_after : (look : LookSetting) (old w : Work) (told mid told' : Option (List Event)) → Rounding look old w told mid → ((words : WordsState) → FewStrays look words w mid told') → (words : WordsState) → FewStrays look words old told told'
-few_after look old w told mid told' h few words manner start table began b a along = few words manner start table began 0 0 (h.goes words b a manner start table began along)
+pub few_after : (look : LookSetting) (old w : LookupState) (told mid told' : Option (List Event)) → Rounding look old w told mid → ((words : WordsState) → FewStrays look words w mid told') → (words : WordsState) → FewStrays look words old told told'
+few_after look old w told mid told' h few words scheduling start table began b a along = few words scheduling start table began 0 0 (h.goes words b a scheduling start table began along)
 
 -- how many receives a round may still have
 abbrev pub still_to : ℕ → ℕ

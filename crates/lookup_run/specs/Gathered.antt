@@ -5,19 +5,19 @@ use Rattle.std.specs.List.Sorted.{IsStrictlySortedBy}
 use Rattle.std.specs.Ordering.{ordering_then, nat_cmp}
 use Rattle.std.specs.Cmp.Lexicographic.{slice_cmp}
 use Rattle.std.specs.declared.cmp.Ordering.{Ordering}
-use Rattle.kad_base.specs.declared.plain.Addr.{Addr}
-use Rattle.kad_base.specs.declared.plain.Contact.{Contact}
-use Rattle.kad_base.specs.declared.plain.Event.{Event}
-use Rattle.kad_base.specs.declared.plain.Event.TheVariants.{Now, Got}
+use Rattle.kad_base.specs.declared.types.Addr.{Addr}
+use Rattle.kad_base.specs.declared.types.Contact.{Contact}
+use Rattle.kad_base.specs.declared.types.Event.{Event}
+use Rattle.kad_base.specs.declared.types.Event.TheVariants.{Now, Got}
 use Rattle.kad_base.specs.Contacts.{address_bytes}
-use Rattle.claim_book.specs.declared.plain.Entry.{Entry}
-use Rattle.lookup_run.specs.declared.plain.Token.{Token}
+use Rattle.claim_book.specs.declared.types.Entry.{Entry}
+use Rattle.lookup_run.specs.declared.types.Token.{Token}
 use Rattle.lookup_core.specs.declared.reply.Reply.TheVariants as reply
 use Rattle.lookup_core.specs.Matching.{OpenQuery, Replies}
 use Rattle.lookup_core.specs.Quest.{part_of, wants_peers}
 use Rattle.lookup_run.specs.Tells.{Given, Seen, Gives, begun}
 use Rattle.lookup_core.specs.declared.quest.Quest.{Quest}
-use Rattle.lookup_core.specs.declared.hear.Answered.{Answered}
+use Rattle.lookup_core.specs.declared.on_reply.Answered.{Answered}
 
 -- the datagram is the answer of a contact that was asked, in its own name
 pub record HeardIn (quest : Quest) (s : Seen) (from : Addr) (bytes : List ℕ) (a : Answered) : Type 0 where

@@ -2,5 +2,5 @@ pub mod Tells
 pub mod Rounds
 pub mod Gathered
 pub mod Lookup
-pub mod Between
-pub mod Steps
+pub mod DriverInvariant
+pub mod RoundSteps

@@ -1,10 +1,10 @@
 -- What a lookup promises: its journal, the table that comes back, and what holds where it ended early.
 use Rattle.std.specs.Prelude.{◌≡◌, ◌≢◌, ◌⊎◌, ℕ, ◌+◌, ◌==◌, filter, ◌<◌, ◌≤◌, List, [], ◌∷◌, ◌++◌, length, map, Option}
 use Rattle.std.specs.List.{All, flat_map}
-use Rattle.kad_base.specs.declared.plain.Addr.{Addr}
-use Rattle.kad_base.specs.declared.plain.Contact.{Contact}
-use Rattle.kad_base.specs.declared.plain.Event.{Event}
-use Rattle.kad_base.specs.declared.plain.Event.TheVariants.{Got}
+use Rattle.kad_base.specs.declared.types.Addr.{Addr}
+use Rattle.kad_base.specs.declared.types.Contact.{Contact}
+use Rattle.kad_base.specs.declared.types.Event.{Event}
+use Rattle.kad_base.specs.declared.types.Event.TheVariants.{Got}
 use Rattle.kad_base.specs.declared.serial.Made.{Made}
 use Rattle.kad_base.specs.Limits.{max_k, max_paths, max_alpha}
 use Rattle.kad_base.specs.Outside.{Grows}
@@ -17,21 +17,21 @@ use Rattle.contact_table.specs.declared.calls.TableReply.{TableReply}
 use Rattle.contact_table.specs.declared.calls.TableReply.TheVariants.{NoMemory}
 use Rattle.contact_table.specs.TableState.{TableState}
 use Rattle.contact_table.specs.TableStep.{TableMay, TableStep, table_after, contacts_of}
-use Rattle.claim_book.specs.declared.plain.Setting.{Setting}
-use Rattle.claim_book.specs.declared.plain.Cause.{Cause}
-use Rattle.claim_book.specs.declared.plain.Cause.TheVariants.{Timeout}
-use Rattle.claim_book.specs.declared.plain.Entry.{Entry}
-use Rattle.claim_book.specs.declared.plain.Entry.TheVariants.{Lost, Note}
+use Rattle.claim_book.specs.declared.types.Setting.{Setting}
+use Rattle.claim_book.specs.declared.types.Cause.{Cause}
+use Rattle.claim_book.specs.declared.types.Cause.TheVariants.{Timeout}
+use Rattle.claim_book.specs.declared.types.Entry.{Entry}
+use Rattle.claim_book.specs.declared.types.Entry.TheVariants.{Lost, Note}
 use Rattle.claim_book.specs.Journal.{seeds, asked}
 use Rattle.claim_book.specs.Legal.{Legal}
 use Rattle.claim_book.specs.RunOut.{RunOut}
 use Rattle.claim_book.specs.Result.{result_of}
 use Rattle.claim_book.specs.Calls.{Counted}
 use Rattle.lookup_core.specs.declared.quest.Quest.{Quest}
-use Rattle.lookup_run.specs.declared.plain.LookSetting.{LookSetting}
-use Rattle.lookup_run.specs.declared.plain.Outcome.{Outcome}
+use Rattle.lookup_run.specs.declared.types.LookSetting.{LookSetting}
+use Rattle.lookup_run.specs.declared.types.Outcome.{Outcome}
 use Rattle.lookup_run.specs.Tells.{Given, Seen, TellsSoFar, Tells}
-use Rattle.lookup_run.specs.Rounds.{Manner, path_by_path, at_once}
+use Rattle.lookup_run.specs.Rounds.{Scheduling, sequential, concurrent}
 
 -- what the book is set to
 abbrev pub setting_of : LookSetting → Setting
@@ -126,18 +126,18 @@ abbrev pub told_by : ℕ → List Told → List Told
 told_by role calls = filter (λ t. t.role == role) calls
 
 -- the calls that were made are these: path by path in this order, and at once those of each role in this order
-abbrev pub AreCalls : Manner → List Told → List Told → Type 0
-AreCalls path_by_path made calls = made ≡ calls
-AreCalls at_once made calls = (role : ℕ) → told_by role made ≡ told_by role calls
+abbrev pub AreCalls : Scheduling → List Told → List Told → Type 0
+AreCalls sequential made calls = made ≡ calls
+AreCalls concurrent made calls = (role : ℕ) → told_by role made ≡ told_by role calls
 
 -- by a run of these calls, none of which wanted memory
-pub record TableToldBy (manner : Manner) (calls : List Told) (table table' : TableState) : Type 0 where
+pub record TableToldBy (scheduling : Scheduling) (calls : List Told) (table table' : TableState) : Type 0 where
   pub run : List (Made TableCall TableReply)
   pub is_run : IsRun TableMay TableStep table_after table run
   pub leaves : table' ≡ left_by table_after table run
-  pub calls_are : AreCalls manner (map told_in run) calls
+  pub calls_are : AreCalls scheduling (map told_in run) calls
   pub kept : All (λ m. m.reply ≢ NoMemory) run
 
 -- in this very order
 abbrev pub TableTold : List Told → TableState → TableState → Type 0
-TableTold calls table table' = TableToldBy path_by_path calls table table'
+TableTold calls table table' = TableToldBy sequential calls table table'

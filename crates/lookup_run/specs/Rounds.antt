@@ -2,12 +2,12 @@
 -- ask (S/Kademlia, 2007, section 4.4), and that they ask all that they may before the driver waits.
 use Rattle.std.specs.Prelude.{◌≡◌, ℕ, zero, suc, ◌<◌, ◌≤◌, List, [], ◌∷◌, ◌++◌, None, Bool, true}
 use Rattle.std.specs.List.{AllByRecursion}
-use Rattle.kad_base.specs.declared.plain.Contact.{Contact}
-use Rattle.kad_base.specs.declared.plain.Event.{Event}
-use Rattle.kad_base.specs.declared.plain.Event.TheVariants.{Now, Sent, Unsent, Got, Quiet}
-use Rattle.claim_book.specs.declared.plain.Setting.{Setting}
-use Rattle.claim_book.specs.declared.plain.Entry.{Entry}
-use Rattle.claim_book.specs.declared.plain.Entry.TheVariants.{Seed, Ask, Heard, Lost, Note, Taken, Held, Turned, Rejected, Skipped}
+use Rattle.kad_base.specs.declared.types.Contact.{Contact}
+use Rattle.kad_base.specs.declared.types.Event.{Event}
+use Rattle.kad_base.specs.declared.types.Event.TheVariants.{Now, Sent, Unsent, Got, Quiet}
+use Rattle.claim_book.specs.declared.types.Setting.{Setting}
+use Rattle.claim_book.specs.declared.types.Entry.{Entry}
+use Rattle.claim_book.specs.declared.types.Entry.TheVariants.{Seed, Ask, Heard, Lost, Note, Taken, Held, Turned, Rejected, Skipped}
 use Rattle.claim_book.specs.Journal.{seeds, settles_on, unsettled, may_ask}
 use Rattle.claim_book.specs.Legal.{seeded}
 use Rattle.lookup_run.specs.Tells.{Given, Seen, Gives, begun}
@@ -30,19 +30,19 @@ abbrev pub is_settling : Entry → Bool
 is_settling e = settles_on (path_number e) e
 
 -- how a round settles what its paths have: one path after another on one thread, or all paths at once
-pub data Manner : Type 0 where
-  path_by_path : Manner
-  at_once : Manner
+pub data Scheduling : Type 0 where
+  sequential : Scheduling
+  concurrent : Scheduling
 
 -- an entry of path q may stand behind one of path p
-abbrev pub MayFollow : Manner → ℕ → ℕ → Type 0
-MayFollow path_by_path p q = p ≤ q
-MayFollow at_once p q = Unit {0}
+abbrev pub MayFollow : Scheduling → ℕ → ℕ → Type 0
+MayFollow sequential p q = p ≤ q
+MayFollow concurrent p q = Unit {0}
 
 -- entries that settle: path by path in ascending path from p on, at once in any order of paths
-abbrev pub SettlesFrom : Manner → ℕ → List Entry → Type 0
-SettlesFrom manner p [] = Unit {0}
-SettlesFrom manner p (e ∷ es) = MayFollow manner p (path_number e) × (is_settling e ≡ true) × SettlesFrom manner (path_number e) es
+abbrev pub SettlesFrom : Scheduling → ℕ → List Entry → Type 0
+SettlesFrom scheduling p [] = Unit {0}
+SettlesFrom scheduling p (e ∷ es) = MayFollow scheduling p (path_number e) × (is_settling e ≡ true) × SettlesFrom scheduling (path_number e) es
 
 -- nothing is unsettled on the first n paths
 abbrev pub AllSettled : ℕ → List Entry → Type 0
@@ -53,9 +53,9 @@ abbrev pub NoneAsks : Setting → ℕ → List Entry → Type 0
 NoneAsks setting n J = (p : ℕ) → p < n → may_ask setting p J ≡ None
 
 -- Entries that settle stand where a round has ended, and before the next one begins.
-abbrev pub SettlesIn : Manner → ℕ → List Entry → Type 0
-SettlesIn manner zero between = SettlesFrom manner 0 between
-SettlesIn manner (suc n) between = between ≡ []
+abbrev pub SettlesIn : Scheduling → ℕ → List Entry → Type 0
+SettlesIn scheduling zero between = SettlesFrom scheduling 0 between
+SettlesIn scheduling (suc n) between = between ≡ []
 
 -- where a contact is asked, a round begins and nothing is unsettled; the paths before that of the ask may ask nothing,
 -- and none that comes later asked since the last receive
@@ -83,25 +83,25 @@ InTurn setting J s (Got from bytes until at) gave = WaitsInTurn setting J s.rece
 InTurn setting J s (Quiet until at) gave = WaitsInTurn setting J s.receives
 
 -- one event after the part P of the journal J: what was settled before it, and what it gave
-pub record RoundStep (manner : Manner) (g : Given) (J P : List Entry) (s : Seen) (e : Event) : Type 0 where
+pub record RoundStep (scheduling : Scheduling) (g : Given) (J P : List Entry) (s : Seen) (e : Event) : Type 0 where
   pub mid : Seen
   pub between : List Entry
   pub gave : List Entry
   pub gives : Gives g J s e mid
   pub given : mid.given ≡ s.given ++ gave
-  pub settles : SettlesIn manner s.receives between
+  pub settles : SettlesIn scheduling s.receives between
   pub in_turn : InTurn g.setting (P ++ between) s e gave
 
 -- the events, one after another, after the part P of the journal J
-abbrev pub RoundsFrom : Manner → Given → List Entry → List Entry → Seen → List Event → Type 0
-RoundsFrom manner g J P s [] = (between : List Entry) × (J ≡ P ++ between) × SettlesIn manner s.receives between
-RoundsFrom manner g J P s (e ∷ es) = (step : RoundStep manner g J P s e) × RoundsFrom manner g J ((P ++ step.between) ++ step.gave) step.mid es
+abbrev pub RoundsFrom : Scheduling → Given → List Entry → List Entry → Seen → List Event → Type 0
+RoundsFrom scheduling g J P s [] = (between : List Entry) × (J ≡ P ++ between) × SettlesIn scheduling s.receives between
+RoundsFrom scheduling g J P s (e ∷ es) = (step : RoundStep scheduling g J P s e) × RoundsFrom scheduling g J ((P ++ step.between) ++ step.gave) step.mid es
 
 -- The journal goes by rounds: it begins with its seeds, and at the end nothing is unsettled and no path may ask.
-pub record Rounds (manner : Manner) (g : Given) (J : List Entry) (events : List Event) : Type 0 where
+pub record Rounds (scheduling : Scheduling) (g : Given) (J : List Entry) (events : List Event) : Type 0 where
   pub at : ℕ
   pub rest : List Event
   pub first : events ≡ Now at ∷ rest
-  pub goes : RoundsFrom manner g J (seeded g.setting.paths (seeds J)) (begun at) rest
+  pub goes : RoundsFrom scheduling g J (seeded g.setting.paths (seeds J)) (begun at) rest
   pub settled : AllSettled g.setting.paths J
   pub none_asks : NoneAsks g.setting g.setting.paths J

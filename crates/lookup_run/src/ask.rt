@@ -2,18 +2,18 @@
 ghost use Rattle.std.specs.Prelude.{◌≡◌, ◌≤◌, ◌<◌, ◌+◌, true, false};
 ghost use Rattle.lookup_run.specs.Rounds.{AllSettled, NoneAsks};
 ghost use Rattle.lookup_run.specs.Lookup.{IsWithinLimits, setting_of};
-ghost use Rattle.lookup_run.specs.Between.{Keeps, HasWords, weight_of};
-ghost use Rattle.lookup_run.specs.Steps.{Asks, AsksNone, Begins};
+ghost use Rattle.lookup_run.specs.DriverInvariant.{Keeps, HasWords, weight_of};
+ghost use Rattle.lookup_run.specs.RoundSteps.{Asks, AsksNone, Begins};
 
-use crate::plain::{LookSetting, Work};
 use crate::send::send_query;
+use crate::types::{LookSetting, LookupState};
 use id_puzzles::Words;
 use kad_base::Link;
 
 /// Asks what the path asks now; false where it may ask none. A contact whose query can't be sent is lost.
 fn ask_one<L: Link>(
     link: &mut L,
-    work: &mut Work,
+    work: &mut LookupState,
     words: &mut Words,
     look: &LookSetting,
     path: u8,
@@ -50,7 +50,13 @@ fn ask_one<L: Link>(
 }
 
 /// Asks all that the path may ask.
-fn ask_path<L: Link>(link: &mut L, work: &mut Work, words: &mut Words, look: &LookSetting, path: u8)
+fn ask_path<L: Link>(
+    link: &mut L,
+    work: &mut LookupState,
+    words: &mut Words,
+    look: &LookSetting,
+    path: u8,
+)
     requires limits { IsWithinLimits look.now }
     requires path { path < look.now.paths }
     requires keeps { Keeps look.now work.old }
@@ -68,7 +74,12 @@ fn ask_path<L: Link>(link: &mut L, work: &mut Work, words: &mut Words, look: &Lo
 }
 
 /// Asks all that the paths may ask, path by path.
-pub(crate) fn ask_all<L: Link>(link: &mut L, work: &mut Work, words: &mut Words, look: &LookSetting)
+pub(crate) fn ask_all<L: Link>(
+    link: &mut L,
+    work: &mut LookupState,
+    words: &mut Words,
+    look: &LookSetting,
+)
     requires limits { IsWithinLimits look.now }
     requires begins { Begins look.now words.old work.old }
     ensures asks { Asks look.now 0 look.now.paths words.old words.new work.old work.new

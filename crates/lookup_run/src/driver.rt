@@ -1,7 +1,7 @@
 //! A whole lookup, from the seeds of a table to where every path has run out.
 ghost use Rattle.std.specs.Prelude.{◌≡◌, ◌≢◌, ◌≤◌, ◌<◌, ◌^◌, ◌∷◌, [], ℕ, Err, IfOk, IfErr, OnOk, OnErr, IsErrOf};
 ghost use Rattle.std.specs.List.{All};
-ghost use Rattle.kad_base.specs.declared.plain.Event.TheVariants.{Now};
+ghost use Rattle.kad_base.specs.declared.types.Event.TheVariants.{Now};
 ghost use Rattle.kad_base.specs.Contacts.{IsUsable};
 ghost use Rattle.kad_base.specs.Limits.{max_strays};
 ghost use Rattle.kad_base.specs.Outside.{Grows, Rose};
@@ -10,15 +10,15 @@ ghost use Rattle.claim_book.specs.RunOut.{RunOut};
 ghost use Rattle.claim_book.specs.Lineage.{GoesByOwnAnswers};
 ghost use Rattle.lookup_core.specs.declared.quest.AskKind.{AskKind};
 ghost use Rattle.lookup_run.specs.Tells.{EndsAtStray};
-ghost use Rattle.lookup_run.specs.Rounds.{Rounds, at_once, path_by_path};
+ghost use Rattle.lookup_run.specs.Rounds.{Rounds, concurrent, sequential};
 ghost use Rattle.lookup_run.specs.Gathered.{Gathers, IsEachOnce};
 ghost use Rattle.lookup_run.specs.Lookup.{IsWithinLimits, setting_of, given_of, seeds_in, table_calls, Finished, TableTold, TableToldBy, TableRan, Unfinished};
-ghost use Rattle.lookup_run.specs.Steps.{IsDone, IsClosed, IsBookOf, asks_seeds, IsBegun};
+ghost use Rattle.lookup_run.specs.RoundSteps.{IsDone, IsClosed, IsBookOf, asks_seeds, IsBegun};
 
 use crate::gather::{in_order, nothing};
-use crate::hear::DRIVER;
-use crate::plain::{Gathered, LookFault, LookSetting, Outcome, Progress, Work};
+use crate::on_reply::DRIVER;
 use crate::round::{go_rounds, go_rounds_together};
+use crate::types::{Gathered, LookFault, LookSetting, LookupState, Outcome, Progress};
 use claim_book::{Book, BookCall, BookReply};
 use contact_table::{Table, TableCall, TableReply};
 use id_puzzles::Words;
@@ -66,14 +66,14 @@ fn finish(mut book: Book, gathered: Gathered) -> Result<Outcome, LookFault>
 }
 
 /// The table and what the lookup found, where its rounds ended well.
-fn close(work: Work, ended: Result<(), LookFault>) -> (Table, Result<Outcome, LookFault>)
+fn close(work: LookupState, ended: Result<(), LookFault>) -> (Table, Result<Outcome, LookFault>)
     requires { OnOk ended ((p : ℕ) → p < work.lookup.book.setting.paths
         → RunOut work.lookup.book.setting p work.lookup.book.journal) }
     ensures table { result.0 ≡ work.table }
     ensures done { IfOk result.1 (λ outcome. IsClosed work ended outcome) }
     ensures fault { IfErr result.1 (λ fault. fault ≢ LookFault.NoMemory → ended ≡ Err fault) }
 {
-    let Work {
+    let LookupState {
         lookup,
         table,
         gathered,
@@ -104,14 +104,14 @@ fn open_book(
 }
 
 /// What a lookup keeps where it begins, at the moment that the link tells.
-fn begin<L: Link>(alloc: Global, link: &mut L, table: Table, book: Book) -> Work
+fn begin<L: Link>(alloc: Global, link: &mut L, table: Table, book: Book) -> LookupState
     ensures begun { IsBegun book table (L.moment link.new) result }
     ensures told { Grows (L.told link.old) (L.told link.new)
         (λ es. es ≡ Now (L.moment link.new) ∷ []) }
     ensures recv_faults { L.recv_faults link.old ≤ L.recv_faults link.new }
     ensures kept { L.kept link.new ≡ L.kept link.old }
 {
-    Work {
+    LookupState {
         lookup: Lookup::new(book),
         table,
         progress: Progress {
@@ -142,7 +142,7 @@ pub fn look_up_alone<L: Link, C: Check>(
     ensures lookup { IfOk result.1 (Finished setting.now table words.old words.new (L.told link.old)
         (L.told link.new)) }
     ensures rounds { IfOk result.1 (λ outcome. Grows (L.told link.old) (L.told link.new)
-        (λ events. Rounds path_by_path (given_of setting.now words.old) outcome.journal events)) }
+        (λ events. Rounds sequential (given_of setting.now words.old) outcome.journal events)) }
     ensures own_answers { IfOk result.1 (λ outcome. GoesByOwnAnswers
         (setting_of setting.now) outcome.journal) }
     ensures gathered { IfOk result.1 (λ outcome. Grows (L.told link.old) (L.told link.new)
@@ -200,7 +200,7 @@ pub fn look_up<R: Threads + Wait + Sync, L: Link, C: Check + Sync>(
     ensures lookup { IfOk result.1 (Finished setting.now table words.old words.new (L.told link.old)
         (L.told link.new)) }
     ensures rounds { IfOk result.1 (λ outcome. Grows (L.told link.old) (L.told link.new)
-        (λ events. Rounds at_once (given_of setting.now words.old) outcome.journal events)) }
+        (λ events. Rounds concurrent (given_of setting.now words.old) outcome.journal events)) }
     ensures own_answers { IfOk result.1 (λ outcome. GoesByOwnAnswers
         (setting_of setting.now) outcome.journal) }
     ensures gathered { IfOk result.1 (λ outcome. Grows (L.told link.old) (L.told link.new)
@@ -208,7 +208,7 @@ pub fn look_up<R: Threads + Wait + Sync, L: Link, C: Check + Sync>(
         outcome.tokens)) }
     ensures none_gathered { IfOk result.1 (λ outcome. setting.now.kind ≡ AskKind.FindNode
         → (outcome.peers ≡ []) × (outcome.tokens ≡ [])) }
-    ensures table { IfOk result.1 (λ outcome. TableToldBy at_once
+    ensures table { IfOk result.1 (λ outcome. TableToldBy concurrent
         (table_calls setting.now outcome.journal) table result.0) }
     ensures unfinished { IfErr result.1 (λ fault. Unfinished setting.now table words.old words.new
         (L.told link.old) (L.told link.new)) }

@@ -1,16 +1,16 @@
 // Laws of lookups.
 ghost use Rattle.std.specs.Prelude.{◌≡◌, ◌<◌, ℕ, List};
-ghost use Rattle.kad_base.specs.declared.plain.Event.{Event};
-ghost use Rattle.claim_book.specs.declared.plain.Entry.{Entry};
+ghost use Rattle.kad_base.specs.declared.types.Event.{Event};
+ghost use Rattle.claim_book.specs.declared.types.Entry.{Entry};
 ghost use Rattle.claim_book.specs.Journal.{seeds};
 ghost use Rattle.claim_book.specs.Legal.{Legal};
 ghost use Rattle.lookup_run.specs.Tells.{Given};
-ghost use Rattle.lookup_run.specs.Rounds.{Rounds, path_by_path};
+ghost use Rattle.lookup_run.specs.Rounds.{Rounds, sequential};
 
 /// One legal journal at most goes by rounds with the same events, for one setting, one generator of words and the same
 /// seeds: the events of a lookup on one thread determine what it did.
 pub fn one_journal()
     ensures { (g : Given) (J K : List Entry) (events : List Event) → 0 < g.setting.paths
-        → Legal g.setting J → Legal g.setting K → seeds J ≡ seeds K → Rounds path_by_path g J events
-        → Rounds path_by_path g K events → J ≡ K }
+        → Legal g.setting J → Legal g.setting K → seeds J ≡ seeds K → Rounds sequential g J events
+        → Rounds sequential g K events → J ≡ K }
 {}

@@ -6,16 +6,16 @@
 mod ask;
 mod driver;
 mod gather;
-mod hear;
 mod laws;
-mod plain;
+mod on_reply;
 mod receive;
 mod round;
 mod send;
 mod settle;
 mod together;
+mod types;
 
 pub use driver::{look_up, look_up_alone};
 pub use laws::one_journal;
 pub use lookup_core::AskKind;
-pub use plain::{LookFault, LookSetting, Outcome, Token, Tokened};
+pub use types::{LookFault, LookSetting, Outcome, Token, Tokened};

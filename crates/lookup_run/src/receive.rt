@@ -3,14 +3,14 @@ ghost use Rattle.std.specs.Prelude.{◌≡◌, ◌≢◌, ◌≤◌, ◌<◌, �
 ghost use Rattle.kad_base.specs.Limits.{max_datagram, max_round_receives, max_strays};
 ghost use Rattle.kad_base.specs.Outside.{Rose};
 ghost use Rattle.id_puzzles.specs.Drawn.{WordsState};
-ghost use Rattle.lookup_core.specs.Steps.{Holds};
+ghost use Rattle.lookup_core.specs.LookupSteps.{Holds};
 ghost use Rattle.lookup_run.specs.Lookup.{IsWithinLimits};
-ghost use Rattle.lookup_run.specs.Between.{Keeps};
-ghost use Rattle.lookup_run.specs.Steps.{WaitsFor, receives_kept, TakesStray, TakesDatagram, IsLastStray, MayReceive, ReceivesOne, ReceivesAll, Stops, EndsByStray, FewStrays};
+ghost use Rattle.lookup_run.specs.DriverInvariant.{Keeps};
+ghost use Rattle.lookup_run.specs.RoundSteps.{WaitsFor, receives_kept, TakesStray, TakesDatagram, IsLastStray, MayReceive, ReceivesOne, ReceivesAll, Stops, EndsByStray, FewStrays};
 
 use crate::gather::keep;
-use crate::hear::expire;
-use crate::plain::{LookFault, LookSetting, Progress, Work};
+use crate::on_reply::expire;
+use crate::types::{LookFault, LookSetting, LookupState, Progress};
 use kad_base::limits::{MAX_ROUND_RECEIVES, MAX_STRAYS};
 use kad_base::{Addr, Came, Link};
 use lookup_core::Taken;
@@ -63,7 +63,7 @@ fn take_stray(progress: &mut Progress) -> Result<(), LookFault>
 /// Hands the datagram to the lookup, and keeps what it heard; what replies to no open query is a stray.
 fn take_datagram(
     alloc: Global,
-    work: &mut Work,
+    work: &mut LookupState,
     look: &LookSetting,
     from: Addr,
     bytes: &[u8],
@@ -92,7 +92,7 @@ fn take_datagram(
 pub(crate) fn receive<L: Link>(
     alloc: Global,
     link: &mut L,
-    work: &mut Work,
+    work: &mut LookupState,
     buf: &mut [u8],
     look: &LookSetting,
 ) -> Result<(), LookFault>
@@ -138,7 +138,7 @@ pub(crate) fn receive<L: Link>(
 pub(crate) fn receive_round<L: Link>(
     alloc: Global,
     link: &mut L,
-    work: &mut Work,
+    work: &mut LookupState,
     buf: &mut [u8],
     look: &LookSetting,
 ) -> Result<(), LookFault>

@@ -3,14 +3,14 @@ ghost use Rattle.std.specs.Prelude.{◌≡◌, ◌≤◌, ◌+◌, length, true,
 ghost use Rattle.kad_base.specs.Limits.{max_datagram};
 ghost use Rattle.kad_base.specs.Outside.{Rose};
 ghost use Rattle.lookup_run.specs.Lookup.{IsWithinLimits};
-ghost use Rattle.lookup_run.specs.Rounds.{Manner, at_once, path_by_path};
-ghost use Rattle.lookup_run.specs.Steps.{Begins, HasReceived, IsOver, StopsRound, RoundEndsByStray, RoundFewStrays};
+ghost use Rattle.lookup_run.specs.Rounds.{Scheduling, concurrent, sequential};
+ghost use Rattle.lookup_run.specs.RoundSteps.{Begins, HasReceived, IsOver, StopsRound, RoundEndsByStray, RoundFewStrays};
 
 use crate::ask::ask_all;
-use crate::plain::{LookFault, LookSetting, Work};
 use crate::receive::receive_round;
 use crate::settle::settle_paths;
 use crate::together::settle_each;
+use crate::types::{LookFault, LookSetting, LookupState};
 use id_puzzles::Words;
 use kad_base::limits::RECEIVE_ROOM;
 use kad_base::{Check, Link};
@@ -22,7 +22,7 @@ use std::thread::Threads;
 fn ask_and_receive<L: Link>(
     alloc: Global,
     link: &mut L,
-    work: &mut Work,
+    work: &mut LookupState,
     words: &mut Words,
     buf: &mut [u8],
     look: &LookSetting,
@@ -34,17 +34,17 @@ fn ask_and_receive<L: Link>(
     ensures more { IfOk result (λ more. more ≡ true
         → HasReceived look.now words.old words.new work.old work.new (L.told link.old)
         (L.told link.new)) }
-    ensures over { (manner : Manner) → IfOk result
-        (λ more. more ≡ false → IsOver manner look.now words.old words.new work.old work.new
+    ensures over { (scheduling : Scheduling) → IfOk result
+        (λ more. more ≡ false → IsOver scheduling look.now words.old words.new work.old work.new
         (L.told link.old) (L.told link.new)) }
     ensures moment { OnOk result (L.moment link.new ≡ work.new.progress.moment) }
-    ensures stops { (manner : Manner) → OnErr result
-        (StopsRound manner look.now words.old words.new work.old work.new (L.told link.old)
+    ensures stops { (scheduling : Scheduling) → OnErr result
+        (StopsRound scheduling look.now words.old words.new work.old work.new (L.told link.old)
         (L.told link.new)) }
-    ensures strays { (manner : Manner) → IsErrOf result LookFault.Strays
-        → RoundEndsByStray manner look.now words.old work.old (L.told link.old) (L.told link.new) }
-    ensures few { (manner : Manner) → IsErrOf result LookFault.LinkFault
-        → RoundFewStrays manner look.now words.old work.old (L.told link.old) (L.told link.new) }
+    ensures strays { (scheduling : Scheduling) → IsErrOf result LookFault.Strays
+        → RoundEndsByStray scheduling look.now words.old work.old (L.told link.old) (L.told link.new) }
+    ensures few { (scheduling : Scheduling) → IsErrOf result LookFault.LinkFault
+        → RoundFewStrays scheduling look.now words.old work.old (L.told link.old) (L.told link.new) }
     ensures link { IsErrOf result LookFault.LinkFault
         → Rose (L.recv_faults link.old) (L.recv_faults link.new) }
     ensures recv_faults { L.recv_faults link.old ≤ L.recv_faults link.new }
@@ -64,7 +64,7 @@ fn ask_and_receive<L: Link>(
 pub(crate) fn go_rounds<L: Link, C: Check>(
     alloc: Global,
     link: &mut L,
-    work: &mut Work,
+    work: &mut LookupState,
     words: &mut Words,
     look: &LookSetting,
     check: &C,
@@ -72,15 +72,15 @@ pub(crate) fn go_rounds<L: Link, C: Check>(
     requires limits { IsWithinLimits look.now }
     requires begins { Begins look.now words.old work.old }
     requires moment { L.moment link.old ≡ work.old.progress.moment }
-    ensures over { OnOk result (IsOver path_by_path look.now words.old words.new work.old work.new
+    ensures over { OnOk result (IsOver sequential look.now words.old words.new work.old work.new
         (L.told link.old) (L.told link.new)) }
-    ensures stops { OnErr result (StopsRound path_by_path look.now words.old words.new work.old
+    ensures stops { OnErr result (StopsRound sequential look.now words.old words.new work.old
         work.new (L.told link.old) (L.told link.new)) }
     ensures strays { IsErrOf result LookFault.Strays
-        → RoundEndsByStray path_by_path look.now words.old work.old (L.told link.old)
+        → RoundEndsByStray sequential look.now words.old work.old (L.told link.old)
         (L.told link.new) }
     ensures few { IsErrOf result LookFault.LinkFault
-        → RoundFewStrays path_by_path look.now words.old work.old (L.told link.old)
+        → RoundFewStrays sequential look.now words.old work.old (L.told link.old)
         (L.told link.new) }
     ensures link { IsErrOf result LookFault.LinkFault
         → Rose (L.recv_faults link.old) (L.recv_faults link.new) }
@@ -106,22 +106,22 @@ pub(crate) fn go_rounds_together<R: Threads + Wait + Sync, L: Link, C: Check + S
     rt: &R,
     alloc: Global,
     link: &mut L,
-    work: Work,
+    work: LookupState,
     words: &mut Words,
     look: &LookSetting,
     check: &C,
-) -> (Work, Result<(), LookFault>)
+) -> (LookupState, Result<(), LookFault>)
     requires limits { IsWithinLimits look.now }
     requires begins { Begins look.now words.old work }
     requires moment { L.moment link.old ≡ work.progress.moment }
-    ensures over { OnOk result.1 (IsOver at_once look.now words.old words.new work result.0
+    ensures over { OnOk result.1 (IsOver concurrent look.now words.old words.new work result.0
         (L.told link.old) (L.told link.new)) }
-    ensures stops { OnErr result.1 (StopsRound at_once look.now words.old words.new work result.0
+    ensures stops { OnErr result.1 (StopsRound concurrent look.now words.old words.new work result.0
         (L.told link.old) (L.told link.new)) }
     ensures strays { IsErrOf result.1 LookFault.Strays
-        → RoundEndsByStray at_once look.now words.old work (L.told link.old) (L.told link.new) }
+        → RoundEndsByStray concurrent look.now words.old work (L.told link.old) (L.told link.new) }
     ensures few { IsErrOf result.1 LookFault.LinkFault
-        → RoundFewStrays at_once look.now words.old work (L.told link.old) (L.told link.new) }
+        → RoundFewStrays concurrent look.now words.old work (L.told link.old) (L.told link.new) }
     ensures link { IsErrOf result.1 LookFault.LinkFault
         → Rose (L.recv_faults link.old) (L.recv_faults link.new) }
     ensures recv_faults { L.recv_faults link.old ≤ L.recv_faults link.new }

@@ -1,12 +1,12 @@
 //! Sending the query of a lookup.
 ghost use Rattle.std.specs.Prelude.{◌≡◌, ◌≤◌, ◌∷◌, [], true, false};
-ghost use Rattle.kad_base.specs.declared.plain.Event.TheVariants.{Sent, Unsent};
+ghost use Rattle.kad_base.specs.declared.types.Event.TheVariants.{Sent, Unsent};
 ghost use Rattle.kad_base.specs.Outside.{Grows};
 ghost use Rattle.kad_krpc.specs.Form.{form};
 ghost use Rattle.lookup_core.specs.Quest.{query_message};
 ghost use Rattle.lookup_run.specs.Lookup.{quest_of};
 
-use crate::plain::LookSetting;
+use crate::types::LookSetting;
 use kad_base::Link;
 use lookup_core::Asked;
 

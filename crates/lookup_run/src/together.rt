@@ -1,15 +1,15 @@
 //! Settling all paths at once, each on a thread of its own.
 ghost use Rattle.std.specs.Prelude.{◌≡◌, ◌≤◌, ◌<◌, List, Option, IfErr, OnOk, OnErr};
-ghost use Rattle.kad_base.specs.declared.plain.Event.{Event};
+ghost use Rattle.kad_base.specs.declared.types.Event.{Event};
 ghost use Rattle.kad_base.specs.Limits.{max_paths};
 ghost use Rattle.id_puzzles.specs.Drawn.{WordsState};
-ghost use Rattle.lookup_run.specs.Rounds.{at_once};
+ghost use Rattle.lookup_run.specs.Rounds.{concurrent};
 ghost use Rattle.lookup_run.specs.Lookup.{IsWithinLimits};
-ghost use Rattle.lookup_run.specs.Between.{Keeps};
-ghost use Rattle.lookup_run.specs.Steps.{SettlesPaths, Stops};
+ghost use Rattle.lookup_run.specs.DriverInvariant.{Keeps};
+ghost use Rattle.lookup_run.specs.RoundSteps.{SettlesPaths, Stops};
 
-use crate::plain::{LookFault, LookSetting, Work};
 use crate::settle::settle_paths;
+use crate::types::{LookFault, LookSetting, LookupState};
 use claim_book::{Book, BookCall, BookReply};
 use kad_base::{Check, NoMemory, Serial};
 use lookup_core::Lookup;
@@ -49,15 +49,15 @@ fn has_several(book: &mut Book, paths: u8) -> bool
 pub(crate) fn settle_each<R: Threads + Wait + Sync, C: Check + Sync>(
     rt: &R,
     alloc: Global,
-    work: Work,
+    work: LookupState,
     look: &LookSetting,
     check: &C,
-) -> (Work, Result<(), LookFault>)
+) -> (LookupState, Result<(), LookFault>)
     requires limits { IsWithinLimits look.now }
     requires keeps { Keeps look.now work }
     requires round_over { work.progress.receives ≡ 0 }
     ensures ok { (told : Option (List Event))
-        → OnOk result.1 (SettlesPaths at_once look.now 0 look.now.paths work result.0 told) }
+        → OnOk result.1 (SettlesPaths concurrent look.now 0 look.now.paths work result.0 told) }
     ensures stops { (told : Option (List Event))
         → OnErr result.1 ((words : WordsState)
         → Stops look.now words words work result.0 told told) }
@@ -69,7 +69,7 @@ pub(crate) fn settle_each<R: Threads + Wait + Sync, C: Check + Sync>(
         return (work, settled);
     }
     work.lookup.book.legal();
-    let Work {
+    let LookupState {
         lookup,
         table,
         progress,
@@ -85,7 +85,7 @@ pub(crate) fn settle_each<R: Threads + Wait + Sync, C: Check + Sync>(
         look.policy,
         check,
     );
-    let work = Work {
+    let work = LookupState {
         lookup: Lookup { book, queries },
         table,
         progress,

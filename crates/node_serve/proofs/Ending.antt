@@ -1,9 +1,9 @@
 -- What want of memory leaves of a node.
 use Rattle.std.proofs.Common.{◌≡◌, ◌≢◌, ℕ, List, [], ◌++◌, map, Bool, true, false, cond, refl, sym, subst}
 use Rattle.std.specs.Prelude.{Option, None}
-use Rattle.kad_base.specs.declared.plain.Id.{Id}
-use Rattle.kad_base.specs.declared.plain.Addr.{Addr}
-use Rattle.kad_base.specs.declared.plain.Contact.{Contact}
+use Rattle.kad_base.specs.declared.types.Id.{Id}
+use Rattle.kad_base.specs.declared.types.Addr.{Addr}
+use Rattle.kad_base.specs.declared.types.Contact.{Contact}
 use Rattle.kad_krpc.specs.Records.{ip_bytes}
 use Rattle.kad_krpc.specs.Views.{ask_seen}
 use Rattle.kad_krpc.specs.declared.message.Ask.{Ask}
@@ -17,7 +17,7 @@ use Rattle.node_serve.specs.declared.composing.Gained.TheVariants as gained
 use Rattle.node_serve.specs.declared.planning.Wants.{Wants}
 use Rattle.node_serve.specs.declared.planning.Wants.TheVariants.{Name, Nodes, Peers, Place, RefuseToken, RefuseMethod}
 use Rattle.node_serve.specs.AnswerBy.{setting_of}
-use Rattle.node_serve.specs.AnswerOf.{IsAdmitted, LeavesPeers, all, purged_only, whole, EndsEarly, told_by}
+use Rattle.node_serve.specs.AnswerOf.{IsTokenAccepted, LeavesPeers, all, purged_only, whole, EndsEarly, told_by}
 use Rattle.node_serve.specs.Asked.{IsAsked}
 use Rattle.node_serve.specs.Calls.{reply_of, is_accepted, answer_with}
 use Rattle.node_serve.specs.Gains.{IsFor, MayFail, reply_gained, wants_of}
@@ -42,7 +42,7 @@ module _ (s : NodeState) (from : Addr) (at : ℕ) where
   takes_place key peer token true on h = (accepted s.tokens (ip_bytes from.ip) at token).0 on
   takes_place key peer token false off h = absurd h
 
-  placing : (ask : Ask) → IsPlace (wants_of (setting_of s) from at ask) → IsAdmitted s from at ask
+  placing : (ask : Ask) → IsPlace (wants_of (setting_of s) from at ask) → IsTokenAccepted s from at ask
   placing (Ping id) h = absurd h
   placing (FindNode id target) h = absurd h
   placing (GetPeers id key) h = absurd h
@@ -53,7 +53,7 @@ module _ (s : NodeState) (from : Addr) (at : ℕ) where
     abbrev Leaves : Type 0
     Leaves = LeavesPeers s from at tx ask told peers
 
-    put_leaves : (w : Wants) → (IsPlace w → IsAdmitted s from at ask) → LeavesPut at w s.peers peers → Leaves
+    put_leaves : (w : Wants) → (IsPlace w → IsTokenAccepted s from at ask) → LeavesPut at w s.peers peers → Leaves
     put_leaves Name may h = all h
     put_leaves (Nodes target) may h = all h
     put_leaves (Peers key) may h = all h
@@ -61,7 +61,7 @@ module _ (s : NodeState) (from : Addr) (at : ℕ) where
     put_leaves RefuseToken may h = all h
     put_leaves RefuseMethod may h = all h
 
-    gained_leaves : (w : Wants) (g : Gained) → IsFor w g → (IsPlace w → IsAdmitted s from at ask) → LeavesBy at g s.peers peers → MayFail g → Leaves
+    gained_leaves : (w : Wants) (g : Gained) → IsFor w g → (IsPlace w → IsTokenAccepted s from at ask) → LeavesBy at g s.peers peers → MayFail g → Leaves
     gained_leaves w gained.Name is may h fails = all h
     gained_leaves w (gained.Nodes nodes) is may h fails = all h
     gained_leaves w (gained.Peers list nodes) is may h fails = all h
@@ -71,7 +71,7 @@ module _ (s : NodeState) (from : Addr) (at : ℕ) where
     gained_leaves w gained.RefuseMethod is may h fails = all h
 
 module _ (s : NodeState) (asked : Asked) (at : ℕ) (wants : Wants) (next : NodeState) (planned : wants ≡ wants_of (setting_of s) asked.from at (ask_seen asked.ask)) (rest : next ≡ with_parts s s.table next.peers) where
-  may : IsPlace wants → IsAdmitted s asked.from at (ask_seen asked.ask)
+  may : IsPlace wants → IsTokenAccepted s asked.from at (ask_seen asked.ask)
   may h = placing s asked.from at (ask_seen asked.ask) (subst IsPlace planned h)
 
   pub ends_gathering : LeavesPut at wants s.peers next.peers → EndsAsked s asked at next

@@ -1,7 +1,7 @@
 -- What a datagram is that says a message.
 use Rattle.std.proofs.Common.{◌≡◌, ◌≢◌, ℕ, ◌<◌, ◌≤◌, List, length, Option, Some, None, Result, Ok, Err, refl, subst, ◌∙◌, arith}
 use Rattle.std.specs.Prelude.{MatchOption, IsNone}
-use Rattle.kad_base.specs.declared.plain.Addr.{Addr}
+use Rattle.kad_base.specs.declared.types.Addr.{Addr}
 use Rattle.kad_base.specs.Limits.{max_datagram, max_answered_tx}
 use Rattle.kad_krpc.specs.declared.message.KrpcFault.{KrpcFault}
 use Rattle.kad_krpc.specs.declared.message.Message.{Message}

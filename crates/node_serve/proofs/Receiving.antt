@@ -3,14 +3,14 @@ use Rattle.std.proofs.Common.{◌≡◌, ◌≤◌, ◌<◌, ℕ, zero, suc, ◌
 use Rattle.std.specs.Prelude.{filter}
 use Rattle.std.proofs.lemmas.List.{append-nil, append_assoc, length-append}
 use Rattle.std.proofs.lemmas.List.Elements.{filter-append}
-use Rattle.kad_base.specs.declared.plain.Addr.{Addr}
-use Rattle.kad_base.specs.declared.plain.Event.{Event}
-use Rattle.kad_base.specs.declared.plain.Event.TheVariants.{Got, Quiet}
+use Rattle.kad_base.specs.declared.types.Addr.{Addr}
+use Rattle.kad_base.specs.declared.types.Event.{Event}
+use Rattle.kad_base.specs.declared.types.Event.TheVariants.{Got, Quiet}
 use Rattle.kad_base.specs.Outside.{Grows, Rose}
 use Rattle.kad_base.proofs.Grown.{grows_then, grows_weaker, grows_none}
-use Rattle.node_serve.specs.declared.respond.Server.{Server}
-use Rattle.node_serve.specs.declared.respond.ServeFault.{ServeFault}
-use Rattle.node_serve.specs.declared.respond.ServeFault.TheVariants.{LinkFault, NoMemory}
+use Rattle.node_serve.specs.declared.service.Server.{Server}
+use Rattle.node_serve.specs.declared.service.ServeFault.{ServeFault}
+use Rattle.node_serve.specs.declared.service.ServeFault.TheVariants.{LinkFault, NoMemory}
 use Rattle.node_serve.specs.AnswerOf.{Answers, EndsEarly}
 use Rattle.node_serve.specs.NodeState.{NodeState}
 use Rattle.node_serve.specs.Queries.{IsSilent}

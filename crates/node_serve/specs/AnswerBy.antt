@@ -1,7 +1,7 @@
 -- The calls of one node on what it holds, one after another, and what an answer is in their terms.
 use Rattle.std.specs.Prelude.{◌≡◌, ℕ, Bool, List, [], ◌∷◌, map}
 use Rattle.std.specs.List.{All}
-use Rattle.kad_base.specs.declared.plain.Addr.{Addr}
+use Rattle.kad_base.specs.declared.types.Addr.{Addr}
 use Rattle.kad_krpc.specs.declared.message.Ask.{Ask}
 use Rattle.kad_krpc.specs.declared.message.Message.{Message}
 use Rattle.contact_table.specs.TableState.{TableState}

@@ -1,11 +1,11 @@
 -- The answer to a datagram: its reply, made from the state before it, and the state after it. Whoever asks in the open is
 -- told to the routing table afterwards (Kademlia, 2002, section 2.2), but who is read-only isn't (BEP 43).
 use Rattle.std.specs.Prelude.{◌≡◌, ◌≢◌, ℕ, Bool, true, false, List, Option, Some, None}
-use Rattle.kad_base.specs.declared.plain.Id.{Id}
-use Rattle.kad_base.specs.declared.plain.Addr.{Addr}
-use Rattle.kad_base.specs.declared.plain.Contact.{Contact}
-use Rattle.kad_base.specs.declared.plain.Policy.{Policy}
-use Rattle.kad_base.specs.declared.plain.Policy.TheVariants.{Plain, Puzzled}
+use Rattle.kad_base.specs.declared.types.Id.{Id}
+use Rattle.kad_base.specs.declared.types.Addr.{Addr}
+use Rattle.kad_base.specs.declared.types.Contact.{Contact}
+use Rattle.kad_base.specs.declared.types.Policy.{Policy}
+use Rattle.kad_base.specs.declared.types.Policy.TheVariants.{Plain, Puzzled}
 use Rattle.kad_krpc.specs.declared.message.Ask.{Ask}
 use Rattle.kad_krpc.specs.declared.message.Ask.TheVariants.{Ping, FindNode, GetPeers, AnnouncePeer, Other}
 use Rattle.kad_krpc.specs.declared.message.Message.{Message}
@@ -75,15 +75,15 @@ pub record Answers (s : NodeState) (from : Addr) (bytes : List ℕ) (at : ℕ) (
 -- ---- want of memory
 
 -- an announcement whose token is accepted
-abbrev pub IsAdmitted : NodeState → Addr → ℕ → Ask → Type 0
-IsAdmitted s from at (AnnouncePeer id key port token) = IsAccepted s.tokens (ip_bytes from.ip) at token
-IsAdmitted s from at other = ⊥
+abbrev pub IsTokenAccepted : NodeState → Addr → ℕ → Ask → Type 0
+IsTokenAccepted s from at (AnnouncePeer id key port token) = IsAccepted s.tokens (ip_bytes from.ip) at token
+IsTokenAccepted s from at other = ⊥
 
 -- what it may leave of the peers: all; those that a purge leaves, where a peer was to be added; or those of the whole
 -- answer, where only the table had no memory for the asker
 pub data LeavesPeers (s : NodeState) (from : Addr) (at : ℕ) (tx : List ℕ) (ask : Ask) (told : Option Contact) (peers : List Held) : Type 0 where
   all : peers ≡ s.peers → LeavesPeers s from at tx ask told peers
-  purged_only : IsAdmitted s from at ask → peers ≡ purged s.peers at → LeavesPeers s from at tx ask told peers
+  purged_only : IsTokenAccepted s from at ask → peers ≡ purged s.peers at → LeavesPeers s from at tx ask told peers
   whole : (reply : Message) → told ≢ None → RepliesWith s from at tx ask (record { message = reply; peers = peers }) → LeavesPeers s from at tx ask told peers
 
 -- the datagram is a query whose answer found no memory: the table is as it was

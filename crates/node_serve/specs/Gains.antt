@@ -1,7 +1,7 @@
 -- What a query wants, and what its calls gave, as whoever makes the calls has them: the code between the calls of a datagram
 -- and its reply.
 use Rattle.std.specs.Prelude.{ℕ, ◌≤◌, cond, List, [], ◌∷◌, drop, length}
-use Rattle.kad_base.specs.declared.plain.Addr.{Addr}
+use Rattle.kad_base.specs.declared.types.Addr.{Addr}
 use Rattle.kad_krpc.specs.declared.message.Ask.{Ask}
 use Rattle.kad_krpc.specs.declared.message.Ask.TheVariants.{Ping, FindNode, GetPeers, AnnouncePeer, Other}
 use Rattle.kad_krpc.specs.declared.message.Message.{Message}

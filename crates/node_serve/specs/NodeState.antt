@@ -1,9 +1,9 @@
 -- What callers see of a node that answers.
 use Rattle.std.specs.Prelude.{◌≡◌, ℕ, ◌<◌, ◌≤◌, List, []}
 use Rattle.std.specs.List.{All}
-use Rattle.kad_base.specs.declared.plain.Id.{Id}
-use Rattle.kad_base.specs.declared.plain.Report.{Report}
-use Rattle.kad_base.specs.declared.plain.Policy.{Policy}
+use Rattle.kad_base.specs.declared.types.Id.{Id}
+use Rattle.kad_base.specs.declared.types.Report.{Report}
+use Rattle.kad_base.specs.declared.types.Policy.{Policy}
 use Rattle.kad_base.specs.Limits.{max_k}
 use Rattle.kad_base.specs.Puzzles.{Passes}
 use Rattle.contact_table.specs.TableState.{TableState}

@@ -1,9 +1,9 @@
 -- The receive calls of a node that serves: each query among the datagrams which came was answered by the reply that a node owes
 -- it (BEP 5), as the datagrams before had left the node, and nothing else was sent.
 use Rattle.std.specs.Prelude.{◌≡◌, ◌⊎◌, ℕ, zero, suc, ◌+◌, ◌^◌, ◌-◌, ◌<◌, ◌≤◌, min, Bool, true, false, List, [], ◌∷◌, ◌++◌, length, filter}
-use Rattle.kad_base.specs.declared.plain.Addr.{Addr}
-use Rattle.kad_base.specs.declared.plain.Event.{Event}
-use Rattle.kad_base.specs.declared.plain.Event.TheVariants.{Got, Quiet, Sent, Unsent}
+use Rattle.kad_base.specs.declared.types.Addr.{Addr}
+use Rattle.kad_base.specs.declared.types.Event.{Event}
+use Rattle.kad_base.specs.declared.types.Event.TheVariants.{Got, Quiet, Sent, Unsent}
 use Rattle.kad_krpc.specs.declared.message.Message.{Message}
 use Rattle.kad_krpc.specs.Form.{form}
 use Rattle.node_serve.specs.AnswerOf.{AnswerOf, EndsEarly}

@@ -1,14 +1,14 @@
 -- What a node replies to a query, and the peers that it holds then, by the first rule that fits (BEP 5). The nodes that it
 -- names are Kademlia's (2002, section 2.3). `snodes`, the limit of peers and the text of a refusal are this project's own.
 use Rattle.std.specs.Prelude.{◌≡◌, ℕ, Bool, true, false, List, [], ◌∷◌, filter, find, flat_map, codes, pos, Option, Some, None, option_to_list}
-use Rattle.kad_base.specs.declared.plain.Id.{Id}
-use Rattle.kad_base.specs.declared.plain.Ip.{Ip}
-use Rattle.kad_base.specs.declared.plain.Ip.TheVariants.{V4, V6}
-use Rattle.kad_base.specs.declared.plain.Addr.{Addr}
-use Rattle.kad_base.specs.declared.plain.Contact.{Contact}
-use Rattle.kad_base.specs.declared.plain.Report.{Report}
-use Rattle.kad_base.specs.declared.plain.Policy.{Policy}
-use Rattle.kad_base.specs.declared.plain.Policy.TheVariants.{Plain, Puzzled}
+use Rattle.kad_base.specs.declared.types.Id.{Id}
+use Rattle.kad_base.specs.declared.types.Ip.{Ip}
+use Rattle.kad_base.specs.declared.types.Ip.TheVariants.{V4, V6}
+use Rattle.kad_base.specs.declared.types.Addr.{Addr}
+use Rattle.kad_base.specs.declared.types.Contact.{Contact}
+use Rattle.kad_base.specs.declared.types.Report.{Report}
+use Rattle.kad_base.specs.declared.types.Policy.{Policy}
+use Rattle.kad_base.specs.declared.types.Policy.TheVariants.{Plain, Puzzled}
 use Rattle.kad_base.specs.Contacts.{same}
 use Rattle.kad_distance.specs.KClosest.{k_closest}
 use Rattle.kad_krpc.specs.declared.message.Ask.{Ask}

@@ -1,11 +1,11 @@
 -- One receive call of a node that serves, and all of them, as the code has them; no public contract speaks of these.
 use Rattle.std.specs.Prelude.{◌≡◌, ℕ, ◌+◌, List, [], Option}
-use Rattle.kad_base.specs.declared.plain.Addr.{Addr}
-use Rattle.kad_base.specs.declared.plain.Event.{Event}
+use Rattle.kad_base.specs.declared.types.Addr.{Addr}
+use Rattle.kad_base.specs.declared.types.Event.{Event}
 use Rattle.kad_base.specs.Outside.{Grows}
-use Rattle.node_serve.specs.declared.respond.Server.{Server}
-use Rattle.node_serve.specs.declared.respond.ServeFault.{ServeFault}
-use Rattle.node_serve.specs.declared.respond.ServeFault.TheVariants.{LinkFault, NoMemory}
+use Rattle.node_serve.specs.declared.service.Server.{Server}
+use Rattle.node_serve.specs.declared.service.ServeFault.{ServeFault}
+use Rattle.node_serve.specs.declared.service.ServeFault.TheVariants.{LinkFault, NoMemory}
 use Rattle.node_serve.specs.NodeState.{NodeState}
 use Rattle.node_serve.specs.Receives.{ServeState, Responds, ServesOne, Serves, Unanswered, got_in, sent_in}
 

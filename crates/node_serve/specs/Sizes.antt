@@ -1,9 +1,9 @@
 -- How long a reply is at most; no public contract speaks of it.
 use Rattle.std.specs.Prelude.{ℕ, ◌*◌, ◌≤◌, List, length, flat_map, Option, Some, None}
 use Rattle.kad_bencode.specs.Spelling.{integer_text}
-use Rattle.kad_base.specs.declared.plain.Addr.{Addr}
-use Rattle.kad_base.specs.declared.plain.Contact.{Contact}
-use Rattle.kad_base.specs.declared.plain.Report.{Report}
+use Rattle.kad_base.specs.declared.types.Addr.{Addr}
+use Rattle.kad_base.specs.declared.types.Contact.{Contact}
+use Rattle.kad_base.specs.declared.types.Report.{Report}
 use Rattle.kad_krpc.specs.declared.message.Answer.{Answer}
 use Rattle.kad_krpc.specs.declared.message.Message.{Message}
 use Rattle.kad_krpc.specs.declared.message.Message.TheVariants as message

@@ -1,6 +1,6 @@
 //! What holds of every answer. Each law is the clause of a function that does nothing.
 ghost use Rattle.std.specs.Prelude.{◌≡◌, ℕ, List};
-ghost use Rattle.kad_base.specs.declared.plain.Addr.{Addr};
+ghost use Rattle.kad_base.specs.declared.types.Addr.{Addr};
 ghost use Rattle.kad_krpc.specs.declared.message.Message.{Message};
 ghost use Rattle.contact_table.specs.TableState.{SoundTable};
 ghost use Rattle.node_serve.specs.AnswerBy.{AnswerBy};

@@ -10,23 +10,23 @@
 
 mod asked;
 mod composing;
-mod fits;
 mod gather;
 mod laws;
 mod node;
 mod nodes;
 mod planning;
 mod reply;
-mod respond;
+mod service;
 mod setting;
+mod size_bound;
 #[cfg(test)]
 mod tests;
 
 pub use asked::{Asked, read_query, told_for};
 pub use composing::{Gained, compose};
-pub use fits::write;
 pub use laws::{one_answer, same_answer};
 pub use node::{Answered, Node};
 pub use planning::{Wants, plan};
-pub use respond::{ServeCounts, ServeFault, serve_loop};
+pub use service::{ServeCounts, ServeFault, serve_loop};
 pub use setting::ServeSetting;
+pub use size_bound::write;

@@ -12,10 +12,10 @@ ghost use Rattle.node_serve.specs.declared.node.Answered.{Answered};
 
 use crate::asked::{Asked, read_query, told_for};
 use crate::composing::compose;
-use crate::fits::write;
 use crate::gather::{gather, tell};
 use crate::planning::plan;
 use crate::setting::ServeSetting;
+use crate::size_bound::write;
 use contact_table::Table;
 use kad_base::{Addr, Id, List, NoMemory, Policy, Reports};
 use peer_store::{Peers, Tokens};

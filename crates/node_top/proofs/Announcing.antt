@@ -7,10 +7,10 @@ use Rattle.std.proofs.lemmas.List.{append-nil, map-append, length-append, take_m
 use Rattle.std.proofs.lemmas.List.Elements.{filter-append}
 use Rattle.std.proofs.lemmas.Grind.{flat_map-append}
 use Rattle.std.proofs.Math.Seq.{take-append_seam}
-use Rattle.kad_base.specs.declared.plain.Id.{Id}
-use Rattle.kad_base.specs.declared.plain.Addr.{Addr}
-use Rattle.kad_base.specs.declared.plain.Contact.{Contact}
-use Rattle.kad_base.specs.declared.plain.Event.{Event}
+use Rattle.kad_base.specs.declared.types.Id.{Id}
+use Rattle.kad_base.specs.declared.types.Addr.{Addr}
+use Rattle.kad_base.specs.declared.types.Contact.{Contact}
+use Rattle.kad_base.specs.declared.types.Event.{Event}
 use Rattle.kad_base.specs.Contacts.{same}
 use Rattle.kad_base.specs.Outside.{Grows}
 use Rattle.id_puzzles.specs.Drawn.{WordsState}
@@ -20,7 +20,7 @@ use Rattle.kad_krpc.specs.declared.message.Ask.TheVariants.{AnnouncePeer}
 use Rattle.kad_krpc.specs.declared.message.Message.TheVariants as message
 use Rattle.kad_krpc.specs.declared.message.Port.{Port}
 use Rattle.kad_krpc.specs.Form.{form}
-use Rattle.lookup_run.specs.declared.plain.Token.{Token}
+use Rattle.lookup_run.specs.declared.types.Token.{Token}
 use Rattle.node_top.specs.Announced.{Announcement, port_of, announcement, first_from, tokens_for, announcements, owed, tried, asking, Announces, AnnouncesSome, is_sent, sent_in}
 
 -- ---- one list of them after another

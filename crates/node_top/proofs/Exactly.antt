@@ -1,12 +1,12 @@
 -- What may be seen of an input and a link has one reading, so that causes keep each other out.
 use Rattle.std.proofs.Common.{◌≡◌, ◌≢◌, ℕ, ◌+◌, ◌≤◌, List, [], ◌∷◌, ◌++◌, length, Option, Some, None, inl, inr, refl, sym, ap, subst, ◌∙◌, arith}
 use Rattle.std.proofs.lemmas.List.{append-nil, append_cancel_left, length-append}
-use Rattle.kad_base.specs.declared.plain.Id.{Id}
-use Rattle.kad_base.specs.declared.plain.Contact.{Contact}
-use Rattle.kad_base.specs.declared.plain.Report.{Report}
-use Rattle.kad_base.specs.declared.plain.Policy.{Policy}
-use Rattle.kad_base.specs.declared.plain.Event.{Event}
-use Rattle.kad_base.specs.declared.plain.Event.TheVariants.{Got}
+use Rattle.kad_base.specs.declared.types.Id.{Id}
+use Rattle.kad_base.specs.declared.types.Contact.{Contact}
+use Rattle.kad_base.specs.declared.types.Report.{Report}
+use Rattle.kad_base.specs.declared.types.Policy.{Policy}
+use Rattle.kad_base.specs.declared.types.Event.{Event}
+use Rattle.kad_base.specs.declared.types.Event.TheVariants.{Got}
 use Rattle.kad_base.specs.Limits.{max_strays}
 use Rattle.kad_base.specs.Outside.{Grows, Rose}
 use Rattle.kad_base.proofs.Grown.{grows_none}

@@ -1,6 +1,6 @@
 -- What `serve` does behind its input keeps the laws of what is done there.
 use Rattle.std.proofs.Common.{ℕ, List, [], ◌∷◌, inl, refl}
-use Rattle.kad_base.specs.declared.plain.Event.{Event}
+use Rattle.kad_base.specs.declared.types.Event.{Event}
 use Rattle.node_top.specs.declared.serve.Service.{Service}
 use Rattle.node_top.specs.declared.status.Status.{Status}
 use Rattle.node_top.specs.declared.status.Status.TheVariants.{LinkFault}

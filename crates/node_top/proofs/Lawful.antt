@@ -1,9 +1,9 @@
 -- What every promise keeps: its ends exclude each other, and each status says the same of whatever command it ends.
 use Rattle.std.proofs.Common.{◌≡◌, ℕ, List, IsTrue, None}
-use Rattle.kad_base.specs.declared.plain.Event.{Event}
+use Rattle.kad_base.specs.declared.types.Event.{Event}
 use Rattle.node_top.specs.declared.status.Status.{Status}
 use Rattle.node_top.specs.declared.status.Status.TheVariants.{Usage, BadLine, LinkFault, SourceFault, Strays, NoSeeds, NoMemory, Unminted, TooLong}
-use Rattle.node_top.specs.Endings.{number_of, EndsEarly, MayEnd, OrNoMemory}
+use Rattle.node_top.specs.Endings.{number_of, EndsUnasked, MayEnd, OrNoMemory}
 use Rattle.node_top.specs.Input.{ReadsTooMuch, IsBadLine}
 use Rattle.node_top.specs.Looked.{GivesSeeds, GivesNoSeeds, MeetsLastStray}
 use Rattle.node_top.specs.Promise.{Promise}
@@ -40,7 +40,7 @@ Means p random source link TooLong = IsTrue p.reads × ReadsTooMuch source.befor
 
 -- nothing was told before the link was called
 abbrev pub IsUncalled : Shown Event → Status → Type 0
-IsUncalled link status = EndsEarly (number_of status) → link.after ≡ link.before
+IsUncalled link status = EndsUnasked (number_of status) → link.after ≡ link.before
 
 pub record Lawful (p : Promise) : Type 0 where
   -- with its text there is no sign of another end

@@ -5,7 +5,7 @@ use Rattle.std.specs.List.{AllZip, enumerate_from}
 use Rattle.std.proofs.lemmas.Grind.{flat_map-append}
 use Rattle.std.proofs.lemmas.List.{append-nil, take_more, take_all, take-append-drop, drop_more, length-take-le}
 use Rattle.std.proofs.lemmas.List.FromFn.{get_or-enumerate_from, length-enumerate_from}
-use Rattle.kad_base.specs.declared.plain.Report.{Report}
+use Rattle.kad_base.specs.declared.types.Report.{Report}
 use Rattle.node_top.specs.Lines.{IsBad, IsFirstBad, Reporting, Tells}
 
 -- ---- one line more

@@ -9,10 +9,10 @@ use Rattle.std.proofs.lemmas.List.Elements.{All-append, All-cons, All-nil}
 use Rattle.std.proofs.lemmas.Str.Ascii.{IsAscii-from_all}
 use Rattle.std.proofs.lemmas.Str.Pattern.{IsSplitOnceResult, split_after, split_parts}
 use Rattle.hex.specs.Hex.{is_hex_digit}
-use Rattle.kad_base.specs.declared.plain.Proof.{Proof}
-use Rattle.kad_base.specs.declared.plain.Report.{Report}
-use Rattle.kad_base.specs.declared.plain.Addr.{Addr}
-use Rattle.kad_base.specs.declared.plain.Id.{Id}
+use Rattle.kad_base.specs.declared.types.Proof.{Proof}
+use Rattle.kad_base.specs.declared.types.Report.{Report}
+use Rattle.kad_base.specs.declared.types.Addr.{Addr}
+use Rattle.kad_base.specs.declared.types.Id.{Id}
 use Rattle.kad_words.specs.Text.{SpellsAddr, SpellsHex, SpellsId, ip_text}
 use Rattle.node_top.specs.Lines.{EndsWithProof, IsBad, IsContactLine, IsPassedOver, SpellsProof}
 use Rattle.kad_words.proofs.AddrSpelling.{decimal_digits, v4_bytes}

@@ -1,6 +1,6 @@
 -- What `lookup` does behind its input, and any command that looks up, keeps the laws of what is done there.
 use Rattle.std.proofs.Common.{ℕ, List, [], ◌∷◌, Some, inl, inr, refl}
-use Rattle.kad_base.specs.declared.plain.Event.{Event}
+use Rattle.kad_base.specs.declared.types.Event.{Event}
 use Rattle.lookup_core.specs.declared.quest.AskKind.TheVariants.{FindNode}
 use Rattle.kad_words.specs.declared.command.LookWords.{LookWords}
 use Rattle.node_top.specs.declared.status.Status.{Status}

@@ -3,10 +3,10 @@ use Rattle.std.proofs.Common.{◌≡◌, ℕ, ◌+◌, ◌-◌, ◌<◌, List, [
 use Rattle.std.proofs.lemmas.List.{take-append-drop, append-nil, length-drop, take_more}
 use Rattle.std.proofs.Math.Seq.{take-length}
 use Rattle.kad_base.specs.Limits.{max_input}
-use Rattle.kad_base.specs.declared.plain.Id.{Id}
-use Rattle.kad_base.specs.declared.plain.Contact.{Contact}
-use Rattle.kad_base.specs.declared.plain.Report.{Report}
-use Rattle.kad_base.specs.declared.plain.Policy.{Policy}
+use Rattle.kad_base.specs.declared.types.Id.{Id}
+use Rattle.kad_base.specs.declared.types.Contact.{Contact}
+use Rattle.kad_base.specs.declared.types.Report.{Report}
+use Rattle.kad_base.specs.declared.types.Policy.{Policy}
 use Rattle.kad_base.specs.Outside.{Shrinks}
 use Rattle.node_top.specs.Written.{IsFront}
 use Rattle.node_top.specs.Input.{ReadsTooMuch, IsAdmitted, Admits, AdmitsOne, IsKept, Keeps, KeepsOne}

@@ -2,11 +2,11 @@
 use Rattle.std.proofs.Common.{◌≡◌, ◌≢◌, ℕ, ◌+◌, List, [], ◌∷◌, ◌++◌, length, Bool, true, false, Option, inl, refl, sym, ap, subst, ◌∙◌}
 use Rattle.std.proofs.lemmas.List.{append_assoc, append-nil}
 use Rattle.std.proofs.Math.Seq.{take-length}
-use Rattle.kad_base.specs.declared.plain.Addr.{Addr}
-use Rattle.kad_base.specs.declared.plain.Contact.{Contact}
-use Rattle.kad_base.specs.declared.plain.Id.{Id}
-use Rattle.kad_base.specs.declared.plain.Event.{Event}
-use Rattle.kad_base.specs.declared.plain.Event.TheVariants.{Got}
+use Rattle.kad_base.specs.declared.types.Addr.{Addr}
+use Rattle.kad_base.specs.declared.types.Contact.{Contact}
+use Rattle.kad_base.specs.declared.types.Id.{Id}
+use Rattle.kad_base.specs.declared.types.Event.{Event}
+use Rattle.kad_base.specs.declared.types.Event.TheVariants.{Got}
 use Rattle.kad_base.specs.Limits.{max_strays}
 use Rattle.kad_base.specs.Outside.{Grows}
 use Rattle.kad_base.specs.Words.{word}
@@ -17,7 +17,7 @@ use Rattle.claim_book.specs.Result.{result_of}
 use Rattle.lookup_core.specs.declared.quest.AskKind.TheVariants.{GetPeers}
 use Rattle.lookup_run.specs.Tells.{Given, EndsAtStray}
 use Rattle.kad_words.specs.declared.command.LookWords.{LookWords}
-use Rattle.node_top.specs.declared.seek.Reached.{Reached}
+use Rattle.node_top.specs.declared.run_lookup.Reached.{Reached}
 use Rattle.node_top.specs.Announced.{Announcement, owed, tried, asking, Announces, AnnouncesSome}
 use Rattle.node_top.specs.Peered.{announced_by, next_place, TellsPeers, TellsSomePeers, PeersText, PeersBegun, AnnouncedSome, peers_promise}
 use Rattle.node_top.specs.Printed.{printed_peers}

@@ -4,8 +4,8 @@ use Rattle.std.specs.Prelude.{codes, String, flat_map, decimal}
 use Rattle.std.proofs.lemmas.List.{append_assoc, append-nil, drop_more, take_all, take_more}
 use Rattle.std.proofs.lemmas.Grind.{flat_map-append}
 use Rattle.hex.specs.Hex.{encode_lower}
-use Rattle.kad_base.specs.declared.plain.Addr.{Addr}
-use Rattle.kad_base.specs.declared.plain.Contact.{Contact}
+use Rattle.kad_base.specs.declared.types.Addr.{Addr}
+use Rattle.kad_base.specs.declared.types.Contact.{Contact}
 use Rattle.kad_words.specs.Text.{addr_text, groups_after, ip_text}
 use Rattle.node_top.specs.Printed.{contact_text, counts_text, line_of, peers_text, printed, printed_peers}
 use Rattle.node_top.specs.Minted.{minted_line}

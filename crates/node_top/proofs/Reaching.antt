@@ -1,7 +1,7 @@
 -- From a lookup over a link to what its command reaches, and to what each command says of it.
 use Rattle.std.proofs.Common.{◌≡◌, ℕ, List, ◌++◌, Option, Some, None, sym, ap, subst, ◌∙◌}
 use Rattle.std.proofs.lemmas.List.{append_cancel_left}
-use Rattle.kad_base.specs.declared.plain.Event.{Event}
+use Rattle.kad_base.specs.declared.types.Event.{Event}
 use Rattle.kad_base.specs.Limits.{max_strays}
 use Rattle.kad_base.specs.Outside.{Grows}
 use Rattle.kad_base.proofs.Grown.{grows_weaker}
@@ -11,14 +11,14 @@ use Rattle.claim_book.proofs.Claims.{took_distinct, asked_distinct}
 use Rattle.claim_book.proofs.Descent.{own_answers}
 use Rattle.claim_book.proofs.Ends.{found_answered}
 use Rattle.lookup_core.specs.declared.quest.AskKind.{AskKind}
-use Rattle.lookup_run.specs.declared.plain.LookSetting.{LookSetting}
-use Rattle.lookup_run.specs.declared.plain.Outcome.{Outcome}
+use Rattle.lookup_run.specs.declared.types.LookSetting.{LookSetting}
+use Rattle.lookup_run.specs.declared.types.Outcome.{Outcome}
 use Rattle.lookup_run.specs.Tells.{Given, Tells, EndsAtStray}
-use Rattle.lookup_run.specs.Rounds.{Rounds, at_once}
+use Rattle.lookup_run.specs.Rounds.{Rounds, concurrent}
 use Rattle.lookup_run.specs.Gathered.{Gathers}
 use Rattle.lookup_run.specs.Lookup.{given_of, Finished, TellsEarly}
 use Rattle.kad_words.specs.declared.command.LookWords.{LookWords}
-use Rattle.node_top.specs.declared.seek.Reached.{Reached}
+use Rattle.node_top.specs.declared.run_lookup.Reached.{Reached}
 use Rattle.node_top.specs.Printed.{printed}
 use Rattle.node_top.specs.Shown.{Shown}
 use Rattle.node_top.specs.Started.{look_of, book_of, drawn_of, lookup_of, IsInRange, Start}
@@ -51,21 +51,21 @@ ran_out kind look random source start words left told told' o range up =
       have_answered = λ c has. found_answered set o.journal c range.some_path up.legal up.run_out has;
     }
 
-all_told : (g : Given) (o : Outcome) (a b : Option (List Event)) → Grows a b (λ events. Tells g o.journal events) → Grows a b (λ events. Rounds at_once g o.journal events) → Grows a b (λ events. Gathers g o.journal events o.peers o.tokens)
+all_told : (g : Given) (o : Outcome) (a b : Option (List Event)) → Grows a b (λ events. Tells g o.journal events) → Grows a b (λ events. Rounds concurrent g o.journal events) → Grows a b (λ events. Gathers g o.journal events o.peers o.tokens)
     → Grows a b (λ events. ¬ EndsAtStray g events max_strays) → Grows a b (TellsAll g o.journal o.peers o.tokens)
 all_told g o a b tells rounds gathers few =
-    let half = grows_both a b _ _ (λ events. Tells g o.journal events × Rounds at_once g o.journal events) tells rounds (λ t p q. (p, q)) in
+    let half = grows_both a b _ _ (λ events. Tells g o.journal events × Rounds concurrent g o.journal events) tells rounds (λ t p q. (p, q)) in
     let rest = grows_both a b _ _ (λ events. Gathers g o.journal events o.peers o.tokens × ¬ EndsAtStray g events max_strays) gathers few (λ t p q. (p, q)) in
     grows_both a b _ _ (TellsAll g o.journal o.peers o.tokens) half rest (λ t p q. record { tells = p.0; rounds = p.1; gathers = q.0; few_strays = q.1 })
 
 pub reaches : (kind : AskKind) (look : LookWords) (random : List ℕ) (source : Shown ℕ) (link : Shown Event) (setting : LookSetting) (words left : WordsState) (table : TableState) (o : Outcome) → Has kind look random source setting words table
-    → Finished setting table words left link.before link.after o → Grows link.before link.after (λ events. Rounds at_once (given_of setting words) o.journal events)
+    → Finished setting table words left link.before link.after o → Grows link.before link.after (λ events. Rounds concurrent (given_of setting words) o.journal events)
     → Grows link.before link.after (λ events. Gathers (given_of setting words) o.journal events o.peers o.tokens)
     → Grows link.before link.after (λ events. ¬ EndsAtStray (given_of setting words) events max_strays)
     → Reaches kind look random source link (record { own = setting.own; outcome = o; words = left })
 reaches kind look random source link setting words left table o h up rounds gathers few =
     let up' : Finished (look_of kind look random) table (drawn_of random) left link.before link.after o = moved kind look random source setting words table (λ s w. Finished s table w left link.before link.after o) h up in
-    let rounds' = moved kind look random source setting words table (λ s w. Grows link.before link.after (λ events. Rounds at_once (given_of s w) o.journal events)) h rounds in
+    let rounds' = moved kind look random source setting words table (λ s w. Grows link.before link.after (λ events. Rounds concurrent (given_of s w) o.journal events)) h rounds in
     let gathers' = moved kind look random source setting words table (λ s w. Grows link.before link.after (λ events. Gathers (given_of s w) o.journal events o.peers o.tokens)) h gathers in
     let few' = moved kind look random source setting words table (λ s w. Grows link.before link.after (λ events. ¬ EndsAtStray (given_of s w) events max_strays)) h few in
     record {

@@ -4,12 +4,12 @@ use Rattle.std.specs.Prelude.{map, codes, decimal, Result, Err}
 use Rattle.std.specs.List.{All}
 use Rattle.std.proofs.lemmas.List.{append_assoc}
 use Rattle.std.proofs.lemmas.List.Elements.{All-cons, All-nil}
-use Rattle.kad_base.specs.declared.plain.Contact.{Contact}
-use Rattle.kad_base.specs.declared.plain.Event.{Event}
-use Rattle.kad_base.specs.declared.plain.Event.TheVariants.{Now}
-use Rattle.kad_base.specs.declared.plain.Id.{Id}
-use Rattle.kad_base.specs.declared.plain.Policy.{Policy}
-use Rattle.kad_base.specs.declared.plain.Report.{Report}
+use Rattle.kad_base.specs.declared.types.Contact.{Contact}
+use Rattle.kad_base.specs.declared.types.Event.{Event}
+use Rattle.kad_base.specs.declared.types.Event.TheVariants.{Now}
+use Rattle.kad_base.specs.declared.types.Id.{Id}
+use Rattle.kad_base.specs.declared.types.Policy.{Policy}
+use Rattle.kad_base.specs.declared.types.Report.{Report}
 use Rattle.kad_base.specs.Outside.{Grows}
 use Rattle.kad_base.specs.Puzzles.{Passes}
 use Rattle.kad_base.proofs.Grown.{grows_then}
@@ -21,7 +21,7 @@ use Rattle.node_serve.specs.Receives.{ServeState, ServesAll, ServesSome}
 use Rattle.node_top.specs.declared.serve.Service.{Service}
 use Rattle.node_top.specs.declared.status.Status.{Status}
 use Rattle.node_top.specs.declared.status.Status.TheVariants.{Usage, BadLine, LinkFault, SourceFault, Strays, NoSeeds, NoMemory, Unminted, TooLong}
-use Rattle.node_top.specs.Endings.{EndsEarly as EndsBefore}
+use Rattle.node_top.specs.Endings.{EndsUnasked as EndsBefore}
 use Rattle.node_top.specs.Input.{Lists, Admits, Keeps}
 use Rattle.node_top.specs.Looked.{ReportsCause}
 use Rattle.node_top.specs.Printed.{served_text}

@@ -3,11 +3,11 @@ use Rattle.std.proofs.Common.{◌≡◌, ℕ, List, [], ◌++◌, length, Option
 use Rattle.std.specs.Prelude.{min, map, codes, decimal, IfSome}
 use Rattle.std.specs.List.{All}
 use Rattle.std.proofs.lemmas.List.{append_assoc}
-use Rattle.kad_base.specs.declared.plain.Id.{Id}
-use Rattle.kad_base.specs.declared.plain.Contact.{Contact}
-use Rattle.kad_base.specs.declared.plain.Report.{Report}
-use Rattle.kad_base.specs.declared.plain.Policy.TheVariants.{Plain}
-use Rattle.kad_base.specs.declared.plain.Event.{Event}
+use Rattle.kad_base.specs.declared.types.Id.{Id}
+use Rattle.kad_base.specs.declared.types.Contact.{Contact}
+use Rattle.kad_base.specs.declared.types.Report.{Report}
+use Rattle.kad_base.specs.declared.types.Policy.TheVariants.{Plain}
+use Rattle.kad_base.specs.declared.types.Event.{Event}
 use Rattle.kad_base.specs.Contacts.{IsUsable}
 use Rattle.kad_base.specs.Outside.{Grows}
 use Rattle.kad_distance.specs.KClosest.{k_closest}
@@ -20,10 +20,10 @@ use Rattle.contact_table.specs.Told.{new_table}
 use Rattle.claim_book.specs.Journal.{asked, failed, turned}
 use Rattle.claim_book.specs.Result.{result_of}
 use Rattle.claim_book.proofs.Descent.{own_answers}
-use Rattle.lookup_run.specs.declared.plain.LookSetting.{LookSetting}
+use Rattle.lookup_run.specs.declared.types.LookSetting.{LookSetting}
 use Rattle.lookup_core.specs.declared.quest.AskKind.TheVariants.{FindNode}
-use Rattle.lookup_run.specs.declared.plain.Outcome.{Outcome}
-use Rattle.lookup_run.specs.Rounds.{Rounds, path_by_path}
+use Rattle.lookup_run.specs.declared.types.Outcome.{Outcome}
+use Rattle.lookup_run.specs.Rounds.{Rounds, sequential}
 use Rattle.lookup_run.specs.Lookup.{IsWithinLimits, given_of, Finished, TableTold}
 use Rattle.node_top.specs.declared.sim.Simulation.{Simulation}
 use Rattle.kad_words.specs.declared.command.LookWords.{LookWords}
@@ -98,7 +98,7 @@ sim_usable s start b =
 simulates_at : (s : Simulation) (left : WordsState) (contacts : List Contact) (table : TableState) (near : List Contact) (o : Outcome) (events : List Event) (text : List ℕ)
     → Admits (own_of None s.seed) Plain (first_nodes s) contacts → StartsWith (sim_look s) s.seed contacts table → near ≡ sought_in s → Plays (network_of s) events
     → Finished (look_of FindNode (sim_look s) s.seed) table (drawn_of s.seed) left (Some []) (Some events) o
-    → Grows (Some []) (Some events) (λ events. Rounds path_by_path (lookup_of FindNode (sim_look s) s.seed) o.journal events)
+    → Grows (Some []) (Some events) (λ events. Rounds sequential (lookup_of FindNode (sim_look s) s.seed) o.journal events)
     → text ≡ line_of (sim_text (length o.found) o.counts.asked o.counts.failed o.counts.turned (count_among near o.found)) → SimText s text
 simulates_at s left contacts table near o events text admits told near_is plays up rounds is =
     let R = result_of (book_of FindNode (sim_look s) s.seed) o.journal in
@@ -128,7 +128,7 @@ simulates_at s left contacts table near o events text admits told near_is plays 
 -- the same over the values that the code has
 pub simulates : (s : Simulation) (start : Start) (words left : WordsState) (o : Outcome) (net : Network) (before after : Option (List Event)) (text : List ℕ)
     → Begins s start → words ≡ drawn_of s.seed → net ≡ network_of s → before ≡ Some [] → (after ≡ None → ⊥) → IfSome after (Plays net)
-    → Finished start.setting start.table words left before after o → Grows before after (λ events. Rounds path_by_path (given_of start.setting words) o.journal events)
+    → Finished start.setting start.table words left before after o → Grows before after (λ events. Rounds sequential (given_of start.setting words) o.journal events)
     → text ≡ line_of (sim_text (length o.found) o.counts.asked o.counts.failed o.counts.turned (count_among start.near o.found)) → SimText s text
 simulates s start words left o net before None text begun f net_is began goes_on plays up rounds is = absurd (goes_on refl)
 simulates s start words left o net before (Some events) text begun f net_is began goes_on plays up rounds is =
@@ -137,9 +137,9 @@ simulates s start words left o net before (Some events) text begun f net_is bega
     (subst (λ (st : LookSetting). Finished st start.table (drawn_of s.seed) left (Some []) (Some events) o) begun.setting_is
     (subst (λ (w : WordsState). Finished start.setting start.table w left (Some []) (Some events) o) f
     (subst (λ (b : Option (List Event)). Finished start.setting start.table words left b (Some events) o) began up)))
-    (subst (λ (st : LookSetting). Grows (Some []) (Some events) (λ events. Rounds path_by_path (given_of st (drawn_of s.seed)) o.journal events)) begun.setting_is
-    (subst (λ (w : WordsState). Grows (Some []) (Some events) (λ events. Rounds path_by_path (given_of start.setting w) o.journal events)) f
-    (subst (λ (b : Option (List Event)). Grows b (Some events) (λ events. Rounds path_by_path (given_of start.setting words) o.journal events)) began rounds)))
+    (subst (λ (st : LookSetting). Grows (Some []) (Some events) (λ events. Rounds sequential (given_of st (drawn_of s.seed)) o.journal events)) begun.setting_is
+    (subst (λ (w : WordsState). Grows (Some []) (Some events) (λ events. Rounds sequential (given_of start.setting w) o.journal events)) f
+    (subst (λ (b : Option (List Event)). Grows b (Some events) (λ events. Rounds sequential (given_of start.setting words) o.journal events)) began rounds)))
     is
 
 pub sim_pieces : (found asked failed turned honest : ℕ)

@@ -1,7 +1,7 @@
 -- What a command does behind its input keeps laws of its own; then the command that reads it keeps those of every promise.
 -- So does a command that reads nothing.
 use Rattle.std.proofs.Common.{◌≡◌, ℕ, List, IsTrue, None, inl, inr, refl, true≢false, sym}
-use Rattle.kad_base.specs.declared.plain.Event.{Event}
+use Rattle.kad_base.specs.declared.types.Event.{Event}
 use Rattle.node_top.specs.declared.status.Status.{Status}
 use Rattle.node_top.specs.declared.status.Status.TheVariants.{BadLine, SourceFault, Strays, NoSeeds, NoMemory, Unminted, TooLong}
 use Rattle.node_top.specs.Endings.{number_of, MayEnd, OrNoMemory}

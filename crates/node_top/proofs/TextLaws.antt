@@ -7,11 +7,11 @@ use Rattle.std.specs.List.{AllZip, AllPass}
 use Rattle.std.proofs.lemmas.List.{append_assoc, append-nil}
 use Rattle.std.proofs.lemmas.List.Elements.{All-head}
 use Rattle.hex.specs.Hex.{IsBytes, encode_lower, encode_with, is_hex_digit, lower_digits}
-use Rattle.kad_base.specs.declared.plain.Id.{Id}
-use Rattle.kad_base.specs.declared.plain.Addr.{Addr}
-use Rattle.kad_base.specs.declared.plain.Contact.{Contact}
-use Rattle.kad_base.specs.declared.plain.Proof.{Proof}
-use Rattle.kad_base.specs.declared.plain.Report.{Report}
+use Rattle.kad_base.specs.declared.types.Id.{Id}
+use Rattle.kad_base.specs.declared.types.Addr.{Addr}
+use Rattle.kad_base.specs.declared.types.Contact.{Contact}
+use Rattle.kad_base.specs.declared.types.Proof.{Proof}
+use Rattle.kad_base.specs.declared.types.Report.{Report}
 use Rattle.kad_words.specs.Text.{IsV4, SpellsAddr, SpellsHex, SpellsId, addr_text}
 use Rattle.node_top.specs.Lines.{EndsWithProof, IsBad, IsContactLine, IsFirstBad, IsPassedOver, Reporting, SpellsProof, Tells}
 use Rattle.node_top.specs.Printed.{contact_text}

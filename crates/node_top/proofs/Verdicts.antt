@@ -4,8 +4,8 @@ use Rattle.std.specs.Prelude.{codes, decimal, flat_map}
 use Rattle.std.specs.List.{AllZip}
 use Rattle.std.proofs.lemmas.Grind.{flat_map-append}
 use Rattle.std.proofs.lemmas.List.{append_assoc, append-nil, take_more, take_all}
-use Rattle.kad_base.specs.declared.plain.Report.{Report}
-use Rattle.kad_base.specs.declared.plain.Policy.{Policy}
+use Rattle.kad_base.specs.declared.types.Report.{Report}
+use Rattle.kad_base.specs.declared.types.Policy.{Policy}
 use Rattle.node_top.specs.Checked.{Judges, passed_of, passed_text, verdict_text, verdicts_printed, check_aim, check_promise}
 use Rattle.node_top.specs.Printed.{line_of}
 use Rattle.node_top.proofs.LineLaws.{AllZip-push}

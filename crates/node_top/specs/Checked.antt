@@ -2,8 +2,8 @@
 -- lines are this project's own.
 use Rattle.std.specs.Prelude.{◌≡◌, ◌↔◌, ℕ, List, [], ◌++◌, length, codes, decimal, filter, flat_map, Bool, true, false, IsTrue, None}
 use Rattle.std.specs.List.{AllZip}
-use Rattle.kad_base.specs.declared.plain.Report.{Report}
-use Rattle.kad_base.specs.declared.plain.Policy.{Policy}
+use Rattle.kad_base.specs.declared.types.Report.{Report}
+use Rattle.kad_base.specs.declared.types.Policy.{Policy}
 use Rattle.kad_base.specs.Puzzles.{Passes}
 use Rattle.node_top.specs.Shown.{Shown}
 use Rattle.node_top.specs.Input.{Lists, ReadsWell}

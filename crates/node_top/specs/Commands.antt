@@ -1,8 +1,8 @@
 -- What the top calls promise, by the command that the words ask for. A command more is a line in `promise_of`.
 use Rattle.std.specs.Prelude.{◌≡◌, ℕ, List, Option, IsTrue}
-use Rattle.kad_base.specs.declared.plain.Id.{Id}
-use Rattle.kad_base.specs.declared.plain.Policy.{Policy}
-use Rattle.kad_base.specs.declared.plain.Event.{Event}
+use Rattle.kad_base.specs.declared.types.Id.{Id}
+use Rattle.kad_base.specs.declared.types.Policy.{Policy}
+use Rattle.kad_base.specs.declared.types.Event.{Event}
 use Rattle.kad_base.specs.Outside.{Grows}
 use Rattle.kad_words.specs.Table.{Word}
 use Rattle.kad_words.specs.Plain.{CommandOf}

@@ -1,6 +1,6 @@
 -- How the top call ends: the number and the line of each status, and what was written. All of it is this project's own.
 use Rattle.std.specs.Prelude.{◌≡◌, ◌⊎◌, ℕ, List, ◌++◌, ◌∷◌, codes, decimal}
-use Rattle.kad_base.specs.declared.plain.Event.{Event}
+use Rattle.kad_base.specs.declared.types.Event.{Event}
 use Rattle.kad_base.specs.Outside.{Grows}
 use Rattle.node_top.specs.declared.status.Status.{Status}
 use Rattle.node_top.specs.declared.status.Status.TheVariants.{Usage, BadLine, LinkFault, SourceFault, Strays, NoSeeds, NoMemory, Unminted, TooLong}
@@ -70,8 +70,8 @@ abbrev pub EndsByCommand : List Word → ℕ → Type 0
 EndsByCommand words status = (command : Command) → CommandOf words command → MayEnd (promise_of command) status
 
 -- the statuses that end a command before it calls the link
-abbrev pub EndsEarly : ℕ → Type 0
-EndsEarly status = (status ≡ 2) ⊎ (status ≡ 3) ⊎ (status ≡ 6) ⊎ (status ≡ 8) ⊎ (status ≡ 10) ⊎ (status ≡ 11)
+abbrev pub EndsUnasked : ℕ → Type 0
+EndsUnasked status = (status ≡ 2) ⊎ (status ≡ 3) ⊎ (status ≡ 6) ⊎ (status ≡ 8) ⊎ (status ≡ 10) ⊎ (status ≡ 11)
 
 -- this status, or that of no memory
 abbrev pub OrNoMemory : ℕ → ℕ → Type 0

@@ -1,6 +1,6 @@
 -- What the command `serve` promises.
 use Rattle.std.specs.Prelude.{ℕ, List, [], ◌∷◌, true, None}
-use Rattle.kad_base.specs.declared.plain.Event.{Event}
+use Rattle.kad_base.specs.declared.types.Event.{Event}
 use Rattle.node_top.specs.declared.serve.Service.{Service}
 use Rattle.node_top.specs.declared.status.Status.{Status}
 use Rattle.node_top.specs.declared.status.Status.TheVariants.{LinkFault}

@@ -4,8 +4,8 @@ use Rattle.std.specs.Prelude.{◌≡◌, ℕ, ◌+◌, List, [], ◌∷◌, ◌+
 use Rattle.std.specs.List.{AllZip, slice_split}
 use Rattle.std.specs.Str.{byte}
 use Rattle.std.specs.Str.Lines.{strip_carriage_return}
-use Rattle.kad_base.specs.declared.plain.Proof.{Proof}
-use Rattle.kad_base.specs.declared.plain.Report.{Report}
+use Rattle.kad_base.specs.declared.types.Proof.{Proof}
+use Rattle.kad_base.specs.declared.types.Report.{Report}
 use Rattle.kad_words.specs.Text.{SpellsHex, SpellsId, SpellsAddr}
 
 -- the parts between the line feeds of an input. After the last line feed stands a last part, which may be empty

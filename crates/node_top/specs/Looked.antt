@@ -2,22 +2,22 @@
 -- events tell (S/Kademlia, 2007, section 4.4, over Kademlia, 2002, section 2.3); and what any lookup is that ended early.
 use Rattle.std.specs.Prelude.{◌≡◌, ℕ, List, [], ◌∷◌, length, true, Option, Some, None}
 use Rattle.std.specs.List.{IsDistinct}
-use Rattle.kad_base.specs.declared.plain.Id.{Id}
-use Rattle.kad_base.specs.declared.plain.Policy.{Policy}
-use Rattle.kad_base.specs.declared.plain.Event.{Event}
+use Rattle.kad_base.specs.declared.types.Id.{Id}
+use Rattle.kad_base.specs.declared.types.Policy.{Policy}
+use Rattle.kad_base.specs.declared.types.Event.{Event}
 use Rattle.kad_base.specs.Contacts.{same}
 use Rattle.kad_base.specs.Limits.{max_strays}
 use Rattle.kad_base.specs.Outside.{Grows}
 use Rattle.id_puzzles.specs.Drawn.{WordsState}
-use Rattle.claim_book.specs.declared.plain.Setting.{Setting}
-use Rattle.claim_book.specs.declared.plain.Entry.{Entry}
+use Rattle.claim_book.specs.declared.types.Setting.{Setting}
+use Rattle.claim_book.specs.declared.types.Entry.{Entry}
 use Rattle.claim_book.specs.Journal.{asked, failed, turned}
 use Rattle.claim_book.specs.Lineage.{GoesByOwnAnswers}
 use Rattle.claim_book.specs.Result.{result_of}
 use Rattle.lookup_core.specs.declared.quest.AskKind.{AskKind}
 use Rattle.lookup_core.specs.declared.quest.AskKind.TheVariants.{FindNode}
 use Rattle.lookup_run.specs.Tells.{Tells, EndsAtStray}
-use Rattle.lookup_run.specs.Rounds.{Rounds, at_once}
+use Rattle.lookup_run.specs.Rounds.{Rounds, concurrent}
 use Rattle.lookup_run.specs.Lookup.{Unfinished}
 use Rattle.kad_words.specs.declared.command.LookWords.{LookWords}
 use Rattle.node_top.specs.declared.status.Status.{Status}
@@ -47,7 +47,7 @@ pub record LookupText (kind : AskKind) (look : LookWords) (random : List ℕ) (s
   pub journal : List Entry
   pub ran : HasRunOut kind look random source journal
   pub tells : Grows link.before link.after (λ events. Tells (lookup_of kind look random) journal events)
-  pub rounds : Grows link.before link.after (λ events. Rounds at_once (lookup_of kind look random) journal events)
+  pub rounds : Grows link.before link.after (λ events. Rounds concurrent (lookup_of kind look random) journal events)
   pub few_strays : MeetsFewStrays kind look random link
   pub text_is : text ≡ printed_of (book_of kind look random) journal
 

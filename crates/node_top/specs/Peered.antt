@@ -1,14 +1,14 @@
 -- What the command `peers` promises: that its text names the peers which the answers of a lookup gave (BEP 5, `get_peers`),
 -- and that then, where it is told a port, it announces it to each contact of the result that gave a token.
 use Rattle.std.specs.Prelude.{◌≡◌, ◌⊎◌, ℕ, ◌+◌, List, ◌++◌, length, Option}
-use Rattle.kad_base.specs.declared.plain.Addr.{Addr}
-use Rattle.kad_base.specs.declared.plain.Event.{Event}
+use Rattle.kad_base.specs.declared.types.Addr.{Addr}
+use Rattle.kad_base.specs.declared.types.Event.{Event}
 use Rattle.kad_base.specs.Outside.{Grows}
-use Rattle.claim_book.specs.declared.plain.Entry.{Entry}
+use Rattle.claim_book.specs.declared.types.Entry.{Entry}
 use Rattle.claim_book.specs.Journal.{asked, failed, turned}
 use Rattle.claim_book.specs.Result.{result_of}
 use Rattle.lookup_core.specs.declared.quest.AskKind.TheVariants.{GetPeers}
-use Rattle.lookup_run.specs.declared.plain.Token.{Token}
+use Rattle.lookup_run.specs.declared.types.Token.{Token}
 use Rattle.kad_words.specs.declared.command.LookWords.{LookWords}
 use Rattle.node_top.specs.Announced.{Announcement, owed, Announces, AnnouncesSome, sent_in}
 use Rattle.node_top.specs.Looked.{LookupBegun, MeetsFewStrays, seek_aim}

@@ -1,8 +1,8 @@
 -- What is printed. The lines are this project's own.
 use Rattle.std.specs.Prelude.{ℕ, List, ◌++◌, length, codes, decimal, flat_map}
 use Rattle.hex.specs.Hex.{encode_lower}
-use Rattle.kad_base.specs.declared.plain.Addr.{Addr}
-use Rattle.kad_base.specs.declared.plain.Contact.{Contact}
+use Rattle.kad_base.specs.declared.types.Addr.{Addr}
+use Rattle.kad_base.specs.declared.types.Contact.{Contact}
 use Rattle.kad_words.specs.Text.{addr_text}
 
 -- a text as a line

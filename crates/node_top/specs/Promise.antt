@@ -1,7 +1,7 @@
 -- What a command promises: one record of predicates, by the random bytes and by what the source and the link showed. Each
 -- command's own stands in its spec, and `promise_of` (`Commands`) is the table of all.
 use Rattle.std.specs.Prelude.{◌≡◌, ◌⊎◌, ℕ, List, [], ◌∷◌, Bool, true, false, Option, None}
-use Rattle.kad_base.specs.declared.plain.Event.{Event}
+use Rattle.kad_base.specs.declared.types.Event.{Event}
 use Rattle.lookup_core.specs.declared.quest.AskKind.{AskKind}
 use Rattle.kad_words.specs.declared.command.LookWords.{LookWords}
 use Rattle.node_top.specs.declared.status.Status.{Status}

@@ -2,13 +2,13 @@
 -- events tell it, and all its paths have run out (S/Kademlia, 2007, section 4.4, over Kademlia, 2002, section 2.3).
 use Rattle.std.specs.Prelude.{◌≡◌, ℕ, ◌<◌, List, true}
 use Rattle.std.specs.List.{IsDistinct}
-use Rattle.kad_base.specs.declared.plain.Addr.{Addr}
-use Rattle.kad_base.specs.declared.plain.Contact.{Contact}
-use Rattle.kad_base.specs.declared.plain.Event.{Event}
+use Rattle.kad_base.specs.declared.types.Addr.{Addr}
+use Rattle.kad_base.specs.declared.types.Contact.{Contact}
+use Rattle.kad_base.specs.declared.types.Event.{Event}
 use Rattle.kad_base.specs.Contacts.{same, among}
 use Rattle.kad_base.specs.Limits.{max_strays}
 use Rattle.kad_base.specs.Outside.{Grows}
-use Rattle.claim_book.specs.declared.plain.Entry.{Entry}
+use Rattle.claim_book.specs.declared.types.Entry.{Entry}
 use Rattle.claim_book.specs.Journal.{seeds, took, asked, answered}
 use Rattle.claim_book.specs.Legal.{Legal}
 use Rattle.claim_book.specs.RunOut.{RunOut}
@@ -16,13 +16,13 @@ use Rattle.claim_book.specs.Result.{result_of}
 use Rattle.claim_book.specs.Lineage.{GoesByOwnAnswers}
 use Rattle.claim_book.specs.Calls.{Counted}
 use Rattle.lookup_core.specs.declared.quest.AskKind.{AskKind}
-use Rattle.lookup_run.specs.declared.plain.Token.{Token}
+use Rattle.lookup_run.specs.declared.types.Token.{Token}
 use Rattle.lookup_run.specs.Tells.{Given, Tells, EndsAtStray}
-use Rattle.lookup_run.specs.Rounds.{Rounds, at_once}
+use Rattle.lookup_run.specs.Rounds.{Rounds, concurrent}
 use Rattle.lookup_run.specs.Gathered.{Gathers}
 use Rattle.lookup_run.specs.Lookup.{seeds_in, drawn_for}
 use Rattle.kad_words.specs.declared.command.LookWords.{LookWords}
-use Rattle.node_top.specs.declared.seek.Reached.{Reached}
+use Rattle.node_top.specs.declared.run_lookup.Reached.{Reached}
 use Rattle.node_top.specs.Shown.{Shown}
 use Rattle.node_top.specs.Started.{own_of, look_of, book_of, drawn_of, lookup_of, Start}
 
@@ -43,7 +43,7 @@ pub record HasRunOut (kind : AskKind) (look : LookWords) (random : List ℕ) (so
 -- don't end with the last stray that a lookup takes
 pub record TellsAll (g : Given) (J : List Entry) (peers : List Addr) (tokens : List Token) (events : List Event) : Type 0 where
   pub tells : Tells g J events
-  pub rounds : Rounds at_once g J events
+  pub rounds : Rounds concurrent g J events
   pub gathers : Gathers g J events peers tokens
   pub few_strays : ¬ EndsAtStray g events max_strays
 

@@ -1,7 +1,7 @@
 -- What a call saw of a source, a link or a sink: what it told that it holds, and how often it had failed, before and
 -- after.
 use Rattle.std.specs.Prelude.{◌≢◌, ℕ, List, Option, None}
-use Rattle.kad_base.specs.declared.plain.Event.{Event}
+use Rattle.kad_base.specs.declared.types.Event.{Event}
 use Rattle.kad_base.specs.Outside.{Rose}
 
 pub record Shown (A : Type 0) : Type 0 where

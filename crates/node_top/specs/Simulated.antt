@@ -1,11 +1,11 @@
 -- What `sim` makes: the line of a lookup in a network that follows from a seed, which begins with the network's first
 -- nodes. The network and the line are this project's own.
 use Rattle.std.specs.Prelude.{◌≡◌, ℕ, ◌<◌, ◌≤◌, List, [], ◌++◌, min, map, filter, length, codes, decimal, Some, None}
-use Rattle.kad_base.specs.declared.plain.Id.{Id}
-use Rattle.kad_base.specs.declared.plain.Contact.{Contact}
-use Rattle.kad_base.specs.declared.plain.Report.{Report}
-use Rattle.kad_base.specs.declared.plain.Policy.TheVariants.{Plain}
-use Rattle.kad_base.specs.declared.plain.Event.{Event}
+use Rattle.kad_base.specs.declared.types.Id.{Id}
+use Rattle.kad_base.specs.declared.types.Contact.{Contact}
+use Rattle.kad_base.specs.declared.types.Report.{Report}
+use Rattle.kad_base.specs.declared.types.Policy.TheVariants.{Plain}
+use Rattle.kad_base.specs.declared.types.Event.{Event}
 use Rattle.kad_base.specs.Contacts.{among}
 use Rattle.kad_base.specs.Limits.{max_k, max_paths, max_alpha}
 use Rattle.kad_base.specs.Outside.{Grows}
@@ -13,7 +13,7 @@ use Rattle.kad_distance.specs.KClosest.{k_closest}
 use Rattle.fake_net.specs.Network.{Network, numbers, node, target_of, honest}
 use Rattle.fake_net.specs.Plays.{Plays}
 use Rattle.contact_table.specs.TableState.{TableState}
-use Rattle.claim_book.specs.declared.plain.Entry.{Entry}
+use Rattle.claim_book.specs.declared.types.Entry.{Entry}
 use Rattle.claim_book.specs.Journal.{seeds, asked, failed, turned}
 use Rattle.claim_book.specs.Legal.{Legal}
 use Rattle.claim_book.specs.RunOut.{RunOut}
@@ -21,7 +21,7 @@ use Rattle.claim_book.specs.Lineage.{GoesByOwnAnswers}
 use Rattle.claim_book.specs.Result.{result_of}
 use Rattle.lookup_core.specs.declared.quest.AskKind.TheVariants.{FindNode}
 use Rattle.lookup_run.specs.Tells.{Tells}
-use Rattle.lookup_run.specs.Rounds.{Rounds, path_by_path}
+use Rattle.lookup_run.specs.Rounds.{Rounds, sequential}
 use Rattle.lookup_run.specs.Lookup.{seeds_in}
 use Rattle.kad_words.specs.declared.command.LookWords.{LookWords}
 use Rattle.node_top.specs.declared.sim.Simulation.{Simulation}
@@ -112,7 +112,7 @@ pub record SimText (s : Simulation) (text : List ℕ) : Type 0 where
   pub legal : Legal (book_of FindNode (sim_look s) s.seed) journal
   pub seeds_are : seeds journal ≡ seeds_in (look_of FindNode (sim_look s) s.seed) table
   pub tells : Grows (Some []) (Some events) (λ events. Tells (lookup_of FindNode (sim_look s) s.seed) journal events)
-  pub rounds : Grows (Some []) (Some events) (λ events. Rounds path_by_path (lookup_of FindNode (sim_look s) s.seed) journal events)
+  pub rounds : Grows (Some []) (Some events) (λ events. Rounds sequential (lookup_of FindNode (sim_look s) s.seed) journal events)
   pub run_out : (p : ℕ) → p < s.paths → RunOut (book_of FindNode (sim_look s) s.seed) p journal
   pub own_answers : GoesByOwnAnswers (book_of FindNode (sim_look s) s.seed) journal
   pub text_is : text ≡ line_of (sim_text_of s journal)

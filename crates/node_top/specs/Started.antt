@@ -1,16 +1,16 @@
 -- What a lookup starts from: its setting, by the words, and a routing table, by the words and the input (Kademlia, 2002,
 -- sections 2.2 and 2.4).
 use Rattle.std.specs.Prelude.{◌≢◌, ℕ, List, [], map, Option, Some, None, ◌≤◌}
-use Rattle.kad_base.specs.declared.plain.Id.{Id}
-use Rattle.kad_base.specs.declared.plain.Contact.{Contact}
+use Rattle.kad_base.specs.declared.types.Id.{Id}
+use Rattle.kad_base.specs.declared.types.Contact.{Contact}
 use Rattle.kad_base.specs.Limits.{max_k, max_paths, max_alpha, max_bits}
 use Rattle.kad_base.specs.Words.{drawn_bytes}
 use Rattle.id_puzzles.specs.Drawn.{WordsState}
 use Rattle.contact_table.specs.declared.calls.TableCall.TheVariants.{Seen}
 use Rattle.contact_table.specs.TableState.{TableState}
 use Rattle.contact_table.specs.Told.{new_table}
-use Rattle.claim_book.specs.declared.plain.Setting.{Setting}
-use Rattle.lookup_run.specs.declared.plain.LookSetting.{LookSetting}
+use Rattle.claim_book.specs.declared.types.Setting.{Setting}
+use Rattle.lookup_run.specs.declared.types.LookSetting.{LookSetting}
 use Rattle.lookup_core.specs.declared.quest.AskKind.{AskKind}
 use Rattle.lookup_run.specs.Tells.{Given}
 use Rattle.lookup_run.specs.Lookup.{setting_of, given_of, Told, TableTold}

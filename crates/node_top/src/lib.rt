@@ -4,22 +4,22 @@
 
 mod announce;
 mod asked;
+mod bootstrap;
 mod call;
 mod check;
 mod input;
 mod lines;
 mod lookup;
 mod mint;
+mod offline;
 mod output;
 mod peers;
-mod plain;
 mod printed;
-mod seek;
+mod run_lookup;
 mod serve;
 mod sim;
-mod start;
 mod status;
 mod top;
 
-pub use plain::run_plain;
+pub use offline::run_plain;
 pub use top::run;

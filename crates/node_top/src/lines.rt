@@ -1,8 +1,8 @@
 //! The lines of an input, and the contacts that they name.
 ghost use Rattle.std.specs.Prelude.{◌≡◌, List, ℕ, Option, MatchOption, MatchResult, IfOk};
 ghost use Rattle.std.specs.Str.Lines.{strip_carriage_return};
-ghost use Rattle.kad_base.specs.declared.plain.Proof.{Proof};
-ghost use Rattle.kad_base.specs.declared.plain.Report.{Report};
+ghost use Rattle.kad_base.specs.declared.types.Proof.{Proof};
+ghost use Rattle.kad_base.specs.declared.types.Report.{Report};
 ghost use Rattle.node_top.specs.Lines.{lines, Tells, IsBad, IsContactLine, SpellsProof, Reporting, IsFirstBad};
 
 use kad_base::{Contact, List, NoMemory, Proof, Report, Reports};

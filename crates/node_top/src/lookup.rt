@@ -1,6 +1,6 @@
 //! The command `lookup`: looks the target up, and makes the text of what it found.
 ghost use Rattle.std.specs.Prelude.{◌≡◌, ◌⊎◌, IfOk, IfErr};
-ghost use Rattle.node_top.specs.Endings.{EndsEarly, number_of};
+ghost use Rattle.node_top.specs.Endings.{EndsUnasked, number_of};
 ghost use Rattle.node_top.specs.Looked.{LookupText, LookupCause, LookupBegun};
 ghost use Rattle.node_top.specs.Printed.{printed};
 ghost use Rattle.node_top.specs.Started.{IsInRange};
@@ -8,7 +8,7 @@ ghost use Rattle.node_top.specs.Shown.{shown};
 
 use crate::call::Call;
 use crate::printed::print;
-use crate::seek::seek;
+use crate::run_lookup::run_lookup;
 use crate::status::Status;
 use kad_base::{Bytes, Check, Link, NoMemory, Source};
 use kad_words::LookWords;
@@ -53,9 +53,9 @@ pub(crate) fn lookup<R: Threads + Wait + Sync, S: Source, L: Link, C: Check + Sy
         LookupBegun AskKind.FindNode look.now call.now.random
         (shown S.left S.faults source.old source.new)
         (shown L.told L.recv_faults link.old link.new) ⊎ (link.new ≡ link.old)) }
-    ensures early { IfErr result (λ status. EndsEarly (number_of status) → link.new ≡ link.old) }
+    ensures early { IfErr result (λ status. EndsUnasked (number_of status) → link.new ≡ link.old) }
 {
     let kind = AskKind::FindNode;
-    let reached = seek(rt, alloc, kind, look, source, link, call)?;
+    let reached = run_lookup(rt, alloc, kind, look, source, link, call)?;
     Ok(text_of(alloc, &reached.outcome)?)
 }

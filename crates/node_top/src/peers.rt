@@ -4,7 +4,7 @@ ghost use Rattle.std.specs.Prelude.{◌≡◌, ◌≤◌, ◌⊎◌, ◌+◌, �
 ghost use Rattle.kad_base.specs.Outside.{Grows};
 ghost use Rattle.lookup_core.specs.declared.quest.AskKind.TheVariants.{GetPeers};
 ghost use Rattle.node_top.specs.Announced.{owed, Announces, AnnouncesSome, sent_in};
-ghost use Rattle.node_top.specs.Endings.{EndsEarly, number_of};
+ghost use Rattle.node_top.specs.Endings.{EndsUnasked, number_of};
 ghost use Rattle.node_top.specs.Looked.{LookupCause};
 ghost use Rattle.node_top.specs.Peered.{PeersText, PeersBegun};
 ghost use Rattle.node_top.specs.Started.{IsInRange};
@@ -13,7 +13,7 @@ ghost use Rattle.node_top.specs.Shown.{shown};
 use crate::announce::{Announced, announce};
 use crate::call::Call;
 use crate::printed::print_peers;
-use crate::seek::{Reached, seek};
+use crate::run_lookup::{Reached, run_lookup};
 use crate::status::Status;
 use id_puzzles::Words;
 use kad_base::{Bytes, Check, Id, Link, NoMemory, Source};
@@ -77,10 +77,10 @@ pub(crate) fn peers<R: Threads + Wait + Sync, S: Source, L: Link, C: Check + Syn
         PeersBegun look.now port call.now.random
         (shown S.left S.faults source.old source.new)
         (shown L.told L.recv_faults link.old link.new) ⊎ (link.new ≡ link.old)) }
-    ensures early { IfErr result (λ status. EndsEarly (number_of status) → link.new ≡ link.old) }
+    ensures early { IfErr result (λ status. EndsUnasked (number_of status) → link.new ≡ link.old) }
 {
     let kind = AskKind::GetPeers;
-    let reached = seek(rt, alloc, kind, look, source, link, call)?;
+    let reached = run_lookup(rt, alloc, kind, look, source, link, call)?;
     let Reached {
         own,
         outcome,

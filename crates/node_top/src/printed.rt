@@ -1,8 +1,8 @@
 //! What is printed.
 ghost use Rattle.std.specs.Prelude.{◌≡◌, ◌++◌, ◌^◌, ◌<◌, IfOk, OnOk, length, string_bytes};
 ghost use Rattle.hex.specs.Hex.{IsBytes};
-ghost use Rattle.kad_base.specs.declared.plain.Contact.{Contact};
-ghost use Rattle.kad_base.specs.declared.plain.Ip.TheVariants.{V6};
+ghost use Rattle.kad_base.specs.declared.types.Contact.{Contact};
+ghost use Rattle.kad_base.specs.declared.types.Ip.TheVariants.{V6};
 ghost use Rattle.kad_words.specs.Text.{IsV4, addr_text, ip_text};
 ghost use Rattle.node_top.specs.Lines.{IsContactLine};
 ghost use Rattle.node_top.specs.Printed.{printed, contact_text, counts_text, line_of, peers_text, printed_peers};

@@ -1,17 +1,17 @@
 //! The command `serve`: a node that answers queries, and in the end the text of how many datagrams came and how many
 //! replies it sent.
 ghost use Rattle.std.specs.Prelude.{◌≡◌, ◌⊎◌, IfOk, IfErr, string_bytes};
-ghost use Rattle.node_top.specs.Endings.{EndsEarly, number_of};
+ghost use Rattle.node_top.specs.Endings.{EndsUnasked, number_of};
 ghost use Rattle.node_top.specs.Looked.{ReportsCause};
 ghost use Rattle.node_top.specs.Printed.{printed_served, served_text};
 ghost use Rattle.node_top.specs.Served.{Hosts, ServeBegun, ServeCause, ServeText};
 ghost use Rattle.node_top.specs.Started.{AreTableBounds, own_of};
 ghost use Rattle.node_top.specs.Shown.{shown};
 
+use crate::bootstrap::{own_id, table_of};
 use crate::call::Call;
 use crate::input::{admitted, kept, read_reports};
 use crate::printed::add_line;
-use crate::start::{own_id, table_of};
 use crate::status::Status;
 use contact_table::Table;
 use kad_base::{Bytes, Check, Id, Link, List, NoMemory, Policy, Reports, Source};
@@ -96,7 +96,7 @@ pub(crate) fn serve<S: Source, L: Link, C: Check>(
         ServeBegun service.now call.now.random
         (shown S.left S.faults source.old source.new)
         (shown L.told L.recv_faults link.old link.new) ⊎ (link.new ≡ link.old)) }
-    ensures early { IfErr result (λ status. EndsEarly (number_of status) → link.new ≡ link.old) }
+    ensures early { IfErr result (λ status. EndsUnasked (number_of status) → link.new ≡ link.old) }
 {
     let own = own_id(service.own, &call.random);
     let host = read_host(alloc, service, own, source, call)?;

@@ -6,10 +6,10 @@ ghost use Rattle.fake_net.specs.Network.{numbers};
 ghost use Rattle.node_top.specs.Printed.{line_of};
 ghost use Rattle.node_top.specs.Simulated.{network_of, look_to, IsSimulable, report_of, count_among, sim_text, Begins, SimText};
 
+use crate::bootstrap::{FIRST_TX, setting_for, table_of};
 use crate::call::Call;
 use crate::input::admitted;
 use crate::printed::add_line;
-use crate::start::{FIRST_TX, setting_for, table_of};
 use crate::status::Status;
 use contact_table::Table;
 use fake_net::SimNet;

@@ -4,14 +4,14 @@ ghost use Rattle.node_top.specs.Asked.{Asks, AsksPlain, bytes_of};
 ghost use Rattle.node_top.specs.Shown.{shown, IsTold, HasFailed};
 ghost use Rattle.node_top.specs.Input.{HasBadLine, ReadsTooMuch};
 ghost use Rattle.node_top.specs.Commands.{promise_of, IsDone, HasText, HasCause, HasBegun, HasNoSeeds, HasNothing, HasSeeds, HasStart, HasStrays, GoesWell, ReadsInput};
-ghost use Rattle.node_top.specs.Endings.{number_of, WritesLine, CutShort, EndsByCommand, EndsEarly, OrNoMemory};
+ghost use Rattle.node_top.specs.Endings.{number_of, WritesLine, CutShort, EndsByCommand, EndsUnasked, OrNoMemory};
 
 use crate::asked::asked;
 use crate::call::Call;
 use crate::lookup::lookup;
+use crate::offline::plain_output_of;
 use crate::output::{write_line, write_output};
 use crate::peers::peers;
-use crate::plain::plain_output_of;
 use crate::serve::{Service, serve};
 use crate::status::Status;
 use kad_base::{Bytes, Check, Link, Sink, Source};
@@ -37,7 +37,7 @@ fn output_of<R: Threads + Wait + Sync, S: Source, L: Link, C: Check + Sync>(
     ensures cause { IfErr result ((promise_of command).cause call.now.random
         (shown S.left S.faults source.old source.new)
         (shown L.told L.recv_faults link.old link.new)) }
-    ensures early { IfErr result (λ status. EndsEarly (number_of status) → link.new ≡ link.old) }
+    ensures early { IfErr result (λ status. EndsUnasked (number_of status) → link.new ≡ link.old) }
     ensures no_memory { IfErr result (λ status. status ≡ Status.NoMemory →
         (promise_of command).begun call.now.random
         (shown S.left S.faults source.old source.new)
@@ -87,7 +87,7 @@ fn asked_output<R: Threads + Wait + Sync, S: Source, L: Link, C: Check + Sync>(
         (shown S.left S.faults source.old source.new)
         (shown L.told L.recv_faults link.old link.new)) }
     ensures unread { IfErr result (λ status. number_of status ≡ 2 → source.new ≡ source.old) }
-    ensures early { IfErr result (λ status. EndsEarly (number_of status) → link.new ≡ link.old) }
+    ensures early { IfErr result (λ status. EndsUnasked (number_of status) → link.new ≡ link.old) }
     ensures no_memory { IfErr result (λ status. status ≡ Status.NoMemory →
         HasBegun (bytes_of words.now) call.now.random
         (shown S.left S.faults source.old source.new)
@@ -205,7 +205,7 @@ pub fn run<R: Threads + Wait + Sync, S: Source, K: Sink, L: Link, C: Check + Syn
     // before it is first called, and for a command that takes none.
     ensures unread { result ≡ 2 → source.new ≡ source.old }
     ensures no_input { ¬ ReadsInput (bytes_of words.now) → source.new ≡ source.old }
-    ensures unasked { EndsEarly result → link.new ≡ link.old }
+    ensures unasked { EndsUnasked result → link.new ≡ link.old }
     ensures no_link { AsksPlain (bytes_of words.now) → link.new ≡ link.old }
     ensures by_command { EndsByCommand (bytes_of words.now) result }
     ensures statuses { (result ≤ 11) × (result ≢ 1) }

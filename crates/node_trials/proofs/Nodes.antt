@@ -1,7 +1,7 @@
 -- Lists of contacts that a message can name.
 use Rattle.std.proofs.Common.{◌≡◌, List, [], ◌∷◌, ◌++◌, subst, sym}
 use Rattle.std.specs.List.{AllByRecursion}
-use Rattle.kad_base.specs.declared.plain.Contact.{Contact}
+use Rattle.kad_base.specs.declared.types.Contact.{Contact}
 use Rattle.kad_krpc.specs.Form.{IsNode}
 
 nodes_push : (xs : List Contact) (x : Contact) → AllByRecursion IsNode xs → IsNode x → AllByRecursion IsNode (xs ++ x ∷ [])

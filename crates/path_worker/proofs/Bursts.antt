@@ -4,14 +4,14 @@ use Rattle.std.specs.List.{flat_map}
 use Rattle.std.proofs.lemmas.List.{length-append}
 use Rattle.std.proofs.lemmas.List.Elements.{All-push, All-nil}
 use Rattle.std.proofs.lemmas.Grind.{flat_map-append}
-use Rattle.kad_base.specs.declared.plain.Contact.{Contact}
-use Rattle.kad_base.specs.declared.plain.Policy.{Policy}
+use Rattle.kad_base.specs.declared.types.Contact.{Contact}
+use Rattle.kad_base.specs.declared.types.Policy.{Policy}
 use Rattle.kad_base.specs.Serial.{made}
 use Rattle.turn_book.specs.Turns.{PassState, mine}
 use Rattle.claim_book.specs.declared.calls.BookCall.TheVariants.{Pull, Note, Settle}
 use Rattle.claim_book.specs.declared.calls.BookReply.TheVariants.{Alive, Idle, Kept, Report as Report_reply}
 use Rattle.claim_book.specs.CheckedState.{CheckedState}
-use Rattle.kad_base.specs.declared.plain.Report.{Report}
+use Rattle.kad_base.specs.declared.types.Report.{Report}
 use Rattle.contact_table.specs.declared.calls.TableCall.{TableCall}
 use Rattle.contact_table.specs.declared.calls.TableReply.{TableReply}
 use Rattle.contact_table.specs.declared.calls.TableCall.TheVariants.{Seen}

@@ -5,13 +5,13 @@ use Rattle.std.proofs.lemmas.Bool.{eqb-true, eq-eqb}
 use Rattle.std.proofs.lemmas.List.{length-append, length-map}
 use Rattle.std.proofs.lemmas.List.Sums.{sum_by-append, sum_by-cons}
 use Rattle.kad_base.specs.declared.serial.Made.{Made}
-use Rattle.kad_base.specs.declared.plain.Policy.{Policy}
+use Rattle.kad_base.specs.declared.types.Policy.{Policy}
 use Rattle.kad_base.specs.Serial.{calls_of, left_by, IsRun}
 use Rattle.claim_book.specs.CheckedState.{CheckedState}
-use Rattle.claim_book.specs.declared.plain.Setting.{Setting}
-use Rattle.claim_book.specs.declared.plain.Entry.{Entry}
-use Rattle.claim_book.specs.declared.plain.Entry.TheVariants.{Ask as Ask_entry, Heard as Heard_entry, Lost as Lost_entry, Note as Note_entry, Taken as Taken_entry, Held as Held_entry, Turned as Turned_entry, Rejected as Rejected_entry, Skipped as Skipped_entry}
-use Rattle.claim_book.specs.declared.plain.Thing.TheVariants.{Told}
+use Rattle.claim_book.specs.declared.types.Setting.{Setting}
+use Rattle.claim_book.specs.declared.types.Entry.{Entry}
+use Rattle.claim_book.specs.declared.types.Entry.TheVariants.{Ask as Ask_entry, Heard as Heard_entry, Lost as Lost_entry, Note as Note_entry, Taken as Taken_entry, Held as Held_entry, Turned as Turned_entry, Rejected as Rejected_entry, Skipped as Skipped_entry}
+use Rattle.claim_book.specs.declared.types.Thing.TheVariants.{Told}
 use Rattle.claim_book.specs.declared.calls.BookCall.{BookCall}
 use Rattle.claim_book.specs.declared.calls.BookCall.TheVariants.{Next, Heard, Lost, Finish, Pull, Note, Settle}
 use Rattle.claim_book.specs.declared.calls.BookReply.{BookReply}

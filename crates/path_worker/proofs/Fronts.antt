@@ -8,12 +8,12 @@ use Rattle.kad_base.specs.declared.serial.Made.{Made}
 use Rattle.kad_base.specs.Serial.{made, calls_of, left_by, IsRun}
 use Rattle.kad_base.proofs.Runs.{left_by-append}
 use Rattle.turn_book.specs.Turns.{PassState, GoesOnTo, mine}
-use Rattle.claim_book.specs.declared.plain.Setting.{Setting}
-use Rattle.claim_book.specs.declared.plain.Thing.{Thing}
-use Rattle.claim_book.specs.declared.plain.Thing.TheVariants.{Responder, Told}
-use Rattle.kad_base.specs.declared.plain.Contact.{Contact}
-use Rattle.claim_book.specs.declared.plain.Entry.{Entry}
-use Rattle.claim_book.specs.declared.plain.Entry.TheVariants.{Ask as Ask_entry, Heard as Heard_entry, Lost as Lost_entry, Note as Note_entry}
+use Rattle.claim_book.specs.declared.types.Setting.{Setting}
+use Rattle.claim_book.specs.declared.types.Thing.{Thing}
+use Rattle.claim_book.specs.declared.types.Thing.TheVariants.{Responder, Told}
+use Rattle.kad_base.specs.declared.types.Contact.{Contact}
+use Rattle.claim_book.specs.declared.types.Entry.{Entry}
+use Rattle.claim_book.specs.declared.types.Entry.TheVariants.{Ask as Ask_entry, Heard as Heard_entry, Lost as Lost_entry, Note as Note_entry}
 use Rattle.claim_book.specs.declared.calls.BookCall.{BookCall}
 use Rattle.claim_book.specs.declared.calls.BookCall.TheVariants.{Next, Heard, Lost, Finish, Pull, Note, Settle}
 use Rattle.claim_book.specs.declared.calls.BookReply.{BookReply}

@@ -12,11 +12,11 @@ use Rattle.contact_table.specs.declared.calls.TableReply.{TableReply}
 use Rattle.contact_table.specs.declared.calls.TableReply.TheVariants.{NoMemory}
 use Rattle.contact_table.specs.TableState.{TableState}
 use Rattle.contact_table.specs.TableStep.{TableMay, TableStep, table_after}
-use Rattle.claim_book.specs.declared.plain.Entry.{Entry}
+use Rattle.claim_book.specs.declared.types.Entry.{Entry}
 use Rattle.claim_book.specs.Journal.{settles_on}
 use Rattle.claim_book.specs.State.{BookState}
 use Rattle.path_worker.specs.Settling.{role_of, seen_with, TellsSeen, Settling, SettlesAll}
-use Rattle.path_worker.specs.Steps.{SettlesOne, IsSettled}
+use Rattle.path_worker.specs.WorkerSteps.{SettlesOne, IsSettled}
 
 -- a run goes on with another
 pub IsRun-append : (s : TableState) (xs ys : List (Made TableCall TableReply)) → IsRun TableMay TableStep table_after s xs → IsRun TableMay TableStep table_after (left_by table_after s xs) ys → IsRun TableMay TableStep table_after s (xs ++ ys)

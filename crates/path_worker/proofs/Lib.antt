@@ -1,10 +1,10 @@
-pub mod Steps
+pub mod WorkerSteps
 pub mod Joined
 mod Fronts
 mod Counts
 mod Bursts
-mod Deals
-mod Crews
+mod Assigns
+mod Pools
 mod Whose
 mod Entries
 mod Telling

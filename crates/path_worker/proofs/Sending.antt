@@ -2,8 +2,8 @@
 use denote.Param.Send.{IsSend, sendable}
 use denote.Struct.Declared.{row}
 use Rattle.std.proofs.Crossing.{crosses}
-use Rattle.kad_base.proofs.plain.Policy.TheSendSync.{the_field_send as policy_send}
-use Rattle.kad_base.proofs.plain.NoMemory.TheSendSync.{the_send as no_memory_send}
+use Rattle.kad_base.proofs.types.Policy.TheSendSync.{the_field_send as policy_send}
+use Rattle.kad_base.proofs.types.NoMemory.TheSendSync.{the_send as no_memory_send}
 use Rattle.bucket_tree.proofs.bucket.Bucket.TheSendSync.{the_send as row_send}
 use Rattle.bucket_tree.proofs.node.Node.TheLaws.TheKnot.{send-Node as node_send}
 use Rattle.bucket_tree.specs.contracts.buckets.Buckets.{the_row as buckets_row}
@@ -12,7 +12,7 @@ use Rattle.contact_table.specs.contracts.table.Table.{the_row as table_row}
 use Rattle.claim_book.proofs.state.Book.TheSendSync.{the_send as book_send}
 use Rattle.turn_book.proofs.row.Pass.TheSendSync.{the_send as pass_send}
 use Rattle.path_worker.specs.contracts.worker.Worker.{the_row as worker_row}
-use Rattle.path_worker.specs.contracts.crew.Shift.{the_type as shift_type}
+use Rattle.path_worker.specs.contracts.pool.Job.{the_type as job_type}
 
 pub buckets_send : IsSend buckets_row
 buckets_send = search (sendable, crosses, row_send, node_send) depth 14
@@ -23,5 +23,5 @@ table_send = search (sendable, siblings_send, buckets_send) depth 14
 pub worker_send : IsSend worker_row
 worker_send = search (sendable, policy_send, book_send, pass_send, table_send) depth 20
 
-pub shift_send : IsSend (row shift_type)
-shift_send = search (sendable, no_memory_send, worker_send) depth 14
+pub job_send : IsSend (row job_type)
+job_send = search (sendable, no_memory_send, worker_send) depth 14

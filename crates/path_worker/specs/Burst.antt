@@ -1,9 +1,9 @@
 -- What the calls of a worker's burst are.
 use Rattle.std.specs.Prelude.{◌≡◌, ◌≢◌, ℕ, ◌-◌, List, [], ◌∷◌, ◌++◌, length, Some, ◌<◌}
 use Rattle.std.specs.List.{All, flat_map}
-use Rattle.kad_base.specs.declared.plain.Contact.{Contact}
-use Rattle.kad_base.specs.declared.plain.Report.{Report as KadReport}
-use Rattle.kad_base.specs.declared.plain.Policy.{Policy}
+use Rattle.kad_base.specs.declared.types.Contact.{Contact}
+use Rattle.kad_base.specs.declared.types.Report.{Report as KadReport}
+use Rattle.kad_base.specs.declared.types.Policy.{Policy}
 use Rattle.kad_base.specs.declared.serial.Made.{Made}
 use Rattle.kad_base.specs.Serial.{made, left_by, IsRun}
 use Rattle.turn_book.specs.Turns.{PassState, mine}
@@ -12,7 +12,7 @@ use Rattle.claim_book.specs.Journal.{unsettled, first_unsettled}
 use Rattle.claim_book.specs.Legal.{Legal}
 use Rattle.claim_book.specs.State.{BookState}
 use Rattle.claim_book.specs.Calls.{BookMay, BookStep, book_after, path_of_role}
-use Rattle.claim_book.specs.declared.plain.Thing.{Thing}
+use Rattle.claim_book.specs.declared.types.Thing.{Thing}
 use Rattle.claim_book.specs.declared.calls.BookCall.{BookCall}
 use Rattle.claim_book.specs.declared.calls.BookCall.TheVariants.{Pull, Note, Settle}
 use Rattle.claim_book.specs.declared.calls.BookReply.{BookReply}

@@ -1,6 +1,6 @@
 -- What contracts see of a worker.
 use Rattle.std.specs.Prelude.{◌≡◌, ℕ, ◌+◌}
-use Rattle.kad_base.specs.declared.plain.Policy.{Policy}
+use Rattle.kad_base.specs.declared.types.Policy.{Policy}
 use Rattle.claim_book.specs.declared.calls.BookCall.{BookCall}
 use Rattle.claim_book.specs.declared.calls.BookReply.{BookReply}
 use Rattle.contact_table.specs.declared.calls.TableCall.{TableCall}

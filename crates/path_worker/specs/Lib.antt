@@ -1,7 +1,7 @@
 pub mod Settling
-pub mod Steps
+pub mod WorkerSteps
 pub mod Together
 pub mod Hand
 pub mod Burst
-pub mod Crew
-pub mod Deal
+pub mod Pool
+pub mod Assignment

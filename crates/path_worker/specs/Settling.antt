@@ -1,7 +1,7 @@
 -- What a worker that settles one path leaves of the book and of the routing table, and which calls it made on the table.
 use Rattle.std.specs.Prelude.{◌≡◌, ◌≢◌, ℕ, ◌+◌, List, [], ◌∷◌, ◌++◌, map, length, Some, true}
 use Rattle.std.specs.List.{All, flat_map}
-use Rattle.kad_base.specs.declared.plain.Contact.{Contact}
+use Rattle.kad_base.specs.declared.types.Contact.{Contact}
 use Rattle.kad_base.specs.declared.serial.Made.{Made}
 use Rattle.kad_base.specs.Serial.{left_by, IsRun}
 use Rattle.contact_table.specs.declared.calls.TableCall.{TableCall}
@@ -10,9 +10,9 @@ use Rattle.contact_table.specs.declared.calls.TableReply.{TableReply}
 use Rattle.contact_table.specs.declared.calls.TableReply.TheVariants.{NoMemory}
 use Rattle.contact_table.specs.TableState.{TableState}
 use Rattle.contact_table.specs.TableStep.{TableMay, TableStep, table_after}
-use Rattle.claim_book.specs.declared.plain.Entry.{Entry}
-use Rattle.claim_book.specs.declared.plain.Entry.TheVariants.{Note}
-use Rattle.claim_book.specs.declared.plain.Thing.TheVariants.{Responder}
+use Rattle.claim_book.specs.declared.types.Entry.{Entry}
+use Rattle.claim_book.specs.declared.types.Entry.TheVariants.{Note}
+use Rattle.claim_book.specs.declared.types.Thing.TheVariants.{Responder}
 use Rattle.claim_book.specs.Journal.{settles_on, unsettled, first_unsettled}
 use Rattle.claim_book.specs.State.{BookState}
 

@@ -1,10 +1,10 @@
 //! Settling a path on the caller's own thread.
 ghost use Rattle.std.specs.Prelude.{◌≡◌, ◌<◌, true, false, Some, IfOk, OnOk, OnErr};
 ghost use Rattle.kad_base.specs.Limits.{max_paths};
-ghost use Rattle.claim_book.specs.declared.plain.Thing.TheVariants.{Responder, Told};
+ghost use Rattle.claim_book.specs.declared.types.Thing.TheVariants.{Responder, Told};
 ghost use Rattle.claim_book.specs.Journal.{first_unsettled};
 ghost use Rattle.path_worker.specs.Settling.{SettlesAll, StopsAtResponder};
-ghost use Rattle.path_worker.specs.Steps.{SettlesOne, SettlesReport, IsTold, IsSettled, IsStuck};
+ghost use Rattle.path_worker.specs.WorkerSteps.{SettlesOne, SettlesReport, IsTold, IsSettled, IsStuck};
 
 use claim_book::{Book, BookCall, BookReply, Checked};
 use contact_table::{Table, TableCall, TableReply};

@@ -4,7 +4,7 @@ ghost use Rattle.kad_base.specs.Serial.{made, left_by, IsRun};
 ghost use Rattle.turn_book.specs.Turns.{mine};
 ghost use Rattle.claim_book.specs.Legal.{Legal};
 ghost use Rattle.claim_book.specs.Calls.{BookMay, BookStep, PullStep, book_after, path_of_role};
-ghost use Rattle.claim_book.specs.declared.plain.Thing.TheVariants.{Responder, Told};
+ghost use Rattle.claim_book.specs.declared.types.Thing.TheVariants.{Responder, Told};
 ghost use Rattle.path_worker.specs.Burst.{Pulled, IsOutcome};
 
 use claim_book::{Book, BookCall, BookReply, Checked};

@@ -4,9 +4,9 @@
 #![tactic(auto)]
 
 mod alone;
+mod assign;
 mod calls;
-mod crew;
-mod deal;
+mod pool;
 mod together;
 mod worker;
 

@@ -4,11 +4,11 @@ ghost use Rattle.std.specs.Prelude.{◌≡◌, ◌+◌, ◌<◌, ◌≤◌, [], 
 ghost use Rattle.kad_base.specs.Limits.{max_paths};
 ghost use Rattle.turn_book.specs.Turns.{all_fresh, AreAll};
 ghost use Rattle.path_worker.specs.Burst.{IsOpened};
-ghost use Rattle.path_worker.specs.Deal.{CameBack};
+ghost use Rattle.path_worker.specs.Assignment.{CameBack};
 ghost use Rattle.path_worker.specs.Together.{SettlesTogether, StopsTogether};
 
-use crate::crew::{Shift, answer_of, burst_all};
-use crate::deal::{deal, gather};
+use crate::assign::{assign, gather};
+use crate::pool::{Job, answer_of, burst_all};
 use claim_book::Book;
 use contact_table::Table;
 use kad_base::{Check, NoMemory, Policy};
@@ -17,7 +17,7 @@ use std::sync::Wait;
 use std::thread::Threads;
 use turn_book::{Passes, Turn, TurnNoMemory};
 
-/// Deals the passes to a worker for each path, lets all workers make their bursts, and puts the passes back.
+/// Assigns the passes to a worker for each path, lets all workers make their bursts, and puts the passes back.
 fn work<R: Threads + Wait + Sync, C: Check + Sync>(
     rt: &R,
     books: &Turn<Book>,
@@ -27,7 +27,7 @@ fn work<R: Threads + Wait + Sync, C: Check + Sync>(
     table_row: &mut Passes<Table>,
     policy: Policy,
     paths: u8,
-    mut crew: Vec<Shift>,
+    mut pool: Vec<Job>,
 ) -> Result<(), NoMemory>
     requires few { paths ≤ max_paths }
     requires policy { policy ≡ books.now.start.setting.policy }
@@ -38,17 +38,17 @@ fn work<R: Threads + Wait + Sync, C: Check + Sync>(
     requires table_row { table_row.old.passes ≡ all_fresh tables.now }
     requires book_room { book_row.old.room ≡ paths + 1 }
     requires table_room { table_row.old.room ≡ paths + 1 }
-    requires empty { crew.items ≡ [] }
-    requires room { paths ≤ vec_capacity crew }
+    requires empty { pool.items ≡ [] }
+    requires room { paths ≤ vec_capacity pool }
     ensures books { AreAll books.now book_row.new.passes }
     ensures tables { AreAll tables.now table_row.new.passes }
     ensures back { CameBack books.now tables.now policy paths book_row.new.passes
         table_row.new.passes result }
 {
-    deal(books, tables, book_row, table_row, policy, paths, &mut crew);
-    burst_all(rt, books, tables, check, &mut crew);
-    let answer = answer_of(crew.as_slice());
-    gather(book_row, table_row, crew);
+    assign(books, tables, book_row, table_row, policy, paths, &mut pool);
+    burst_all(rt, books, tables, check, &mut pool);
+    let answer = answer_of(pool.as_slice());
+    gather(book_row, table_row, pool);
     answer
 }
 
@@ -74,7 +74,7 @@ pub fn settle_together<R: Threads + Wait + Sync, C: Check + Sync>(
     ensures err { IfErr result.2 (λ e. StopsTogether book result.0 table result.1) }
 {
     book.legal();
-    let Ok(crew) = Vec::with_capacity(alloc, paths as usize) else {
+    let Ok(pool) = Vec::with_capacity(alloc, paths as usize) else {
         return (book, table, Err(NoMemory));
     };
     let (books, mut book_row) = match Turn::new(alloc, book, paths + 1) {
@@ -97,7 +97,7 @@ pub fn settle_together<R: Threads + Wait + Sync, C: Check + Sync>(
         &mut table_row,
         policy,
         paths,
-        crew,
+        pool,
     );
     let (book, _) = books.close(book_row);
     let (table, _) = tables.close(table_row);

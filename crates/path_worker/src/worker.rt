@@ -4,7 +4,7 @@ ghost use Rattle.kad_base.specs.Serial.{made, IsRun};
 ghost use Rattle.turn_book.specs.Turns.{mine};
 ghost use Rattle.claim_book.specs.Legal.{Legal};
 ghost use Rattle.claim_book.specs.Calls.{BookMay, BookStep, book_after};
-ghost use Rattle.claim_book.specs.declared.plain.Thing.TheVariants.{Responder, Told};
+ghost use Rattle.claim_book.specs.declared.types.Thing.TheVariants.{Responder, Told};
 ghost use Rattle.path_worker.specs.Hand.{Hand, HasRole, SameHand};
 ghost use Rattle.path_worker.specs.Burst.{IsOpened, Emptied, Stopped, Pulled, HasSettled, ToldOf, SettledOf, DidOne, FoundNothing, FoundNoMemory};
 

@@ -9,7 +9,7 @@ use Rattle.std.specs.declared.cmp.Ordering.TheVariants.{Less, Equal, Greater}
 use Rattle.std.proofs.lemmas.Bool.{lt-ltb}
 use Rattle.std.proofs.lemmas.List.Elements.{All-nil, All-cons, All-head, All-tail, All-filter, All-weaker}
 use Rattle.kad_base.specs.Limits.{max_peers}
-use Rattle.kad_base.specs.declared.plain.NoMemory.{NoMemory}
+use Rattle.kad_base.specs.declared.types.NoMemory.{NoMemory}
 use Rattle.peer_store.specs.declared.peers.Stored.{Stored}
 use Rattle.peer_store.specs.declared.peers.Stored.TheVariants.{New, Renewed}
 use Rattle.peer_store.specs.Between.{IsBetween, AreBetween, IsKept}

@@ -10,8 +10,8 @@ use Rattle.std.specs.declared.ops.Bound.TheVariants.{Included}
 use Rattle.std.specs.BTreeMap.Range.{range_contains, entries_between}
 use Rattle.std.proofs.lemmas.List.Elements.{All-head, All-tail}
 use Rattle.std.proofs.lemmas.Map.Text.{is_eq-slice_cmp}
-use Rattle.kad_base.specs.declared.plain.Id.{Id}
-use Rattle.kad_base.specs.declared.plain.Addr.{Addr}
+use Rattle.kad_base.specs.declared.types.Id.{Id}
+use Rattle.kad_base.specs.declared.types.Addr.{Addr}
 use Rattle.peer_store.specs.declared.ends.TheConstants.{FIRST, LAST}
 use Rattle.peer_store.specs.Between.{IsBetween, AreBetween}
 use Rattle.std.proofs.lemmas.Bool.{lt-ltb}

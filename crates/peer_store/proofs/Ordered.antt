@@ -7,14 +7,14 @@ use Rattle.std.proofs.lemmas.Map.Made.{is_some-lookup}
 use Rattle.std.specs.Ordering.{ordering_then, is_eq, nat_cmp}
 use Rattle.std.specs.Cmp.Lexicographic.{slice_cmp}
 use Rattle.std.specs.declared.cmp.Ordering.{Ordering}
-use Rattle.kad_base.specs.declared.plain.Ip.{Ip}
-use Rattle.kad_base.specs.declared.plain.Ip.TheVariants.{V4, V6}
-use Rattle.kad_base.specs.declared.plain.Addr.{Addr}
-use Rattle.kad_base.specs.declared.plain.NoMemory.{NoMemory}
+use Rattle.kad_base.specs.declared.types.Ip.{Ip}
+use Rattle.kad_base.specs.declared.types.Ip.TheVariants.{V4, V6}
+use Rattle.kad_base.specs.declared.types.Addr.{Addr}
+use Rattle.kad_base.specs.declared.types.NoMemory.{NoMemory}
 use Rattle.peer_store.specs.declared.peers.Stored.{Stored}
 use Rattle.peer_store.specs.declared.peers.Stored.TheVariants.{New, Renewed}
-use Rattle.kad_base.specs.contracts.plain.IpOrd.TheImpl as ip_ord
-use Rattle.kad_base.specs.contracts.plain.AddrOrd.TheImpl as addr_ord
+use Rattle.kad_base.specs.contracts.types.IpOrd.TheImpl as ip_ord
+use Rattle.kad_base.specs.contracts.types.AddrOrd.TheImpl as addr_ord
 use Rattle.kad_base.specs.Contacts.{address_bytes}
 use Rattle.peer_store.specs.Peers.{Pair, Held, Holds, address_cmp, pair_cmp}
 

@@ -2,7 +2,7 @@
 use Rattle.std.specs.Prelude.{◌≡◌, ℕ, ◌≤◌, false, List}
 use Rattle.std.specs.List.{All}
 use Rattle.std.specs.Ordering.{is_gt, is_lt}
-use Rattle.kad_base.specs.declared.plain.Addr.{Addr}
+use Rattle.kad_base.specs.declared.types.Addr.{Addr}
 use Rattle.peer_store.specs.declared.ends.TheConstants.{FIRST, LAST}
 use Rattle.peer_store.specs.Peers.{Held, IsPeers, address_cmp}
 

@@ -1,7 +1,7 @@
 -- The tags of a group, whose members share a key.
 use Rattle.std.specs.Prelude.{ℕ, Bool, List, ◌++◌}
 use Rattle.std.specs.Str.{bytes_eq}
-use Rattle.kad_base.specs.declared.plain.Id.{Id}
+use Rattle.kad_base.specs.declared.types.Id.{Id}
 use Rattle.seal_tags.specs.Hmac.{hmac}
 
 -- the tag of what the node says: the HMAC of its identifier and its bytes under the group's key

@@ -1,6 +1,6 @@
 //! How tags are made and judged, as traits of the outside.
 ghost use Rattle.std.specs.Prelude.{◌≡◌, ◌<◌, ◌≤◌, ◌++◌, List, ℕ, Bool, length, drop};
-ghost use Rattle.kad_base.specs.declared.plain.Id.{Id};
+ghost use Rattle.kad_base.specs.declared.types.Id.{Id};
 
 use kad_base::Id;
 

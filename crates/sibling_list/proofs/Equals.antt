@@ -2,11 +2,11 @@
 use Rattle.std.proofs.Common.{◌≡◌, Bool, true, false, ◌&&◌, List, [], ◌∷◌, refl, ap, eqb}
 use Rattle.std.specs.Cmp.Lexicographic.{pointwise, bytes_decides}
 use Rattle.std.proofs.lemmas.Bool.{and_parts, and_from, eqb-true, eq-eqb}
-use Rattle.kad_base.specs.declared.plain.Ip.{Ip}
-use Rattle.kad_base.specs.declared.plain.Ip.TheVariants.{V4, V6}
-use Rattle.kad_base.specs.declared.plain.Contact.{Contact}
-use Rattle.kad_base.specs.contracts.plain.IpPartialEq.TheImpl as ip_eq
-use Rattle.kad_base.specs.contracts.plain.ContactPartialEq.TheImpl as contact_eq
+use Rattle.kad_base.specs.declared.types.Ip.{Ip}
+use Rattle.kad_base.specs.declared.types.Ip.TheVariants.{V4, V6}
+use Rattle.kad_base.specs.declared.types.Contact.{Contact}
+use Rattle.kad_base.specs.contracts.types.IpPartialEq.TheImpl as ip_eq
+use Rattle.kad_base.specs.contracts.types.ContactPartialEq.TheImpl as contact_eq
 use Rattle.kad_base.proofs.Contacts.{same_contact}
 
 ip_exact : (a b : Ip) → (ip_eq.ghosts).eq a b ≡ true → a ≡ b

@@ -1,5 +1,5 @@
 pub mod Lists
 pub mod Shares
-pub mod Steps
+pub mod TurnSteps
 pub mod Uses
 pub mod Views

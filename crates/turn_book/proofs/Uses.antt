@@ -10,7 +10,7 @@ use Rattle.turn_book.specs.declared.board.View.{View}
 use Rattle.turn_book.specs.Turns.{IsPrefix}
 use Rattle.turn_book.specs.Rule.{either_of, has, part, view, Kept, Took, Taken, Gave, seen_in, seen_by, IsIdle, IsBusy, IsReady, Called}
 use Rattle.turn_book.proofs.Lists.{calls_of-same}
-use Rattle.turn_book.proofs.Steps.{gives, takes}
+use Rattle.turn_book.proofs.TurnSteps.{gives, takes}
 
 module _ {S C R : Type 0} where
   pub has_own : (role : ℕ) (m m' : Me S (View C R)) → IsIdle role m → m' ≡ m → 1 ≤ has role m'.0

@@ -3,8 +3,8 @@ use Rattle.std.specs.Prelude.{◌≡◌}
 use Rattle.std.specs.declared.net.ip_addr.IpAddr.{IpAddr}
 use Rattle.std.specs.declared.net.ip_addr.IpAddr.TheVariants.{V4 as System_v4, V6 as System_v6}
 use Rattle.std.specs.Net.Addr.{ipv4_octets, ipv6_segments, segments_of}
-use Rattle.kad_base.specs.declared.plain.Ip.{Ip}
-use Rattle.kad_base.specs.declared.plain.Ip.TheVariants.{V4, V6}
+use Rattle.kad_base.specs.declared.types.Ip.{Ip}
+use Rattle.kad_base.specs.declared.types.Ip.TheVariants.{V4, V6}
 
 -- the same family and the same bytes in network order
 abbrev pub IsSameIp : IpAddr → Ip → Type 0

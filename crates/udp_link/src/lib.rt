@@ -3,8 +3,8 @@
 
 mod addresses;
 mod link;
-mod paced;
 #[cfg(test)]
 mod tests;
+mod timed_socket;
 
 pub use link::UdpLink;

@@ -3,7 +3,7 @@ ghost use Rattle.std.specs.Prelude.{◌≡◌, ◌≤◌, ◌^◌, ◌<◌, leng
 ghost use Rattle.kad_base.specs.Outside.{Arrives, came_at};
 
 use crate::addresses::{addr_of, socket_addr};
-use crate::paced::{PacedSocket, time_left};
+use crate::timed_socket::{TimedSocket, time_left};
 use kad_base::{Addr, Came, Failed, Link};
 use std::io;
 use std::io::{Error, ErrorKind};
@@ -27,7 +27,7 @@ const EARLY_WAKES: u32 = 1_000;
 #[derive(Drop)]
 pub struct UdpLink<'a, R: Clock> {
     rt: &'a R,
-    socket: PacedSocket,
+    socket: TimedSocket,
     began: Instant,
     last: u64,
     send_faults: u64,
@@ -62,7 +62,7 @@ impl<'a, R: Clock + Net> UdpLink<'a, R> {
         let began = Instant::now(rt).map_err(|_| Failed)?;
         Ok(UdpLink {
             rt,
-            socket: PacedSocket::new(socket),
+            socket: TimedSocket::new(socket),
             began,
             last: 0,
             send_faults: 0,

@@ -2,7 +2,7 @@
 ghost use Rattle.std.specs.Prelude.{◌≡◌};
 ghost use Rattle.std.specs.List.{All};
 ghost use Rattle.kad_base.specs.Puzzles.{Passes};
-ghost use Rattle.kad_base.specs.declared.plain.Policy.TheVariants.{Puzzled};
+ghost use Rattle.kad_base.specs.declared.types.Policy.TheVariants.{Puzzled};
 ghost use Rattle.node_serve.specs.declared.tests.TheConstants.{OWN};
 
 use super::peers::add_ports;

@@ -1,7 +1,7 @@
 use Rattle.std.proofs.Common.{◌≡◌, List, true, sym, subst, ◌∙◌}
 use Rattle.std.specs.Cmp.Lexicographic.{pointwise}
-use Rattle.kad_base.specs.declared.plain.Contact.{Contact}
-use Rattle.kad_base.specs.contracts.plain.ContactPartialEq.TheImpl as contact_eq
+use Rattle.kad_base.specs.declared.types.Contact.{Contact}
+use Rattle.kad_base.specs.contracts.types.ContactPartialEq.TheImpl as contact_eq
 use Rattle.sibling_list.proofs.Equals.{lists_exact, lists_itself}
 use Rattle.sibling_list.proofs.are_same.Goals as goal
 

@@ -1,6 +1,6 @@
 use Rattle.std.proofs.Common.{◌≡◌, ℕ, zero, suc, ◌+◌, ◌<◌, List, ◌++◌, ◌∷◌, [], length, take, drop, map, get_or, set, refl, sym, ap, ◌∙◌, arith, add-one}
-use Rattle.bucket_tree.specs.declared.plain.Live.{Live}
-use Rattle.bucket_tree.specs.Steps.{mark}
+use Rattle.bucket_tree.specs.declared.types.Live.{Live}
+use Rattle.bucket_tree.specs.BucketSteps.{mark}
 use Rattle.bucket_tree.proofs.entries.mark.Goals as goal
 
 set_one : (f : Live → Live) (xs : List Live) (i : ℕ) (d : Live) → i < length xs → set (map f (take i xs) ++ drop i xs) i (f (get_or (map f (take i xs) ++ drop i xs) i d)) ≡ map f (take (suc i) xs) ++ drop (suc i) xs

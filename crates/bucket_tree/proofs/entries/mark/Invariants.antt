@@ -1,5 +1,5 @@
 use Rattle.std.proofs.Common.{◌≡◌, ◌++◌, take, drop, map, vec_capacity}
-use Rattle.bucket_tree.specs.Steps.{mark}
+use Rattle.bucket_tree.specs.BucketSteps.{mark}
 use Rattle.bucket_tree.proofs.entries.mark.Given as goal
 
 abbrev pub invariant-loop-at : goal.invariant-loop-at

@@ -1,5 +1,5 @@
 use Rattle.std.proofs.Common.{◌≡◌, ◌<◌, ◌≤◌, vec_len, List, ◌+◌, ◌++◌, sym, ap, subst, ◌∙◌, arith}
-use Rattle.kad_base.specs.declared.plain.Contact.{Contact}
+use Rattle.kad_base.specs.declared.types.Contact.{Contact}
 use Rattle.kad_distance.specs.KClosest.{k_closest}
 use Rattle.bucket_tree.specs.Rows.{live_of}
 use Rattle.bucket_tree.specs.declared.node.Node.{Node}

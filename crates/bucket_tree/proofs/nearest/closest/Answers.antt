@@ -1,6 +1,6 @@
 use Rattle.std.proofs.Common.{◌≡◌, List, ◌++◌, sym, ap, subst, ◌∙◌, arith}
 use Rattle.std.specs.List.Sorted.{IsStrictlySortedBy}
-use Rattle.kad_base.specs.declared.plain.Contact.{Contact}
+use Rattle.kad_base.specs.declared.types.Contact.{Contact}
 use Rattle.kad_distance.specs.Order.{closeness}
 use Rattle.kad_distance.specs.KClosest.{k_closest}
 use Rattle.bucket_tree.specs.Rows.{live_of}

@@ -1,6 +1,6 @@
 use Rattle.std.proofs.Common.{◌≡◌, ◌∷◌, [], List, length, get_or, refl, sym, subst, ap, ◌∙◌}
 use Rattle.std.specs.List.{All}
-use Rattle.kad_base.specs.declared.plain.Contact.{Contact}
+use Rattle.kad_base.specs.declared.types.Contact.{Contact}
 use Rattle.kad_distance.specs.Order.{IsCloser}
 use Rattle.bucket_tree.proofs.Every.{all-one}
 use Rattle.bucket_tree.proofs.Stops.{closest_full}

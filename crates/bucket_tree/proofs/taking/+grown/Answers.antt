@@ -1,5 +1,5 @@
 use Rattle.std.proofs.Common.{◌∷◌, [], true, false, sym, subst, ◌∙◌, arith}
-use Rattle.bucket_tree.specs.Steps.{SeenStep}
+use Rattle.bucket_tree.specs.BucketSteps.{SeenStep}
 use Rattle.bucket_tree.proofs.SeenRows.{step_one, split_on_high, split_on_low, low_covers, half_row, half_long, grown_falls, no_split}
 use Rattle.bucket_tree.proofs.taking.+grown.Goals as goal
 

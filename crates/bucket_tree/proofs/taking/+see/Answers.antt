@@ -1,7 +1,7 @@
 use Rattle.std.proofs.Common.{◌≡◌, ◌<◌, length, true, false, sym, subst, ◌∙◌, arith}
 use Rattle.bucket_tree.specs.Partition.{id_bits, begins}
 use Rattle.bucket_tree.specs.Rows.{RowState, IsRow}
-use Rattle.bucket_tree.specs.Steps.{NeedsSplit}
+use Rattle.bucket_tree.specs.BucketSteps.{NeedsSplit}
 use Rattle.bucket_tree.specs.Trees.{IsShort, IsUnder, path}
 use Rattle.bucket_tree.proofs.Ways.{under_short, way_on, falls}
 use Rattle.bucket_tree.proofs.SeenRows.{no_split, leaf_covers, leaf_seen, one_row, low_step, high_step, low_all, high_all, low_way, high_way}

@@ -1,7 +1,7 @@
 use Rattle.std.proofs.Common.{◌≡◌, ◌<◌, length, true, subst}
 use Rattle.bucket_tree.specs.Partition.{id_bits, begins}
 use Rattle.bucket_tree.specs.Rows.{RowState, IsRow}
-use Rattle.bucket_tree.specs.Steps.{NeedsSplit}
+use Rattle.bucket_tree.specs.BucketSteps.{NeedsSplit}
 use Rattle.bucket_tree.specs.Trees.{IsLeaf}
 use Rattle.bucket_tree.proofs.SeenRows.{leaf_all}
 use Rattle.bucket_tree.proofs.taking.split.Goals as goal

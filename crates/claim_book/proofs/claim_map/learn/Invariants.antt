@@ -2,8 +2,8 @@ use Rattle.std.proofs.Common.{◌≡◌, take}
 use Rattle.std.specs.Prelude.{IsSome}
 use Rattle.std.specs.List.{All}
 use Rattle.indexmap.specs.IndexMap.{get}
-use Rattle.kad_base.specs.declared.plain.Contact.{Contact}
-use Rattle.claim_book.specs.declared.plain.Thing.TheVariants.{Told}
+use Rattle.kad_base.specs.declared.types.Contact.{Contact}
+use Rattle.claim_book.specs.declared.types.Thing.TheVariants.{Told}
 use Rattle.claim_book.specs.Claims.{key_eq, shown, IsKnown}
 use Rattle.claim_book.proofs.claim_map.learn.Given as goal
 

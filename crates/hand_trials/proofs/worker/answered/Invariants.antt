@@ -1,5 +1,5 @@
 use Rattle.std.proofs.Common.{◌≡◌}
-use Rattle.kad_base.specs.declared.plain.Policy.TheVariants.{Plain}
+use Rattle.kad_base.specs.declared.types.Policy.TheVariants.{Plain}
 use Rattle.hand_trials.proofs.worker.answered.Given as goal
 
 abbrev pub invariant-loop-path : goal.invariant-loop-path

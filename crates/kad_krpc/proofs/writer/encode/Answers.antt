@@ -21,6 +21,6 @@ returns-clause-says c =
     subst (λ bytes. Says bytes c.args.message.now) (sym (returns-clause-form c))
     (record {
       value = Dict (message_pairs c.args.message.now);
-      spelled = spelled c.args.message.now c.message_is_well.ensures;
-      says = said_back c.args.message.now c.message_is_well.ensures c.requires;
+      spelled = spelled c.args.message.now c.message_is_well_typed.ensures;
+      says = said_back c.args.message.now c.message_is_well_typed.ensures c.requires;
     })

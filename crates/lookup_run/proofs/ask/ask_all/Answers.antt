@@ -1,5 +1,5 @@
 use Rattle.std.proofs.Common.{◌+◌, ◌∙◌, refl, arith, ap}
-use Rattle.lookup_run.specs.declared.plain.Progress.{Progress}
+use Rattle.lookup_run.specs.declared.types.Progress.{Progress}
 use Rattle.lookup_run.proofs.Asking.{asks_then, asks_not}
 use Rattle.lookup_run.proofs.ask.ask_all.Goals as goal
 

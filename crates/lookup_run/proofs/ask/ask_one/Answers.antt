@@ -1,7 +1,7 @@
 use Rattle.std.proofs.Common.{refl, sym, subst}
 use Rattle.lookup_core.specs.declared.quest.Quest.{Quest}
-use Rattle.lookup_core.specs.Steps.{CanAsk}
-use Rattle.lookup_run.specs.declared.plain.Work.{Work}
+use Rattle.lookup_core.specs.LookupSteps.{CanAsk}
+use Rattle.lookup_run.specs.declared.types.LookupState.{LookupState}
 use Rattle.lookup_core.proofs.Opening.{last_opened}
 use Rattle.lookup_run.proofs.Asking.{can_ask, asking_of, sent_asks, unsent_asks, lost_added}
 use Rattle.lookup_run.proofs.ask.ask_one.Goals as goal
@@ -21,7 +21,7 @@ returns-then-send_query-clause-some g c sent =
 
 pub returns-then-send_query-clause-less : goal.returns-then-send_query-clause-less
 returns-then-send_query-clause-less g c sent =
-    let w : Work = c.args.work.now in
+    let w : LookupState = c.args.work.now in
     let r = c.requires in
     let a = c.in-Some.asked in
     let asks = rw c.quest.ensures at c.in-Some.ensures.some in
@@ -44,7 +44,7 @@ returns-clause-some g c sent =
 
 pub returns-clause-less : goal.returns-clause-less
 returns-clause-less g c sent =
-    let w : Work = c.args.work.now in
+    let w : LookupState = c.args.work.now in
     let r = c.requires in
     let a = c.in-Some.asked in
     let asks = rw c.quest.ensures at c.in-Some.ensures.some in

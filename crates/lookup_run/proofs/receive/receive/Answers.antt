@@ -1,11 +1,11 @@
 use Rattle.std.proofs.Common.{◌≤◌, take, refl, subst, inl, inr}
 use Rattle.std.proofs.lemmas.Result.{err_from_is_err_and}
 use Rattle.kad_base.proofs.Grown.{grows_weaker}
-use Rattle.claim_book.specs.declared.plain.Setting.{Setting}
+use Rattle.claim_book.specs.declared.types.Setting.{Setting}
 use Rattle.claim_book.specs.Legal.{Legal}
 use Rattle.id_puzzles.specs.Drawn.{WordsState}
-use Rattle.lookup_run.specs.declared.plain.Work.{Work}
-use Rattle.lookup_run.specs.declared.plain.LookFault.TheVariants.{Strays}
+use Rattle.lookup_run.specs.declared.types.LookupState.{LookupState}
+use Rattle.lookup_run.specs.declared.types.LookFault.TheVariants.{Strays}
 use Rattle.lookup_run.proofs.Early.{stops_of, ends_by_stray, on_err_of, passed_on}
 use Rattle.lookup_run.proofs.Fewer.{few_still}
 use Rattle.lookup_run.proofs.Receiving.{stray_of, datagram_receives, quiet_receives}
@@ -15,7 +15,7 @@ use Rattle.lookup_run.specs.Lookup.{quest_of}
 pub returns-in_err-take_datagram-in-Ok-Packet-clause-stops : goal.returns-in_err-take_datagram-in-Ok-Packet-clause-stops
 returns-in_err-take_datagram-in-Ok-Packet-clause-stops g c =
     let p = c.in-Ok-Packet in
-    let old : Work = c.args.work.now in
+    let old : LookupState = c.args.work.now in
     let grows = rw p.field-0-is at p.ensures.ok in
     on_err_of c.from_residual.result (λ (words : WordsState). stops_of c.args.look.now words old c.take_datagram.new.work _ _
     (subst (λ (s : Setting). Legal s old.lookup.book.journal) c.requires.may_receive.keeps.setting c.legal.ensures) c.take_datagram.ensures.table
@@ -24,7 +24,7 @@ returns-in_err-take_datagram-in-Ok-Packet-clause-stops g c =
 pub returns-in_err-take_datagram-in-Ok-Packet-clause-strays : goal.returns-in_err-take_datagram-in-Ok-Packet-clause-strays
 returns-in_err-take_datagram-in-Ok-Packet-clause-strays g c is words =
     let p = c.in-Ok-Packet in
-    let old : Work = c.args.work.now in
+    let old : LookupState = c.args.work.now in
     let grows = rw p.field-0-is at p.ensures.ok in
     let f = c.in_err-take_datagram-in-Ok-Packet in
     let out = err_from_is_err_and c.from_residual.result c.from_residual.ensures.1 in
@@ -37,7 +37,7 @@ expire-requires g c = c.in_ok-take_datagram-in-Ok-Packet.ensures.holds
 pub returns-in_ok-take_datagram-in-Ok-Packet-clause-ok : goal.returns-in_ok-take_datagram-in-Ok-Packet-clause-ok
 returns-in_ok-take_datagram-in-Ok-Packet-clause-ok g c =
     let p = c.in-Ok-Packet in
-    let old : Work = c.args.work.now in
+    let old : LookupState = c.args.work.now in
     let grows = rw p.field-0-is at p.ensures.ok in
     let came = rw p.field-0-is at p.ensures.came in
     let later : old.progress.moment ≤ p.at = subst (λ m. m ≤ p.at) c.requires.moment came.1 in
@@ -48,7 +48,7 @@ returns-in_ok-take_datagram-in-Ok-Packet-clause-ok g c =
 pub returns-in-Ok-Quiet-clause-ok : goal.returns-in-Ok-Quiet-clause-ok
 returns-in-Ok-Quiet-clause-ok g c =
     let p = c.in-Ok-Quiet in
-    let old : Work = c.args.work.now in
+    let old : LookupState = c.args.work.now in
     let grows = rw p.field-0-is at p.ensures.ok in
     let came = rw p.field-0-is at p.ensures.came in
     let later : old.progress.moment ≤ p.at = subst (λ m. m ≤ p.at) c.requires.moment came.1 in
@@ -57,7 +57,7 @@ returns-in-Ok-Quiet-clause-ok g c =
 
 pub returns-in-Err-clause-stops : goal.returns-in-Err-clause-stops
 returns-in-Err-clause-stops g c words =
-    let old : Work = c.args.work.now in
+    let old : LookupState = c.args.work.now in
     stops_of c.args.look.now words old old _ _ (subst (λ (s : Setting). Legal s old.lookup.book.journal) c.requires.may_receive.keeps.setting c.legal.ensures) refl
     (grows_weaker _ _ _ _ c.in-Err.ensures.err (λ es is. inl is))
 

@@ -1,6 +1,6 @@
 use Rattle.std.proofs.Common.{rules}
 use Rattle.std.proofs.lemmas.Result.{err_from_is_err_and}
-use Rattle.lookup_run.specs.declared.plain.LookFault.TheVariants.{LinkFault, Strays}
+use Rattle.lookup_run.specs.declared.types.LookFault.TheVariants.{LinkFault, Strays}
 use Rattle.lookup_run.proofs.Early.{on_err_of, passed_on}
 use Rattle.lookup_run.proofs.WholeRound.{next_receive, stops_after, stray_after, few_after}
 use Rattle.lookup_run.proofs.receive.receive_round.Goals as goal

@@ -1,11 +1,11 @@
 use Rattle.std.proofs.Common.{refl}
-use Rattle.lookup_run.specs.declared.plain.Work.{Work}
+use Rattle.lookup_run.specs.declared.types.LookupState.{LookupState}
 use Rattle.lookup_run.proofs.Matching.{takes_stray, is_last_stray}
 use Rattle.lookup_run.proofs.receive.take_datagram.Goals as goal
 
 pub returns-in-Ok-Stray-clause-ok : goal.returns-in-Ok-Stray-clause-ok
 returns-in-Ok-Stray-clause-ok c =
-    let old : Work = c.args.work.now in
+    let old : LookupState = c.args.work.now in
     let stray = rw c.in-Ok-Stray.field-0-is at c.in-Ok-Stray.ensures.takes in
     let none = rw c.quest.ensures at stray.0 in
     takes_stray c.args.look.now c.args.from c.args.bytes.now old (record old { lookup = c.take.new.self; progress = c.take_stray.new.progress }) c.take_stray.result none c.take_stray.ensures.ok stray.1 refl refl

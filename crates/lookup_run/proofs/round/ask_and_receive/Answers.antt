@@ -1,23 +1,23 @@
 use Rattle.std.proofs.Common.{◌≡◌, Err, ap}
-use Rattle.lookup_run.specs.declared.plain.LookFault.TheVariants.{Strays, LinkFault}
+use Rattle.lookup_run.specs.declared.types.LookFault.TheVariants.{Strays, LinkFault}
 use Rattle.lookup_run.proofs.Rounding.{round_over, has_received, stops_receiving, strays_receiving, few_receiving}
 use Rattle.lookup_run.proofs.round.ask_and_receive.Goals as goal
 
 pub returns-then-is_empty-clause-over : goal.returns-then-is_empty-clause-over
-returns-then-is_empty-clause-over g c manner _ = round_over manner c.args.look.now c.args.words.now c.ask_all.new.words c.args.work.now c.ask_all.new.work _ _ c.ask_all.ensures.asks (c.is_empty.ensures.0 c.if-is_empty.true)
+returns-then-is_empty-clause-over g c scheduling _ = round_over scheduling c.args.look.now c.args.words.now c.ask_all.new.words c.args.work.now c.ask_all.new.work _ _ c.ask_all.ensures.asks (c.is_empty.ensures.0 c.if-is_empty.true)
 
 pub returns-in-Ok-clause-more : goal.returns-in-Ok-clause-more
 returns-in-Ok-clause-more g c _ = has_received c.args.look.now c.args.words.now c.ask_all.new.words c.args.work.now c.ask_all.new.work c.receive_round.new.work _ _ _ c.ask_all.ensures.asks c.in-Ok.ensures.ok
 
 pub returns-in-Err-clause-stops : goal.returns-in-Err-clause-stops
-returns-in-Err-clause-stops g c manner = stops_receiving manner c.args.look.now c.args.words.now c.ask_all.new.words c.args.work.now c.ask_all.new.work c.receive_round.new.work _ _ _ c.ask_all.ensures.asks (c.in-Err.ensures.stops c.ask_all.new.words)
+returns-in-Err-clause-stops g c scheduling = stops_receiving scheduling c.args.look.now c.args.words.now c.ask_all.new.words c.args.work.now c.ask_all.new.work c.receive_round.new.work _ _ _ c.ask_all.ensures.asks (c.in-Err.ensures.stops c.ask_all.new.words)
 
 pub returns-in-Err-clause-strays : goal.returns-in-Err-clause-strays
-returns-in-Err-clause-strays g c manner is =
+returns-in-Err-clause-strays g c scheduling is =
     let fault : c.in-Err.fault ≡ Strays = cc in
-    strays_receiving manner c.args.look.now c.args.words.now c.ask_all.new.words c.args.work.now c.ask_all.new.work _ _ _ c.ask_all.ensures.asks (c.in-Err.ensures.strays (ap (λ x. Err x) fault) c.ask_all.new.words)
+    strays_receiving scheduling c.args.look.now c.args.words.now c.ask_all.new.words c.args.work.now c.ask_all.new.work _ _ _ c.ask_all.ensures.asks (c.in-Err.ensures.strays (ap (λ x. Err x) fault) c.ask_all.new.words)
 
 pub returns-in-Err-clause-few : goal.returns-in-Err-clause-few
-returns-in-Err-clause-few g c manner is =
+returns-in-Err-clause-few g c scheduling is =
     let fault : c.in-Err.fault ≡ LinkFault = cc in
-    few_receiving manner c.args.look.now c.args.words.now c.ask_all.new.words c.args.work.now c.ask_all.new.work _ _ _ c.ask_all.ensures.asks (c.in-Err.ensures.few (ap (λ x. Err x) fault) c.ask_all.new.words)
+    few_receiving scheduling c.args.look.now c.args.words.now c.ask_all.new.words c.args.work.now c.ask_all.new.work _ _ _ c.ask_all.ensures.asks (c.in-Err.ensures.few (ap (λ x. Err x) fault) c.ask_all.new.words)

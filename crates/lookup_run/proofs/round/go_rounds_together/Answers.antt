@@ -1,13 +1,13 @@
 use Rattle.std.proofs.Common.{◌≡◌, ◌∙◌, Err, None, refl, sym, arith, ap, rules}
-use Rattle.lookup_run.specs.declared.plain.LookFault.TheVariants.{Strays, LinkFault}
-use Rattle.lookup_run.specs.Rounds.{at_once}
+use Rattle.lookup_run.specs.declared.types.LookFault.TheVariants.{Strays, LinkFault}
+use Rattle.lookup_run.specs.Rounds.{concurrent}
 use Rattle.lookup_run.proofs.Early.{on_ok, on_err}
 use Rattle.lookup_run.proofs.Rounding.{round_more, stops_settling_round, rounds_none, rounds_then, rounds_over, rounds_stop, rounds_stray, rounds_few}
 use Rattle.lookup_run.proofs.round.go_rounds_together.Goals as goal
 
 pub rounds-init : goal.rounds-init
 rounds-init g c = record {
-  rounding = rounds_none at_once c.args.look.now c.args.words.now c.args.work _ c.requires.begins;
+  rounding = rounds_none concurrent c.args.look.now c.args.words.now c.args.work _ c.requires.begins;
   moment = c.requires.moment;
   room = refl;
   faults = omega arith;
@@ -17,15 +17,15 @@ rounds-init g c = record {
 pub rounds-smaller : goal.rounds-smaller
 rounds-smaller g c =
     let told = g.L.Link.told c.ask_and_receive.new.link in
-    (round_more at_once c.args.look.now c.rounds.words c.ask_and_receive.new.words c.rounds.work c.ask_and_receive.new.work c.settle_each-after.result.0 (g.L.Link.told c.rounds.link) told (c.in-Ok-true.ensures.more c.in-Ok-true.field-0-test) (on_ok c.settle_each-after.result.1 c.in-Ok.field-0 c.in-Ok.is (c.settle_each-after.ensures.ok told))).lighter
+    (round_more concurrent c.args.look.now c.rounds.words c.ask_and_receive.new.words c.rounds.work c.ask_and_receive.new.work c.settle_each-after.result.0 (g.L.Link.told c.rounds.link) told (c.in-Ok-true.ensures.more c.in-Ok-true.field-0-test) (on_ok c.settle_each-after.result.1 c.in-Ok.field-0 c.in-Ok.is (c.settle_each-after.ensures.ok told))).lighter
 
 pub rounds-preserved : goal.rounds-preserved
 rounds-preserved g c =
     let i = c.rounds.invariant in
     let told = g.L.Link.told c.ask_and_receive.new.link in
-    let more = round_more at_once c.args.look.now c.rounds.words c.ask_and_receive.new.words c.rounds.work c.ask_and_receive.new.work c.settle_each-after.result.0 _ told (c.in-Ok-true.ensures.more c.in-Ok-true.field-0-test) (on_ok c.settle_each-after.result.1 c.in-Ok.field-0 c.in-Ok.is (c.settle_each-after.ensures.ok told)) in
+    let more = round_more concurrent c.args.look.now c.rounds.words c.ask_and_receive.new.words c.rounds.work c.ask_and_receive.new.work c.settle_each-after.result.0 _ told (c.in-Ok-true.ensures.more c.in-Ok-true.field-0-test) (on_ok c.settle_each-after.result.1 c.in-Ok.field-0 c.in-Ok.is (c.settle_each-after.ensures.ok told)) in
     record {
-      rounding = rounds_then at_once c.args.look.now c.args.words.now c.rounds.words c.ask_and_receive.new.words c.args.work c.rounds.work c.settle_each-after.result.0 _ _ _ i.rounding more;
+      rounding = rounds_then concurrent c.args.look.now c.args.words.now c.rounds.words c.ask_and_receive.new.words c.args.work c.rounds.work c.settle_each-after.result.0 _ _ _ i.rounding more;
       moment = c.in-Ok-true.ensures.moment ∙ sym (ap (λ s. s.moment) (on_ok c.settle_each-after.result.1 c.in-Ok.field-0 c.in-Ok.is (c.settle_each-after.ensures.ok None)).progress);
       room = search rules;
       faults = (let a = i.faults in let b = c.ask_and_receive.ensures.recv_faults in omega (arith, a, b));
@@ -34,24 +34,24 @@ rounds-preserved g c =
 
 pub returns-in-Ok-false-clause-over : goal.returns-in-Ok-false-clause-over
 returns-in-Ok-false-clause-over g c =
-    rounds_over at_once c.args.look.now c.args.words.now c.rounds.words c.ask_and_receive.new.words c.args.work c.rounds.work c.ask_and_receive.new.work _ _ _ c.rounds.invariant.rounding (c.in-Ok-false.ensures.over at_once c.in-Ok-false.field-0-test)
+    rounds_over concurrent c.args.look.now c.args.words.now c.rounds.words c.ask_and_receive.new.words c.args.work c.rounds.work c.ask_and_receive.new.work _ _ _ c.rounds.invariant.rounding (c.in-Ok-false.ensures.over concurrent c.in-Ok-false.field-0-test)
 
 pub returns-in-Err-clause-stops : goal.returns-in-Err-clause-stops
 returns-in-Err-clause-stops g c =
-    rounds_stop at_once c.args.look.now c.args.words.now c.rounds.words c.ask_and_receive.new.words c.args.work c.rounds.work c.ask_and_receive.new.work _ _ _ c.rounds.invariant.rounding (c.in-Err.ensures.stops at_once)
+    rounds_stop concurrent c.args.look.now c.args.words.now c.rounds.words c.ask_and_receive.new.words c.args.work c.rounds.work c.ask_and_receive.new.work _ _ _ c.rounds.invariant.rounding (c.in-Err.ensures.stops concurrent)
 
 pub returns-in-Err-clause-strays : goal.returns-in-Err-clause-strays
 returns-in-Err-clause-strays g c is =
     let fault : c.in-Err.fault ≡ Strays = cc in
-    rounds_stray at_once c.args.look.now c.args.words.now c.rounds.words c.args.work c.rounds.work _ _ _ c.rounds.invariant.rounding (c.in-Err.ensures.strays at_once (ap (λ x. Err x) fault))
+    rounds_stray concurrent c.args.look.now c.args.words.now c.rounds.words c.args.work c.rounds.work _ _ _ c.rounds.invariant.rounding (c.in-Err.ensures.strays concurrent (ap (λ x. Err x) fault))
 
 pub returns-in-Err-clause-few : goal.returns-in-Err-clause-few
 returns-in-Err-clause-few g c is =
     let fault : c.in-Err.fault ≡ LinkFault = cc in
-    rounds_few at_once c.args.look.now c.args.words.now c.rounds.words c.args.work c.rounds.work _ _ _ c.rounds.invariant.rounding (c.in-Err.ensures.few at_once (ap (λ x. Err x) fault))
+    rounds_few concurrent c.args.look.now c.args.words.now c.rounds.words c.args.work c.rounds.work _ _ _ c.rounds.invariant.rounding (c.in-Err.ensures.few concurrent (ap (λ x. Err x) fault))
 
 pub returns-in-Err-settled-clause-stops : goal.returns-in-Err-settled-clause-stops
 returns-in-Err-settled-clause-stops g c =
     let told = g.L.Link.told c.ask_and_receive.new.link in
-    let stop = stops_settling_round at_once c.args.look.now c.rounds.words c.ask_and_receive.new.words c.rounds.work c.ask_and_receive.new.work c.settle_each-after.result.0 _ told (c.in-Ok-true.ensures.more c.in-Ok-true.field-0-test) (on_err c.settle_each-after.result.1 c.in-Err-settled.fault c.in-Err-settled.is (c.settle_each-after.ensures.stops told) c.ask_and_receive.new.words) in
-    rounds_stop at_once c.args.look.now c.args.words.now c.rounds.words c.ask_and_receive.new.words c.args.work c.rounds.work c.settle_each-after.result.0 _ _ _ c.rounds.invariant.rounding stop
+    let stop = stops_settling_round concurrent c.args.look.now c.rounds.words c.ask_and_receive.new.words c.rounds.work c.ask_and_receive.new.work c.settle_each-after.result.0 _ told (c.in-Ok-true.ensures.more c.in-Ok-true.field-0-test) (on_err c.settle_each-after.result.1 c.in-Err-settled.fault c.in-Err-settled.is (c.settle_each-after.ensures.stops told) c.ask_and_receive.new.words) in
+    rounds_stop concurrent c.args.look.now c.args.words.now c.rounds.words c.ask_and_receive.new.words c.args.work c.rounds.work c.settle_each-after.result.0 _ _ _ c.rounds.invariant.rounding stop

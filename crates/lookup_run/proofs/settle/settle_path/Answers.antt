@@ -3,7 +3,7 @@ use Rattle.lookup_run.proofs.Settled.{settles_path, ran_by}
 use Rattle.lookup_run.proofs.settle.settle_path.Goals as goal
 
 pub returns-in-Ok-clause-ok : goal.returns-in-Ok-clause-ok
-returns-in-Ok-clause-ok g c manner told = settles_path manner _ _ _ _ told c.requires.keeps c.requires.round_over c.requires.settled c.in-Ok.ensures.ok.settling c.in-Ok.ensures.ok.none_left refl refl refl
+returns-in-Ok-clause-ok g c scheduling told = settles_path scheduling _ _ _ _ told c.requires.keeps c.requires.round_over c.requires.settled c.in-Ok.ensures.ok.settling c.in-Ok.ensures.ok.none_left refl refl refl
 
 pub returns-in-Err-clause-ran : goal.returns-in-Err-clause-ran
 returns-in-Err-clause-ran g c =

@@ -1,8 +1,8 @@
 use Rattle.std.proofs.Common.{OnOk, OnErr, refl, subst}
 use Rattle.id_puzzles.specs.Drawn.{WordsState}
 use Rattle.claim_book.specs.Legal.{Legal}
-use Rattle.lookup_run.specs.Rounds.{at_once}
-use Rattle.lookup_run.specs.Steps.{SettlesPaths, Stops}
+use Rattle.lookup_run.specs.Rounds.{concurrent}
+use Rattle.lookup_run.specs.RoundSteps.{SettlesPaths, Stops}
 use Rattle.lookup_run.proofs.Early.{ok_of, err_of}
 use Rattle.lookup_run.proofs.Settled.{stops_settling}
 use Rattle.lookup_run.proofs.Shuffled.{settles_together, ran_together}
@@ -11,7 +11,7 @@ use Rattle.lookup_run.proofs.together.settle_each.Goals as goal
 pub returns-then-not-has_several-clause-ok : goal.returns-then-not-has_several-clause-ok
 returns-then-not-has_several-clause-ok g c told =
     let work = c.args.work in
-    subst (λ b. OnOk c.settle_paths-settled.result (SettlesPaths at_once c.args.look.now 0 c.args.look.now.paths (record work { lookup = record { book = b; queries = work.lookup.queries } }) c.settle_paths-settled.new.work told)) c.has_several.ensures (c.settle_paths-settled.ensures.ok at_once told)
+    subst (λ b. OnOk c.settle_paths-settled.result (SettlesPaths concurrent c.args.look.now 0 c.args.look.now.paths (record work { lookup = record { book = b; queries = work.lookup.queries } }) c.settle_paths-settled.new.work told)) c.has_several.ensures (c.settle_paths-settled.ensures.ok concurrent told)
 
 pub returns-then-not-has_several-clause-stops : goal.returns-then-not-has_several-clause-stops
 returns-then-not-has_several-clause-stops g c told =

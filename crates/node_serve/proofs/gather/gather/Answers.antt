@@ -1,6 +1,6 @@
 use Rattle.std.proofs.Common.{sym, subst, ap, ◌∙◌, IfOk}
 use Rattle.std.specs.Prelude.{Result}
-use Rattle.kad_base.specs.declared.plain.NoMemory.{NoMemory}
+use Rattle.kad_base.specs.declared.types.NoMemory.{NoMemory}
 use Rattle.node_serve.specs.declared.composing.Gained.{Gained}
 use Rattle.node_serve.specs.declared.composing.Gained.TheVariants as gained
 use Rattle.node_serve.specs.declared.planning.Wants.{Wants}

@@ -1,6 +1,6 @@
 use Rattle.std.proofs.Common.{None, ap}
-use Rattle.kad_base.specs.declared.plain.Contact.{Contact}
-use Rattle.kad_base.specs.declared.plain.Report.{Report}
+use Rattle.kad_base.specs.declared.types.Contact.{Contact}
+use Rattle.kad_base.specs.declared.types.Report.{Report}
 use Rattle.fake_net.proofs.Numbering.{mapped_one}
 use Rattle.node_top.specs.Simulated.{report_of}
 use Rattle.node_top.proofs.sim.first_nodes.Goals as goal

@@ -1,8 +1,8 @@
 use Rattle.std.proofs.Common.{rules, List, length, ap, ◌∙◌}
 use Rattle.std.specs.Prelude.{IsErrOf}
 use Rattle.std.proofs.lemmas.Bool.{iff_false}
-use Rattle.kad_base.specs.declared.plain.Contact.{Contact}
-use Rattle.lookup_run.specs.declared.plain.LookFault.TheVariants as fault
+use Rattle.kad_base.specs.declared.types.Contact.{Contact}
+use Rattle.lookup_run.specs.declared.types.LookFault.TheVariants as fault
 use Rattle.node_top.specs.Printed.{line_of}
 use Rattle.node_top.specs.Simulated.{count_among, sim_text}
 use Rattle.node_top.proofs.Commands.{ok_at, err_at}

@@ -1,6 +1,6 @@
 use Rattle.std.proofs.Common.{sym, subst}
-use Rattle.path_worker.specs.Steps.{SettlesOne}
-use Rattle.path_worker.proofs.Steps.{worker_path, note_one}
+use Rattle.path_worker.specs.WorkerSteps.{SettlesOne}
+use Rattle.path_worker.proofs.WorkerSteps.{worker_path, note_one}
 use Rattle.path_worker.proofs.alone.note_seen.Goals as goal
 
 pub returns-clause-ok : goal.returns-clause-ok

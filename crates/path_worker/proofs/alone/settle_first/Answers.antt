@@ -1,7 +1,7 @@
 use Rattle.std.proofs.Common.{◌≡◌, subst}
 use Rattle.claim_book.specs.State.{BookState}
-use Rattle.path_worker.specs.Steps.{SettlesOne, SettlesReport}
-use Rattle.path_worker.proofs.Steps.{report_one}
+use Rattle.path_worker.specs.WorkerSteps.{SettlesOne, SettlesReport}
+use Rattle.path_worker.proofs.WorkerSteps.{report_one}
 use Rattle.path_worker.proofs.alone.settle_first.Goals as goal
 use Rattle.path_worker.proofs.alone.settle_first.Goals.{in-Alive+in_ok-note_seen-in-Alive, in-Report, in_default}
 

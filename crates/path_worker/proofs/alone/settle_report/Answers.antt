@@ -1,7 +1,7 @@
 use Rattle.std.proofs.Common.{◌∙◌, Some, ap, sym, subst}
-use Rattle.claim_book.specs.declared.plain.Thing.TheVariants.{Told}
-use Rattle.path_worker.specs.Steps.{SettlesReport}
-use Rattle.path_worker.proofs.Steps.{worker_path, settle_one}
+use Rattle.claim_book.specs.declared.types.Thing.TheVariants.{Told}
+use Rattle.path_worker.specs.WorkerSteps.{SettlesReport}
+use Rattle.path_worker.proofs.WorkerSteps.{worker_path, settle_one}
 use Rattle.path_worker.proofs.alone.settle_report.Goals as goal
 
 pub returns : goal.returns

@@ -2,7 +2,7 @@ use Rattle.std.proofs.Common.{◌++◌, ◌∷◌, [], ap, ◌∙◌}
 use Rattle.kad_base.specs.Serial.{made}
 use Rattle.turn_book.specs.Turns.{mine}
 use Rattle.claim_book.specs.declared.calls.BookCall.TheVariants.{Note}
-use Rattle.claim_book.specs.declared.plain.Thing.TheVariants.{Responder}
+use Rattle.claim_book.specs.declared.types.Thing.TheVariants.{Responder}
 use Rattle.path_worker.proofs.Fronts.{finds, note_kept, own_calls}
 use Rattle.path_worker.proofs.calls.note.Goals as goal
 

@@ -1,5 +1,5 @@
 use Rattle.claim_book.specs.declared.calls.BookCall.TheVariants.{Settle}
-use Rattle.claim_book.specs.declared.plain.Thing.TheVariants.{Told}
+use Rattle.claim_book.specs.declared.types.Thing.TheVariants.{Told}
 use Rattle.path_worker.proofs.Fronts.{finds, settle_fits, own_calls}
 use Rattle.path_worker.proofs.calls.settle.Goals as goal
 

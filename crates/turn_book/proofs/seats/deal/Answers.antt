@@ -1,7 +1,7 @@
 use Rattle.std.proofs.Common.{rules, ◌≡◌, ◌∷◌, [], ◌++◌, ◌∙◌, sym, ap, length, arith, length-append}
 use Rattle.std.proofs.lemmas.List.FromFn.{map-range_with_len_more}
 use Rattle.turn_book.specs.Turns.{PassState, fresh}
-use Rattle.turn_book.proofs.Steps.{deals}
+use Rattle.turn_book.proofs.TurnSteps.{deals}
 use Rattle.turn_book.proofs.Views.{dealt}
 use Rattle.turn_book.proofs.seats.deal.Goals as goal
 

@@ -1,7 +1,7 @@
 use Rattle.std.proofs.Common.{rules, ◌≡◌, ◌∷◌, [], ◌++◌, ◌∙◌, ap, Some, append_assoc}
 use Rattle.std.proofs.lemmas.List.Elements.{All-pop}
 use Rattle.turn_book.specs.Turns.{PassState}
-use Rattle.turn_book.proofs.Steps.{joins}
+use Rattle.turn_book.proofs.TurnSteps.{joins}
 use Rattle.turn_book.proofs.Views.{gathered}
 use Rattle.turn_book.proofs.seats.gather.Goals as goal
 

@@ -2,10 +2,10 @@ use Rattle.std.proofs.Common.{◌≡◌, ◌≤◌, ◌<◌, List, length, vec_c
 use Rattle.std.specs.Prelude.{find, option_map}
 use Rattle.std.specs.List.{All}
 use Rattle.kad_base.specs.Contacts.{same}
-use Rattle.bucket_tree.specs.declared.plain.Live.{Live}
+use Rattle.bucket_tree.specs.declared.types.Live.{Live}
 use Rattle.bucket_tree.specs.Refills.{Refilled}
 use Rattle.bucket_tree.specs.Rows.{RowState}
-use Rattle.bucket_tree.specs.Steps.{RowFailed}
+use Rattle.bucket_tree.specs.BucketSteps.{RowFailed}
 use Rattle.bucket_tree.proofs.RowKept.{row_of, refilled, failed-room}
 use Rattle.bucket_tree.proofs.bucket.Bucket.fail.Goals as goal
 

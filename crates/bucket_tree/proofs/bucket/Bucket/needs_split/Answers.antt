@@ -1,6 +1,6 @@
 use Rattle.std.proofs.Common.{◌≡◌, ◌≢◌, List, Bool, true, false, not, refl, length, ap, ◌∙◌, subst, arith}
 use Rattle.std.specs.List.{All}
-use Rattle.bucket_tree.specs.declared.plain.Live.{Live}
+use Rattle.bucket_tree.specs.declared.types.Live.{Live}
 use Rattle.bucket_tree.specs.Partition.{id_bits}
 use Rattle.bucket_tree.specs.Rows.{RowState}
 use Rattle.bucket_tree.proofs.RowKept.{two-ids}

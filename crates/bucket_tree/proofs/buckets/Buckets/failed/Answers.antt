@@ -1,7 +1,7 @@
 use Rattle.std.proofs.Common.{sym, subst}
 use Rattle.std.specs.Prelude.{List, Bool}
 use Rattle.bucket_tree.specs.Rows.{BucketsState}
-use Rattle.bucket_tree.specs.Steps.{FailedStep}
+use Rattle.bucket_tree.specs.BucketSteps.{FailedStep}
 use Rattle.bucket_tree.specs.Trees.{rows_of, IsUnder}
 use Rattle.bucket_tree.proofs.Ways.{path_none}
 use Rattle.bucket_tree.proofs.Shape.{tree_sound}

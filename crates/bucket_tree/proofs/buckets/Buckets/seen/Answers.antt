@@ -1,7 +1,7 @@
 use Rattle.std.proofs.Common.{ap, sym, subst, ◌∙◌}
 use Rattle.std.specs.Prelude.{List, Bool}
 use Rattle.bucket_tree.specs.Rows.{BucketsState, same_id}
-use Rattle.bucket_tree.specs.Steps.{is_own}
+use Rattle.bucket_tree.specs.BucketSteps.{is_own}
 use Rattle.bucket_tree.specs.Trees.{IsUnder}
 use Rattle.bucket_tree.proofs.Ways.{path_none}
 use Rattle.bucket_tree.proofs.Stays.{tree_after}

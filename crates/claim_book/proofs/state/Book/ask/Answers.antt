@@ -1,5 +1,5 @@
 use Rattle.std.proofs.Common.{◌≡◌, Some, refl, sym, subst, arith}
-use Rattle.claim_book.specs.declared.plain.Entry.TheVariants.{Ask}
+use Rattle.claim_book.specs.declared.types.Entry.TheVariants.{Ask}
 use Rattle.claim_book.specs.State.{BookState}
 use Rattle.claim_book.specs.Journal.{may_ask}
 use Rattle.claim_book.proofs.Claims.{may_ask_says}

@@ -1,7 +1,7 @@
 use Rattle.std.proofs.Common.{◌<◌, List, take, not, sym, subst, ap, ◌∙◌}
 use Rattle.std.specs.Prelude.{filter, find}
 use Rattle.std.specs.List.Sorted.{IsStrictlySortedBy}
-use Rattle.kad_base.specs.declared.plain.Contact.{Contact}
+use Rattle.kad_base.specs.declared.types.Contact.{Contact}
 use Rattle.kad_base.specs.Contacts.{among}
 use Rattle.kad_distance.specs.Order.{closeness}
 use Rattle.claim_book.specs.State.{BookState}

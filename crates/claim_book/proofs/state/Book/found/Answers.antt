@@ -2,7 +2,7 @@ use Rattle.std.proofs.Common.{◌≡◌, List, take, map, sym, subst, ap, ◌∙
 use Rattle.std.specs.Prelude.{IfOk}
 use Rattle.std.specs.List.{All, flat_map}
 use Rattle.std.specs.List.Sorted.{IsStrictlySortedBy}
-use Rattle.kad_base.specs.declared.plain.Contact.{Contact}
+use Rattle.kad_base.specs.declared.types.Contact.{Contact}
 use Rattle.kad_distance.specs.Order.{closeness}
 use Rattle.kad_distance.specs.KClosest.{k_closest}
 use Rattle.claim_book.specs.declared.path.Path.{Path}

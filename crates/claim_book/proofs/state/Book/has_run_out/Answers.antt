@@ -1,6 +1,6 @@
 use Rattle.std.proofs.Common.{◌≡◌, Bool, true, false, Option, Some, None, is_some, not, refl, sym, subst, ap, ◌∙◌, arith}
 use Rattle.std.specs.Prelude.{is_none}
-use Rattle.kad_base.specs.declared.plain.Contact.{Contact}
+use Rattle.kad_base.specs.declared.types.Contact.{Contact}
 use Rattle.claim_book.specs.State.{BookState}
 use Rattle.claim_book.specs.Journal.{first_unasked}
 use Rattle.claim_book.specs.RunOut.{RunOut}

@@ -2,9 +2,9 @@ use Rattle.std.proofs.Common.{◌≡◌, ◌+◌, ◌*◌, ◌++◌, ◌≤◌, 
 use Rattle.std.specs.List.{All}
 use Rattle.std.specs.VecDeque.{deque_capacity}
 use Rattle.std.proofs.lemmas.List.{length-set, get_or-set_same}
-use Rattle.kad_base.specs.declared.plain.Report.{Report}
+use Rattle.kad_base.specs.declared.types.Report.{Report}
 use Rattle.kad_base.specs.Contacts.{among}
-use Rattle.claim_book.specs.declared.plain.Thing.TheVariants.{Told}
+use Rattle.claim_book.specs.declared.types.Thing.TheVariants.{Told}
 use Rattle.claim_book.specs.declared.path.Path.{Path}
 use Rattle.claim_book.specs.State.{BookState}
 use Rattle.claim_book.specs.Journal.{open_on, things_in}

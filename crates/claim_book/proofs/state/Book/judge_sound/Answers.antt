@@ -1,5 +1,5 @@
 use Rattle.std.proofs.Common.{ap, sym, ◌∙◌}
-use Rattle.kad_base.specs.declared.plain.Report.{Report}
+use Rattle.kad_base.specs.declared.types.Report.{Report}
 use Rattle.kad_base.specs.Contacts.{among}
 use Rattle.claim_book.specs.Journal.{took, path}
 use Rattle.claim_book.proofs.Deciding.{some_holder, no_holder}

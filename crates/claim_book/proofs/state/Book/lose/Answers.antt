@@ -1,6 +1,6 @@
 use Rattle.std.proofs.Common.{◌≡◌, true, refl, sym, subst, arith}
 use Rattle.kad_base.specs.Contacts.{among}
-use Rattle.claim_book.specs.declared.plain.Entry.TheVariants.{Lost}
+use Rattle.claim_book.specs.declared.types.Entry.TheVariants.{Lost}
 use Rattle.claim_book.specs.State.{BookState}
 use Rattle.claim_book.specs.Journal.{open_on}
 use Rattle.claim_book.proofs.Kept.{some_owed}

@@ -1,5 +1,5 @@
 use Rattle.std.proofs.Common.{List, refl, sym, subst, arith}
-use Rattle.claim_book.specs.declared.plain.Entry.{Entry}
+use Rattle.claim_book.specs.declared.types.Entry.{Entry}
 use Rattle.claim_book.specs.Legal.{Legal}
 use Rattle.claim_book.specs.Claims.{IsMap}
 use Rattle.claim_book.specs.Index.{IsPaths}

@@ -1,6 +1,6 @@
 use Rattle.std.proofs.Common.{refl, sym, subst, arith}
 use Rattle.std.proofs.lemmas.Bool.{eq-eqb}
-use Rattle.claim_book.specs.declared.plain.Entry.TheVariants.{Taken}
+use Rattle.claim_book.specs.declared.types.Entry.TheVariants.{Taken}
 use Rattle.claim_book.specs.State.{BookState}
 use Rattle.claim_book.specs.Legal.{Fits}
 use Rattle.claim_book.proofs.Kept.{some_owed}

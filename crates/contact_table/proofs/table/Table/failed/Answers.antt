@@ -1,5 +1,5 @@
 use Rattle.std.proofs.Common.{subst}
-use Rattle.bucket_tree.specs.Steps.{FailedStep}
+use Rattle.bucket_tree.specs.BucketSteps.{FailedStep}
 use Rattle.contact_table.specs.RowsAfter.{failed_rows}
 use Rattle.contact_table.specs.TableState.{TableState}
 use Rattle.contact_table.proofs.Determined.{failed-is, table-failed}

@@ -1,5 +1,5 @@
 use Rattle.std.proofs.Common.{subst}
-use Rattle.bucket_tree.specs.Steps.{SeenStep}
+use Rattle.bucket_tree.specs.BucketSteps.{SeenStep}
 use Rattle.contact_table.specs.RowsAfter.{seen_rows}
 use Rattle.contact_table.specs.TableState.{TableState}
 use Rattle.contact_table.proofs.Determined.{seen-is, table-seen}

@@ -1,5 +1,5 @@
 use Rattle.std.proofs.Common.{ap, ◌∙◌}
-use Rattle.kad_base.specs.declared.plain.Id.{Id}
+use Rattle.kad_base.specs.declared.types.Id.{Id}
 use Rattle.fake_net.specs.Network.{id_of, shared}
 use Rattle.fake_net.proofs.Sharing.{shared_is}
 use Rattle.fake_net.proofs.nodes.Nodes.shared.Goals as goal

@@ -10,22 +10,22 @@ returns-in-Ok-None-clause-takes c =
     let nothing = rw c.in-Ok-None.field-0-is at c.in-Ok-None.ensures in
     (silent c.args.quest.now c.args.self.now c.args.from c.args.bytes.now c.requires nothing, refl)
 
-pub hear-requires : goal.hear-requires
-hear-requires c = taken_open c.args.self.now.book.journal c.in-Ok-Some.said.tx c.args.from c.in-Some.contact c.args.self.now.queries c.take.new.self c.requires.is_open c.in-Some.ensures.some
+pub on_reply-requires : goal.on_reply-requires
+on_reply-requires c = taken_open c.args.self.now.book.journal c.in-Ok-Some.said.tx c.args.from c.in-Some.contact c.args.self.now.queries c.take.new.self c.requires.is_open c.in-Some.ensures.some
 
 pub returns-in-Some-clause-takes : goal.returns-in-Some-clause-takes
 returns-in-Some-clause-takes c =
     let old : Lookup = c.args.self.now in
     let reads = rw c.in-Ok-Some.field-0-is at c.in-Ok-Some.ensures in
-    take_result c.args.quest.now c.args.from c.args.bytes.now c.in-Ok-Some.said c.in-Some.contact old (record { book = c.hear.new.book; queries = c.take.new.self }) c.hear.result c.len.ensures.valid reads c.in-Some.ensures.some c.hear.ensures
+    take_result c.args.quest.now c.args.from c.args.bytes.now c.in-Ok-Some.said c.in-Some.contact old (record { book = c.on_reply.new.book; queries = c.take.new.self }) c.on_reply.result c.len.ensures.valid reads c.in-Some.ensures.some c.on_reply.ensures
 
 pub returns-in-Some-clause-holds : goal.returns-in-Some-clause-holds
 returns-in-Some-clause-holds c =
     let old : Lookup = c.args.self.now in
-    let new : Lookup = record { book = c.hear.new.book; queries = c.take.new.self } in
+    let new : Lookup = record { book = c.on_reply.new.book; queries = c.take.new.self } in
     let reads = rw c.in-Ok-Some.field-0-is at c.in-Ok-Some.ensures in
-    held_result c.args.quest.now c.args.from c.args.bytes.now old new c.hear.result c.requires c.legal.ensures
-    (take_result c.args.quest.now c.args.from c.args.bytes.now c.in-Ok-Some.said c.in-Some.contact old new c.hear.result c.len.ensures.valid reads c.in-Some.ensures.some c.hear.ensures)
+    held_result c.args.quest.now c.args.from c.args.bytes.now old new c.on_reply.result c.requires c.legal.ensures
+    (take_result c.args.quest.now c.args.from c.args.bytes.now c.in-Ok-Some.said c.in-Some.contact old new c.on_reply.result c.len.ensures.valid reads c.in-Some.ensures.some c.on_reply.ensures)
 
 pub returns-in-None-clause-takes : goal.returns-in-None-clause-takes
 returns-in-None-clause-takes c =

@@ -1,7 +1,7 @@
 use Rattle.std.proofs.Common.{◌≡◌}
 use Rattle.std.specs.List.{All}
 use Rattle.kad_base.specs.Puzzles.{Passes}
-use Rattle.kad_base.specs.declared.plain.Policy.TheVariants.{Puzzled}
+use Rattle.kad_base.specs.declared.types.Policy.TheVariants.{Puzzled}
 use Rattle.node_serve.specs.declared.tests.TheConstants.{OWN}
 use Rattle.node_serve.proofs.tests.whole.proved_node.Given as goal
 

@@ -3,7 +3,7 @@ use Rattle.atomic_table.specs.Table.{opening}
 use Rattle.turn_book.specs.Turns.{TurnState, all_fresh, AreAll}
 use Rattle.turn_book.specs.Rule.{Kept, newcomer, origin_of}
 use Rattle.turn_book.proofs.Views.{all_are}
-use Rattle.turn_book.proofs.Steps.{starts}
+use Rattle.turn_book.proofs.TurnSteps.{starts}
 use Rattle.turn_book.proofs.lock.Turn.new.Goals as goal
 
 pub new-requires : goal.new-requires

@@ -1,0 +1,255 @@
+-- What each step of a lookup owes.
+use Rattle.std.specs.Prelude.{◌≡◌, ◌≢◌, ◌⊎◌, ℕ, zero, suc, Contains, if◌then◌else◌, ◌+◌, ◌<◌, ◌≤◌, List, [], ◌∷◌, ◌++◌, length, map, Option, None, Result, IsOk, nat_lt, Bool, true, false}
+use Rattle.std.specs.List.{AllByRecursion, flat_map}
+use Rattle.kad_base.specs.declared.types.Addr.{Addr}
+use Rattle.kad_base.specs.declared.types.Event.{Event}
+use Rattle.kad_base.specs.Limits.{max_strays, max_round_receives}
+use Rattle.kad_base.specs.Outside.{Grows}
+use Rattle.id_puzzles.specs.Drawn.{WordsState}
+use Rattle.query_book.specs.declared.Query.{Query}
+use Rattle.contact_table.specs.declared.calls.TableCall.TheVariants.{Closest}
+use Rattle.contact_table.specs.TableState.{TableState}
+use Rattle.claim_book.specs.Journal.{asked, may_ask}
+use Rattle.claim_book.specs.Legal.{Legal, seeded}
+use Rattle.claim_book.specs.RunOut.{RunOut}
+use Rattle.claim_book.specs.Result.{result_of}
+use Rattle.claim_book.specs.Calls.{Counted}
+use Rattle.claim_book.specs.State.{BookState}
+use Rattle.lookup_run.specs.declared.types.LookFault.{LookFault}
+use Rattle.lookup_run.specs.declared.types.LookSetting.{LookSetting}
+use Rattle.lookup_run.specs.declared.types.Gathered.{Gathered}
+use Rattle.lookup_run.specs.declared.types.Outcome.{Outcome}
+use Rattle.lookup_run.specs.declared.types.Progress.{Progress}
+use Rattle.lookup_run.specs.declared.types.LookupState.{LookupState}
+use Rattle.lookup_core.specs.Timeouts.{closed_at}
+use Rattle.lookup_run.specs.Tells.{EndsAtStray}
+use Rattle.lookup_run.specs.Rounds.{Scheduling, AllSettled, NoneAsks, WaitsInTurn}
+use Rattle.lookup_core.specs.declared.on_reply.Answered.{Answered}
+use Rattle.lookup_run.specs.Gathered.{values_of, token_of, IsEachOnce}
+use Rattle.lookup_run.specs.Lookup.{setting_of, given_of, seeds_in, told_of, Unfinished, TableRan, TableTold, Told, quest_of}
+use Rattle.lookup_core.specs.LookupSteps.{as_open, LosesOverdue, IsMatch, RepliesToNone}
+use Rattle.lookup_run.specs.DriverInvariant.{Keeps, HasWords, weight_of, TraceInvariant, PreservesBy, Preserves}
+use Rattle.lookup_core.specs.Quest.{wants_peers}
+
+-- ---- asking
+
+-- contacts were asked; nothing is unsettled, and the first `to` paths may ask nothing
+pub record Asks (look : LookSetting) (from to : ℕ) (words words' : WordsState) (old new : LookupState) (told told' : Option (List Event)) : Type 0 where
+  pub keeps : Keeps look new
+  pub has_words : HasWords words' new.lookup.book.journal
+  pub settled : AllSettled look.paths new.lookup.book.journal
+  pub none_below : NoneAsks (setting_of look) to new.lookup.book.journal
+  pub progress : new.progress ≡ old.progress
+  pub lighter : weight_of new ≤ weight_of old
+  pub goes : (b : ℕ) → Preserves look words words' old new b from b to told told'
+
+-- the path may ask nothing, and nothing changed
+pub record AsksNone (look : LookSetting) (path : ℕ) (words words' : WordsState) (old new : LookupState) (told told' : Option (List Event)) : Type 0 where
+  pub none : may_ask (setting_of look) path old.lookup.book.journal ≡ None
+  pub same_words : words' ≡ words
+  pub same_work : new ≡ old
+  pub same_told : told' ≡ told
+
+-- ---- hearing
+
+-- what an answer gave beside contacts, where it was heard and peers are asked for
+pub record KeepsAlso (heard : List Answered) (old new : Gathered) : Type 0 where
+  pub peers : new.peers ≡ old.peers ++ flat_map values_of heard
+  pub tokens : new.tokens ≡ old.tokens ++ flat_map token_of heard
+
+-- peers and tokens are kept where they are asked for
+abbrev pub KeepsFor : Bool → List Answered → Gathered → Gathered → Type 0
+KeepsFor false heard old new = new ≡ old
+KeepsFor true heard old new = KeepsAlso heard old new
+
+-- those overdue at the moment are lost, oldest first, and the table was told so
+pub record Expires (at : ℕ) (old new : LookupState) : Type 0 where
+  pub loses : LosesOverdue at old.lookup new.lookup
+  pub table : TableTold (flat_map told_of (closed_at at (map (as_open old.lookup.book.journal) old.lookup.queries))) old.table new.table
+  pub progress : new.progress ≡ old.progress
+  pub gathered : new.gathered ≡ old.gathered
+
+-- ---- ending early
+
+-- what holds where a lookup ended early
+pub record Ended (look : LookSetting) (start : WordsState) (table : TableState) (began : Option (List Event)) (words' : WordsState) (table' : TableState) (told' : Option (List Event)) : Type 0 where
+  pub unfinished : Unfinished look table start words' began told'
+  pub ran : TableRan table table'
+
+-- a lookup that ends early in this step
+abbrev pub Stops : LookSetting → WordsState → WordsState → LookupState → LookupState → Option (List Event) → Option (List Event) → Type 0
+Stops look words words' old new told told' =
+    (scheduling : Scheduling) (start : WordsState) (table : TableState) (began : Option (List Event)) (b a : ℕ) → TraceInvariant scheduling look start table began words old b a told → Ended look start table began words' new.table told'
+
+-- the same from where a round begins
+abbrev pub StopsRound : Scheduling → LookSetting → WordsState → WordsState → LookupState → LookupState → Option (List Event) → Option (List Event) → Type 0
+StopsRound scheduling look words words' old new told told' =
+    (start : WordsState) (table : TableState) (began : Option (List Event)) → TraceInvariant scheduling look start table began words old look.paths 0 told → Ended look start table began words' new.table told'
+
+-- the events of a lookup that ends in this round end with the last stray that it takes
+abbrev pub RoundEndsByStray : Scheduling → LookSetting → WordsState → LookupState → Option (List Event) → Option (List Event) → Type 0
+RoundEndsByStray scheduling look words old told told' =
+    (start : WordsState) (table : TableState) (began : Option (List Event)) → TraceInvariant scheduling look start table began words old look.paths 0 told → Grows began told' (λ events. EndsAtStray (given_of look start) events max_strays)
+
+-- the events of a lookup that ends in this step end with the last stray that it takes
+abbrev pub EndsByStray : LookSetting → WordsState → LookupState → Option (List Event) → Option (List Event) → Type 0
+EndsByStray look words old told told' =
+    (scheduling : Scheduling) (start : WordsState) (table : TableState) (began : Option (List Event)) (b a : ℕ) → TraceInvariant scheduling look start table began words old b a told → Grows began told' (λ events. EndsAtStray (given_of look start) events max_strays)
+
+-- the events of a lookup that ends in this step don't end so
+abbrev pub FewStrays : LookSetting → WordsState → LookupState → Option (List Event) → Option (List Event) → Type 0
+FewStrays look words old told told' =
+    (scheduling : Scheduling) (start : WordsState) (table : TableState) (began : Option (List Event)) (b a : ℕ) → TraceInvariant scheduling look start table began words old b a told → Grows began told' (λ events. ¬ EndsAtStray (given_of look start) events max_strays)
+
+-- the same of a lookup that ends in this round
+abbrev pub RoundFewStrays : Scheduling → LookSetting → WordsState → LookupState → Option (List Event) → Option (List Event) → Type 0
+RoundFewStrays scheduling look words old told told' =
+    (start : WordsState) (table : TableState) (began : Option (List Event)) → TraceInvariant scheduling look start table began words old look.paths 0 told → Grows began told' (λ events. ¬ EndsAtStray (given_of look start) events max_strays)
+
+-- ---- receiving
+
+-- how long a receive waits: to the earliest deadline where it begins a round, and else not at all
+pub record IsDue (queries : List Query) (moment : ℕ) : Type 0 where
+  pub one : Contains (map (λ q. q.deadline) queries) moment
+  pub least : AllByRecursion (λ (q : Query). moment ≤ q.deadline) queries
+
+-- until when a receive waits, by how many the round has had
+abbrev pub WaitsFor : ℕ → ℕ → List Query → ℕ → Type 0
+WaitsFor zero moment queries until = IsDue queries until
+WaitsFor (suc n) moment queries until = until ≡ moment
+
+-- the receives of the round after a datagram: none where it is over
+abbrev pub receives_kept : ℕ → List Query → ℕ
+receives_kept n [] = 0
+receives_kept n (q ∷ queries) = if nat_lt (n + 1) max_round_receives then n + 1 else 0
+
+-- one stray more
+pub record TakesStray (old new : Progress) : Type 0 where
+  pub after : new ≡ record { moment = old.moment; receives = old.receives; strays = old.strays + 1 }
+  pub few : new.strays < max_strays
+
+-- the datagram is a stray: it replies to no open query, and only the count of strays changes
+pub record IsStrayFor (look : LookSetting) (from : Addr) (bytes : List ℕ) (old new : LookupState) : Type 0 where
+  pub none : RepliesToNone (quest_of look) from bytes old.lookup
+  pub takes : TakesStray old.progress new.progress
+  pub lookup : new.lookup ≡ old.lookup
+  pub table : new.table ≡ old.table
+  pub gathered : new.gathered ≡ old.gathered
+
+-- the last stray that a lookup takes
+pub record IsLastStray (look : LookSetting) (from : Addr) (bytes : List ℕ) (work : LookupState) : Type 0 where
+  pub none : RepliesToNone (quest_of look) from bytes work.lookup
+  pub last : work.progress.strays + 1 ≡ max_strays
+
+-- the lookup matches it, and what the answer gave beside contacts is kept
+pub record IsMatchFor (look : LookSetting) (from : Addr) (bytes : List ℕ) (old new : LookupState) : Type 0 where
+  pub heard : List Answered
+  pub matches : IsMatch (quest_of look) from bytes old.lookup new.lookup heard
+  pub keeps_for : KeepsFor (wants_peers look.kind) heard old.gathered new.gathered
+  pub table : new.table ≡ old.table
+  pub progress : new.progress ≡ old.progress
+
+-- a datagram is matched to the open query that it replies to (BEP 5), or is a stray
+abbrev pub TakesDatagram : LookSetting → Addr → List ℕ → LookupState → LookupState → Type 0
+TakesDatagram look from bytes old new = IsMatchFor look from bytes old new ⊎ IsStrayFor look from bytes old new
+
+-- before a receive some query is open, and where it begins a round nothing is unsettled and no path may ask
+pub record MayReceive (look : LookSetting) (work : LookupState) : Type 0 where
+  pub keeps : Keeps look work
+  pub some_open : work.lookup.queries ≢ []
+  pub in_turn : WaitsInTurn (setting_of look) work.lookup.book.journal work.progress.receives
+
+-- a receive gave a datagram, or the moment that was waited for
+pub record ReceivesOne (look : LookSetting) (old new : LookupState) (told told' : Option (List Event)) : Type 0 where
+  pub keeps : Keeps look new
+  pub some_open : new.progress.receives ≢ 0 → new.lookup.queries ≢ []
+  pub round : (new.progress.receives ≡ 0) ⊎ (new.progress.receives ≡ old.progress.receives + 1)
+  pub same_asks : length (asked new.lookup.book.journal) ≡ length (asked old.lookup.book.journal)
+  pub first_lighter : old.progress.receives ≡ 0 → weight_of new < weight_of old
+  pub lighter : weight_of new ≤ weight_of old
+  pub goes : (words : WordsState) (b a : ℕ) → Preserves look words words old new b a 0 0 told told'
+
+-- the receives of a whole round
+pub record ReceivesAll (look : LookSetting) (old new : LookupState) (told told' : Option (List Event)) : Type 0 where
+  pub keeps : Keeps look new
+  pub round_over : new.progress.receives ≡ 0
+  pub same_asks : length (asked new.lookup.book.journal) ≡ length (asked old.lookup.book.journal)
+  pub lighter : weight_of new < weight_of old
+  pub goes : (words : WordsState) (b a : ℕ) → Preserves look words words old new b a 0 0 told told'
+
+-- ---- settling
+
+-- the paths from the one to the other were settled
+pub record SettlesPaths (scheduling : Scheduling) (look : LookSetting) (from to : ℕ) (old new : LookupState) (told : Option (List Event)) : Type 0 where
+  pub keeps : Keeps look new
+  pub settled : AllSettled to new.lookup.book.journal
+  pub progress : new.progress ≡ old.progress
+  pub same_asks : length (asked new.lookup.book.journal) ≡ length (asked old.lookup.book.journal)
+  pub queries : new.lookup.queries ≡ old.lookup.queries
+  pub ran : TableRan old.table new.table
+  pub goes : (words : WordsState) (a : ℕ) → PreservesBy scheduling look words words old new from a to a told told
+
+-- ---- rounds
+
+-- where a round begins
+pub record Begins (look : LookSetting) (words : WordsState) (work : LookupState) : Type 0 where
+  pub keeps : Keeps look work
+  pub has_words : HasWords words work.lookup.book.journal
+  pub round_over : work.progress.receives ≡ 0
+  pub settled : AllSettled look.paths work.lookup.book.journal
+
+-- contacts were asked, and the receives of the round are over
+pub record HasReceived (look : LookSetting) (words words' : WordsState) (old new : LookupState) (told told' : Option (List Event)) : Type 0 where
+  pub keeps : Keeps look new
+  pub has_words : HasWords words' new.lookup.book.journal
+  pub round_over : new.progress.receives ≡ 0
+  pub lighter : weight_of new < weight_of old
+  pub goes : Preserves look words words' old new look.paths 0 0 0 told told'
+
+-- one round more, and the next begins
+pub record RoundAlong (scheduling : Scheduling) (look : LookSetting) (words words' : WordsState) (old new : LookupState) (told told' : Option (List Event)) : Type 0 where
+  pub begins : Begins look words' new
+  pub lighter : weight_of new < weight_of old
+  pub goes : PreservesBy scheduling look words words' old new look.paths 0 look.paths 0 told told'
+
+-- no query is open, nothing is unsettled, and no path may ask
+pub record IsOver (scheduling : Scheduling) (look : LookSetting) (words words' : WordsState) (old new : LookupState) (told told' : Option (List Event)) : Type 0 where
+  pub keeps : Keeps look new
+  pub none_open : new.lookup.queries ≡ []
+  pub settled : AllSettled look.paths new.lookup.book.journal
+  pub none_asks : NoneAsks (setting_of look) look.paths new.lookup.book.journal
+  pub goes : PreservesBy scheduling look words words' old new look.paths 0 look.paths look.paths told told'
+
+-- what the book that has run out found
+pub record IsDone (book : BookState) (outcome : Outcome) : Type 0 where
+  pub journal : outcome.journal ≡ book.journal
+  pub legal : Legal book.setting outcome.journal
+  pub run_out : (p : ℕ) → p < book.setting.paths → RunOut book.setting p outcome.journal
+  pub found : outcome.found ≡ result_of book.setting outcome.journal
+  pub counted : Counted outcome.journal outcome.counts
+
+-- what a lookup answers, where its rounds ended well
+pub record IsClosed (work : LookupState) (ended : Result (Unit {0}) LookFault) (outcome : Outcome) : Type 0 where
+  pub well : IsOk ended
+  pub done : IsDone work.lookup.book outcome
+  pub peers : IsEachOnce work.gathered.peers outcome.peers
+  pub tokens : outcome.tokens ≡ work.gathered.tokens
+
+-- a book that begins with the closest contacts of the table
+pub record IsBookOf (look : LookSetting) (table : TableState) (book : BookState) : Type 0 where
+  pub setting : book.setting ≡ setting_of look
+  pub journal : book.journal ≡ seeded look.paths (seeds_in look table)
+  pub legal : Legal book.setting book.journal
+
+-- the call for the seeds
+abbrev pub asks_seeds : LookSetting → List Told
+asks_seeds look = record { role = 0; call = Closest look.target look.k } ∷ []
+
+-- where a lookup begins, at this moment
+pub record IsBegun (book : BookState) (table : TableState) (moment : ℕ) (work : LookupState) : Type 0 where
+  pub book_is : work.lookup.book ≡ book
+  pub table_is : work.table ≡ table
+  pub none_open : work.lookup.queries ≡ []
+  pub progress : work.progress ≡ record { moment = moment; receives = 0; strays = 0 }
+  pub no_peers : work.gathered.peers ≡ []
+  pub no_tokens : work.gathered.tokens ≡ []

@@ -1,0 +1,112 @@
+//! What a lookup is given, what it answers, and what it keeps between two calls on its link.
+ghost use Rattle.std.specs.Prelude.{◌≡◌};
+ghost use Rattle.lookup_run.specs.Lookup.{setting_of, quest_of};
+
+use claim_book::{Counts, Journal, Setting};
+use contact_table::Table;
+use kad_base::{Addrs, Bytes, Contact, Contacts, Id, List, Policy};
+use lookup_core::{AskKind, Lookup, Quest};
+use thiserror::Error;
+
+/// What a lookup is given. `own` is the node that asks; each of `paths` disjoint paths (S/Kademlia, section 4.4) has at
+/// most `alpha` queries open and ends when its `k` closest contacts have answered (Kademlia, section 2.3). `policy`
+/// says which reports may be believed, and `timeout` how long to wait for an answer, in milliseconds.
+#[derive(Clone, Copy, Debug, PartialEq, Eq)]
+pub struct LookSetting {
+    pub own: Id,
+    pub target: Id,
+    pub k: u8,
+    pub paths: u8,
+    pub alpha: u8,
+    pub policy: Policy,
+    pub timeout: u32,
+    pub kind: AskKind,
+}
+
+impl LookSetting {
+    /// What the book is set to.
+    pub(crate) fn setting(&self) -> Setting
+        ensures { result ≡ setting_of self.now }
+    {
+        Setting {
+            own: self.own,
+            target: self.target,
+            k: self.k,
+            paths: self.paths,
+            alpha: self.alpha,
+            policy: self.policy,
+        }
+    }
+
+    /// What the lookup asks, and what it believes.
+    pub(crate) fn quest(&self) -> Quest
+        ensures { result ≡ quest_of self.now }
+    {
+        Quest {
+            own: self.own,
+            target: self.target,
+            policy: self.policy,
+            kind: self.kind,
+            timeout: self.timeout,
+        }
+    }
+}
+
+/// The token that a contact gave: what a later `announce_peer` to it has to bring along (BEP 5).
+#[derive(Debug, Drop, PartialEq, Eq)]
+pub struct Token {
+    pub contact: Contact,
+    pub token: Bytes,
+}
+
+pub type Tokened = List<Token>;
+
+/// What a lookup found: the closest contacts, its numbers, the journal that they are of, the peers that the answers
+/// named, each once and in order, and the tokens that came with them. The last two are empty where no peers were asked
+/// for.
+#[derive(Debug, Drop)]
+pub struct Outcome {
+    pub found: Contacts,
+    pub counts: Counts,
+    pub journal: Journal,
+    pub peers: Addrs,
+    pub tokens: Tokened,
+}
+
+/// Why a lookup ended early.
+#[derive(Clone, Copy, Debug, PartialEq, Eq, Error)]
+pub enum LookFault {
+    /// A receive failed.
+    #[error("a receive failed")]
+    LinkFault,
+    /// The last stray that a lookup takes was received.
+    #[error("too many datagrams were no replies")]
+    Strays,
+    #[error("no memory")]
+    NoMemory,
+}
+
+/// Where a lookup stands between two calls on its link: the last told moment, how many receives its round has had (0
+/// where the next one begins a round), and how many datagrams were strays.
+#[derive(Clone, Copy, Debug)]
+pub(crate) struct Progress {
+    pub moment: u64,
+    pub receives: u32,
+    pub strays: u32,
+}
+
+/// What the heard answers gave beside contacts: peers as they came, and tokens.
+#[derive(Debug, Drop)]
+pub(crate) struct Gathered {
+    pub peers: Addrs,
+    pub tokens: Tokened,
+}
+
+/// What a driver keeps: the lookup, the table, where the link stands, and what was gathered.
+#[derive(Drop)]
+pub(crate) struct LookupState {
+    pub lookup: Lookup,
+    pub table: Table,
+    pub progress: Progress,
+    pub gathered: Gathered,
+}

@@ -1,0 +1,9 @@
+use Rattle.std.proofs.Common.{take}
+use Rattle.node_serve.proofs.Receiving.{datagram_came}
+use Rattle.node_serve.proofs.service.receive.Goals as goal
+
+pub returns-in-Ok-clause-ok : goal.returns-in-Ok-clause-ok
+returns-in-Ok-clause-ok g c =
+    let p = c.in-Ok-Packet in
+    let grows = rw p.field-0-is at p.ensures.ok in
+    datagram_came c.args.server.now c.answer_one.new.node p.from (take p.len c.recv.new.buf) c.saturating_add-until.result p.at c.in-Ok.sent _ _ _ c.saturating_add-until.ensures grows c.in-Ok.ensures.ok

@@ -1,0 +1,157 @@
+//! The receive calls of a node that serves on a link, and the replies to what came.
+ghost use Rattle.std.specs.Prelude.{◌≡◌, ◌≤◌, ◌<◌, ◌+◌, ◌^◌, [], ◌∷◌, length, IfOk, OnOk, OnErr, IfErr};
+ghost use Rattle.kad_base.specs.Outside.{Grows, Rose};
+ghost use Rattle.node_serve.specs.AnswerOf.{EndsEarly};
+ghost use Rattle.node_serve.specs.Receives.{ServesAll, ServesSome, tried};
+ghost use Rattle.node_serve.specs.Responded.{serve_state, RespondsWith, ReceivesOne, Stops};
+
+use crate::node::{Answered, Node};
+use kad_base::limits::{MAX_DATAGRAM, RECEIVE_ROOM};
+use kad_base::{Addr, Came, Link, NoMemory};
+use thiserror::Error;
+
+/// How long a receive call waits, in milliseconds.
+const PATIENCE: u64 = 60_000;
+
+/// Why a service ended before its last receive call.
+#[derive(Clone, Copy, Debug, PartialEq, Eq, Error)]
+pub enum ServeFault {
+    /// The link failed at a receive.
+    #[error("the link failed")]
+    LinkFault,
+    /// A query came for whose answer there was no memory.
+    #[error("no memory")]
+    NoMemory,
+}
+
+/// How much was served.
+#[derive(Clone, Copy, Debug, PartialEq, Eq)]
+pub struct ServeCounts {
+    /// How many datagrams came.
+    pub received: u32,
+    /// How many replies were sent, those aside that the link refused.
+    pub replied: u32,
+}
+
+/// A node that serves, the last moment that its link told, how many datagrams came, and how many replies were sent.
+#[derive(Drop)]
+pub(crate) struct Server {
+    pub node: Node,
+    pub moment: u64,
+    pub received: u32,
+    pub replied: u32,
+}
+
+/// Sends the reply; false where the link refused it.
+fn send<L: Link>(link: &mut L, to: Addr, reply: &[u8]) -> bool
+    ensures sent { Grows (L.told link.old) (L.told link.new)
+        (λ es. es ≡ tried result to reply.now ∷ []) }
+    ensures recv_faults { L.recv_faults link.old ≤ L.recv_faults link.new }
+{
+    match link.send(to, reply) {
+        Ok(()) => true,
+        Err(_) => false,
+    }
+}
+
+/// Answers the datagram, and sends the reply to its source where one is owed; how many were sent: at most one.
+fn answer_one<L: Link>(
+    link: &mut L,
+    node: &mut Node,
+    from: Addr,
+    bytes: &[u8],
+    at: u64,
+    out: &mut [u8; MAX_DATAGRAM],
+) -> Result<u32, NoMemory>
+    ensures most { IfOk result (λ sent. sent ≤ 1) }
+    ensures ok { IfOk result (λ sent. Grows (L.told link.old) (L.told link.new)
+        (RespondsWith node.old from bytes.now at sent node.new)) }
+    ensures err { OnErr result (EndsEarly node.old from bytes.now at node.new) }
+    ensures still { OnErr result (link.new ≡ link.old) }
+    ensures recv_faults { L.recv_faults link.old ≤ L.recv_faults link.new }
+{
+    match node.answer(from, bytes, at, out) {
+        Answered::Reply(length) => Ok(u32::from(send(link, from, &out[..length]))),
+        Answered::Silent => Ok(0),
+        Answered::NoMemory => Err(NoMemory),
+    }
+}
+
+/// Makes one receive call, and answers the datagram that came.
+fn receive<L: Link>(
+    link: &mut L,
+    server: &mut Server,
+    room: &mut [u8],
+    out: &mut [u8; MAX_DATAGRAM],
+) -> Result<(), ServeFault>
+    requires room { length room.old ≡ 4097 }
+    requires few { server.old.received + 1 < 2 ^ 32 }
+    requires fewer { server.old.replied ≤ server.old.received }
+    ensures room { length room.new ≡ 4097 }
+    ensures few { OnOk result (server.new.received ≤ server.old.received + 1) }
+    ensures fewer { OnOk result (server.new.replied ≤ server.new.received) }
+    ensures ok { OnOk result (Grows (L.told link.old) (L.told link.new)
+        (ReceivesOne server.old server.new)) }
+    ensures stops { IfErr result (λ fault. Stops fault (serve_state server.old)
+        (L.told link.old) (L.told link.new)) }
+    ensures link_fault { result ≡ Err ServeFault.LinkFault
+        → Rose (L.recv_faults link.old) (L.recv_faults link.new) }
+    ensures recv_faults { L.recv_faults link.old ≤ L.recv_faults link.new }
+{
+    let until = server.moment.saturating_add(PATIENCE);
+    match link.recv(room, until) {
+        Ok(Came::Packet { from, len, at }) => {
+            match answer_one(link, &mut server.node, from, &room[..len], at, out) {
+                Ok(sent) => {
+                    server.moment = at;
+                    server.received += 1;
+                    server.replied += sent;
+                    Ok(())
+                }
+                Err(NoMemory) => Err(ServeFault::NoMemory),
+            }
+        }
+        Ok(Came::Quiet { at }) => {
+            server.moment = at;
+            Ok(())
+        }
+        Err(_) => Err(ServeFault::LinkFault),
+    }
+}
+
+/// Serves from the moment `began` on, in milliseconds: makes that many receive calls on the link, each of which waits for a
+/// minute, and answers the queries that come. Where the link refuses a reply it goes on.
+pub fn serve_loop<L: Link>(
+    link: &mut L,
+    node: Node,
+    began: u64,
+    receives: u32,
+) -> Result<ServeCounts, ServeFault>
+    ensures ok { IfOk result (λ counts. Grows (L.told link.old) (L.told link.new)
+        (ServesAll (record { node = node; moment = began }) receives
+        counts.received counts.replied)) }
+    ensures begun { OnErr result (Grows (L.told link.old) (L.told link.new)
+        (ServesSome (record { node = node; moment = began }) receives)) }
+    ensures link_fault { result ≡ Err ServeFault.LinkFault
+        → Rose (L.recv_faults link.old) (L.recv_faults link.new) }
+    ensures recv_faults { L.recv_faults link.old ≤ L.recv_faults link.new }
+{
+    let mut server = Server {
+        node,
+        moment: began,
+        received: 0,
+        replied: 0,
+    };
+    let mut room = [0u8; RECEIVE_ROOM];
+    let mut out = [0u8; MAX_DATAGRAM];
+    for i in 0..receives {
+        match receive(link, &mut server, &mut room, &mut out) {
+            Ok(()) => {}
+            Err(fault) => return Err(fault),
+        }
+    }
+    Ok(ServeCounts {
+        received: server.received,
+        replied: server.replied,
+    })
+}

@@ -1,0 +1,99 @@
+//! What every command that looks up does first: it reads the contacts of the input, tells a new routing table of them, and
+//! looks up from its closest until every path has run out.
+ghost use Rattle.std.specs.Prelude.{◌≡◌, ◌≢◌, ◌⊎◌, [], IfOk, IfErr};
+ghost use Rattle.node_top.specs.Endings.{EndsUnasked, number_of};
+ghost use Rattle.node_top.specs.Input.{Reads};
+ghost use Rattle.node_top.specs.Looked.{LookupCause, InputCause, LookupBegun};
+ghost use Rattle.node_top.specs.Reached.{Reaches};
+ghost use Rattle.node_top.specs.Started.{IsInRange};
+ghost use Rattle.node_top.specs.Shown.{shown};
+
+use crate::bootstrap::{FIRST_TX, setting_for, table_of};
+use crate::call::Call;
+use crate::input::{admitted, read_reports};
+use crate::status::Status;
+use id_puzzles::Words;
+use kad_base::{Check, Contacts, Id, Link, Policy, Source};
+use kad_words::LookWords;
+use lookup_run::{AskKind, LookFault, Outcome, look_up};
+use std::alloc::Global;
+use std::sync::Wait;
+use std::thread::Threads;
+
+/// Who looked up, what was found, and the words from which its transaction ids were drawn, as far as they were.
+#[derive(Drop)]
+pub(crate) struct Reached {
+    pub own: Id,
+    pub outcome: Outcome,
+    pub words: Words,
+}
+
+/// The contacts that the input gives, where there are some.
+pub(crate) fn read_contacts<S: Source, C: Check>(
+    alloc: Global,
+    source: &mut S,
+    own: &Id,
+    policy: Policy,
+    check: &C,
+) -> Result<Contacts, Status>
+    ensures ok { IfOk result (Reads own.now policy (shown S.left S.faults source.old source.new)) }
+    ensures some_one { IfOk result (λ contacts. contacts ≢ []) }
+    ensures cause { IfErr result (InputCause own.now policy
+        (shown S.left S.faults source.old source.new)) }
+{
+    let reports = read_reports(alloc, source)?;
+    let contacts = admitted(alloc, own, policy, check, reports.as_slice())?;
+    if contacts.as_slice().is_empty() {
+        return Err(Status::NoSeeds);
+    }
+    Ok(contacts)
+}
+
+/// Looks the target up by this query, or says why it was not found out.
+pub(crate) fn run_lookup<R: Threads + Wait + Sync, S: Source, L: Link, C: Check + Sync>(
+    rt: &R,
+    alloc: Global,
+    kind: AskKind,
+    look: &LookWords,
+    source: &mut S,
+    link: &mut L,
+    call: &Call<'_, C>,
+) -> Result<Reached, Status>
+    requires { IsInRange look.now }
+    ensures ok { IfOk result (Reaches kind look.now call.now.random
+        (shown S.left S.faults source.old source.new)
+        (shown L.told L.recv_faults link.old link.new)) }
+    ensures cause { IfErr result (LookupCause kind look.now call.now.random
+        (shown S.left S.faults source.old source.new)
+        (shown L.told L.recv_faults link.old link.new)) }
+    ensures no_memory { IfErr result (λ status. status ≡ Status.NoMemory →
+        LookupBegun kind look.now call.now.random
+        (shown S.left S.faults source.old source.new)
+        (shown L.told L.recv_faults link.old link.new) ⊎ (link.new ≡ link.old)) }
+    ensures early { IfErr result (λ status. EndsUnasked (number_of status) → link.new ≡ link.old) }
+{
+    let setting = setting_for(kind, look, &call.random);
+    let contacts = read_contacts(alloc, source, &setting.own, setting.policy, call.check)?;
+    let table = table_of(alloc, setting.own, look.k, look.bits, contacts.as_slice())?;
+    let mut words = Words::new(&call.random, FIRST_TX);
+    let (_, ended) = look_up(
+        rt,
+        alloc,
+        link,
+        &mut words,
+        table,
+        &setting,
+        call.check,
+        call.hasher,
+    );
+    match ended {
+        Ok(outcome) => Ok(Reached {
+            own: setting.own,
+            outcome,
+            words,
+        }),
+        Err(LookFault::LinkFault) => Err(Status::LinkFault),
+        Err(LookFault::Strays) => Err(Status::Strays),
+        Err(LookFault::NoMemory) => Err(Status::NoMemory),
+    }
+}

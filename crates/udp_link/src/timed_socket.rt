@@ -1,0 +1,81 @@
+//! A UDP socket that remembers how long it was told to wait, so that a receive that waits as long as the last one, or as
+//! little, costs one system call.
+ghost use Rattle.std.specs.Prelude.{◌≡◌, ◌≤◌, ◌-◌, ◌*◌, ◌<◌, ◌↔◌, length, IsNone, IfSome, IfOk, OnOk, Some, is_some};
+ghost use Rattle.std.specs.Duration.{as_nanos};
+
+use std::io;
+use std::net::{SocketAddr, UdpSocket};
+use std::time::Duration;
+
+/// A UDP socket: whether its receives wait, and how long they wait where they do, as far as that was set.
+#[derive(Drop)]
+pub(crate) struct TimedSocket {
+    socket: UdpSocket,
+    waits: bool,
+    timeout: Option<Duration>,
+}
+
+impl TimedSocket {
+    /// Of a socket whose receives wait, as the system makes them.
+    pub(crate) fn new(socket: UdpSocket) -> Self {
+        TimedSocket {
+            socket,
+            waits: true,
+            timeout: None,
+        }
+    }
+
+    pub(crate) fn send_to(&self, bytes: &[u8], to: SocketAddr) -> io::Result<usize> {
+        self.socket.send_to(bytes, to)
+    }
+
+    /// One receive, which waits so long and no longer, and not at all for `None`.
+    pub(crate) fn recv_from(
+        &mut self,
+        buf: &mut [u8],
+        wait: Option<Duration>,
+    ) -> io::Result<(usize, SocketAddr)>
+        ensures { IfOk result (λ came. came.0 ≤ length buf.old) }
+    {
+        self.set_waits(wait.is_some())?;
+        if let Some(timeout) = wait {
+            self.set_timeout(timeout)?;
+        }
+        self.socket.recv_from(buf)
+    }
+
+    /// Says whether receives wait, where that isn't said already.
+    fn set_waits(&mut self, waits: bool) -> io::Result<()>
+        ensures waits { OnOk result (self.new.waits ≡ waits) }
+        ensures same { self.new.timeout ≡ self.old.timeout }
+    {
+        if self.waits != waits {
+            self.socket.set_nonblocking(!waits)?;
+            self.waits = waits;
+        }
+        Ok(())
+    }
+
+    /// Says how long receives wait, where that isn't said already.
+    fn set_timeout(&mut self, timeout: Duration) -> io::Result<()>
+        ensures timeout { OnOk result (self.new.timeout ≡ Some timeout) }
+        ensures same { self.new.waits ≡ self.old.waits }
+    {
+        if self.timeout != Some(timeout) {
+            self.socket.set_read_timeout(Some(timeout))?;
+            self.timeout = Some(timeout);
+        }
+        Ok(())
+    }
+}
+
+/// From one moment to another, in milliseconds: `None` where the other has passed.
+pub(crate) fn time_left(until: u64, at: u64) -> Option<Duration>
+    ensures passed { IsNone result ↔ (until ≤ at) }
+    ensures left { IfSome result (λ left. as_nanos left ≡ (until - at) * 1_000_000) }
+{
+    match until.checked_sub(at) {
+        None | Some(0) => None,
+        Some(left) => Some(Duration::from_millis(left)),
+    }
+}
