@@ -45,7 +45,8 @@ fn has_several(book: &mut Book, paths: u8) -> bool
     false
 }
 
-/// Settles all that the paths have: each on a thread of its own, where more than one has something to settle.
+/// Settles all that the paths have: each on a thread of its own, where checking takes long and more than one has something
+/// to settle; else path by path, since making a thread costs more than the checks do.
 pub(crate) fn settle_each<R: Threads + Wait + Sync, C: Check + Sync>(
     rt: &R,
     alloc: Global,
@@ -64,7 +65,7 @@ pub(crate) fn settle_each<R: Threads + Wait + Sync, C: Check + Sync>(
     ensures fault { IfErr result.1 (λ fault. fault ≡ LookFault.NoMemory) }
 {
     let mut work = work;
-    if !has_several(&mut work.lookup.book, look.paths) {
+    if !check.takes_long() || !has_several(&mut work.lookup.book, look.paths) {
         let settled = settle_paths(&mut work, look, check);
         return (work, settled);
     }

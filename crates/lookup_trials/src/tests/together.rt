@@ -92,6 +92,11 @@ impl Check for Meeting {
         }
         Sha1Check.check(policy, report)
     }
+
+    /// It waits for another.
+    fn takes_long(&self) -> bool {
+        true
+    }
 }
 
 /// Two paths whose answers come at one moment settle them at once: each check meets the other.

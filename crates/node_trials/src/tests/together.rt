@@ -47,6 +47,11 @@ impl Check for Meeting {
         }
         Sha1Check.check(policy, report)
     }
+
+    /// It waits for another.
+    fn takes_long(&self) -> bool {
+        true
+    }
 }
 
 /// Both answers come at one moment, so both reports are settled in one round. A lookup that settles one path after the
