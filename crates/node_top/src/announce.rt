@@ -6,7 +6,7 @@ ghost use Rattle.kad_base.specs.Words.{word};
 ghost use Rattle.node_top.specs.Announced.{port_of, announcement, first_from, announcements, tried, asking, Announces, AnnouncesSome, sent_in};
 
 use id_puzzles::Words;
-use kad_base::{Bytes, Contact, Id, Link, List, NoMemory};
+use kad_base::{Bytes, Contact, Id, Link, List, NoMemory, is_same};
 use kad_krpc::{Ask, Message, Port, encode};
 use lookup_run::Token;
 use std::alloc::Global;
@@ -73,7 +73,7 @@ fn send_one<L: Link>(
 fn is_from(token: &Token, contact: &Contact) -> bool
     ensures { result ≡ same token.now.contact contact.now }
 {
-    token.contact.cmp(contact).is_eq()
+    is_same(&token.contact, contact)
 }
 
 /// Announces to the contact by the first token that it gave, under the next drawn word, and answers how many datagrams

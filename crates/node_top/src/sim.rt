@@ -1,7 +1,7 @@
 //! The command `sim`: looks up in a network that follows from a seed, and makes the line of what it found. It reads
 //! nothing, and opens no socket.
 ghost use Rattle.std.specs.Prelude.{◌≡◌, ◌≤◌, map, length, IfOk, IfErr, string_bytes};
-ghost use Rattle.kad_base.specs.Contacts.{same, among};
+ghost use Rattle.kad_base.specs.Contacts.{among};
 ghost use Rattle.fake_net.specs.Network.{numbers};
 ghost use Rattle.node_top.specs.Printed.{line_of};
 ghost use Rattle.node_top.specs.Simulated.{network_of, look_to, IsSimulable, report_of, count_among, sim_text, Begins, SimText};
@@ -14,7 +14,9 @@ use crate::status::Status;
 use contact_table::Table;
 use fake_net::SimNet;
 use id_puzzles::Words;
-use kad_base::{Bytes, Check, Contact, Contacts, Id, List, NoMemory, Policy, Report, Reports};
+use kad_base::{
+    Bytes, Check, Contact, Contacts, Id, List, NoMemory, Policy, Report, Reports, is_same,
+};
 use kad_words::LookWords;
 use lookup_run::{AskKind, LookFault, LookSetting, Outcome, look_up_alone};
 use std::alloc::{AllocError, Global};
@@ -61,13 +63,6 @@ fn first_nodes(alloc: Global, net: &SimNet, count: u32) -> Result<Reports, NoMem
         })?;
     }
     Ok(reports)
-}
-
-/// Whether the two are one contact.
-fn is_same(a: &Contact, b: &Contact) -> bool
-    ensures { result ≡ same a.now b.now }
-{
-    a.cmp(b).is_eq()
 }
 
 /// Whether the contact is among those.
