@@ -1,6 +1,6 @@
 //! The atomic steps of a call: the compare and exchange that takes the slot, the object's own step in it, and the
 //! fetch-and-add that gives it back, at which the call stands in the run.
-ghost use Rattle.std.specs.Prelude.{◌≡◌, ◌+◌, ◌*◌, ◌^◌, ◌<◌, ◌≤◌, [], ◌∷◌, ◌++◌, length, false};
+ghost use Rattle.std.specs.Prelude.{◌≡◌, ◌+◌, ◌*◌, ◌%◌, ◌^◌, ◌<◌, ◌≤◌, ◌↔◌, [], ◌∷◌, ◌++◌, length, false, IsTrue};
 ghost use Rattle.kad_base.specs.Serial.{calls_of, made};
 ghost use Rattle.turn_book.specs.Turns.{IsPrefix};
 ghost use Rattle.turn_book.specs.Rule.{IsIdle, IsBusy, IsReady, Called, seen_by, part, view};
@@ -15,7 +15,14 @@ use std::sync::Wait;
 /// The word from which on no call gets the slot.
 const END: u64 = 1 << 63;
 
-/// Waits for the slot, and takes it: the word is even while the slot is free.
+/// Whether a call may take the slot: the word is even while the slot is free.
+fn is_free(word: u64) -> bool
+    ensures { IsTrue result ↔ (word % 2 ≡ 0) × (word < 2 ^ 63) }
+{
+    word % 2 == 0 && word < END
+}
+
+/// Waits for the slot, and takes it.
 fn take<S: Serial, R: Wait, J: Opened<S>>(
     rt: &R,
     board: &Board<S>,
@@ -36,7 +43,7 @@ fn take<S: Serial, R: Wait, J: Opened<S>>(
     let backoff = Backoff::new();
     for _ in rt.forever() {
         let word = board.shared.peek(0);
-        if word % 2 == 0 && word < END {
+        if is_free(word) {
             let found = board
                 .shared
                 .compare_exchange::<Take<S, J>>(seat, 0, word, word + 1);

@@ -18,4 +18,4 @@ returns-then-found-word g c =
     let told = told_took g.S.Serial.may g.S.Serial.step g.S.Serial.after start c.loop.seat.me c.compare_exchange-found.new.seat.me g.J.Opened.start c.compare_exchange-found.result c.requires.picked (step.2.0 hit) in
     let t = took_at g.S.Serial.may g.S.Serial.step g.S.Serial.after start c.args.role c.args.seat.now.me c.compare_exchange-found.new.seat.me c.compare_exchange-found.result c.requires.idle
     (subst (λ (z : Me g.row.S.Denot (View g.row.S-Call.Denot g.row.S-Reply.Denot)). Took g.S.Serial.may g.S.Serial.step g.S.Serial.after start z c.compare_exchange-found.result c.compare_exchange-found.new.seat.me) was.2 told) in
-    record { same = (step.0 ∙ was.0, step.1 ∙ was.1); busy = t.0; run = (t.1, t.2); room = (let f = t.3 in let below = c.if-word-lt-END.true in omega arith) }
+    record { same = (step.0 ∙ was.0, step.1 ∙ was.1); busy = t.0; run = (t.1, t.2); room = (let f = t.3 in let below = (c.is_free.ensures.0 c.if-is_free.true).1 in omega arith) }
