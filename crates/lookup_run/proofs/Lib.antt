@@ -19,3 +19,4 @@ pub mod WholeRound
 pub mod Rounding
 pub mod Closing
 pub mod Shuffled
+pub mod Several

@@ -1,13 +1,13 @@
 -- What a lookup promises: its journal, the table that comes back, and what holds where it ended early.
-use Rattle.std.specs.Prelude.{◌≡◌, ◌≢◌, ◌⊎◌, ℕ, ◌+◌, ◌==◌, filter, ◌<◌, ◌≤◌, List, [], ◌∷◌, ◌++◌, length, map, Option}
+use Rattle.std.specs.Prelude.{◌≡◌, ◌≢◌, ◌⊎◌, ℕ, ◌+◌, ◌==◌, filter, ◌<◌, ◌≤◌, List, [], ◌∷◌, ◌++◌, length, map, Option, Result, IfOk, IfErr, IsErrOf}
 use Rattle.std.specs.List.{All, flat_map}
 use Rattle.kad_base.specs.declared.types.Addr.{Addr}
 use Rattle.kad_base.specs.declared.types.Contact.{Contact}
 use Rattle.kad_base.specs.declared.types.Event.{Event}
 use Rattle.kad_base.specs.declared.types.Event.TheVariants.{Got}
 use Rattle.kad_base.specs.declared.serial.Made.{Made}
-use Rattle.kad_base.specs.Limits.{max_k, max_paths, max_alpha}
-use Rattle.kad_base.specs.Outside.{Grows}
+use Rattle.kad_base.specs.Limits.{max_k, max_paths, max_alpha, max_strays}
+use Rattle.kad_base.specs.Outside.{Grows, Rose}
 use Rattle.kad_base.specs.Serial.{left_by, IsRun}
 use Rattle.kad_distance.specs.KClosest.{k_closest}
 use Rattle.id_puzzles.specs.Drawn.{WordsState}
@@ -27,11 +27,16 @@ use Rattle.claim_book.specs.Legal.{Legal}
 use Rattle.claim_book.specs.RunOut.{RunOut}
 use Rattle.claim_book.specs.Result.{result_of}
 use Rattle.claim_book.specs.Calls.{Counted}
+use Rattle.claim_book.specs.Lineage.{GoesByOwnAnswers}
+use Rattle.lookup_core.specs.declared.quest.AskKind.TheVariants.{FindNode}
 use Rattle.lookup_core.specs.declared.quest.Quest.{Quest}
 use Rattle.lookup_run.specs.declared.types.LookSetting.{LookSetting}
+use Rattle.lookup_run.specs.declared.types.LookFault.{LookFault}
+use Rattle.lookup_run.specs.declared.types.LookFault.TheVariants.{LinkFault, Strays}
 use Rattle.lookup_run.specs.declared.types.Outcome.{Outcome}
-use Rattle.lookup_run.specs.Tells.{Given, Seen, TellsSoFar, Tells}
-use Rattle.lookup_run.specs.Rounds.{Scheduling, sequential, concurrent}
+use Rattle.lookup_run.specs.Tells.{Given, Seen, TellsSoFar, Tells, EndsAtStray}
+use Rattle.lookup_run.specs.Rounds.{Scheduling, Rounds, sequential, concurrent}
+use Rattle.lookup_run.specs.Gathered.{Gathers}
 
 -- what the book is set to
 abbrev pub setting_of : LookSetting → Setting
@@ -141,3 +146,23 @@ pub record TableToldBy (scheduling : Scheduling) (calls : List Told) (table tabl
 -- in this very order
 abbrev pub TableTold : List Told → TableState → TableState → Type 0
 TableTold calls table table' = TableToldBy sequential calls table table'
+
+-- ---- the promise
+
+-- What a lookup promises, whichever way its rounds settle: by its setting, the table, the words, and what the link tells,
+-- how often it failed to receive, and what of it no call changes, each before and after.
+pub record LooksUp {Kept : Type 0} (scheduling : Scheduling) (look : LookSetting) (before after : TableState) (words words' : WordsState) (told told' : Option (List Event)) (faults faults' : ℕ) (was is : Kept) (ended : Result Outcome LookFault) : Type 0 where
+  pub lookup : IfOk ended (Finished look before words words' told told')
+  pub rounds : IfOk ended (λ outcome. Grows told told' (λ events. Rounds scheduling (given_of look words) outcome.journal events))
+  pub own_answers : IfOk ended (λ outcome. GoesByOwnAnswers (setting_of look) outcome.journal)
+  pub gathered : IfOk ended (λ outcome. Grows told told' (λ events. Gathers (given_of look words) outcome.journal events outcome.peers outcome.tokens))
+  pub none_gathered : IfOk ended (λ outcome. look.kind ≡ FindNode → (outcome.peers ≡ []) × (outcome.tokens ≡ []))
+  pub table : IfOk ended (λ outcome. TableToldBy scheduling (table_calls look outcome.journal) before after)
+  pub unfinished : IfErr ended (λ fault. Unfinished look before words words' told told')
+  pub table_left : IfErr ended (λ fault. TableRan before after)
+  pub strays : IsErrOf ended Strays → Grows told told' (λ events. EndsAtStray (given_of look words) events max_strays)
+  pub few : IfOk ended (λ outcome. Grows told told' (λ events. ¬ EndsAtStray (given_of look words) events max_strays))
+  pub few_at_fault : IsErrOf ended LinkFault → Grows told told' (λ events. ¬ EndsAtStray (given_of look words) events max_strays)
+  pub link : IsErrOf ended LinkFault → Rose faults faults'
+  pub recv_faults : faults ≤ faults'
+  pub kept : is ≡ was

@@ -1,5 +1,5 @@
 -- What each step of a lookup owes.
-use Rattle.std.specs.Prelude.{◌≡◌, ◌≢◌, ◌⊎◌, ℕ, zero, suc, Contains, if◌then◌else◌, ◌+◌, ◌<◌, ◌≤◌, List, [], ◌∷◌, ◌++◌, length, map, Option, None, Result, IsOk, nat_lt, Bool, true, false}
+use Rattle.std.specs.Prelude.{◌≡◌, ◌≢◌, ◌⊎◌, ℕ, zero, suc, Contains, if◌then◌else◌, ◌+◌, ◌<◌, ◌≤◌, List, [], ◌∷◌, ◌++◌, length, map, Option, None, Result, IsOk, IfErr, OnOk, OnErr, nat_lt, Bool, true, false}
 use Rattle.std.specs.List.{AllByRecursion, flat_map}
 use Rattle.kad_base.specs.declared.types.Addr.{Addr}
 use Rattle.kad_base.specs.declared.types.Event.{Event}
@@ -16,6 +16,7 @@ use Rattle.claim_book.specs.Result.{result_of}
 use Rattle.claim_book.specs.Calls.{Counted}
 use Rattle.claim_book.specs.State.{BookState}
 use Rattle.lookup_run.specs.declared.types.LookFault.{LookFault}
+use Rattle.lookup_run.specs.declared.types.LookFault.TheVariants.{NoMemory}
 use Rattle.lookup_run.specs.declared.types.LookSetting.{LookSetting}
 use Rattle.lookup_run.specs.declared.types.Gathered.{Gathered}
 use Rattle.lookup_run.specs.declared.types.Outcome.{Outcome}
@@ -26,7 +27,7 @@ use Rattle.lookup_run.specs.Tells.{EndsAtStray}
 use Rattle.lookup_run.specs.Rounds.{Scheduling, AllSettled, NoneAsks, WaitsInTurn}
 use Rattle.lookup_core.specs.declared.on_reply.Answered.{Answered}
 use Rattle.lookup_run.specs.Gathered.{values_of, token_of, IsEachOnce}
-use Rattle.lookup_run.specs.Lookup.{setting_of, given_of, seeds_in, told_of, Unfinished, TableRan, TableTold, Told, quest_of}
+use Rattle.lookup_run.specs.Lookup.{IsWithinLimits, setting_of, given_of, seeds_in, told_of, Unfinished, TableRan, TableTold, Told, quest_of}
 use Rattle.lookup_core.specs.LookupSteps.{as_open, LosesOverdue, IsMatch, RepliesToNone}
 use Rattle.lookup_run.specs.DriverInvariant.{Keeps, HasWords, weight_of, TraceInvariant, PreservesBy, Preserves}
 use Rattle.lookup_core.specs.Quest.{wants_peers}
@@ -179,6 +180,12 @@ pub record ReceivesAll (look : LookSetting) (old new : LookupState) (told told' 
 
 -- ---- settling
 
+-- the paths may settle where a round is over
+pub record MaySettle (look : LookSetting) (work : LookupState) : Type 0 where
+  pub limits : IsWithinLimits look
+  pub keeps : Keeps look work
+  pub round_over : work.progress.receives ≡ 0
+
 -- the paths from the one to the other were settled
 pub record SettlesPaths (scheduling : Scheduling) (look : LookSetting) (from to : ℕ) (old new : LookupState) (told : Option (List Event)) : Type 0 where
   pub keeps : Keeps look new
@@ -188,6 +195,12 @@ pub record SettlesPaths (scheduling : Scheduling) (look : LookSetting) (from to 
   pub queries : new.lookup.queries ≡ old.lookup.queries
   pub ran : TableRan old.table new.table
   pub goes : (words : WordsState) (a : ℕ) → PreservesBy scheduling look words words old new from a to a told told
+
+-- all paths were settled, or memory ran out
+pub record Settles (scheduling : Scheduling) (look : LookSetting) (old new : LookupState) (settled : Result (Unit {0}) LookFault) : Type 0 where
+  pub ok : (told : Option (List Event)) → OnOk settled (SettlesPaths scheduling look 0 look.paths old new told)
+  pub stops : (told : Option (List Event)) → OnErr settled ((words : WordsState) → Stops look words words old new told told)
+  pub fault : IfErr settled (λ fault. fault ≡ NoMemory)
 
 -- ---- rounds
 

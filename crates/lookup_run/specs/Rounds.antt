@@ -1,6 +1,6 @@
 -- The rounds of a lookup (this project's own): where the settling entries of its journal stand, in which order the paths
 -- ask (S/Kademlia, 2007, section 4.4), and that they ask all that they may before the driver waits.
-use Rattle.std.specs.Prelude.{◌≡◌, ℕ, zero, suc, ◌<◌, ◌≤◌, List, [], ◌∷◌, ◌++◌, None, Bool, true}
+use Rattle.std.specs.Prelude.{◌≡◌, ◌≢◌, ℕ, zero, suc, ◌<◌, ◌≤◌, List, [], ◌∷◌, ◌++◌, None, Bool, true}
 use Rattle.std.specs.List.{AllByRecursion}
 use Rattle.kad_base.specs.declared.types.Contact.{Contact}
 use Rattle.kad_base.specs.declared.types.Event.{Event}
@@ -47,6 +47,15 @@ SettlesFrom scheduling p (e ∷ es) = MayFollow scheduling p (path_number e) × 
 -- nothing is unsettled on the first n paths
 abbrev pub AllSettled : ℕ → List Entry → Type 0
 AllSettled n J = (p : ℕ) → p < n → unsettled p J ≡ []
+
+-- two of the first n paths have something to settle
+pub record HasSeveral (n : ℕ) (J : List Entry) : Type 0 where
+  pub one : ℕ
+  pub other : ℕ
+  pub apart : one < other
+  pub within : other < n
+  pub of_one : unsettled one J ≢ []
+  pub of_other : unsettled other J ≢ []
 
 -- none of the first n paths may ask
 abbrev pub NoneAsks : Setting → ℕ → List Entry → Type 0

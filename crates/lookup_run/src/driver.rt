@@ -1,23 +1,21 @@
 //! A whole lookup, from the seeds of a table to where every path has run out.
-ghost use Rattle.std.specs.Prelude.{◌≡◌, ◌≢◌, ◌≤◌, ◌<◌, ◌^◌, ◌∷◌, [], ℕ, Err, IfOk, IfErr, OnOk, OnErr, IsErrOf};
+ghost use Rattle.std.specs.Prelude.{◌≡◌, ◌≢◌, ◌≤◌, ◌<◌, ◌^◌, ◌∷◌, [], ℕ, Err, IfOk, IfErr, OnOk, OnErr};
 ghost use Rattle.std.specs.List.{All};
 ghost use Rattle.kad_base.specs.declared.types.Event.TheVariants.{Now};
 ghost use Rattle.kad_base.specs.Contacts.{IsUsable};
-ghost use Rattle.kad_base.specs.Limits.{max_strays};
-ghost use Rattle.kad_base.specs.Outside.{Grows, Rose};
+ghost use Rattle.kad_base.specs.Outside.{Grows};
 ghost use Rattle.contact_table.specs.TableStep.{contacts_of};
 ghost use Rattle.claim_book.specs.RunOut.{RunOut};
-ghost use Rattle.claim_book.specs.Lineage.{GoesByOwnAnswers};
-ghost use Rattle.lookup_core.specs.declared.quest.AskKind.{AskKind};
-ghost use Rattle.lookup_run.specs.Tells.{EndsAtStray};
-ghost use Rattle.lookup_run.specs.Rounds.{Rounds, concurrent, sequential};
-ghost use Rattle.lookup_run.specs.Gathered.{Gathers, IsEachOnce};
-ghost use Rattle.lookup_run.specs.Lookup.{IsWithinLimits, setting_of, given_of, seeds_in, table_calls, Finished, TableTold, TableToldBy, TableRan, Unfinished};
-ghost use Rattle.lookup_run.specs.RoundSteps.{IsDone, IsClosed, IsBookOf, asks_seeds, IsBegun};
+ghost use Rattle.lookup_run.specs.Rounds.{concurrent, sequential};
+ghost use Rattle.lookup_run.specs.Gathered.{IsEachOnce};
+ghost use Rattle.lookup_run.specs.Lookup.{IsWithinLimits, seeds_in, TableTold, LooksUp};
+ghost use Rattle.lookup_run.specs.RoundSteps.{MaySettle, Settles, IsDone, IsClosed, IsBookOf, asks_seeds, IsBegun};
 
 use crate::gather::{in_order, nothing};
 use crate::on_reply::DRIVER;
-use crate::round::{go_rounds, go_rounds_together};
+use crate::round::go_rounds;
+use crate::settle::{Concurrent, Schedule, Sequential, settle_paths};
+use crate::together::settle_each;
 use crate::types::{Gathered, LookFault, LookSetting, LookupState, Outcome, Progress};
 use claim_book::{Book, BookCall, BookReply};
 use contact_table::{Table, TableCall, TableReply};
@@ -123,6 +121,37 @@ fn begin<L: Link>(alloc: Global, link: &mut L, table: Table, book: Book) -> Look
     }
 }
 
+/// One lookup: `settle` settles what the paths have after a round.
+fn look_by<O: Schedule, L: Link, S: Fn(LookupState) -> (LookupState, Result<(), LookFault>)>(
+    alloc: Global,
+    link: &mut L,
+    words: &mut Words,
+    table: Table,
+    setting: &LookSetting,
+    hasher: RandomState,
+    settle: S,
+) -> (Table, Result<Outcome, LookFault>)
+    requires limits { IsWithinLimits setting.now }
+    requires usable { All (IsUsable setting.now.own) (contacts_of table) }
+    requires place { words.old.place < 2 ^ 59 }
+    requires callable { (before : LookupState) → MaySettle setting.now before → S.pre settle before }
+    requires settles { (before : LookupState) (after : _) → MaySettle setting.now before
+        → S.post settle before after → Settles O.scheduling setting.now before after.0 after.1 }
+    ensures { LooksUp O.scheduling setting.now table result.0 words.old words.new (L.told link.old)
+        (L.told link.new) (L.recv_faults link.old) (L.recv_faults link.new) (L.kept link.old)
+        (L.kept link.new) result.1 }
+{
+    let mut table = table;
+    let book = match open_book(alloc, &mut table, setting, hasher) {
+        Ok(book) => book,
+        Err(_) => return (table, Err(LookFault::NoMemory)),
+    };
+    let work = begin(alloc, link, table, book);
+    let (work, ended) = go_rounds::<O, L, S>(alloc, link, work, words, setting, settle);
+    work.lookup.book.legal();
+    close(work, ended)
+}
+
 /// Looks the target up from the k closest contacts of the table, and tells the table who answered and who didn't: asks,
 /// receives and settles in rounds until every path has run out. What a path asks comes from its own seeds and answers
 /// (S/Kademlia, section 4.4). The table comes back on every answer. It waits for nobody but the link, and returns for every
@@ -139,44 +168,22 @@ pub fn look_up_alone<L: Link, C: Check>(
     requires limits { IsWithinLimits setting.now }
     requires usable { All (IsUsable setting.now.own) (contacts_of table) }
     requires place { words.old.place < 2 ^ 59 }
-    ensures lookup { IfOk result.1 (Finished setting.now table words.old words.new (L.told link.old)
-        (L.told link.new)) }
-    ensures rounds { IfOk result.1 (λ outcome. Grows (L.told link.old) (L.told link.new)
-        (λ events. Rounds sequential (given_of setting.now words.old) outcome.journal events)) }
-    ensures own_answers { IfOk result.1 (λ outcome. GoesByOwnAnswers
-        (setting_of setting.now) outcome.journal) }
-    ensures gathered { IfOk result.1 (λ outcome. Grows (L.told link.old) (L.told link.new)
-        (λ events. Gathers (given_of setting.now words.old) outcome.journal events outcome.peers
-        outcome.tokens)) }
-    ensures none_gathered { IfOk result.1 (λ outcome. setting.now.kind ≡ AskKind.FindNode
-        → (outcome.peers ≡ []) × (outcome.tokens ≡ [])) }
-    ensures table { IfOk result.1 (λ outcome. TableTold
-        (table_calls setting.now outcome.journal) table result.0) }
-    ensures unfinished { IfErr result.1 (λ fault. Unfinished setting.now table words.old words.new
-        (L.told link.old) (L.told link.new)) }
-    ensures table_left { IfErr result.1 (λ fault. TableRan table result.0) }
-    ensures strays { IsErrOf result.1 LookFault.Strays
-        → Grows (L.told link.old) (L.told link.new)
-        (λ events. EndsAtStray (given_of setting.now words.old) events max_strays) }
-    ensures few { IfOk result.1 (λ outcome. Grows (L.told link.old) (L.told link.new)
-        (λ events. ¬ EndsAtStray (given_of setting.now words.old) events max_strays)) }
-    ensures few_at_fault { IsErrOf result.1 LookFault.LinkFault
-        → Grows (L.told link.old) (L.told link.new)
-        (λ events. ¬ EndsAtStray (given_of setting.now words.old) events max_strays) }
-    ensures link { IsErrOf result.1 LookFault.LinkFault
-        → Rose (L.recv_faults link.old) (L.recv_faults link.new) }
-    ensures recv_faults { L.recv_faults link.old ≤ L.recv_faults link.new }
-    ensures kept { L.kept link.new ≡ L.kept link.old }
+    ensures { LooksUp sequential setting.now table result.0 words.old words.new (L.told link.old)
+        (L.told link.new) (L.recv_faults link.old) (L.recv_faults link.new) (L.kept link.old)
+        (L.kept link.new) result.1 }
 {
-    let mut table = table;
-    let book = match open_book(alloc, &mut table, setting, hasher) {
-        Ok(book) => book,
-        Err(_) => return (table, Err(LookFault::NoMemory)),
-    };
-    let mut work = begin(alloc, link, table, book);
-    let ended = go_rounds(alloc, link, &mut work, words, setting, check);
-    work.lookup.book.legal();
-    close(work, ended)
+    look_by::<Sequential, _, _>(
+        alloc,
+        link,
+        words,
+        table,
+        setting,
+        hasher,
+        |work|
+            requires { MaySettle setting.now work }
+            ensures { Settles sequential setting.entry.now work result.0 result.1 }
+        { settle_paths(work, setting, check) },
+    )
 }
 
 /// Looks the target up from the k closest contacts of the table, and tells the table who answered and who didn't: asks,
@@ -197,42 +204,19 @@ pub fn look_up<R: Threads + Wait + Sync, L: Link, C: Check + Sync>(
     requires limits { IsWithinLimits setting.now }
     requires usable { All (IsUsable setting.now.own) (contacts_of table) }
     requires place { words.old.place < 2 ^ 59 }
-    ensures lookup { IfOk result.1 (Finished setting.now table words.old words.new (L.told link.old)
-        (L.told link.new)) }
-    ensures rounds { IfOk result.1 (λ outcome. Grows (L.told link.old) (L.told link.new)
-        (λ events. Rounds concurrent (given_of setting.now words.old) outcome.journal events)) }
-    ensures own_answers { IfOk result.1 (λ outcome. GoesByOwnAnswers
-        (setting_of setting.now) outcome.journal) }
-    ensures gathered { IfOk result.1 (λ outcome. Grows (L.told link.old) (L.told link.new)
-        (λ events. Gathers (given_of setting.now words.old) outcome.journal events outcome.peers
-        outcome.tokens)) }
-    ensures none_gathered { IfOk result.1 (λ outcome. setting.now.kind ≡ AskKind.FindNode
-        → (outcome.peers ≡ []) × (outcome.tokens ≡ [])) }
-    ensures table { IfOk result.1 (λ outcome. TableToldBy concurrent
-        (table_calls setting.now outcome.journal) table result.0) }
-    ensures unfinished { IfErr result.1 (λ fault. Unfinished setting.now table words.old words.new
-        (L.told link.old) (L.told link.new)) }
-    ensures table_left { IfErr result.1 (λ fault. TableRan table result.0) }
-    ensures strays { IsErrOf result.1 LookFault.Strays
-        → Grows (L.told link.old) (L.told link.new)
-        (λ events. EndsAtStray (given_of setting.now words.old) events max_strays) }
-    ensures few { IfOk result.1 (λ outcome. Grows (L.told link.old) (L.told link.new)
-        (λ events. ¬ EndsAtStray (given_of setting.now words.old) events max_strays)) }
-    ensures few_at_fault { IsErrOf result.1 LookFault.LinkFault
-        → Grows (L.told link.old) (L.told link.new)
-        (λ events. ¬ EndsAtStray (given_of setting.now words.old) events max_strays) }
-    ensures link { IsErrOf result.1 LookFault.LinkFault
-        → Rose (L.recv_faults link.old) (L.recv_faults link.new) }
-    ensures recv_faults { L.recv_faults link.old ≤ L.recv_faults link.new }
-    ensures kept { L.kept link.new ≡ L.kept link.old }
+    ensures { LooksUp concurrent setting.now table result.0 words.old words.new (L.told link.old)
+        (L.told link.new) (L.recv_faults link.old) (L.recv_faults link.new) (L.kept link.old)
+        (L.kept link.new) result.1 }
 {
-    let mut table = table;
-    let book = match open_book(alloc, &mut table, setting, hasher) {
-        Ok(book) => book,
-        Err(_) => return (table, Err(LookFault::NoMemory)),
-    };
-    let work = begin(alloc, link, table, book);
-    let (work, ended) = go_rounds_together(rt, alloc, link, work, words, setting, check);
-    work.lookup.book.legal();
-    close(work, ended)
+    look_by::<Concurrent, _, _>(
+        alloc,
+        link,
+        words,
+        table,
+        setting,
+        hasher,
+        |work|
+            requires { MaySettle setting.now work }
+        { settle_each(rt, alloc, work, setting, check) },
+    )
 }

@@ -3,20 +3,17 @@ ghost use Rattle.std.specs.Prelude.{◌≡◌, ◌≤◌, ◌+◌, length, true,
 ghost use Rattle.kad_base.specs.Limits.{max_datagram};
 ghost use Rattle.kad_base.specs.Outside.{Rose};
 ghost use Rattle.lookup_run.specs.Lookup.{IsWithinLimits};
-ghost use Rattle.lookup_run.specs.Rounds.{Scheduling, concurrent, sequential};
-ghost use Rattle.lookup_run.specs.RoundSteps.{Begins, HasReceived, IsOver, StopsRound, RoundEndsByStray, RoundFewStrays};
+ghost use Rattle.lookup_run.specs.Rounds.{Scheduling};
+ghost use Rattle.lookup_run.specs.RoundSteps.{MaySettle, Settles, Begins, HasReceived, IsOver, StopsRound, RoundEndsByStray, RoundFewStrays};
 
 use crate::ask::ask_all;
 use crate::receive::receive_round;
-use crate::settle::settle_paths;
-use crate::together::settle_each;
+use crate::settle::Schedule;
 use crate::types::{LookFault, LookSetting, LookupState};
 use id_puzzles::Words;
+use kad_base::Link;
 use kad_base::limits::RECEIVE_ROOM;
-use kad_base::{Check, Link};
 use std::alloc::Global;
-use std::sync::Wait;
-use std::thread::Threads;
 
 /// Asks what may be asked, and receives; false where nothing was left to wait for.
 fn ask_and_receive<L: Link>(
@@ -60,68 +57,33 @@ fn ask_and_receive<L: Link>(
     }
 }
 
-/// Goes round until every path has run out, on the caller's own thread.
-pub(crate) fn go_rounds<L: Link, C: Check>(
-    alloc: Global,
-    link: &mut L,
-    work: &mut LookupState,
-    words: &mut Words,
-    look: &LookSetting,
-    check: &C,
-) -> Result<(), LookFault>
-    requires limits { IsWithinLimits look.now }
-    requires begins { Begins look.now words.old work.old }
-    requires moment { L.moment link.old ≡ work.old.progress.moment }
-    ensures over { OnOk result (IsOver sequential look.now words.old words.new work.old work.new
-        (L.told link.old) (L.told link.new)) }
-    ensures stops { OnErr result (StopsRound sequential look.now words.old words.new work.old
-        work.new (L.told link.old) (L.told link.new)) }
-    ensures strays { IsErrOf result LookFault.Strays
-        → RoundEndsByStray sequential look.now words.old work.old (L.told link.old)
-        (L.told link.new) }
-    ensures few { IsErrOf result LookFault.LinkFault
-        → RoundFewStrays sequential look.now words.old work.old (L.told link.old)
-        (L.told link.new) }
-    ensures link { IsErrOf result LookFault.LinkFault
-        → Rose (L.recv_faults link.old) (L.recv_faults link.new) }
-    ensures recv_faults { L.recv_faults link.old ≤ L.recv_faults link.new }
-    ensures kept { L.kept link.new ≡ L.kept link.old }
-{
-    let mut buf = [0u8; RECEIVE_ROOM];
-    'rounds: loop {
-        match ask_and_receive(alloc, link, work, words, &mut buf, look) {
-            Ok(true) => {}
-            Ok(false) => return Ok(()),
-            Err(fault) => return Err(fault),
-        }
-        match settle_paths(work, look, check) {
-            Ok(()) => {}
-            Err(fault) => return Err(fault),
-        }
-    }
-}
-
-/// Goes round until every path has run out. In each round the paths settle at once.
-pub(crate) fn go_rounds_together<R: Threads + Wait + Sync, L: Link, C: Check + Sync>(
-    rt: &R,
+/// Goes round until every path has run out. What the paths have after a round, `settle` settles.
+pub(crate) fn go_rounds<
+    O: Schedule,
+    L: Link,
+    S: Fn(LookupState) -> (LookupState, Result<(), LookFault>),
+>(
     alloc: Global,
     link: &mut L,
     work: LookupState,
     words: &mut Words,
     look: &LookSetting,
-    check: &C,
+    settle: S,
 ) -> (LookupState, Result<(), LookFault>)
     requires limits { IsWithinLimits look.now }
     requires begins { Begins look.now words.old work }
     requires moment { L.moment link.old ≡ work.progress.moment }
-    ensures over { OnOk result.1 (IsOver concurrent look.now words.old words.new work result.0
+    requires callable { (before : LookupState) → MaySettle look.now before → S.pre settle before }
+    requires settles { (before : LookupState) (after : _) → MaySettle look.now before
+        → S.post settle before after → Settles O.scheduling look.now before after.0 after.1 }
+    ensures over { OnOk result.1 (IsOver O.scheduling look.now words.old words.new work result.0
         (L.told link.old) (L.told link.new)) }
-    ensures stops { OnErr result.1 (StopsRound concurrent look.now words.old words.new work result.0
+    ensures stops { OnErr result.1 (StopsRound O.scheduling look.now words.old words.new work result.0
         (L.told link.old) (L.told link.new)) }
     ensures strays { IsErrOf result.1 LookFault.Strays
-        → RoundEndsByStray concurrent look.now words.old work (L.told link.old) (L.told link.new) }
+        → RoundEndsByStray O.scheduling look.now words.old work (L.told link.old) (L.told link.new) }
     ensures few { IsErrOf result.1 LookFault.LinkFault
-        → RoundFewStrays concurrent look.now words.old work (L.told link.old) (L.told link.new) }
+        → RoundFewStrays O.scheduling look.now words.old work (L.told link.old) (L.told link.new) }
     ensures link { IsErrOf result.1 LookFault.LinkFault
         → Rose (L.recv_faults link.old) (L.recv_faults link.new) }
     ensures recv_faults { L.recv_faults link.old ≤ L.recv_faults link.new }
@@ -135,7 +97,7 @@ pub(crate) fn go_rounds_together<R: Threads + Wait + Sync, L: Link, C: Check + S
             Ok(false) => return (work, Ok(())),
             Err(fault) => return (work, Err(fault)),
         }
-        let (after, settled) = settle_each(rt, alloc, work, look, check);
+        let (after, settled) = settle(work);
         work = after;
         match settled {
             Ok(()) => {}

@@ -1,12 +1,9 @@
 //! Settling all paths at once, each on a thread of its own.
-ghost use Rattle.std.specs.Prelude.{◌≡◌, ◌≤◌, ◌<◌, List, Option, IfErr, OnOk, OnErr};
-ghost use Rattle.kad_base.specs.declared.types.Event.{Event};
+ghost use Rattle.std.specs.Prelude.{◌≡◌, ◌≢◌, ◌≤◌, ◌<◌, [], true, false, ◌↔◌, IsTrue};
 ghost use Rattle.kad_base.specs.Limits.{max_paths};
-ghost use Rattle.id_puzzles.specs.Drawn.{WordsState};
-ghost use Rattle.lookup_run.specs.Rounds.{concurrent};
-ghost use Rattle.lookup_run.specs.Lookup.{IsWithinLimits};
-ghost use Rattle.lookup_run.specs.DriverInvariant.{Keeps};
-ghost use Rattle.lookup_run.specs.RoundSteps.{SettlesPaths, Stops};
+ghost use Rattle.claim_book.specs.Journal.{unsettled};
+ghost use Rattle.lookup_run.specs.Rounds.{concurrent, HasSeveral};
+ghost use Rattle.lookup_run.specs.RoundSteps.{MaySettle, Settles};
 
 use crate::settle::settle_paths;
 use crate::types::{LookFault, LookSetting, LookupState};
@@ -21,16 +18,21 @@ use std::thread::Threads;
 /// Whether the path has something to settle.
 fn has_some(book: &mut Book, path: u8) -> bool
     requires { path < max_paths }
-    ensures { book.new ≡ book.old }
+    ensures same { book.new ≡ book.old }
+    ensures some { result ≡ true → unsettled path book.old.journal ≢ [] }
+    ensures nothing { result ≡ false → unsettled path book.old.journal ≡ [] }
 {
-    let first = book.apply(path + 1, BookCall::Pull);
-    !matches!(first, BookReply::Idle)
+    match book.apply(path + 1, BookCall::Pull) {
+        BookReply::Idle => false,
+        _ => true,
+    }
 }
 
 /// Whether more than one path has something to settle: for one alone no thread is worth its making.
 fn has_several(book: &mut Book, paths: u8) -> bool
     requires { paths ≤ max_paths }
-    ensures { book.new ≡ book.old }
+    ensures same { book.new ≡ book.old }
+    ensures several { IsTrue result ↔ HasSeveral paths book.old.journal }
 {
     let mut some = false;
     for path in 0..paths {
@@ -54,20 +56,12 @@ pub(crate) fn settle_each<R: Threads + Wait + Sync, C: Check + Sync>(
     look: &LookSetting,
     check: &C,
 ) -> (LookupState, Result<(), LookFault>)
-    requires limits { IsWithinLimits look.now }
-    requires keeps { Keeps look.now work }
-    requires round_over { work.progress.receives ≡ 0 }
-    ensures ok { (told : Option (List Event))
-        → OnOk result.1 (SettlesPaths concurrent look.now 0 look.now.paths work result.0 told) }
-    ensures stops { (told : Option (List Event))
-        → OnErr result.1 ((words : WordsState)
-        → Stops look.now words words work result.0 told told) }
-    ensures fault { IfErr result.1 (λ fault. fault ≡ LookFault.NoMemory) }
+    requires { MaySettle look.now work }
+    ensures { Settles concurrent look.now work result.0 result.1 }
 {
     let mut work = work;
     if !check.takes_long() || !has_several(&mut work.lookup.book, look.paths) {
-        let settled = settle_paths(&mut work, look, check);
-        return (work, settled);
+        return settle_paths(work, look, check);
     }
     work.lookup.book.legal();
     let LookupState {

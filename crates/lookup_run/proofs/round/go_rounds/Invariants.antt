@@ -1,13 +1,12 @@
 use Rattle.std.proofs.Common.{◌≡◌, ◌≤◌, ◌+◌, length}
 use Rattle.kad_base.specs.Limits.{max_datagram}
-use Rattle.lookup_run.specs.Rounds.{sequential}
 use Rattle.lookup_run.specs.DriverInvariant.{weight_of}
 use Rattle.lookup_run.proofs.Rounding.{Rounding}
 use Rattle.lookup_run.proofs.round.go_rounds.Given as goal
 
 abbrev pub invariant-rounds : goal.invariant-rounds
 invariant-rounds g l = record {
-  rounding : Rounding sequential l.look l.fn.words l.words l.fn.work l.work (g.L.Link.told l.fn.link) (g.L.Link.told l.link);
+  rounding : Rounding g.O.Schedule.scheduling l.look l.fn.words l.words l.fn.work l.work (g.L.Link.told l.fn.link) (g.L.Link.told l.link);
   moment : g.L.Link.moment l.link ≡ l.work.progress.moment;
   room : length l.buf ≡ max_datagram + 1;
   faults : g.L.Link.recv_faults l.fn.link ≤ g.L.Link.recv_faults l.link;
