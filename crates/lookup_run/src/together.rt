@@ -59,8 +59,11 @@ pub(crate) fn settle_each<R: Threads + Wait + Sync, C: Check + Sync>(
     requires { MaySettle look.now work }
     ensures { Settles concurrent look.now work result.0 result.1 }
 {
+    if !check.takes_long() {
+        return settle_paths(work, look, check);
+    }
     let mut work = work;
-    if !check.takes_long() || !has_several(&mut work.lookup.book, look.paths) {
+    if !has_several(&mut work.lookup.book, look.paths) {
         return settle_paths(work, look, check);
     }
     work.lookup.book.legal();
