@@ -1,5 +1,5 @@
 -- When the k closest of a list stay those of a longer one.
-use Rattle.std.proofs.Common.{◌≡◌, ℕ, ◌+◌, ◌<◌, inl, inr, List, [], ◌∷◌, ◌++◌, length, take, map, get_or, sym, ap, ◌∙◌, arith}
+use Rattle.std.proofs.Common.{◌≡◌, ℕ, ◌+◌, ◌<◌, ◌≤◌, true, subst, inl, inr, List, [], ◌∷◌, ◌++◌, length, take, map, get_or, sym, ap, ◌∙◌, arith}
 use Rattle.std.specs.List.{All, AllByRecursion, Contains}
 use Rattle.std.specs.List.Sorted.{IsStrictlySortedBy}
 use Rattle.std.specs.declared.cmp.Ordering.{Ordering}
@@ -11,6 +11,10 @@ use Rattle.std.proofs.Math.Seq.{take-append_seam}
 use Rattle.std.proofs.lemmas.List.Elements.{All-head, All-tail, recursion_from_All, Contains-append_cases, Contains-append_left, Contains-append_right}
 use Rattle.kad_base.specs.declared.types.Id.{Id}
 use Rattle.kad_base.specs.declared.types.Contact.{Contact}
+use Rattle.kad_base.specs.Contacts.{among}
+use Rattle.kad_base.proofs.Contacts.{same_exact}
+use Rattle.std.proofs.lemmas.Map.Views.{Contains-from_any}
+use Rattle.kad_distance.proofs.Members.{in_cases}
 use Rattle.kad_distance.specs.Order.{closeness, IsCloser}
 use Rattle.kad_distance.specs.KClosest.{k_closest}
 use Rattle.kad_distance.proofs.Chosen.{closest_rises, closest_joined, closest_kept, closest_front, closest_after, closest_same, closest_all}
@@ -40,6 +44,17 @@ closest_full target k S T sorted full closer =
     closest_joined target k S T ∙ ap (λ (l : List Contact). k_closest target k (l ++ near)) kept
     ∙ closest_front target k (S ++ near) both ∙ ap (λ (n : ℕ). take n (S ++ near)) (sym full) ∙ take-append_seam S near
     )
+
+-- one that is among those in strict order, at most k, changes nothing
+pub closest_there : (target : Id) (k : ℕ) (S : List Contact) (c : Contact) → IsStrictlySortedBy (closeness target) S → length S ≤ k → among S c ≡ true → S ≡ k_closest target k (S ++ c ∷ [])
+closest_there target k S c sorted few there =
+    sym (closest_same target k (S ++ c ∷ []) S (λ d. (back d, λ h. Contains-append_left S (c ∷ []) d h)) ∙ closest_kept target k S sorted few)
+  where
+    is : Contains S c
+    is = Contains-from_any same_exact c S there
+
+    back : (d : Contact) → Contains (S ++ c ∷ []) d → Contains S d
+    back d h = elim (Contains-append_cases S (c ∷ []) d h) [ inl s ↦ s | inr t ↦ elim (in_cases c [] d t) [ inl e ↦ subst (λ (x : Contact). Contains S x) e is | inr (n, lt, e) ↦ absurd (omega arith) ] ]
 
 -- the second half was gathered first
 pub closest_swapped : (target : Id) (k : ℕ) (S T U N M : List Contact) → N ≡ k_closest target k (S ++ U) → M ≡ k_closest target k (N ++ T) → M ≡ k_closest target k (S ++ (T ++ U))

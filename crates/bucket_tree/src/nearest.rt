@@ -4,6 +4,7 @@ ghost use Rattle.std.specs.Ordering.{nat_cmp};
 ghost use Rattle.std.specs.Cmp.Lexicographic.{slice_cmp};
 ghost use Rattle.std.specs.declared.cmp.Ordering.TheVariants.{Less};
 ghost use Rattle.kad_base.specs.Bits.{xor_bytes};
+ghost use Rattle.kad_base.specs.Contacts.{among};
 ghost use Rattle.std.specs.List.{All};
 ghost use Rattle.std.specs.List.Sorted.{IsStrictlySortedBy};
 ghost use Rattle.kad_distance.specs.Order.{closeness, IsCloser};
@@ -13,6 +14,7 @@ ghost use Rattle.bucket_tree.specs.Trees.{rows_of, IsUnder, IsShort, IsTidy, Han
 
 use crate::bits::bit;
 use crate::bucket::Bucket;
+use crate::entries::is_same;
 use crate::node::Node;
 use kad_base::{Contact, Contacts, Id, List, NoMemory};
 use kad_distance::put_closest;
@@ -66,6 +68,31 @@ fn offer(near: &mut Vec<Contact>, target: &Id, k: usize, contact: &Contact)
     put_closest(near, target, k, contact);
 }
 
+/// Whether the contact is one of those.
+fn is_there(near: &[Contact], contact: &Contact) -> bool
+    ensures { result ≡ among near.now contact.now }
+{
+    near.iter().any(|other| is_same(contact, other))
+}
+
+/// Puts a contact among the k closest that may be one of them already. One that is, or that is beyond them, is passed over
+/// at once.
+fn offer_again(near: &mut Vec<Contact>, target: &Id, k: usize, contact: &Contact)
+    requires sorted { IsStrictlySortedBy (closeness target.now) near.old.items }
+    requires few { vec_len near.old ≤ k }
+    requires room { k ≤ vec_capacity near.old }
+    ensures items { near.new.items ≡ k_closest target.now k (near.old.items ++ contact.now ∷ []) }
+    ensures room { k ≤ vec_capacity near.new }
+{
+    if is_beyond(near.as_slice(), target, k, contact) {
+        return;
+    }
+    if is_there(near.as_slice(), contact) {
+        return;
+    }
+    put_closest(near, target, k, contact);
+}
+
 /// Puts the live contacts of a row among the k closest.
 fn put_row(near: &mut Vec<Contact>, target: &Id, k: usize, row: &Bucket)
     requires sorted { IsStrictlySortedBy (closeness target.now) near.old.items }
@@ -111,7 +138,7 @@ fn gather(near: &mut Vec<Contact>, target: &Id, k: usize, node: &Node, at: u8)
     }
 }
 
-/// Puts the contacts of a slice among the k closest.
+/// Puts the contacts of a slice, of which many may be there, among the k closest.
 fn put_all(near: &mut Vec<Contact>, target: &Id, k: usize, others: &[Contact])
     requires sorted { IsStrictlySortedBy (closeness target.now) near.old.items }
     requires few { vec_len near.old ≤ k }
@@ -119,7 +146,7 @@ fn put_all(near: &mut Vec<Contact>, target: &Id, k: usize, others: &[Contact])
     ensures { near.new.items ≡ k_closest target.now k (near.old.items ++ others.now) }
 {
     for contact in others {
-        offer(near, target, k, contact);
+        offer_again(near, target, k, contact);
     }
 }
 

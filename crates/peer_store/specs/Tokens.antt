@@ -21,6 +21,12 @@ secret_of seed epoch = drawn_bytes seed (2 ^ 40 + 5 * epoch) 5
 unfoldable pub token_of : List ℕ → ℕ → List ℕ → List ℕ
 token_of seed epoch ip = take 8 (hash (ip ++ secret_of seed epoch))
 
+-- the secrets of an epoch and of the one before it; of the first epoch there is none before, and its own stands there
+pub record AreSecrets (seed : List ℕ) (epoch : ℕ) (secret before : List ℕ) : Type 0 where
+  pub low : epoch < 2 ^ 46
+  pub secret_is : secret ≡ secret_of seed epoch
+  pub before_is : before ≡ secret_of seed (epoch - 1)
+
 -- the token is that of the address in the epoch of the moment, or in the epoch before it, where there is one
 abbrev pub IsAccepted : TokensState → List ℕ → ℕ → List ℕ → Type 0
 IsAccepted t ip at token =

@@ -226,6 +226,24 @@ fn tokens_are_as_another_program_makes_them(rt: HostRuntime) {
 }
 
 #[test]
+fn tokens_are_the_same_whichever_secrets_are_kept(rt: HostRuntime) {
+    let mut tokens = Tokens::new(&seed(), 0);
+    let near = [127, 0, 0, 1];
+    for kept in [300_000, 300_001, 0, 600_000, u64::MAX] {
+        tokens.turn(kept);
+        for (at, token) in [
+            (0, [224, 18, 105, 232, 210, 107, 129, 126]),
+            (300_000, [73, 127, 223, 109, 63, 37, 29, 201]),
+            (600_000, [151, 246, 140, 249, 68, 180, 31, 254]),
+            (u64::MAX, [57, 221, 249, 29, 59, 108, 85, 124]),
+        ] {
+            assert_eq!(rt; tokens.make(near, at), token, "{kept} {at}");
+            assert!(&rt; tokens.accepts(near, at, &token));
+        }
+    }
+}
+
+#[test]
 fn a_token_is_taken_for_its_epoch_and_the_next(rt: HostRuntime) {
     let tokens = Tokens::new(&seed(), 0);
     let near = [127, 0, 0, 1];

@@ -14,20 +14,29 @@ const EPOCH: u64 = 300_000;
 const FIRST_PLACE: u64 = 1_099_511_627_776;
 
 /// What makes and knows tokens. A token is bound to an IPv4 address and to an epoch of five minutes, and nothing is kept
-/// of it: it is made again to be known. No call takes memory. Making one costs five drawn words and one hash, knowing
-/// one at most twice that.
-#[derive(Clone, Copy)]
+/// of it: it is made again to be known. The secrets of one epoch and of the one before it are kept. No call takes memory.
+/// Making a token costs one hash, knowing one at most two; in an epoch whose secret isn't kept each costs five drawn words
+/// more.
+#[derive(Drop)]
 pub struct Tokens {
     random: [u8; 32],
     began: u64,
+    /// The epoch whose secrets are kept.
+    epoch: u64,
+    secret: [u8; 20],
+    /// The secret of the epoch before, where there is one.
+    before: [u8; 20],
 }
 
 impl Model for Tokens {
+    ghost use Rattle.std.specs.Prelude.{◌<◌, ◌^◌};
+    ghost use Rattle.peer_store.specs.Tokens.{TokensState, AreSecrets};
+
     ghost Value = { TokensState };
 
     ghost view = { λ t. record { seed = t.random; began = t.began } };
 
-    ghost inverse = { λ s. record { random = s.seed; began = s.began } };
+    ghost invariant = { λ t. AreSecrets t.random t.epoch t.secret t.before };
 }
 
 impl Tokens {
@@ -35,17 +44,66 @@ impl Tokens {
     pub fn new(random: &[u8; 32], began: u64) -> Tokens
         ensures { result ≡ record { seed = random.now; began = began } }
     {
+        let first = secret(random, 0);
         Tokens {
             random: *random,
             began,
+            epoch: 0,
+            secret: first,
+            before: first,
         }
+    }
+
+    /// Keeps the secrets of the epoch of the moment and of the one before it. It makes them where it isn't the epoch whose
+    /// secrets are kept.
+    pub fn turn(&mut self, at: u64)
+        ensures { self.new ≡ self.old }
+    {
+        let epoch = epoch(self.began, at);
+        if epoch == self.epoch {
+            return;
+        }
+        self.secret = secret(&self.random, epoch);
+        self.before = secret(&self.random, epoch.saturating_sub(1));
+        self.epoch = epoch;
+    }
+
+    /// The secret of an epoch, kept or made.
+    fn secret_in(&self, epoch: u64) -> [u8; 20]
+        requires { epoch < 2 ^ 46 }
+        ensures { result ≡ secret_of self.now.seed epoch }
+    {
+        if epoch == self.epoch {
+            return self.secret;
+        }
+        if epoch == self.epoch.saturating_sub(1) {
+            return self.before;
+        }
+        secret(&self.random, epoch)
     }
 
     /// The token of the address in the epoch of the moment.
     pub fn make(&self, ip: [u8; 4], at: u64) -> [u8; 8]
         ensures { result ≡ token_of self.now.seed (epoch_at self.now at) ip }
     {
-        token_in(&self.random, epoch(self.began, at), &ip)
+        self.token_in(epoch(self.began, at), &ip)
+    }
+
+    /// The token of the address under the secret of an epoch.
+    #[tactic(auto, unfolding(crate::specs::Tokens::token_of))]
+    fn token_in(&self, epoch: u64, ip: &[u8; 4]) -> [u8; 8]
+        requires { epoch < 2 ^ 46 }
+        ensures { result ≡ token_of self.now.seed epoch ip.now }
+    {
+        front(&digest(ip, &self.secret_in(epoch)))
+    }
+
+    /// Whether this is the token of the address under the secret of an epoch.
+    fn is_token_in(&self, epoch: u64, ip: &[u8; 4], token: &[u8]) -> bool
+        requires { epoch < 2 ^ 46 }
+        ensures { IsTrue result ↔ (token.now ≡ token_of self.now.seed epoch ip.now) }
+    {
+        is_same(token, &self.token_in(epoch, ip))
     }
 
     /// Whether this is the token of the address in the epoch of the moment or in the one before it.
@@ -53,13 +111,13 @@ impl Tokens {
         ensures { IsTrue result ↔ IsAccepted self.now ip at token.now }
     {
         let epoch = epoch(self.began, at);
-        if is_token_in(&self.random, epoch, &ip, token) {
+        if self.is_token_in(epoch, &ip, token) {
             return true;
         }
         if epoch == 0 {
             return false;
         }
-        is_token_in(&self.random, epoch - 1, &ip, token)
+        self.is_token_in(epoch - 1, &ip, token)
     }
 }
 
@@ -101,23 +159,6 @@ fn front(digest: &[u8; 20]) -> [u8; 8]
     let mut bytes = [0; 8];
     bytes.copy_from_slice(&digest[..8]);
     bytes
-}
-
-/// The token of the address under the secret of an epoch.
-#[tactic(auto, unfolding(crate::specs::Tokens::token_of))]
-fn token_in(random: &[u8; 32], epoch: u64, ip: &[u8; 4]) -> [u8; 8]
-    requires { epoch < 2 ^ 46 }
-    ensures { result ≡ token_of random.now epoch ip.now }
-{
-    front(&digest(ip, &secret(random, epoch)))
-}
-
-/// Whether this is the token of the address under the secret of an epoch.
-fn is_token_in(random: &[u8; 32], epoch: u64, ip: &[u8; 4], token: &[u8]) -> bool
-    requires { epoch < 2 ^ 46 }
-    ensures { IsTrue result ↔ (token.now ≡ token_of random.now epoch ip.now) }
-{
-    is_same(token, &token_in(random, epoch, ip))
 }
 
 fn is_same(a: &[u8], b: &[u8]) -> bool

@@ -6,11 +6,11 @@ use Rattle.bucket_tree.proofs.Stops.{closest_more}
 use Rattle.bucket_tree.proofs.Gathered.{gathered_sorted, gathered_few}
 use Rattle.bucket_tree.proofs.nearest.put_all.Goals as goal
 
-pub offer-requires-clause-sorted : goal.offer-requires-clause-sorted
-offer-requires-clause-sorted c = gathered_sorted c.args.target.now c.args.k _ _ c.loop-contact.invariant.items
+pub offer_again-requires-clause-sorted : goal.offer_again-requires-clause-sorted
+offer_again-requires-clause-sorted c = gathered_sorted c.args.target.now c.args.k _ _ c.loop-contact.invariant.items
 
-pub offer-requires-clause-few : goal.offer-requires-clause-few
-offer-requires-clause-few c = let few = gathered_few c.args.target.now c.args.k _ _ c.loop-contact.invariant.items in grind (arith, few)
+pub offer_again-requires-clause-few : goal.offer_again-requires-clause-few
+offer_again-requires-clause-few c = let few = gathered_few c.args.target.now c.args.k _ _ c.loop-contact.invariant.items in grind (arith, few)
 
 pub loop-contact-init : goal.loop-contact-init
 loop-contact-init c = record {
@@ -20,6 +20,6 @@ loop-contact-init c = record {
 
 pub loop-contact-preserved : goal.loop-contact-preserved
 loop-contact-preserved c = record {
-  items = closest_more c.args.target.now c.args.k c.args.near.now.items c.args.others.now c.loop-contact.contact-index _ _ _ c.loop-contact-test.true c.loop-contact.invariant.items c.offer.ensures.items;
-  room = c.offer.ensures.room;
+  items = closest_more c.args.target.now c.args.k c.args.near.now.items c.args.others.now c.loop-contact.contact-index _ _ _ c.loop-contact-test.true c.loop-contact.invariant.items c.offer_again.ensures.items;
+  room = c.offer_again.ensures.room;
 }
