@@ -1,6 +1,5 @@
 -- Texts that are put one behind another.
-use Rattle.std.proofs.Common.{◌≡◌, ℕ, inl, inr, ◌+◌, ◌<◌, ◌≤◌, ◌^◌, min, List, [], ◌∷◌, ◌++◌, length, take, decimal, refl, sym, ap, ◌∙◌, arith, length-append, append_assoc, append-nil}
-use Rattle.std.proofs.lemmas.Bool.{cases_lt}
+use Rattle.std.proofs.Common.{◌≡◌, ℕ, ◌+◌, ◌<◌, ◌≤◌, ◌^◌, min, List, [], ◌∷◌, ◌++◌, length, take, decimal, refl, sym, ap, ◌∙◌, arith, length-append, append_assoc, append-nil}
 use Rattle.std.proofs.lemmas.Grind.{flat_map-append}
 use Rattle.std.proofs.lemmas.List.{map-append}
 use Rattle.kad_bencode.specs.Spelling.{numeral, string_text, pairs_text, text_of}
@@ -43,24 +42,6 @@ puts_none old at h = record {
   text_is = λ k. sym (append-nil (take at old));
   room = refl;
 }
-
--- A text behind its length, which was measured in a buffer with no room. Where the text is longer than any buffer, so is
--- all of it.
-pub puts_measured : {rest old mid new : List ℕ} {at n next size : ℕ} {text : List ℕ} → length old < last_place → Puts [] rest 0 text size → Puts old mid at (numeral size ++ 58 ∷ []) n → Puts mid new n text next → Puts old new at (string_text text) next
-puts_measured {rest} {old} {mid} {new} {at} {n} {next} {size} {text} small m f g =
-    let long = m.place in
-    elim (cases_lt (length text) last_place) as (λ _. Puts old new at (string_text text) next) [
-      | inl h ↦
-          let same : size ≡ length text = omega (arith, long, h) in
-          puts_then (ap (λ k. numeral k ++ 58 ∷ text) (sym same) ∙ sym (append_assoc (numeral size) (58 ∷ []) text)) f g
-      | inr h ↦
-          let p = g.place in
-          let l = length-append (numeral (length text)) (58 ∷ text) in record {
-            place = omega (arith, p, l, h);
-            text_is = λ k. absurd (let e : ⊥ = omega (arith, p, h, k, small) in e);
-            room = g.room ∙ f.room;
-          }
-    ]
 
 pub length_written : (n : ℕ) (mid : List ℕ) → n < 2 ^ 64 → mid ≡ decimal n → numeral n ++ 58 ∷ [] ≡ mid ++ 58 ∷ []
 length_written n mid f h = ap (λ l. l ++ 58 ∷ []) (sym (decimal_numeral n f) ∙ sym h)

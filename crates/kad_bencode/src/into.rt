@@ -8,6 +8,7 @@ use itoa::Buffer;
 use kad_base::put_bytes;
 
 /// Puts a part at a place, and answers the place behind it, also where it has no room; one past `usize::MAX` is that.
+#[inline(always)]
 pub fn put_part(buf: &mut [u8], at: usize, part: &[u8]) -> usize
     ensures { Puts buf.old buf.new at part.now result }
 {
@@ -19,6 +20,7 @@ pub fn put_part(buf: &mut [u8], at: usize, part: &[u8]) -> usize
 }
 
 /// Puts the length and the colon of a string of that many bytes.
+#[inline(always)]
 pub fn put_length(buf: &mut [u8], at: usize, length: usize) -> usize
     ensures { Puts buf.old buf.new at (numeral length ++ 58 ∷ []) result }
 {
@@ -31,6 +33,7 @@ pub fn put_length(buf: &mut [u8], at: usize, length: usize) -> usize
 }
 
 /// Puts the text of a string.
+#[inline(always)]
 pub fn put_string(buf: &mut [u8], at: usize, text: &[u8]) -> usize
     ensures { Puts buf.old buf.new at (string_text text.now) result }
 {

@@ -68,6 +68,7 @@ pub(crate) fn read_answer<'a>(r: &Piece<'a>) -> Result<AnswerView<'a>, KrpcFault
 }
 
 /// Puts the dictionary `r` of an answer. Takes no memory.
+#[inline(always)]
 pub(crate) fn put_answer(buf: &mut [u8], at: usize, answer: &Answer) -> usize
     ensures { Puts buf.old buf.new at (text_of (value.Dict (answer_pairs answer.now))) result }
 {
@@ -79,8 +80,8 @@ pub(crate) fn put_answer(buf: &mut [u8], at: usize, answer: &Answer) -> usize
     put_part(buf, at, b"e")
 }
 
-/// The answer that a view is of, in memory of its own.
-pub(crate) fn own_answer(alloc: Global, answer: AnswerView) -> Result<Answer, NoMemory>
+/// The answer that a view is of, in memory of its own: each part is copied once.
+pub fn own_answer(alloc: Global, answer: AnswerView) -> Result<Answer, NoMemory>
     ensures { IfOk result (λ a. a ≡ answer_seen answer.entry) }
 {
     let nodes = maybe_records(alloc, answer.nodes)?;

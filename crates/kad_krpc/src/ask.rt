@@ -177,6 +177,7 @@ pub(crate) fn read_ask<'a>(
 }
 
 /// Puts the arguments of an `announce_peer`. A port is always written; an implied one is 1.
+#[inline(always)]
 fn put_announced(
     buf: &mut [u8],
     at: usize,
@@ -208,6 +209,7 @@ fn put_announced(
 }
 
 /// Puts the arguments that are an identifier.
+#[inline(always)]
 fn put_one_id(buf: &mut [u8], at: usize, id: &Id) -> usize
     ensures { Puts buf.old buf.new at (text_of
         (value.Dict (pair (codes "id") (value.Text id.now.0)))) result }
@@ -217,6 +219,7 @@ fn put_one_id(buf: &mut [u8], at: usize, id: &Id) -> usize
 }
 
 /// Puts the arguments that are two identifiers, under `id` and a key after it.
+#[inline(always)]
 fn put_two_ids(buf: &mut [u8], at: usize, id: &Id, key: &[u8], other: &Id) -> usize
     ensures { Puts buf.old buf.new at (text_of
         (value.Dict (pair (codes "id") (value.Text id.now.0) ++ pair key.now
@@ -228,6 +231,7 @@ fn put_two_ids(buf: &mut [u8], at: usize, id: &Id, key: &[u8], other: &Id) -> us
 }
 
 /// Puts the arguments of a query; those of a method that isn't known are none.
+#[inline(always)]
 pub(crate) fn put_arguments(buf: &mut [u8], at: usize, ask: &Ask) -> usize
     ensures { Puts buf.old buf.new at (text_of (value.Dict (arguments_of ask.now))) result }
 {
@@ -259,6 +263,7 @@ pub(crate) fn name(ask: &Ask) -> &[u8]
 }
 
 /// Says that a query is read-only, where it is.
+#[inline(always)]
 pub(crate) fn put_ro(buf: &mut [u8], at: usize, read_only: bool) -> usize
     ensures { PutsPairs buf.old buf.new at (read_only_pair read_only) result }
 {

@@ -160,6 +160,7 @@ pub(crate) fn optional_records<'a, R: Record>(
 }
 
 /// Puts a key with a string.
+#[inline(always)]
 pub(crate) fn put_text(buf: &mut [u8], at: usize, key: &[u8], text: &[u8]) -> usize
     ensures { PutsPairs buf.old buf.new at (pair key.now (value.Text text.now)) result }
 {
@@ -168,6 +169,7 @@ pub(crate) fn put_text(buf: &mut [u8], at: usize, key: &[u8], text: &[u8]) -> us
 }
 
 /// Puts a key with an integer.
+#[inline(always)]
 pub(crate) fn put_number(buf: &mut [u8], at: usize, key: &[u8], number: i64) -> usize
     ensures { PutsPairs buf.old buf.new at (pair key.now (value.Int number)) result }
 {
@@ -176,6 +178,7 @@ pub(crate) fn put_number(buf: &mut [u8], at: usize, key: &[u8], number: i64) -> 
 }
 
 /// Opens a dictionary whose first pair is an identifier's.
+#[inline(always)]
 pub(crate) fn put_id(buf: &mut [u8], at: usize, id: &Id) -> usize
     ensures { PutsOpen buf.old buf.new at (pair (codes "id") (value.Text id.now.0)) result }
 {
@@ -184,6 +187,7 @@ pub(crate) fn put_id(buf: &mut [u8], at: usize, id: &Id) -> usize
 }
 
 /// Puts a key with a string, where there is one.
+#[inline(always)]
 pub(crate) fn put_maybe_text(buf: &mut [u8], at: usize, key: &[u8], text: &Option<Bytes>) -> usize
     ensures { PutsPairs buf.old buf.new at (maybe key.now value.Text text.now) result }
 {
@@ -194,6 +198,7 @@ pub(crate) fn put_maybe_text(buf: &mut [u8], at: usize, key: &[u8], text: &Optio
 }
 
 /// Puts a key with the string of records, where there are any.
+#[inline(always)]
 pub(crate) fn put_maybe_records<R: Record>(
     buf: &mut [u8],
     at: usize,
@@ -213,6 +218,7 @@ pub(crate) fn put_maybe_records<R: Record>(
 }
 
 /// Puts a key with the list of peers, where there is one.
+#[inline(always)]
 pub(crate) fn put_maybe_peers(buf: &mut [u8], at: usize, key: &[u8], peers: &Option<Addrs>) -> usize
     ensures { PutsPairs buf.old buf.new at (maybe key.now peers_value peers.now) result }
 {

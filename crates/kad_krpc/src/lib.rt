@@ -15,7 +15,7 @@ mod reader;
 mod well_typed;
 mod writer;
 
-pub use answer::AnswerView;
+pub use answer::{AnswerView, own_answer};
 pub use ask::AskView;
 pub use borrowed::View;
 pub use kad_records::split_record;

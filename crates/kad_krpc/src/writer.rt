@@ -16,6 +16,7 @@ use kad_base::{Bytes, List, NoMemory};
 use kad_bencode::{put_integer, put_part, put_string};
 use std::alloc::Global;
 
+#[inline(always)]
 fn put_query(buf: &mut [u8], at: usize, tx: &[u8], read_only: bool, ask: &Ask) -> usize
     ensures { Puts buf.old buf.new at (text_of
         (value.Dict (message_pairs (Message.Query tx.now read_only ask.now)))) result }
@@ -28,6 +29,7 @@ fn put_query(buf: &mut [u8], at: usize, tx: &[u8], read_only: bool, ask: &Ask) -
     put_part(buf, at, b"1:y1:qe")
 }
 
+#[inline(always)]
 fn put_answer_message(buf: &mut [u8], at: usize, tx: &[u8], answer: &Answer) -> usize
     ensures { Puts buf.old buf.new at (text_of
         (value.Dict (message_pairs (Message.Answer tx.now answer.now)))) result }
@@ -59,6 +61,7 @@ fn put_fault(buf: &mut [u8], at: usize, tx: &[u8], code: i64, said: &[u8]) -> us
     put_part(buf, at, b"1:y1:ee")
 }
 
+#[inline(always)]
 fn put_message(buf: &mut [u8], message: &Message) -> usize
     ensures { Puts buf.old buf.new 0 (form message.now) result }
 {

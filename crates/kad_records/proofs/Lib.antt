@@ -2,3 +2,4 @@ pub mod Lists
 pub mod Cut
 pub mod Places
 pub mod Peers
+pub mod Sized

@@ -4,7 +4,7 @@ ghost use Rattle.kad_base.specs.declared.types.Contact.{Contact};
 ghost use Rattle.kad_base.specs.declared.types.Report.{Report};
 ghost use Rattle.kad_records.specs.Records.{node_in, node_bytes, proved_in, proved_bytes};
 
-use crate::into::{put_node, put_proved};
+use crate::into::{node_length, proved_length, put_node, put_proved};
 use crate::record::{array_at, read_addr};
 use kad_base::{Contact, Id, Proof, Report};
 
@@ -29,6 +29,10 @@ pub trait Record: Drop {
     fn read(bytes: &[u8]) -> Self::Item
         requires { length bytes.now ≡ SIZE }
         ensures { result ≡ reads bytes.now };
+
+    /// How many bytes it is written in.
+    fn text_len(item: &Self::Item) -> usize
+        ensures { result ≡ length (writes item.now) };
 
     /// Puts a record, as the puts of `kad_bencode` do.
     fn put(buf: &mut [u8], at: usize, item: &Self::Item) -> usize
@@ -61,6 +65,10 @@ impl Record for Node {
             id: Id(array_at(bytes, 0)),
             addr: read_addr(bytes, 20),
         }
+    }
+
+    fn text_len(node: &Contact) -> usize {
+        node_length(node)
     }
 
     fn put(buf: &mut [u8], at: usize, node: &Contact) -> usize {
@@ -98,6 +106,10 @@ impl Record for Proved {
                 x: array_at(bytes, 52),
             }),
         }
+    }
+
+    fn text_len(report: &Report) -> usize {
+        proved_length(report)
     }
 
     fn put(buf: &mut [u8], at: usize, report: &Report) -> usize {
