@@ -14,9 +14,8 @@ ghost use Rattle.bucket_tree.specs.Trees.{rows_of, IsUnder, IsShort, IsTidy, Han
 
 use crate::bits::bit;
 use crate::bucket::Bucket;
-use crate::entries::is_same;
 use crate::node::Node;
-use kad_base::{Contact, Contacts, Id, List, NoMemory};
+use kad_base::{Contact, Contacts, Id, List, NoMemory, is_same};
 use kad_distance::put_closest;
 use std::alloc::Global;
 
