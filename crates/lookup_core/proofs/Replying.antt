@@ -1,5 +1,5 @@
 -- What a datagram says, and that it says nothing else.
-use Rattle.std.proofs.Common.{◌≡◌, ◌≢◌, ℕ, ◌+◌, ◌*◌, ◌^◌, ◌<◌, ◌≤◌, List, length, get_or, Option, Some, None, Result, Ok, Err, refl, sym, ap, subst, ◌∙◌, w32}
+use Rattle.std.proofs.Common.{◌≡◌, ℕ, ◌+◌, ◌*◌, ◌^◌, ◌<◌, ◌≤◌, List, length, get_or, Option, Some, None, Result, Ok, Err, refl, sym, ap, subst, ◌∙◌, w32}
 use Rattle.std.specs.Prelude.{MatchOption, IfOk, ℤ}
 use Rattle.std.specs.Int.{from_le_bytes}
 use Rattle.std.proofs.lemmas.Nat.{from_le_bytes-to_le_bytes_4, le_bytes_4}
@@ -9,8 +9,7 @@ use Rattle.kad_krpc.specs.declared.message.Answer.{Answer}
 use Rattle.kad_krpc.specs.declared.message.Message.{Message}
 use Rattle.kad_krpc.specs.declared.message.Message.TheVariants as message
 use Rattle.kad_krpc.specs.declared.message.KrpcFault.{KrpcFault}
-use Rattle.kad_krpc.specs.declared.message.KrpcFault.TheVariants.{Bad, Missing, Shape, Records, NoMemory}
-use Rattle.kad_krpc.specs.Reading.{Says, Gives}
+use Rattle.kad_krpc.specs.Reading.{Says}
 use Rattle.lookup_core.specs.declared.reply.Reply.TheVariants as reply
 use Rattle.lookup_core.specs.declared.reply.Said.{Said}
 use Rattle.lookup_core.specs.Matching.{SaysTo}
@@ -44,23 +43,19 @@ same_ok : (x y : Message) → ◌≡◌ {A = Result Message KrpcFault} (Ok x) (O
 same_ok x y e = cc
 
 -- what the message says the datagram says
-pub own_read : (bytes : List ℕ) (m : Message) (o : Option Said) → length bytes ≤ max_datagram → Says bytes m → ((other : Message) → Says bytes other → Gives (Ok other) (Ok m)) → MatchOption o (SaysNothing m) (SaysAll m) → MatchOption o (IsNoReply bytes) (IsReply bytes)
-own_read bytes m None short says once nothing = λ w r lt h. nothing w r lt (subst (λ x. SaysTo (word_bytes w) x r) (same_ok h.message m (once h.message h.says)) h.to_query)
+own_read : (bytes : List ℕ) (m : Message) (o : Option Said) → length bytes ≤ max_datagram → Says bytes m → ((other : Message) → Says bytes other → ◌≡◌ {A = Result Message KrpcFault} (Ok m) (Ok other)) → MatchOption o (SaysNothing m) (SaysAll m) → MatchOption o (IsNoReply bytes) (IsReply bytes)
+own_read bytes m None short says once nothing = λ w r lt h. nothing w r lt (subst (λ x. SaysTo (word_bytes w) x r) (sym (same_ok m h.message (once h.message h.says))) h.to_query)
 own_read bytes m (Some said) short says once all = record {
   replies = record { short = short; message = m; says = says; to_query = all.says_it };
-  same_id = λ w r lt h. all.same_id w r lt (subst (λ x. SaysTo (word_bytes w) x r) (same_ok h.message m (once h.message h.says)) h.to_query);
-  same_reply = λ w r lt h. all.same_reply w r lt (subst (λ x. SaysTo (word_bytes w) x r) (same_ok h.message m (once h.message h.says)) h.to_query);
+  same_id = λ w r lt h. all.same_id w r lt (subst (λ x. SaysTo (word_bytes w) x r) (sym (same_ok m h.message (once h.message h.says))) h.to_query);
+  same_reply = λ w r lt h. all.same_reply w r lt (subst (λ x. SaysTo (word_bytes w) x r) (sym (same_ok m h.message (once h.message h.says))) h.to_query);
 }
 
--- what is refused says nothing, where there is memory
-refused_not : (fault : KrpcFault) (m : Message) → fault ≢ NoMemory → ¬ Gives (Ok m) (Err fault)
-refused_not (Bad bad) m some h = absurd cc
-refused_not (Missing key) m some h = absurd cc
-refused_not (Shape key) m some h = absurd cc
-refused_not (Records key len) m some h = absurd cc
-refused_not NoMemory m some h = some refl
+-- the same where memory may run out
+pub view_read : {F : Type 0} (bytes : List ℕ) (m : Message) (result : Result (Option Said) F) → length bytes ≤ max_datagram → Says bytes m → ((other : Message) → Says bytes other → ◌≡◌ {A = Result Message KrpcFault} (Ok m) (Ok other)) → IfOk result (λ o. MatchOption o (SaysNothing m) (SaysAll m)) → IfOk result (λ o. MatchOption o (IsNoReply bytes) (IsReply bytes))
+view_read bytes m (Ok o) short says once h = own_read bytes m o short says once h
+view_read bytes m (Err e) short says once h = tt
 
-pub refused_read : {F : Type 0} (bytes : List ℕ) (fault : KrpcFault) (result : Result (Option Said) F) → ((m : Message) → Says bytes m → Gives (Ok m) (Err fault)) → IfOk result (λ o. (o ≡ None) × (fault ≢ NoMemory)) → IfOk result (λ o. MatchOption o (IsNoReply bytes) (IsReply bytes))
-refused_read bytes fault (Ok None) only h = λ w r lt replies. refused_not fault replies.message h.1 (only replies.message replies.says)
-refused_read bytes fault (Ok (Some said)) only h = (let e = h.0 in absurd cc)
-refused_read bytes fault (Err e) only h = tt
+-- what is refused says nothing
+pub refused_read : (bytes : List ℕ) (fault : KrpcFault) → ((m : Message) → Says bytes m → ◌≡◌ {A = Result Message KrpcFault} (Err fault) (Ok m)) → IsNoReply bytes
+refused_read bytes fault only w r lt h = (let e = only h.message h.says in absurd cc)

@@ -1,13 +1,14 @@
 //! What a datagram says, and to the query of which transaction id.
-ghost use Rattle.std.specs.Prelude.{◌≡◌, ◌≢◌, ◌≤◌, ◌<◌, ◌^◌, ◌↔◌, IsTrue, length, None, MatchOption, IfOk};
+ghost use Rattle.std.specs.Prelude.{◌≡◌, ℕ, ◌≤◌, ◌↔◌, List, IsTrue, length, MatchOption, IfOk};
 ghost use Rattle.kad_base.specs.Limits.{max_datagram};
 ghost use Rattle.kad_base.specs.Words.{word_bytes};
-ghost use Rattle.kad_krpc.specs.declared.message.KrpcFault.{KrpcFault};
+ghost use Rattle.kad_krpc.specs.Views.{answer_seen, message_seen};
+ghost use Rattle.kad_krpc.specs.declared.message.Message.TheVariants as Message;
 ghost use Rattle.lookup_core.specs.Says.{SaysAll, SaysNothing, IsReply, IsNoReply, IsNoId};
 
 use kad_base::NoMemory;
 use kad_base::limits::MAX_DATAGRAM;
-use kad_krpc::{Answer, KrpcFault, Message, decode};
+use kad_krpc::{Answer, AnswerView, View, decode_view, own_answer};
 use std::alloc::Global;
 
 /// What a datagram says to an open query (BEP 5).
@@ -42,48 +43,60 @@ fn id_of(bytes: &[u8]) -> Option<u32>
     }
 }
 
-/// What the message says, and to whom; `None` where it is a query, or has a transaction id that no query of ours has.
-fn own_reply(message: Message) -> Option<Said>
-    ensures { MatchOption result (SaysNothing message) (SaysAll message) }
+/// An answer under this transaction id; `None` where no query of ours has it, and nothing is copied.
+fn own_answer_to(alloc: Global, tx: &[u8], answer: AnswerView) -> Result<Option<Said>, NoMemory>
+    ensures { IfOk result (λ o. MatchOption o
+        (SaysNothing (Message.Answer tx.now (answer_seen answer.entry)))
+        (SaysAll (Message.Answer tx.now (answer_seen answer.entry)))) }
 {
-    match message {
-        Message::Query { .. } => None,
-        Message::Answer { tx, answer } => match id_of(tx.as_slice()) {
-            Some(tx) => Some(Said {
-                tx,
-                reply: Reply::Answer(answer),
-            }),
-            None => None,
+    match id_of(tx) {
+        Some(word) => match own_answer(alloc, answer) {
+            Ok(owned) => Ok(Some(Said {
+                tx: word,
+                reply: Reply::Answer(owned),
+            })),
+            Err(_) => Err(NoMemory),
         },
-        Message::Fault { tx, code, .. } => match id_of(tx.as_slice()) {
-            Some(tx) => Some(Said {
-                tx,
-                reply: Reply::Error { code },
-            }),
-            None => None,
-        },
+        None => Ok(None),
     }
 }
 
-/// A datagram that was refused is no reply, unless memory ran out.
-fn no_reply(fault: KrpcFault) -> Result<Option<Said>, NoMemory>
-    ensures { IfOk result (λ o. (o ≡ None) × (fault ≢ KrpcFault.NoMemory)) }
+/// An error message under this transaction id; `None` where no query of ours has it. Its text is passed over.
+fn error_to(tx: &[u8], code: i64) -> Option<Said>
+    ensures { (text : List ℕ) → MatchOption result (SaysNothing (Message.Fault tx.now code text))
+        (SaysAll (Message.Fault tx.now code text)) }
 {
-    match fault {
-        KrpcFault::NoMemory => Err(NoMemory),
-        _ => Ok(None),
+    match id_of(tx) {
+        Some(word) => Some(Said {
+            tx: word,
+            reply: Reply::Error { code },
+        }),
+        None => None,
     }
 }
 
-/// What the datagram says; `None` where it is no reply to whomever.
+/// What a view says, and to whom; `None` where it is a query, or has a transaction id that no query of ours has.
+fn own_reply(alloc: Global, view: View) -> Result<Option<Said>, NoMemory>
+    ensures { IfOk result (λ o. MatchOption o (SaysNothing (message_seen view.entry))
+        (SaysAll (message_seen view.entry))) }
+{
+    match view {
+        View::Query { .. } => Ok(None),
+        View::Answer { tx, answer } => own_answer_to(alloc, tx, answer),
+        View::Fault { tx, code, .. } => Ok(error_to(tx, code)),
+    }
+}
+
+/// What the datagram says; `None` where it is no reply to whomever. It is read where it stands: a query, a refusal and an
+/// error message take no memory.
 pub(crate) fn read_reply(alloc: Global, bytes: &[u8]) -> Result<Option<Said>, NoMemory>
     ensures { IfOk result (λ o. MatchOption o (IsNoReply bytes.now) (IsReply bytes.now)) }
 {
     if !is_short(bytes) {
         return Ok(None);
     }
-    match decode(alloc, bytes) {
-        Ok(message) => Ok(own_reply(message)),
-        Err(fault) => no_reply(fault),
+    match decode_view(bytes) {
+        Ok(view) => own_reply(alloc, view),
+        Err(_) => Ok(None),
     }
 }
