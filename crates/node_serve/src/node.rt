@@ -90,6 +90,13 @@ impl Node {
         }
     }
 
+    /// Has the tokens keep the secrets of the epoch of this moment, so that no query of it draws them.
+    fn turn(&mut self, at: u64)
+        ensures { self.new ≡ self.old }
+    {
+        self.setting.tokens.turn(at);
+    }
+
     /// Answers a query: its reply is written in front of `out`, and has this many bytes.
     fn answer_query(
         &mut self,
@@ -139,10 +146,13 @@ impl Node {
     {
         match read_query(from, bytes) {
             None => Answered::Silent,
-            Some(asked) => match self.answer_query(&asked, at, out) {
-                Ok(length) => Answered::Reply(length),
-                Err(NoMemory) => Answered::NoMemory,
-            },
+            Some(asked) => {
+                self.turn(at);
+                match self.answer_query(&asked, at, out) {
+                    Ok(length) => Answered::Reply(length),
+                    Err(NoMemory) => Answered::NoMemory,
+                }
+            }
         }
     }
 }
