@@ -3,7 +3,7 @@ pub mod Joined
 mod Fronts
 mod Counts
 mod Bursts
-mod Assigns
+mod Assignments
 mod Pools
 mod Whose
 mod Entries
