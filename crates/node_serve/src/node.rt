@@ -91,10 +91,10 @@ impl Node {
     }
 
     /// Has the tokens keep the secrets of the epoch of this moment, so that no query of it draws them.
-    fn turn(&mut self, at: u64)
+    fn renew_tokens(&mut self, at: u64)
         ensures { self.new ≡ self.old }
     {
-        self.setting.tokens.turn(at);
+        self.setting.tokens.renew(at);
     }
 
     /// Answers a query: its reply is written in front of `out`, and has this many bytes.
@@ -147,7 +147,7 @@ impl Node {
         match read_query(from, bytes) {
             None => Answered::Silent,
             Some(asked) => {
-                self.turn(at);
+                self.renew_tokens(at);
                 match self.answer_query(&asked, at, out) {
                     Ok(length) => Answered::Reply(length),
                     Err(NoMemory) => Answered::NoMemory,

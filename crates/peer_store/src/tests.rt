@@ -230,7 +230,7 @@ fn tokens_are_the_same_whichever_secrets_are_kept(rt: HostRuntime) {
     let mut tokens = Tokens::new(&seed(), 0);
     let near = [127, 0, 0, 1];
     for kept in [300_000, 300_001, 0, 600_000, u64::MAX] {
-        tokens.turn(kept);
+        tokens.renew(kept);
         for (at, token) in [
             (0, [224, 18, 105, 232, 210, 107, 129, 126]),
             (300_000, [73, 127, 223, 109, 63, 37, 29, 201]),

@@ -56,7 +56,7 @@ impl Tokens {
 
     /// Keeps the secrets of the epoch of the moment and of the one before it. It makes them where it isn't the epoch whose
     /// secrets are kept.
-    pub fn turn(&mut self, at: u64)
+    pub fn renew(&mut self, at: u64)
         ensures { self.new ≡ self.old }
     {
         let epoch = epoch(self.began, at);

@@ -12,7 +12,7 @@ pub returns-in-Err-clause-silent : goal.returns-in-Err-clause-silent
 returns-in-Err-clause-silent c = (λ e. absurd cc, λ h. let n = c.in-Some.ensures.silent h in absurd cc)
 
 pub returns-in-Ok-clause-reply : goal.returns-in-Ok-clause-reply
-returns-in-Ok-clause-reply c = answers c.args.self.now c.args.from c.args.bytes.now c.args.at c.in-Some.asked (take c.in-Ok.length c.answer_query.new.out) c.answer_query.new.self c.in-Some.ensures.query (subst (λ (s : NodeState). AnswersAsked s c.in-Some.asked c.args.at (take c.in-Ok.length c.answer_query.new.out) c.answer_query.new.self) c.turn.ensures c.in-Ok.ensures.ok)
+returns-in-Ok-clause-reply c = answers c.args.self.now c.args.from c.args.bytes.now c.args.at c.in-Some.asked (take c.in-Ok.length c.answer_query.new.out) c.answer_query.new.self c.in-Some.ensures.query (subst (λ (s : NodeState). AnswersAsked s c.in-Some.asked c.args.at (take c.in-Ok.length c.answer_query.new.out) c.answer_query.new.self) c.renew_tokens.ensures c.in-Ok.ensures.ok)
 
 pub returns-in-Err-clause-no_memory : goal.returns-in-Err-clause-no_memory
-returns-in-Err-clause-no_memory c e = ends_of c.args.self.now c.args.from c.args.bytes.now c.in-Some.asked c.args.at c.answer_query.new.self c.in-Some.ensures.query (subst (λ (s : NodeState). EndsAsked s c.in-Some.asked c.args.at c.answer_query.new.self) c.turn.ensures c.in-Err.ensures.err)
+returns-in-Err-clause-no_memory c e = ends_of c.args.self.now c.args.from c.args.bytes.now c.in-Some.asked c.args.at c.answer_query.new.self c.in-Some.ensures.query (subst (λ (s : NodeState). EndsAsked s c.in-Some.asked c.args.at c.answer_query.new.self) c.renew_tokens.ensures c.in-Err.ensures.err)
