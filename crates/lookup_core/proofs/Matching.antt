@@ -50,15 +50,15 @@ only_one qs place q is here x has same =
 all_at : (P : Query → Type 0) (qs : List Query) (q : Query) → All P qs → Contains qs q → P q
 all_at P qs q all has = subst P has.2 (all has.0 q has.1)
 
-pub to_reply : (quest : Quest) (J : List Entry) (bytes : List ℕ) (from : Addr) (q : Query) (r : Reply) → Replies quest bytes from (as_open J q) r → RepliesTo bytes q.tx r
-to_reply quest J bytes from q r h = record { short = h.short; message = h.said; says = h.says; to_query = h.to_query }
+pub to_reply : (quest : Quest) (J : List Entry) (bytes : List ℕ) (from : Addr) (q : Query) (r : Reply) → Replies quest bytes from (as_open J q) r → RepliesTo quest bytes q.tx r
+to_reply quest J bytes from q r h = record { believable = h.believable; message = h.said; says = h.says; to_query = h.to_query }
 
 -- what is no reply replies to none
-pub silent : (quest : Quest) (k : Lookup) (from : Addr) (bytes : List ℕ) → Holds k → IsNoReply bytes → RepliesToNone quest from bytes k
+pub silent : (quest : Quest) (k : Lookup) (from : Addr) (bytes : List ℕ) → Holds k → IsNoReply quest bytes → RepliesToNone quest from bytes k
 silent quest k from bytes holds nothing q has r h = nothing q.tx r (all_in (λ (q : Query). q.tx < 2 ^ 32) k.queries q holds.ids has) (to_reply quest k.book.journal bytes from q r h)
 
 -- and neither does a reply to nobody who was asked so
-pub unasked : (quest : Quest) (k : Lookup) (from : Addr) (bytes : List ℕ) (said : Said) → Holds k → IsReply bytes said → All (λ (q : Query). ¬ IsOf said.tx from q) k.queries → RepliesToNone quest from bytes k
+pub unasked : (quest : Quest) (k : Lookup) (from : Addr) (bytes : List ℕ) (said : Said) → Holds k → IsReply quest bytes said → All (λ (q : Query). ¬ IsOf said.tx from q) k.queries → RepliesToNone quest from bytes k
 unasked quest k from bytes said holds reads none q has r h =
     all_at (λ (q : Query). ¬ IsOf said.tx from q) k.queries q none has
     (reads.same_id q.tx r (all_in (λ (q : Query). q.tx < 2 ^ 32) k.queries q holds.ids has) (to_reply quest k.book.journal bytes from q r h), sym h.source)
@@ -69,7 +69,7 @@ taken_open J tx from c old new is h =
     ap (λ l. among l c) (sym is) ∙ ap (λ x. among (map (λ (q : Query). q.contact) old) x) h.contact_is ∙ ap (λ l. among (map (λ (q : Query). q.contact) l) h.query.contact) (split_at old h.place h.query h.here)
     ∙ among_middle (take h.place old) h.query (drop (suc h.place) old)
 
-matches : (quest : Quest) (from : Addr) (bytes : List ℕ) (said : Said) (c : Contact) (old new : Lookup) (heard : List Answered) → IsQueries old.queries → IsReply bytes said → Closes said.tx from c old.queries new.queries → HearsOne quest c said.reply old.book new.book → HearsIn c said.reply heard
+matches : (quest : Quest) (from : Addr) (bytes : List ℕ) (said : Said) (c : Contact) (old new : Lookup) (heard : List Answered) → IsQueries old.queries → IsReply quest bytes said → Closes said.tx from c old.queries new.queries → HearsOne quest c said.reply old.book new.book → HearsIn c said.reply heard
     → IsMatch quest from bytes old new heard
 matches quest from bytes said c old new heard is reads closes hears hears_in =
     let q = closes.query in
@@ -82,19 +82,19 @@ matches quest from bytes said c old new heard is reads closes hears hears_in =
       what = said.reply;
       was_open = split_at old.queries closes.place q closes.here;
       alone = only_one old.queries closes.place q is closes.here;
-      replies = record { short = replies.short; said = replies.message; says = replies.says; to_query = subst (λ w. SaysTo (word_bytes w) replies.message said.reply) (sym tx) replies.to_query; source = sym closes.answers.1 };
-      reads = subst (λ w. IsReply bytes (record { tx = w; reply = said.reply })) (sym tx) reads;
+      replies = record { believable = replies.believable; said = replies.message; says = replies.says; to_query = subst (λ w. SaysTo (word_bytes w) replies.message said.reply) (sym tx) replies.to_query; source = sym closes.answers.1 };
+      reads = subst (λ w. IsReply quest bytes (record { tx = w; reply = said.reply })) (sym tx) reads;
       closes = closes.others;
       hears = subst (λ (x : Contact). HearsOne quest x said.reply old.book new.book) closes.contact_is hears;
       hears_in = subst (λ (x : Contact). HearsIn x said.reply heard) closes.contact_is hears_in;
     }
 
 -- what is heard of who was asked is taken
-pub takes_reply : (quest : Quest) (from : Addr) (bytes : List ℕ) (said : Said) (c : Contact) (old new : Lookup) (out : Taken) → IsQueries old.queries → IsReply bytes said → Closes said.tx from c old.queries new.queries → HearsReply quest c said.reply old.book new.book out → Takes quest from bytes old new out
+pub takes_reply : (quest : Quest) (from : Addr) (bytes : List ℕ) (said : Said) (c : Contact) (old new : Lookup) (out : Taken) → IsQueries old.queries → IsReply quest bytes said → Closes said.tx from c old.queries new.queries → HearsReply quest c said.reply old.book new.book out → Takes quest from bytes old new out
 takes_reply quest from bytes said c old new taken.Stray is reads closes h = absurd (h.taken refl)
 takes_reply quest from bytes said c old new (taken.Heard answered) is reads closes h = matches quest from bytes said c old new (answered ∷ []) is reads closes h.hears h.hears_in
 takes_reply quest from bytes said c old new taken.Lost is reads closes h = matches quest from bytes said c old new [] is reads closes h.hears h.hears_in
 
-pub take_result : (quest : Quest) (from : Addr) (bytes : List ℕ) (said : Said) (c : Contact) (old new : Lookup) (result : Result Taken NoMemory) → IsQueries old.queries → IsReply bytes said → Closes said.tx from c old.queries new.queries → IfOk result (HearsReply quest c said.reply old.book new.book) → IfOk result (Takes quest from bytes old new)
+pub take_result : (quest : Quest) (from : Addr) (bytes : List ℕ) (said : Said) (c : Contact) (old new : Lookup) (result : Result Taken NoMemory) → IsQueries old.queries → IsReply quest bytes said → Closes said.tx from c old.queries new.queries → IfOk result (HearsReply quest c said.reply old.book new.book) → IfOk result (Takes quest from bytes old new)
 take_result quest from bytes said c old new (Ok out) is reads closes h = takes_reply quest from bytes said c old new out is reads closes h
 take_result quest from bytes said c old new (Err e) is reads closes h = tt

@@ -3,7 +3,6 @@ use Rattle.std.proofs.Common.{◌≡◌, ℕ, ◌+◌, ◌*◌, ◌^◌, ◌<◌
 use Rattle.std.specs.Prelude.{MatchOption, IfOk, ℤ}
 use Rattle.std.specs.Int.{from_le_bytes}
 use Rattle.std.proofs.lemmas.Nat.{from_le_bytes-to_le_bytes_4, le_bytes_4}
-use Rattle.kad_base.specs.Limits.{max_datagram}
 use Rattle.kad_base.specs.Words.{word_bytes}
 use Rattle.kad_krpc.specs.declared.message.Answer.{Answer}
 use Rattle.kad_krpc.specs.declared.message.Message.{Message}
@@ -12,7 +11,9 @@ use Rattle.kad_krpc.specs.declared.message.KrpcFault.{KrpcFault}
 use Rattle.kad_krpc.specs.Reading.{Says}
 use Rattle.lookup_core.specs.declared.reply.Reply.TheVariants as reply
 use Rattle.lookup_core.specs.declared.reply.Said.{Said}
+use Rattle.lookup_core.specs.declared.quest.Quest.{Quest}
 use Rattle.lookup_core.specs.Matching.{SaysTo}
+use Rattle.lookup_core.specs.Quest.{IsBelievable}
 use Rattle.lookup_core.specs.Says.{SaysAll, SaysNothing, IsReply, IsNoReply}
 
 -- a word has its own four bytes
@@ -43,19 +44,19 @@ same_ok : (x y : Message) → ◌≡◌ {A = Result Message KrpcFault} (Ok x) (O
 same_ok x y e = cc
 
 -- what the message says the datagram says
-own_read : (bytes : List ℕ) (m : Message) (o : Option Said) → length bytes ≤ max_datagram → Says bytes m → ((other : Message) → Says bytes other → ◌≡◌ {A = Result Message KrpcFault} (Ok m) (Ok other)) → MatchOption o (SaysNothing m) (SaysAll m) → MatchOption o (IsNoReply bytes) (IsReply bytes)
-own_read bytes m None short says once nothing = λ w r lt h. nothing w r lt (subst (λ x. SaysTo (word_bytes w) x r) (sym (same_ok m h.message (once h.message h.says))) h.to_query)
-own_read bytes m (Some said) short says once all = record {
-  replies = record { short = short; message = m; says = says; to_query = all.says_it };
+own_read : (quest : Quest) (bytes : List ℕ) (m : Message) (o : Option Said) → IsBelievable quest bytes → Says bytes m → ((other : Message) → Says bytes other → ◌≡◌ {A = Result Message KrpcFault} (Ok m) (Ok other)) → MatchOption o (SaysNothing m) (SaysAll m) → MatchOption o (IsNoReply quest bytes) (IsReply quest bytes)
+own_read quest bytes m None believable says once nothing = λ w r lt h. nothing w r lt (subst (λ x. SaysTo (word_bytes w) x r) (sym (same_ok m h.message (once h.message h.says))) h.to_query)
+own_read quest bytes m (Some said) believable says once all = record {
+  replies = record { believable = believable; message = m; says = says; to_query = all.says_it };
   same_id = λ w r lt h. all.same_id w r lt (subst (λ x. SaysTo (word_bytes w) x r) (sym (same_ok m h.message (once h.message h.says))) h.to_query);
   same_reply = λ w r lt h. all.same_reply w r lt (subst (λ x. SaysTo (word_bytes w) x r) (sym (same_ok m h.message (once h.message h.says))) h.to_query);
 }
 
 -- the same where memory may run out
-pub view_read : {F : Type 0} (bytes : List ℕ) (m : Message) (result : Result (Option Said) F) → length bytes ≤ max_datagram → Says bytes m → ((other : Message) → Says bytes other → ◌≡◌ {A = Result Message KrpcFault} (Ok m) (Ok other)) → IfOk result (λ o. MatchOption o (SaysNothing m) (SaysAll m)) → IfOk result (λ o. MatchOption o (IsNoReply bytes) (IsReply bytes))
-view_read bytes m (Ok o) short says once h = own_read bytes m o short says once h
-view_read bytes m (Err e) short says once h = tt
+pub view_read : {F : Type 0} (quest : Quest) (bytes : List ℕ) (m : Message) (result : Result (Option Said) F) → IsBelievable quest bytes → Says bytes m → ((other : Message) → Says bytes other → ◌≡◌ {A = Result Message KrpcFault} (Ok m) (Ok other)) → IfOk result (λ o. MatchOption o (SaysNothing m) (SaysAll m)) → IfOk result (λ o. MatchOption o (IsNoReply quest bytes) (IsReply quest bytes))
+view_read quest bytes m (Ok o) believable says once h = own_read quest bytes m o believable says once h
+view_read quest bytes m (Err e) believable says once h = tt
 
 -- what is refused says nothing
-pub refused_read : (bytes : List ℕ) (fault : KrpcFault) → ((m : Message) → Says bytes m → ◌≡◌ {A = Result Message KrpcFault} (Err fault) (Ok m)) → IsNoReply bytes
-refused_read bytes fault only w r lt h = (let e = only h.message h.says in absurd cc)
+pub refused_read : (quest : Quest) (bytes : List ℕ) (fault : KrpcFault) → ((m : Message) → Says bytes m → ◌≡◌ {A = Result Message KrpcFault} (Err fault) (Ok m)) → IsNoReply quest bytes
+refused_read quest bytes fault only w r lt h = (let e = only h.message h.says in absurd cc)

@@ -109,7 +109,7 @@ pub record IsMatch (quest : Quest) (from : Addr) (bytes : List ℕ) (old new : L
   pub was_open : old.queries ≡ before ++ query ∷ behind
   pub alone : (q : Query) → Contains old.queries q → q.tx ≡ query.tx → q ≡ query
   pub replies : Replies quest bytes from (as_open old.book.journal query) what
-  pub reads : IsReply bytes (record { tx = query.tx; reply = what })
+  pub reads : IsReply quest bytes (record { tx = query.tx; reply = what })
   pub closes : new.queries ≡ before ++ behind
   pub hears : HearsOne quest query.contact what old.book new.book
   pub hears_in : HearsIn query.contact what heard

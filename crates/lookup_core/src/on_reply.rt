@@ -124,7 +124,7 @@ impl Lookup {
         // No two open queries have one transaction id.
         let _ = self.queries.len();
         self.book.legal();
-        let said = match read_reply(alloc, bytes) {
+        let said = match read_reply(alloc, quest, bytes) {
             Ok(Some(said)) => said,
             Ok(None) => return Ok(Taken::Stray),
             Err(_) => return Err(NoMemory),

@@ -1,10 +1,10 @@
 //! What a lookup asks, and what of an answer it believes: the one place that knows the kinds of queries and of reports.
-ghost use Rattle.std.specs.Prelude.{◌≡◌, ◌≤◌, take, map, IfOk};
+ghost use Rattle.std.specs.Prelude.{◌≡◌, ◌≤◌, ◌↔◌, take, map, IsTrue, IfOk};
 ghost use Rattle.kad_base.specs.Limits.{max_reports};
 ghost use Rattle.kad_krpc.specs.Form.{form};
-ghost use Rattle.lookup_core.specs.Quest.{wants_peers, query_message, bare, reports_of};
+ghost use Rattle.lookup_core.specs.Quest.{wants_peers, query_message, bare, reports_of, IsBelievable};
 
-use kad_base::limits::MAX_REPORTS;
+use kad_base::limits::{MAX_DATAGRAM, MAX_REPORTS};
 use kad_base::{Contact, Id, List, NoMemory, Policy, Report, Reports};
 use kad_krpc::{Answer, find_node_into, get_peers_into};
 use std::alloc::Global;
@@ -64,6 +64,14 @@ fn first_reports(alloc: Global, reports: &[Report]) -> Result<Reports, NoMemory>
 }
 
 impl Quest {
+    /// Whether a datagram may be believed, whatever it says: it has at most 4,096 bytes. What else of a datagram a lookup
+    /// comes to ask for stands here.
+    pub(crate) fn believes(&self, bytes: &[u8]) -> bool
+        ensures { IsTrue result ↔ IsBelievable self.now bytes.now }
+    {
+        bytes.len() <= MAX_DATAGRAM
+    }
+
     /// Writes the query under this transaction id in front of `buf`, and answers its length.
     pub fn query_into(&self, buf: &mut [u8; 160], tx: u32) -> usize
         ensures within { result ≤ 160 }

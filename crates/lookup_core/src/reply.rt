@@ -1,13 +1,12 @@
 //! What a datagram says, and to the query of which transaction id.
-ghost use Rattle.std.specs.Prelude.{◌≡◌, ℕ, ◌≤◌, ◌↔◌, List, IsTrue, length, MatchOption, IfOk};
-ghost use Rattle.kad_base.specs.Limits.{max_datagram};
+ghost use Rattle.std.specs.Prelude.{◌≡◌, ℕ, List, MatchOption, IfOk};
 ghost use Rattle.kad_base.specs.Words.{word_bytes};
 ghost use Rattle.kad_krpc.specs.Views.{answer_seen, message_seen};
 ghost use Rattle.kad_krpc.specs.declared.message.Message.TheVariants as Message;
 ghost use Rattle.lookup_core.specs.Says.{SaysAll, SaysNothing, IsReply, IsNoReply, IsNoId};
 
+use crate::quest::Quest;
 use kad_base::NoMemory;
-use kad_base::limits::MAX_DATAGRAM;
 use kad_krpc::{Answer, AnswerView, View, decode_view, own_answer};
 use std::alloc::Global;
 
@@ -24,13 +23,6 @@ pub enum Reply {
 pub struct Said {
     pub tx: u32,
     pub reply: Reply,
-}
-
-/// Whether the datagram is short enough to be read.
-fn is_short(bytes: &[u8]) -> bool
-    ensures { IsTrue result ↔ (length bytes.now ≤ max_datagram) }
-{
-    bytes.len() <= MAX_DATAGRAM
 }
 
 /// The word whose four bytes the transaction id is; `None` where it has another length.
@@ -87,12 +79,17 @@ fn own_reply(alloc: Global, view: View) -> Result<Option<Said>, NoMemory>
     }
 }
 
-/// What the datagram says; `None` where it is no reply to whomever. It is read where it stands: a query, a refusal and an
+/// What the datagram says; `None` where it is no reply to whomever, or may not be believed. It is read where it stands: a query, a refusal and an
 /// error message take no memory.
-pub(crate) fn read_reply(alloc: Global, bytes: &[u8]) -> Result<Option<Said>, NoMemory>
-    ensures { IfOk result (λ o. MatchOption o (IsNoReply bytes.now) (IsReply bytes.now)) }
+pub(crate) fn read_reply(
+    alloc: Global,
+    quest: &Quest,
+    bytes: &[u8],
+) -> Result<Option<Said>, NoMemory>
+    ensures { IfOk result (λ o. MatchOption o (IsNoReply quest.now bytes.now)
+        (IsReply quest.now bytes.now)) }
 {
-    if !is_short(bytes) {
+    if !quest.believes(bytes) {
         return Ok(None);
     }
     match decode_view(bytes) {

@@ -104,7 +104,7 @@ twin (x ∷ before) behind (r ∷ rs) q e =
 
 twin_replies : (quest : Quest) (bytes : List ℕ) (from : Addr) (p q : OpenQuery) (r : Reply) → bare p ≡ bare q → Replies quest bytes from q r → Replies quest bytes from p r
 twin_replies quest bytes from p q r e h = record {
-  short = h.short;
+  believable = h.believable;
   said = h.said;
   says = h.says;
   to_query = subst (λ n. SaysTo (word_bytes n) h.said r) (sym (ap (λ (x : OpenQuery). x.tx) e)) h.to_query;

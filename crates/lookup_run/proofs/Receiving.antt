@@ -484,7 +484,7 @@ quiet_receives look until at old late told told' r le e grows =
 
 -- ---- a datagram that replies to one
 
-the_one : (quest : Quest) (J : List Entry) (qs : List Query) (q : Query) (from : Addr) (bytes : List ℕ) (what : Reply) (s : Seen) (a : Answered) → s.queries ≡ map (as_open J) qs → AllByRecursion (λ (x : Query). x.tx < 2 ^ 32) qs → IsReply bytes (record { tx = q.tx; reply = what }) → ((x : Query) → Contains qs x → x.tx ≡ q.tx → x ≡ q)
+the_one : (quest : Quest) (J : List Entry) (qs : List Query) (q : Query) (from : Addr) (bytes : List ℕ) (what : Reply) (s : Seen) (a : Answered) → s.queries ≡ map (as_open J) qs → AllByRecursion (λ (x : Query). x.tx < 2 ^ 32) qs → IsReply quest bytes (record { tx = q.tx; reply = what }) → ((x : Query) → Contains qs x → x.tx ≡ q.tx → x ≡ q)
     → (h : HeardIn quest s from bytes a) → (h.query ≡ as_open J q) × (reply.Answer a.answer ≡ what)
 the_one quest J qs q from bytes what s a queries ids reads alone h =
     let found = in_map (as_open J) qs h.query (subst (λ l. Contains l h.query) queries h.is_open) in
@@ -495,7 +495,7 @@ the_one quest J qs q from bytes what s a queries ids reads alone h =
     (found.2 ∙ ap (as_open J) same, reads.same_reply x.tx (reply.Answer a.answer) small replies)
 
 hears_one : (quest : Quest) (J : List Entry) (qs : List Query) (q : Query) (from : Addr) (bytes : List ℕ) (until at : ℕ) (what : Reply) (heard : List Answered) (s : Seen) → s.queries ≡ map (as_open J) qs → Contains qs q → AllByRecursion (λ (x : Query). x.tx < 2 ^ 32) qs → Replies quest bytes from (as_open J q) what
-    → IsReply bytes (record { tx = q.tx; reply = what }) → ((x : Query) → Contains qs x → x.tx ≡ q.tx → x ≡ q) → HearsIn q.contact what heard → Hears quest s (Got from bytes until at) heard
+    → IsReply quest bytes (record { tx = q.tx; reply = what }) → ((x : Query) → Contains qs x → x.tx ≡ q.tx → x ≡ q) → HearsIn q.contact what heard → Hears quest s (Got from bytes until at) heard
 hears_one quest J qs q from bytes until at (reply.Answer answer) heard s queries has ids replies reads alone (inl own) = inl (
   record { contact = q.contact; answer = answer },
   record { query = as_open J q; is_open = subst (λ l. Contains l (as_open J q)) (sym queries) (map_in (as_open J) qs q has); replies = replies; own_name = own.0; contact_is = refl },
