@@ -1,20 +1,20 @@
 -- Words that are of the plain form, seen from their first word.
-use Rattle.std.proofs.Common.{◌≡◌, ℕ, zero, suc, ◌<◌, Bool, true, false, cond, List, [], ◌∷◌, length, drop, Option, Some, None, MatchOption, refl, sym, ap, ap₂, ◌∙◌, subst, arith, lit<}
-use Rattle.std.specs.Prelude.{◌↔◌, IsTrue, All, Contains, IfSome, bytes_eq, find, option_map}
+use Rattle.std.proofs.Common.{◌≡◌, ◌<◌, Bool, true, false, cond, List, [], ◌∷◌, length, drop, Option, Some, None, MatchOption, refl, sym, ap, ap₂, ◌∙◌, subst, arith}
+use Rattle.std.specs.Prelude.{◌↔◌, IsTrue, All, IfSome, bytes_eq, find, option_map}
 use Rattle.std.specs.Option.{IsSomeAnd}
 use Rattle.std.specs.Bool.{then_some}
 use Rattle.std.proofs.lemmas.List.Elements.{All-head, All-tail}
 use Rattle.std.proofs.lemmas.Slice.Eq.{bytes_eq-Decides}
-use Rattle.kad_words.specs.Table.{Entry, Word, commands, kind_named, option_word, options_of}
-use Rattle.kad_words.specs.Listed.{entries_of, name_word}
-use Rattle.kad_words.specs.Plain.{AreThere, Belongs, CommandOf, InPairs, IsOfKind, IsPlain, IsThere, IsValue, Says, Values, pairs_of, value_of, values_of, word_of, words_of}
+use Rattle.kad_words.specs.Table.{Entry, Word, kind_named, option_word, options_of, kind_word, Says, Values, word_of}
+use Rattle.kad_words.specs.Listed.{entries_of}
+use Rattle.kad_words.specs.Plain.{AreThere, Belongs, CommandOf, InPairs, IsOfKind, IsPlain, IsThere, IsValue, pairs_of, value_of, values_of, words_of}
 use Rattle.kad_words.specs.Fitting.{AllFit, Fits, IsPlainBy}
 use Rattle.kad_words.specs.Taken.{are_names, names_of}
 use Rattle.kad_words.specs.declared.choice.Choice.{Choice}
 use Rattle.kad_words.specs.declared.choice.Kind.{Kind}
 use Rattle.kad_words.specs.declared.command.Command.{Command}
-use Rattle.kad_words.specs.declared.options.Name.{Name}
-use Rattle.kad_words.specs.declared.options.Name.TheVariants as name
+use Rattle.kad_words.specs.declared.command.CommandKind.{CommandKind}
+use Rattle.kad_words.specs.declared.command.CommandKind.TheVariants as kind
 use Rattle.kad_words.proofs.Stripped.{names_are, names_in}
 
 -- ---- the pairs are the words two by two
@@ -26,82 +26,55 @@ pairs_back (p ∷ pairs) = ap (λ (l : List (Word × Word)). p ∷ l) (pairs_bac
 pub pairs_are : (entries : List Entry) (words : List Word) (pairs : List (Word × Word)) → InPairs entries words pairs → pairs ≡ pairs_of words
 pairs_are entries words pairs h = sym (pairs_back pairs) ∙ ap pairs_of (sym h.joined)
 
--- ---- the names
-
-known : (n : Name) → Contains commands (name_word n)
-known name.Lookup = (0, lit< tt, refl)
-known name.Peers = (1, lit< tt, refl)
-known name.Serve = (2, lit< tt, refl)
-known name.Check = (3, lit< tt, refl)
-known name.Mint = (4, lit< tt, refl)
-known name.Sim = (5, lit< tt, refl)
-
-named_at : (k : ℕ) (command : Word) → k < 6 → Rattle.std.specs.List.slice_index_or commands k command ≡ command → (n : Name) × (command ≡ name_word n)
-named_at zero command lt e = (name.Lookup, sym e)
-named_at (suc zero) command lt e = (name.Peers, sym e)
-named_at (suc (suc zero)) command lt e = (name.Serve, sym e)
-named_at (suc (suc (suc zero))) command lt e = (name.Check, sym e)
-named_at (suc (suc (suc (suc zero)))) command lt e = (name.Mint, sym e)
-named_at (suc (suc (suc (suc (suc zero))))) command lt e = (name.Sim, sym e)
-named_at (suc (suc (suc (suc (suc (suc k)))))) command lt e = absurd (omega arith)
-
 -- ---- whether they are plain
 
 pub no_words : IsPlain [] → ⊥
 no_words h = (let e = h.begins in cc)
 
-pub no_command : (texts rest : List Word) (first : Word) → texts ≡ first ∷ rest → ((n : Name) → first ≡ name_word n → ⊥) → IsPlain texts → ⊥
-no_command texts rest first cut other h =
-    let found = named_at h.known.0 h.command h.known.1 h.known.2 in
-    let same : first ≡ h.command = (let e = h.begins in cc) in
-    other found.0 (same ∙ found.1)
+pub no_command : (texts rest : List Word) (first : Word) → texts ≡ first ∷ rest → ((n : CommandKind) → first ≡ kind_word n → ⊥) → IsPlain texts → ⊥
+no_command texts rest first cut other h = other h.kind (let e = h.begins in cc)
 
-pub by_name : (n : Name) (texts rest : List Word) (first : Word) → texts ≡ first ∷ rest → first ≡ name_word n → IsPlain texts
-    → InPairs (options_of (name_word n)) rest (pairs_of rest) × AreThere (options_of (name_word n)) (pairs_of rest)
+pub by_name : (n : CommandKind) (texts rest : List Word) (first : Word) → texts ≡ first ∷ rest → first ≡ kind_word n → IsPlain texts
+    → InPairs (options_of (kind_word n)) rest (pairs_of rest) × AreThere (options_of (kind_word n)) (pairs_of rest)
 by_name n texts rest first cut is h =
-    let command : h.command ≡ name_word n = (let e = h.begins in cc) in
+    let command : kind_word h.kind ≡ kind_word n = (let e = h.begins in cc) in
     let tail : h.rest ≡ rest = (let e = h.begins in cc) in
-    let pairs = pairs_are (options_of h.command) h.rest h.pairs h.plain ∙ ap pairs_of tail in
+    let pairs = pairs_are (options_of (kind_word h.kind)) h.rest h.pairs h.plain ∙ ap pairs_of tail in
     let options = ap options_of command in (
       subst (λ (es : List Entry). InPairs es rest (pairs_of rest)) options
-          (subst (λ (ps : List (Word × Word)). InPairs (options_of h.command) rest ps) pairs (subst (λ (ws : List Word). InPairs (options_of h.command) ws h.pairs) tail h.plain)),
-      subst (λ (es : List Entry). AreThere es (pairs_of rest)) options (subst (AreThere (options_of h.command)) pairs h.there),
+          (subst (λ (ps : List (Word × Word)). InPairs (options_of (kind_word h.kind)) rest ps) pairs (subst (λ (ws : List Word). InPairs (options_of (kind_word h.kind)) ws h.pairs) tail h.plain)),
+      subst (λ (es : List Entry). AreThere es (pairs_of rest)) options (subst (AreThere (options_of (kind_word h.kind))) pairs h.there),
     )
 
-pub plain_by : (n : Name) (texts rest : List Word) (first : Word) → texts ≡ first ∷ rest → first ≡ name_word n → InPairs (options_of (name_word n)) rest (pairs_of rest)
-    → AreThere (options_of (name_word n)) (pairs_of rest) → IsPlainBy n texts
+pub plain_by : (n : CommandKind) (texts rest : List Word) (first : Word) → texts ≡ first ∷ rest → first ≡ kind_word n → InPairs (options_of (kind_word n)) rest (pairs_of rest)
+    → AreThere (options_of (kind_word n)) (pairs_of rest) → IsPlainBy n texts
 plain_by n texts rest first cut is plain there =
     let tail : rest ≡ drop 1 texts = sym (ap (drop 1) cut) in
     record {
       begins = cut ∙ ap₂ (λ (w : Word) (l : List Word). w ∷ l) is tail;
-      plain = subst (λ (l : List Word). InPairs (options_of (name_word n)) l (pairs_of l)) tail plain;
-      there = subst (λ (l : List Word). AreThere (options_of (name_word n)) (pairs_of l)) tail there;
+      plain = subst (λ (l : List Word). InPairs (options_of (kind_word n)) l (pairs_of l)) tail plain;
+      there = subst (λ (l : List Word). AreThere (options_of (kind_word n)) (pairs_of l)) tail there;
     }
 
-pub is_plain_then : (n : Name) (texts : List Word) → IsPlainBy n texts → IsPlain texts
+pub is_plain_then : (n : CommandKind) (texts : List Word) → IsPlainBy n texts → IsPlain texts
 is_plain_then n texts h = record {
-  command = name_word n;
+  kind = n;
   rest = drop 1 texts;
   pairs = pairs_of (drop 1 texts);
   begins = h.begins;
-  known = known n;
   plain = h.plain;
   there = h.there;
 }
 
-pub some_word : (n : Name) (texts : List Word) → IsPlainBy n texts → 0 < length texts
+pub some_word : (n : CommandKind) (texts : List Word) → IsPlainBy n texts → 0 < length texts
 some_word n texts h = (let e = ap length h.begins in omega arith)
 
 -- the names of a command's options are names that clap doesn't cut
-good_names : (n : Name) → are_names (names_in (options_of (name_word n))) ≡ true
-good_names name.Lookup = refl
-good_names name.Peers = refl
-good_names name.Serve = refl
-good_names name.Check = refl
-good_names name.Mint = refl
-good_names name.Sim = refl
+good_names : (n : CommandKind) → are_names (names_in (options_of (kind_word n))) ≡ true
+good_names kind.Lookup = refl
+good_names other = refl
 
-pub names_good : (n : Name) (choices : List Choice) → entries_of choices ≡ options_of (name_word n) → are_names (names_of choices) ≡ true
+pub names_good : (n : CommandKind) (choices : List Choice) → entries_of choices ≡ options_of (kind_word n) → are_names (names_of choices) ≡ true
 names_good n choices e = ap are_names (sym (names_are choices) ∙ ap names_in e) ∙ good_names n
 
 -- ---- the values fit
@@ -158,11 +131,11 @@ all_fit entries words pairs plain there name e found =
 pub fit_too : (entries : List Entry) (value taken : Values) → ((n : Word) → taken n ≡ value n) → AllFit entries value → AllFit entries taken
 fit_too entries value taken same all name e found = subst (Fits e) (sym (same name)) (all name e found)
 
-pub command_is : (n : Name) (texts : List Word) (taken : Values) (command : Command) → IsPlainBy n texts → ((m : Word) → taken m ≡ values_of (pairs_of (drop 1 texts)) m) → Says taken command
-    → word_of command ≡ name_word n → CommandOf texts command
+pub command_is : (n : CommandKind) (texts : List Word) (taken : Values) (command : Command) → IsPlainBy n texts → ((m : Word) → taken m ≡ values_of (pairs_of (drop 1 texts)) m) → Says taken command
+    → word_of command ≡ kind_word n → CommandOf texts command
 command_is n texts taken command h same says is =
     let values : taken ≡ values_of (pairs_of (drop 1 texts)) = λ i m. same m i in
-    let options : options_of (name_word n) ≡ options_of (word_of command) = ap options_of (sym is) in
+    let options : options_of (kind_word n) ≡ options_of (word_of command) = ap options_of (sym is) in
     record {
       rest = drop 1 texts;
       pairs = pairs_of (drop 1 texts);
@@ -172,7 +145,7 @@ command_is n texts taken command h same says is =
       says = subst (λ (v : Values). Says v command) values says;
     }
 
-pub plain_cases : (n : Name) (texts rest : List Word) (first : Word) (entries : List Entry) (b : Bool) → texts ≡ first ∷ rest → first ≡ name_word n → entries ≡ options_of (name_word n)
+pub plain_cases : (n : CommandKind) (texts rest : List Word) (first : Word) (entries : List Entry) (b : Bool) → texts ≡ first ∷ rest → first ≡ kind_word n → entries ≡ options_of (kind_word n)
     → IsTrue b ↔ (InPairs entries rest (pairs_of rest) × AreThere entries (pairs_of rest)) → MatchOption (then_some b n) (IsPlain texts → ⊥) (λ m. IsPlainBy m texts)
 plain_cases n texts rest first entries true cut is same h =
     let both = h.0 refl in

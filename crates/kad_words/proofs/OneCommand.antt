@@ -1,14 +1,15 @@
 -- Words ask for one command.
 use Rattle.std.proofs.Common.{◌≡◌, ℕ, ◌^◌, ◌<◌, true, true≢false, List, Option, Some, None, refl, sym, ap, ◌∙◌, subst, lit<}
-use Rattle.std.specs.Prelude.{Contains, bytes_eq}
+use Rattle.std.specs.Prelude.{bytes_eq}
 use Rattle.kad_base.specs.declared.types.Policy.{Policy}
 use Rattle.kad_base.specs.declared.types.Policy.TheVariants as policy
 use Rattle.kad_words.specs.Text.{SpellsHex, SpellsId, SpellsNumber}
-use Rattle.kad_words.specs.Table.{commands, Entry, Word}
-use Rattle.kad_words.specs.Plain.{CommandOf, IsGiven, IsGivenOr, IsLook, IsPlain, MayBeGiven, PolicyBy, Says, Values, pairs_of, values_of, word_of}
+use Rattle.kad_words.specs.Table.{Entry, Word, IsLook, PolicyBy, Says, Values, kind_of, word_of}
+use Rattle.kad_words.specs.Plain.{CommandOf, IsPlain, pairs_of, values_of}
 use Rattle.kad_words.specs.declared.command.Command.{Command}
 use Rattle.kad_words.specs.declared.command.Command.TheVariants.{Lookup, Peers, Serve, Check, Mint, Sim}
 use Rattle.kad_words.specs.declared.command.LookWords.{LookWords}
+use Rattle.kad_words.specs.Values.{IsGiven, IsGivenOr, MayBeGiven}
 use Rattle.kad_words.proofs.Checks.{pairs_are}
 use Rattle.kad_words.proofs.Listing.{one_word}
 use Rattle.kad_words.proofs.OneSpelling.{hex_once, id_once, number_once}
@@ -97,22 +98,12 @@ command_once words a b s t =
     let pairs : s.pairs ≡ t.pairs = pairs_are _ s.rest s.pairs s.plain ∙ ap pairs_of rest ∙ sym (pairs_are _ t.rest t.pairs t.plain) in
     says_once (values_of t.pairs) a b (one_word (word_of a) (word_of b) first) (subst (λ (ps : List (Word × Word)). Says (values_of ps) a) pairs s.says) t.says
 
--- the command is one of the table's
-known : (c : Command) → Contains commands (word_of c)
-known (Lookup look) = (0, lit< tt, refl)
-known (Peers look x) = (1, lit< tt, refl)
-known (Serve o k b p r) = (2, lit< tt, refl)
-known (Check p) = (3, lit< tt, refl)
-known (Mint d a b n) = (4, lit< tt, refl)
-known (Sim d n h k p a m) = (5, lit< tt, refl)
-
 pub command_plain : (words : List Word) (c : Command) → CommandOf words c → IsPlain words
 command_plain words c h = record {
-  command = word_of c;
+  kind = kind_of c;
   rest = h.rest;
   pairs = h.pairs;
   begins = h.begins;
-  known = known c;
   plain = h.plain;
   there = h.there;
 }

@@ -1,10 +1,9 @@
 -- Values that fit their options: those that are needed are there, and those that are there are of their kind.
 use Rattle.std.specs.Prelude.{◌≡◌, Bool, true, false, ◌&&◌, ℕ, List, ◌∷◌, drop, Option, Some, IfSome, bytes_eq, find, nat_lt}
-use Rattle.kad_words.specs.Table.{Entry, Word, options_of}
+use Rattle.kad_words.specs.Table.{Entry, Word, options_of, Values, kind_word}
 use Rattle.kad_words.specs.Table.{alpha_option, bits_option, c1_option, c2_option, k_option, own_option, paths_option, timeout_option}
-use Rattle.kad_words.specs.Plain.{AreThere, InPairs, IsOfKind, IsThere, Values, pairs_of}
-use Rattle.kad_words.specs.Listed.{name_word}
-use Rattle.kad_words.specs.declared.options.Name.{Name}
+use Rattle.kad_words.specs.Plain.{AreThere, InPairs, IsOfKind, IsThere, pairs_of}
+use Rattle.kad_words.specs.declared.command.CommandKind.{CommandKind}
 use Rattle.kad_words.specs.declared.choice.Kind.{Kind}
 use Rattle.kad_words.specs.declared.choice.Kind.TheVariants.{Number}
 use Rattle.kad_words.specs.declared.choice.Need.{Need}
@@ -30,11 +29,11 @@ pub record LookFits (goal : Entry) (value : Values) : Type 0 where
   pub c1 : Fits c1_option.entry (value c1_option.entry.name)
   pub c2 : Fits c2_option.entry (value c2_option.entry.name)
 
--- the words are of the plain form, for the command with this name
-pub record IsPlainBy (name : Name) (words : List Word) : Type 0 where
-  pub begins : words ≡ name_word name ∷ drop 1 words
-  pub plain : InPairs (options_of (name_word name)) (drop 1 words) (pairs_of (drop 1 words))
-  pub there : AreThere (options_of (name_word name)) (pairs_of (drop 1 words))
+-- the words are of the plain form, for the command of this kind
+pub record IsPlainBy (kind : CommandKind) (words : List Word) : Type 0 where
+  pub begins : words ≡ kind_word kind ∷ drop 1 words
+  pub plain : InPairs (options_of (kind_word kind)) (drop 1 words) (pairs_of (drop 1 words))
+  pub there : AreThere (options_of (kind_word kind)) (pairs_of (drop 1 words))
 
 -- a number with a default
 abbrev pub has_default : Kind → Need → Bool

@@ -1,4 +1,5 @@
 pub mod Text
+pub mod Values
 pub mod Table
 pub mod Plain
 pub mod Bound

@@ -1,7 +1,17 @@
 -- The commands and their options, which are this project's own: one line an option, with what its value is, whether it
--- has to stand or what stands for it, and the commands that have it.
-use Rattle.std.specs.Prelude.{ℕ, List, [], ◌∷◌, ◌++◌, map, filter, codes, bytes_eq, find, option_map, Option}
+-- has to stand or what stands for it, and the commands that have it; and what the words of each command ask for.
+use Rattle.std.specs.Prelude.{ℕ, List, [], ◌∷◌, ◌++◌, map, filter, codes, bytes_eq, find, option_map, Option, Some, None}
 use Rattle.std.specs.List.{list_any}
+use Rattle.kad_base.specs.declared.types.Id.{Id}
+use Rattle.kad_base.specs.declared.types.Policy.{Policy}
+use Rattle.kad_base.specs.declared.types.Policy.TheVariants as policy
+use Rattle.kad_words.specs.Text.{SpellsHex, SpellsId}
+use Rattle.kad_words.specs.Values.{IsGiven, MayBeGiven, MayNumberBy, NumberBy}
+use Rattle.kad_words.specs.declared.command.Command.{Command}
+use Rattle.kad_words.specs.declared.command.Command.TheVariants.{Lookup, Peers, Serve, Check, Mint, Sim}
+use Rattle.kad_words.specs.declared.command.CommandKind.{CommandKind}
+use Rattle.kad_words.specs.declared.command.CommandKind.TheVariants as kind
+use Rattle.kad_words.specs.declared.command.LookWords.{LookWords}
 use Rattle.kad_words.specs.declared.choice.Kind.{Kind}
 use Rattle.kad_words.specs.declared.choice.Kind.TheVariants.{Identifier, Seed, Number, Address}
 use Rattle.kad_words.specs.declared.choice.Need.{Need}
@@ -47,9 +57,14 @@ mint = codes "mint"
 abbrev pub sim : Word
 sim = codes "sim"
 
--- all of them
-abbrev pub commands : List Word
-commands = lookup ∷ peers ∷ serve ∷ check ∷ mint ∷ sim ∷ []
+-- the word of a command
+abbrev pub kind_word : CommandKind → Word
+kind_word kind.Lookup = lookup
+kind_word kind.Peers = peers
+kind_word kind.Serve = serve
+kind_word kind.Check = check
+kind_word kind.Mint = mint
+kind_word kind.Sim = sim
 
 -- those that ask over a link
 abbrev pub links : List Word
@@ -124,3 +139,71 @@ option_word name = codes "--" ++ name
 -- what the value of an option is, where it is one of these
 abbrev pub kind_named : List Entry → Word → Option Kind
 kind_named entries word = option_map (λ (e : Entry). e.kind) (find (λ (e : Entry). bytes_eq (option_word e.name) word) entries)
+
+-- ---- what the values of a command line give
+
+-- the values of a command line, by the options' names
+abbrev pub Values : Type 0
+Values = Word → Option Word
+
+-- what the values give for an option of each kind: an identifier, a seed, a number
+abbrev pub MayIdOf : Choice → Values → Option Id → Type 0
+MayIdOf c value id = MayBeGiven SpellsId (value c.entry.name) id
+
+abbrev pub MaySeedOf : Choice → Values → Option (List ℕ) → Type 0
+MaySeedOf c value seed = MayBeGiven (SpellsHex 32) (value c.entry.name) seed
+
+abbrev pub NumberOf : Choice → Values → ℕ → Type 0
+NumberOf c value n = NumberBy c.entry.kind c.entry.need (value c.entry.name) n
+
+abbrev pub MayNumberOf : Choice → Values → Option ℕ → Type 0
+MayNumberOf c value n = MayNumberBy c.entry.kind (value c.entry.name) n
+
+-- the policy is plain where neither number of bits stands. Where one stands, the other is its default
+abbrev pub PolicyBy : Option Word → Option Word → Policy → Type 0
+PolicyBy None None policy.Plain = Unit {0}
+PolicyBy None None (policy.Puzzled c1 c2) = ⊥
+PolicyBy (Some v) _ policy.Plain = ⊥
+PolicyBy None (Some v) policy.Plain = ⊥
+PolicyBy v w (policy.Puzzled c1 c2) = NumberBy c1_option.entry.kind c1_option.entry.need v c1 × NumberBy c2_option.entry.kind c2_option.entry.need w c2
+
+-- the policy, by the values of the two numbers of bits (S/Kademlia, 2007, section 4.1)
+abbrev pub PolicyOf : Values → Policy → Type 0
+PolicyOf value p = PolicyBy (value c1_option.entry.name) (value c2_option.entry.name) p
+
+-- ---- what the words of each command ask for
+
+-- the options of a lookup, whose target is the value of `goal`
+pub record IsLook (goal : Entry) (value : Values) (look : LookWords) : Type 0 where
+  pub target : IsGiven SpellsId (value goal.name) look.target
+  pub own : MayIdOf own_option value look.own
+  pub k : NumberOf k_option value look.k
+  pub paths : NumberOf paths_option value look.paths
+  pub alpha : NumberOf alpha_option value look.alpha
+  pub timeout : NumberOf timeout_option value look.timeout
+  pub bits : NumberOf bits_option value look.bits
+  pub policy : PolicyOf value look.policy
+
+-- what the values of a command line ask for, command by command
+abbrev pub Says : Values → Command → Type 0
+Says value (Lookup look) = IsLook target_option.entry value look
+Says value (Peers look announce) = IsLook key_option.entry value look × MayNumberOf announce_option value announce
+Says value (Serve own k bits policy receives) =
+    MayIdOf own_option value own × NumberOf k_option value k × NumberOf bits_option value bits × PolicyOf value policy × NumberOf receives_option value receives
+Says value (Check policy) = PolicyOf value policy
+Says value (Mint seed c1 c2 tries) = MaySeedOf seed_option value seed × NumberOf c1_option value c1 × NumberOf c2_option value c2 × NumberOf tries_option value tries
+Says value (Sim seed nodes hostile k paths alpha timeout) =
+    MaySeedOf seed_option value seed × NumberOf nodes_option value nodes × NumberOf hostile_option value hostile × NumberOf k_option value k × NumberOf paths_option value paths
+    × NumberOf alpha_option value alpha × NumberOf timeout_option value timeout
+
+-- which command it is, and its word
+abbrev pub kind_of : Command → CommandKind
+kind_of (Lookup look) = kind.Lookup
+kind_of (Peers look announce) = kind.Peers
+kind_of (Serve own k bits policy receives) = kind.Serve
+kind_of (Check policy) = kind.Check
+kind_of (Mint seed c1 c2 tries) = kind.Mint
+kind_of (Sim seed nodes hostile k paths alpha timeout) = kind.Sim
+
+abbrev pub word_of : Command → Word
+word_of command = kind_word (kind_of command)

@@ -1,6 +1,18 @@
-//! What the words of a command line ask for.
-ghost use Rattle.std.specs.Prelude.{◌≡◌};
+//! The commands: what each asks for, its word, its options, and how it is made of their values.
+ghost use Rattle.std.specs.Prelude.{◌≡◌, MatchOption};
+ghost use Rattle.kad_words.specs.Table.{check, lookup, mint, peers, serve, sim, kind_word, options_of, word_of, IsLook, Says};
+ghost use Rattle.kad_words.specs.Listed.{entries_of, entry_of};
+ghost use Rattle.kad_words.specs.Taken.{taken_of};
+ghost use Rattle.kad_words.specs.Fitting.{AllFit, LookFits};
+ghost use Rattle.kad_words.specs.declared.command.CommandKind.{CommandKind};
 
+use crate::choice::{Choice, Kind, Need};
+use crate::options::{
+    ALPHA, ANNOUNCE, BIND, BITS, C1, C2, HOSTILE, K, KEY, NODES, OWN, PATHS, RECEIVES, SEED,
+    TARGET, TIMEOUT, TRIES,
+};
+use crate::values::{id, needed_id, number, policy, port, seed, small};
+use clap::ArgMatches;
 use kad_base::{Id, Policy};
 use thiserror::Error;
 
@@ -71,4 +83,168 @@ pub enum WordsFault {
     /// The allocator gave no memory.
     #[error("no memory")]
     NoMemory,
+}
+
+static LOOKUP: [Choice; 10] = [TARGET, OWN, K, PATHS, ALPHA, TIMEOUT, BITS, C1, C2, BIND];
+
+static PEERS: [Choice; 11] = [
+    KEY, OWN, K, PATHS, ALPHA, TIMEOUT, BITS, C1, C2, BIND, ANNOUNCE,
+];
+
+static SERVE: [Choice; 7] = [OWN, K, BITS, C1, C2, BIND, RECEIVES];
+
+static CHECK: [Choice; 2] = [C1, C2];
+
+static MINT: [Choice; 4] = [C1, C2, SEED, TRIES];
+
+static SIM: [Choice; 7] = [K, PATHS, ALPHA, TIMEOUT, SEED, NODES, HOSTILE];
+
+/// Which command it is.
+#[derive(Clone, Copy, Debug, PartialEq, Eq)]
+pub enum CommandKind {
+    Lookup,
+    Peers,
+    Serve,
+    Check,
+    Mint,
+    Sim,
+}
+
+/// The command of a word.
+pub(crate) fn kind_named(word: &str) -> Option<CommandKind>
+    ensures { MatchOption result ((kind : CommandKind) → ¬ (word.now ≡ kind_word kind))
+        (λ kind. word.now ≡ kind_word kind) }
+{
+    match word {
+        "lookup" => Some(CommandKind::Lookup),
+        "peers" => Some(CommandKind::Peers),
+        "serve" => Some(CommandKind::Serve),
+        "check" => Some(CommandKind::Check),
+        "mint" => Some(CommandKind::Mint),
+        "sim" => Some(CommandKind::Sim),
+        _ => None,
+    }
+}
+
+/// The options of a command.
+pub(crate) fn options(kind: CommandKind) -> &'static [Choice]
+    ensures { entries_of result.now ≡ options_of (kind_word kind) }
+{
+    match kind {
+        CommandKind::Lookup => &LOOKUP,
+        CommandKind::Peers => &PEERS,
+        CommandKind::Serve => &SERVE,
+        CommandKind::Check => &CHECK,
+        CommandKind::Mint => &MINT,
+        CommandKind::Sim => &SIM,
+    }
+}
+
+/// The command of this kind, from the values of its options.
+pub(crate) fn command_for(kind: CommandKind, matches: &ArgMatches) -> Command
+    requires { AllFit (options_of (kind_word kind)) (taken_of matches.now) }
+    ensures says { Says (taken_of matches.now) result }
+    ensures word { word_of result ≡ kind_word kind }
+{
+    match kind {
+        CommandKind::Lookup => lookup(matches),
+        CommandKind::Peers => peers(matches),
+        CommandKind::Serve => serve(matches),
+        CommandKind::Check => check(matches),
+        CommandKind::Mint => mint(matches),
+        CommandKind::Sim => sim(matches),
+    }
+}
+
+/// The options of a lookup, whose target is that of `goal`.
+fn look(matches: &ArgMatches, goal: &Choice) -> LookWords
+    requires fits { LookFits (entry_of goal.now) (taken_of matches.now) }
+    requires kind { goal.now.kind ≡ Kind.Identifier }
+    requires need { goal.now.need ≡ Need.Required }
+    ensures { IsLook (entry_of goal.now) (taken_of matches.now) result }
+{
+    LookWords {
+        target: needed_id(matches, goal),
+        own: id(matches, &OWN),
+        k: small(matches, &K),
+        paths: small(matches, &PATHS),
+        alpha: small(matches, &ALPHA),
+        timeout: number(matches, &TIMEOUT),
+        bits: small(matches, &BITS),
+        policy: policy(matches),
+    }
+}
+
+fn lookup(matches: &ArgMatches) -> Command
+    requires { AllFit (options_of lookup) (taken_of matches.now) }
+    ensures says { Says (taken_of matches.now) result }
+    ensures word { word_of result ≡ lookup }
+{
+    Command::Lookup {
+        look: look(matches, &TARGET),
+    }
+}
+
+fn peers(matches: &ArgMatches) -> Command
+    requires { AllFit (options_of peers) (taken_of matches.now) }
+    ensures says { Says (taken_of matches.now) result }
+    ensures word { word_of result ≡ peers }
+{
+    Command::Peers {
+        look: look(matches, &KEY),
+        announce: port(matches, &ANNOUNCE),
+    }
+}
+
+fn serve(matches: &ArgMatches) -> Command
+    requires { AllFit (options_of serve) (taken_of matches.now) }
+    ensures says { Says (taken_of matches.now) result }
+    ensures word { word_of result ≡ serve }
+{
+    Command::Serve {
+        own: id(matches, &OWN),
+        k: small(matches, &K),
+        bits: small(matches, &BITS),
+        policy: policy(matches),
+        receives: number(matches, &RECEIVES),
+    }
+}
+
+fn check(matches: &ArgMatches) -> Command
+    requires { AllFit (options_of check) (taken_of matches.now) }
+    ensures says { Says (taken_of matches.now) result }
+    ensures word { word_of result ≡ check }
+{
+    Command::Check {
+        policy: policy(matches),
+    }
+}
+
+fn mint(matches: &ArgMatches) -> Command
+    requires { AllFit (options_of mint) (taken_of matches.now) }
+    ensures says { Says (taken_of matches.now) result }
+    ensures word { word_of result ≡ mint }
+{
+    Command::Mint {
+        seed: seed(matches, &SEED),
+        c1: small(matches, &C1),
+        c2: small(matches, &C2),
+        tries: number(matches, &TRIES),
+    }
+}
+
+fn sim(matches: &ArgMatches) -> Command
+    requires { AllFit (options_of sim) (taken_of matches.now) }
+    ensures says { Says (taken_of matches.now) result }
+    ensures word { word_of result ≡ sim }
+{
+    Command::Sim {
+        seed: seed(matches, &SEED),
+        nodes: number(matches, &NODES),
+        hostile: small(matches, &HOSTILE),
+        k: small(matches, &K),
+        paths: small(matches, &PATHS),
+        alpha: small(matches, &ALPHA),
+        timeout: number(matches, &TIMEOUT),
+    }
 }

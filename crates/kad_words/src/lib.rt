@@ -13,5 +13,5 @@ pub mod text;
 mod values;
 
 pub use bind::{bind_of, takes_link};
-pub use command::{Command, LookWords, WordsFault};
+pub use command::{Command, CommandKind, LookWords, WordsFault};
 pub use reading::{one_command, read};

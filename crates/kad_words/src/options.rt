@@ -1,8 +1,4 @@
-//! The commands and their options: one line an option, and for each command those that it has.
-ghost use Rattle.std.specs.Prelude.{◌≡◌, MatchOption, map, IfSome};
-ghost use Rattle.kad_words.specs.Table.{options_of};
-ghost use Rattle.kad_words.specs.declared.options.Name.{Name};
-ghost use Rattle.kad_words.specs.Listed.{entries_of, name_word};
+//! The options: one line an option.
 
 use crate::choice::{Choice, Kind, Need};
 use kad_base::limits::{
@@ -73,58 +69,3 @@ pub(crate) const TRIES: Choice = choice!("tries", 1, 16_777_216, 1_048_576);
 pub(crate) const NODES: Choice = choice!("nodes", 1, 20_000, 2_000);
 
 pub(crate) const HOSTILE: Choice = choice!("hostile", 0, 100, 0);
-
-static LOOKUP: [Choice; 10] = [TARGET, OWN, K, PATHS, ALPHA, TIMEOUT, BITS, C1, C2, BIND];
-
-static PEERS: [Choice; 11] = [
-    KEY, OWN, K, PATHS, ALPHA, TIMEOUT, BITS, C1, C2, BIND, ANNOUNCE,
-];
-
-static SERVE: [Choice; 7] = [OWN, K, BITS, C1, C2, BIND, RECEIVES];
-
-static CHECK: [Choice; 2] = [C1, C2];
-
-static MINT: [Choice; 4] = [C1, C2, SEED, TRIES];
-
-static SIM: [Choice; 7] = [K, PATHS, ALPHA, TIMEOUT, SEED, NODES, HOSTILE];
-
-/// A command, without its options.
-#[derive(Clone, Copy, Debug, PartialEq, Eq)]
-pub(crate) enum Name {
-    Lookup,
-    Peers,
-    Serve,
-    Check,
-    Mint,
-    Sim,
-}
-
-/// The command of a word.
-pub(crate) fn name_of(word: &str) -> Option<Name>
-    ensures { MatchOption result ((name : Name) → ¬ (word.now ≡ name_word name))
-        (λ name. word.now ≡ name_word name) }
-{
-    match word {
-        "lookup" => Some(Name::Lookup),
-        "peers" => Some(Name::Peers),
-        "serve" => Some(Name::Serve),
-        "check" => Some(Name::Check),
-        "mint" => Some(Name::Mint),
-        "sim" => Some(Name::Sim),
-        _ => None,
-    }
-}
-
-/// The options of a command.
-pub(crate) fn options(name: Name) -> &'static [Choice]
-    ensures { entries_of result.now ≡ options_of (name_word name) }
-{
-    match name {
-        Name::Lookup => &LOOKUP,
-        Name::Peers => &PEERS,
-        Name::Serve => &SERVE,
-        Name::Check => &CHECK,
-        Name::Mint => &MINT,
-        Name::Sim => &SIM,
-    }
-}

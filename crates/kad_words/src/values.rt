@@ -2,10 +2,10 @@
 ghost use Rattle.std.specs.Prelude.{◌≡◌, IsTrue};
 ghost use Rattle.kad_words.specs.Text.{SpellsHex, SpellsId};
 ghost use Rattle.kad_words.specs.Listed.{entry_of};
-ghost use Rattle.kad_words.specs.Plain.{IsGiven, MayBeGiven, MayNumberBy, NumberBy, PolicyOf};
-ghost use Rattle.kad_words.specs.Table.{c1_option, c2_option};
+ghost use Rattle.kad_words.specs.Table.{c1_option, c2_option, PolicyOf};
 ghost use Rattle.kad_words.specs.Taken.{taken_of};
 ghost use Rattle.kad_words.specs.Fitting.{Fits, ends_below, has_default, is_below};
+ghost use Rattle.kad_words.specs.Values.{IsGiven, MayBeGiven, MayNumberBy, NumberBy};
 
 use crate::choice::{Choice, Kind, Need};
 use crate::options::{C1, C2};

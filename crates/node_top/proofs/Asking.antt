@@ -1,13 +1,13 @@
 -- Which words ask for a command that takes a link, by its promise.
 use Rattle.std.proofs.Common.{◌≡◌, List, IsTrue, refl, sym, subst, ◌∙◌}
-use Rattle.std.specs.Prelude.{bytes_eq, Contains}
+use Rattle.std.specs.Prelude.{bytes_eq}
 use Rattle.std.specs.List.{list_any}
 use Rattle.std.proofs.lemmas.Cmp.{nat_list_eq_equiv}
 use Rattle.std.proofs.lemmas.Map.Views.{list_any-from_Contains, Contains-from_any}
 use Rattle.std.proofs.lemmas.Slice.Eq.{bytes_eq-Decides}
-use Rattle.kad_words.specs.Table.{Word, links}
+use Rattle.kad_words.specs.Table.{Word, links, word_of}
 use Rattle.kad_words.specs.Bound.{TakesLink}
-use Rattle.kad_words.specs.Plain.{CommandOf, word_of}
+use Rattle.kad_words.specs.Plain.{CommandOf}
 use Rattle.kad_words.specs.declared.command.Command.{Command}
 use Rattle.kad_words.specs.declared.command.Command.TheVariants.{Lookup}
 use Rattle.kad_words.proofs.OneCommand.{command_plain}

@@ -1,14 +1,14 @@
 -- What `serve` does behind its input keeps the laws of what is done there.
 use Rattle.std.proofs.Common.{ℕ, List, [], ◌∷◌, inl, refl}
 use Rattle.kad_base.specs.declared.types.Event.{Event}
-use Rattle.node_top.specs.declared.serve.Service.{Service}
+use Rattle.node_top.specs.declared.commands.serve.Service.{Service}
 use Rattle.node_top.specs.declared.status.Status.{Status}
 use Rattle.node_top.specs.declared.status.Status.TheVariants.{LinkFault}
 use Rattle.node_top.specs.Endings.{number_of}
-use Rattle.node_top.specs.Hosted.{HostCause, ServesWell, serve_aim, serve_promise}
+use Rattle.node_top.specs.Commands.Served.{HostCause, ServesWell, serve_aim, serve_promise}
 use Rattle.node_top.specs.Input.{IsGood}
 use Rattle.node_top.specs.Promise.{IsOneOf}
-use Rattle.node_top.specs.Served.{ServeCause}
+use Rattle.node_top.specs.Commands.Served.{ServeCause}
 use Rattle.node_top.specs.Shown.{Shown}
 use Rattle.node_top.proofs.Lawful.{Lawful}
 use Rattle.node_top.proofs.Staged.{Behind, reading_lawful}

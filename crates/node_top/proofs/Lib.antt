@@ -6,7 +6,7 @@ pub mod Parts
 pub mod Ranges
 pub mod Starting
 pub mod Asking
-pub mod Commands
+pub mod Begun
 pub mod Verdicts
 pub mod Exactly
 pub mod Lawful

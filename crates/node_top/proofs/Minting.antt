@@ -6,7 +6,7 @@ use Rattle.kad_base.specs.Puzzles.{hash}
 use Rattle.id_puzzles.specs.Minting.{key_at, IsFirstKey, HasNoFirstValue}
 use Rattle.node_top.specs.declared.status.Status.{Status}
 use Rattle.node_top.specs.declared.status.Status.TheVariants.{NoMemory, Unminted}
-use Rattle.node_top.specs.Minted.{seed_of, MintText, MintCause, FindsNothing, mint_promise}
+use Rattle.node_top.specs.Commands.Minted.{seed_of, MintText, MintCause, FindsNothing, mint_promise}
 use Rattle.node_top.specs.Shown.{Shown}
 use Rattle.node_top.proofs.Lawful.{Lawful}
 use Rattle.node_top.proofs.Staged.{unread_lawful}

@@ -19,7 +19,7 @@ use Rattle.lookup_run.specs.Tells.{Given, EndsAtStray}
 use Rattle.kad_words.specs.declared.command.LookWords.{LookWords}
 use Rattle.node_top.specs.declared.run_lookup.Reached.{Reached}
 use Rattle.node_top.specs.Announced.{Announcement, owed, tried, asking, Announces, AnnouncesSome}
-use Rattle.node_top.specs.Peered.{announced_by, next_place, TellsPeers, TellsSomePeers, PeersText, PeersBegun, AnnouncedSome, peers_promise}
+use Rattle.node_top.specs.Commands.Peered.{announced_by, next_place, TellsPeers, TellsSomePeers, PeersText, PeersBegun, AnnouncedSome, peers_promise}
 use Rattle.node_top.specs.Printed.{printed_peers}
 use Rattle.node_top.specs.Shown.{Shown}
 use Rattle.node_top.specs.Started.{own_of, book_of, lookup_of}

@@ -8,7 +8,7 @@ use Rattle.kad_base.specs.declared.types.Addr.{Addr}
 use Rattle.kad_base.specs.declared.types.Contact.{Contact}
 use Rattle.kad_words.specs.Text.{addr_text, groups_after, ip_text}
 use Rattle.node_top.specs.Printed.{contact_text, counts_text, line_of, peers_text, printed, printed_peers}
-use Rattle.node_top.specs.Minted.{minted_line}
+use Rattle.node_top.specs.Commands.Minted.{minted_line}
 
 -- a text that was written in these pieces
 pub pieces_are : {Z E : Type 0} (r : Result (String Z) E) (x y : List ℕ) → IfOk r (λ s. string_bytes s ≡ x) → x ≡ y → IfOk r (λ s. string_bytes s ≡ y)

@@ -1,11 +1,11 @@
 -- The values of the words are within the limits.
 use Rattle.std.proofs.Common.{ℕ, ◌≤◌, Option, Some, None, arith}
-use Rattle.kad_words.specs.Table.{Word, Entry, alpha_option, bits_option, k_option, nodes_option, paths_option}
+use Rattle.kad_words.specs.Table.{Word, Entry, alpha_option, bits_option, k_option, nodes_option, paths_option, Values, IsLook, NumberOf}
 use Rattle.kad_words.specs.Text.{SpellsNumber}
-use Rattle.kad_words.specs.Plain.{Values, IsGivenOr, IsLook, NumberOf}
 use Rattle.kad_words.specs.declared.command.LookWords.{LookWords}
-use Rattle.node_top.specs.declared.sim.Simulation.{Simulation}
-use Rattle.node_top.specs.Simulated.{IsSimulable}
+use Rattle.kad_words.specs.Values.{IsGivenOr}
+use Rattle.node_top.specs.declared.commands.sim.Simulation.{Simulation}
+use Rattle.node_top.specs.Commands.Simulated.{IsSimulable}
 use Rattle.node_top.specs.Started.{AreTableBounds, IsInRange}
 
 record Within (least most n : ℕ) : Type 0 where

@@ -24,7 +24,7 @@ use Rattle.node_top.specs.Shown.{Shown}
 use Rattle.node_top.specs.Started.{look_of, book_of, drawn_of, lookup_of, IsInRange, Start}
 use Rattle.node_top.specs.Looked.{LookupText, LookupBegun, MeetsFewStrays}
 use Rattle.node_top.specs.Reached.{HasRunOut, TellsAll, Reaches}
-use Rattle.node_top.proofs.Commands.{Has, start_of, moved, begun_of, tells_early, text_is}
+use Rattle.node_top.proofs.Begun.{Has, start_of, moved, begun_of, tells_early, text_is}
 
 -- two things that hold of what was added hold of one list
 pub grows_both : {A : Type 0} (a b : Option (List A)) (P Q R : List A → Type 0) → Grows a b P → Grows a b Q → ((t : List A) → P t → Q t → R t) → Grows a b R

@@ -1,5 +1,5 @@
 -- A node that serves, from the input of the command to its end.
-use Rattle.std.proofs.Common.{◌≡◌, ℕ, ◌+◌, List, [], ◌∷◌, ◌++◌, Option, inl, inr, sym, ap, subst, ◌∙◌}
+use Rattle.std.proofs.Common.{◌≡◌, ℕ, List, [], ◌∷◌, ◌++◌, Option, inl, inr, sym, ap, subst, ◌∙◌}
 use Rattle.std.specs.Prelude.{map, codes, decimal, Result, Err}
 use Rattle.std.specs.List.{All}
 use Rattle.std.proofs.lemmas.List.{append_assoc}
@@ -18,15 +18,15 @@ use Rattle.contact_table.specs.Told.{new_table}
 use Rattle.lookup_run.specs.Lookup.{TableTold}
 use Rattle.node_serve.specs.NodeState.{NodeState, new_node}
 use Rattle.node_serve.specs.Receives.{ServeState, ServesAll, ServesSome}
-use Rattle.node_top.specs.declared.serve.Service.{Service}
+use Rattle.node_top.specs.declared.commands.serve.Service.{Service}
 use Rattle.node_top.specs.declared.status.Status.{Status}
-use Rattle.node_top.specs.declared.status.Status.TheVariants.{Usage, BadLine, LinkFault, SourceFault, Strays, NoSeeds, NoMemory, Unminted, TooLong}
+use Rattle.node_top.specs.declared.status.Status.TheVariants.{LinkFault}
 use Rattle.node_top.specs.Endings.{EndsUnasked as EndsBefore}
 use Rattle.node_top.specs.Input.{Lists, Admits, Keeps}
 use Rattle.node_top.specs.Looked.{ReportsCause}
 use Rattle.node_top.specs.Printed.{served_text}
 use Rattle.node_top.specs.Shown.{Shown}
-use Rattle.node_top.specs.Served.{Hosts, begun_at, Served, ServedSome, ServeBegun, ServeCause}
+use Rattle.node_top.specs.Commands.Served.{Hosts, begun_at, Served, ServedSome, ServeBegun, ServeCause}
 use Rattle.node_top.specs.Started.{own_of, seen_call}
 
 -- ---- the command
@@ -90,15 +90,8 @@ nine_late e = elim e [ inl a ↦ absurd cc | inr e ↦ elim e [ inl a ↦ absurd
 
 -- how it ends where its input gave no reports
 pub unread_cause : (service : Service) (random : List ℕ) (source : Shown ℕ) (link : Shown Event) (status : Status) → ReportsCause source status → ServeCause service random source link status
-unread_cause service random source link Usage h = h
-unread_cause service random source link (BadLine line) h = h
 unread_cause service random source link LinkFault h = absurd h
-unread_cause service random source link SourceFault h = h
-unread_cause service random source link Strays h = h
-unread_cause service random source link NoSeeds h = h
-unread_cause service random source link NoMemory h = h
-unread_cause service random source link Unminted h = h
-unread_cause service random source link TooLong h = h
+unread_cause service random source link other h = h
 
 -- the kept reports pass
 pub kept_pass : (own : Id) (policy : Policy) (rs kept : List Report) → Keeps own policy rs kept → All (Passes policy) kept

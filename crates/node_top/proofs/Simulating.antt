@@ -25,14 +25,14 @@ use Rattle.lookup_core.specs.declared.quest.AskKind.TheVariants.{FindNode}
 use Rattle.lookup_run.specs.declared.types.Outcome.{Outcome}
 use Rattle.lookup_run.specs.Rounds.{Rounds, sequential}
 use Rattle.lookup_run.specs.Lookup.{IsWithinLimits, given_of, Finished, TableTold}
-use Rattle.node_top.specs.declared.sim.Simulation.{Simulation}
+use Rattle.node_top.specs.declared.commands.sim.Simulation.{Simulation}
 use Rattle.kad_words.specs.declared.command.LookWords.{LookWords}
-use Rattle.node_top.specs.declared.sim.Start.{Start}
+use Rattle.node_top.specs.declared.commands.sim.Start.{Start}
 use Rattle.node_top.specs.Input.{Admits}
 use Rattle.node_top.specs.Printed.{line_of}
 use Rattle.node_top.specs.Started.{own_of, look_of, book_of, drawn_of, lookup_of, IsInRange, seen_call, StartsWith}
-use Rattle.node_top.specs.Simulated.{network_of, look_to, sim_look, IsSimulable, report_of, first_nodes, Begins, count_among, sought_in, sim_text, SimText, sim_promise}
-use Rattle.node_top.proofs.Commands.{admits_usable, within_limits}
+use Rattle.node_top.specs.Commands.Simulated.{network_of, look_to, sim_look, IsSimulable, report_of, first_nodes, Begins, count_among, sought_in, sim_text, SimText, sim_promise}
+use Rattle.node_top.proofs.Begun.{admits_usable, within_limits}
 use Rattle.node_top.proofs.Lawful.{Lawful}
 use Rattle.node_top.proofs.Staged.{unread_lawful}
 use Rattle.node_top.proofs.Starting.{usable_told}

@@ -6,7 +6,7 @@ use Rattle.std.proofs.lemmas.Grind.{flat_map-append}
 use Rattle.std.proofs.lemmas.List.{append_assoc, append-nil, take_more, take_all}
 use Rattle.kad_base.specs.declared.types.Report.{Report}
 use Rattle.kad_base.specs.declared.types.Policy.{Policy}
-use Rattle.node_top.specs.Checked.{Judges, passed_of, passed_text, verdict_text, verdicts_printed, check_aim, check_promise}
+use Rattle.node_top.specs.Commands.Checked.{Judges, passed_of, passed_text, verdict_text, verdicts_printed, check_aim, check_promise}
 use Rattle.node_top.specs.Printed.{line_of}
 use Rattle.node_top.proofs.LineLaws.{AllZip-push}
 use Rattle.node_top.proofs.Lawful.{Lawful}

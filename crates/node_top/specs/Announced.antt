@@ -1,12 +1,11 @@
 -- Announcements: whoever gave a token is told that this node is a peer of the key (BEP 5, `announce_peer`), by messages
 -- that say that their sender answers no queries (BEP 43).
-use Rattle.std.specs.Prelude.{◌≡◌, ℕ, zero, suc, ◌+◌, List, [], ◌∷◌, length, take, map, filter, Option, Some, None, Bool, true, false}
+use Rattle.std.specs.Prelude.{◌≡◌, ℕ, zero, suc, ◌+◌, List, [], ◌∷◌, take, map, filter, Option, Some, None, Bool, true}
 use Rattle.std.specs.List.{flat_map}
 use Rattle.kad_base.specs.declared.types.Id.{Id}
 use Rattle.kad_base.specs.declared.types.Addr.{Addr}
 use Rattle.kad_base.specs.declared.types.Contact.{Contact}
 use Rattle.kad_base.specs.declared.types.Event.{Event}
-use Rattle.kad_base.specs.declared.types.Event.TheVariants.{Sent, Unsent}
 use Rattle.kad_base.specs.Contacts.{same}
 use Rattle.kad_base.specs.Words.{word, word_bytes}
 use Rattle.kad_krpc.specs.declared.message.Ask.{Ask}
@@ -16,6 +15,8 @@ use Rattle.kad_krpc.specs.declared.message.Port.{Port}
 use Rattle.kad_krpc.specs.declared.message.Port.TheVariants.{Given, Implied}
 use Rattle.kad_krpc.specs.Form.{form}
 use Rattle.lookup_run.specs.declared.types.Token.{Token}
+-- the event of a send, and how many of the events are sends that the link took
+pub use Rattle.node_serve.specs.Receives.{is_sent, sent_in, tried}
 
 -- the port 0 stands for the one that the datagram comes from
 abbrev pub port_of : ℕ → Port
@@ -47,11 +48,6 @@ abbrev pub owed : Option ℕ → Id → Id → List Contact → List Token → L
 owed None own key found tokens = []
 owed (Some port) own key found tokens = announcements own key port found tokens
 
--- a datagram was sent, or the link refused it
-abbrev pub tried : Bool → Addr → List ℕ → Event
-tried true to bytes = Sent to bytes
-tried false to bytes = Unsent to bytes
-
 -- the read-only query under this transaction id
 abbrev pub asking : ℕ → Ask → List ℕ
 asking tx ask = form (message.Query (word_bytes tx) true ask)
@@ -68,11 +64,3 @@ Announces seed place (a ∷ rest) events =
 -- a front of them was, and then no more
 abbrev pub AnnouncesSome : List ℕ → ℕ → List Announcement → List Event → Type 0
 AnnouncesSome seed place all events = (n : ℕ) × Announces seed place (take n all) events
-
-abbrev pub is_sent : Event → Bool
-is_sent (Sent to bytes) = true
-is_sent other = false
-
--- how many datagrams were sent and not refused
-abbrev pub sent_in : List Event → ℕ
-sent_in events = length (filter is_sent events)

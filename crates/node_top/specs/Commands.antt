@@ -1,4 +1,10 @@
--- What the top calls promise, by the command that the words ask for. A command more is a line in `promise_of`.
+-- What the top calls promise, by the command that the words ask for. A command more is a module, and a line each in
+-- `promise_of` and `by_command`.
+pub mod Checked
+pub mod Minted
+pub mod Peered
+pub mod Served
+pub mod Simulated
 use Rattle.std.specs.Prelude.{◌≡◌, ℕ, List, Option, IsTrue}
 use Rattle.kad_base.specs.declared.types.Id.{Id}
 use Rattle.kad_base.specs.declared.types.Policy.{Policy}
@@ -7,20 +13,21 @@ use Rattle.kad_base.specs.Outside.{Grows}
 use Rattle.kad_words.specs.Table.{Word}
 use Rattle.kad_words.specs.Plain.{CommandOf}
 use Rattle.kad_words.specs.declared.command.Command.{Command}
+use Rattle.kad_words.specs.declared.command.LookWords.{LookWords}
 use Rattle.kad_words.specs.declared.command.Command.TheVariants.{Lookup, Peers, Serve, Check, Mint, Sim}
-use Rattle.node_top.specs.declared.serve.Service.{Service}
-use Rattle.node_top.specs.declared.sim.Simulation.{Simulation}
+use Rattle.node_top.specs.declared.commands.serve.Service.{Service}
+use Rattle.node_top.specs.declared.commands.sim.Simulation.{Simulation}
 use Rattle.node_top.specs.declared.status.Status.{Status}
 use Rattle.node_top.specs.declared.status.Status.TheVariants.{Usage, NoMemory}
 use Rattle.node_top.specs.Asked.{AsksPlain}
-use Rattle.node_top.specs.Checked.{check_promise}
-use Rattle.node_top.specs.Hosted.{serve_promise}
+use Rattle.node_top.specs.Commands.Checked.{check_promise}
+use Rattle.node_top.specs.Commands.Served.{serve_promise}
 use Rattle.node_top.specs.Looked.{lookup_promise, GivesSeeds, GivesNoSeeds, MeetsLastStray}
-use Rattle.node_top.specs.Minted.{seed_of, mint_promise}
-use Rattle.node_top.specs.Peered.{peers_promise}
+use Rattle.node_top.specs.Commands.Minted.{seed_of, mint_promise}
+use Rattle.node_top.specs.Commands.Peered.{peers_promise}
 use Rattle.node_top.specs.Promise.{Promise}
 use Rattle.node_top.specs.Shown.{Shown, HasFailed, nowhere}
-use Rattle.node_top.specs.Simulated.{sim_promise}
+use Rattle.node_top.specs.Commands.Simulated.{sim_promise}
 
 -- what the words of `serve` say
 abbrev pub service_of : Option Id → ℕ → ℕ → Policy → ℕ → Service
@@ -45,6 +52,18 @@ promise_of (Serve own k bits policy receives) = serve_promise (service_of own k 
 promise_of (Check policy) = check_promise policy
 promise_of (Mint seed c1 c2 tries) = mint_promise seed c1 c2 tries
 promise_of (Sim seed nodes hostile k paths alpha timeout) = sim_promise (simulation_of seed nodes hostile k paths alpha timeout)
+
+-- what holds of each command, by the values of its words, holds of any
+pub by_command : (P : Command → Type 0) → ((look : LookWords) → P (Lookup look)) → ((look : LookWords) (announce : Option ℕ) → P (Peers look announce))
+    → ((s : Service) → P (Serve s.own s.k s.bits s.policy s.receives)) → ((policy : Policy) → P (Check policy))
+    → ((seed : Option (List ℕ)) (c1 c2 tries : ℕ) → P (Mint seed c1 c2 tries)) → ((seed : Option (List ℕ)) (nodes hostile k paths alpha timeout : ℕ) → P (Sim seed nodes hostile k paths alpha timeout))
+    → (command : Command) → P command
+by_command P lookup peers serve check mint sim (Lookup look) = lookup look
+by_command P lookup peers serve check mint sim (Peers look announce) = peers look announce
+by_command P lookup peers serve check mint sim (Serve own k bits policy receives) = serve (service_of own k bits policy receives)
+by_command P lookup peers serve check mint sim (Check policy) = check policy
+by_command P lookup peers serve check mint sim (Mint seed c1 c2 tries) = mint seed c1 c2 tries
+by_command P lookup peers serve check mint sim (Sim seed nodes hostile k paths alpha timeout) = sim seed nodes hostile k paths alpha timeout
 
 -- ---- what it makes
 

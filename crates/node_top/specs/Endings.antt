@@ -25,6 +25,10 @@ number_of NoMemory = 9
 number_of Unminted = 10
 number_of TooLong = 11
 
+-- no number is greater
+abbrev pub last_status : ℕ
+last_status = 11
+
 -- the line of a status
 abbrev pub status_line : Status → List ℕ
 status_line Usage = codes "usage\n"

@@ -6,14 +6,8 @@ pub mod Input
 pub mod Promise
 pub mod Started
 pub mod Looked
-pub mod Checked
-pub mod Minted
-pub mod Simulated
 pub mod Commands
 pub mod Written
 pub mod Endings
 pub mod Reached
 pub mod Announced
-pub mod Peered
-pub mod Served
-pub mod Hosted

@@ -2,7 +2,6 @@
 ghost use Rattle.std.specs.Prelude.{◌≡◌, ◌≤◌, ◌<◌, ◌+◌, ◌^◌, [], ◌∷◌, length, map, IfOk, OnOk, OnErr};
 ghost use Rattle.kad_base.specs.Contacts.{same};
 ghost use Rattle.kad_base.specs.Outside.{Grows};
-ghost use Rattle.kad_base.specs.Words.{word};
 ghost use Rattle.node_top.specs.Announced.{port_of, announcement, first_from, announcements, tried, asking, Announces, AnnouncesSome, sent_in};
 
 use id_puzzles::Words;

@@ -1,6 +1,6 @@
 //! Why a command ends with no output, with the number and the line of each.
 ghost use Rattle.std.specs.Prelude.{◌≡◌, ◌≢◌, ◌<◌, ◌≤◌, take};
-ghost use Rattle.node_top.specs.Endings.{number_of, status_line};
+ghost use Rattle.node_top.specs.Endings.{last_status, number_of, status_line};
 
 use itoa::Buffer;
 use kad_base::{NoMemory, put_bytes};
@@ -56,7 +56,7 @@ impl Status {
     /// The exit status.
     pub(crate) fn number(&self) -> u8
         ensures number { result ≡ number_of self.now }
-        ensures known { (1 < result) × (result ≤ 11) × (result ≢ 5) }
+        ensures known { (1 < result) × (result ≤ last_status) × (result ≢ 5) }
     {
         match self {
             Status::Usage => 2,

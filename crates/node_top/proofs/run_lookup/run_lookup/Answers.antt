@@ -2,7 +2,7 @@ use Rattle.std.proofs.Common.{rules, inl}
 use Rattle.std.specs.Prelude.{IsErrOf}
 use Rattle.lookup_run.specs.declared.types.LookFault.TheVariants as fault
 use Rattle.node_top.specs.Shown.{shown}
-use Rattle.node_top.proofs.Commands.{has, usable_in_table, begun_from, few_from, strays_from, ok_at, err_at}
+use Rattle.node_top.proofs.Begun.{has, usable_in_table, begun_from, few_from, strays_from, ok_at, err_at}
 use Rattle.node_top.proofs.Reaching.{reaches}
 use Rattle.node_top.proofs.run_lookup.run_lookup.Goals as goal
 

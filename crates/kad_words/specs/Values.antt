@@ -1,0 +1,34 @@
+-- What the value of an option gives, where it stands and where it doesn't.
+use Rattle.std.specs.Prelude.{◌≡◌, ℕ, List, Option, Some, None}
+use Rattle.kad_words.specs.Text.{SpellsNumber}
+use Rattle.kad_words.specs.declared.choice.Kind.{Kind}
+use Rattle.kad_words.specs.declared.choice.Kind.TheVariants.{Number}
+use Rattle.kad_words.specs.declared.choice.Need.{Need}
+use Rattle.kad_words.specs.declared.choice.Need.TheVariants.{OrElse}
+
+-- the value of an option that has to stand spells this
+abbrev pub IsGiven : {T : Type 0} → (List ℕ → T → Type 0) → Option (List ℕ) → T → Type 0
+IsGiven Spells None x = ⊥
+IsGiven Spells (Some value) x = Spells value x
+
+-- the same of an option that may be left out
+abbrev pub MayBeGiven : {T : Type 0} → (List ℕ → T → Type 0) → Option (List ℕ) → Option T → Type 0
+MayBeGiven Spells None None = Unit {0}
+MayBeGiven Spells None (Some x) = ⊥
+MayBeGiven Spells (Some value) None = ⊥
+MayBeGiven Spells (Some value) (Some x) = Spells value x
+
+-- the same of an option that has a default
+abbrev pub IsGivenOr : {T : Type 0} → T → (List ℕ → T → Type 0) → Option (List ℕ) → T → Type 0
+IsGivenOr default Spells None x = x ≡ default
+IsGivenOr default Spells (Some value) x = Spells value x
+
+-- the number of an option with a range and a default
+abbrev pub NumberBy : Kind → Need → Option (List ℕ) → ℕ → Type 0
+NumberBy (Number least most) (OrElse default) value n = IsGivenOr default (SpellsNumber least most) value n
+NumberBy _ _ value n = ⊥
+
+-- the same of one with a range alone
+abbrev pub MayNumberBy : Kind → Option (List ℕ) → Option ℕ → Type 0
+MayNumberBy (Number least most) value n = MayBeGiven (SpellsNumber least most) value n
+MayNumberBy _ value n = ⊥

@@ -1,0 +1,109 @@
+-- What the command `serve` promises: that its events are receive calls, that each query among the datagrams which came was
+-- answered by the reply that a node owes it (BEP 5), as the datagrams before had left the node, and that nothing else was
+-- sent.
+use Rattle.std.specs.Prelude.{◌≡◌, ℕ, List, [], ◌∷◌, map, true, None}
+use Rattle.kad_base.specs.declared.types.Contact.{Contact}
+use Rattle.kad_base.specs.declared.types.Event.{Event}
+use Rattle.kad_base.specs.declared.types.Event.TheVariants.{Now}
+use Rattle.kad_base.specs.declared.types.Report.{Report}
+use Rattle.kad_base.specs.Outside.{Grows}
+use Rattle.contact_table.specs.TableState.{TableState}
+use Rattle.contact_table.specs.Told.{new_table}
+use Rattle.lookup_run.specs.Lookup.{TableTold}
+use Rattle.node_serve.specs.NodeState.{new_node}
+use Rattle.node_serve.specs.Receives.{ServeState, ServesAll, ServesSome}
+use Rattle.node_top.specs.declared.commands.serve.Service.{Service}
+use Rattle.node_top.specs.declared.status.Status.{Status}
+use Rattle.node_top.specs.declared.status.Status.TheVariants.{LinkFault}
+use Rattle.node_top.specs.Input.{Lists, Admits, Keeps, IsGood}
+use Rattle.node_top.specs.Looked.{ReportsCause}
+use Rattle.node_top.specs.Printed.{printed_served}
+use Rattle.node_top.specs.Promise.{Promise, Aim, reading}
+use Rattle.node_top.specs.Shown.{Shown, IsTold, HasFailed}
+use Rattle.node_top.specs.Started.{AreTableBounds, own_of, seen_call}
+
+-- ---- the node that it begins with
+
+-- the contacts of the input that are usable and pass, in order, were told to a new table; and of these the reports are kept
+-- that have a proof
+pub record Hosts (service : Service) (random : List ℕ) (source : Shown ℕ) (table : TableState) (proofs : List Report) : Type 0 where
+  pub reports : List Report
+  pub lists : Lists source reports
+  pub contacts : List Contact
+  pub admits : Admits (own_of service.own random) service.policy reports contacts
+  pub told : TableTold (map seen_call contacts) (new_table (own_of service.own random) service.k service.bits) table
+  pub keeps : Keeps (own_of service.own random) service.policy reports proofs
+
+-- the node as it begins at a moment
+abbrev pub begun_at : Service → List ℕ → TableState → List Report → ℕ → ServeState
+begun_at service random table proofs began = record {
+  node = new_node (own_of service.own random) service.k service.policy table proofs random began;
+  moment = began;
+}
+
+-- ---- the command
+
+-- what its events tell: the moment at which it begins, and then its receive calls
+pub record Served (service : Service) (random : List ℕ) (table : TableState) (proofs : List Report) (received replied : ℕ) (events : List Event) : Type 0 where
+  pub began : ℕ
+  pub then : List Event
+  pub whole : events ≡ Now began ∷ then
+  pub serves : ServesAll (begun_at service random table proofs began) service.receives received replied then
+
+pub record ServedSome (service : Service) (random : List ℕ) (table : TableState) (proofs : List Report) (events : List Event) : Type 0 where
+  pub began : ℕ
+  pub then : List Event
+  pub whole : events ≡ Now began ∷ then
+  pub serves : ServesSome (begun_at service random table proofs began) service.receives then
+
+-- a whole service, whose text counts the datagrams that came and the replies that were sent
+pub record ServeText (service : Service) (random : List ℕ) (source : Shown ℕ) (link : Shown Event) (text : List ℕ) : Type 0 where
+  pub table : TableState
+  pub proofs : List Report
+  pub hosts : Hosts service random source table proofs
+  pub received : ℕ
+  pub replied : ℕ
+  pub tells : Grows link.before link.after (Served service random table proofs received replied)
+  pub text_is : text ≡ printed_served received replied
+
+-- one that ended early
+pub record ServeBegun (service : Service) (random : List ℕ) (source : Shown ℕ) (link : Shown Event) : Type 0 where
+  pub table : TableState
+  pub proofs : List Report
+  pub hosts : Hosts service random source table proofs
+  pub tells : Grows link.before link.after (ServedSome service random table proofs)
+
+-- why it ended with no output
+abbrev pub ServeCause : Service → List ℕ → Shown ℕ → Shown Event → Status → Type 0
+ServeCause service random source link LinkFault = HasFailed link × ServeBegun service random source link
+ServeCause service random source link other = ReportsCause source other
+
+-- ---- what it promises
+
+-- why it ended behind its input
+abbrev pub HostCause : Service → List ℕ → Shown ℕ → Shown Event → Status → Type 0
+HostCause service random source link LinkFault = HasFailed link × ServeBegun service random source link
+HostCause service random source link other = ⊥
+
+-- what it needs: a good input and no failure
+pub record ServesWell (source : Shown ℕ) (link : Shown Event) : Type 0 where
+  pub told : IsTold source
+  pub reads : ¬ HasFailed source
+  pub hears : ¬ HasFailed link
+  pub good : IsGood source
+
+abbrev pub serve_aim : Service → Aim
+serve_aim service = record {
+  links = true;
+  sought = None;
+  ends = 4 ∷ [];
+  ranges = AreTableBounds service.k service.bits;
+  text = λ random source link text. ServeText service random source link text;
+  started = λ random source. IsGood source;
+  begun = λ random source link. ServeBegun service random source link;
+  cause = λ random source link status. HostCause service random source link status;
+  needs = λ random source link. ServesWell source link;
+}
+
+abbrev pub serve_promise : Service → Promise
+serve_promise service = reading (serve_aim service)

@@ -1,0 +1,176 @@
+//! The commands: a module each, and an arm here; and what the words ask for, done.
+ghost use Rattle.std.specs.Prelude.{◌≡◌, ◌≢◌, ◌⊎◌, IfOk, IfErr, IsTrue};
+ghost use Rattle.kad_base.specs.declared.types.Event.{Event};
+ghost use Rattle.node_top.specs.Asked.{Asks, AsksPlain, bytes_of};
+ghost use Rattle.node_top.specs.Commands.{promise_of, HasBegun, HasCause, HasText, ReadsInput};
+ghost use Rattle.node_top.specs.Endings.{EndsUnasked, number_of};
+ghost use Rattle.node_top.specs.Shown.{Shown, shown, nowhere};
+
+pub(crate) mod check;
+pub(crate) mod lookup;
+pub(crate) mod mint;
+pub(crate) mod peers;
+pub(crate) mod serve;
+pub(crate) mod sim;
+
+use crate::asked::asked;
+use crate::call::Call;
+use crate::status::Status;
+use kad_base::{Bytes, Check, Link, Source};
+use kad_words::{Command, takes_link};
+use std::alloc::Global;
+use std::sync::Wait;
+use std::thread::Threads;
+
+/// Does a command, and makes its output. Nothing is written yet.
+fn output_of<R: Threads + Wait + Sync, S: Source, L: Link, C: Check + Sync>(
+    rt: &R,
+    alloc: Global,
+    command: Command,
+    source: &mut S,
+    link: &mut L,
+    call: &Call<'_, C>,
+) -> Result<Bytes, Status>
+    requires ranges { (promise_of command).ranges }
+    ensures ok { IfOk result ((promise_of command).text call.now.random
+        (shown S.left S.faults source.old source.new)
+        (shown L.told L.recv_faults link.old link.new)) }
+    ensures cause { IfErr result ((promise_of command).cause call.now.random
+        (shown S.left S.faults source.old source.new)
+        (shown L.told L.recv_faults link.old link.new)) }
+    ensures early { IfErr result (λ status. EndsUnasked (number_of status) → link.new ≡ link.old) }
+    ensures no_memory { IfErr result (λ status. status ≡ Status.NoMemory →
+        (promise_of command).begun call.now.random
+        (shown S.left S.faults source.old source.new)
+        (shown L.told L.recv_faults link.old link.new) ⊎ (link.new ≡ link.old)) }
+    ensures no_input { ¬ IsTrue (promise_of command).reads → source.new ≡ source.old }
+    ensures no_link { ¬ IsTrue (promise_of command).links → link.new ≡ link.old }
+{
+    match command {
+        Command::Lookup { look } => lookup::lookup(rt, alloc, &look, source, link, call),
+        Command::Peers { look, announce } => {
+            peers::peers(rt, alloc, &look, announce, source, link, call)
+        }
+        Command::Serve {
+            own,
+            k,
+            bits,
+            policy,
+            receives,
+        } => {
+            let service = serve::Service {
+                own,
+                k,
+                bits,
+                policy,
+                receives,
+            };
+            serve::serve(alloc, &service, source, link, call)
+        }
+        other => plain_output_of(alloc, other, source, call),
+    }
+}
+
+/// Does a command that takes no link, and makes its output. Nothing is written yet.
+fn plain_output_of<S: Source, C: Check>(
+    alloc: Global,
+    command: Command,
+    source: &mut S,
+    call: &Call<'_, C>,
+) -> Result<Bytes, Status>
+    requires plain { ¬ IsTrue (promise_of command).links }
+    requires ranges { (promise_of command).ranges }
+    ensures ok { (link : Shown Event) → IfOk result ((promise_of command).text call.now.random
+        (shown S.left S.faults source.old source.new) link) }
+    ensures cause { (link : Shown Event) → IfErr result ((promise_of command).cause call.now.random
+        (shown S.left S.faults source.old source.new) link) }
+    ensures no_input { ¬ IsTrue (promise_of command).reads → source.new ≡ source.old }
+{
+    match command {
+        Command::Check { policy } => check::check(alloc, policy, source, call),
+        Command::Mint {
+            seed,
+            c1,
+            c2,
+            tries,
+        } => mint::mint(alloc, &mint::seed_for(seed, &call.random), c1, c2, tries),
+        Command::Sim {
+            seed,
+            nodes,
+            hostile,
+            k,
+            paths,
+            alpha,
+            timeout,
+        } => {
+            let seed = mint::seed_for(seed, &call.random);
+            let simulation = sim::Simulation {
+                seed,
+                nodes,
+                hostile,
+                k,
+                paths,
+                alpha,
+                timeout,
+            };
+            sim::sim(alloc, &simulation, call)
+        }
+        _ => Err(Status::Usage),
+    }
+}
+
+/// Does the command that the words ask for, and makes its output. Nothing is written yet.
+pub(crate) fn asked_output<R: Threads + Wait + Sync, S: Source, L: Link, C: Check + Sync>(
+    rt: &R,
+    alloc: Global,
+    words: &[String],
+    source: &mut S,
+    link: &mut L,
+    call: &Call<'_, C>,
+) -> Result<Bytes, Status>
+    ensures ok { IfOk result (HasText (bytes_of words.now) call.now.random
+        (shown S.left S.faults source.old source.new)
+        (shown L.told L.recv_faults link.old link.new)) }
+    ensures cause { IfErr result (HasCause (Asks (bytes_of words.now)) (bytes_of words.now)
+        call.now.random
+        (shown S.left S.faults source.old source.new)
+        (shown L.told L.recv_faults link.old link.new)) }
+    ensures unread { IfErr result (λ status. number_of status ≡ 2 → source.new ≡ source.old) }
+    ensures early { IfErr result (λ status. EndsUnasked (number_of status) → link.new ≡ link.old) }
+    ensures no_memory { IfErr result (λ status. status ≡ Status.NoMemory →
+        HasBegun (bytes_of words.now) call.now.random
+        (shown S.left S.faults source.old source.new)
+        (shown L.told L.recv_faults link.old link.new) ⊎ (link.new ≡ link.old)) }
+    ensures plain { ¬ Asks (bytes_of words.now) → IfErr result (λ status. number_of status ≡ 2) }
+    ensures no_input { ¬ ReadsInput (bytes_of words.now) → source.new ≡ source.old }
+    ensures no_link { AsksPlain (bytes_of words.now) → link.new ≡ link.old }
+{
+    let command = asked(alloc, words)?;
+    output_of(rt, alloc, command, source, link, call)
+}
+
+/// Does the command that the words ask for, if it takes no link, and makes its output. Nothing is written yet.
+pub(crate) fn asked_plainly<S: Source, C: Check>(
+    alloc: Global,
+    words: &[String],
+    source: &mut S,
+    call: &Call<'_, C>,
+) -> Result<Bytes, Status>
+    ensures asks { IfOk result (λ text. AsksPlain (bytes_of words.now)) }
+    ensures ok { IfOk result (HasText (bytes_of words.now) call.now.random
+        (shown S.left S.faults source.old source.new) nowhere) }
+    ensures cause { IfErr result (HasCause (AsksPlain (bytes_of words.now)) (bytes_of words.now)
+        call.now.random (shown S.left S.faults source.old source.new) nowhere) }
+    ensures unread { IfErr result (λ status. number_of status ≡ 2 → source.new ≡ source.old) }
+    ensures plain { ¬ AsksPlain (bytes_of words.now)
+        → IfErr result (λ status. number_of status ≡ 2) }
+    ensures no_input { ¬ ReadsInput (bytes_of words.now) → source.new ≡ source.old }
+    ensures no_link { IfErr result (λ status. (number_of status ≢ 4)
+        × (number_of status ≢ 7) × (number_of status ≢ 8)) }
+{
+    if takes_link(words) {
+        return Err(Status::Usage);
+    }
+    let command = asked(alloc, words)?;
+    plain_output_of(alloc, command, source, call)
+}

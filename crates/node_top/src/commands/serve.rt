@@ -1,0 +1,121 @@
+//! The command `serve`: a node that answers queries, and in the end the text of how many datagrams came and how many
+//! replies it sent.
+ghost use Rattle.std.specs.Prelude.{◌≡◌, ◌⊎◌, IfOk, IfErr, string_bytes};
+ghost use Rattle.node_top.specs.Endings.{EndsUnasked, number_of};
+ghost use Rattle.node_top.specs.Looked.{ReportsCause};
+ghost use Rattle.node_top.specs.Printed.{printed_served, served_text};
+ghost use Rattle.node_top.specs.Commands.Served.{Hosts, ServeBegun, ServeCause, ServeText};
+ghost use Rattle.node_top.specs.Started.{AreTableBounds, own_of};
+ghost use Rattle.node_top.specs.Shown.{shown};
+
+use crate::bootstrap::{own_id, table_of};
+use crate::call::Call;
+use crate::input::{admitted, kept, read_reports};
+use crate::printed::add_line;
+use crate::status::Status;
+use contact_table::Table;
+use kad_base::{Bytes, Check, Id, Link, List, NoMemory, Policy, Reports, Source};
+use node_serve::{Node, ServeFault, serve_loop};
+use std::alloc::{AllocError, Global};
+
+/// What the words of `serve` say: the node's own identifier where they name it, Kademlia's k and b, which contacts pass,
+/// and how many receive calls are made.
+#[derive(Clone, Copy, Debug, PartialEq, Eq)]
+pub(crate) struct Service {
+    pub own: Option<Id>,
+    pub k: u8,
+    pub bits: u8,
+    pub policy: Policy,
+    pub receives: u32,
+}
+
+/// What a node begins with: its routing table, and the reports that it keeps.
+#[derive(Drop)]
+struct Host {
+    table: Table,
+    proofs: Reports,
+}
+
+/// Reads the contacts of the input, tells a new routing table of them, and keeps the reports that have a proof.
+fn read_host<S: Source, C: Check>(
+    alloc: Global,
+    service: &Service,
+    own: Id,
+    source: &mut S,
+    call: &Call<'_, C>,
+) -> Result<Host, Status>
+    requires ranges { AreTableBounds service.now.k service.now.bits }
+    requires own { own ≡ own_of service.now.own call.now.random }
+    ensures ok { IfOk result (λ host. Hosts service.now call.now.random
+        (shown S.left S.faults source.old source.new) host.table host.proofs) }
+    ensures cause { IfErr result (ReportsCause (shown S.left S.faults source.old source.new)) }
+{
+    let reports = read_reports(alloc, source)?;
+    let read = reports.as_slice();
+    let contacts = admitted(alloc, &own, service.policy, call.check, read)?;
+    let proofs = kept(alloc, &own, service.policy, call.check, read)?;
+    let table = table_of(alloc, own, service.k, service.bits, contacts.as_slice())?;
+    Ok(Host { table, proofs })
+}
+
+/// The one line of a node that served.
+fn print_served(alloc: Global, received: u32, replied: u32) -> Result<String, AllocError>
+    ensures { IfOk result (λ text. string_bytes text ≡ served_text received replied) }
+{
+    format!(in alloc; "received {received} replied {replied}")
+}
+
+/// The output of a node that served.
+fn text_of(alloc: Global, received: u32, replied: u32) -> Result<Bytes, NoMemory>
+    ensures { IfOk result (λ text. text ≡ printed_served received replied) }
+{
+    let mut output = List::new(alloc);
+    let Ok(line) = print_served(alloc, received, replied) else {
+        return Err(NoMemory);
+    };
+    add_line(&mut output, line.as_str())?;
+    Ok(output)
+}
+
+/// Serves, and makes the text of how much was served, or says why there is none. Nothing is written yet.
+pub(crate) fn serve<S: Source, L: Link, C: Check>(
+    alloc: Global,
+    service: &Service,
+    source: &mut S,
+    link: &mut L,
+    call: &Call<'_, C>,
+) -> Result<Bytes, Status>
+    requires { AreTableBounds service.now.k service.now.bits }
+    ensures ok { IfOk result (ServeText service.now call.now.random
+        (shown S.left S.faults source.old source.new)
+        (shown L.told L.recv_faults link.old link.new)) }
+    ensures cause { IfErr result (ServeCause service.now call.now.random
+        (shown S.left S.faults source.old source.new)
+        (shown L.told L.recv_faults link.old link.new)) }
+    ensures no_memory { IfErr result (λ status. status ≡ Status.NoMemory →
+        ServeBegun service.now call.now.random
+        (shown S.left S.faults source.old source.new)
+        (shown L.told L.recv_faults link.old link.new) ⊎ (link.new ≡ link.old)) }
+    ensures early { IfErr result (λ status. EndsUnasked (number_of status) → link.new ≡ link.old) }
+{
+    let own = own_id(service.own, &call.random);
+    let host = read_host(alloc, service, own, source, call)?;
+    let Host { table, proofs } = host;
+    let began = link.now();
+    let node = Node::new(
+        alloc,
+        own,
+        service.k,
+        service.policy,
+        table,
+        proofs,
+        &call.random,
+        began,
+    );
+    let counts = match serve_loop(link, node, began, service.receives) {
+        Ok(counts) => counts,
+        Err(ServeFault::LinkFault) => return Err(Status::LinkFault),
+        Err(ServeFault::NoMemory) => return Err(Status::NoMemory),
+    };
+    Ok(text_of(alloc, counts.received, counts.replied)?)
+}
