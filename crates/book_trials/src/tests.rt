@@ -3,15 +3,18 @@ ghost use Rattle.claim_book.specs.Calls.{BookMay};
 
 mod compare;
 mod large;
+mod merging;
 mod plain_book;
+mod queries;
 
 use claim_book::*;
-use kad_base::{Addr, Check, Contact, Id, Ip, List, NoMemory, Policy, Report, Serial, is_usable};
+use kad_base::{Check, Contact, Id, List, NoMemory, Policy, Report, Serial, is_usable};
 use kad_distance::closer;
 use std::alloc::Global;
 use std::hash::RandomState;
 use std::process::Abort;
 use std::test::Fail;
+use trial_kit::contact;
 
 /// Believes each report under the plain policy, and knows no puzzle.
 #[derive(Drop)]
@@ -25,18 +28,6 @@ impl<R: Abort> Check for Trusting<'_, R> {
             Policy::Plain => true,
             Policy::Puzzled { .. } => panic!(self.rt; "a puzzle"),
         }
-    }
-}
-
-fn contact(n: u8) -> Contact {
-    let mut id = [0u8; 20];
-    id[19] = n;
-    Contact {
-        id: Id(id),
-        addr: Addr {
-            ip: Ip::V4([127, 0, 0, 1]),
-            port: 6000 + n as u16,
-        },
     }
 }
 

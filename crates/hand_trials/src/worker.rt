@@ -1,5 +1,5 @@
-//! Books worked by hand, and a routing table behind a turn. `contact(n)` is 19 zero bytes and n at 127.0.0.1, port
-//! 6000 + n; the target is 20 zero bytes, and the node's own identifier 20 bytes of 255. So seed n is dealt to path n - 1.
+//! Books worked by hand, and a routing table behind a turn. The target is 20 zero bytes, and the
+//! node's own identifier 20 bytes of 255. So seed n is dealt to path n - 1.
 ghost use Rattle.std.specs.Prelude.{◌≡◌, ◌<◌, ◌≤◌, length, IfOk};
 ghost use Rattle.kad_base.specs.Limits.{max_paths};
 ghost use Rattle.kad_base.specs.declared.types.Policy.TheVariants.{Plain};
@@ -8,9 +8,7 @@ ghost use Rattle.claim_book.specs.State.{BookState};
 use bucket_tree::Seen;
 use claim_book::{Book, BookCall, BookReply, Entry, Setting};
 use contact_table::{Table, TableCall, TableReply};
-use kad_base::{
-    Addr, Check, Contact, Id, Ip, List, NoMemory, Policy, Report, Reports, Serial, is_usable,
-};
+use kad_base::{Check, Contact, Id, List, NoMemory, Policy, Report, Reports, Serial, is_usable};
 use kad_distance::k_least;
 use path_worker::{settle_alone, settle_together};
 use std::alloc::Global;
@@ -19,6 +17,7 @@ use std::process::Abort;
 use std::sync::Wait;
 use std::test::Fail;
 use std::thread::{Threads, join};
+use trial_kit::{at, contact};
 use turn_book::{Pass, Turn};
 
 const OWN: Id = Id([255; 20]);
@@ -35,18 +34,6 @@ impl<R: Abort> Check for Unproved<'_, R> {
             panic!(self.rt; "a proof");
         }
         matches!(policy, Policy::Plain)
-    }
-}
-
-fn contact(n: u8) -> Contact {
-    let mut id = [0u8; 20];
-    id[19] = n;
-    Contact {
-        id: Id(id),
-        addr: Addr {
-            ip: Ip::V4([127, 0, 0, 1]),
-            port: 6000 + n as u16,
-        },
     }
 }
 
@@ -251,6 +238,31 @@ fn the_only_path_settles_in_order_and_tells_the_table_who_answered(
     Ok(())
 }
 
+/// Contact 1 names identifier 9 at two addresses, and both answer, one after the other. The table
+/// keeps the first.
+#[test]
+fn one_identifier_answers_at_two_addresses(rt: HostRuntime) -> Result<(), Fail> {
+    let alloc = rt.alloc();
+    let hasher = RandomState::new(&rt)?;
+    let mut table = table(alloc)?;
+    let mut book = begun(&rt, alloc, hasher, setting(1, Policy::Plain))?;
+    let check = Unproved { rt: &rt };
+    let named = [report(contact(9)), report(at(9, 7000))];
+    assert!(rt; is_answered(alloc, &mut book, 0, &named));
+    let count = settle_alone(0, &mut book, &mut table, Policy::Plain, &check);
+    assert_eq!(rt; count, Ok(3));
+    assert!(rt; asks(&mut book, 0, contact(9)));
+    assert!(rt; keeps(&mut book, contact(9), List::new(alloc)));
+    let count = settle_alone(0, &mut book, &mut table, Policy::Plain, &check);
+    assert_eq!(rt; count, Ok(1));
+    assert!(rt; asks(&mut book, 0, at(9, 7000)));
+    assert!(rt; keeps(&mut book, at(9, 7000), List::new(alloc)));
+    let count = settle_alone(0, &mut book, &mut table, Policy::Plain, &check);
+    assert_eq!(rt; count, Ok(1));
+    assert!(rt; knows(&mut table, &[contact(1), contact(9)]));
+    Ok(())
+}
+
 #[test]
 fn the_eighth_of_eight_paths_settles_its_own(rt: HostRuntime) -> Result<(), Fail> {
     let alloc = rt.alloc();
@@ -302,8 +314,8 @@ fn answered(rt: &impl Abort, alloc: Global, hasher: RandomState, paths: u8) -> R
     Ok(book)
 }
 
-/// All its paths settled at once: how many entries the journal has then, and whether the table has these contacts.
-/// `None` where memory is short.
+/// All its paths settled at once: how many entries the journal has then, and whether the table has
+/// these contacts. `None` where memory is short.
 fn settled_at_once<R: Threads + Wait + Abort + Sync>(
     rt: &R,
     alloc: Global,
@@ -442,7 +454,8 @@ fn tell_and_ask<R: Wait>(rt: &R, turn: &Turn<Table>, mut pass: Pass<Table>) -> P
     pass
 }
 
-/// Two threads do so at once. Whether the table has contact 1 alone at the end, and how many calls were told.
+/// Two threads do so at once. Whether the table has contact 1 alone at the end, and how many calls
+/// were told.
 fn told_and_asked_at_once<R: Threads + Wait + Sync>(
     rt: &R,
     alloc: Global,

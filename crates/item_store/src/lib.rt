@@ -6,8 +6,6 @@ mod calls;
 mod held;
 mod items;
 mod serial;
-#[cfg(test)]
-mod tests;
 
 pub use calls::{ItemCall, ItemReply};
 pub use items::{ItemFault, Items, item_key};

@@ -12,8 +12,6 @@ pub mod memory;
 pub mod outside;
 pub mod serial;
 pub mod steady;
-#[cfg(test)]
-mod tests;
 pub mod types;
 
 pub use bits::{leading_zeros, xor};

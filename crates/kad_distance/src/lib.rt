@@ -9,8 +9,6 @@ ghost use Rattle.kad_distance.specs.Order.{closeness, IsCloser};
 
 mod closest;
 mod laws;
-#[cfg(test)]
-mod tests;
 
 pub use closest::{k_least, place, put_closest};
 use kad_base::{Contact, Id, leading_zeros, xor};

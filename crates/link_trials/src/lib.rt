@@ -3,6 +3,10 @@
 #![tactic(auto)]
 
 #[cfg(test)]
+mod memory;
+#[cfg(test)]
 mod script;
 #[cfg(test)]
 mod sim;
+#[cfg(test)]
+mod udp;

@@ -8,9 +8,6 @@ ghost use Rattle.kad_distance.specs.Order.{closeness};
 ghost use Rattle.kad_distance.specs.KClosest.{k_closest};
 ghost use Rattle.lookup_merge.specs.Rests.{rests, nearer_of, nearest_of, after, place_after};
 
-#[cfg(test)]
-mod tests;
-
 use kad_base::{Contact, Contacts, Id, List, NoMemory};
 use kad_distance::compare;
 use std::alloc::Global;

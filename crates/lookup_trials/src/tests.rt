@@ -1,5 +1,4 @@
-//! Whole lookups over a scripted link. Identifier n is nineteen zero bytes and n, contact n has it at 127.0.0.1 and port
-//! 6000 + n, and the target is identifier 0.
+//! Whole lookups over a scripted link. The target is identifier 0.
 ghost use Rattle.std.specs.Prelude.{◌≡◌, ◌≤◌, IfOk};
 ghost use Rattle.std.specs.List.{All};
 ghost use Rattle.kad_base.specs.Contacts.{IsUsable};
@@ -16,10 +15,11 @@ use fake_net::ScriptLink;
 use id_puzzles::{Sha1Check, Words};
 use kad_base::{Id, Policy, Serial, is_usable};
 use lookup_run::{AskKind, LookSetting, Outcome, look_up_alone};
-use script::{Reply, contact, link, peer, peers_link};
+use script::peers_link;
 use std::alloc::Global;
 use std::hash::RandomState;
 use std::test::Fail;
+use trial_kit::{Reply, contact, link, local};
 
 const OWN: Id = Id([255; 20]);
 
@@ -83,15 +83,12 @@ fn play(
 
 #[test]
 fn two_paths_find_what_each_learns(rt: HostRuntime) -> Result<(), Fail> {
-    let first = Reply {
-        node: Some(3),
-        ..Reply::of(1, 10)
-    };
-    let second = Reply {
-        node: Some(4),
-        ..Reply::of(2, 10)
-    };
-    let replies = [first, second, Reply::of(3, 20), Reply::of(4, 20)];
+    let replies = [
+        Reply::naming(1, 10, 3),
+        Reply::naming(2, 10, 4),
+        Reply::of(3, 20),
+        Reply::of(4, 20),
+    ];
     let hasher = RandomState::new(&rt)?;
     let mut link = link(rt.alloc(), &replies)?;
     let (_table, outcome) = play(
@@ -148,7 +145,7 @@ fn peers_stand_once_and_tokens_with_their_contacts(rt: HostRuntime) -> Result<()
         &mut link,
         hasher,
     )?;
-    let peers = [peer(7000), peer(7001), peer(7002)];
+    let peers = [local(7000), local(7001), local(7002)];
     assert_eq!(rt; outcome.peers.as_slice(), peers.as_slice());
     assert_eq!(rt; outcome.tokens.len(), 2);
     Ok(())

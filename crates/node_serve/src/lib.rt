@@ -19,8 +19,6 @@ mod reply;
 mod service;
 mod setting;
 mod size_bound;
-#[cfg(test)]
-mod tests;
 
 pub use asked::{Asked, read_query, told_for};
 pub use composing::{Gained, compose};

@@ -1,5 +1,6 @@
-//! Whole commands over a scripted link, as tests: by `run` and by `run_plain`. They stand apart from the top, so that the
-//! program doesn't wait for what only they need, and call what anybody may.
+//! Whole lookups and searches for peers over a scripted link, as tests: by `run`. They stand apart
+//! from the top, so that the program doesn't wait for what only they need, and call what anybody
+//! may.
 #![tactic(auto)]
 
 #[cfg(test)]

@@ -7,8 +7,6 @@ mod calls;
 mod ends;
 mod peers;
 mod steps;
-#[cfg(test)]
-mod tests;
 mod tokens;
 
 pub use calls::{PeerCall, PeerReply};

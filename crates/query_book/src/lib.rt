@@ -3,8 +3,6 @@
 #![tactic(auto)]
 
 mod search;
-#[cfg(test)]
-mod tests;
 
 ghost use Rattle.std.specs.Prelude.{◌≡◌, ◌<◌, ◌≤◌, ◌↔◌, [], ◌∷◌, ◌++◌, length, All, Any, IfOk, OnErr, IsErr, IsTrue, IfSome, IfNone, IsNone, slice_get};
 ghost use Rattle.std.specs.Option.{option_map};

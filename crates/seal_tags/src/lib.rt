@@ -5,8 +5,6 @@
 mod group;
 mod hmac;
 mod seal;
-#[cfg(test)]
-mod tests;
 
 pub use group::GroupSeal;
 pub use hmac::hmac_sha1;

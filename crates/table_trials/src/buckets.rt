@@ -1,18 +1,12 @@
-//! Examples worked by hand: `number(n)` is 19 zero bytes and n, and `contact(n)` stands at 127.0.0.1, port 6000 + n. The
-//! node's own identifier is `number(0)`.
+//! Examples worked by hand. The node's own identifier is `number(0)`.
 ghost use Rattle.std.specs.Prelude.{◌<◌, ◌≤◌};
 
 use bucket_tree::{Buckets, Gone, Prefixes, Seen};
-use kad_base::{Addr, Contact, Id, Ip, NoMemory};
+use kad_base::{Contact, Id, NoMemory};
 use std::alloc::Global;
 use std::process::Abort;
 use std::test::Fail;
-
-pub(crate) fn number(n: u8) -> Id {
-    let mut bytes = [0; 20];
-    bytes[19] = n;
-    Id(bytes)
-}
+use trial_kit::{at, contact, local, number};
 
 /// The identifier whose first byte is n, and whose others are zero.
 fn high(n: u8) -> Id {
@@ -21,20 +15,11 @@ fn high(n: u8) -> Id {
     Id(bytes)
 }
 
-fn at(id: Id, port: u16) -> Contact {
-    let addr = Addr {
-        ip: Ip::V4([127, 0, 0, 1]),
-        port,
-    };
-    Contact { id, addr }
-}
-
-fn contact(n: u8) -> Contact {
-    at(number(n), 6000 + u16::from(n))
-}
-
 pub(crate) fn far(n: u8) -> Contact {
-    at(high(n), 6000)
+    Contact {
+        id: high(n),
+        addr: local(6000),
+    }
 }
 
 /// Buckets that were told these contacts, in order.
@@ -135,8 +120,8 @@ fn answers_what_became_of_a_contact(rt: HostRuntime) -> Result<(), Fail> {
     let steps = [
         Step::Seen(contact(1), Seen::Added),
         Step::Seen(contact(3), Seen::Spared),
-        Step::Seen(at(number(2), 7000), Seen::Conflict),
-        Step::Seen(at(number(0), 6000), Seen::Own),
+        Step::Seen(at(2, 7000), Seen::Conflict),
+        Step::Seen(at(0, 6000), Seen::Own),
         Step::Seen(contact(1), Seen::Moved),
     ];
     take(&rt, &mut buckets, &steps);

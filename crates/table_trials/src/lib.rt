@@ -9,6 +9,8 @@ mod drawn;
 #[cfg(test)]
 mod flat;
 #[cfg(test)]
+mod measure;
+#[cfg(test)]
 mod rows;
 #[cfg(test)]
 mod saved;

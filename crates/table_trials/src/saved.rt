@@ -1,10 +1,11 @@
 //! Rows that come back as buckets, and rows that are none. The node's own identifier is 20 zero bytes, `far(n)` begins
 //! with the byte n.
-use crate::buckets::{far, number, told};
+use crate::buckets::{far, told};
 use bucket_tree::{Buckets, Live, Lives, Prefix, Row, Rows, TableFault};
 use kad_base::{Contacts, List, NoMemory};
 use std::alloc::Global;
 use std::test::Fail;
+use trial_kit::number;
 
 /// Stands where nothing stands.
 const NO: u8 = 255;

@@ -1,10 +1,11 @@
 //! Tables that are saved and made again. The node's own identifier is `number(0)`, and k and b are 1.
-use crate::table::{at, contact, told};
+use crate::table::told;
 use bucket_tree::TableFault;
 use contact_table::{Saved, Table};
 use kad_base::{Contact, List, NoMemory};
 use std::alloc::Global;
 use std::test::Fail;
+use trial_kit::{at, contact};
 
 /// The same with other siblings.
 fn with_siblings(alloc: Global, saved: Saved, siblings: &[Contact]) -> Result<Saved, NoMemory> {

@@ -1,21 +1,9 @@
 //! The list of a node of zeros, put in from far to near.
-use kad_base::{Addr, Contact, Id, Ip, NoMemory};
+use kad_base::{Contact, Id, NoMemory};
 use sibling_list::Siblings;
 use std::alloc::Global;
 use std::test::Fail;
-
-/// The contact whose identifier is nineteen zero bytes and n, at 127.0.0.1 and port 6000 + n.
-fn contact(n: u8) -> Contact {
-    let mut id = [0u8; 20];
-    id[19] = n;
-    Contact {
-        id: Id(id),
-        addr: Addr {
-            ip: Ip::V4([127, 0, 0, 1]),
-            port: 6000 + n as u16,
-        },
-    }
-}
+use trial_kit::contact;
 
 /// The siblings of the node of zeros, after 17 down to 1 were put in.
 fn sixteen(rt: &HostRuntime) -> Result<Siblings, Fail> {

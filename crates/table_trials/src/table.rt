@@ -1,31 +1,10 @@
-//! Examples worked by hand: `number(n)` is 19 zero bytes and n, and `contact(n)` stands at 127.0.0.1, port 6000 + n. The
-//! node's own identifier is `number(0)`, and k and b are 1.
+//! Examples worked by hand. The node's own identifier is `number(0)`, and k and b are 1.
 use bucket_tree::{Gone, Seen};
 use contact_table::{Table, TableCall, TableReply};
 use kad_base::{Addr, Contact, Id, Ip, Serial};
 use std::alloc::Global;
 use std::test::Fail;
-
-pub(crate) fn number(n: u8) -> Id {
-    let mut bytes = [0; 20];
-    bytes[19] = n;
-    Id(bytes)
-}
-
-pub(crate) fn at(n: u8, port: u16) -> Contact {
-    let addr = Addr {
-        ip: Ip::V4([127, 0, 0, 1]),
-        port,
-    };
-    Contact {
-        id: number(n),
-        addr,
-    }
-}
-
-pub(crate) fn contact(n: u8) -> Contact {
-    at(n, 6000 + u16::from(n))
-}
+use trial_kit::{at, contact, number};
 
 /// A table that was told these contacts by role 1.
 pub(crate) fn told(alloc: Global, contacts: &[Contact]) -> Result<Table, Fail> {

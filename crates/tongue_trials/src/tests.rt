@@ -1,2 +1,3 @@
 mod bencode;
 mod messages;
+mod seals;

@@ -3,8 +3,6 @@
 
 mod addresses;
 mod link;
-#[cfg(test)]
-mod tests;
 mod timed_socket;
 
 pub use link::UdpLink;

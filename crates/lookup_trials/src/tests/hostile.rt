@@ -1,7 +1,6 @@
 //! Lookups whose outside fails in one place after the other. What each finds was worked out by hand.
 ghost use Rattle.std.specs.Prelude.{◌≤◌};
 
-use crate::tests::script::{Reply, contact, failing_link, link, link_of};
 use crate::tests::{OWN, setting, table_of};
 use fake_net::ScriptLink;
 use id_puzzles::{Sha1Check, Words};
@@ -10,6 +9,7 @@ use lookup_run::{AskKind, LookFault, Outcome, look_up_alone};
 use std::alloc::Global;
 use std::hash::RandomState;
 use std::test::Fail;
+use trial_kit::{Reply, contact, failing_link, link, link_with};
 
 /// The answer of contact 1 that names nobody, to the first query of the generator of 32 zero bytes.
 const ANSWER_1: &[u8] =
@@ -93,18 +93,10 @@ fn an_answer_cut_anywhere_loses_its_contact(rt: HostRuntime) -> Result<(), Fail>
         failed: 1,
     });
     for len in 0..ANSWER_1.len() {
-        let mut link = link_of(rt.alloc(), &ANSWER_1[..len])?;
+        let mut link = link_with(rt.alloc(), &ANSWER_1[..len], 10, 1, &[])?;
         ends(&rt, &[1], 1, &mut link, &wanted)?;
     }
     Ok(())
-}
-
-/// Contact n answers at moment 10, and names this one.
-fn naming(n: u8, node: u8) -> Reply {
-    Reply {
-        node: Some(node),
-        ..Reply::of(n, 10)
-    }
 }
 
 /// What eight contacts find of which the second names the ninth, where the send of this number, from 0, is refused. The
@@ -132,7 +124,7 @@ fn found_of_nine(refused: u8) -> Found<'static> {
 fn each_refused_send_loses_one_contact(rt: HostRuntime) -> Result<(), Fail> {
     let replies = [
         Reply::of(1, 10),
-        naming(2, 9),
+        Reply::naming(2, 10, 9),
         Reply::of(3, 10),
         Reply::of(4, 10),
         Reply::of(5, 10),
@@ -158,7 +150,11 @@ const THREE: Found<'static> = Found {
 /// Three receives bring three answers, and there is no fourth.
 #[test]
 fn each_failed_receive_is_a_link_fault(rt: HostRuntime) -> Result<(), Fail> {
-    let replies = [naming(1, 3), naming(2, 3), Reply::of(3, 10)];
+    let replies = [
+        Reply::naming(1, 10, 3),
+        Reply::naming(2, 10, 3),
+        Reply::of(3, 10),
+    ];
     for n in 0..=3 {
         let wanted = if n < 3 {
             Err(LookFault::LinkFault)
@@ -176,9 +172,9 @@ fn each_failed_receive_is_a_link_fault(rt: HostRuntime) -> Result<(), Fail> {
 fn answers_that_come_again_are_heard_once(rt: HostRuntime) -> Result<(), Fail> {
     let mut replies = Vec::new(rt.alloc());
     for at in [10, 10, 10, 1999] {
-        replies.push(Reply { at, ..naming(1, 3) })?;
-        replies.push(Reply { at, ..naming(2, 3) })?;
-        replies.push(Reply { at, ..naming(3, 4) })?;
+        replies.push(Reply::naming(1, at, 3))?;
+        replies.push(Reply::naming(2, at, 3))?;
+        replies.push(Reply::naming(3, at, 4))?;
     }
     let mut link = link(rt.alloc(), &replies)?;
     let wanted = Ok(Found {

@@ -2,19 +2,19 @@
 ghost use Rattle.std.specs.Prelude.{◌≤◌};
 
 use super::{OWN, setting, table_of};
-use crate::tests::script::{Reply, contact, failing_link, link};
 use bucket_tree::Gone;
 use contact_table::{Table, TableCall, TableReply};
 use fake_net::ScriptLink;
 use id_puzzles::{Sha1Check, Words};
-use kad_base::{Check, Policy, Report, Serial};
+use kad_base::{Check, NoMemory, Serial};
 use lookup_run::{AskKind, LookFault, Outcome, look_up, look_up_alone};
 use std::alloc::Global;
 use std::hash::RandomState;
+use std::random::RandomSource;
 use std::sync::Wait;
-use std::sync::atomic::{AtomicBool, Ordering};
 use std::test::Fail;
 use std::thread::Threads;
+use trial_kit::{Meeting, Reply, contact, failing_link, link};
 
 /// What a lookup from these contacts gives over the link, and the table that it leaves.
 fn play<R: Threads + Wait + Sync, C: Check + Sync>(
@@ -36,83 +36,70 @@ fn play<R: Threads + Wait + Sync, C: Check + Sync>(
 }
 
 /// Contacts 1 and 2 answer at moment 10, and name these.
-fn two_answers(alloc: Global, first: u8, second: u8) -> Result<ScriptLink, Fail> {
+fn two_answers(alloc: Global, first: u8, second: u8) -> Result<ScriptLink, NoMemory> {
     let replies = [
-        Reply {
-            node: Some(first),
-            ..Reply::of(1, 10)
-        },
-        Reply {
-            node: Some(second),
-            ..Reply::of(2, 10)
-        },
+        Reply::naming(1, 10, first),
+        Reply::naming(2, 10, second),
         Reply::of(3, 20),
         Reply::of(4, 20),
     ];
     link(alloc, &replies)
 }
 
-/// Says of a report what its puzzles say, and lets the first checks of contacts 3 and 4 wait for each other, for so many
-/// looks at most.
-#[derive(Drop)]
-struct Meeting {
-    third_came: AtomicBool,
-    fourth_came: AtomicBool,
-    third_saw: AtomicBool,
-    fourth_saw: AtomicBool,
-}
-
-const LOOKS: u32 = 200_000_000;
-
-/// Whether the flag was set before so many looks were over.
-fn sees(flag: &AtomicBool) -> bool {
-    for _ in 0..LOOKS {
-        if flag.load(Ordering::SeqCst) {
-            return true;
-        }
-    }
-    false
-}
-
-/// Comes, and looks whether the other comes.
-fn meet(own: &AtomicBool, other: &AtomicBool, saw: &AtomicBool) {
-    if own.swap(true, Ordering::SeqCst) {
-        return;
-    }
-    saw.store(sees(other), Ordering::SeqCst);
-}
-
-impl Check for Meeting {
-    fn check(&self, policy: Policy, report: &Report) -> bool {
-        if report.contact == contact(3) {
-            meet(&self.third_came, &self.fourth_came, &self.third_saw);
-        }
-        if report.contact == contact(4) {
-            meet(&self.fourth_came, &self.third_came, &self.fourth_saw);
-        }
-        Sha1Check.check(policy, report)
-    }
-
-    /// It waits for another.
-    fn takes_long(&self) -> bool {
-        true
-    }
-}
-
 /// Two paths whose answers come at one moment settle them at once: each check meets the other.
 #[test]
 fn two_checks_run_at_once(rt: HostRuntime) -> Result<(), Fail> {
-    let meeting = Meeting {
-        third_came: AtomicBool::new(false),
-        fourth_came: AtomicBool::new(false),
-        third_saw: AtomicBool::new(false),
-        fourth_saw: AtomicBool::new(false),
-    };
+    let meeting = Meeting::new(3, 2);
     let hasher = RandomState::new(&rt)?;
     let mut link = two_answers(rt.alloc(), 3, 4)?;
     let (_table, _result) = play(&rt, rt.alloc(), &[1, 2], 2, &mut link, &meeting, hasher)?;
-    assert!(rt; meeting.third_saw.load(Ordering::SeqCst));
-    assert!(rt; meeting.fourth_saw.load(Ordering::SeqCst));
+    assert!(rt; meeting.is_met());
+    Ok(())
+}
+
+/// Whether the checks of these contacts, as many as `count` from `first` on, meet in a lookup on
+/// eight paths, which contacts 1 to 8 begin.
+fn meet_on_eight_paths<R: AllocGlobal + RandomSource + Threads + Wait + Sync>(
+    rt: &R,
+    replies: &[Reply],
+    first: u8,
+    count: u8,
+) -> Result<bool, Fail> {
+    let meeting = Meeting::new(first, count);
+    let hasher = RandomState::new(rt)?;
+    let mut link = link(rt.alloc(), replies)?;
+    let contacts = [1, 2, 3, 4, 5, 6, 7, 8];
+    let (_table, _result) = play(rt, rt.alloc(), &contacts, 8, &mut link, &meeting, hasher)?;
+    Ok(meeting.is_met())
+}
+
+/// All eight answer at one moment, and each names another contact.
+#[test]
+fn eight_checks_run_at_once(rt: HostRuntime) -> Result<(), Fail> {
+    let replies = [
+        Reply::naming(1, 10, 11),
+        Reply::naming(2, 10, 12),
+        Reply::naming(3, 10, 13),
+        Reply::naming(4, 10, 14),
+        Reply::naming(5, 10, 15),
+        Reply::naming(6, 10, 16),
+        Reply::naming(7, 10, 17),
+        Reply::naming(8, 10, 18),
+    ];
+    assert!(rt; meet_on_eight_paths(&rt, &replies, 11, 8)?);
+    Ok(())
+}
+
+/// Contacts 3 and 4, of paths 2 and 3, answer at one moment, before all others.
+#[test]
+fn the_checks_of_paths_2_and_3_run_at_once(rt: HostRuntime) -> Result<(), Fail> {
+    let replies = [
+        Reply::naming(3, 10, 13),
+        Reply::naming(4, 10, 14),
+        Reply::of(1, 20),
+        Reply::of(2, 20),
+    ];
+    assert!(rt; meet_on_eight_paths(&rt, &replies, 13, 2)?);
     Ok(())
 }
 
@@ -164,7 +151,8 @@ fn one_of_two_paths_takes_it_alone(rt: HostRuntime) -> Result<(), Fail> {
     Ok(())
 }
 
-/// Eight paths with a contact each, of which the last is silent and leaves the table at its second failure.
+/// Eight paths with a contact each, of which the last is silent and leaves the table at its second
+/// failure.
 #[test]
 fn eight_paths_settle_at_once(rt: HostRuntime) -> Result<(), Fail> {
     let replies = [
@@ -197,16 +185,9 @@ fn eight_paths_settle_at_once(rt: HostRuntime) -> Result<(), Fail> {
 /// A receive that fails behind a round that settled at once.
 #[test]
 fn a_failing_receive_ends_it(rt: HostRuntime) -> Result<(), Fail> {
-    let first = Reply {
-        node: Some(3),
-        ..Reply::of(1, 10)
-    };
-    let second = Reply {
-        node: Some(4),
-        ..Reply::of(2, 10)
-    };
+    let replies = [Reply::naming(1, 10, 3), Reply::naming(2, 10, 4)];
     let hasher = RandomState::new(&rt)?;
-    let mut link = failing_link(rt.alloc(), &[first, second], &[], &[2])?;
+    let mut link = failing_link(rt.alloc(), &replies, &[], &[2])?;
     let (_table, result) = play(&rt, rt.alloc(), &[1, 2], 2, &mut link, &Sha1Check, hasher)?;
     assert!(rt; matches!(result, Err(LookFault::LinkFault)));
     Ok(())

@@ -4,12 +4,12 @@ ghost use Rattle.std.specs.List.{AllByRecursion};
 ghost use Rattle.kad_krpc.specs.Form.{Each, IsNode};
 ghost use Rattle.fake_net.specs.Scripts.{IsWritableEvent};
 
-use crate::tests::script::{answer, contact, link_over};
-use crate::tests::{lines, shows};
 use fake_net::Script;
 use kad_base::{Addr, Contact, Contacts, Id, Ip, List};
+use run_kit::shows;
 use std::alloc::Global;
 use std::test::Fail;
+use trial_kit::{answer, contact, lines, link_over};
 
 const WORDS: &[&str] = &[
     "lookup",

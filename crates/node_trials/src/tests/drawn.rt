@@ -5,16 +5,16 @@ ghost use Rattle.std.specs.List.{AllByRecursion};
 ghost use Rattle.kad_krpc.specs.Form.{Each, IsNode};
 ghost use Rattle.fake_net.specs.Scripts.{IsWritableEvent};
 
-use crate::tests::script::local;
-use crate::tests::shows;
 use fake_net::{Script, ScriptEvent, ScriptLink};
 use kad_base::{Addr, Bytes, Contact, Contacts, Id, List, Numbers};
 use kad_krpc::{Answer, Message};
+use run_kit::shows;
 use std::alloc::Global;
 use std::random::RandomSource;
 use std::sync::Wait;
 use std::test::Fail;
 use std::thread::Threads;
+use trial_kit::local;
 
 /// Targets, and their first eight bytes. The other twelve are zeros, those of the nodes too.
 const TARGETS: [(&str, u64); 3] = [

@@ -2,17 +2,14 @@
 //! byte does by a reader of bencode of its own, in another language.
 use crate::tests::paths::TWO_PATHS;
 use crate::tests::replies::A_USUAL_ANSWER;
-use crate::tests::script::{Reply, failing_link, link, link_with};
-use crate::tests::{
-    ANSWER_1, FOUND_1, FOUND_2, LINE_1, ONE_PATH, lines, naming_the_ninth, none, play, sent, shows,
-    status_of, words,
-};
-use kad_base::{BytesSink, BytesSource, List};
+use crate::tests::{ANSWER_1, FOUND_1, FOUND_2, ONE_PATH, naming_the_ninth};
+use run_kit::{play, shows};
 use std::alloc::Global;
 use std::random::RandomSource;
 use std::sync::Wait;
 use std::test::Fail;
 use std::thread::Threads;
+use trial_kit::{LINE_1, Reply, failing_link, lines, link, link_with, sent};
 
 const NOBODY: &str = "found 0 asked 1 failed 1 turned 0\n";
 
@@ -234,66 +231,6 @@ fn an_answer_after_its_deadline_is_none(rt: HostRuntime) -> Result<(), Fail> {
         let text = if at <= 2000 { FOUND_1 } else { NOBODY };
         let link = link(rt.alloc(), &[Reply::of(1, at)])?;
         shows(&rt, ONE_PATH, LINE_1, link, 0, text)?;
-    }
-    Ok(())
-}
-
-/// The source gives a byte a call, and this call fails.
-fn failing_source(alloc: Global, n: u64) -> Result<BytesSource, Fail> {
-    let input = List::from_slice(alloc, LINE_1.as_bytes())?;
-    Ok(BytesSource::new(input, 1, List::from_slice(alloc, &[n])?))
-}
-
-fn fails_to_read<R: AllocGlobal + RandomSource + Threads + Wait + Sync>(
-    rt: &R,
-    words: &[String],
-    n: u64,
-) -> Result<(), Fail> {
-    let mut source = failing_source(rt.alloc(), n)?;
-    let mut sink = BytesSink::new(4096, none(rt.alloc()), List::new(rt.alloc()));
-    let status = status_of(rt, words, &mut source, &mut sink)?;
-    if status != 6 || sink.written() != b"source fault\n".as_slice() {
-        return Err(Fail::new("a failed read shows otherwise"));
-    }
-    Ok(())
-}
-
-/// The last read finds the end.
-#[test]
-fn each_failed_read_ends_the_command(rt: HostRuntime) -> Result<(), Fail> {
-    let words = words(rt.alloc(), ONE_PATH)?;
-    for n in 0..=56 {
-        fails_to_read(&rt, &words, n)?;
-    }
-    Ok(())
-}
-
-/// The sink takes a byte a call, and this call fails.
-fn failing_sink(alloc: Global, n: u64) -> Result<BytesSink, Fail> {
-    Ok(BytesSink::new(1, List::from_slice(alloc, &[n])?, List::new(alloc)))
-}
-
-fn fails_to_write<R: AllocGlobal + RandomSource + Threads + Wait + Sync>(
-    rt: &R,
-    words: &[String],
-    n: u64,
-    wanted: &[u8],
-) -> Result<(), Fail> {
-    let mut source = failing_source(rt.alloc(), 1000)?;
-    let mut sink = failing_sink(rt.alloc(), n)?;
-    let status = status_of(rt, words, &mut source, &mut sink)?;
-    if status != 5 || sink.written() != wanted {
-        return Err(Fail::new("a failed write shows otherwise"));
-    }
-    Ok(())
-}
-
-#[test]
-fn each_failed_write_leaves_what_was_written_before(rt: HostRuntime) -> Result<(), Fail> {
-    let words = words(rt.alloc(), ONE_PATH)?;
-    let output = FOUND_1.as_bytes();
-    for n in 0..output.len() {
-        fails_to_write(&rt, &words, n as u64, &output[..n])?;
     }
     Ok(())
 }

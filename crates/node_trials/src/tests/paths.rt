@@ -1,10 +1,11 @@
 //! Lookups on one path and on two.
-use crate::tests::script::{Reply, link, link_with};
-use crate::tests::{FOUND_1, LINE_1, ONE_PATH, lines, shows};
+use crate::tests::{FOUND_1, ONE_PATH};
+use run_kit::shows;
 use std::random::RandomSource;
 use std::sync::Wait;
 use std::test::Fail;
 use std::thread::Threads;
+use trial_kit::{LINE_1, Reply, lines, link, link_with};
 
 /// A lookup of zeros by the node of ones, on two paths.
 pub(crate) const TWO_PATHS: &[&str] = &[

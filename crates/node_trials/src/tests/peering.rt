@@ -1,13 +1,13 @@
-//! Searches for peers over a scripted link: which peers are printed, and who is told of this node. The bytes of the answers
-//! and of the announcements were written by hand from BEP 5.
-use crate::tests::script::link_from;
-use crate::tests::{LINE_1, lines, play, sent, shows};
+//! Searches for peers over a scripted link: which peers are printed, and who is told of this node.
+//! The bytes of the answers and of the announcements were written by hand from BEP 5.
 use fake_net::ScriptLink;
+use run_kit::{play, shows};
 use std::alloc::Global;
 use std::random::RandomSource;
 use std::sync::Wait;
 use std::test::Fail;
 use std::thread::Threads;
+use trial_kit::{LINE_1, lines, link_from, sent};
 
 /// A search for peers of the key of zeros by the node of ones, on one path.
 const PEERS: &[&str] = &[
@@ -33,12 +33,13 @@ const ONE_FOUND: &[&str] = &["--announce", "6882", "--k", "1"];
 const THREE_PEERS: &str =
     "10.0.0.9:1\n127.0.0.1:80\n127.0.0.1:6881\npeers 3 found 2 asked 2 failed 0 turned 0 announced 2\n";
 
-/// Contact 1 answers the first query with the token `aoeusnth` and one peer, 127.0.0.1 and port 6881.
+/// Contact 1 answers the first query with the token `aoeusnth` and one peer, 127.0.0.1 and port
+/// 6881.
 const ONE_PEER: &[u8] =
     b"d1:rd2:id20:\0\0\0\0\0\0\0\0\0\0\0\0\0\0\0\0\0\0\0\x015:token8:aoeusnth6:valuesl6:\x7f\0\0\x01\x1a\xe1ee1:t4:\xa0\x8d\xed\x1a1:y1:re";
 
-/// Contact 2 answers the second query with another token and four peers: 127.0.0.1:6881, 10.0.0.9:1, 127.0.0.1:80 and the
-/// first again.
+/// Contact 2 answers the second query with another token and four peers: 127.0.0.1:6881,
+/// 10.0.0.9:1, 127.0.0.1:80 and the first again.
 const FOUR_PEERS: &[u8] =
     b"d1:rd2:id20:\0\0\0\0\0\0\0\0\0\0\0\0\0\0\0\0\0\0\0\x025:token3:abc6:valuesl6:\x7f\0\0\x01\x1a\xe16:\x0a\0\0\x09\0\x016:\x7f\0\0\x01\0\x506:\x7f\0\0\x01\x1a\xe1ee1:t4:\xa8\x36\xef\xcc1:y1:re";
 
@@ -53,6 +54,14 @@ const NAMING_1: &[u8] =
 /// Contact 1 answers the second query with a token.
 const SECOND_ANSWER: &[u8] =
     b"d1:rd2:id20:\0\0\0\0\0\0\0\0\0\0\0\0\0\0\0\0\0\0\0\x015:token8:aoeusnthe1:t4:\xa8\x36\xef\xcc1:y1:re";
+
+/// Contact 1 answers the second query with a token and one peer.
+const SECOND_PEER: &[u8] =
+    b"d1:rd2:id20:\0\0\0\0\0\0\0\0\0\0\0\0\0\0\0\0\0\0\0\x015:token8:aoeusnth6:valuesl6:\x7f\0\0\x01\x1a\xe1ee1:t4:\xa8\x36\xef\xcc1:y1:re";
+
+/// Contact 1 answers the first query in the name of identifier 7, with a token and one peer.
+const POSING: &[u8] =
+    b"d1:rd2:id20:\0\0\0\0\0\0\0\0\0\0\0\0\0\0\0\0\0\0\0\x075:token8:aoeusnth6:valuesl6:\x7f\0\0\x01\x1a\xe1ee1:t4:\xa0\x8d\xed\x1a1:y1:re";
 
 /// The query to contact 1, under the sixth word of the generator of 32 zero bytes.
 const QUERY: &[u8] =
@@ -82,7 +91,8 @@ fn search(alloc: Global, further: &[&'static str]) -> Result<Vec<&'static str>, 
     Ok(words)
 }
 
-/// The datagrams that the search with these further words sends over the link where it ends well with this text.
+/// The datagrams that the search with these further words sends over the link where it ends well
+/// with this text.
 fn sends<R: AllocGlobal + RandomSource + Threads + Wait + Sync>(
     rt: &R,
     further: &[&'static str],
@@ -148,8 +158,8 @@ fn a_refused_announcement_is_not_counted(rt: HostRuntime) -> Result<(), Fail> {
     Ok(())
 }
 
-/// Two contacts give the same peer, one of them twice and among others: each stands once, in the order of addresses, and
-/// both contacts are told, in the order of the result.
+/// Two contacts give the same peer, one of them twice and among others: each stands once, in the
+/// order of addresses, and both contacts are told, in the order of the result.
 #[test]
 fn peers_of_several_answers_stand_once_and_in_order(rt: HostRuntime) -> Result<(), Fail> {
     let input = lines(rt.alloc(), 1, 2)?;
@@ -166,7 +176,8 @@ fn peers_of_several_answers_stand_once_and_in_order(rt: HostRuntime) -> Result<(
     Ok(())
 }
 
-/// A peer with port 0 is a peer; members of another length, and a number, are passed over. No token, no announcement.
+/// A peer with port 0 is a peer; members of another length, and a number, are passed over. No
+/// token, no announcement.
 #[test]
 fn odd_peers_and_no_token(rt: HostRuntime) -> Result<(), Fail> {
     let link = link_from(rt.alloc(), &[(6001, ODD_PEERS)], &[], &[])?;
@@ -191,6 +202,81 @@ fn a_token_of_a_contact_that_is_not_found_is_not_used(rt: HostRuntime) -> Result
     assert_eq!(rt; sent.len(), 3);
     assert!(rt; is_at(&sent, 2, THIRD));
     Ok(())
+}
+
+/// What it gives isn't printed, and it is told of nobody.
+#[test]
+fn an_answer_in_another_name_gives_no_peers(rt: HostRuntime) -> Result<(), Fail> {
+    let link = link_from(rt.alloc(), &[(6001, POSING)], &[], &[])?;
+    let text = "peers 0 found 0 asked 1 failed 1 turned 0 announced 0\n";
+    let sent = sends(&rt, ANNOUNCE, LINE_1, link, text)?;
+    assert_eq!(rt; sent.len(), 1);
+    Ok(())
+}
+
+/// Contact 2 begins and names contact 1, whose peer is printed; both are told, contact 1 first.
+#[test]
+fn a_contact_learnt_on_the_way_gives_its_peers(rt: HostRuntime) -> Result<(), Fail> {
+    let input = lines(rt.alloc(), 2, 2)?;
+    let datagrams: [(u16, &[u8]); 2] = [(6002, NAMING_1), (6001, SECOND_PEER)];
+    let link = link_from(rt.alloc(), &datagrams, &[], &[])?;
+    let text = "127.0.0.1:6881\npeers 1 found 2 asked 2 failed 0 turned 0 announced 2\n";
+    let sent = sends(&rt, ANNOUNCE, input.as_str(), link, text)?;
+    assert_eq!(rt; sent.len(), 4);
+    assert!(rt; is_at(&sent, 2, THIRD));
+    assert!(rt; is_at(&sent, 3, FOURTH));
+    Ok(())
+}
+
+/// What stands before the values of an answer of contact n, and behind those of the answer to the
+/// first query and of that to the second.
+fn answer_head(n: u8) -> [u8; 41] {
+    let mut head = *b"d1:rd2:id20:\0\0\0\0\0\0\0\0\0\0\0\0\0\0\0\0\0\0\0\x016:valuesl";
+    head[31] = n;
+    head
+}
+
+const FIRST_END: &[u8] = b"ee1:t4:\xa0\x8d\xed\x1a1:y1:re";
+
+const SECOND_END: &[u8] = b"ee1:t4:\xa8\x36\xef\xcc1:y1:re";
+
+/// The answer of contact n with the peers 10.n.0.0 to 10.n.1.249, five hundred of them, at port
+/// 258.
+fn five_hundred(alloc: Global, n: u8, end: &[u8]) -> Result<Vec<u8>, Fail> {
+    let mut answer = answer_head(n).to_vec(alloc)?;
+    for third in 0..2 {
+        for fourth in 0..250 {
+            answer.extend_from_slice(&[b'6', b':', 10, n, third, fourth, 1, 2])?;
+        }
+    }
+    answer.extend_from_slice(end)?;
+    Ok(answer)
+}
+
+/// The lines of these peers.
+fn five_hundred_lines(alloc: Global, n: u8) -> Result<String, Fail> {
+    let mut text = String::new(alloc);
+    for third in 0..2 {
+        for fourth in 0..250 {
+            let line = format!(in alloc; "10.{n}.{third}.{fourth}:258\n")?;
+            text.push_str(line.as_str())?;
+        }
+    }
+    Ok(text)
+}
+
+#[test]
+fn a_thousand_peers_of_two_answers_are_printed(rt: HostRuntime) -> Result<(), Fail> {
+    let alloc = rt.alloc();
+    let input = lines(alloc, 1, 2)?;
+    let first = five_hundred(alloc, 1, FIRST_END)?;
+    let second = five_hundred(alloc, 2, SECOND_END)?;
+    let mut text = five_hundred_lines(alloc, 1)?;
+    text.push_str(five_hundred_lines(alloc, 2)?.as_str())?;
+    text.push_str("peers 1000 found 2 asked 2 failed 0 turned 0 announced 0\n")?;
+    let datagrams = [(6001, first.as_slice()), (6002, second.as_slice())];
+    let link = link_from(alloc, &datagrams, &[], &[])?;
+    shows(&rt, PEERS, input.as_str(), link, 0, text.as_str())
 }
 
 #[test]

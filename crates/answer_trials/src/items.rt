@@ -1,0 +1,159 @@
+//! Items at both ends of their times and of their number, with ample memory, and a key as BEP 44 has it.
+ghost use Rattle.std.specs.Prelude.{IfOk};
+ghost use Rattle.item_store.specs.Items.{IsItem};
+
+use item_store::{ItemCall, ItemFault, ItemReply, Items, item_key};
+use kad_base::{Bytes, Id, List, NoMemory, Serial};
+use peer_store::Stored;
+use std::alloc::Global;
+use std::test::Fail;
+
+const TWO_HOURS: u64 = 7_200_000;
+
+/// The written form of the byte string of the two bytes of a number.
+fn text(n: u16) -> [u8; 4] {
+    let [high, low] = n.to_be_bytes();
+    [b'2', b':', high, low]
+}
+
+/// That written form as an item.
+fn item(alloc: Global, high: u8, low: u8) -> Result<Bytes, NoMemory>
+    ensures { IfOk result IsItem }
+{
+    List::from_slice(alloc, &[b'2', b':', high, low])
+}
+
+/// Adds the item of a number at the moment.
+fn add(items: &mut Items, alloc: Global, n: u16, at: u64) -> Result<Stored, ItemFault> {
+    let [high, low] = n.to_be_bytes();
+    match item(alloc, high, low) {
+        Ok(v) => items.add(v, at),
+        Err(NoMemory) => Err(ItemFault::NoMemory),
+    }
+}
+
+/// Whether the item of a number is handed out at the moment.
+fn has(items: &Items, n: u16, at: u64) -> bool {
+    let text = text(n);
+    match items.get(&item_key(&text), at) {
+        Some(v) => v == text.as_slice(),
+        None => false,
+    }
+}
+
+#[test]
+fn keys_are_as_bep_44_has_them(rt: HostRuntime) {
+    assert_eq!(rt;
+        item_key(b"12:Hello World!"),
+        Id([
+            0xe5, 0xf9, 0x6f, 0x6f, 0x38, 0x32, 0x0f, 0x0f, 0x33, 0x95, 0x9c, 0xb4, 0xd3, 0xd6,
+            0x56, 0x45, 0x21, 0x17, 0xaa, 0xdb,
+        ])
+    );
+}
+
+#[test]
+fn an_item_is_handed_out_for_two_hours_after_its_last_add(rt: HostRuntime) -> Result<(), Fail> {
+    let alloc = rt.alloc();
+    let mut items = Items::new(alloc);
+    assert!(&rt; add(&mut items, alloc, 1, 0) == Ok(Stored::New));
+    assert!(&rt; has(&items, 1, TWO_HOURS - 1));
+    assert!(&rt; !has(&items, 1, TWO_HOURS));
+    assert!(&rt; add(&mut items, alloc, 1, 5) == Ok(Stored::Renewed));
+    assert!(&rt; has(&items, 1, TWO_HOURS + 4));
+    assert!(&rt; !has(&items, 1, TWO_HOURS + 5));
+    assert!(&rt; !has(&items, 2, 5));
+    Ok(())
+}
+
+#[test]
+fn an_earlier_add_counts_too(rt: HostRuntime) -> Result<(), Fail> {
+    let alloc = rt.alloc();
+    let mut items = Items::new(alloc);
+    assert!(&rt; add(&mut items, alloc, 1, 10) == Ok(Stored::New));
+    assert!(&rt; add(&mut items, alloc, 1, 0) == Ok(Stored::Renewed));
+    assert!(&rt; !has(&items, 1, TWO_HOURS));
+    Ok(())
+}
+
+#[test]
+fn a_purge_drops_what_is_two_hours_old(rt: HostRuntime) -> Result<(), Fail> {
+    let alloc = rt.alloc();
+    let mut items = Items::new(alloc);
+    add(&mut items, alloc, 1, 0)?;
+    add(&mut items, alloc, 2, 1)?;
+    items.purge(TWO_HOURS - 1);
+    assert!(&rt; has(&items, 1, 0));
+    items.purge(TWO_HOURS);
+    assert!(&rt; !has(&items, 1, 0));
+    assert!(&rt; has(&items, 2, 0));
+    Ok(())
+}
+
+#[test]
+fn an_add_after_the_moment_is_fresh(rt: HostRuntime) -> Result<(), Fail> {
+    let alloc = rt.alloc();
+    let mut items = Items::new(alloc);
+    add(&mut items, alloc, 1, u64::MAX)?;
+    items.purge(0);
+    assert!(&rt; has(&items, 1, 0));
+    assert!(&rt; has(&items, 1, u64::MAX));
+    Ok(())
+}
+
+/// Adds the items of the numbers below 4,096.
+fn fill(items: &mut Items, alloc: Global) -> Result<(), ItemFault> {
+    for n in 0..4_096 {
+        add(items, alloc, n, 0)?;
+    }
+    Ok(())
+}
+
+#[test]
+fn as_many_items_as_may_be(rt: HostRuntime) -> Result<(), Fail> {
+    let alloc = rt.alloc();
+    let mut items = Items::new(alloc);
+    fill(&mut items, alloc)?;
+    assert!(&rt; add(&mut items, alloc, 4_096, 0) == Err(ItemFault::Full));
+    assert!(&rt; add(&mut items, alloc, 7, 1) == Ok(Stored::Renewed));
+    items.purge(TWO_HOURS);
+    assert!(&rt; has(&items, 7, 0));
+    assert!(&rt; !has(&items, 8, 0));
+    assert!(&rt; add(&mut items, alloc, 4_096, TWO_HOURS) == Ok(Stored::New));
+    Ok(())
+}
+
+/// What may go to another thread.
+fn sent<T: Send>(value: T) -> T {
+    value
+}
+
+/// Adds the item of the number 1 at the moment 0 by a call of role 1.
+fn call_add(items: &mut Items, alloc: Global) -> ItemReply {
+    match item(alloc, 0, 1) {
+        Ok(v) => items.apply(1, ItemCall::Add { v, at: 0 }),
+        Err(NoMemory) => ItemReply::NoMemory,
+    }
+}
+
+/// Asks for that item by a call of role 2, and says whether it came.
+fn call_get(items: &mut Items, at: u64) -> bool {
+    let text = text(1);
+    let key = item_key(&text);
+    match items.apply(2, ItemCall::Get { key, at }) {
+        ItemReply::Found { v: Some(v) } => v.as_slice() == text.as_slice(),
+        _ => false,
+    }
+}
+
+#[test]
+fn calls_have_their_replies(rt: HostRuntime) {
+    let alloc = rt.alloc();
+    let mut items = sent(Items::new(alloc));
+    let stored = Stored::New;
+    assert!(&rt; call_add(&mut items, alloc) == ItemReply::Stored { stored });
+    assert!(&rt; call_get(&mut items, TWO_HOURS - 1));
+    assert!(&rt; !call_get(&mut items, TWO_HOURS));
+    assert!(&rt; items.apply(0, ItemCall::Purge { at: TWO_HOURS }) == ItemReply::Purged);
+    assert!(&rt; !call_get(&mut items, 0));
+}

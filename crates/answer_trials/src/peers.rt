@@ -1,0 +1,161 @@
+//! Announcements, and the peers that are named.
+use crate::replies::{NEXT_TOKEN, OWN, TOKEN, Text, ends, joined, node, pong, replies};
+use kad_base::{Addr, Ip, Policy};
+use node_serve::Node;
+use std::test::Fail;
+use trial_kit::local;
+
+const HALF_AN_HOUR: u64 = 1_800_000;
+
+const REFUSED: &[u8] = b"d1:eli203e9:Bad Tokene1:t2:aa1:y1:ee";
+
+/// Who announces a peer: its token, and what it says of its port.
+#[derive(Clone, Copy)]
+struct Words<'a> {
+    token: &'a [u8],
+    implied: &'a [u8],
+    port: &'a [u8],
+}
+
+/// The words that name the port 6881.
+fn given(token: &[u8]) -> Words<'_> {
+    Words {
+        token,
+        implied: b"",
+        port: b"4:porti6881e",
+    }
+}
+
+fn implied(token: &[u8]) -> Words<'_> {
+    Words {
+        token,
+        implied: b"12:implied_porti1e",
+        port: b"",
+    }
+}
+
+/// The read-only announcement under the key `mnopqrstuvwxyz123456`.
+fn announcement(words: Words) -> Text {
+    joined(&[
+        b"d1:ad2:id20:abcdefghij0123456789",
+        words.implied,
+        b"9:info_hash20:mnopqrstuvwxyz123456",
+        words.port,
+        b"5:token",
+    ])
+    .number(words.token.len())
+    .then(b":")
+    .then(words.token)
+    .then(b"e1:q13:announce_peer2:roi1e1:t2:aa1:y1:qe")
+}
+
+/// Whether the peer is held then.
+fn adds(node: &mut Node, from: Addr, words: Words, at: u64) -> bool {
+    let datagram = announcement(words);
+    replies(node, from, datagram.as_slice(), at, pong().as_slice())
+}
+
+/// Whether the token is refused.
+fn refuses(node: &mut Node, from: Addr, token: &[u8], at: u64) -> bool {
+    let datagram = announcement(given(token));
+    replies(node, from, datagram.as_slice(), at, REFUSED)
+}
+
+fn other(port: u16) -> Addr {
+    Addr {
+        ip: Ip::V4([127, 0, 0, 2]),
+        port,
+    }
+}
+
+#[test]
+fn takes_a_token_of_this_epoch_or_the_last(rt: HostRuntime) -> Result<(), Fail> {
+    let mut node = node(rt.alloc(), 8, Policy::Plain)?;
+    assert!(&rt; adds(&mut node, local(7000), given(&TOKEN), 0));
+    assert!(&rt; adds(&mut node, local(7000), given(&TOKEN), 299_999));
+    assert!(&rt; adds(&mut node, local(7000), given(&TOKEN), 599_999));
+    assert!(&rt; refuses(&mut node, local(7000), &TOKEN, 600_000));
+    assert!(&rt; refuses(&mut node, local(7000), &TOKEN, u64::MAX));
+    assert!(&rt; refuses(&mut node, local(7000), &NEXT_TOKEN, 299_999));
+    assert!(&rt; adds(&mut node, local(7000), given(&NEXT_TOKEN), 600_000));
+    Ok(())
+}
+
+#[test]
+fn takes_a_token_from_its_address_alone_and_whole(rt: HostRuntime) -> Result<(), Fail> {
+    let mut node = node(rt.alloc(), 8, Policy::Plain)?;
+    assert!(&rt; refuses(&mut node, other(7000), &TOKEN, 0));
+    assert!(&rt; refuses(&mut node, local(7000), &TOKEN[..7], 0));
+    assert!(&rt; refuses(&mut node, local(7000), b"", 0));
+    assert!(&rt; adds(&mut node, local(1), given(&TOKEN), 0));
+    Ok(())
+}
+
+/// A query for the peers under the key.
+const WANTED: &[u8] =
+    b"d1:ad2:id20:abcdefghij01234567899:info_hash20:mnopqrstuvwxyz123456e1:q9:get_peers2:roi1e1:t2:aa1:y1:qe";
+
+/// The reply to it in the first epoch, which ends so.
+fn given_peers(end: &[u8]) -> Text {
+    joined(&[b"d1:rd2:id20:", &OWN.0, b"5:nodes0:5:token8:", &TOKEN, end])
+}
+
+#[test]
+fn gives_a_token_and_the_peers_of_the_key(rt: HostRuntime) -> Result<(), Fail> {
+    let mut node = node(rt.alloc(), 8, Policy::Plain)?;
+    let none = given_peers(b"e1:t2:aa1:y1:re");
+    let two = given_peers(b"6:valuesl6:\x7f\0\0\x01\x1a\xe16:\x7f\0\0\x01\x1b\x58ee1:t2:aa1:y1:re");
+    let one = b"6:valuesl6:\x7f\0\0\x01\x1b\x58ee1:t2:aa1:y1:re";
+    assert!(&rt; replies(&mut node, local(9), WANTED, 299_999, none.as_slice()));
+    assert!(&rt; adds(&mut node, local(7000), implied(&TOKEN), 1));
+    assert!(&rt; adds(&mut node, local(7000), given(&TOKEN), 0));
+    assert!(&rt; replies(&mut node, local(9), WANTED, 5, two.as_slice()));
+    assert!(&rt; ends(&mut node, local(9), WANTED, HALF_AN_HOUR, 91, one));
+    assert!(&rt;
+        ends(
+            &mut node,
+            local(9),
+            WANTED,
+            HALF_AN_HOUR + 1,
+            73,
+            b"e1:t2:aa1:y1:re"
+        )
+    );
+    Ok(())
+}
+
+/// Adds the peers of 127.0.0.1 with the ports 1 to n, the last one first.
+pub fn add_ports(node: &mut Node, n: u16) -> bool {
+    for i in 0..n {
+        if !adds(node, local(n - i), implied(&TOKEN), 0) {
+            return false;
+        }
+    }
+    true
+}
+
+#[test]
+fn names_the_first_50_peers(rt: HostRuntime) -> Result<(), Fail> {
+    let mut node = node(rt.alloc(), 8, Policy::Plain)?;
+    assert!(&rt; add_ports(&mut node, 49));
+    let last = b"6:\x7f\0\0\x01\0\x31ee1:t2:aa1:y1:re";
+    assert!(&rt; ends(&mut node, local(9), WANTED, 0, 475, last));
+    assert!(&rt; add_ports(&mut node, 51));
+    let last = b"6:\x7f\0\0\x01\0\x32ee1:t2:aa1:y1:re";
+    assert!(&rt; ends(&mut node, local(9), WANTED, 0, 483, last));
+    Ok(())
+}
+
+#[test]
+fn refuses_a_peer_where_65536_are_held(rt: HostRuntime) -> Result<(), Fail> {
+    let mut node = node(rt.alloc(), 8, Policy::Plain)?;
+    let token = [15, 197, 79, 164, 210, 200, 79, 22];
+    let refused = b"d1:eli202e12:Server Errore1:t2:aa1:y1:ee";
+    let datagram = announcement(implied(&token));
+    assert!(&rt; add_ports(&mut node, 65_535));
+    assert!(&rt; adds(&mut node, other(1), implied(&token), 0));
+    assert!(&rt; replies(&mut node, other(2), datagram.as_slice(), 0, refused));
+    assert!(&rt; adds(&mut node, other(1), implied(&token), 0));
+    assert!(&rt; adds(&mut node, local(7), implied(&TOKEN), 0));
+    Ok(())
+}

@@ -1,0 +1,115 @@
+//! Nodes that keep proofs, and the greatest reply.
+ghost use Rattle.std.specs.Prelude.{◌≡◌};
+ghost use Rattle.std.specs.List.{All};
+ghost use Rattle.kad_base.specs.Puzzles.{Passes};
+ghost use Rattle.kad_base.specs.declared.types.Policy.TheVariants.{Puzzled};
+ghost use Rattle.answer_trials.specs.declared.replies.TheConstants.{OWN};
+
+use crate::peers::add_ports;
+use crate::replies::{OWN, ends, joined, random, replies};
+use contact_table::{Table, TableCall};
+use id_puzzles::{Minted, mint};
+use kad_base::{Contact, List, NoMemory, Policy, Report, Reports, Serial};
+use node_serve::Node;
+use std::alloc::Global;
+use std::test::Fail;
+use trial_kit::{contact, local};
+
+/// Tells the table that the contact was seen.
+fn tell(table: &mut Table, contact: Contact)
+    ensures { table.new.own ≡ table.old.own }
+{
+    let _reply = table.apply(0, TableCall::Seen { contact });
+}
+
+/// The contact of a minted identifier.
+fn known(minted: &Minted, n: u8) -> Contact
+    ensures { result.id ≡ minted.now.id }
+{
+    Contact {
+        id: minted.id,
+        addr: local(7000 + u16::from(n)),
+    }
+}
+
+/// Tells the table of a contact that was minted from 32 bytes n, and keeps its proof.
+fn keep(table: &mut Table, proofs: &mut Reports, n: u8) -> Result<(), NoMemory>
+    requires { All (Passes (Puzzled 0 0)) proofs.old }
+    ensures own { table.new.own ≡ table.old.own }
+    ensures passes { All (Passes (Puzzled 0 0)) proofs.new }
+{
+    let Ok(minted) = mint(&[n; 32], 0, 0, 1) else {
+        return Ok(());
+    };
+    let contact = known(&minted, n);
+    tell(table, contact);
+    proofs.push(Report {
+        contact,
+        proof: Some(minted.proof),
+    })
+}
+
+/// A node whose table was told of so many contacts without proofs, and of n whose proofs it keeps.
+fn proved_node(alloc: Global, bare: u8, n: u8) -> Result<Node, NoMemory> {
+    let mut table = Table::new(alloc, OWN, 20, 5)?;
+    let mut proofs = List::new(alloc);
+    for i in 0..bare {
+        tell(&mut table, contact(i));
+    }
+    for i in 0..n {
+        keep(&mut table, &mut proofs, i)?;
+    }
+    let policy = Policy::Puzzled { c1: 0, c2: 0 };
+    Ok(Node::new(alloc, OWN, 20, policy, table, proofs, &random(), 0))
+}
+
+/// The first minted identifier.
+fn first() -> Option<Minted> {
+    mint(&[0; 32], 0, 0, 1).ok()
+}
+
+/// Whether a query for the minted identifier is answered with it, its proof, and contact 0, which has none.
+fn names_both(node: &mut Node, one: &Minted) -> bool {
+    let find = joined(&[
+        b"d1:ad2:id20:abcdefghij01234567896:target20:",
+        &one.id.0,
+        b"e1:q9:find_node1:t2:aa1:y1:qe",
+    ]);
+    let found = joined(&[
+        b"d1:rd2:id20:",
+        &OWN.0,
+        b"5:nodes52:",
+        &one.id.0,
+        b"\x7f\0\0\x01\x1b\x58",
+        &contact(0).id.0,
+        b"\x7f\0\0\x01\x17\x70",
+        b"6:snodes78:",
+        &one.id.0,
+        &one.proof.key,
+        &one.proof.x,
+        b"\x7f\0\0\x01\x1b\x58e1:t2:aa1:y1:re",
+    ]);
+    replies(node, local(7000), find.as_slice(), 0, found.as_slice())
+}
+
+#[test]
+fn names_the_proofs_that_it_keeps(rt: HostRuntime) -> Result<(), Fail> {
+    let mut node = proved_node(rt.alloc(), 1, 1)?;
+    let named = match first() {
+        Some(one) => names_both(&mut node, &one),
+        None => false,
+    };
+    assert!(&rt; named);
+    Ok(())
+}
+
+#[test]
+fn writes_the_greatest_reply(rt: HostRuntime) -> Result<(), Fail> {
+    let mut node = proved_node(rt.alloc(), 0, 20)?;
+    let wanted =
+        b"d1:ad2:id20:abcdefghij01234567899:info_hash20:mnopqrstuvwxyz123456e1:q9:get_peers1:t32:012345678901234567890123456789011:y1:qe";
+    let last = b"6:\x7f\0\0\x01\0\x32ee1:t32:012345678901234567890123456789011:y1:re";
+    assert!(&rt; add_ports(&mut node, 51));
+    assert!(&rt; ends(&mut node, local(9), wanted, 0, 2609, last));
+    Ok(())
+}

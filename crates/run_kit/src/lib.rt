@@ -1,0 +1,94 @@
+//! How tests run whole commands over a scripted link, with random bytes of zeros. The program uses
+//! none of it.
+#![tactic(auto)]
+
+use fake_net::ScriptLink;
+use id_puzzles::Sha1Check;
+use kad_base::{BytesSink, Check, List, Numbers, SteadySource};
+use node_top::run;
+use std::alloc::{AllocError, Global};
+use std::hash::RandomState;
+use std::random::RandomSource;
+use std::sync::Wait;
+use std::test::Fail;
+use std::thread::Threads;
+
+/// What a command wrote, its status, and its link.
+#[derive(Drop)]
+pub struct Played {
+    pub status: u8,
+    pub text: String,
+    pub link: ScriptLink,
+}
+
+/// No call fails.
+pub fn none(alloc: Global) -> Numbers {
+    List::new(alloc)
+}
+
+/// The words of a command.
+pub fn words(alloc: Global, texts: &[&str]) -> Result<Vec<String>, AllocError> {
+    let mut words = Vec::new(alloc);
+    for text in texts {
+        words.push(String::from_str(alloc, text)?)?;
+    }
+    Ok(words)
+}
+
+/// Runs the command of these words over the link.
+pub fn play<R: AllocGlobal + RandomSource + Threads + Wait + Sync>(
+    rt: &R,
+    texts: &[&str],
+    input: &str,
+    link: ScriptLink,
+) -> Result<Played, Fail> {
+    play_with(rt, texts, input, link, &Sha1Check)
+}
+
+/// The same under a check of the test's own.
+pub fn play_with<R: AllocGlobal + RandomSource + Threads + Wait + Sync, C: Check + Sync>(
+    rt: &R,
+    texts: &[&str],
+    input: &str,
+    link: ScriptLink,
+    check: &C,
+) -> Result<Played, Fail> {
+    let alloc = rt.alloc();
+    let mut link = link;
+    let bytes = List::from_slice(alloc, input.as_bytes())?;
+    let mut source = SteadySource::new(bytes);
+    let mut sink = BytesSink::new(4096, none(alloc), List::new(alloc));
+    let words = words(alloc, texts)?;
+    let status = run(
+        rt,
+        alloc,
+        &words,
+        &mut source,
+        &mut link,
+        &mut sink,
+        &[0; 32],
+        check,
+        RandomState::new(rt)?,
+    );
+    let text = String::from_str(alloc, std::str::from_utf8(sink.written())?)?;
+    Ok(Played { status, text, link })
+}
+
+/// The command answers this status and writes this text.
+pub fn shows<R: AllocGlobal + RandomSource + Threads + Wait + Sync>(
+    rt: &R,
+    texts: &[&str],
+    input: &str,
+    link: ScriptLink,
+    status: u8,
+    text: &str,
+) -> Result<(), Fail> {
+    let played = play(rt, texts, input, link)?;
+    if played.status != status {
+        return Err(Fail::new("another status"));
+    }
+    if played.text.as_str() != text {
+        return Err(Fail::new("another text"));
+    }
+    Ok(())
+}

@@ -1,0 +1,15 @@
+//! Whole commands that serve, check, mint and simulate, and reads and writes that fail, as tests:
+//! by `run` and by `run_plain`. They stand apart from those of lookups, so that two processors
+//! prove them at once, and call what anybody may.
+#![tactic(auto)]
+
+#[cfg(test)]
+mod faults;
+#[cfg(test)]
+mod input;
+#[cfg(test)]
+mod plain;
+#[cfg(test)]
+mod serving;
+#[cfg(test)]
+mod simulated;

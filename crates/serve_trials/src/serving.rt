@@ -1,0 +1,171 @@
+//! Nodes that serve over a scripted link: what they answer, and how they end. The bytes were written by hand from BEP 5, and
+//! who asks has the identifier `abcdefghij0123456789` of its examples.
+use kad_base::{Event, List};
+use run_kit::{play, shows};
+use std::alloc::Global;
+use std::test::Fail;
+use trial_kit::{PROVED_LINES, link_from, local, sent, tells};
+
+/// The node of ones serves for two receive calls, and for nine.
+const TWO: &[&str] = &[
+    "serve",
+    "--receives",
+    "2",
+    "--own",
+    "ffffffffffffffffffffffffffffffffffffffff",
+];
+
+const NINE: &[&str] = &[
+    "serve",
+    "--receives",
+    "9",
+    "--own",
+    "ffffffffffffffffffffffffffffffffffffffff",
+];
+
+/// The same where puzzles are wanted, for one receive call.
+const PUZZLED: &[&str] = &[
+    "serve",
+    "--receives",
+    "1",
+    "--own",
+    "ffffffffffffffffffffffffffffffffffffffff",
+    "--c2",
+    "8",
+];
+
+const PING: &[u8] = b"d1:ad2:id20:abcdefghij0123456789e1:q4:ping1:t2:aa1:y1:qe";
+
+const PONG: &[u8] =
+    b"d1:rd2:id20:\xff\xff\xff\xff\xff\xff\xff\xff\xff\xff\xff\xff\xff\xff\xff\xff\xff\xff\xff\xffe1:t2:aa1:y1:re";
+
+/// A ping whose transaction id has 33 bytes.
+const LONG_TX: &[u8] =
+    b"d1:ad2:id20:abcdefghij0123456789e1:q4:ping1:t33:0123456789012345678901234567890121:y1:qe";
+
+/// The answer to a ping, which nobody asked for.
+const AN_ANSWER: &[u8] = b"d1:rd2:id20:mnopqrstuvwxyz123456e1:t2:aa1:y1:re";
+
+/// A query for the identifier of zeros.
+const FIND: &[u8] =
+    b"d1:ad2:id20:abcdefghij01234567896:target20:\0\0\0\0\0\0\0\0\0\0\0\0\0\0\0\0\0\0\0\0e1:q9:find_node1:t2:aa1:y1:qe";
+
+/// Its reply names both nodes of the input, nearest first, and then the proof of each.
+const FOUND: &[u8] =
+    b"d1:rd2:id20:\xff\xff\xff\xff\xff\xff\xff\xff\xff\xff\xff\xff\xff\xff\xff\xff\xff\xff\xff\xff5:nodes52:\xa3\xf8\xd0\x18\xd1\x5e\xae\x79\xbd\x51\x9f\xbe\xf9\x8c\x5e\x3c\xfb\x23\x36\x9e\x7f\0\0\x01\x17\x72\xf8\xb3\x6a\xfa\xa8\x2e\xfd\xb7\x23\x98\x84\xa0\x29\x6c\x9e\x20\x9d\xb1\xc4\xb0\x7f\0\0\x01\x17\x716:snodes156:\xa3\xf8\xd0\x18\xd1\x5e\xae\x79\xbd\x51\x9f\xbe\xf9\x8c\x5e\x3c\xfb\x23\x36\x9e\xf6\xa1\x2c\xa8\xff\xc3\x0a\x66\xca\x14\x0c\xcc\x72\x76\x33\x61\x15\x81\x93\x61\x18\x6d\x3f\x53\x5d\xd9\x9f\x8e\xaa\xca\x8f\xce\0\0\0\0\0\0\0\0\0\0\0\0\0\0\0\0\0\0\0\xc5\x7f\0\0\x01\x17\x72\xf8\xb3\x6a\xfa\xa8\x2e\xfd\xb7\x23\x98\x84\xa0\x29\x6c\x9e\x20\x9d\xb1\xc4\xb0\x02\x3f\x37\x20\x3a\x24\x76\xc4\x25\x66\xa6\x1c\xc5\x5c\x3c\xa8\x75\xdb\xb4\xcc\x41\xc0\xde\xb7\x89\xf8\xe7\xbf\x88\x18\x36\x38\0\0\0\0\0\0\0\0\0\0\0\0\0\0\0\0\0\0\0\x67\x7f\0\0\x01\x17\x71e1:t2:aa1:y1:re";
+
+/// It asks for the moment, waits for a minute, replies to the source, and waits for a minute from the last told moment.
+#[test]
+fn a_node_with_no_contacts_answers_a_ping(rt: HostRuntime) -> Result<(), Fail> {
+    let alloc = rt.alloc();
+    let link = link_from(alloc, &[(7000, PING)], &[], &[])?;
+    let played = play(&rt, TWO, "", link)?;
+    let events = [
+        Event::Now { at: 0 },
+        Event::Got {
+            from: local(7000),
+            bytes: List::from_slice(alloc, PING)?,
+            until: 60_000,
+            at: 10,
+        },
+        Event::Sent {
+            to: local(7000),
+            bytes: List::from_slice(alloc, PONG)?,
+        },
+        Event::Quiet {
+            until: 60_010,
+            at: 60_010,
+        },
+    ];
+    assert_eq!(rt; played.status, 0);
+    assert_eq!(rt; played.text.as_str(), "received 1 replied 1\n");
+    assert!(rt; tells(&played.link, &events));
+    Ok(())
+}
+
+/// A ping of 4,097 bytes; 4,096 lists one in another; a query from port 0; a transaction id of 33 bytes; an answer that
+/// nobody asked for; nothing at all; and 600 keys in falling order in a ping, which is answered.
+#[test]
+fn hostile_datagrams_are_passed_over(rt: HostRuntime) -> Result<(), Fail> {
+    let alloc = rt.alloc();
+    let long = padded(alloc)?;
+    let unsorted = falling(alloc)?;
+    let link = link_from(
+        alloc,
+        &[
+            (6001, long.as_slice()),
+            (6001, &[b'l'; 4096]),
+            (0, PING),
+            (6001, LONG_TX),
+            (6001, AN_ANSWER),
+            (6001, b""),
+            (6001, unsorted.as_slice()),
+        ],
+        &[],
+        &[],
+    )?;
+    shows(&rt, NINE, "", link, 0, "received 7 replied 1\n")
+}
+
+/// A ping that a key beside the others makes 4,097 bytes long.
+fn padded(alloc: Global) -> Result<Vec<u8>, Fail> {
+    let mut ping = Vec::new(alloc);
+    ping.extend_from_slice(b"d1:ad2:id20:abcdefghij0123456789e1:q4:ping1:t2:aa1:y1:q1:z4033:")?;
+    ping.extend_from_slice(&[b'.'; 4033])?;
+    ping.push(b'e')?;
+    Ok(ping)
+}
+
+/// A ping with 600 keys of two bytes more, in falling order, each with an empty string.
+fn falling(alloc: Global) -> Result<Vec<u8>, Fail> {
+    let mut ping = Vec::new(alloc);
+    ping.extend_from_slice(b"d1:ad2:id20:abcdefghij0123456789e1:q4:ping1:t2:aa1:y1:q")?;
+    for i in 0..600u16 {
+        let key = (0xffff - i).to_be_bytes();
+        ping.extend_from_slice(b"2:")?;
+        ping.extend_from_slice(&key)?;
+        ping.extend_from_slice(b"0:")?;
+    }
+    ping.push(b'e')?;
+    Ok(ping)
+}
+
+#[test]
+fn a_refused_reply_is_passed_over_and_not_counted(rt: HostRuntime) -> Result<(), Fail> {
+    let link = link_from(rt.alloc(), &[(6001, PING), (6001, PING)], &[0], &[])?;
+    let played = play(&rt, TWO, "", link)?;
+    let sent = sent(rt.alloc(), &played.link)?;
+    assert_eq!(rt; played.status, 0);
+    assert_eq!(rt; played.text.as_str(), "received 2 replied 1\n");
+    assert_eq!(rt; sent.len(), 1);
+    Ok(())
+}
+
+#[test]
+fn a_failed_receive_ends_the_service(rt: HostRuntime) -> Result<(), Fail> {
+    let link = link_from(rt.alloc(), &[(6001, PING), (6001, PING)], &[], &[1])?;
+    let played = play(&rt, NINE, "", link)?;
+    let sent = sent(rt.alloc(), &played.link)?;
+    assert_eq!(rt; played.status, 4);
+    assert_eq!(rt; played.text.as_str(), "link fault\n");
+    assert_eq!(rt; sent.len(), 1);
+    Ok(())
+}
+
+#[test]
+fn a_node_serves_no_bad_line(rt: HostRuntime) -> Result<(), Fail> {
+    let link = link_from(rt.alloc(), &[(6001, PING)], &[], &[])?;
+    shows(&rt, TWO, "#\nxyz\n", link, 3, "bad line 2\n")
+}
+
+#[test]
+fn the_proofs_of_the_input_come_back(rt: HostRuntime) -> Result<(), Fail> {
+    let alloc = rt.alloc();
+    let link = link_from(alloc, &[(7000, FIND)], &[], &[])?;
+    let played = play(&rt, PUZZLED, PROVED_LINES, link)?;
+    let sent = sent(alloc, &played.link)?;
+    assert_eq!(rt; played.text.as_str(), "received 1 replied 1\n");
+    assert_eq!(rt; sent.len(), 1);
+    assert_eq!(rt; sent[0].as_slice(), FOUND);
+    Ok(())
+}

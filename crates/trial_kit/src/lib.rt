@@ -1,0 +1,17 @@
+//! What tests of several crates share: contacts by their numbers, lines that name them, scripted
+//! links, and a check at which several contacts meet. The program uses none of it.
+#![tactic(auto)]
+
+mod contacts;
+mod input;
+mod meeting;
+mod script;
+mod told;
+
+pub use contacts::{at, contact, local, number, port};
+pub use input::{LINE_1, PROVED_LINES, lines};
+pub use meeting::Meeting;
+pub use script::{
+    Reply, answer, failing_link, link, link_from, link_over, link_with, with_replies,
+};
+pub use told::{sent, tells};
