@@ -4,7 +4,7 @@ use Rattle.kad_krpc.specs.declared.message.Message.TheVariants as message
 use Rattle.kad_krpc.specs.Form.{form}
 use Rattle.node_serve.specs.Sizes.{IsSmall}
 use Rattle.node_serve.proofs.Small.{answer_short, fault_short}
-use Rattle.node_serve.proofs.size_bound.fits.Goals as goal
+use Rattle.node_serve.proofs.size_bound.size_bound.Goals as goal
 
 pub returns-in-Answer : goal.returns-in-Answer
 returns-in-Answer c =
