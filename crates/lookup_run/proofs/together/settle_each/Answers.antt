@@ -13,8 +13,8 @@ returns-then-not-takes_long g c = c.settle_paths.ensures concurrent
 pub returns-then-not-has_several : goal.returns-then-not-has_several
 returns-then-not-has_several g c =
     let work = c.args.work in
-    let r = c.settle_paths-2.result in
-    subst (λ b. Settles concurrent c.args.look.now (record work { lookup = record { book = b; queries = work.lookup.queries } }) r.0 r.1) c.has_several.ensures.same (c.settle_paths-2.ensures concurrent)
+    let r = c.settle_paths-then-not-has_several.result in
+    subst (λ b. Settles concurrent c.args.look.now (record work { lookup = record { book = b; queries = work.lookup.queries } }) r.0 r.1) c.has_several.ensures.same (c.settle_paths-then-not-has_several.ensures concurrent)
 
 pub returns-in-Ok : goal.returns-in-Ok
 returns-in-Ok g c =
