@@ -21,8 +21,10 @@ pub fn one_answer()
 /// What the rules make of a datagram, from what the node holds, is what its calls make of it: those that it asks for, applied
 /// in order, and the reply that is computed from their replies alone.
 pub fn same_answer()
-    ensures by_calls { (s : NodeState) (from : Addr) (bytes : List ℕ) (at : ℕ) (m : Message) (x : NodeState)
+    ensures by_calls { (s : NodeState) (from : Addr) (bytes : List ℕ) (at : ℕ) (m : Message)
+        (x : NodeState)
         → AnswerOf s from bytes at m x → AnswerBy s from bytes at m x }
-    ensures by_rules { (s : NodeState) (from : Addr) (bytes : List ℕ) (at : ℕ) (m : Message) (x : NodeState)
+    ensures by_rules { (s : NodeState) (from : Addr) (bytes : List ℕ) (at : ℕ) (m : Message)
+        (x : NodeState)
         → AnswerBy s from bytes at m x → AnswerOf s from bytes at m x }
 {}
