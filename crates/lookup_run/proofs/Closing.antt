@@ -19,7 +19,7 @@ use Rattle.lookup_run.specs.declared.types.Outcome.{Outcome}
 use Rattle.lookup_run.specs.declared.types.LookupState.{LookupState}
 use Rattle.lookup_run.specs.Rounds.{Scheduling}
 use Rattle.lookup_run.specs.Lookup.{setting_of, table_calls, TableToldBy, TableRan, LooksUp}
-use Rattle.lookup_run.specs.RoundSteps.{IsOver, StopsRound, RoundEndsByStray, RoundFewStrays, IsClosed}
+use Rattle.lookup_run.specs.inner.RoundSteps.{IsOver, StopsRound, RoundEndsByStray, RoundFewStrays, IsClosed}
 use Rattle.lookup_run.proofs.Looking.{Opening, Ends, along_of, ends_of, never_began, looks_up, goes_by_rounds, gathered_all, none_gathered, table_told}
 
 pub on_ok_then : {T F X Y : Type 0} (r : Result T F) → OnOk r X → (X → Y) → OnOk r Y
@@ -52,7 +52,7 @@ pub record Went (scheduling : Scheduling) (look : LookSetting) (words words' : W
   pub over : OnOk ended (IsOver scheduling look words words' first work mid told')
   pub stops : OnErr ended (StopsRound scheduling look words words' first work mid told')
   pub strays : IsErrOf ended Strays → RoundEndsByStray scheduling look words first mid told'
-  pub few : IsErrOf ended LinkFault → RoundFewStrays scheduling look words first mid told'
+  pub few_strays : IsErrOf ended LinkFault → RoundFewStrays scheduling look words first mid told'
   pub link : IsErrOf ended LinkFault → Rose faults faults'
   pub recv_faults : faults ≤ faults'
 
@@ -73,8 +73,8 @@ looked_up scheduling look words words' table opened after book moment first work
       unfinished = closed_early ended r _ w.over w.stops (λ over. (ends over).left.unfinished) (λ stops. (stops words table told along).unfinished);
       table_left = closed_early ended r _ w.over w.stops (λ over. subst (TableRan table) (sym same) (ends over).left.ran) (λ stops. subst (TableRan table) (sym same) (stops words table told along).ran);
       strays = λ fail. w.strays (same_fault ended r Strays (λ e. absurd cc) fault fail) words table told along;
-      few = closed_well work ended r _ w.over done (λ over x d. (ends over).few);
-      few_at_fault = λ fail. w.few (same_fault ended r LinkFault (λ e. absurd cc) fault fail) words table told along;
+      few_strays = closed_well work ended r _ w.over done (λ over x d. (ends over).few);
+      few_strays_at_fault = λ fail. w.few_strays (same_fault ended r LinkFault (λ e. absurd cc) fault fail) words table told along;
       link = λ fail. rose_before faults since faults' rises (w.link (same_fault ended r LinkFault (λ e. absurd cc) fault fail));
       recv_faults = (let b = w.recv_faults in omega (arith, rises, b));
       kept = kept;
@@ -92,8 +92,8 @@ never_looked scheduling look words table after told faults was usable same = rec
   unfinished = never_began look table words told usable;
   table_left = record { run = []; is_run = tt; leaves = same };
   strays = λ e. absurd cc;
-  few = tt;
-  few_at_fault = λ e. absurd cc;
+  few_strays = tt;
+  few_strays_at_fault = λ e. absurd cc;
   link = λ e. absurd cc;
   recv_faults = omega arith;
   kept = refl;

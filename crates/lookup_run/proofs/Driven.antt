@@ -11,7 +11,7 @@ use Rattle.lookup_run.specs.declared.types.Gathered.{Gathered}
 use Rattle.lookup_core.specs.Matching.{query_of}
 use Rattle.lookup_run.specs.Tells.{is_driven, driven}
 use Rattle.lookup_core.specs.LookupSteps.{as_open}
-use Rattle.lookup_run.specs.RoundSteps.{KeepsFor}
+use Rattle.lookup_run.specs.inner.RoundSteps.{KeepsFor}
 
 pub driven_append : (J K : List Entry) → driven (J ++ K) ≡ driven J ++ driven K
 unfolding driven

@@ -22,8 +22,8 @@ use Rattle.lookup_run.specs.Rounds.{Scheduling}
 use Rattle.lookup_core.specs.declared.on_reply.Answered.{Answered}
 use Rattle.lookup_run.specs.Lookup.{setting_of, given_of, TellsEarly, Told, TableToldBy, TableRan, quest_of}
 use Rattle.lookup_core.specs.LookupSteps.{as_open}
-use Rattle.lookup_run.specs.DriverInvariant.{Walk, Shows}
-use Rattle.lookup_run.specs.RoundSteps.{Stops, EndsByStray}
+use Rattle.lookup_run.specs.inner.DriverInvariant.{Walk, Shows}
+use Rattle.lookup_run.specs.inner.RoundSteps.{Stops, EndsByStray}
 
 pub tells_of : (scheduling : Scheduling) (g : Given) (J P : List Entry) (s : Seen) (es : List Event) (t : Seen) (Q : List Entry) (heard : List Answered) → Walk scheduling g J P s es t Q heard → TellsFrom g J s es t
 tells_of scheduling g J P s [] t Q heard h = h.0

@@ -19,7 +19,7 @@ use Rattle.lookup_core.proofs.Expiring.{Expiring as ExpiringOne, lost_so_far, no
 use Rattle.lookup_run.specs.declared.types.LookupState.{LookupState}
 use Rattle.lookup_run.specs.Rounds.{sequential}
 use Rattle.lookup_run.specs.Lookup.{told_of, TableTold}
-use Rattle.lookup_run.specs.RoundSteps.{Expires}
+use Rattle.lookup_run.specs.inner.RoundSteps.{Expires}
 use Rattle.lookup_run.proofs.Walking.{table_then, table_same}
 
 some_reply : (c : Contact) (t : TableState) (r : TableReply) → TableStep t 0 (Failed c) r → r ≢ NoMemory

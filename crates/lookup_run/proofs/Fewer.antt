@@ -14,8 +14,8 @@ use Rattle.lookup_run.specs.declared.types.LookupState.{LookupState}
 use Rattle.lookup_run.specs.Tells.{Given, EndsAtStray, begun}
 use Rattle.lookup_run.specs.Rounds.{Scheduling}
 use Rattle.lookup_run.specs.Lookup.{given_of}
-use Rattle.lookup_run.specs.DriverInvariant.{Shows, TraceInvariant}
-use Rattle.lookup_run.specs.RoundSteps.{FewStrays}
+use Rattle.lookup_run.specs.inner.DriverInvariant.{Shows, TraceInvariant}
+use Rattle.lookup_run.specs.inner.RoundSteps.{FewStrays}
 use Rattle.lookup_run.proofs.Alike.{not_ended}
 use Rattle.lookup_run.proofs.Early.{tells_of}
 

@@ -50,8 +50,8 @@ use Rattle.lookup_core.specs.declared.on_reply.Answered.{Answered}
 use Rattle.lookup_run.specs.Gathered.{HearsFrom, IsEachOnce, GathersOf, Gathers}
 use Rattle.lookup_run.specs.Lookup.{setting_of, given_of, seeds_in, drawn_for, IsWithinLimits, told_of, table_calls, Finished, Unfinished, TableTold, TableToldBy}
 use Rattle.lookup_core.specs.LookupSteps.{as_open}
-use Rattle.lookup_run.specs.DriverInvariant.{Keeps, Walk, Keeping, TraceInvariant}
-use Rattle.lookup_run.specs.RoundSteps.{Begins, IsOver, IsDone, IsBookOf, asks_seeds, IsBegun, Ended}
+use Rattle.lookup_run.specs.inner.DriverInvariant.{Keeps, Walk, Keeping, TraceInvariant}
+use Rattle.lookup_run.specs.inner.RoundSteps.{Begins, IsOver, IsDone, IsBookOf, asks_seeds, IsBegun, Ended}
 use Rattle.lookup_run.proofs.Early.{so_far_of, ran_of}
 use Rattle.lookup_run.proofs.Fewer.{few_along}
 use Rattle.lookup_run.proofs.Walking.{told_in_any}

@@ -9,7 +9,7 @@ use Rattle.lookup_run.specs.declared.types.LookFault.TheVariants.{Strays}
 use Rattle.lookup_run.specs.declared.types.LookSetting.{LookSetting}
 use Rattle.lookup_run.specs.declared.types.LookupState.{LookupState}
 use Rattle.lookup_run.specs.Lookup.{quest_of}
-use Rattle.lookup_run.specs.RoundSteps.{TakesStray, TakesDatagram, IsLastStray}
+use Rattle.lookup_run.specs.inner.RoundSteps.{TakesStray, TakesDatagram, IsLastStray}
 
 -- a stray is one more, or the last
 pub takes_stray : {F : Type 0} (look : LookSetting) (from : Addr) (bytes : List ℕ) (old new : LookupState) (result : Result F LookFault) → RepliesToNone (quest_of look) from bytes old.lookup → OnOk result (TakesStray old.progress new.progress) → new.lookup ≡ old.lookup → new.table ≡ old.table → new.gathered ≡ old.gathered

@@ -37,9 +37,9 @@ use Rattle.lookup_run.specs.Gathered.{HeardIn, Hears}
 use Rattle.lookup_run.specs.Lookup.{setting_of, given_of, told_of, TableTold, quest_of}
 use Rattle.lookup_core.specs.Says.{IsReply}
 use Rattle.lookup_core.specs.LookupSteps.{as_open}
-use Rattle.lookup_run.specs.DriverInvariant.{IsBare, Keeps, max_asks, KeepsSeen}
+use Rattle.lookup_run.specs.inner.DriverInvariant.{IsBare, Keeps, max_asks, KeepsSeen}
 use Rattle.lookup_core.specs.LookupSteps.{query_to, RepliesToNone, HearsIn}
-use Rattle.lookup_run.specs.RoundSteps.{IsDue, WaitsFor, receives_kept, KeepsFor, Expires, IsStrayFor, IsMatchFor, TakesDatagram, MayReceive, ReceivesOne}
+use Rattle.lookup_run.specs.inner.RoundSteps.{IsDue, WaitsFor, receives_kept, KeepsFor, Expires, IsStrayFor, IsMatchFor, TakesDatagram, MayReceive, ReceivesOne}
 use Rattle.lookup_run.proofs.Walking.{OneEvent, NextStep, along_next, seeds_append}
 use Rattle.lookup_core.proofs.Opens.{opens_kept, each_asked}
 use Rattle.lookup_core.proofs.Lists.{in_cons, in_map, map_in, in_middle, all_in, none_in}

@@ -7,8 +7,8 @@ use Rattle.claim_book.specs.Journal.{asked}
 use Rattle.lookup_run.specs.declared.types.LookSetting.{LookSetting}
 use Rattle.lookup_run.specs.declared.types.LookupState.{LookupState}
 use Rattle.lookup_run.specs.Rounds.{Scheduling}
-use Rattle.lookup_run.specs.DriverInvariant.{max_asks, weight_of, PreservesBy}
-use Rattle.lookup_run.specs.RoundSteps.{Asks, ReceivesAll, SettlesPaths, Begins, HasReceived, RoundAlong, IsOver, Stops, StopsRound, EndsByStray, RoundEndsByStray, FewStrays, RoundFewStrays}
+use Rattle.lookup_run.specs.inner.DriverInvariant.{max_asks, weight_of, PreservesBy}
+use Rattle.lookup_run.specs.inner.RoundSteps.{Asks, ReceivesAll, SettlesPaths, Begins, HasReceived, RoundAlong, IsOver, Stops, StopsRound, EndsByStray, RoundEndsByStray, FewStrays, RoundFewStrays}
 
 pub round_over : (scheduling : Scheduling) (look : LookSetting) (words words' : WordsState) (old new : LookupState) (told told' : Option (List Event)) → Asks look 0 look.paths words words' old new told told' → new.lookup.queries ≡ [] → IsOver scheduling look words words' old new told told'
 round_over scheduling look words words' old new told told' a none = record {

@@ -24,8 +24,8 @@ use Rattle.lookup_run.specs.declared.types.LookSetting.{LookSetting}
 use Rattle.lookup_run.specs.declared.types.LookupState.{LookupState}
 use Rattle.lookup_run.specs.Rounds.{concurrent, path_number}
 use Rattle.lookup_run.specs.Lookup.{Told, told_in, told_of, told_by, TableRan}
-use Rattle.lookup_run.specs.DriverInvariant.{Keeps}
-use Rattle.lookup_run.specs.RoundSteps.{SettlesPaths}
+use Rattle.lookup_run.specs.inner.DriverInvariant.{Keeps}
+use Rattle.lookup_run.specs.inner.RoundSteps.{SettlesPaths}
 use Rattle.lookup_run.proofs.Quiet.{IsMute, quiet_entry, settles_mixed}
 use Rattle.lookup_run.proofs.Settled.{settles_more}
 

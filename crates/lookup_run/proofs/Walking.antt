@@ -29,8 +29,8 @@ use Rattle.lookup_run.specs.Rounds.{Scheduling, sequential, concurrent, path_num
 use Rattle.lookup_core.specs.declared.on_reply.Answered.{Answered}
 use Rattle.lookup_run.specs.Gathered.{Hears, values_of, token_of}
 use Rattle.lookup_run.specs.Lookup.{given_of, drawn_for, told_of, table_calls, told_in, told_by, Told, AreCalls, TableTold, TableToldBy}
-use Rattle.lookup_run.specs.DriverInvariant.{Step, Walk, KeepsSeen, Keeping, Shows, TraceInvariant, Preserves}
-use Rattle.lookup_run.specs.RoundSteps.{KeepsFor}
+use Rattle.lookup_run.specs.inner.DriverInvariant.{Step, Walk, KeepsSeen, Keeping, Shows, TraceInvariant, Preserves}
+use Rattle.lookup_run.specs.inner.RoundSteps.{KeepsFor}
 use Rattle.lookup_core.specs.Quest.{wants_peers}
 
 -- ---- a longer journal

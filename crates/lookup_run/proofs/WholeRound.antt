@@ -6,8 +6,8 @@ use Rattle.id_puzzles.specs.Drawn.{WordsState}
 use Rattle.claim_book.specs.Journal.{asked}
 use Rattle.lookup_run.specs.declared.types.LookSetting.{LookSetting}
 use Rattle.lookup_run.specs.declared.types.LookupState.{LookupState}
-use Rattle.lookup_run.specs.DriverInvariant.{Keeps, weight_of, Preserves}
-use Rattle.lookup_run.specs.RoundSteps.{ReceivesOne, Stops, EndsByStray, FewStrays}
+use Rattle.lookup_run.specs.inner.DriverInvariant.{Keeps, weight_of, Preserves}
+use Rattle.lookup_run.specs.inner.RoundSteps.{ReceivesOne, Stops, EndsByStray, FewStrays}
 
 -- one receive or more
 pub record Rounding (look : LookSetting) (old new : LookupState) (told told' : Option (List Event)) : Type 0 where

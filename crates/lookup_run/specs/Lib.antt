@@ -2,5 +2,4 @@ pub mod Tells
 pub mod Rounds
 pub mod Gathered
 pub mod Lookup
-pub mod DriverInvariant
-pub mod RoundSteps
+pub mod inner

@@ -161,8 +161,8 @@ pub record LooksUp {Kept : Type 0} (scheduling : Scheduling) (look : LookSetting
   pub unfinished : IfErr ended (λ fault. Unfinished look before words words' told told')
   pub table_left : IfErr ended (λ fault. TableRan before after)
   pub strays : IsErrOf ended Strays → Grows told told' (λ events. EndsAtStray (given_of look words) events max_strays)
-  pub few : IfOk ended (λ outcome. Grows told told' (λ events. ¬ EndsAtStray (given_of look words) events max_strays))
-  pub few_at_fault : IsErrOf ended LinkFault → Grows told told' (λ events. ¬ EndsAtStray (given_of look words) events max_strays)
+  pub few_strays : IfOk ended (λ outcome. Grows told told' (λ events. ¬ EndsAtStray (given_of look words) events max_strays))
+  pub few_strays_at_fault : IsErrOf ended LinkFault → Grows told told' (λ events. ¬ EndsAtStray (given_of look words) events max_strays)
   pub link : IsErrOf ended LinkFault → Rose faults faults'
   pub recv_faults : faults ≤ faults'
   pub kept : is ≡ was

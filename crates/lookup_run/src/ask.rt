@@ -2,8 +2,8 @@
 ghost use Rattle.std.specs.Prelude.{◌≡◌, ◌≤◌, ◌<◌, ◌+◌, true, false};
 ghost use Rattle.lookup_run.specs.Rounds.{AllSettled, NoneAsks};
 ghost use Rattle.lookup_run.specs.Lookup.{IsWithinLimits, setting_of};
-ghost use Rattle.lookup_run.specs.DriverInvariant.{Keeps, HasWords, weight_of};
-ghost use Rattle.lookup_run.specs.RoundSteps.{Asks, AsksNone, Begins};
+ghost use Rattle.lookup_run.specs.inner.DriverInvariant.{Keeps, HasWords, weight_of};
+ghost use Rattle.lookup_run.specs.inner.RoundSteps.{Asks, AsksNone, Begins};
 
 use crate::send::send_query;
 use crate::types::{LookSetting, LookupState};

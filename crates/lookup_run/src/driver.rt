@@ -9,7 +9,7 @@ ghost use Rattle.claim_book.specs.RunOut.{RunOut};
 ghost use Rattle.lookup_run.specs.Rounds.{concurrent, sequential};
 ghost use Rattle.lookup_run.specs.Gathered.{IsEachOnce};
 ghost use Rattle.lookup_run.specs.Lookup.{IsWithinLimits, seeds_in, TableTold, LooksUp};
-ghost use Rattle.lookup_run.specs.RoundSteps.{MaySettle, Settles, IsDone, IsClosed, IsBookOf, asks_seeds, IsBegun};
+ghost use Rattle.lookup_run.specs.inner.RoundSteps.{MaySettle, Settles, IsDone, IsClosed, IsBookOf, asks_seeds, IsBegun};
 
 use crate::gather::{in_order, nothing};
 use crate::on_reply::DRIVER;

@@ -4,7 +4,7 @@ ghost use Rattle.std.specs.Ordering.{is_eq};
 ghost use Rattle.std.specs.List.Sorted.{IsStrictlySortedBy};
 ghost use Rattle.lookup_core.specs.Quest.{wants_peers, part_of};
 ghost use Rattle.lookup_run.specs.Gathered.{tokens_in, IsEachOnce};
-ghost use Rattle.lookup_run.specs.RoundSteps.{KeepsAlso, KeepsFor};
+ghost use Rattle.lookup_run.specs.inner.RoundSteps.{KeepsAlso, KeepsFor};
 
 use crate::types::{Gathered, Token};
 use kad_base::{Addrs, Bytes, Contact, List, NoMemory};

@@ -3,7 +3,7 @@ ghost use Rattle.std.specs.Prelude.{◌∷◌, []};
 ghost use Rattle.contact_table.specs.declared.calls.TableCall.TheVariants.{Failed};
 ghost use Rattle.lookup_core.specs.LookupSteps.{Holds};
 ghost use Rattle.lookup_run.specs.Lookup.{TableTold};
-ghost use Rattle.lookup_run.specs.RoundSteps.{Expires};
+ghost use Rattle.lookup_run.specs.inner.RoundSteps.{Expires};
 
 use crate::types::LookupState;
 use contact_table::{Table, TableCall};

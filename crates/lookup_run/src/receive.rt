@@ -5,8 +5,8 @@ ghost use Rattle.kad_base.specs.Outside.{Rose};
 ghost use Rattle.id_puzzles.specs.Drawn.{WordsState};
 ghost use Rattle.lookup_core.specs.LookupSteps.{Holds};
 ghost use Rattle.lookup_run.specs.Lookup.{IsWithinLimits};
-ghost use Rattle.lookup_run.specs.DriverInvariant.{Keeps};
-ghost use Rattle.lookup_run.specs.RoundSteps.{WaitsFor, receives_kept, TakesStray, TakesDatagram, IsLastStray, MayReceive, ReceivesOne, ReceivesAll, Stops, EndsByStray, FewStrays};
+ghost use Rattle.lookup_run.specs.inner.DriverInvariant.{Keeps};
+ghost use Rattle.lookup_run.specs.inner.RoundSteps.{WaitsFor, receives_kept, TakesStray, TakesDatagram, IsLastStray, MayReceive, ReceivesOne, ReceivesAll, Stops, EndsByStray, FewStrays};
 
 use crate::gather::keep;
 use crate::on_reply::expire;
@@ -107,7 +107,7 @@ pub(crate) fn receive<L: Link>(
         → Stops look.now words words work.old work.new (L.told link.old) (L.told link.new)) }
     ensures strays { IsErrOf result LookFault.Strays → (words : WordsState)
         → EndsByStray look.now words work.old (L.told link.old) (L.told link.new) }
-    ensures few { IsErrOf result LookFault.LinkFault → (words : WordsState)
+    ensures few_strays { IsErrOf result LookFault.LinkFault → (words : WordsState)
         → FewStrays look.now words work.old (L.told link.old) (L.told link.new) }
     ensures link { IsErrOf result LookFault.LinkFault
         → Rose (L.recv_faults link.old) (L.recv_faults link.new) }
@@ -154,7 +154,7 @@ pub(crate) fn receive_round<L: Link>(
         → Stops look.now words words work.old work.new (L.told link.old) (L.told link.new)) }
     ensures strays { IsErrOf result LookFault.Strays → (words : WordsState)
         → EndsByStray look.now words work.old (L.told link.old) (L.told link.new) }
-    ensures few { IsErrOf result LookFault.LinkFault → (words : WordsState)
+    ensures few_strays { IsErrOf result LookFault.LinkFault → (words : WordsState)
         → FewStrays look.now words work.old (L.told link.old) (L.told link.new) }
     ensures link { IsErrOf result LookFault.LinkFault
         → Rose (L.recv_faults link.old) (L.recv_faults link.new) }

@@ -4,7 +4,7 @@ ghost use Rattle.kad_base.specs.Limits.{max_datagram};
 ghost use Rattle.kad_base.specs.Outside.{Rose};
 ghost use Rattle.lookup_run.specs.Lookup.{IsWithinLimits};
 ghost use Rattle.lookup_run.specs.Rounds.{Scheduling};
-ghost use Rattle.lookup_run.specs.RoundSteps.{MaySettle, Settles, Begins, HasReceived, IsOver, StopsRound, RoundEndsByStray, RoundFewStrays};
+ghost use Rattle.lookup_run.specs.inner.RoundSteps.{MaySettle, Settles, Begins, HasReceived, IsOver, StopsRound, RoundEndsByStray, RoundFewStrays};
 
 use crate::ask::ask_all;
 use crate::receive::receive_round;
@@ -40,7 +40,7 @@ fn ask_and_receive<L: Link>(
         (L.told link.new)) }
     ensures strays { (scheduling : Scheduling) → IsErrOf result LookFault.Strays
         → RoundEndsByStray scheduling look.now words.old work.old (L.told link.old) (L.told link.new) }
-    ensures few { (scheduling : Scheduling) → IsErrOf result LookFault.LinkFault
+    ensures few_strays { (scheduling : Scheduling) → IsErrOf result LookFault.LinkFault
         → RoundFewStrays scheduling look.now words.old work.old (L.told link.old) (L.told link.new) }
     ensures link { IsErrOf result LookFault.LinkFault
         → Rose (L.recv_faults link.old) (L.recv_faults link.new) }
@@ -82,7 +82,7 @@ pub(crate) fn go_rounds<
         (L.told link.old) (L.told link.new)) }
     ensures strays { IsErrOf result.1 LookFault.Strays
         → RoundEndsByStray O.scheduling look.now words.old work (L.told link.old) (L.told link.new) }
-    ensures few { IsErrOf result.1 LookFault.LinkFault
+    ensures few_strays { IsErrOf result.1 LookFault.LinkFault
         → RoundFewStrays O.scheduling look.now words.old work (L.told link.old) (L.told link.new) }
     ensures link { IsErrOf result.1 LookFault.LinkFault
         → Rose (L.recv_faults link.old) (L.recv_faults link.new) }

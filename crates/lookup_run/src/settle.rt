@@ -3,8 +3,8 @@ ghost use Rattle.std.specs.Prelude.{◌≡◌, ◌<◌, ◌+◌, List, Option, I
 ghost use Rattle.kad_base.specs.declared.types.Event.{Event};
 ghost use Rattle.lookup_run.specs.Rounds.{Scheduling, AllSettled, concurrent, sequential};
 ghost use Rattle.lookup_run.specs.Lookup.{IsWithinLimits, TableRan};
-ghost use Rattle.lookup_run.specs.DriverInvariant.{Keeps};
-ghost use Rattle.lookup_run.specs.RoundSteps.{MaySettle, SettlesPaths, Settles};
+ghost use Rattle.lookup_run.specs.inner.DriverInvariant.{Keeps};
+ghost use Rattle.lookup_run.specs.inner.RoundSteps.{MaySettle, SettlesPaths, Settles};
 
 use crate::types::{LookFault, LookSetting, LookupState};
 use kad_base::Check;

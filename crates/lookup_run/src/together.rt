@@ -3,7 +3,7 @@ ghost use Rattle.std.specs.Prelude.{◌≡◌, ◌≢◌, ◌≤◌, ◌<◌, []
 ghost use Rattle.kad_base.specs.Limits.{max_paths};
 ghost use Rattle.claim_book.specs.Journal.{unsettled};
 ghost use Rattle.lookup_run.specs.Rounds.{concurrent, HasSeveral};
-ghost use Rattle.lookup_run.specs.RoundSteps.{MaySettle, Settles};
+ghost use Rattle.lookup_run.specs.inner.RoundSteps.{MaySettle, Settles};
 
 use crate::settle::settle_paths;
 use crate::types::{LookFault, LookSetting, LookupState};

@@ -1,6 +1,6 @@
 use Rattle.std.proofs.Common.{◌≡◌, ◌≤◌}
-use Rattle.lookup_run.specs.RoundSteps.{Asks}
-use Rattle.lookup_run.specs.DriverInvariant.{weight_of}
+use Rattle.lookup_run.specs.inner.RoundSteps.{Asks}
+use Rattle.lookup_run.specs.inner.DriverInvariant.{weight_of}
 use Rattle.lookup_run.proofs.ask.ask_path.Given as goal
 
 abbrev pub invariant-asking : goal.invariant-asking

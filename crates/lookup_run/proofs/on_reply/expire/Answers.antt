@@ -1,7 +1,7 @@
 use Rattle.std.proofs.Common.{refl, sym, subst}
 use Rattle.lookup_core.specs.declared.state.Lookup.{Lookup}
 use Rattle.lookup_run.specs.declared.types.LookupState.{LookupState}
-use Rattle.lookup_run.specs.RoundSteps.{Expires}
+use Rattle.lookup_run.specs.inner.RoundSteps.{Expires}
 use Rattle.lookup_run.proofs.Expiring.{none_expired, oldest_expires, all_expired}
 use Rattle.lookup_run.proofs.on_reply.expire.Goals as goal
 

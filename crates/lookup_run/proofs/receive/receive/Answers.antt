@@ -61,5 +61,5 @@ returns-in-Err-clause-stops g c words =
     stops_of c.args.look.now words old old _ _ (subst (λ (s : Setting). Legal s old.lookup.book.journal) c.requires.may_receive.keeps.setting c.legal.ensures) refl
     (grows_weaker _ _ _ _ c.in-Err.ensures.err (λ es is. inl is))
 
-pub returns-in-Err-clause-few : goal.returns-in-Err-clause-few
-returns-in-Err-clause-few g c is words = few_still c.args.look.now words c.args.work.now _ _ c.requires.may_receive.keeps.few_strays c.in-Err.ensures.err
+pub returns-in-Err-clause-few_strays : goal.returns-in-Err-clause-few_strays
+returns-in-Err-clause-few_strays g c is words = few_still c.args.look.now words c.args.work.now _ _ c.requires.may_receive.keeps.few_strays c.in-Err.ensures.err

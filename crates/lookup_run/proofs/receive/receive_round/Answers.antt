@@ -24,11 +24,11 @@ returns-in_err-receive-2-clause-strays g c is =
     let out = err_from_is_err_and c.from_residual-in_err-receive-2.result c.from_residual-in_err-receive-2.ensures.1 in
     stray_after c.args.look.now c.args.work.now c.receiving.work _ _ _ c.receiving.invariant.so_far (f.ensures.strays (passed_on Strays c.from_residual-in_err-receive-2.result out.0 f.field-0.0 out.1 out.2 is))
 
-pub returns-in_err-receive-2-clause-few : goal.returns-in_err-receive-2-clause-few
-returns-in_err-receive-2-clause-few g c is =
+pub returns-in_err-receive-2-clause-few_strays : goal.returns-in_err-receive-2-clause-few_strays
+returns-in_err-receive-2-clause-few_strays g c is =
     let f = c.in_err-receive-2 in
     let out = err_from_is_err_and c.from_residual-in_err-receive-2.result c.from_residual-in_err-receive-2.ensures.1 in
-    few_after c.args.look.now c.args.work.now c.receiving.work _ _ _ c.receiving.invariant.so_far (f.ensures.few (passed_on LinkFault c.from_residual-in_err-receive-2.result out.0 f.field-0.0 out.1 out.2 is))
+    few_after c.args.look.now c.args.work.now c.receiving.work _ _ _ c.receiving.invariant.so_far (f.ensures.few_strays (passed_on LinkFault c.from_residual-in_err-receive-2.result out.0 f.field-0.0 out.1 out.2 is))
 
 pub returns-in_err-receive-clause-strays : goal.returns-in_err-receive-clause-strays
 returns-in_err-receive-clause-strays g c is =
@@ -36,8 +36,8 @@ returns-in_err-receive-clause-strays g c is =
     let out = err_from_is_err_and c.from_residual.result c.from_residual.ensures.1 in
     f.ensures.strays (passed_on Strays c.from_residual.result out.0 f.field-0.0 out.1 out.2 is)
 
-pub returns-in_err-receive-clause-few : goal.returns-in_err-receive-clause-few
-returns-in_err-receive-clause-few g c is =
+pub returns-in_err-receive-clause-few_strays : goal.returns-in_err-receive-clause-few_strays
+returns-in_err-receive-clause-few_strays g c is =
     let f = c.in_err-receive in
     let out = err_from_is_err_and c.from_residual.result c.from_residual.ensures.1 in
-    f.ensures.few (passed_on LinkFault c.from_residual.result out.0 f.field-0.0 out.1 out.2 is)
+    f.ensures.few_strays (passed_on LinkFault c.from_residual.result out.0 f.field-0.0 out.1 out.2 is)

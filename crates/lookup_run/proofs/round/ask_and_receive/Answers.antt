@@ -17,7 +17,7 @@ returns-in-Err-clause-strays g c scheduling is =
     let fault : c.in-Err.fault ≡ Strays = cc in
     strays_receiving scheduling c.args.look.now c.args.words.now c.ask_all.new.words c.args.work.now c.ask_all.new.work _ _ _ c.ask_all.ensures.asks (c.in-Err.ensures.strays (ap (λ x. Err x) fault) c.ask_all.new.words)
 
-pub returns-in-Err-clause-few : goal.returns-in-Err-clause-few
-returns-in-Err-clause-few g c scheduling is =
+pub returns-in-Err-clause-few_strays : goal.returns-in-Err-clause-few_strays
+returns-in-Err-clause-few_strays g c scheduling is =
     let fault : c.in-Err.fault ≡ LinkFault = cc in
-    few_receiving scheduling c.args.look.now c.args.words.now c.ask_all.new.words c.args.work.now c.ask_all.new.work _ _ _ c.ask_all.ensures.asks (c.in-Err.ensures.few (ap (λ x. Err x) fault) c.ask_all.new.words)
+    few_receiving scheduling c.args.look.now c.args.words.now c.ask_all.new.words c.args.work.now c.ask_all.new.work _ _ _ c.ask_all.ensures.asks (c.in-Err.ensures.few_strays (ap (λ x. Err x) fault) c.ask_all.new.words)

@@ -1,6 +1,6 @@
 use Rattle.std.proofs.Common.{◌≡◌, ◌∙◌, Err, None, refl, sym, arith, ap, rules}
 use Rattle.lookup_run.specs.declared.types.LookFault.TheVariants.{Strays, LinkFault}
-use Rattle.lookup_run.specs.RoundSteps.{MaySettle}
+use Rattle.lookup_run.specs.inner.RoundSteps.{MaySettle}
 use Rattle.lookup_run.proofs.Early.{on_ok, on_err}
 use Rattle.lookup_run.proofs.Rounding.{round_more, stops_settling_round, rounds_none, rounds_then, rounds_over, rounds_stop, rounds_stray, rounds_few}
 use Rattle.lookup_run.proofs.round.go_rounds.Goals as goal
@@ -51,10 +51,10 @@ returns-in-Err-clause-strays g c is =
     let fault : c.in-Err.fault ≡ Strays = cc in
     rounds_stray g.O.Schedule.scheduling c.args.look.now c.args.words.now c.rounds.words c.args.work c.rounds.work _ _ _ c.rounds.invariant.rounding (c.in-Err.ensures.strays g.O.Schedule.scheduling (ap (λ x. Err x) fault))
 
-pub returns-in-Err-clause-few : goal.returns-in-Err-clause-few
-returns-in-Err-clause-few g c is =
+pub returns-in-Err-clause-few_strays : goal.returns-in-Err-clause-few_strays
+returns-in-Err-clause-few_strays g c is =
     let fault : c.in-Err.fault ≡ LinkFault = cc in
-    rounds_few g.O.Schedule.scheduling c.args.look.now c.args.words.now c.rounds.words c.args.work c.rounds.work _ _ _ c.rounds.invariant.rounding (c.in-Err.ensures.few g.O.Schedule.scheduling (ap (λ x. Err x) fault))
+    rounds_few g.O.Schedule.scheduling c.args.look.now c.args.words.now c.rounds.words c.args.work c.rounds.work _ _ _ c.rounds.invariant.rounding (c.in-Err.ensures.few_strays g.O.Schedule.scheduling (ap (λ x. Err x) fault))
 
 pub returns-in-Err-settled-clause-stops : goal.returns-in-Err-settled-clause-stops
 returns-in-Err-settled-clause-stops g c =

@@ -1,7 +1,7 @@
 use Rattle.std.proofs.Common.{◌≡◌, ◌+◌, None, subst, ap, ◌∙◌, arith}
 use Rattle.claim_book.specs.Legal.{Legal}
 use Rattle.lookup_run.specs.Rounds.{sequential}
-use Rattle.lookup_run.specs.RoundSteps.{SettlesPaths}
+use Rattle.lookup_run.specs.inner.RoundSteps.{SettlesPaths}
 use Rattle.lookup_run.proofs.Settled.{settles_nothing, settles_then, stops_settling, ran_then}
 use Rattle.lookup_run.proofs.settle.settle_paths.Goals as goal
 

@@ -1,7 +1,7 @@
 use Rattle.std.specs.Prelude.{List, Option}
 use Rattle.kad_base.specs.declared.types.Event.{Event}
 use Rattle.lookup_run.specs.Rounds.{Scheduling}
-use Rattle.lookup_run.specs.RoundSteps.{SettlesPaths}
+use Rattle.lookup_run.specs.inner.RoundSteps.{SettlesPaths}
 use Rattle.lookup_run.proofs.settle.settle_paths.Given as goal
 
 abbrev pub invariant-loop-path : goal.invariant-loop-path

@@ -1,7 +1,7 @@
 use Rattle.std.proofs.Common.{refl, subst}
 use Rattle.claim_book.specs.Legal.{Legal}
 use Rattle.lookup_run.specs.Rounds.{concurrent}
-use Rattle.lookup_run.specs.RoundSteps.{Settles}
+use Rattle.lookup_run.specs.inner.RoundSteps.{Settles}
 use Rattle.lookup_run.proofs.Early.{ok_of, err_of}
 use Rattle.lookup_run.proofs.Settled.{stops_settling}
 use Rattle.lookup_run.proofs.Shuffled.{settles_together, ran_together}

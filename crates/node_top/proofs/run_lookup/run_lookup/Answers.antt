@@ -18,7 +18,7 @@ returns-in-Ok-clause-ok g c =
     let e = c.look_up-ended.ensures in
     reaches c.args.kind c.args.look.now c.args.call.now.random _ (shown g.L.Link.told g.L.Link.recv_faults c.args.link.now c.look_up-ended.new.link) c.setting_for-setting.result c.new-words.result c.look_up-ended.new.words c.in_ok-table.table o
     (has c.args.kind c.args.look.now c.args.call.now.random _ c.setting_for-setting.result c.new-words.result c.in_ok-table.table c.in_ok-contacts.contacts c.as_slice.result.now c.setting_for-setting.ensures c.new-words.ensures c.requires c.in_ok-contacts.ensures.ok c.in_ok-contacts.ensures.some_one c.as_slice.ensures c.in_ok-table.ensures)
-    (ok_at r o _ c.in-Ok.is e.lookup) (ok_at r o _ c.in-Ok.is e.rounds) (ok_at r o _ c.in-Ok.is e.gathered) (ok_at r o _ c.in-Ok.is e.few)
+    (ok_at r o _ c.in-Ok.is e.lookup) (ok_at r o _ c.in-Ok.is e.rounds) (ok_at r o _ c.in-Ok.is e.gathered) (ok_at r o _ c.in-Ok.is e.few_strays)
 
 pub returns-in-Err-LinkFault-clause-cause : goal.returns-in-Err-LinkFault-clause-cause
 returns-in-Err-LinkFault-clause-cause g c =
@@ -27,7 +27,7 @@ returns-in-Err-LinkFault-clause-cause g c =
       begun_from c.args.kind c.args.look.now c.args.call.now.random _ (shown g.L.Link.told g.L.Link.recv_faults c.args.link.now c.look_up-ended.new.link) c.setting_for-setting.result c.new-words.result c.look_up-ended.new.words c.in_ok-table.table
           (has c.args.kind c.args.look.now c.args.call.now.random _ c.setting_for-setting.result c.new-words.result c.in_ok-table.table c.in_ok-contacts.contacts c.as_slice.result.now c.setting_for-setting.ensures c.new-words.ensures c.requires c.in_ok-contacts.ensures.ok c.in_ok-contacts.ensures.some_one c.as_slice.ensures c.in_ok-table.ensures) (err_at c.look_up-ended.result.1 c.in-Err-LinkFault.field-0 _ c.in-Err-LinkFault.is c.look_up-ended.ensures.unfinished),
       few_from c.args.kind c.args.look.now c.args.call.now.random _ (shown g.L.Link.told g.L.Link.recv_faults c.args.link.now c.look_up-ended.new.link) c.setting_for-setting.result c.new-words.result c.in_ok-table.table
-          (has c.args.kind c.args.look.now c.args.call.now.random _ c.setting_for-setting.result c.new-words.result c.in_ok-table.table c.in_ok-contacts.contacts c.as_slice.result.now c.setting_for-setting.ensures c.new-words.ensures c.requires c.in_ok-contacts.ensures.ok c.in_ok-contacts.ensures.some_one c.as_slice.ensures c.in_ok-table.ensures) (c.look_up-ended.ensures.few_at_fault is),
+          (has c.args.kind c.args.look.now c.args.call.now.random _ c.setting_for-setting.result c.new-words.result c.in_ok-table.table c.in_ok-contacts.contacts c.as_slice.result.now c.setting_for-setting.ensures c.new-words.ensures c.requires c.in_ok-contacts.ensures.ok c.in_ok-contacts.ensures.some_one c.as_slice.ensures c.in_ok-table.ensures) (c.look_up-ended.ensures.few_strays_at_fault is),
     )
 
 pub returns-in-Err-Strays-clause-cause : goal.returns-in-Err-Strays-clause-cause

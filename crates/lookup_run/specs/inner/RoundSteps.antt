@@ -29,7 +29,7 @@ use Rattle.lookup_core.specs.declared.on_reply.Answered.{Answered}
 use Rattle.lookup_run.specs.Gathered.{values_of, token_of, IsEachOnce}
 use Rattle.lookup_run.specs.Lookup.{IsWithinLimits, setting_of, given_of, seeds_in, told_of, Unfinished, TableRan, TableTold, Told, quest_of}
 use Rattle.lookup_core.specs.LookupSteps.{as_open, LosesOverdue, IsMatch, RepliesToNone}
-use Rattle.lookup_run.specs.DriverInvariant.{Keeps, HasWords, weight_of, TraceInvariant, PreservesBy, Preserves}
+use Rattle.lookup_run.specs.inner.DriverInvariant.{Keeps, HasWords, weight_of, TraceInvariant, PreservesBy, Preserves}
 use Rattle.lookup_core.specs.Quest.{wants_peers}
 
 -- ---- asking

@@ -1,0 +1,3 @@
+-- What the steps of the driver owe and keep, which no promise of a lookup is made of.
+pub mod DriverInvariant
+pub mod RoundSteps
