@@ -188,9 +188,10 @@ pub fn look_up_alone<L: Link, C: Check>(
 
 /// Looks the target up from the k closest contacts of the table, and tells the table who answered and who didn't: asks,
 /// receives and settles in rounds until every path has run out. What a path asks comes from its own seeds and answers
-/// (S/Kademlia, section 4.4). Where the check says that it takes long, the paths settle at once in a round, each on a thread
-/// of its own, where more than one has something to settle; the caller does the work of those that no thread can be made
-/// for. Else they settle one after another: a thread costs more than two hashes. The table comes back on every answer. Strangers choose the contacts, so the hasher of the book's index is handed in; no answer depends on it.
+/// (S/Kademlia, section 4.4). Where the check says that it takes long, the paths settle at once in a round, each on a
+/// thread of its own, where more than one has something to settle; the caller does the work of those that no thread can be
+/// made for. Else they settle one after another: a thread costs more than two hashes. The table comes back on every answer.
+/// Strangers choose the contacts, so the hasher of the book's index is handed in; no answer depends on it.
 pub fn look_up<R: Threads + Wait + Sync, L: Link, C: Check + Sync>(
     rt: &R,
     alloc: Global,

@@ -20,8 +20,8 @@ use std::thread::Threads;
 
 /// Does the command that the words ask for, and answers the status that the program ends with. `words` are those after
 /// the program's name; `random` are 32 bytes that nobody else knows, from which the node's identifier (unless a word
-/// names it) and the transaction ids are drawn. `rt` is the runtime: `lookup` and `peers` settle what a round gave on
-/// several threads, which wait for each other in turn.
+/// names it) and the transaction ids are drawn. `rt` is the runtime: where the check says that it takes long, `lookup` and
+/// `peers` settle what a round gave on several threads, which wait for each other in turn.
 /// Strangers choose what the lookup keeps an index of, so its `hasher` is handed in; nothing that is written depends on it.
 ///
 /// Each command's module says what it writes, `status` with what number and line a command ends that writes no output, and
