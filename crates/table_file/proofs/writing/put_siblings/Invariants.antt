@@ -1,0 +1,7 @@
+use Rattle.std.proofs.Common.{◌≡◌, ◌++◌, map, take}
+use Rattle.table_file.specs.declared.line.Line.TheVariants as line
+use Rattle.table_file.specs.SavedText.{joined}
+use Rattle.table_file.proofs.writing.put_siblings.Given as goal
+
+abbrev pub invariant-loop-contact : goal.invariant-loop-contact
+invariant-loop-contact l = l.output ≡ l.initial.output ++ joined (map line.Sibling (take l.contact-index l.siblings))
