@@ -12,11 +12,10 @@ use kad_base::put_bytes;
 pub fn put_part(buf: &mut [u8], at: usize, part: &[u8]) -> usize
     ensures { Puts buf.old buf.new at part.now result }
 {
-    let next = at.saturating_add(part.len());
-    if next > buf.len() {
-        return next;
+    if at <= buf.len() && part.len() <= buf.len() - at {
+        return put_bytes(buf, at, part);
     }
-    put_bytes(buf, at, part)
+    at.saturating_add(part.len())
 }
 
 /// Puts the length and the colon of a string of that many bytes.

@@ -19,6 +19,10 @@ pub(crate) fn string_at(bytes: &[u8], at: usize) -> Result<(&[u8], usize), Bad>
     if has_six(bytes, at) {
         return Ok((&bytes[at + 2..at + 8], at + 8));
     }
+    match short_at(bytes, at) {
+        Some(short) => return Ok(short),
+        None => {}
+    }
     if has_byte(bytes, at, b'0') {
         if !has_byte(bytes, at + 1, b':') {
             return Err(Bad::NotBencode { at: at + 1 });
@@ -55,6 +59,28 @@ fn has_six(bytes: &[u8], at: usize) -> bool
         return false;
     }
     bytes[at + 1] == b':'
+}
+
+/// The string at a place and where it ends, if its length is of one digit, as that of most keys is, and not 0.
+#[inline(always)]
+fn short_at(bytes: &[u8], at: usize) -> Option<(&[u8], usize)>
+    requires { at ≤ length bytes.now }
+    ensures moves { IfSome result (λ x. (at < x.1) × (x.1 ≤ length bytes.now)) }
+    ensures reads { IfSome result (λ x. (p : Place) → AwaitsString bytes.now at p
+        → ReadsString bytes.now at p x.0.now x.1) }
+{
+    if bytes.len() - at < 2 {
+        return None;
+    }
+    if bytes[at] < b'1' || bytes[at] > b'9' || bytes[at + 1] != b':' {
+        return None;
+    }
+    let length = (bytes[at] - b'0') as usize;
+    if length > bytes.len() - (at + 2) {
+        return None;
+    }
+    let next = at + 2 + length;
+    Some((&bytes[at + 2..next], next))
 }
 
 /// The integer at a place, where its `i` stands, and where it ends.
@@ -148,6 +174,31 @@ pub(crate) fn has_byte(bytes: &[u8], at: usize, byte: u8) -> bool
     at < bytes.len() && bytes[at] == byte
 }
 
+/// Whether a digit stands at a place.
+fn has_digit(bytes: &[u8], at: usize) -> bool
+    requires { at < length bytes.now }
+    ensures least { IsTrue result → 48 ≤ get_or bytes.now at 0 }
+    ensures most { IsTrue result → get_or bytes.now at 0 ≤ 57 }
+{
+    bytes[at] >= b'0' && bytes[at] <= b'9'
+}
+
+/// Where a string ends, which is the next part of a value; it opens and closes nothing.
+fn string_part(bytes: &[u8], at: usize, depth: usize) -> Option<(usize, usize)>
+    requires within { at < length bytes.now }
+    requires depth { depth ≤ at }
+    ensures moves { IfSome result (λ x. (at < x.0) × (x.0 ≤ length bytes.now) × (x.1 ≤ x.0)) }
+    ensures reads { (t : Value) → Begins bytes.now t → IsAmid bytes.now t at depth
+        → (get_or bytes.now at 0 ≡ 105 → ⊥) → (get_or bytes.now at 0 ≡ 108 → ⊥)
+        → (get_or bytes.now at 0 ≡ 100 → ⊥) → (get_or bytes.now at 0 ≡ 101 → ⊥)
+        → MatchOption result ⊥ (λ x. IsBehind bytes.now t x.0 x.1) }
+{
+    match string_at(bytes, at) {
+        Ok((_, next)) => Some((next, depth)),
+        Err(_) => None,
+    }
+}
+
 /// The next part of a value: a string, an integer, or where a list or a dictionary opens or closes. It says where the part
 /// ends, and how many are open there.
 fn part_at(bytes: &[u8], at: usize, depth: usize) -> Option<(usize, usize)>
@@ -157,6 +208,9 @@ fn part_at(bytes: &[u8], at: usize, depth: usize) -> Option<(usize, usize)>
     ensures reads { (t : Value) → Begins bytes.now t → IsAmid bytes.now t at depth
         → MatchOption result ⊥ (λ x. IsBehind bytes.now t x.0 x.1) }
 {
+    if has_digit(bytes, at) {
+        return string_part(bytes, at, depth);
+    }
     if has_byte(bytes, at, b'l') {
         return Some((at + 1, depth + 1));
     }
@@ -175,10 +229,7 @@ fn part_at(bytes: &[u8], at: usize, depth: usize) -> Option<(usize, usize)>
             Err(_) => None,
         };
     }
-    match string_at(bytes, at) {
-        Ok((_, next)) => Some((next, depth)),
-        Err(_) => None,
-    }
+    string_part(bytes, at, depth)
 }
 
 /// Where the value at the front ends.

@@ -1,14 +1,14 @@
 -- The queries of a lookup, spelled out: an identifier has 20 bytes, and a transaction id four.
-use Rattle.std.proofs.Common.{◌≡◌, ℕ, true, List, [], ◌∷◌, ◌++◌, length, pos, ap, ◌∙◌, append-nil, append_assoc}
+use Rattle.std.proofs.Common.{◌≡◌, ℕ, ◌+◌, ◌<◌, true, List, [], ◌∷◌, ◌++◌, length, pos, ap, sym, ◌∙◌, append-nil, append_assoc}
 use Rattle.std.specs.Prelude.{codes}
 use Rattle.kad_base.specs.declared.types.Id.{Id}
 use Rattle.kad_bencode.specs.Spelling.{numeral, string_text, pairs_text, text_of}
 use Rattle.kad_bencode.specs.declared.value.Value.TheVariants.{Text, Dict}
+use Rattle.kad_bencode.proofs.Writing.{one_digit}
 use Rattle.kad_bencode.proofs.Folds.{text_of-int, text_of-text, text_of-dict}
 use Rattle.kad_krpc.specs.declared.message.Message.TheVariants as message
 use Rattle.kad_krpc.specs.declared.message.Ask.{Ask}
-use Rattle.kad_krpc.specs.declared.message.Ask.TheVariants.{FindNode, GetPeers}
-use Rattle.kad_krpc.specs.Form.{pair, arguments_of, name_of, message_pairs, form}
+use Rattle.kad_krpc.specs.Form.{pair, arguments_of, name_of, two_ids, message_pairs, form}
 
 -- ---- lists one behind another
 
@@ -18,14 +18,22 @@ two_joined k v l w e = simp (append_assoc, append-nil)
 five_joined : (j u k v l w m x n y e : List ℕ) → ((j ++ u) ++ ((k ++ v) ++ ((l ++ w) ++ ((m ++ x) ++ ((n ++ y) ++ []))))) ++ e ≡ j ++ (u ++ (k ++ (v ++ (l ++ (w ++ (m ++ (x ++ (n ++ (y ++ e)))))))))
 five_joined j u k v l w m x n y e = simp (append_assoc, append-nil)
 
-whole_joined : (a k b e m t z : List ℕ) → (a ++ (k ++ (b ++ e))) ++ (m ++ (t ++ z)) ≡ a ++ k ++ b ++ (e ++ m) ++ t ++ z
-whole_joined a k b e m t z = simp append_assoc
+whole_joined : (a k c b e m n r t z : List ℕ) → (a ++ (k ++ (c ++ (b ++ e)))) ++ (m ++ (n ++ (r ++ (t ++ z)))) ≡ a ++ k ++ c ++ b ++ (e ++ m) ++ n ++ r ++ t ++ z
+whole_joined a k c b e m n r t z = simp append_assoc
+
+-- two bytes in front of a text
+pub two_before : (a : List ℕ) (x y : ℕ) (text : List ℕ) → (a ++ x ∷ y ∷ []) ++ text ≡ a ++ x ∷ y ∷ text
+two_before a x y text = append_assoc a (x ∷ y ∷ []) text
 
 -- ---- texts
 
 -- a string of this many bytes
 pub text_long : (s : List ℕ) (n : ℕ) → length s ≡ n → text_of (Text s) ≡ numeral n ++ 58 ∷ s
 text_long s n e = text_of-text s ∙ ap (λ k. numeral k ++ 58 ∷ s) e
+
+-- a short name as a string
+pub name_text : (name : List ℕ) → length name < 10 → string_text name ≡ (48 + length name) ∷ 58 ∷ name
+name_text name short = ap (λ (l : List ℕ). l ++ 58 ∷ name) (sym (one_digit (length name) short))
 
 -- the arguments that are two identifiers
 ids_text : (id other : Id) (key : List ℕ) → length id.0 ≡ 20 → length other.0 ≡ 20
@@ -50,14 +58,12 @@ query_text tx args ask t a =
     ∷ []) ++ codes "e")
     ∙ ap (λ l. codes "d" ++ l) (five_joined (codes "1:a") args (codes "1:q") (string_text (name_of ask)) (codes "2:ro") (codes "i1e") (codes "1:t") (codes "4:" ++ tx) (codes "1:y") (codes "1:q") (codes "e"))
 
-pub find_node_text : (own target : Id) (tx : List ℕ) → length own.0 ≡ 20 → length target.0 ≡ 20 → length tx ≡ 4
-    → form (message.Query tx true (FindNode own target)) ≡ codes "d1:ad2:id20:" ++ own.0 ++ codes "6:target20:" ++ target.0 ++ codes "e1:q9:find_node2:roi1e1:t4:" ++ tx ++ codes "1:y1:qe"
-find_node_text own target tx a b t =
-    query_text tx _ (FindNode own target) t (ids_text own target (codes "target") a b)
-    ∙ ap (λ l. codes "d1:ad2:id20:" ++ l) (whole_joined own.0 (codes "6:target20:") target.0 (codes "e") (codes "1:q9:find_node2:roi1e1:t4:") tx (codes "1:y1:qe"))
-
-pub get_peers_text : (own info_hash : Id) (tx : List ℕ) → length own.0 ≡ 20 → length info_hash.0 ≡ 20 → length tx ≡ 4
-    → form (message.Query tx true (GetPeers own info_hash)) ≡ codes "d1:ad2:id20:" ++ own.0 ++ codes "9:info_hash20:" ++ info_hash.0 ++ codes "e1:q9:get_peers2:roi1e1:t4:" ++ tx ++ codes "1:y1:qe"
-get_peers_text own info_hash tx a b t =
-    query_text tx _ (GetPeers own info_hash) t (ids_text own info_hash (codes "info_hash") a b)
-    ∙ ap (λ l. codes "d1:ad2:id20:" ++ l) (whole_joined own.0 (codes "9:info_hash20:") info_hash.0 (codes "e") (codes "1:q9:get_peers2:roi1e1:t4:") tx (codes "1:y1:qe"))
+-- a read-only query whose arguments are two identifiers
+pub two_ids_query : (own other : Id) (key name tx : List ℕ) (ask : Ask) → length own.0 ≡ 20 → length other.0 ≡ 20 → length tx ≡ 4
+    → arguments_of ask ≡ two_ids own key other → name_of ask ≡ name
+    → form (message.Query tx true ask)
+        ≡ codes "d1:ad2:id20:" ++ own.0 ++ string_text key ++ codes "20:" ++ other.0 ++ codes "e1:q" ++ string_text name ++ codes "2:roi1e1:t4:" ++ tx ++ codes "1:y1:qe"
+two_ids_query own other key name tx ask a b t arguments named =
+    query_text tx _ ask t (ap (λ pairs. text_of (Dict pairs)) arguments ∙ ids_text own other key a b)
+    ∙ ap (λ l. codes "d1:ad2:id20:" ++ l) (whole_joined own.0 (string_text key) (codes "20:") other.0 (codes "e") (codes "1:q") (string_text (name_of ask)) (codes "2:roi1e1:t4:") tx (codes "1:y1:qe"))
+    ∙ ap (λ n. codes "d1:ad2:id20:" ++ own.0 ++ string_text key ++ codes "20:" ++ other.0 ++ codes "e1:q" ++ string_text n ++ codes "2:roi1e1:t4:" ++ tx ++ codes "1:y1:qe") named

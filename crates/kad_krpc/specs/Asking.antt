@@ -121,11 +121,15 @@ announced id info_hash Implied token =
     ++ pair (codes "port") (Int (pos 1))
     ++ pair (codes "token") (Text token)
 
+-- two identifiers, under `id` and a key after it
+abbrev pub two_ids : Id → List ℕ → Id → List (Pair Value)
+two_ids id key other = pair (codes "id") (Text id.0) ++ pair key (Text other.0)
+
 -- the arguments of a query; those of a method that isn't known are none
 abbrev pub arguments_of : Ask → List (Pair Value)
 arguments_of (Ping id) = pair (codes "id") (Text id.0)
-arguments_of (FindNode id target) = pair (codes "id") (Text id.0) ++ pair (codes "target") (Text target.0)
-arguments_of (GetPeers id info_hash) = pair (codes "id") (Text id.0) ++ pair (codes "info_hash") (Text info_hash.0)
+arguments_of (FindNode id target) = two_ids id (codes "target") target
+arguments_of (GetPeers id info_hash) = two_ids id (codes "info_hash") info_hash
 arguments_of (AnnouncePeer id info_hash port token) = announced id info_hash port token
 arguments_of (Other method) = []
 

@@ -12,7 +12,7 @@ use Rattle.kad_krpc.specs.declared.message.Ask.TheVariants.{FindNode, GetPeers}
 pub use Rattle.kad_records.specs.Records.{peers_value, IsV4, IsNode, HasProof, IsProved}
 pub use Rattle.kad_krpc.specs.Fields.{pair, maybe, Each}
 pub use Rattle.kad_krpc.specs.Answering.{nodes_value, snodes_value, answer_pairs, IsWritableAnswer}
-pub use Rattle.kad_krpc.specs.Asking.{announced, arguments_of, name_of, read_only_pair, IsGivenPort, IsUnknown, IsWritableAsk}
+pub use Rattle.kad_krpc.specs.Asking.{announced, arguments_of, two_ids, name_of, read_only_pair, IsGivenPort, IsUnknown, IsWritableAsk}
 
 -- the pairs of the message's dictionary
 abbrev pub message_pairs : Message → List (Pair Value)

@@ -1,12 +1,59 @@
 //! The queries of a lookup, written without memory.
-ghost use Rattle.std.specs.Prelude.{◌≡◌, ◌+◌, ◌≤◌, ◌++◌, codes, length, take};
+ghost use Rattle.std.specs.Prelude.{◌≡◌, ◌+◌, ◌≤◌, ◌++◌, true, codes, length, take};
 ghost use Rattle.kad_base.specs.Words.{word_bytes};
-ghost use Rattle.kad_krpc.specs.Form.{form, find_node_query, get_peers_query};
+ghost use Rattle.kad_bencode.specs.Spelling.{string_text};
+ghost use Rattle.kad_krpc.specs.Form.{form, arguments_of, name_of, two_ids, find_node_query, get_peers_query};
+ghost use Rattle.kad_krpc.specs.declared.message.Ask.{Ask};
+ghost use Rattle.kad_krpc.specs.declared.message.Message.TheVariants as Message;
 
 use kad_base::{Id, put_bytes};
 
-/// Writes a read-only query of two identifiers (BEP 5, BEP 43) in front of `buf`. `key` is the text between the two, and
-/// `method` the one behind them, up to the transaction id. The calls are inlined, since both are known there.
+/// Puts a name of fewer than ten bytes as a string: its length, a colon, and the name.
+#[inline(always)]
+fn put_name(buf: &mut [u8; 160], at: usize, name: &[u8]) -> usize
+    requires short { length name.now ≤ 9 }
+    requires room { at ≤ 140 }
+    ensures place { result ≡ at + length (string_text name.now) }
+    ensures length { length (string_text name.now) ≡ 2 + length name.now }
+    ensures text { take result buf.new ≡ take at buf.old ++ string_text name.now }
+{
+    let at = put_bytes(buf, at, &[b'0' + name.len() as u8, b':']);
+    put_bytes(buf, at, name)
+}
+
+/// Writes the text of a read-only query of two identifiers in front of `buf`.
+#[inline(always)]
+fn text_into(
+    buf: &mut [u8; 160],
+    own: &Id,
+    key: &[u8],
+    sought: &Id,
+    method: &[u8],
+    tx: u32,
+) -> usize
+    requires key { length key.now ≤ 9 }
+    requires method { length method.now ≤ 9 }
+    ensures own { length own.now.0 ≡ 20 }
+    ensures sought { length sought.now.0 ≡ 20 }
+    ensures length { result ≡ 86 + length key.now + length method.now }
+    ensures text { take result buf.new ≡ codes "d1:ad2:id20:" ++ own.now.0
+        ++ string_text key.now ++ codes "20:" ++ sought.now.0 ++ codes "e1:q"
+        ++ string_text method.now ++ codes "2:roi1e1:t4:" ++ word_bytes tx ++ codes "1:y1:qe" }
+{
+    let at = put_bytes(buf, 0, b"d1:ad2:id20:");
+    let at = put_bytes(buf, at, &own.0);
+    let at = put_name(buf, at, key);
+    let at = put_bytes(buf, at, b"20:");
+    let at = put_bytes(buf, at, &sought.0);
+    let at = put_bytes(buf, at, b"e1:q");
+    let at = put_name(buf, at, method);
+    let at = put_bytes(buf, at, b"2:roi1e1:t4:");
+    let at = put_bytes(buf, at, &tx.to_le_bytes());
+    put_bytes(buf, at, b"1:y1:qe")
+}
+
+/// Writes a read-only query (BEP 5, BEP 43) whose arguments are two identifiers, the second under `key`, in front of `buf`.
+/// The calls are inlined, since the names are known there.
 #[inline(always)]
 fn query_into(
     buf: &mut [u8; 160],
@@ -16,20 +63,14 @@ fn query_into(
     method: &[u8],
     tx: u32,
 ) -> usize
-    requires { length key.now + length method.now ≤ 90 }
-    ensures own { length own.now.0 ≡ 20 }
-    ensures sought { length sought.now.0 ≡ 20 }
-    ensures length { result ≡ 63 + length key.now + length method.now }
-    ensures text { take result buf.new ≡ codes "d1:ad2:id20:" ++ own.now.0 ++ key.now
-        ++ sought.now.0 ++ method.now ++ word_bytes tx ++ codes "1:y1:qe" }
+    requires key { length key.now ≤ 9 }
+    requires method { length method.now ≤ 9 }
+    ensures length { result ≡ 86 + length key.now + length method.now }
+    ensures form { (ask : Ask) → arguments_of ask ≡ two_ids own.now key.now sought.now
+        → name_of ask ≡ method.now
+        → take result buf.new ≡ form (Message.Query (word_bytes tx) true ask) }
 {
-    let at = put_bytes(buf, 0, b"d1:ad2:id20:");
-    let at = put_bytes(buf, at, &own.0);
-    let at = put_bytes(buf, at, key);
-    let at = put_bytes(buf, at, &sought.0);
-    let at = put_bytes(buf, at, method);
-    let at = put_bytes(buf, at, &tx.to_le_bytes());
-    put_bytes(buf, at, b"1:y1:qe")
+    text_into(buf, own, key, sought, method, tx)
 }
 
 /// Writes the read-only `find_node` query (BEP 5, BEP 43) in front of `buf`, and answers its length, which is 101
@@ -38,8 +79,7 @@ pub fn find_node_into(buf: &mut [u8; 160], own: &Id, target: &Id, tx: u32) -> us
     ensures length { result ≡ 101 }
     ensures form { take result buf.new ≡ form (find_node_query own.now target.now tx) }
 {
-    let method = b"e1:q9:find_node2:roi1e1:t4:";
-    query_into(buf, own, b"6:target20:", target, method, tx)
+    query_into(buf, own, b"target", target, b"find_node", tx)
 }
 
 /// Writes the read-only `get_peers` query (BEP 5, BEP 43) in front of `buf`, and answers its length, which is 104
@@ -48,6 +88,5 @@ pub fn get_peers_into(buf: &mut [u8; 160], own: &Id, info_hash: &Id, tx: u32) ->
     ensures length { result ≡ 104 }
     ensures form { take result buf.new ≡ form (get_peers_query own.now info_hash.now tx) }
 {
-    let method = b"e1:q9:get_peers2:roi1e1:t4:";
-    query_into(buf, own, b"9:info_hash20:", info_hash, method, tx)
+    query_into(buf, own, b"info_hash", info_hash, b"get_peers", tx)
 }

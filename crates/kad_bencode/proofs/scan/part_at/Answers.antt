@@ -1,5 +1,5 @@
-use Rattle.std.proofs.Common.{◌<◌, arith}
-use Rattle.kad_bencode.proofs.Skipping.{opens_list, opens_dictionary, closes, awaits_number, awaits_string, behind_filled, string_behind, no_inside}
+use Rattle.std.proofs.Common.{◌<◌, refl, arith}
+use Rattle.kad_bencode.proofs.Skipping.{opens_list, opens_dictionary, closes, awaits_number, behind_filled, no_inside}
 use Rattle.kad_bencode.specs.declared.value.Value.TheVariants as value
 use Rattle.kad_bencode.proofs.scan.part_at.Goals as goal
 
@@ -26,13 +26,12 @@ returns-in-Err-clause-reads c t b a =
     let w = awaits_number c.args.bytes.now t b c.args.at c.args.depth a c.if-has_byte-4.ensures in
     no_inside c.args.bytes.now t b _ (c.in-Err.ensures.reads w.0 w.2) c.in-Err.ensures.inside
 
-pub returns-in-Ok-string_at-clause-reads : goal.returns-in-Ok-string_at-clause-reads
-returns-in-Ok-string_at-clause-reads c t b a =
-    let w = awaits_string c.args.bytes.now t b c.args.at c.args.depth a c.if-has_byte-4.ensures c.if-has_byte.ensures c.if-has_byte-2.ensures c.if-has_byte-3.ensures in
-    let r = c.in-Ok-string_at.ensures.reads a.place w in
-    string_behind c.args.bytes.now t b c.args.at c.args.depth a a.place _ c.in-Ok-string_at.next a.open_ones r.within r.reached
+pub returns-then-has_digit-clause-reads : goal.returns-then-has_digit-clause-reads
+returns-then-has_digit-clause-reads c t b a =
+    let low = c.if-has_digit.ensures.least refl in
+    let high = c.if-has_digit.ensures.most refl in
+    c.string_part.ensures.reads t b a (λ e. omega (arith, low, high, e)) (λ e. omega (arith, low, high, e)) (λ e. omega (arith, low, high, e)) (λ e. omega (arith, low, high, e))
 
-pub returns-in-Err-string_at-clause-reads : goal.returns-in-Err-string_at-clause-reads
-returns-in-Err-string_at-clause-reads c t b a =
-    let w = awaits_string c.args.bytes.now t b c.args.at c.args.depth a c.if-has_byte-4.ensures c.if-has_byte.ensures c.if-has_byte-2.ensures c.if-has_byte-3.ensures in
-    no_inside c.args.bytes.now t b _ (c.in-Err-string_at.ensures.reads a.place w) c.in-Err-string_at.ensures.inside
+pub returns-clause-reads : goal.returns-clause-reads
+returns-clause-reads c t b a =
+    c.string_part-2.ensures.reads t b a (c.if-has_byte-4.ensures c.requires.within) (c.if-has_byte.ensures c.requires.within) (c.if-has_byte-2.ensures c.requires.within) (c.if-has_byte-3.ensures c.requires.within)
