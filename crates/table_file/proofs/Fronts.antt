@@ -16,20 +16,20 @@ use Rattle.table_file.proofs.Visible.{no_feed, text_shown}
 abbrev IsWhole : List ℕ → Type 0
 IsWhole text = All (λ c. c ≢ 10) text
 
-whole_text : (l : Line) → FitsLine l → IsWhole (text_of l)
+pub whole_text : (l : Line) → FitsLine l → IsWhole (text_of l)
 whole_text l fits = no_feed (text_of l) (text_shown l fits)
 
 shape : (t j r : List ℕ) → ((t ++ codes "\n") ++ j) ++ r ≡ t ++ (10 ∷ (j ++ r))
 shape t j r = append_assoc (t ++ codes "\n") j r ∙ append_assoc t (codes "\n") (j ++ r)
 
-fed_once : (t j : List ℕ) → (t ++ codes "\n") ++ j ≡ t ++ (10 ∷ j)
+pub fed_once : (t j : List ℕ) → (t ++ codes "\n") ++ j ≡ t ++ (10 ∷ j)
 fed_once t j = append_assoc t (codes "\n") j
 
-not_empty : (t z : List ℕ) → [] ≡ t ++ (10 ∷ z) → ⊥
+pub not_empty : (t z : List ℕ) → [] ≡ t ++ (10 ∷ z) → ⊥
 not_empty [] z e = cc e
 not_empty (c ∷ t) z e = cc e
 
-no_feeds : (x t z : List ℕ) → IsWhole x → x ≡ t ++ (10 ∷ z) → ⊥
+pub no_feeds : (x t z : List ℕ) → IsWhole x → x ≡ t ++ (10 ∷ z) → ⊥
 no_feeds x t z w e =
     let lt : length t < length x = rw (e, length-append) (omega arith) in
     let at : get_or x (length t) 0 ≡ 10 = rw e (get_or-append_seam t 10 z 0) in

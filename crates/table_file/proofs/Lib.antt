@@ -3,3 +3,10 @@ pub mod Visible
 pub mod Once
 pub mod Fronts
 pub mod SavedOnce
+pub mod Chain
+pub mod Drafting
+pub mod BadLine
+pub mod PartSpelling
+pub mod LineSpelling
+pub mod Failing
+pub mod Cutting

@@ -33,7 +33,7 @@ id_once a b ha hb e =
     let made : List ℕ → Id = λ bytes. record { 0 = bytes } in
     ap made (encode_lower-same a.0 b.0 ha.1 hb.1 e)
 
-take_pair : (n : ℕ) (x y p q : List ℕ) → length x ≡ length y → x ++ p ≡ y ++ q → (x ≡ y) × (p ≡ q)
+pub take_pair : (n : ℕ) (x y p q : List ℕ) → length x ≡ length y → x ++ p ≡ y ++ q → (x ≡ y) × (p ≡ q)
 take_pair n [] [] p q len e = (refl, e)
 take_pair n [] (d ∷ y) p q len e = absurd (omega arith)
 take_pair n (c ∷ x) [] p q len e = absurd (omega arith)
@@ -49,7 +49,7 @@ pair_bytes a b ha hb zero = ha
 pair_bytes a b ha hb (suc zero) = hb
 pair_bytes a b ha hb (suc (suc k)) = lit< tt
 
-pair_length : (a b : ℕ) → length (encode_lower (a ∷ b ∷ [])) ≡ 4
+pub pair_length : (a b : ℕ) → length (encode_lower (a ∷ b ∷ [])) ≡ 4
 unfolding encode_with
 pair_length a b = refl
 
@@ -184,7 +184,7 @@ same_kind line.End line.End = true
 same_kind a b = false
 
 -- the first two bytes of a line tell its kind
-abbrev kind : Line → ℕ
+abbrev pub kind : Line → ℕ
 kind (line.Table own k b) = 116 * 256 + 97
 kind (line.Row p) = 114 * 256 + 111
 kind (line.Live x) = 108 * 256 + 105
@@ -192,10 +192,10 @@ kind (line.Spare x) = 115 * 256 + 112
 kind (line.Sibling x) = 115 * 256 + 105
 kind line.End = 101 * 256 + 110
 
-abbrev mark : List ℕ → ℕ
+abbrev pub mark : List ℕ → ℕ
 mark text = get_or text 0 0 * 256 + get_or text 1 0
 
-kind_told : (l : Line) → mark (text_of l) ≡ kind l
+pub kind_told : (l : Line) → mark (text_of l) ≡ kind l
 unfolding text_of
 kind_told (line.Table own k b) = refl
 kind_told (line.Row p) = refl

@@ -1,1 +1,3 @@
 pub mod SavedText
+pub mod Reading
+pub mod Drafts

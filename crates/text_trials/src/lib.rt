@@ -2,4 +2,6 @@
 #![tactic(auto)]
 
 #[cfg(test)]
+mod read;
+#[cfg(test)]
 mod text;

@@ -1,0 +1,85 @@
+-- How a saved text is read back: what each line and its parts spell, and which line is bad.
+use Rattle.std.specs.Prelude.{◌≡◌, ◌≢◌, ℕ, ◌+◌, List, [], ◌∷◌, ◌++◌, length, flat_map, codes}
+use Rattle.std.specs.List.{All}
+use Rattle.std.specs.Str.{byte}
+use Rattle.hex.specs.Hex.{encode_lower, IsBytes}
+use Rattle.kad_base.specs.declared.types.Addr.{Addr}
+use Rattle.kad_base.specs.declared.types.Contact.{Contact}
+use Rattle.kad_base.specs.declared.types.Ip.{Ip}
+use Rattle.kad_base.specs.declared.types.Ip.TheVariants.{V4, V6}
+use Rattle.kad_words.specs.Text.{addr_text, groups_after}
+use Rattle.contact_table.specs.declared.saved.Saved.{Saved}
+use Rattle.table_file.specs.declared.line.Line.{Line}
+use Rattle.table_file.specs.SavedText.{FitsAddr, FitsContact, FitsLine, IsSavedText, contact_text, text_of}
+
+-- ---- which line is bad
+
+-- the text has no such byte
+abbrev pub Lacks : ℕ → List ℕ → Type 0
+Lacks byte text = All (λ b. b ≢ byte) text
+
+-- texts of lines, each with its line feed
+abbrev pub fed : List (List ℕ) → List ℕ
+fed lines = flat_map (λ line. line ++ codes "\n") lines
+
+-- some saved text begins with these lines
+abbrev pub IsBegun : List (List ℕ) → Type 0
+IsBegun lines = (saved : Saved) × (rest : List ℕ) × IsSavedText (fed lines ++ rest) saved
+
+-- the line of this number, counted from 1, is the bad one: some saved text begins with the lines before it, but none with it
+-- too. Where nothing but the front of a line is left, with no line feed, that is the line of this number
+pub record IsBadLine (bytes : List ℕ) (number : ℕ) : Type 0 where
+  pub before : List (List ℕ)
+  pub rest : List ℕ
+  pub split : bytes ≡ fed before ++ rest
+  pub lines : All (Lacks (byte "\n")) before
+  pub place : number ≡ length before + 1
+  pub begun : IsBegun before
+  pub bad : (line more : List ℕ) → Lacks (byte "\n") line → rest ≡ line ++ byte "\n" ∷ more → ¬ IsBegun (before ++ line ∷ [])
+  pub unread : (saved : Saved) → ¬ IsSavedText bytes saved
+
+-- ---- what a text spells
+
+-- where a text is first cut
+pub record IsCut (byte : ℕ) (text front back : List ℕ) : Type 0 where
+  pub lacks : Lacks byte front
+  pub split : text ≡ front ++ byte ∷ back
+
+-- the text is these bytes in lower-case hex
+pub record SpellsLower (size : ℕ) (text bytes : List ℕ) : Type 0 where
+  pub long : length bytes ≡ size
+  pub fit : IsBytes bytes
+  pub digits : text ≡ encode_lower bytes
+
+-- a group of IPv6 and what stands in front of it, and then a rest
+pub record SpellsGroup (lead : ℕ) (text bytes rest : List ℕ) : Type 0 where
+  pub long : length bytes ≡ 2
+  pub fit : IsBytes bytes
+  pub digits : text ≡ lead ∷ (encode_lower bytes ++ rest)
+
+-- the eight groups of an address of IPv6, and then a rest
+pub record SpellsGroups (text bytes rest : List ℕ) : Type 0 where
+  pub long : length bytes ≡ 16
+  pub fit : IsBytes bytes
+  pub digits : text ≡ groups_after (codes "[") bytes ++ rest
+
+pub record SpellsAddr (text : List ℕ) (addr : Addr) : Type 0 where
+  pub fits : FitsAddr addr
+  pub printed : text ≡ addr_text addr
+
+abbrev pub IsV4 : Ip → Type 0
+IsV4 (V4 bytes) = Unit {0}
+IsV4 (V6 bytes) = ⊥
+
+abbrev pub IsV6 : Ip → Type 0
+IsV6 (V4 bytes) = ⊥
+IsV6 (V6 bytes) = Unit {0}
+
+pub record SpellsContact (text : List ℕ) (contact : Contact) : Type 0 where
+  pub fits : FitsContact contact
+  pub printed : text ≡ contact_text contact
+
+-- the text is this line
+pub record Spells (text : List ℕ) (l : Line) : Type 0 where
+  pub fits : FitsLine l
+  pub printed : text ≡ text_of l
