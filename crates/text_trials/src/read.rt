@@ -6,14 +6,20 @@ use std::test::Fail;
 use table_file::{SaveFault, read, write};
 
 const TABLE: &[u8] = b"table ffffffffffffffffffffffffffffffffffffffff 8 1\n";
+
 const ROW: &[u8] = b"row -\n";
+
 const LIVE: &[u8] = b"live 0000000000000000000000000000000000000001 127.0.0.1:6001 0\n";
+
 const SPARE: &[u8] = b"spare 0000000000000000000000000000000000000002 127.0.0.1:6002\n";
+
 const SIBLING: &[u8] = b"sibling 0000000000000000000000000000000000000001 127.0.0.1:6001\n";
+
 const END: &[u8] = b"end\n";
 
 /// Its whole lines end behind 51, 57, 120, 184 and 188 bytes.
-const WHOLE: &[u8] = b"table ffffffffffffffffffffffffffffffffffffffff 8 1\nrow -\nlive 0000000000000000000000000000000000000001 127.0.0.1:6001 0\nsibling 0000000000000000000000000000000000000001 127.0.0.1:6001\nend\n";
+const WHOLE: &[u8] =
+    b"table ffffffffffffffffffffffffffffffffffffffff 8 1\nrow -\nlive 0000000000000000000000000000000000000001 127.0.0.1:6001 0\nsibling 0000000000000000000000000000000000000001 127.0.0.1:6001\nend\n";
 
 /// The line that is named, or 0 where the text is good. Texts are short.
 fn bad_line(alloc: Global, text: &[u8]) -> Result<u32, NoMemory> {
@@ -51,18 +57,18 @@ fn in_order(alloc: Global, one: &[u8], two: &[u8]) -> Result<u32, NoMemory> {
     in_a_row(alloc, both.as_slice())
 }
 
-/// How many whole lines stand in that many bytes of `WHOLE`.
-fn whole_lines(count: usize) -> u32 {
+/// The line that that many bytes of `WHOLE` lack: the one behind their whole lines.
+fn lacking(count: usize) -> u32 {
     if count < 51 {
-        return 0;
-    }
-    if count < 57 {
         return 1;
     }
-    if count < 120 {
+    if count < 57 {
         return 2;
     }
-    if count < 184 { 3 } else { 4 }
+    if count < 120 {
+        return 3;
+    }
+    if count < 184 { 4 } else { 5 }
 }
 
 #[test]
@@ -75,7 +81,7 @@ fn an_empty_text_lacks_its_first_line(rt: HostRuntime) -> Result<(), Fail> {
 #[test]
 fn a_text_that_was_cut_off_lacks_the_next_line(rt: HostRuntime) -> Result<(), Fail> {
     for count in 0..188 {
-        assert_eq!(rt; bad_line(rt.alloc(), &WHOLE[..count])?, whole_lines(count) + 1);
+        assert_eq!(rt; bad_line(rt.alloc(), &WHOLE[..count])?, lacking(count));
     }
     Ok(())
 }
@@ -159,8 +165,10 @@ fn a_prefix_is_a_dash_or_bits(rt: HostRuntime) -> Result<(), Fail> {
 /// 160 bits, and 161.
 #[test]
 fn a_prefix_has_at_most_160_bits(rt: HostRuntime) -> Result<(), Fail> {
-    let most = b"row 0000000000000000000000000000000000000000000000000000000000000000000000000000000000000000000000000000000000000000000000000000000000000000000000000000000000000001\n";
-    let more = b"row 00000000000000000000000000000000000000000000000000000000000000000000000000000000000000000000000000000000000000000000000000000000000000000000000000000000000000001\n";
+    let most =
+        b"row 0000000000000000000000000000000000000000000000000000000000000000000000000000000000000000000000000000000000000000000000000000000000000000000000000000000000000001\n";
+    let more =
+        b"row 00000000000000000000000000000000000000000000000000000000000000000000000000000000000000000000000000000000000000000000000000000000000000000000000000000000000000001\n";
     assert_eq!(rt; in_a_row(rt.alloc(), most)?, 0);
     assert_eq!(rt; in_a_row(rt.alloc(), more)?, 3);
     Ok(())
@@ -207,11 +215,13 @@ fn an_address_of_ipv4_has_all_its_parts(rt: HostRuntime) -> Result<(), Fail> {
 /// The address is of the network that RFC 3849 keeps for examples.
 #[test]
 fn an_address_of_ipv6_is_read_with_all_its_groups(rt: HostRuntime) -> Result<(), Fail> {
-    let all = b"spare 0000000000000000000000000000000000000001 [2001:0db8:0000:0000:0000:0000:0000:00ff]:6881\n";
+    let all =
+        b"spare 0000000000000000000000000000000000000001 [2001:0db8:0000:0000:0000:0000:0000:00ff]:6881\n";
     assert_eq!(rt; in_a_row(rt.alloc(), all)?, 0);
     let short = b"spare 0000000000000000000000000000000000000001 [2001:db8::ff]:6881\n";
     assert_eq!(rt; in_a_row(rt.alloc(), short)?, 3);
-    let upper = b"spare 0000000000000000000000000000000000000001 [2001:0db8:0000:0000:0000:0000:0000:00FF]:6881\n";
+    let upper =
+        b"spare 0000000000000000000000000000000000000001 [2001:0db8:0000:0000:0000:0000:0000:00FF]:6881\n";
     assert_eq!(rt; in_a_row(rt.alloc(), upper)?, 3);
     Ok(())
 }
@@ -228,7 +238,10 @@ fn what_is_read_is_written_as_it_was(rt: HostRuntime) -> Result<(), Fail> {
     let contacts = joined(rt.alloc(), LIVE, SPARE, SIBLING)?;
     let front = joined(rt.alloc(), TABLE, b"row 0\nrow 1\n", contacts.as_slice())?;
     let text = joined(rt.alloc(), front.as_slice(), END, b"")?;
-    assert_eq!(rt; again(rt.alloc(), text.as_slice())?.as_slice(), text.as_slice());
+    assert_eq!(rt;
+        again(rt.alloc(), text.as_slice())?.as_slice(),
+        text.as_slice()
+    );
     Ok(())
 }
 
