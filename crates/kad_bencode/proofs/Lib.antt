@@ -19,3 +19,5 @@ pub mod Listing
 pub mod Putting
 pub mod Paired
 pub mod Filing
+pub mod Parting
+pub mod Added

@@ -223,7 +223,7 @@ tree_pairs = by_value IsTreeOf
 fits_less : (v : Value) → Fits 1 v → Fits 0 v
 fits_less v f = record { depth = let d = f.depth in omega (arith, d); plain = f.plain }
 
-all_less : (vs : List Value) → AllByRecursion (Fits 1) vs → AllByRecursion (Fits 0) vs
+pub all_less : (vs : List Value) → AllByRecursion (Fits 1) vs → AllByRecursion (Fits 0) vs
 all_less [] a = tt
 all_less (v ∷ vs) a = (fits_less v a.0, all_less vs a.1)
 

@@ -16,13 +16,13 @@ use Rattle.kad_bencode.proofs.Places.{put_ascending, put_front, turned}
 -- ---- what holds of the values
 
 module _ {V : Type 0} (P : V → Type 0) where
-  values_put : (ps : List (Pair V)) (key : List ℕ) (v : V) → P v → AllByRecursion P (values_of ps) → AllByRecursion P (values_of (put ps key v))
+  pub values_put : (ps : List (Pair V)) (key : List ℕ) (v : V) → P v → AllByRecursion P (values_of ps) → AllByRecursion P (values_of (put ps key v))
   values_put [] key v h a = (h, tt)
   values_put (p ∷ ps) key v h a =
       elim (key_cmp key p.key) as (λ o. AllByRecursion P (values_of (match_ordering o (record { key = key; value = v } ∷ p ∷ ps) (record { key = key; value = v } ∷ ps) (p ∷ put ps key v))))
       [ Less ↦ (h, a) | Equal ↦ (h, a.1) | Greater ↦ (a.0, values_put ps key v h a.1) ]
 
-  values_put_all : (filed ps : List (Pair V)) → AllByRecursion P (values_of filed) → AllByRecursion P (values_of ps) → AllByRecursion P (values_of (put_all filed ps))
+  pub values_put_all : (filed ps : List (Pair V)) → AllByRecursion P (values_of filed) → AllByRecursion P (values_of ps) → AllByRecursion P (values_of (put_all filed ps))
   values_put_all filed [] f a = f
   values_put_all filed (p ∷ ps) f a = values_put_all (put filed p.key p.value) ps (values_put filed p.key p.value a.0 f) a.1
 
@@ -34,7 +34,7 @@ none_ascending : IsAscending {V = Value} []
 unfolding IsStrictlySortedBy
 none_ascending = tt
 
-ordered_ascending : (ps : List (Pair Value)) → IsAscending (put_all [] (ordered_pairs ps))
+pub ordered_ascending : (ps : List (Pair Value)) → IsAscending (put_all [] (ordered_pairs ps))
 ordered_ascending ps = ascending_put_all [] (ordered_pairs ps) none_ascending
 
 -- ---- ascending pairs
@@ -51,7 +51,7 @@ last_above (q ∷ qs) p ps h = (turned q.key p.key (among (λ k. key_cmp q.key k
 put_last : (filed : List (Pair Value)) (p : Pair Value) (ps : List (Pair Value)) → IsAscending (filed ++ p ∷ ps) → put filed p.key p.value ≡ filed ++ p ∷ []
 put_last filed p ps h = ap (λ l. put l p.key p.value) (sym (append-nil filed)) ∙ put_front Value filed [] p.key p.value (last_above filed p ps h)
 
-put_all_ascending : (filed ps : List (Pair Value)) → IsAscending (filed ++ ps) → put_all filed ps ≡ filed ++ ps
+pub put_all_ascending : (filed ps : List (Pair Value)) → IsAscending (filed ++ ps) → put_all filed ps ≡ filed ++ ps
 put_all_ascending filed [] h = sym (append-nil filed)
 put_all_ascending filed (p ∷ ps) h =
     ap (λ l. put_all l ps) (put_last filed p ps h)
@@ -65,7 +65,7 @@ none_below : (k : List ℕ) (ks : List (List ℕ)) → AllByRecursion (λ j. key
 none_below k [] h = refl
 none_below k (j ∷ ks) h = (λ i. less_not_equal k j h.0 i || none_below k ks h.1 i)
 
-once_ascending : (ks : List (List ℕ)) → IsStrictlySortedBy key_cmp ks → each_once ks ≡ true
+pub once_ascending : (ks : List (List ℕ)) → IsStrictlySortedBy key_cmp ks → each_once ks ≡ true
 unfolding IsStrictlySortedBy
 once_ascending [] h = refl
 once_ascending (k ∷ ks) h = (λ i. not (none_below k ks h.0 i) && once_ascending ks h.1 i)
@@ -114,7 +114,7 @@ all_to_true : (vs : List Value) → AllByRecursion (λ v. is_plain v ≡ true) v
 all_to_true [] h = refl
 all_to_true (v ∷ vs) h = and_both (is_plain v) (all_true (map is_plain vs)) h.0 (all_to_true vs h.1)
 
-ordered_same : (ps : List (Pair Value)) → AllByRecursion (λ v. in_order v ≡ v) (values_of ps) → ordered_pairs ps ≡ ps
+pub ordered_same : (ps : List (Pair Value)) → AllByRecursion (λ v. in_order v ≡ v) (values_of ps) → ordered_pairs ps ≡ ps
 ordered_same [] h = refl
 ordered_same (p ∷ ps) h = (λ i. record { key = p.key; value = h.0 i } ∷ ordered_same ps h.1 i)
 

@@ -8,4 +8,5 @@ pub mod Scanning
 pub mod Finding
 pub mod Filing
 pub mod Naming
+pub mod Placing
 pub mod formers

@@ -9,3 +9,4 @@ pub mod Spelled
 pub mod Queries
 pub mod Put
 pub mod Gathered
+pub mod Sealing

@@ -7,3 +7,4 @@ pub mod Form
 pub mod WellTyped
 pub mod Views
 pub mod Gathering
+pub mod Seal

@@ -1,3 +1,4 @@
 mod bencode;
 mod messages;
 mod seals;
+mod tagging;

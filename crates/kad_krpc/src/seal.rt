@@ -1,0 +1,148 @@
+//! Tags of messages. A tag stands at the top of a datagram, as a byte string under the key `sg`, which is this project's
+//! own; the key's place among the others is that of BEP 3. What is tagged is the written form of the datagram without that
+//! pair. Nothing here makes or judges a tag.
+ghost use Rattle.std.specs.Prelude.{◌≡◌, ◌<◌, ◌≤◌, ◌↔◌, ℕ, List, Some, codes, length, take, IfOk, IfSome, IsNone, MatchOption};
+ghost use Rattle.kad_bencode.specs.Keys.{value_of};
+ghost use Rattle.kad_bencode.specs.Spelling.{Fits, Spells, depth_of, text_of};
+ghost use Rattle.kad_bencode.specs.Written.{Puts};
+ghost use Rattle.kad_bencode.specs.declared.entries.Pair.{Pair};
+ghost use Rattle.kad_bencode.specs.declared.value.Value.{Value};
+ghost use Rattle.kad_bencode.specs.declared.value.Value.TheVariants as value;
+ghost use Rattle.kad_krpc.specs.declared.message.Message.{Message};
+ghost use Rattle.kad_krpc.specs.Form.{form, message_pairs};
+ghost use Rattle.kad_krpc.specs.WellTyped.{IsWell};
+ghost use Rattle.kad_krpc.specs.Seal.{HasNoTag, IsTagged, IsUntagged, body_of, tagged};
+
+use crate::fields::put_text;
+use kad_base::{Bytes, List, NoMemory};
+use kad_bencode::{BenFault, Entries, Value, place_for, put_part, read, write};
+use std::alloc::Global;
+
+/// A tagged datagram, taken apart.
+#[derive(Debug, Drop)]
+pub struct SealParts {
+    /// What is tagged.
+    pub body: Bytes,
+    /// The tag, of any length.
+    pub tag: Bytes,
+}
+
+/// The dictionary that the bytes spell, if they spell one.
+fn dictionary_of(alloc: Global, bytes: &[u8]) -> Result<Option<Entries>, NoMemory>
+    ensures { IfOk result (λ o. MatchOption o
+        ((pairs : List (Pair Value)) → Spells bytes.now (value.Dict pairs) → ⊥)
+        (λ pairs. Spells bytes.now (value.Dict pairs))) }
+{
+    match read(alloc, bytes) {
+        Ok(Value::Dict(entries)) => Ok(Some(entries)),
+        Ok(Value::Int(_)) => Ok(None),
+        Ok(Value::Text(_)) => Ok(None),
+        Ok(Value::List(_)) => Ok(None),
+        Err(BenFault::Bad(_)) => Ok(None),
+        Err(BenFault::NoMemory) => Err(NoMemory),
+    }
+}
+
+/// The written form of a dictionary.
+fn written(alloc: Global, entries: Entries) -> Result<Bytes, NoMemory>
+    requires { depth_of (value.Dict entries) ≤ 16 }
+    ensures { IfOk result (λ bytes. bytes ≡ text_of (value.Dict entries)) }
+{
+    let mut text = Vec::new(alloc);
+    write(&Value::Dict(entries), &mut text)?;
+    Ok(List::from_vec(text))
+}
+
+/// The tag of a dictionary, and the dictionary's text without it.
+fn parts_of(alloc: Global, entries: Entries) -> Result<Option<SealParts>, NoMemory>
+    requires { Fits 0 (value.Dict entries) }
+    ensures { IfOk result (λ o. MatchOption o
+        ((tag : List ℕ) → value_of entries (codes "sg") ≡ Some (value.Text tag) → ⊥)
+        (λ parts. (value_of entries (codes "sg") ≡ Some (value.Text parts.tag))
+        × (parts.body ≡ body_of entries))) }
+{
+    let mut others = entries;
+    match others.remove(b"sg") {
+        Some(Value::Text(tag)) => {
+            let body = written(alloc, others)?;
+            Ok(Some(SealParts { body, tag }))
+        }
+        Some(Value::Int(_)) => Ok(None),
+        Some(Value::List(_)) => Ok(None),
+        Some(Value::Dict(_)) => Ok(None),
+        None => Ok(None),
+    }
+}
+
+/// Takes a datagram of any length apart. `None` where it spells no dictionary, or the dictionary has no `sg`, or that is no
+/// byte string. The keys of the datagram may stand in any order, so its body is written again. The memory taken is in
+/// proportion to the datagram.
+pub fn seal_parts(alloc: Global, bytes: &[u8]) -> Result<Option<SealParts>, NoMemory>
+    ensures { IfOk result (λ o. MatchOption o (HasNoTag bytes.now)
+        (λ parts. IsTagged bytes.now parts.body parts.tag)) }
+{
+    let dictionary = dictionary_of(alloc, bytes)?;
+    match dictionary {
+        Some(entries) => parts_of(alloc, entries),
+        None => Ok(None),
+    }
+}
+
+/// Puts the text of a dictionary with the pair of a tag.
+fn put_tagged(buf: &mut [u8], bytes: &[u8], tag: &[u8]) -> usize
+    ensures { (pairs : List (Pair Value)) → IsUntagged bytes.now pairs
+        → Puts buf.old buf.new 0 (tagged pairs tag.now) result }
+{
+    let place = place_for(bytes, b"sg");
+    let at = put_part(buf, 0, &bytes[..place]);
+    let at = put_text(buf, at, b"sg", tag);
+    put_part(buf, at, &bytes[place..])
+}
+
+/// The written form with the pair of a tag, in memory of its own.
+pub fn with_tag(alloc: Global, bytes: &[u8], tag: &[u8]) -> Result<Bytes, NoMemory>
+    requires { (pairs : List (Pair Value)) × IsUntagged bytes.now pairs }
+    ensures { IfOk result (λ text. (pairs : List (Pair Value)) → IsUntagged bytes.now pairs
+        → text ≡ tagged pairs tag.now) }
+{
+    let mut nowhere = [0u8; 0];
+    let length = put_tagged(&mut nowhere, bytes, tag);
+    if length == usize::MAX {
+        return Err(NoMemory);
+    }
+    let mut text = vec![in alloc; 0u8; length]?;
+    let _end = put_tagged(text.as_mut_slice(), bytes, tag);
+    Ok(List::from_vec(text))
+}
+
+/// Puts the pair of a tag into the written form that the first `len` bytes of `buf` are, and answers its new length;
+/// `None` where it is longer than `buf`, whose bytes are then any. Takes no memory.
+pub fn tag_into(buf: &mut [u8; 4096], len: usize, tag: &[u8]) -> Option<usize>
+    requires within { len ≤ 4096 }
+    requires written { (pairs : List (Pair Value)) × IsUntagged (take len buf.old) pairs }
+    ensures none { (pairs : List (Pair Value)) → IsUntagged (take len buf.old) pairs
+        → (IsNone result ↔ 4096 < length (tagged pairs tag.now)) }
+    ensures within { IfSome result (λ n. n ≤ 4096) }
+    ensures length { IfSome result (λ n. (pairs : List (Pair Value))
+        → IsUntagged (take len buf.old) pairs → n ≡ length (tagged pairs tag.now)) }
+    ensures text { IfSome result (λ n. (pairs : List (Pair Value))
+        → IsUntagged (take len buf.old) pairs → take n buf.new ≡ tagged pairs tag.now) }
+{
+    let untagged = *buf;
+    let end = put_tagged(buf, &untagged[..len], tag);
+    if end > 4096 {
+        return None;
+    }
+    Some(end)
+}
+
+/// The written form of a message has no tag. The call does nothing.
+pub fn form_is_untagged()
+    ensures { (m : Message) → IsWell m → IsUntagged (form m) (message_pairs m) }
+{}
+
+/// What was tagged is taken apart again, into itself and its tag. The call does nothing.
+pub fn tag_comes_off()
+    ensures { (bytes tag : List ℕ) (pairs : List (Pair Value)) → IsUntagged bytes pairs
+        → IsTagged (tagged pairs tag) bytes tag }
+{}
