@@ -1,5 +1,5 @@
 //! The last adds in order of their pairs.
-ghost use Rattle.std.specs.Prelude.{◌≡◌, ◌↔◌, ◌-◌, ◌<◌, ◌≤◌, ◌+◌, IsTrue, OnOk, OnErr, IfOk, length, take};
+ghost use Rattle.std.specs.Prelude.{◌≡◌, ◌↔◌, ◌⊎◌, ◌-◌, ◌<◌, ◌≤◌, ◌+◌, [], Contains, IsTrue, OnOk, OnErr, IfOk, length, take};
 ghost use Rattle.std.specs.List.{All};
 ghost use Rattle.std.specs.List.Sorted.{IsStrictlySortedBy};
 ghost use Rattle.std.specs.BTreeMap.{values};
@@ -78,7 +78,9 @@ pub(crate) fn drop_old(adds: &mut Adds, at: u64)
 
 /// The earliest last add, or the greatest number where nothing is held. Goes over all that is held.
 pub(crate) fn oldest(adds: &Adds) -> u64
-    ensures { All (λ last. result ≤ last) (values adds.now) }
+    ensures least { All (λ last. result ≤ last) (values adds.now) }
+    ensures held { Contains (values adds.now) result ⊎ (values adds.now ≡ []) }
+    ensures none { values adds.now ≡ [] → result ≡ 18446744073709551615 }
 {
     adds.values().copied().min().unwrap_or(u64::MAX)
 }

@@ -1,2 +1,3 @@
 pub mod Endpoint
 pub mod LinkState
+pub mod Waking

@@ -1,6 +1,8 @@
 //! The link: its socket, its moment and its faults.
-ghost use Rattle.std.specs.Prelude.{◌≡◌, ◌≤◌, ◌^◌, ◌<◌, length, None, IfOk, IfSome};
+ghost use Rattle.std.specs.Prelude.{◌≡◌, ◌↔◌, ◌≤◌, ◌^◌, ◌<◌, length, None, IfOk, IfSome, IsTrue};
+ghost use Rattle.std.specs.IoError.{error_kind};
 ghost use Rattle.kad_base.specs.Outside.{Arrives, came_at};
+ghost use Rattle.udp_link.specs.Waking.{IsWake};
 
 use crate::addresses::{addr_of, socket_addr};
 use crate::timed_socket::{TimedSocket, time_left};
@@ -172,7 +174,9 @@ fn moment_of(came: &Came) -> u64
 }
 
 /// Whether the error is the end of a socket's wait: its time is over, or a signal came.
-fn is_wake(error: &Error) -> bool {
+fn is_wake(error: &Error) -> bool
+    ensures { IsTrue result ↔ IsWake (error_kind error.now) }
+{
     matches!(
         error.kind(),
         ErrorKind::WouldBlock | ErrorKind::TimedOut | ErrorKind::Interrupted
