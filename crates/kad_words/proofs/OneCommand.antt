@@ -1,20 +1,49 @@
 -- Words ask for one command.
-use Rattle.std.proofs.Common.{◌≡◌, ℕ, ◌^◌, ◌<◌, true, true≢false, List, Option, Some, None, refl, sym, ap, ◌∙◌, subst, lit<}
-use Rattle.std.specs.Prelude.{bytes_eq}
+use Rattle.std.proofs.Common.{◌≡◌, ℕ, ◌^◌, ◌<◌, Bool, true, List, [], ◌∷◌, Option, Some, None, refl, sym, ap, ◌∙◌, subst, arith, lit<}
+use Rattle.std.specs.Prelude.{bytes_eq, map, nat_lt}
+use Rattle.std.specs.List.{list_all}
+use Rattle.std.proofs.lemmas.Bool.{and_parts}
+use Rattle.std.proofs.lemmas.Bool.Decides.{nat_tests}
 use Rattle.kad_base.specs.declared.types.Policy.{Policy}
 use Rattle.kad_base.specs.declared.types.Policy.TheVariants as policy
 use Rattle.kad_words.specs.Text.{SpellsHex, SpellsId, SpellsNumber}
-use Rattle.kad_words.specs.Table.{Entry, Word, IsLook, PolicyBy, Says, Values, kind_of, word_of}
+use Rattle.kad_words.specs.Table.{AreSaid, Choice, Entry, IsLook, IsSaid, MayIdOf, MayNumberOf, MaySeedOf, NumberOf, Part, PolicyBy, Says, Values, Word, kind_of, kind_word, parts_of, word_of}
+use Rattle.kad_words.specs.Table.Part.{gives_id, gives_seed, gives_number, may_give_number, gives_policy, gives_look}
 use Rattle.kad_words.specs.Plain.{CommandOf, IsPlain, pairs_of, values_of}
+use Rattle.kad_words.specs.Fitting.{ends_below}
+use Rattle.kad_words.specs.declared.choice.Kind.{Kind}
+use Rattle.kad_words.specs.declared.choice.Kind.TheVariants.{Number}
+use Rattle.kad_words.specs.declared.choice.Need.{Need}
+use Rattle.kad_words.specs.declared.choice.Need.TheVariants.{OrElse}
 use Rattle.kad_words.specs.declared.command.Command.{Command}
-use Rattle.kad_words.specs.declared.command.Command.TheVariants.{Lookup, Peers, Serve, Check, Mint, Sim}
+use Rattle.kad_words.specs.declared.command.Command.TheVariants.{Lookup}
+use Rattle.kad_words.specs.declared.command.CommandKind.{CommandKind}
+use Rattle.kad_words.specs.declared.command.CommandKind.TheVariants as kind
 use Rattle.kad_words.specs.declared.command.LookWords.{LookWords}
-use Rattle.kad_words.specs.Values.{IsGiven, IsGivenOr, MayBeGiven}
+use Rattle.kad_words.specs.Values.{IsGiven, IsGivenOr, MayBeGiven, MayNumberBy, NumberBy}
 use Rattle.kad_words.proofs.Checks.{pairs_are}
 use Rattle.kad_words.proofs.Listing.{one_word}
 use Rattle.kad_words.proofs.OneSpelling.{hex_once, id_once, number_once}
 
+-- ---- a word is that of one command
+
+same_kind : (a b : CommandKind) → bytes_eq (kind_word a) (kind_word b) ≡ true → a ≡ b
+same_kind kind.Lookup kind.Lookup e = refl
+same_kind other kind.Lookup e = cc
+same_kind a b e = cc
+
+pub kind_once : (a b : CommandKind) → kind_word a ≡ kind_word b → a ≡ b
+kind_once a b e = same_kind a b (one_word (kind_word a) (kind_word b) e)
+
 -- ---- what a value gives is one
+
+-- numbers below this are spelled in one way
+abbrev bound : ℕ
+bound = 2 ^ 64
+
+below : (n : ℕ) → nat_lt n bound ≡ true → n < bound
+below n e = grind (arith, nat_tests)
+
 
 given_once : {T : Type 0} (Spells : Word → T → Type 0) → ((value : Word) (x y : T) → Spells value x → Spells value y → x ≡ y) → (o : Option Word) (x y : T) → IsGiven Spells o x → IsGiven Spells o y → x ≡ y
 given_once Spells once None x y s t = absurd s
@@ -60,43 +89,94 @@ look_once goal value a b s t =
     let passes = policy_once _ _ a.policy b.policy s.policy t.policy in
     λ i. record { target = target i; own = own i; k = k i; paths = paths i; alpha = alpha i; timeout = timeout i; bits = bits i; policy = passes i }
 
-says_once : (value : Values) (a b : Command) → bytes_eq (word_of a) (word_of b) ≡ true → Says value a → Says value b → a ≡ b
-says_once value (Lookup a) (Lookup b) e s t = ap Lookup (look_once _ value a b s t)
-says_once value (Peers a x) (Peers b y) e s t =
-    let one = look_once _ value a b s.0 t.0 in
-    let two = may_once (SpellsNumber 0 65535) (λ v p q. number_once 0 65535 v p q (lit< tt)) _ x y s.1 t.1 in
-    λ i. Peers (one i) (two i)
-says_once value (Serve o k b p r) (Serve o' k' b' p' r') e s t =
-    let own = may_once SpellsId id_once _ o o' s.0 t.0 in
-    let one = or_once 8 1 20 (lit< tt) _ k k' s.1 t.1 in
-    let two = or_once 1 1 5 (lit< tt) _ b b' s.2 t.2 in
-    let three = policy_once _ _ p p' s.3 t.3 in
-    let four = or_once 1000000000 1 1000000000 (lit< tt) _ r r' s.4 t.4 in
-    λ i. Serve (own i) (one i) (two i) (three i) (four i)
-says_once value (Check p) (Check q) e s t = ap Check (policy_once _ _ p q s t)
-says_once value (Mint d a b n) (Mint d' a' b' n') e s t =
-    let seed = may_once (SpellsHex 32) (hex_once 32) _ d d' s.0 t.0 in
-    let one = or_once 0 0 32 (lit< tt) _ a a' s.1 t.1 in
-    let two = or_once 0 0 32 (lit< tt) _ b b' s.2 t.2 in
-    let tries = or_once 1048576 1 16777216 (lit< tt) _ n n' s.3 t.3 in
-    λ i. Mint (seed i) (one i) (two i) (tries i)
-says_once value (Sim d n h k p a m) (Sim d' n' h' k' p' a' m') e s t =
-    let seed = may_once (SpellsHex 32) (hex_once 32) _ d d' s.0 t.0 in
-    let nodes = or_once 2000 1 20000 (lit< tt) _ n n' s.1 t.1 in
-    let hostile = or_once 0 0 100 (lit< tt) _ h h' s.2 t.2 in
-    let one = or_once 8 1 20 (lit< tt) _ k k' s.3 t.3 in
-    let paths = or_once 4 1 8 (lit< tt) _ p p' s.4 t.4 in
-    let alpha = or_once 3 1 4 (lit< tt) _ a a' s.5 t.5 in
-    let timeout = or_once 2000 1 60000 (lit< tt) _ m m' s.6 t.6 in
-    λ i. Sim (seed i) (nodes i) (hostile i) (one i) (paths i) (alpha i) (timeout i)
-says_once value a b e s t = absurd (true≢false (sym e))
+number_by_once : (kind : Kind) (need : Need) → ends_below bound kind ≡ true → (o : Option Word) (x y : ℕ) → NumberBy kind need o x → NumberBy kind need o y → x ≡ y
+number_by_once (Number least most) (OrElse d) small o x y s t = or_once d least most (below most small) o x y s t
+number_by_once kind need small o x y s t = absurd s
+
+may_number_once : (kind : Kind) → ends_below bound kind ≡ true → (o : Option Word) (x y : Option ℕ) → MayNumberBy kind o x → MayNumberBy kind o y → x ≡ y
+may_number_once (Number least most) small o x y s t = may_once (SpellsNumber least most) (λ v p q. number_once least most v p q (below most small)) o x y s t
+may_number_once kind small o x y s t = absurd s
+
+-- what a part is, but for its value
+data Shape : Type 0 where
+  of_id : Choice → Shape
+  of_seed : Choice → Shape
+  of_number : Choice → Shape
+  of_may_number : Choice → Shape
+  of_policy : Shape
+  of_look : Choice → Shape
+
+abbrev shape : Part → Shape
+shape (gives_id c x) = of_id c
+shape (gives_seed c x) = of_seed c
+shape (gives_number c x) = of_number c
+shape (may_give_number c x) = of_may_number c
+shape (gives_policy x) = of_policy
+shape (gives_look c x) = of_look c
+
+-- its numbers are so small that one text spells one of them
+abbrev is_small : Part → Bool
+is_small (gives_number c x) = ends_below bound c.entry.kind
+is_small (may_give_number c x) = ends_below bound c.entry.kind
+is_small other = true
+
+part_once : (value : Values) (x y : Part) → shape x ≡ shape y → is_small x ≡ true → IsSaid value x → IsSaid value y → x ≡ y
+part_once value (gives_id c x) (gives_id d y) e small s t =
+    let same : d ≡ c = cc in
+    let t' = subst (λ (k : Choice). MayIdOf k value y) same t in
+    let one = may_once SpellsId id_once _ x y s t' in cc
+part_once value (gives_seed c x) (gives_seed d y) e small s t =
+    let same : d ≡ c = cc in
+    let t' = subst (λ (k : Choice). MaySeedOf k value y) same t in
+    let one = may_once (SpellsHex 32) (hex_once 32) _ x y s t' in cc
+part_once value (gives_number c x) (gives_number d y) e small s t =
+    let same : d ≡ c = cc in
+    let t' = subst (λ (k : Choice). NumberOf k value y) same t in
+    let one = number_by_once c.entry.kind c.entry.need small _ x y s t' in cc
+part_once value (may_give_number c x) (may_give_number d y) e small s t =
+    let same : d ≡ c = cc in
+    let t' = subst (λ (k : Choice). MayNumberOf k value y) same t in
+    let one = may_number_once c.entry.kind small _ x y s t' in cc
+part_once value (gives_policy x) (gives_policy y) e small s t = ap gives_policy (policy_once _ _ x y s t)
+part_once value (gives_look c x) (gives_look d y) e small s t =
+    let same : d ≡ c = cc in
+    let t' = subst (λ (k : Choice). IsLook k.entry value y) same t in
+    let one = look_once c.entry value x y s t' in cc
+part_once value x y e small s t = absurd cc
+
+parts_once : (value : Values) (xs ys : List Part) → map shape xs ≡ map shape ys → list_all is_small xs ≡ true → AreSaid value xs → AreSaid value ys → xs ≡ ys
+parts_once value [] [] e small s t = refl
+parts_once value [] (y ∷ ys) e small s t = absurd cc
+parts_once value (x ∷ xs) [] e small s t = absurd cc
+parts_once value (x ∷ xs) (y ∷ ys) e small s t =
+    let both = and_parts (is_small x) (list_all is_small xs) small in
+    let one = part_once value x y (cc) both.0 s.0 t.0 in
+    let rest = parts_once value xs ys (cc) both.1 s.1 t.1 in cc
+
+-- a command is its word and its parts: nothing here names one
+alike : (a b : Command) → kind_of a ≡ kind_of b → map shape (parts_of a) ≡ map shape (parts_of b)
+alike (Lookup a) (Lookup b) e = refl
+alike other (Lookup b) e = cc
+alike a b e = cc
+
+all_small : (a : Command) → list_all is_small (parts_of a) ≡ true
+all_small (Lookup a) = refl
+all_small other = refl
+
+made_once : (a b : Command) → kind_of a ≡ kind_of b → parts_of a ≡ parts_of b → a ≡ b
+made_once (Lookup a) (Lookup b) e same = cc
+made_once other (Lookup b) e same = cc
+made_once a b e same = cc
+
+says_once : (value : Values) (a b : Command) → kind_of a ≡ kind_of b → Says value a → Says value b → a ≡ b
+says_once value a b e s t = made_once a b e (parts_once value (parts_of a) (parts_of b) (alike a b e) (all_small a) s t)
 
 pub command_once : (words : List Word) (a b : Command) → CommandOf words a → CommandOf words b → a ≡ b
 command_once words a b s t =
     let first : word_of a ≡ word_of b = (let e = s.begins in let f = t.begins in cc) in
     let rest : s.rest ≡ t.rest = (let e = s.begins in let f = t.begins in cc) in
     let pairs : s.pairs ≡ t.pairs = pairs_are _ s.rest s.pairs s.plain ∙ ap pairs_of rest ∙ sym (pairs_are _ t.rest t.pairs t.plain) in
-    says_once (values_of t.pairs) a b (one_word (word_of a) (word_of b) first) (subst (λ (ps : List (Word × Word)). Says (values_of ps) a) pairs s.says) t.says
+    says_once (values_of t.pairs) a b (kind_once (kind_of a) (kind_of b) first) (subst (λ (ps : List (Word × Word)). Says (values_of ps) a) pairs s.says) t.says
 
 pub command_plain : (words : List Word) (c : Command) → CommandOf words c → IsPlain words
 command_plain words c h = record {

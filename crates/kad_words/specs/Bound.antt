@@ -1,9 +1,10 @@
 -- What is known of the words before a command is read: where to bind, and whether there is anything to bind.
-use Rattle.std.specs.Prelude.{◌≡◌, List, [], ◌∷◌, ◌⊎◌, Option, Some, None, Contains}
+use Rattle.std.specs.Prelude.{◌≡◌, List, [], ◌∷◌, ◌⊎◌, Option, Some, None, IsTrue}
 use Rattle.kad_base.specs.declared.types.Addr.{Addr}
 use Rattle.kad_base.specs.declared.types.Ip.TheVariants.{V4}
 use Rattle.kad_words.specs.Text.{SpellsAddr}
-use Rattle.kad_words.specs.Table.{Word, bind_option, links, option_word}
+use Rattle.kad_words.specs.Table.{Word, bind_option, kind_word, links, option_word}
+use Rattle.kad_words.specs.declared.command.CommandKind.{CommandKind}
 use Rattle.kad_words.specs.Plain.{pairs_of, value_of}
 
 -- the address 0.0.0.0:0, by which the system chooses
@@ -20,7 +21,13 @@ abbrev pub IsBind : Option Word → Addr → Type 0
 IsBind None addr = addr ≡ any_address
 IsBind (Some text) addr = SpellsAddr text addr ⊎ (((a : Addr) → SpellsAddr text a → ⊥) × (addr ≡ any_address))
 
--- the first word is a command that asks over a link
+-- the word of a command that asks over a link
+pub record IsOverLink (command : Word) : Type 0 where
+  pub kind : CommandKind
+  pub is : command ≡ kind_word kind
+  pub over_link : IsTrue (links kind)
+
+-- the first word is one
 abbrev pub TakesLink : List Word → Type 0
 TakesLink [] = ⊥
-TakesLink (command ∷ rest) = Contains links command
+TakesLink (command ∷ rest) = IsOverLink command

@@ -1,6 +1,6 @@
 -- The commands and their options, which are this project's own: one line an option, with what its value is, whether it
 -- has to stand or what stands for it, and the commands that have it; and what the words of each command ask for.
-use Rattle.std.specs.Prelude.{ℕ, List, [], ◌∷◌, ◌++◌, map, filter, codes, bytes_eq, find, option_map, Option, Some, None}
+use Rattle.std.specs.Prelude.{Bool, true, false, ℕ, List, [], ◌∷◌, ◌++◌, map, filter, codes, bytes_eq, find, option_map, Option, Some, None}
 use Rattle.std.specs.List.{list_any}
 use Rattle.kad_base.specs.declared.types.Id.{Id}
 use Rattle.kad_base.specs.declared.types.Policy.{Policy}
@@ -66,9 +66,12 @@ kind_word kind.Check = check
 kind_word kind.Mint = mint
 kind_word kind.Sim = sim
 
--- those that ask over a link
-abbrev pub links : List Word
-links = lookup ∷ peers ∷ serve ∷ []
+-- whether it asks over a link
+abbrev pub links : CommandKind → Bool
+links kind.Lookup = true
+links kind.Peers = true
+links kind.Serve = true
+links other = false
 
 -- ---- the options. An identifier is 40 hex digits and a seed 64; times are milliseconds
 
@@ -184,17 +187,43 @@ pub record IsLook (goal : Entry) (value : Values) (look : LookWords) : Type 0 wh
   pub bits : NumberOf bits_option value look.bits
   pub policy : PolicyOf value look.policy
 
--- what the values of a command line ask for, command by command
+-- a part of a command, and the option that gives it: an identifier, a seed, a number, a number that may be left out; or a
+-- policy, or a lookup with the option that names its target
+pub data Part : Type 0 where
+  gives_id : Choice → Option Id → Part
+  gives_seed : Choice → Option (List ℕ) → Part
+  gives_number : Choice → ℕ → Part
+  may_give_number : Choice → Option ℕ → Part
+  gives_policy : Policy → Part
+  gives_look : Choice → LookWords → Part
+
+-- the values give this part
+abbrev pub IsSaid : Values → Part → Type 0
+IsSaid value (gives_id c id) = MayIdOf c value id
+IsSaid value (gives_seed c seed) = MaySeedOf c value seed
+IsSaid value (gives_number c n) = NumberOf c value n
+IsSaid value (may_give_number c n) = MayNumberOf c value n
+IsSaid value (gives_policy policy) = PolicyOf value policy
+IsSaid value (gives_look c look) = IsLook c.entry value look
+
+-- each of these
+abbrev pub AreSaid : Values → List Part → Type 0
+AreSaid value [] = Unit {0}
+AreSaid value (part ∷ parts) = IsSaid value part × AreSaid value parts
+
+-- the parts of a command, command by command
+abbrev pub parts_of : Command → List Part
+parts_of (Lookup look) = gives_look target_option look ∷ []
+parts_of (Peers look announce) = gives_look key_option look ∷ may_give_number announce_option announce ∷ []
+parts_of (Serve own k bits policy receives) = gives_id own_option own ∷ gives_number k_option k ∷ gives_number bits_option bits ∷ gives_policy policy ∷ gives_number receives_option receives ∷ []
+parts_of (Check policy) = gives_policy policy ∷ []
+parts_of (Mint seed c1 c2 tries) = gives_seed seed_option seed ∷ gives_number c1_option c1 ∷ gives_number c2_option c2 ∷ gives_number tries_option tries ∷ []
+parts_of (Sim seed nodes hostile k paths alpha timeout) =
+    gives_seed seed_option seed ∷ gives_number nodes_option nodes ∷ gives_number hostile_option hostile ∷ gives_number k_option k ∷ gives_number paths_option paths ∷ gives_number alpha_option alpha ∷ gives_number timeout_option timeout ∷ []
+
+-- what the values of a command line ask for
 abbrev pub Says : Values → Command → Type 0
-Says value (Lookup look) = IsLook target_option.entry value look
-Says value (Peers look announce) = IsLook key_option.entry value look × MayNumberOf announce_option value announce
-Says value (Serve own k bits policy receives) =
-    MayIdOf own_option value own × NumberOf k_option value k × NumberOf bits_option value bits × PolicyOf value policy × NumberOf receives_option value receives
-Says value (Check policy) = PolicyOf value policy
-Says value (Mint seed c1 c2 tries) = MaySeedOf seed_option value seed × NumberOf c1_option value c1 × NumberOf c2_option value c2 × NumberOf tries_option value tries
-Says value (Sim seed nodes hostile k paths alpha timeout) =
-    MaySeedOf seed_option value seed × NumberOf nodes_option value nodes × NumberOf hostile_option value hostile × NumberOf k_option value k × NumberOf paths_option value paths
-    × NumberOf alpha_option value alpha × NumberOf timeout_option value timeout
+Says value command = AreSaid value (parts_of command)
 
 -- which command it is, and its word
 abbrev pub kind_of : Command → CommandKind

@@ -1,8 +1,8 @@
 //! What is known of the words before a command is read. It takes no memory.
-ghost use Rattle.std.specs.Prelude.{◌≡◌, ◌↔◌, Contains, IsTrue, map, string_bytes};
-ghost use Rattle.kad_words.specs.Bound.{IsBind, TakesLink, any_address, bound_by};
-ghost use Rattle.kad_words.specs.Table.{links};
+ghost use Rattle.std.specs.Prelude.{◌≡◌, ◌↔◌, IsTrue, map, string_bytes};
+ghost use Rattle.kad_words.specs.Bound.{IsBind, IsOverLink, TakesLink, any_address, bound_by};
 
+use crate::command::{kind_named, links};
 use crate::grammar::value_of;
 use crate::text::read_addr;
 use kad_base::{Addr, Ip};
@@ -31,7 +31,7 @@ fn any_address() -> Addr
     }
 }
 
-/// Whether the command asks over a link: `lookup`, `peers` or `serve`.
+/// Whether the command asks over a link, as `lookup` does.
 pub fn takes_link(words: &[String]) -> bool
     ensures { IsTrue result ↔ TakesLink (map (λ w. string_bytes w) words.now) }
 {
@@ -41,9 +41,12 @@ pub fn takes_link(words: &[String]) -> bool
     }
 }
 
-/// Whether a command asks over a link.
+/// Whether a word is that of a command which asks over a link.
 fn is_over_link(command: &str) -> bool
-    ensures { IsTrue result ↔ Contains links command.now }
+    ensures { IsTrue result ↔ IsOverLink command.now }
 {
-    matches!(command, "lookup" | "peers" | "serve")
+    match kind_named(command) {
+        Some(kind) => links(kind),
+        None => false,
+    }
 }

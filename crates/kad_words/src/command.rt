@@ -1,6 +1,6 @@
 //! The commands: what each asks for, its word, its options, and how it is made of their values.
 ghost use Rattle.std.specs.Prelude.{◌≡◌, MatchOption};
-ghost use Rattle.kad_words.specs.Table.{check, lookup, mint, peers, serve, sim, kind_word, options_of, word_of, IsLook, Says};
+ghost use Rattle.kad_words.specs.Table.{check, lookup, mint, peers, serve, sim, kind_word, links, options_of, word_of, IsLook, Says};
 ghost use Rattle.kad_words.specs.Listed.{entries_of, entry_of};
 ghost use Rattle.kad_words.specs.Taken.{taken_of};
 ghost use Rattle.kad_words.specs.Fitting.{AllFit, LookFits};
@@ -124,6 +124,16 @@ pub(crate) fn kind_named(word: &str) -> Option<CommandKind>
         "sim" => Some(CommandKind::Sim),
         _ => None,
     }
+}
+
+/// Whether a command asks over a link.
+pub(crate) fn links(kind: CommandKind) -> bool
+    ensures { result ≡ links kind }
+{
+    matches!(
+        kind,
+        CommandKind::Lookup | CommandKind::Peers | CommandKind::Serve
+    )
 }
 
 /// The options of a command.

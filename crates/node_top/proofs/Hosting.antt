@@ -1,46 +1,54 @@
--- What `serve` does behind its input keeps the laws of what is done there.
+-- What a command does behind its input that goes on over a link, or over none, keeps the laws of what is done there. Nothing
+-- here names one.
 use Rattle.std.proofs.Common.{ℕ, List, [], ◌∷◌, inl, refl}
 use Rattle.kad_base.specs.declared.types.Event.{Event}
-use Rattle.node_top.specs.declared.commands.serve.Service.{Service}
 use Rattle.node_top.specs.declared.status.Status.{Status}
 use Rattle.node_top.specs.declared.status.Status.TheVariants.{LinkFault}
 use Rattle.node_top.specs.Endings.{number_of}
-use Rattle.node_top.specs.Commands.Served.{HostCause, ServesWell, serve_aim, serve_promise}
 use Rattle.node_top.specs.Input.{IsGood}
-use Rattle.node_top.specs.Promise.{IsOneOf}
-use Rattle.node_top.specs.Commands.Served.{ServeCause}
+use Rattle.node_top.specs.Promise.{HostCause, HostsWell, IsOneOf, host_aim, judge_aim, reading}
 use Rattle.node_top.specs.Shown.{Shown}
 use Rattle.node_top.proofs.Lawful.{Lawful}
 use Rattle.node_top.proofs.Staged.{Behind, reading_lawful}
 
-module _ (service : Service) (random : List ℕ) (source : Shown ℕ) (link : Shown Event) where
-  behind : (s : Status) → HostCause service random source link s → Behind (serve_aim service) random source link s
-  behind LinkFault c =
-      let good : IsGood source = record { reports = c.1.hosts.reports; lists = c.1.hosts.lists } in
-      (good, (c.0, good, c.1), λ told none_. absurd none_, λ told early last. absurd last)
-  behind other c = absurd c
-
-  needed : (s : Status) → ServesWell source link → ¬ HostCause service random source link s
+module _ (source : Shown ℕ) (link : Shown Event) (begun : Type 0) where
+  needed : (s : Status) → HostsWell source link → ¬ HostCause begun link s
   needed LinkFault n c = n.hears c.0
   needed other n c = c
 
-  in_ends : (s : Status) → HostCause service random source link s → IsOneOf (4 ∷ []) (number_of s)
+  in_ends : (s : Status) → HostCause begun link s → IsOneOf (4 ∷ []) (number_of s)
   in_ends LinkFault c = inl refl
   in_ends other c = absurd c
 
-  -- its own cause is that of its promise
-  pub serve_cause : (s : Status) → ServeCause service random source link s → (serve_promise service).cause random source link s
-  serve_cause LinkFault c = c
-  serve_cause other c = c
+module _ (ranges : Type 0) (text : List ℕ → Shown ℕ → Shown Event → List ℕ → Type 0) (begun : List ℕ → Shown ℕ → Shown Event → Type 0)
+    (good : (random : List ℕ) (source : Shown ℕ) (link : Shown Event) (written : List ℕ) → text random source link written → IsGood source)
+    (begins : (random : List ℕ) (source : Shown ℕ) (link : Shown Event) → begun random source link → IsGood source) where
+  behind : (random : List ℕ) (source : Shown ℕ) (link : Shown Event) (s : Status) → HostCause (begun random source link) link s → Behind (host_aim ranges text begun) random source link s
+  behind random source link LinkFault c =
+      let well = begins random source link c.1 in
+      (well, (c.0, well, c.1), λ told none_. absurd none_, λ told early last. absurd last)
+  behind random source link other c = absurd c
 
-pub serve_lawful : (service : Service) → Lawful (serve_promise service)
-serve_lawful service = reading_lawful (serve_aim service) (record {
-  good = λ random source link text t. record { reports = t.hosts.reports; lists = t.hosts.lists };
-  seeded = λ random source link text told t none_. none_;
-  few = λ random source link text told t last. last;
-  behind = λ random source link s c. behind service random source link s c;
-  well = λ random source link n. record { told = n.told; reads = n.reads; reports = n.good.reports; lists = n.good.lists };
-  needed = λ random source link s n c. needed service random source link s n c;
-  in_ends = λ random source link s c. in_ends service random source link s c;
+  pub hosting_lawful : Lawful (reading (host_aim ranges text begun))
+  hosting_lawful = reading_lawful (host_aim ranges text begun) (record {
+    good = good;
+    seeded = λ random source link written told t none_. none_;
+    few = λ random source link written told t last. last;
+    behind = λ random source link s c. behind random source link s c;
+    well = λ random source link n. record { told = n.told; reads = n.reads; reports = n.good.reports; lists = n.good.lists };
+    needed = λ random source link s n c. needed source link (begun random source link) s n c;
+    in_ends = λ random source link s c. in_ends source link (begun random source link) s c;
+    seeks = λ none_. refl;
+  })
+
+pub judging_lawful : (ranges : Type 0) (text : List ℕ → Shown ℕ → List ℕ → Type 0) → ((random : List ℕ) (source : Shown ℕ) (written : List ℕ) → text random source written → IsGood source) → Lawful (reading (judge_aim ranges text))
+judging_lawful ranges text good = reading_lawful (judge_aim ranges text) (record {
+  good = λ random source link written t. good random source written t;
+  seeded = λ random source link written told t none_. none_;
+  few = λ random source link written told t last. last;
+  behind = λ random source link s c. absurd c;
+  well = λ random source link n. n;
+  needed = λ random source link s n c. c;
+  in_ends = λ random source link s c. absurd c;
   seeks = λ none_. refl;
 })

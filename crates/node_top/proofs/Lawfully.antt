@@ -1,29 +1,52 @@
--- Each command's promise is lawful, and the values of its words are within the limits. A command more is a line in both.
-use Rattle.std.proofs.Common.{List}
+-- Each command's promise is lawful by how it is made, and the values of its words are within the limits. A command more
+-- that is made in one of these ways adds nothing here.
+use Rattle.std.proofs.Common.{ℕ, List, rules}
+use Rattle.kad_base.specs.declared.types.Contact.{Contact}
+use Rattle.kad_base.specs.declared.types.Report.{Report}
+use Rattle.contact_table.specs.TableState.{TableState}
+use Rattle.claim_book.specs.declared.types.Entry.{Entry}
+use Rattle.lookup_core.specs.declared.quest.AskKind.{AskKind}
 use Rattle.kad_words.specs.Table.{Says, Values, Word}
 use Rattle.kad_words.specs.Plain.{CommandOf, values_of}
 use Rattle.kad_words.specs.declared.command.Command.{Command}
-use Rattle.node_top.specs.Commands.{by_command, promise_of, simulation_of}
+use Rattle.kad_words.specs.declared.command.Command.TheVariants.{Lookup, Mint}
+use Rattle.kad_words.specs.declared.command.LookWords.{LookWords}
+use Rattle.node_top.specs.declared.commands.serve.Service.{Service}
+use Rattle.node_top.specs.Commands.{promise_of}
+use Rattle.node_top.specs.Commands.Served.{Hosts}
+use Rattle.node_top.specs.Input.{IsGood, Lists}
+use Rattle.node_top.specs.Reached.{HasRunOut}
+use Rattle.node_top.specs.Shown.{Shown}
+use Rattle.node_top.specs.Started.{Start}
 use Rattle.node_top.proofs.Lawful.{Lawful}
-use Rattle.node_top.proofs.Looking.{lookup_lawful}
-use Rattle.node_top.proofs.Peering.{peers_lawful}
-use Rattle.node_top.proofs.Hosting.{serve_lawful}
-use Rattle.node_top.proofs.Verdicts.{check_lawful}
+use Rattle.node_top.proofs.Looking.{seeking_lawful}
+use Rattle.node_top.proofs.Hosting.{hosting_lawful, judging_lawful}
 use Rattle.node_top.proofs.Minting.{mint_lawful}
 use Rattle.node_top.proofs.Ranges.{look_in_range, table_in_range, simulable}
-use Rattle.node_top.proofs.Simulating.{sim_lawful}
+use Rattle.node_top.proofs.Staged.{made_lawful}
+
+good_by : (source : Shown ℕ) (reports : List Report) → Lists source reports → IsGood source
+good_by source reports lists = record { reports = reports; lists = lists }
+
+hosts_good : (service : Service) (random : List ℕ) (source : Shown ℕ) (table : TableState) (proofs : List Report) → Hosts service random source table proofs → IsGood source
+hosts_good service random source table proofs h = record { reports = h.reports; lists = h.lists }
+
+ran_start : (kind : AskKind) (look : LookWords) (random : List ℕ) (source : Shown ℕ) (J : List Entry) → HasRunOut kind look random source J → Start look random source
+ran_start kind look random source J h = h.start
+
+-- the ways in which a promise is made
+ruleset forms = (seeking_lawful, hosting_lawful, judging_lawful, made_lawful, good_by, hosts_good, ran_start)
+
+-- the limits of words
+ruleset limits = (look_in_range, table_in_range, simulable)
 
 pub lawful : (command : Command) → Lawful (promise_of command)
-lawful = by_command (λ command. Lawful (promise_of command)) lookup_lawful peers_lawful serve_lawful check_lawful mint_lawful
-    (λ seed nodes hostile k paths alpha timeout. sim_lawful (simulation_of seed nodes hostile k paths alpha timeout))
+lawful (Mint seed c1 c2 tries) = mint_lawful seed c1 c2 tries
+lawful other = search (rules, forms)
+
+in_ranges : (command : Command) (value : Values) → Says value command → (promise_of command).ranges
+in_ranges (Lookup look) value s = look_in_range _ value look s.0
+in_ranges other value s = search (rules, limits)
 
 pub ranged : (words : List Word) (command : Command) → CommandOf words command → (promise_of command).ranges
-ranged words command h =
-    by_command (λ (c : Command). (value : Values) → Says value c → (promise_of c).ranges)
-    (λ look value s. look_in_range _ value look s)
-    (λ look announce value s. look_in_range _ value look s.0)
-    (λ service value s. table_in_range value service.k service.bits s.1 s.2)
-    (λ policy value s. tt)
-    (λ seed c1 c2 tries value s. tt)
-    (λ seed nodes hostile k paths alpha timeout value s random. simulable value (simulation_of seed nodes hostile k paths alpha timeout random) s.1 s.3 s.4 s.5)
-    command (values_of h.pairs) h.says
+ranged words command h = in_ranges command (values_of h.pairs) h.says

@@ -1,13 +1,11 @@
--- What `lookup` does behind its input, and any command that looks up, keeps the laws of what is done there.
+-- What a command does behind its input that looks up keeps the laws of what is done there. Nothing here names one.
 use Rattle.std.proofs.Common.{ℕ, List, [], ◌∷◌, Some, inl, inr, refl}
 use Rattle.kad_base.specs.declared.types.Event.{Event}
-use Rattle.lookup_core.specs.declared.quest.AskKind.TheVariants.{FindNode}
-use Rattle.kad_words.specs.declared.command.LookWords.{LookWords}
 use Rattle.node_top.specs.declared.status.Status.{Status}
 use Rattle.node_top.specs.declared.status.Status.TheVariants.{LinkFault, Strays, NoSeeds}
 use Rattle.node_top.specs.Endings.{number_of}
 use Rattle.node_top.specs.Input.{ReadsSome, ReadsWell}
-use Rattle.node_top.specs.Looked.{LookupText, LookupBegun, MeetsFewStrays, SeekCause, SeeksWell, seek_aim, lookup_promise}
+use Rattle.node_top.specs.Looked.{LookupBegun, MeetsFewStrays, SeekCause, SeeksWell, seek_aim}
 use Rattle.node_top.specs.Promise.{Sought, IsOneOf, reading}
 use Rattle.node_top.specs.Shown.{Shown}
 use Rattle.node_top.specs.Started.{own_of, Start}
@@ -77,8 +75,3 @@ module _ (sought : Sought) (text : List ℕ → Shown ℕ → Shown Event → Li
     in_ends = λ random source link s c. in_ends sought random source link s c;
     seeks = λ none_. absurd (none_ refl);
   })
-
-pub lookup_lawful : (look : LookWords) → Lawful (lookup_promise look)
-lookup_lawful look =
-    seeking_lawful (record { kind = FindNode; look = look }) (λ random source link text. LookupText FindNode look random source link text) (λ random source link. LookupBegun FindNode look random source link)
-    (λ random source link text t. t.ran.start) (λ random source link text t. t.few_strays) (λ random source link b. b)

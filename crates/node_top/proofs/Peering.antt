@@ -19,14 +19,12 @@ use Rattle.lookup_run.specs.Tells.{Given, EndsAtStray}
 use Rattle.kad_words.specs.declared.command.LookWords.{LookWords}
 use Rattle.node_top.specs.declared.run_lookup.Reached.{Reached}
 use Rattle.node_top.specs.Announced.{Announcement, owed, tried, asking, Announces, AnnouncesSome}
-use Rattle.node_top.specs.Commands.Peered.{announced_by, next_place, TellsPeers, TellsSomePeers, PeersText, PeersBegun, AnnouncedSome, peers_promise}
+use Rattle.node_top.specs.Commands.Peered.{announced_by, next_place, TellsPeers, TellsSomePeers, PeersText, PeersBegun, AnnouncedSome}
 use Rattle.node_top.specs.Printed.{printed_peers}
 use Rattle.node_top.specs.Shown.{Shown}
 use Rattle.node_top.specs.Started.{own_of, book_of, lookup_of}
 use Rattle.node_top.specs.Reached.{TellsAll, Reaches}
 use Rattle.node_top.proofs.Announcing.{Sends}
-use Rattle.node_top.proofs.Lawful.{Lawful}
-use Rattle.node_top.proofs.Looking.{seeking_lawful}
 
 -- ---- announcements end with no datagram that was received
 
@@ -136,8 +134,3 @@ announced_some look port random source before middle after f f' f'' r h some_ =
 -- all of them are a front of them
 pub all_some : (seed : List ℕ) (place : ℕ) (all : List Announcement) (n : ℕ) (a b : Option (List Event)) → Grows a b (Sends seed place all n) → Grows a b (AnnouncesSome seed place all)
 all_some seed place all n a b g = grows_weaker a b _ _ g (λ es h. (length all, subst (λ (l : List Announcement). Announces seed place l es) (sym (take-length all)) h.0))
-
-pub peers_lawful : (look : LookWords) (announce : Option ℕ) → Lawful (peers_promise look announce)
-peers_lawful look announce =
-    seeking_lawful (record { kind = GetPeers; look = look }) (λ random source link text. PeersText look announce random source link text) (λ random source link. PeersBegun look announce random source link)
-    (λ random source link text t. t.ran.start) (λ random source link text t. t.few_strays) (λ random source link b. inl b)

@@ -24,9 +24,10 @@ use Rattle.node_top.specs.declared.status.Status.TheVariants.{LinkFault}
 use Rattle.node_top.specs.Endings.{EndsUnasked as EndsBefore}
 use Rattle.node_top.specs.Input.{Lists, Admits, Keeps}
 use Rattle.node_top.specs.Looked.{ReportsCause}
+use Rattle.node_top.specs.Promise.{HostCause, ReadingCause}
 use Rattle.node_top.specs.Printed.{served_text}
 use Rattle.node_top.specs.Shown.{Shown}
-use Rattle.node_top.specs.Commands.Served.{Hosts, begun_at, Served, ServedSome, ServeBegun, ServeCause}
+use Rattle.node_top.specs.Commands.Served.{Hosts, begun_at, Served, ServedSome, ServeBegun}
 use Rattle.node_top.specs.Started.{own_of, seen_call}
 
 -- ---- the command
@@ -89,9 +90,9 @@ pub nine_late : EndsBefore 9 → ⊥
 nine_late e = elim e [ inl a ↦ absurd cc | inr e ↦ elim e [ inl a ↦ absurd cc | inr e ↦ elim e [ inl a ↦ absurd cc | inr e ↦ elim e [ inl a ↦ absurd cc | inr e ↦ elim e [ inl a ↦ absurd cc | inr a ↦ absurd cc ] ] ] ] ]
 
 -- how it ends where its input gave no reports
-pub unread_cause : (service : Service) (random : List ℕ) (source : Shown ℕ) (link : Shown Event) (status : Status) → ReportsCause source status → ServeCause service random source link status
-unread_cause service random source link LinkFault h = absurd h
-unread_cause service random source link other h = h
+pub unread_cause : (begun : Type 0) (source : Shown ℕ) (link : Shown Event) (status : Status) → ReportsCause source status → ReadingCause (HostCause begun link) source status
+unread_cause begun source link LinkFault h = absurd h
+unread_cause begun source link other h = h
 
 -- the kept reports pass
 pub kept_pass : (own : Id) (policy : Policy) (rs kept : List Report) → Keeps own policy rs kept → All (Passes policy) kept

@@ -31,10 +31,8 @@ use Rattle.node_top.specs.declared.commands.sim.Start.{Start}
 use Rattle.node_top.specs.Input.{Admits}
 use Rattle.node_top.specs.Printed.{line_of}
 use Rattle.node_top.specs.Started.{own_of, look_of, book_of, drawn_of, lookup_of, IsInRange, seen_call, StartsWith}
-use Rattle.node_top.specs.Commands.Simulated.{network_of, look_to, sim_look, IsSimulable, report_of, first_nodes, Begins, count_among, sought_in, sim_text, SimText, sim_promise}
+use Rattle.node_top.specs.Commands.Simulated.{network_of, look_to, sim_look, IsSimulable, report_of, first_nodes, Begins, count_among, sought_in, sim_text, SimText}
 use Rattle.node_top.proofs.Begun.{admits_usable, within_limits}
-use Rattle.node_top.proofs.Lawful.{Lawful}
-use Rattle.node_top.proofs.Staged.{unread_lawful}
 use Rattle.node_top.proofs.Starting.{usable_told}
 
 pub sim_range : (s : Simulation) → IsSimulable s → IsInRange (sim_look s)
@@ -145,7 +143,3 @@ simulates s start words left o net before (Some events) text begun f net_is bega
 pub sim_pieces : (found asked failed turned honest : ℕ)
     → codes "found " ++ (decimal found ++ (codes " asked " ++ (decimal asked ++ (codes " failed " ++ (decimal failed ++ (codes " turned " ++ (decimal turned ++ (codes " honest " ++ decimal honest)))))))) ≡ sim_text found asked failed turned honest
 sim_pieces found asked failed turned honest = sym (simp append_assoc refl)
-
-pub sim_lawful : (simulation : List ℕ → Simulation) → Lawful (sim_promise simulation)
-sim_lawful simulation =
-    unread_lawful [] ((random : List ℕ) → IsSimulable (simulation random)) (λ random text. SimText (simulation random) text) (λ random. ⊥) (λ random text t nothing. nothing) (λ random nothing. absurd nothing)

@@ -6,11 +6,9 @@ use Rattle.std.proofs.lemmas.Grind.{flat_map-append}
 use Rattle.std.proofs.lemmas.List.{append_assoc, append-nil, take_more, take_all}
 use Rattle.kad_base.specs.declared.types.Report.{Report}
 use Rattle.kad_base.specs.declared.types.Policy.{Policy}
-use Rattle.node_top.specs.Commands.Checked.{Judges, passed_of, passed_text, verdict_text, verdicts_printed, check_aim, check_promise}
+use Rattle.node_top.specs.Commands.Checked.{Judges, passed_of, passed_text, verdict_text, verdicts_printed}
 use Rattle.node_top.specs.Printed.{line_of}
 use Rattle.node_top.proofs.LineLaws.{AllZip-push}
-use Rattle.node_top.proofs.Lawful.{Lawful}
-use Rattle.node_top.proofs.Staged.{reading_lawful}
 
 -- one report more
 pub judged_more : (policy : Policy) (rs : List Report) (i : ℕ) (d : Report) (old new : List Bool) (v : Bool) → i < length rs
@@ -39,16 +37,3 @@ verdict_more vs output after k d text lt o t a =
 pub verdicts_end : (vs : List Bool) (output after text : List ℕ) (k : ℕ) → length vs ≤ k → output ≡ flat_map (λ v. line_of (verdict_text v)) (take k vs)
     → text ≡ passed_text (passed_of vs) (length vs) → after ≡ output ++ line_of text → after ≡ verdicts_printed vs
 verdicts_end vs output after text k le o t a = a ∙ rw (o, t, take_all k vs le) refl
-
--- behind its input it has no causes of its own
-pub check_lawful : (policy : Policy) → Lawful (check_promise policy)
-check_lawful policy = reading_lawful (check_aim policy) (record {
-  good = λ random source link text t. record { reports = t.reports; lists = t.lists };
-  seeded = λ random source link text told t none_. none_;
-  few = λ random source link text told t last. last;
-  behind = λ random source link s c. absurd c;
-  well = λ random source link n. n;
-  needed = λ random source link s n c. c;
-  in_ends = λ random source link s c. absurd c;
-  seeks = λ none_. refl;
-})

@@ -1,5 +1,5 @@
--- What the top calls promise, by the command that the words ask for. A command more is a module, and a line each in
--- `promise_of` and `by_command`.
+-- What the top calls promise, by the command that the words ask for. A command more is a module, and a line in
+-- `promise_of`.
 pub mod Checked
 pub mod Minted
 pub mod Peered
@@ -13,7 +13,6 @@ use Rattle.kad_base.specs.Outside.{Grows}
 use Rattle.kad_words.specs.Table.{Word}
 use Rattle.kad_words.specs.Plain.{CommandOf}
 use Rattle.kad_words.specs.declared.command.Command.{Command}
-use Rattle.kad_words.specs.declared.command.LookWords.{LookWords}
 use Rattle.kad_words.specs.declared.command.Command.TheVariants.{Lookup, Peers, Serve, Check, Mint, Sim}
 use Rattle.node_top.specs.declared.commands.serve.Service.{Service}
 use Rattle.node_top.specs.declared.commands.sim.Simulation.{Simulation}
@@ -52,18 +51,6 @@ promise_of (Serve own k bits policy receives) = serve_promise (service_of own k 
 promise_of (Check policy) = check_promise policy
 promise_of (Mint seed c1 c2 tries) = mint_promise seed c1 c2 tries
 promise_of (Sim seed nodes hostile k paths alpha timeout) = sim_promise (simulation_of seed nodes hostile k paths alpha timeout)
-
--- what holds of each command, by the values of its words, holds of any
-pub by_command : (P : Command → Type 0) → ((look : LookWords) → P (Lookup look)) → ((look : LookWords) (announce : Option ℕ) → P (Peers look announce))
-    → ((s : Service) → P (Serve s.own s.k s.bits s.policy s.receives)) → ((policy : Policy) → P (Check policy))
-    → ((seed : Option (List ℕ)) (c1 c2 tries : ℕ) → P (Mint seed c1 c2 tries)) → ((seed : Option (List ℕ)) (nodes hostile k paths alpha timeout : ℕ) → P (Sim seed nodes hostile k paths alpha timeout))
-    → (command : Command) → P command
-by_command P lookup peers serve check mint sim (Lookup look) = lookup look
-by_command P lookup peers serve check mint sim (Peers look announce) = peers look announce
-by_command P lookup peers serve check mint sim (Serve own k bits policy receives) = serve (service_of own k bits policy receives)
-by_command P lookup peers serve check mint sim (Check policy) = check policy
-by_command P lookup peers serve check mint sim (Mint seed c1 c2 tries) = mint seed c1 c2 tries
-by_command P lookup peers serve check mint sim (Sim seed nodes hostile k paths alpha timeout) = sim seed nodes hostile k paths alpha timeout
 
 -- ---- what it makes
 

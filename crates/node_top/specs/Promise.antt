@@ -5,9 +5,9 @@ use Rattle.kad_base.specs.declared.types.Event.{Event}
 use Rattle.lookup_core.specs.declared.quest.AskKind.{AskKind}
 use Rattle.kad_words.specs.declared.command.LookWords.{LookWords}
 use Rattle.node_top.specs.declared.status.Status.{Status}
-use Rattle.node_top.specs.declared.status.Status.TheVariants.{BadLine, SourceFault, NoMemory, Unminted, TooLong}
-use Rattle.node_top.specs.Input.{ReadsFew, ReadsTooMuch, IsBadLine}
-use Rattle.node_top.specs.Shown.{Shown, HasFailed}
+use Rattle.node_top.specs.declared.status.Status.TheVariants.{BadLine, LinkFault, SourceFault, NoMemory, Unminted, TooLong}
+use Rattle.node_top.specs.Input.{ReadsFew, ReadsTooMuch, ReadsWell, IsBadLine, IsGood}
+use Rattle.node_top.specs.Shown.{Shown, IsTold, HasFailed}
 
 -- the query that a lookup asks by, and its options
 pub record Sought : Type 0 where
@@ -77,6 +77,46 @@ reading aim = record {
   nothing = λ random. ⊥;
   cause = λ random source link status. ReadingCause (aim.cause random source link) source status;
   needs = aim.needs;
+}
+
+-- what a command does behind its input that takes no link: nothing ends it but want of memory
+abbrev pub judge_aim : Type 0 → (List ℕ → Shown ℕ → List ℕ → Type 0) → Aim
+judge_aim ranges text = record {
+  links = false;
+  sought = None;
+  ends = [];
+  ranges = ranges;
+  text = λ random source link written. text random source written;
+  started = λ random source. ⊥;
+  begun = λ random source link. ⊥;
+  cause = λ random source link status. ⊥;
+  needs = λ random source link. ReadsWell source;
+}
+
+-- why a command ended that goes on over a link, and looks nothing up
+abbrev pub HostCause : Type 0 → Shown Event → Status → Type 0
+HostCause begun link LinkFault = HasFailed link × begun
+HostCause begun link other = ⊥
+
+-- what it needs: a good input and no failure
+pub record HostsWell (source : Shown ℕ) (link : Shown Event) : Type 0 where
+  pub told : IsTold source
+  pub reads : ¬ HasFailed source
+  pub hears : ¬ HasFailed link
+  pub good : IsGood source
+
+-- what such a command does, by its text and by what it had done when it ended early
+abbrev pub host_aim : Type 0 → (List ℕ → Shown ℕ → Shown Event → List ℕ → Type 0) → (List ℕ → Shown ℕ → Shown Event → Type 0) → Aim
+host_aim ranges text begun = record {
+  links = true;
+  sought = None;
+  ends = 4 ∷ [];
+  ranges = ranges;
+  text = text;
+  started = λ random source. IsGood source;
+  begun = begun;
+  cause = λ random source link status. HostCause (begun random source link) link status;
+  needs = λ random source link. HostsWell source link;
 }
 
 -- ---- a command that reads nothing and takes no link

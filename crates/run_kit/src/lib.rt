@@ -4,8 +4,8 @@
 
 use fake_net::ScriptLink;
 use id_puzzles::Sha1Check;
-use kad_base::{BytesSink, Check, List, Numbers, SteadySource};
-use node_top::run;
+use kad_base::{BytesSink, Check, Link, List, Numbers, Sink, Source, SteadySource};
+use node_top::{run, run_plain};
 use std::alloc::{AllocError, Global};
 use std::hash::RandomState;
 use std::random::RandomSource;
@@ -35,6 +35,52 @@ pub fn words(alloc: Global, texts: &[&str]) -> Result<Vec<String>, AllocError> {
     Ok(words)
 }
 
+/// The status of the command of these words, over what the test made.
+pub fn status_of<
+    R: AllocGlobal + RandomSource + Threads + Wait + Sync,
+    S: Source,
+    L: Link,
+    K: Sink,
+    C: Check + Sync,
+>(
+    rt: &R,
+    words: &[String],
+    source: &mut S,
+    link: &mut L,
+    sink: &mut K,
+    check: &C,
+) -> Result<u8, Fail> {
+    Ok(run(
+        rt,
+        rt.alloc(),
+        words,
+        source,
+        link,
+        sink,
+        &[0; 32],
+        check,
+        RandomState::new(rt)?,
+    ))
+}
+
+/// The same by the call that takes no link.
+pub fn plain_status_of<R: AllocGlobal + RandomSource, S: Source, K: Sink>(
+    rt: &R,
+    words: &[String],
+    source: &mut S,
+    sink: &mut K,
+) -> Result<u8, Fail> {
+    Ok(run_plain(
+        rt.alloc(),
+        words,
+        source,
+        sink,
+        &[0; 32],
+        &Sha1Check,
+        RandomState::new(rt)?,
+    ))
+}
+
 /// Runs the command of these words over the link.
 pub fn play<R: AllocGlobal + RandomSource + Threads + Wait + Sync>(
     rt: &R,
@@ -59,17 +105,7 @@ pub fn play_with<R: AllocGlobal + RandomSource + Threads + Wait + Sync, C: Check
     let mut source = SteadySource::new(bytes);
     let mut sink = BytesSink::new(4096, none(alloc), List::new(alloc));
     let words = words(alloc, texts)?;
-    let status = run(
-        rt,
-        alloc,
-        &words,
-        &mut source,
-        &mut link,
-        &mut sink,
-        &[0; 32],
-        check,
-        RandomState::new(rt)?,
-    );
+    let status = status_of(rt, &words, &mut source, &mut link, &mut sink, check)?;
     let text = String::from_str(alloc, std::str::from_utf8(sink.written())?)?;
     Ok(Played { status, text, link })
 }

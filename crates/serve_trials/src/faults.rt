@@ -1,10 +1,8 @@
 //! Lookups whose input can't be read, or whose output can't be written.
 use id_puzzles::Sha1Check;
 use kad_base::{BytesSink, BytesSource, List, Sink, Source, SteadySink, SteadySource};
-use node_top::run;
 use run_kit::{none, words};
 use std::alloc::Global;
-use std::hash::RandomState;
 use std::random::RandomSource;
 use std::sync::Wait;
 use std::test::Fail;
@@ -33,17 +31,7 @@ fn status_of<R: AllocGlobal + RandomSource + Threads + Wait + Sync, S: Source, K
     sink: &mut K,
 ) -> Result<u8, Fail> {
     let mut link = link(rt.alloc(), &[Reply::of(1, 10)])?;
-    Ok(run(
-        rt,
-        rt.alloc(),
-        words,
-        source,
-        &mut link,
-        sink,
-        &[0; 32],
-        &Sha1Check,
-        RandomState::new(rt)?,
-    ))
+    run_kit::status_of(rt, words, source, &mut link, sink, &Sha1Check)
 }
 
 #[test]

@@ -1,11 +1,8 @@
 //! The commands that take no link, by both top calls. The hashes of what is minted were computed by a script of its own.
 use fake_net::ScriptLink;
-use id_puzzles::Sha1Check;
 use kad_base::{BytesSink, BytesSource, List, NoMemory, Sink, Source, SteadySource};
-use node_top::run_plain;
-use run_kit::{none, shows, words};
+use run_kit::{none, plain_status_of, shows, words};
 use std::alloc::Global;
-use std::hash::RandomState;
 use std::random::RandomSource;
 use std::sync::Wait;
 use std::test::Fail;
@@ -41,15 +38,7 @@ fn status_of<R: AllocGlobal + RandomSource + Threads + Wait + Sync, S: Source, K
     sink: &mut K,
 ) -> Result<u8, Fail> {
     let words = words(rt.alloc(), texts)?;
-    Ok(run_plain(
-        rt.alloc(),
-        &words,
-        source,
-        sink,
-        &[0; 32],
-        &Sha1Check,
-        RandomState::new(rt)?,
-    ))
+    plain_status_of(rt, &words, source, sink)
 }
 
 /// The call that takes no link answers this status and writes this text.

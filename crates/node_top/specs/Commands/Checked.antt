@@ -1,14 +1,14 @@
 -- What `check` says of the contact lines of an input: which reports pass the policy (S/Kademlia, 2007, section 4.1). Its
 -- lines are this project's own.
-use Rattle.std.specs.Prelude.{◌≡◌, ◌↔◌, ℕ, List, [], ◌++◌, length, codes, decimal, filter, flat_map, Bool, true, false, IsTrue, None}
+use Rattle.std.specs.Prelude.{◌≡◌, ◌↔◌, ℕ, List, ◌++◌, length, codes, decimal, filter, flat_map, Bool, true, false, IsTrue}
 use Rattle.std.specs.List.{AllZip}
 use Rattle.kad_base.specs.declared.types.Report.{Report}
 use Rattle.kad_base.specs.declared.types.Policy.{Policy}
 use Rattle.kad_base.specs.Puzzles.{Passes}
 use Rattle.node_top.specs.Shown.{Shown}
-use Rattle.node_top.specs.Input.{Lists, ReadsWell}
+use Rattle.node_top.specs.Input.{Lists}
 use Rattle.node_top.specs.Printed.{line_of}
-use Rattle.node_top.specs.Promise.{Promise, Aim, reading}
+use Rattle.node_top.specs.Promise.{Promise, judge_aim, reading}
 
 -- whether the report passes
 abbrev pub Judges : Policy → Report → Bool → Type 0
@@ -45,19 +45,5 @@ pub record CheckText (policy : Policy) (source : Shown ℕ) (text : List ℕ) : 
   pub lists : Lists source reports
   pub printed : CheckPrinted policy reports text
 
--- behind its input nothing ends it but want of memory
-abbrev pub check_aim : Policy → Aim
-check_aim policy = record {
-  links = false;
-  sought = None;
-  ends = [];
-  ranges = Unit {0};
-  text = λ random source link text. CheckText policy source text;
-  started = λ random source. ⊥;
-  begun = λ random source link. ⊥;
-  cause = λ random source link status. ⊥;
-  needs = λ random source link. ReadsWell source;
-}
-
 abbrev pub check_promise : Policy → Promise
-check_promise policy = reading (check_aim policy)
+check_promise policy = reading (judge_aim (Unit {0}) (λ random source text. CheckText policy source text))

@@ -1,7 +1,7 @@
 -- What the command `serve` promises: that its events are receive calls, that each query among the datagrams which came was
 -- answered by the reply that a node owes it (BEP 5), as the datagrams before had left the node, and that nothing else was
 -- sent.
-use Rattle.std.specs.Prelude.{◌≡◌, ℕ, List, [], ◌∷◌, map, true, None}
+use Rattle.std.specs.Prelude.{◌≡◌, ℕ, List, ◌∷◌, map}
 use Rattle.kad_base.specs.declared.types.Contact.{Contact}
 use Rattle.kad_base.specs.declared.types.Event.{Event}
 use Rattle.kad_base.specs.declared.types.Event.TheVariants.{Now}
@@ -13,13 +13,10 @@ use Rattle.lookup_run.specs.Lookup.{TableTold}
 use Rattle.node_serve.specs.NodeState.{new_node}
 use Rattle.node_serve.specs.Receives.{ServeState, ServesAll, ServesSome}
 use Rattle.node_top.specs.declared.commands.serve.Service.{Service}
-use Rattle.node_top.specs.declared.status.Status.{Status}
-use Rattle.node_top.specs.declared.status.Status.TheVariants.{LinkFault}
-use Rattle.node_top.specs.Input.{Lists, Admits, Keeps, IsGood}
-use Rattle.node_top.specs.Looked.{ReportsCause}
+use Rattle.node_top.specs.Input.{Lists, Admits, Keeps}
 use Rattle.node_top.specs.Printed.{printed_served}
-use Rattle.node_top.specs.Promise.{Promise, Aim, reading}
-use Rattle.node_top.specs.Shown.{Shown, IsTold, HasFailed}
+use Rattle.node_top.specs.Promise.{Promise, host_aim, reading}
+use Rattle.node_top.specs.Shown.{Shown}
 use Rattle.node_top.specs.Started.{AreTableBounds, own_of, seen_call}
 
 -- ---- the node that it begins with
@@ -73,37 +70,7 @@ pub record ServeBegun (service : Service) (random : List ℕ) (source : Shown �
   pub hosts : Hosts service random source table proofs
   pub tells : Grows link.before link.after (ServedSome service random table proofs)
 
--- why it ended with no output
-abbrev pub ServeCause : Service → List ℕ → Shown ℕ → Shown Event → Status → Type 0
-ServeCause service random source link LinkFault = HasFailed link × ServeBegun service random source link
-ServeCause service random source link other = ReportsCause source other
-
 -- ---- what it promises
 
--- why it ended behind its input
-abbrev pub HostCause : Service → List ℕ → Shown ℕ → Shown Event → Status → Type 0
-HostCause service random source link LinkFault = HasFailed link × ServeBegun service random source link
-HostCause service random source link other = ⊥
-
--- what it needs: a good input and no failure
-pub record ServesWell (source : Shown ℕ) (link : Shown Event) : Type 0 where
-  pub told : IsTold source
-  pub reads : ¬ HasFailed source
-  pub hears : ¬ HasFailed link
-  pub good : IsGood source
-
-abbrev pub serve_aim : Service → Aim
-serve_aim service = record {
-  links = true;
-  sought = None;
-  ends = 4 ∷ [];
-  ranges = AreTableBounds service.k service.bits;
-  text = λ random source link text. ServeText service random source link text;
-  started = λ random source. IsGood source;
-  begun = λ random source link. ServeBegun service random source link;
-  cause = λ random source link status. HostCause service random source link status;
-  needs = λ random source link. ServesWell source link;
-}
-
 abbrev pub serve_promise : Service → Promise
-serve_promise service = reading (serve_aim service)
+serve_promise service = reading (host_aim (AreTableBounds service.k service.bits) (λ random source link text. ServeText service random source link text) (λ random source link. ServeBegun service random source link))

@@ -1,9 +1,9 @@
 //! The command `check`: says of each contact line of the input whether its contact passes the puzzles.
 ghost use Rattle.std.specs.Prelude.{◌≡◌, IfOk, IfErr, string_bytes};
 ghost use Rattle.std.specs.List.{AllZip};
-ghost use Rattle.node_top.specs.Commands.Checked.{CheckText, Judges, passed_of, passed_text, verdict_text, verdicts_printed};
-ghost use Rattle.node_top.specs.Looked.{ReportsCause};
-ghost use Rattle.node_top.specs.Shown.{shown};
+ghost use Rattle.node_top.specs.Commands.Checked.{CheckText, Judges, check_promise, passed_of, passed_text, verdict_text, verdicts_printed};
+ghost use Rattle.kad_base.specs.declared.types.Event.{Event};
+ghost use Rattle.node_top.specs.Shown.{Shown, shown};
 
 use crate::call::Call;
 use crate::input::read_reports;
@@ -72,7 +72,8 @@ pub(crate) fn check<S: Source, C: Check>(
     call: &Call<'_, C>,
 ) -> Result<Bytes, Status>
     ensures ok { IfOk result (CheckText policy (shown S.left S.faults source.old source.new)) }
-    ensures cause { IfErr result (ReportsCause (shown S.left S.faults source.old source.new)) }
+    ensures cause { (link : Shown Event) → IfErr result ((check_promise policy).cause call.now.random
+        (shown S.left S.faults source.old source.new) link) }
 {
     let reports = read_reports(alloc, source)?;
     let verdicts = judged(alloc, policy, call.check, reports.as_slice())?;

@@ -1,7 +1,7 @@
 //! The command `lookup`: looks the target up, and makes the text of what it found.
 ghost use Rattle.std.specs.Prelude.{◌≡◌, ◌⊎◌, IfOk, IfErr};
 ghost use Rattle.node_top.specs.Endings.{EndsUnasked, number_of};
-ghost use Rattle.node_top.specs.Looked.{LookupText, LookupCause, LookupBegun};
+ghost use Rattle.node_top.specs.Looked.{LookupText, LookupBegun, lookup_promise};
 ghost use Rattle.node_top.specs.Printed.{printed};
 ghost use Rattle.node_top.specs.Started.{IsInRange};
 ghost use Rattle.node_top.specs.Shown.{shown};
@@ -46,7 +46,7 @@ pub(crate) fn lookup<R: Threads + Wait + Sync, S: Source, L: Link, C: Check + Sy
     ensures ok { IfOk result (LookupText AskKind.FindNode look.now call.now.random
         (shown S.left S.faults source.old source.new)
         (shown L.told L.recv_faults link.old link.new)) }
-    ensures cause { IfErr result (LookupCause AskKind.FindNode look.now call.now.random
+    ensures cause { IfErr result ((lookup_promise look.now).cause call.now.random
         (shown S.left S.faults source.old source.new)
         (shown L.told L.recv_faults link.old link.new)) }
     ensures no_memory { IfErr result (λ status. status ≡ Status.NoMemory →

@@ -5,8 +5,7 @@ ghost use Rattle.kad_base.specs.Outside.{Grows};
 ghost use Rattle.lookup_core.specs.declared.quest.AskKind.TheVariants.{GetPeers};
 ghost use Rattle.node_top.specs.Announced.{owed, Announces, AnnouncesSome, sent_in};
 ghost use Rattle.node_top.specs.Endings.{EndsUnasked, number_of};
-ghost use Rattle.node_top.specs.Looked.{LookupCause};
-ghost use Rattle.node_top.specs.Commands.Peered.{PeersText, PeersBegun};
+ghost use Rattle.node_top.specs.Commands.Peered.{PeersText, PeersBegun, peers_promise};
 ghost use Rattle.node_top.specs.Started.{IsInRange};
 ghost use Rattle.node_top.specs.Shown.{shown};
 
@@ -70,7 +69,7 @@ pub(crate) fn peers<R: Threads + Wait + Sync, S: Source, L: Link, C: Check + Syn
     ensures ok { IfOk result (PeersText look.now port call.now.random
         (shown S.left S.faults source.old source.new)
         (shown L.told L.recv_faults link.old link.new)) }
-    ensures cause { IfErr result (LookupCause GetPeers look.now call.now.random
+    ensures cause { IfErr result ((peers_promise look.now port).cause call.now.random
         (shown S.left S.faults source.old source.new)
         (shown L.told L.recv_faults link.old link.new)) }
     ensures no_memory { IfErr result (λ status. status ≡ Status.NoMemory →

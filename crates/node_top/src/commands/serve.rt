@@ -4,7 +4,7 @@ ghost use Rattle.std.specs.Prelude.{◌≡◌, ◌⊎◌, IfOk, IfErr, string_by
 ghost use Rattle.node_top.specs.Endings.{EndsUnasked, number_of};
 ghost use Rattle.node_top.specs.Looked.{ReportsCause};
 ghost use Rattle.node_top.specs.Printed.{printed_served, served_text};
-ghost use Rattle.node_top.specs.Commands.Served.{Hosts, ServeBegun, ServeCause, ServeText};
+ghost use Rattle.node_top.specs.Commands.Served.{Hosts, ServeBegun, ServeText, serve_promise};
 ghost use Rattle.node_top.specs.Started.{AreTableBounds, own_of};
 ghost use Rattle.node_top.specs.Shown.{shown};
 
@@ -89,7 +89,7 @@ pub(crate) fn serve<S: Source, L: Link, C: Check>(
     ensures ok { IfOk result (ServeText service.now call.now.random
         (shown S.left S.faults source.old source.new)
         (shown L.told L.recv_faults link.old link.new)) }
-    ensures cause { IfErr result (ServeCause service.now call.now.random
+    ensures cause { IfErr result ((serve_promise service.now).cause call.now.random
         (shown S.left S.faults source.old source.new)
         (shown L.told L.recv_faults link.old link.new)) }
     ensures no_memory { IfErr result (λ status. status ≡ Status.NoMemory →

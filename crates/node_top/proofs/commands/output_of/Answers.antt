@@ -1,7 +1,5 @@
 use Rattle.std.proofs.Common.{sym}
 use Rattle.node_top.proofs.Causes.{cause_at}
-use Rattle.node_top.proofs.Begun.{err_then}
-use Rattle.node_top.proofs.Hosting.{serve_cause}
 use Rattle.node_top.proofs.commands.output_of.Goals as goal
 
 pub returns-in-Lookup-clause-cause : goal.returns-in-Lookup-clause-cause
@@ -11,6 +9,4 @@ pub returns-in-Peers-clause-cause : goal.returns-in-Peers-clause-cause
 returns-in-Peers-clause-cause g c = cause_at c.peers.result _ _ _ _ _ (sym c.in-Peers.is) c.peers.ensures.cause
 
 pub returns-in-Serve-clause-cause : goal.returns-in-Serve-clause-cause
-returns-in-Serve-clause-cause g c =
-    cause_at c.serve.result _ _ _ _ _ (sym c.in-Serve.is)
-    (err_then c.serve.result _ _ c.serve.ensures.cause (λ status h. serve_cause _ _ _ _ status h))
+returns-in-Serve-clause-cause g c = cause_at c.serve.result _ _ _ _ _ (sym c.in-Serve.is) c.serve.ensures.cause

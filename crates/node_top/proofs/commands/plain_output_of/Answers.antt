@@ -10,7 +10,7 @@ use Rattle.node_top.proofs.Minting.{mint_cause}
 use Rattle.node_top.proofs.commands.plain_output_of.Goals as goal
 
 pub returns-in-Check-clause-cause : goal.returns-in-Check-clause-cause
-returns-in-Check-clause-cause g c = λ link. cause_at c.check.result _ _ link _ _ (sym c.in-Check.is) c.check.ensures.cause
+returns-in-Check-clause-cause g c = λ link. cause_at c.check.result _ _ link _ _ (sym c.in-Check.is) (c.check.ensures.cause link)
 
 pub returns-in-Mint-clause-ok : goal.returns-in-Mint-clause-ok
 returns-in-Mint-clause-ok g c = λ link.
