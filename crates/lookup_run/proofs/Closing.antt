@@ -69,6 +69,7 @@ looked_up scheduling look words words' table opened after book moment first work
       own_answers = closed_well work ended r _ w.over done (λ over x d. own_answers (setting_of look) x.journal (looks_up scheduling look words words' table work told told' x ((ends over).done x d.done)).legal);
       gathered = closed_well work ended r _ w.over done (λ over x d. gathered_all scheduling look words words' table work told told' x ((ends over).done x d.done) d.peers d.tokens);
       none_gathered = closed_well work ended r _ w.over done (λ over x d. none_gathered look work x.peers x.tokens over.keeps d.peers d.tokens);
+      peers_in_order = closed_well work ended r _ w.over done (λ over x d. d.peers.in_order);
       table = closed_well work ended r _ w.over done (λ over x d. subst (λ t. TableToldBy scheduling (table_calls look x.journal) table t) (sym same) (table_told scheduling look words words' table work told told' x ((ends over).done x d.done)));
       unfinished = closed_early ended r _ w.over w.stops (λ over. (ends over).left.unfinished) (λ stops. (stops words table told along).unfinished);
       table_left = closed_early ended r _ w.over w.stops (λ over. subst (TableRan table) (sym same) (ends over).left.ran) (λ stops. subst (TableRan table) (sym same) (stops words table told along).ran);
@@ -88,6 +89,7 @@ never_looked scheduling look words table after told faults was usable same = rec
   own_answers = tt;
   gathered = tt;
   none_gathered = tt;
+  peers_in_order = tt;
   table = tt;
   unfinished = never_began look table words told usable;
   table_left = record { run = []; is_run = tt; leaves = same };

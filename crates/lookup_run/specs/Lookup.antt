@@ -1,6 +1,7 @@
 -- What a lookup promises: its journal, the table that comes back, and what holds where it ended early.
 use Rattle.std.specs.Prelude.{◌≡◌, ◌≢◌, ◌⊎◌, ℕ, ◌+◌, ◌==◌, filter, ◌<◌, ◌≤◌, List, [], ◌∷◌, ◌++◌, length, map, Option, Result, IfOk, IfErr, IsErrOf}
 use Rattle.std.specs.List.{All, flat_map}
+use Rattle.std.specs.List.Sorted.{IsStrictlySortedBy}
 use Rattle.kad_base.specs.declared.types.Addr.{Addr}
 use Rattle.kad_base.specs.declared.types.Contact.{Contact}
 use Rattle.kad_base.specs.declared.types.Event.{Event}
@@ -36,7 +37,7 @@ use Rattle.lookup_run.specs.declared.types.LookFault.TheVariants.{LinkFault, Str
 use Rattle.lookup_run.specs.declared.types.Outcome.{Outcome}
 use Rattle.lookup_run.specs.Tells.{Given, Seen, TellsSoFar, Tells, EndsAtStray}
 use Rattle.lookup_run.specs.Rounds.{Scheduling, Rounds, sequential, concurrent}
-use Rattle.lookup_run.specs.Gathered.{Gathers}
+use Rattle.lookup_run.specs.Gathered.{Gathers, addr_cmp}
 
 -- what the book is set to
 abbrev pub setting_of : LookSetting → Setting
@@ -157,6 +158,7 @@ pub record LooksUp {Kept : Type 0} (scheduling : Scheduling) (look : LookSetting
   pub own_answers : IfOk ended (λ outcome. GoesByOwnAnswers (setting_of look) outcome.journal)
   pub gathered : IfOk ended (λ outcome. Grows told told' (λ events. Gathers (given_of look words) outcome.journal events outcome.peers outcome.tokens))
   pub none_gathered : IfOk ended (λ outcome. look.kind ≡ FindNode → (outcome.peers ≡ []) × (outcome.tokens ≡ []))
+  pub peers_in_order : IfOk ended (λ outcome. IsStrictlySortedBy addr_cmp outcome.peers)
   pub table : IfOk ended (λ outcome. TableToldBy scheduling (table_calls look outcome.journal) before after)
   pub unfinished : IfErr ended (λ fault. Unfinished look before words words' told told')
   pub table_left : IfErr ended (λ fault. TableRan before after)
