@@ -1,10 +1,9 @@
 -- A draft's lines, and one more.
-use Rattle.std.proofs.Common.{◌≡◌, Bool, List, [], ◌∷◌, ◌++◌, map, refl, sym, ap, ◌∙◌}
+use Rattle.std.proofs.Common.{◌≡◌, List, [], ◌∷◌, ◌++◌, map, refl, sym, ap, ◌∙◌}
 use Rattle.std.specs.Prelude.{flat_map}
 use Rattle.std.proofs.lemmas.Grind.{flat_map-append}
-use Rattle.std.proofs.lemmas.List.{append_assoc, append-nil, map-append}
+use Rattle.std.proofs.lemmas.List.{append_assoc, append-nil}
 use Rattle.kad_base.specs.declared.types.Contact.{Contact}
-use Rattle.bucket_tree.specs.declared.types.Live.{Live}
 use Rattle.bucket_tree.specs.declared.rows.Row.{Row}
 use Rattle.table_file.specs.declared.line.Line.{Line}
 use Rattle.table_file.specs.declared.line.Line.TheVariants as line

@@ -1,7 +1,6 @@
 -- What the parts of a line spell.
 use Rattle.std.proofs.Common.{◌≡◌, ◌≢◌, ℕ, zero, suc, ◌+◌, ◌*◌, ◌^◌, ◌<◌, ◌≤◌, Bool, true, false, List, [], ◌∷◌, ◌++◌, length, take, drop, get_or, set, length-set, map, Option, Some, None, MatchOption, refl, sym, ap, ◌∙◌, subst, arith, lit<}
 use Rattle.std.specs.Prelude.{◌==◌, IsUtf8, codes, decimal, All}
-use Rattle.std.specs.Char.{to_ascii_lowercase}
 use Rattle.std.specs.Str.{str_to_ascii_lowercase}
 use Rattle.std.proofs.lemmas.Bool.{eqb-true}
 use Rattle.std.proofs.lemmas.List.{append_assoc, append-nil, drop_more, get_or-map, length-append, length-map, map-append, take_all, take_more, take_more_set}
@@ -19,7 +18,7 @@ use Rattle.kad_words.specs.Text.{SpellsHex, addr_text, groups_after, ip_text}
 use Rattle.kad_words.specs.Text as words
 use Rattle.kad_words.proofs.OneSpelling.{cut_once}
 use Rattle.table_file.specs.Reading.{IsCut, IsV4, IsV6, Lacks, SpellsAddr, SpellsContact, SpellsGroup, SpellsGroups, SpellsLower}
-use Rattle.table_file.specs.SavedText.{FitsId, FitsIp, bit_text, contact_text, prefix_text}
+use Rattle.table_file.specs.SavedText.{FitsIp, bit_text, contact_text, prefix_text}
 use Rattle.table_file.proofs.Once.{pair_length, take_pair}
 use Rattle.table_file.proofs.Visible.{IsVisible, addr_visible, decimal_visible, id_visible, lower_hex, no_space}
 
