@@ -1,4 +1,5 @@
 //! Open queries by hand, of which the transaction ids wrap, and the 33rd.
+use kad_base::Addr;
 use query_book::{Full, Queries};
 use trial_kit::contact;
 
@@ -20,6 +21,21 @@ fn opens_finds_and_closes(rt: HostRuntime) {
     assert_eq!(rt; queries.overdue(10), None);
     assert_eq!(rt; queries.next_deadline(), None);
     assert!(rt; queries.is_empty());
+}
+
+#[test]
+fn finds_at_its_address_alone(rt: HostRuntime) {
+    let mut queries = Queries::new();
+    let asked = contact(1);
+    assert_eq!(rt; queries.open(7, asked, 10), Ok(7));
+    let elsewhere = Addr {
+        ip: asked.addr.ip,
+        port: asked.addr.port ^ 1,
+    };
+    assert_eq!(rt; queries.find(7, elsewhere), None);
+    assert_eq!(rt; queries.find(8, asked.addr), None);
+    assert_eq!(rt; queries.find(7, asked.addr), Some(asked));
+    assert_eq!(rt; queries.len(), 1);
 }
 
 #[test]
