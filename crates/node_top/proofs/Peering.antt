@@ -1,5 +1,5 @@
 -- From a lookup for peers, and the announcements after it, to what the command promises.
-use Rattle.std.proofs.Common.{◌≡◌, ◌≢◌, ℕ, ◌+◌, List, [], ◌∷◌, ◌++◌, length, Bool, true, false, Option, inl, refl, sym, ap, subst, ◌∙◌}
+use Rattle.std.proofs.Common.{◌≡◌, ◌≢◌, ℕ, ◌+◌, List, [], ◌∷◌, ◌++◌, length, Bool, true, false, Option, refl, sym, ap, subst, ◌∙◌}
 use Rattle.std.proofs.lemmas.List.{append_assoc, append-nil}
 use Rattle.std.proofs.Math.Seq.{take-length}
 use Rattle.kad_base.specs.declared.types.Addr.{Addr}
@@ -19,7 +19,7 @@ use Rattle.lookup_run.specs.Tells.{Given, EndsAtStray}
 use Rattle.kad_words.specs.declared.command.LookWords.{LookWords}
 use Rattle.node_top.specs.declared.run_lookup.Reached.{Reached}
 use Rattle.node_top.specs.Announced.{Announcement, owed, tried, asking, Announces, AnnouncesSome}
-use Rattle.node_top.specs.Commands.Peered.{announced_by, next_place, TellsPeers, TellsSomePeers, PeersText, PeersBegun, AnnouncedSome}
+use Rattle.node_top.specs.Commands.Peered.{announced_by, next_place, TellsPeers, TellsSomePeers, PeersText, AnnouncedSome}
 use Rattle.node_top.specs.Printed.{printed_peers}
 use Rattle.node_top.specs.Shown.{Shown}
 use Rattle.node_top.specs.Started.{own_of, book_of, lookup_of}
