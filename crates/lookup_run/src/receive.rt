@@ -76,14 +76,14 @@ fn take_datagram(
     ensures holds { OnOk result (Holds work.new.lookup) }
     ensures table { work.new.table ≡ work.old.table }
 {
-    match work.lookup.take(alloc, &look.quest(), from, bytes) {
-        Ok(Taken::Stray) => take_stray(&mut work.progress),
-        Ok(Taken::Heard(answered)) => match keep(&mut work.gathered, look.kind, answered) {
-            Ok(()) => Ok(()),
-            Err(_) => Err(LookFault::NoMemory),
-        },
-        Ok(Taken::Lost) => Ok(()),
-        Err(_) => Err(LookFault::NoMemory),
+    let taken = work.lookup.take(alloc, &look.quest(), from, bytes)?;
+    match taken {
+        Taken::Stray => take_stray(&mut work.progress),
+        Taken::Heard(answered) => {
+            keep(&mut work.gathered, look.kind, answered)?;
+            Ok(())
+        }
+        Taken::Lost => Ok(()),
     }
 }
 

@@ -46,16 +46,14 @@ fn settle_path<C: Check>(
     ensures ran { OnErr result (TableRan work.old.table work.new.table) }
     ensures fault { IfErr result (λ fault. fault ≡ LookFault.NoMemory) }
 {
-    match settle_alone(
+    settle_alone(
         path,
         &mut work.lookup.book,
         &mut work.table,
         look.policy,
         check,
-    ) {
-        Ok(_) => Ok(()),
-        Err(_) => Err(LookFault::NoMemory),
-    }
+    )?;
+    Ok(())
 }
 
 /// Settles all that the paths have, path by path.

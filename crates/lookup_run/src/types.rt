@@ -4,7 +4,7 @@ ghost use Rattle.lookup_run.specs.Lookup.{setting_of, quest_of};
 
 use claim_book::{Counts, Journal, Setting};
 use contact_table::Table;
-use kad_base::{Addrs, Bytes, Contact, Contacts, Id, List, Policy};
+use kad_base::{Addrs, Bytes, Contact, Contacts, Id, List, NoMemory, Policy};
 use lookup_core::{AskKind, Lookup, Quest};
 use thiserror::Error;
 
@@ -84,6 +84,17 @@ pub enum LookFault {
     Strays,
     #[error("no memory")]
     NoMemory,
+}
+
+impl From<NoMemory> for LookFault {
+    ghost use Rattle.std.specs.Prelude.{◌≡◌};
+    ghost use Rattle.lookup_run.specs.declared.types.LookFault.TheVariants as fault;
+
+    ghost from_gives = { λ _ e. e ≡ fault.NoMemory };
+
+    fn from(_: NoMemory) -> Self {
+        LookFault::NoMemory
+    }
 }
 
 /// Where a lookup stands between two calls on its link: the last told moment, how many receives its round has had (0

@@ -3,15 +3,15 @@ use Rattle.lookup_run.specs.declared.types.LookupState.{LookupState}
 use Rattle.lookup_run.proofs.Matching.{takes_stray, is_last_stray}
 use Rattle.lookup_run.proofs.receive.take_datagram.Goals as goal
 
-pub returns-in-Ok-Stray-clause-ok : goal.returns-in-Ok-Stray-clause-ok
-returns-in-Ok-Stray-clause-ok c =
+pub returns-in-Stray-clause-ok : goal.returns-in-Stray-clause-ok
+returns-in-Stray-clause-ok c =
     let old : LookupState = c.args.work.now in
-    let stray = rw c.in-Ok-Stray.field-0-is at c.in-Ok-Stray.ensures.takes in
+    let stray = rw c.in-Stray.is at c.in_ok-taken.ensures.takes in
     let none = rw c.quest.ensures at stray.0 in
     takes_stray c.args.look.now c.args.from c.args.bytes.now old (record old { lookup = c.take.new.self; progress = c.take_stray.new.progress }) c.take_stray.result none c.take_stray.ensures.ok stray.1 refl refl
 
-pub returns-in-Ok-Stray-clause-strays : goal.returns-in-Ok-Stray-clause-strays
-returns-in-Ok-Stray-clause-strays c =
-    let stray = rw c.in-Ok-Stray.field-0-is at c.in-Ok-Stray.ensures.takes in
+pub returns-in-Stray-clause-strays : goal.returns-in-Stray-clause-strays
+returns-in-Stray-clause-strays c =
+    let stray = rw c.in-Stray.is at c.in_ok-taken.ensures.takes in
     let none = rw c.quest.ensures at stray.0 in
     is_last_stray c.args.look.now c.args.from c.args.bytes.now c.args.work.now c.take_stray.result none c.take_stray.ensures.err
