@@ -1,12 +1,11 @@
 -- The steps of the reader's parts.
-use Rattle.std.proofs.Common.{◌≡◌, ℕ, suc, ◌+◌, ◌-◌, ◌*◌, ◌^◌, ◌<◌, ◌≤◌, min, Bool, true, false, ◌&&◌, cond, List, [], ◌∷◌, ◌++◌, length, take, drop, get_or, Some, None, ℤ, pos, negsuc, nat_eq, refl, sym, ap, ◌∙◌, subst, arith, append_assoc, append-nil, inl, inr, length-append, length-drop, w64}
+use Rattle.std.proofs.Common.{◌≡◌, ℕ, suc, ◌+◌, ◌-◌, ◌*◌, ◌^◌, ◌<◌, ◌≤◌, min, Bool, true, false, cond, List, [], ◌∷◌, ◌++◌, length, take, drop, get_or, Some, None, ℤ, pos, negsuc, nat_eq, refl, sym, ap, ◌∙◌, subst, arith, append_assoc, append-nil, inl, inr, length-append, length-drop, w64}
 use Rattle.std.proofs.lemmas.Bool.{cases_lt}
 use Rattle.std.proofs.lemmas.Bool.Decides.{nat_tests}
 use Rattle.std.proofs.lemmas.List.{take_more, take-append-drop, length-take-le, take_all}
 use Rattle.std.proofs.lemmas.Int.{to_z-of_z}
 use Rattle.std.proofs.Math.Seq.{drop-append_seam, take-append-add}
 use mir.Val.{SFits, of_z, to_z}
-use Rattle.std.proofs.lemmas.Bool.{le-leb}
 use Rattle.kad_bencode.specs.Spelling.{numeral, integer_text, string_text, is_i64}
 use Rattle.kad_bencode.specs.Faults.{Open, fronts, IsAt, IsFirstFault}
 use Rattle.kad_bencode.specs.Machine.{Place, AsValue, AsKey, State, Ready, Whole, Sign, Minus, Zero, AwaitsInteger, Digits, NoLength, Length, Body, filled, stored, before, signed, is_digit, is_nonzero, step, run, Reached, FitsOpen, FitsPlace, FitsState, DigitsSoFar, ReadsDigits, sign_state, AwaitsNumber, ReadsInteger, HasByte, HasNumber, AwaitsString, ReadsString}
@@ -332,9 +331,6 @@ string_read bytes at p n end s e a d h fits small =
       fits = a.fits;
     }
 
-nonzero_digit : (b : ℕ) → 49 ≤ b → b ≤ 57 → is_nonzero b ≡ true
-nonzero_digit b low high = λ i. le-leb 49 b low i && le-leb (suc b) 58 (omega (arith, high)) i
-
 -- ---- a string of six bytes
 
 -- the digit 6, and none behind it
@@ -350,21 +346,3 @@ six_read bytes at p s e a long six colon small =
     let to : at + 1 + 1 + 6 ≡ at + 8 = omega arith in
     subst (ReadsString bytes at p s) to
     (string_read bytes at p 6 (at + 1) s (e ∙ ap (λ n. take 6 (drop n bytes)) from) a (six_digits bytes at (omega arith) six colon) (omega arith, colon) (omega arith) small)
-
--- ---- a string whose length has one digit
-
--- a digit that isn't 0, and none behind it
-one_digit_read : (bytes : List ℕ) (at : ℕ) → at < length bytes → 49 ≤ get_or bytes at 0 → get_or bytes at 0 ≤ 57 → get_or bytes (at + 1) 0 ≡ 58 → ReadsDigits bytes at (get_or bytes at 0 - 48) (at + 1)
-one_digit_read bytes at h low high colon = record {
-  digits = digits_begin bytes at h (nonzero_digit (get_or bytes at 0) low high);
-  ends = λ k. ap is_digit colon;
-}
-
-pub short_read : (bytes : List ℕ) (at : ℕ) (p : Place) (s : List ℕ) (n : ℕ) → n ≡ get_or bytes at 0 - 48 → s ≡ take n (drop (at + 2) bytes) → AwaitsString bytes at p → at + 2 + n ≤ length bytes
-    → 49 ≤ get_or bytes at 0 → get_or bytes at 0 ≤ 57 → get_or bytes (at + 1) 0 ≡ 58 → length bytes < 2 ^ 64 → ReadsString bytes at p s (at + 2 + n)
-short_read bytes at p s n digit e a long low high colon small =
-    let from : at + 2 ≡ at + 1 + 1 = omega arith in
-    let to : at + 1 + 1 + n ≡ at + 2 + n = omega arith in
-    let digits : ReadsDigits bytes at n (at + 1) = subst (λ m. ReadsDigits bytes at m (at + 1)) (sym digit) (one_digit_read bytes at (omega arith) low high colon) in
-    subst (ReadsString bytes at p s) to
-    (string_read bytes at p n (at + 1) s (e ∙ ap (λ m. take n (drop m bytes)) from) a digits (omega arith, colon) (omega arith) small)

@@ -19,10 +19,6 @@ pub(crate) fn string_at(bytes: &[u8], at: usize) -> Result<(&[u8], usize), Bad>
     if has_six(bytes, at) {
         return Ok((&bytes[at + 2..at + 8], at + 8));
     }
-    match short_at(bytes, at) {
-        Some(short) => return Ok(short),
-        None => {}
-    }
     if has_byte(bytes, at, b'0') {
         if !has_byte(bytes, at + 1, b':') {
             return Err(Bad::NotBencode { at: at + 1 });
@@ -59,28 +55,6 @@ fn has_six(bytes: &[u8], at: usize) -> bool
         return false;
     }
     bytes[at + 1] == b':'
-}
-
-/// The string at a place and where it ends, if its length is of one digit, as that of most keys is, and not 0.
-#[inline(always)]
-fn short_at(bytes: &[u8], at: usize) -> Option<(&[u8], usize)>
-    requires { at ≤ length bytes.now }
-    ensures moves { IfSome result (λ x. (at < x.1) × (x.1 ≤ length bytes.now)) }
-    ensures reads { IfSome result (λ x. (p : Place) → AwaitsString bytes.now at p
-        → ReadsString bytes.now at p x.0.now x.1) }
-{
-    if bytes.len() - at < 2 {
-        return None;
-    }
-    if bytes[at] < b'1' || bytes[at] > b'9' || bytes[at + 1] != b':' {
-        return None;
-    }
-    let length = (bytes[at] - b'0') as usize;
-    if length > bytes.len() - (at + 2) {
-        return None;
-    }
-    let next = at + 2 + length;
-    Some((&bytes[at + 2..next], next))
 }
 
 /// The integer at a place, where its `i` stands, and where it ends.

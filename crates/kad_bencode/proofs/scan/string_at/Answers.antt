@@ -9,9 +9,6 @@ returns-then-has_six-clause-reads c p a =
     six_read c.args.bytes.now c.args.at p (take (c.args.at + 8 - (c.args.at + 2)) (drop (c.args.at + 2) c.args.bytes.now))
     (ap (λ n. take n (drop (c.args.at + 2) c.args.bytes.now)) e) a (c.if-has_six.ensures.long refl) (c.if-has_six.ensures.six refl) (c.if-has_six.ensures.colon refl) small
 
-pub returns-in-Some-clause-reads : goal.returns-in-Some-clause-reads
-returns-in-Some-clause-reads c p a = c.in-Some.ensures.reads p a
-
 pub returns-then-not-has_byte-clause-reads : goal.returns-then-not-has_byte-clause-reads
 returns-then-not-has_byte-clause-reads c p a = no_length_unended c.args.bytes.now c.args.at p a c.if-has_byte.ensures c.if-not-has_byte.ensures
 
