@@ -62,7 +62,7 @@ query_text tx args ask t a =
 pub two_ids_query : (own other : Id) (key name tx : List ℕ) (ask : Ask) → length own.0 ≡ 20 → length other.0 ≡ 20 → length tx ≡ 4
     → arguments_of ask ≡ two_ids own key other → name_of ask ≡ name
     → form (message.Query tx true ask)
-        ≡ codes "d1:ad2:id20:" ++ own.0 ++ string_text key ++ codes "20:" ++ other.0 ++ codes "e1:q" ++ string_text name ++ codes "2:roi1e1:t4:" ++ tx ++ codes "1:y1:qe"
+    ≡ codes "d1:ad2:id20:" ++ own.0 ++ string_text key ++ codes "20:" ++ other.0 ++ codes "e1:q" ++ string_text name ++ codes "2:roi1e1:t4:" ++ tx ++ codes "1:y1:qe"
 two_ids_query own other key name tx ask a b t arguments named =
     query_text tx _ ask t (ap (λ pairs. text_of (Dict pairs)) arguments ∙ ids_text own other key a b)
     ∙ ap (λ l. codes "d1:ad2:id20:" ++ l) (whole_joined own.0 (string_text key) (codes "20:") other.0 (codes "e") (codes "1:q") (string_text (name_of ask)) (codes "2:roi1e1:t4:") tx (codes "1:y1:qe"))

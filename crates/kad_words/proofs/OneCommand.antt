@@ -44,7 +44,6 @@ bound = 2 ^ 64
 below : (n : ℕ) → nat_lt n bound ≡ true → n < bound
 below n e = grind (arith, nat_tests)
 
-
 given_once : {T : Type 0} (Spells : Word → T → Type 0) → ((value : Word) (x y : T) → Spells value x → Spells value y → x ≡ y) → (o : Option Word) (x y : T) → IsGiven Spells o x → IsGiven Spells o y → x ≡ y
 given_once Spells once None x y s t = absurd s
 given_once Spells once (Some value) x y s t = once value x y s t
