@@ -9,3 +9,4 @@ pub mod Stripped
 pub mod Parsing
 pub mod Checks
 pub mod OneCommand
+pub mod GroupWords

@@ -7,8 +7,8 @@ use Rattle.std.proofs.lemmas.Bool.Decides.{nat_tests}
 use Rattle.kad_base.specs.declared.types.Policy.{Policy}
 use Rattle.kad_base.specs.declared.types.Policy.TheVariants as policy
 use Rattle.kad_words.specs.Text.{SpellsHex, SpellsId, SpellsNumber}
-use Rattle.kad_words.specs.Table.{AreSaid, Choice, Entry, IsLook, IsSaid, MayIdOf, MayNumberOf, MaySeedOf, NumberOf, Part, PolicyBy, Says, Values, Word, kind_of, kind_word, parts_of, word_of}
-use Rattle.kad_words.specs.Table.Part.{gives_id, gives_seed, gives_number, may_give_number, gives_policy, gives_look}
+use Rattle.kad_words.specs.Table.{AreSaid, Choice, Entry, IsLook, IsSaid, MayIdOf, MayNumberOf, MaySeedOf, NumberOf, Part, PolicyBy, Says, StandsOf, Values, Word, kind_of, kind_word, parts_of, word_of}
+use Rattle.kad_words.specs.Table.Part.{gives_id, gives_seed, gives_number, may_give_number, says_whether, gives_policy, gives_look}
 use Rattle.kad_words.specs.Plain.{CommandOf, IsPlain, pairs_of, values_of}
 use Rattle.kad_words.specs.Fitting.{ends_below}
 use Rattle.kad_words.specs.declared.choice.Kind.{Kind}
@@ -86,7 +86,8 @@ look_once goal value a b s t =
     let timeout = or_once 2000 1 60000 (lit< tt) _ a.timeout b.timeout s.timeout t.timeout in
     let bits = or_once 1 1 5 (lit< tt) _ a.bits b.bits s.bits t.bits in
     let passes = policy_once _ _ a.policy b.policy s.policy t.policy in
-    λ i. record { target = target i; own = own i; k = k i; paths = paths i; alpha = alpha i; timeout = timeout i; bits = bits i; policy = passes i }
+    let sealed = s.sealed ∙ sym t.sealed in
+    λ i. record { target = target i; own = own i; k = k i; paths = paths i; alpha = alpha i; timeout = timeout i; bits = bits i; policy = passes i; sealed = sealed i }
 
 number_by_once : (kind : Kind) (need : Need) → ends_below bound kind ≡ true → (o : Option Word) (x y : ℕ) → NumberBy kind need o x → NumberBy kind need o y → x ≡ y
 number_by_once (Number least most) (OrElse d) small o x y s t = or_once d least most (below most small) o x y s t
@@ -102,6 +103,7 @@ data Shape : Type 0 where
   of_seed : Choice → Shape
   of_number : Choice → Shape
   of_may_number : Choice → Shape
+  of_whether : Choice → Shape
   of_policy : Shape
   of_look : Choice → Shape
 
@@ -110,6 +112,7 @@ shape (gives_id c x) = of_id c
 shape (gives_seed c x) = of_seed c
 shape (gives_number c x) = of_number c
 shape (may_give_number c x) = of_may_number c
+shape (says_whether c x) = of_whether c
 shape (gives_policy x) = of_policy
 shape (gives_look c x) = of_look c
 
@@ -136,6 +139,10 @@ part_once value (may_give_number c x) (may_give_number d y) e small s t =
     let same : d ≡ c = cc in
     let t' = subst (λ (k : Choice). MayNumberOf k value y) same t in
     let one = may_number_once c.entry.kind small _ x y s t' in cc
+part_once value (says_whether c x) (says_whether d y) e small s t =
+    let same : d ≡ c = cc in
+    let t' = subst (λ (k : Choice). StandsOf k value y) same t in
+    let one : x ≡ y = s ∙ sym t' in cc
 part_once value (gives_policy x) (gives_policy y) e small s t = ap gives_policy (policy_once _ _ x y s t)
 part_once value (gives_look c x) (gives_look d y) e small s t =
     let same : d ≡ c = cc in

@@ -3,7 +3,7 @@ use Rattle.std.specs.Prelude.{◌≡◌, List, [], ◌∷◌, ◌⊎◌, Option,
 use Rattle.kad_base.specs.declared.types.Addr.{Addr}
 use Rattle.kad_base.specs.declared.types.Ip.TheVariants.{V4}
 use Rattle.kad_words.specs.Text.{SpellsAddr}
-use Rattle.kad_words.specs.Table.{Word, bind_option, kind_word, links, option_word}
+use Rattle.kad_words.specs.Table.{Choice, Word, bind_option, kind_word, links, option_word}
 use Rattle.kad_words.specs.declared.command.CommandKind.{CommandKind}
 use Rattle.kad_words.specs.Plain.{pairs_of, value_of}
 
@@ -11,10 +11,14 @@ use Rattle.kad_words.specs.Plain.{pairs_of, value_of}
 abbrev pub any_address : Addr
 any_address = record { ip = V4 (0 ∷ 0 ∷ 0 ∷ 0 ∷ []); port = 0 }
 
--- the value of the first option `--bind` among the words two by two after the first, where it spells an address
+-- the value of the first such option among the words two by two after the first, whatever else these are
+abbrev pub first_given : Choice → List Word → Option Word
+first_given c [] = None
+first_given c (command ∷ rest) = value_of (option_word c.entry.name) (pairs_of rest)
+
+-- that of `--bind`
 abbrev pub bound_by : List Word → Option Word
-bound_by [] = None
-bound_by (command ∷ rest) = value_of (option_word bind_option.entry.name) (pairs_of rest)
+bound_by words = first_given bind_option words
 
 -- the value spells this address; or there is no value, or one that spells none, and this is the default
 abbrev pub IsBind : Option Word → Addr → Type 0

@@ -3,6 +3,7 @@ pub mod Values
 pub mod Table
 pub mod Plain
 pub mod Bound
+pub mod Grouped
 pub mod Listed
 pub mod Taken
 pub mod Fitting

@@ -7,7 +7,7 @@ use Rattle.kad_base.specs.declared.types.Addr.{Addr}
 use Rattle.kad_words.specs.Text.{SpellsAddr, SpellsHex, SpellsId, SpellsNumber}
 use Rattle.kad_words.specs.Table.{Entry, Says, Values, Word, kind_named, kind_word, option_word, options_of, word_of}
 use Rattle.kad_words.specs.declared.choice.Kind.{Kind}
-use Rattle.kad_words.specs.declared.choice.Kind.TheVariants.{Identifier, Seed, Number, Address}
+use Rattle.kad_words.specs.declared.choice.Kind.TheVariants.{Identifier, Bytes32, Number, Address}
 use Rattle.kad_words.specs.declared.choice.Need.{Need}
 use Rattle.kad_words.specs.declared.choice.Need.TheVariants.{Required, Optional, OrElse}
 use Rattle.kad_words.specs.declared.command.Command.{Command}
@@ -35,7 +35,7 @@ IsValue (c ∷ rest) = c ≢ 45
 -- the text spells some value of the kind
 abbrev pub IsOfKind : Kind → Word → Type 0
 IsOfKind Identifier text = (id : Id) × SpellsId text id
-IsOfKind Seed text = (seed : List ℕ) × SpellsHex 32 text seed
+IsOfKind Bytes32 text = (bytes : List ℕ) × SpellsHex 32 text bytes
 IsOfKind (Number least most) text = (n : ℕ) × SpellsNumber least most text n
 IsOfKind Address text = (addr : Addr) × SpellsAddr text addr
 

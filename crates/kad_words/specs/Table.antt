@@ -1,6 +1,6 @@
 -- The commands and their options, which are this project's own: one line an option, with what its value is, whether it
 -- has to stand or what stands for it, and the commands that have it; and what the words of each command ask for.
-use Rattle.std.specs.Prelude.{Bool, true, false, ℕ, List, [], ◌∷◌, ◌++◌, map, filter, codes, bytes_eq, find, option_map, Option, Some, None}
+use Rattle.std.specs.Prelude.{◌≡◌, Bool, true, false, ℕ, List, [], ◌∷◌, ◌++◌, map, filter, codes, bytes_eq, find, option_map, is_some, Option, Some, None}
 use Rattle.std.specs.List.{list_any}
 use Rattle.kad_base.specs.declared.types.Id.{Id}
 use Rattle.kad_base.specs.declared.types.Policy.{Policy}
@@ -13,7 +13,7 @@ use Rattle.kad_words.specs.declared.command.CommandKind.{CommandKind}
 use Rattle.kad_words.specs.declared.command.CommandKind.TheVariants as kind
 use Rattle.kad_words.specs.declared.command.LookWords.{LookWords}
 use Rattle.kad_words.specs.declared.choice.Kind.{Kind}
-use Rattle.kad_words.specs.declared.choice.Kind.TheVariants.{Identifier, Seed, Number, Address}
+use Rattle.kad_words.specs.declared.choice.Kind.TheVariants.{Identifier, Bytes32, Number, Address}
 use Rattle.kad_words.specs.declared.choice.Need.{Need}
 use Rattle.kad_words.specs.declared.choice.Need.TheVariants.{Required, Optional, OrElse}
 
@@ -73,7 +73,7 @@ links kind.Peers = true
 links kind.Serve = true
 links other = false
 
--- ---- the options. An identifier is 40 hex digits and a seed 64; times are milliseconds
+-- ---- the options. An identifier is 40 hex digits, and 32 bytes are 64; times are milliseconds
 
 abbrev pub target_option : Choice
 target_option = choice (codes "target") Identifier Required (lookup ∷ [])
@@ -108,6 +108,9 @@ c2_option = choice (codes "c2") (Number 0 32) (OrElse 0) (lookup ∷ peers ∷ s
 abbrev pub bind_option : Choice
 bind_option = choice (codes "bind") Address Optional (lookup ∷ peers ∷ serve ∷ [])
 
+abbrev pub group_option : Choice
+group_option = choice (codes "group") Bytes32 Optional (lookup ∷ peers ∷ serve ∷ [])
+
 abbrev pub announce_option : Choice
 announce_option = choice (codes "announce") (Number 0 65535) Optional (peers ∷ [])
 
@@ -115,7 +118,7 @@ abbrev pub receives_option : Choice
 receives_option = choice (codes "receives") (Number 1 1000000000) (OrElse 1000000000) (serve ∷ [])
 
 abbrev pub seed_option : Choice
-seed_option = choice (codes "seed") Seed Optional (mint ∷ sim ∷ [])
+seed_option = choice (codes "seed") Bytes32 Optional (mint ∷ sim ∷ [])
 
 abbrev pub tries_option : Choice
 tries_option = choice (codes "tries") (Number 1 16777216) (OrElse 1048576) (mint ∷ [])
@@ -128,7 +131,7 @@ hostile_option = choice (codes "hostile") (Number 0 100) (OrElse 0) (sim ∷ [])
 
 -- all of them
 abbrev pub table : List Choice
-table = target_option ∷ key_option ∷ own_option ∷ k_option ∷ paths_option ∷ alpha_option ∷ timeout_option ∷ bits_option ∷ c1_option ∷ c2_option ∷ bind_option ∷ announce_option ∷ receives_option
+table = target_option ∷ key_option ∷ own_option ∷ k_option ∷ paths_option ∷ alpha_option ∷ timeout_option ∷ bits_option ∷ c1_option ∷ c2_option ∷ bind_option ∷ group_option ∷ announce_option ∷ receives_option
     ∷ seed_option ∷ tries_option ∷ nodes_option ∷ hostile_option ∷ []
 
 -- the options of a command
@@ -149,7 +152,7 @@ kind_named entries word = option_map (λ (e : Entry). e.kind) (find (λ (e : Ent
 abbrev pub Values : Type 0
 Values = Word → Option Word
 
--- what the values give for an option of each kind: an identifier, a seed, a number
+-- what the values give for an option of each kind: an identifier, a seed, a number, or whether it stands
 abbrev pub MayIdOf : Choice → Values → Option Id → Type 0
 MayIdOf c value id = MayBeGiven SpellsId (value c.entry.name) id
 
@@ -161,6 +164,9 @@ NumberOf c value n = NumberBy c.entry.kind c.entry.need (value c.entry.name) n
 
 abbrev pub MayNumberOf : Choice → Values → Option ℕ → Type 0
 MayNumberOf c value n = MayNumberBy c.entry.kind (value c.entry.name) n
+
+abbrev pub StandsOf : Choice → Values → Bool → Type 0
+StandsOf c value stands = stands ≡ is_some (value c.entry.name)
 
 -- the policy is plain where neither number of bits stands. Where one stands, the other is its default
 abbrev pub PolicyBy : Option Word → Option Word → Policy → Type 0
@@ -186,14 +192,16 @@ pub record IsLook (goal : Entry) (value : Values) (look : LookWords) : Type 0 wh
   pub timeout : NumberOf timeout_option value look.timeout
   pub bits : NumberOf bits_option value look.bits
   pub policy : PolicyOf value look.policy
+  pub sealed : StandsOf group_option value look.sealed
 
--- a part of a command, and the option that gives it: an identifier, a seed, a number, a number that may be left out; or a
--- policy, or a lookup with the option that names its target
+-- a part of a command, and the option that gives it: an identifier, a seed, a number, a number that may be left out, whether
+-- it stands; or a policy, or a lookup with the option that names its target
 pub data Part : Type 0 where
   gives_id : Choice → Option Id → Part
   gives_seed : Choice → Option (List ℕ) → Part
   gives_number : Choice → ℕ → Part
   may_give_number : Choice → Option ℕ → Part
+  says_whether : Choice → Bool → Part
   gives_policy : Policy → Part
   gives_look : Choice → LookWords → Part
 
@@ -203,6 +211,7 @@ IsSaid value (gives_id c id) = MayIdOf c value id
 IsSaid value (gives_seed c seed) = MaySeedOf c value seed
 IsSaid value (gives_number c n) = NumberOf c value n
 IsSaid value (may_give_number c n) = MayNumberOf c value n
+IsSaid value (says_whether c stands) = StandsOf c value stands
 IsSaid value (gives_policy policy) = PolicyOf value policy
 IsSaid value (gives_look c look) = IsLook c.entry value look
 
@@ -215,7 +224,8 @@ AreSaid value (part ∷ parts) = IsSaid value part × AreSaid value parts
 abbrev pub parts_of : Command → List Part
 parts_of (Lookup look) = gives_look target_option look ∷ []
 parts_of (Peers look announce) = gives_look key_option look ∷ may_give_number announce_option announce ∷ []
-parts_of (Serve own k bits policy receives) = gives_id own_option own ∷ gives_number k_option k ∷ gives_number bits_option bits ∷ gives_policy policy ∷ gives_number receives_option receives ∷ []
+parts_of (Serve own k bits policy receives sealed) =
+    gives_id own_option own ∷ gives_number k_option k ∷ gives_number bits_option bits ∷ gives_policy policy ∷ gives_number receives_option receives ∷ says_whether group_option sealed ∷ []
 parts_of (Check policy) = gives_policy policy ∷ []
 parts_of (Mint seed c1 c2 tries) = gives_seed seed_option seed ∷ gives_number c1_option c1 ∷ gives_number c2_option c2 ∷ gives_number tries_option tries ∷ []
 parts_of (Sim seed nodes hostile k paths alpha timeout) =
@@ -229,7 +239,7 @@ Says value command = AreSaid value (parts_of command)
 abbrev pub kind_of : Command → CommandKind
 kind_of (Lookup look) = kind.Lookup
 kind_of (Peers look announce) = kind.Peers
-kind_of (Serve own k bits policy receives) = kind.Serve
+kind_of (Serve own k bits policy receives sealed) = kind.Serve
 kind_of (Check policy) = kind.Check
 kind_of (Mint seed c1 c2 tries) = kind.Mint
 kind_of (Sim seed nodes hostile k paths alpha timeout) = kind.Sim

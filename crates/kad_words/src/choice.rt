@@ -11,7 +11,7 @@ pub(crate) enum Kind {
     /// 20 bytes in hex.
     Identifier,
     /// 32 bytes in hex.
-    Seed,
+    Bytes32,
     /// A decimal number without leading zeros, within these bounds.
     Number { least: u32, most: u32 },
     /// An IPv4 address with its port.
@@ -70,7 +70,7 @@ pub(crate) fn is_of_kind(kind: Kind, text: &str) -> bool
 {
     match kind {
         Kind::Identifier => read_id(text).is_some(),
-        Kind::Seed => read_hex::<32>(text).is_some(),
+        Kind::Bytes32 => read_hex::<32>(text).is_some(),
         Kind::Number { least, most } => read_number(text, least, most).is_some(),
         Kind::Address => read_addr(text).is_some(),
     }

@@ -8,15 +8,16 @@ ghost use Rattle.kad_words.specs.declared.command.CommandKind.{CommandKind};
 
 use crate::choice::{Choice, Kind, Need};
 use crate::options::{
-    ALPHA, ANNOUNCE, BIND, BITS, C1, C2, HOSTILE, K, KEY, NODES, OWN, PATHS, RECEIVES, SEED,
+    ALPHA, ANNOUNCE, BIND, BITS, C1, C2, GROUP, HOSTILE, K, KEY, NODES, OWN, PATHS, RECEIVES, SEED,
     TARGET, TIMEOUT, TRIES,
 };
-use crate::values::{id, needed_id, number, policy, port, seed, small};
+use crate::values::{id, needed_id, number, policy, port, seed, small, stands};
 use clap::ArgMatches;
 use kad_base::{Id, Policy};
 use thiserror::Error;
 
-/// A command, with a value for each of its options. `--bind` is in none: see `bind_of`.
+/// A command, with a value for each of its options. `--bind` is in none (see `bind_of`), and of `--group` only that it
+/// stands (see `group_of`).
 #[derive(Clone, Copy, Debug, PartialEq, Eq)]
 pub enum Command {
     /// Look for the nodes closest to an identifier.
@@ -28,13 +29,14 @@ pub enum Command {
         look: LookWords,
         announce: Option<u16>,
     },
-    /// Answer queries, for that many receive calls.
+    /// Answer queries, for that many receive calls. `sealed` is whether replies carry a group's tag.
     Serve {
         own: Option<Id>,
         k: u8,
         bits: u8,
         policy: Policy,
         receives: u32,
+        sealed: bool,
     },
     /// Say which contact lines pass a policy.
     Check {
@@ -61,7 +63,8 @@ pub enum Command {
 }
 
 /// The options that every lookup has: the target, the node's own identifier where it is named, Kademlia's k, the
-/// disjoint paths, alpha on each, how long to wait for an answer, in milliseconds, Kademlia's b, and which contacts pass.
+/// disjoint paths, alpha on each, how long to wait for an answer, in milliseconds, Kademlia's b, which contacts pass, and
+/// whether an answer has to carry a group's tag.
 #[derive(Clone, Copy, Debug, PartialEq, Eq)]
 pub struct LookWords {
     pub target: Id,
@@ -72,6 +75,7 @@ pub struct LookWords {
     pub timeout: u32,
     pub bits: u8,
     pub policy: Policy,
+    pub sealed: bool,
 }
 
 /// Why words give no command.
@@ -85,13 +89,15 @@ pub enum WordsFault {
     NoMemory,
 }
 
-static LOOKUP: [Choice; 10] = [TARGET, OWN, K, PATHS, ALPHA, TIMEOUT, BITS, C1, C2, BIND];
-
-static PEERS: [Choice; 11] = [
-    KEY, OWN, K, PATHS, ALPHA, TIMEOUT, BITS, C1, C2, BIND, ANNOUNCE,
+static LOOKUP: [Choice; 11] = [
+    TARGET, OWN, K, PATHS, ALPHA, TIMEOUT, BITS, C1, C2, BIND, GROUP,
 ];
 
-static SERVE: [Choice; 7] = [OWN, K, BITS, C1, C2, BIND, RECEIVES];
+static PEERS: [Choice; 12] = [
+    KEY, OWN, K, PATHS, ALPHA, TIMEOUT, BITS, C1, C2, BIND, GROUP, ANNOUNCE,
+];
+
+static SERVE: [Choice; 8] = [OWN, K, BITS, C1, C2, BIND, GROUP, RECEIVES];
 
 static CHECK: [Choice; 2] = [C1, C2];
 
@@ -182,6 +188,7 @@ fn look(matches: &ArgMatches, goal: &Choice) -> LookWords
         timeout: number(matches, &TIMEOUT),
         bits: small(matches, &BITS),
         policy: policy(matches),
+        sealed: stands(matches, &GROUP),
     }
 }
 
@@ -217,6 +224,7 @@ fn serve(matches: &ArgMatches) -> Command
         bits: small(matches, &BITS),
         policy: policy(matches),
         receives: number(matches, &RECEIVES),
+        sealed: stands(matches, &GROUP),
     }
 }
 

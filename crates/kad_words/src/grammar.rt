@@ -1,6 +1,6 @@
 //! The plain form: the words after a command are pairs of one of its options and a value, none stands twice, and those
 //! that have to stand are there. It takes no memory.
-ghost use Rattle.std.specs.Prelude.{◌≡◌, ◌↔◌, ◌==◌, length, map, string_bytes, IsTrue, option_map};
+ghost use Rattle.std.specs.Prelude.{◌≡◌, ◌↔◌, ◌==◌, length, map, string_bytes, IsTrue, is_some, option_map};
 ghost use Rattle.kad_words.specs.Table.{kind_named, option_word};
 ghost use Rattle.kad_words.specs.Listed.{entries_of};
 ghost use Rattle.kad_words.specs.Plain.{AreThere, Belongs, InPairs, pairs_of, value_of};
@@ -47,6 +47,13 @@ fn belongs(option: &str, value: &str, choices: &[Choice]) -> bool
         Some(kind) => is_value(value) && is_of_kind(kind, value),
         None => false,
     }
+}
+
+/// Whether a word is one of these options.
+pub(crate) fn is_among(word: &str, choices: &[Choice]) -> bool
+    ensures { result ≡ is_some (kind_named (entries_of choices.now) word.now) }
+{
+    kind_named(choices, word).is_some()
 }
 
 /// What the value of an option is, where the word is one of these.

@@ -6,6 +6,7 @@ mod bind;
 mod choice;
 pub mod command;
 mod grammar;
+mod group;
 mod matched;
 mod options;
 mod reading;
@@ -14,4 +15,5 @@ mod values;
 
 pub use bind::{bind_of, takes_link};
 pub use command::{Command, CommandKind, LookWords, WordsFault};
+pub use group::{group_of, lacks_group};
 pub use reading::{one_command, read};

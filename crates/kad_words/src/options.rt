@@ -58,11 +58,13 @@ pub(crate) const C2: Choice = choice!("c2", 0, 32, 0);
 
 pub(crate) const BIND: Choice = choice!("bind", Address, Optional);
 
+pub(crate) const GROUP: Choice = choice!("group", Bytes32, Optional);
+
 pub(crate) const ANNOUNCE: Choice = choice!("announce", 0, 65_535);
 
 pub(crate) const RECEIVES: Choice = choice!("receives", 1, 1_000_000_000, 1_000_000_000);
 
-pub(crate) const SEED: Choice = choice!("seed", Seed, Optional);
+pub(crate) const SEED: Choice = choice!("seed", Bytes32, Optional);
 
 pub(crate) const TRIES: Choice = choice!("tries", 1, 16_777_216, 1_048_576);
 

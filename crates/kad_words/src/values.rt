@@ -1,5 +1,5 @@
 //! The values of options, read from what clap found. Each of them fits its option: see `plain`.
-ghost use Rattle.std.specs.Prelude.{◌≡◌, IsTrue};
+ghost use Rattle.std.specs.Prelude.{◌≡◌, IsTrue, is_some};
 ghost use Rattle.kad_words.specs.Text.{SpellsHex, SpellsId};
 ghost use Rattle.kad_words.specs.Listed.{entry_of};
 ghost use Rattle.kad_words.specs.Table.{c1_option, c2_option, PolicyOf};
@@ -35,7 +35,7 @@ pub(crate) fn id(matches: &ArgMatches, choice: &Choice) -> Option<Id>
 /// The 32 bytes of an option that may be left out.
 pub(crate) fn seed(matches: &ArgMatches, choice: &Choice) -> Option<[u8; 32]>
     requires fits { Fits (entry_of choice.now) (taken_of matches.now choice.now.name.now) }
-    requires kind { choice.now.kind ≡ Kind.Seed }
+    requires kind { choice.now.kind ≡ Kind.Bytes32 }
     ensures { MayBeGiven (SpellsHex 32) (taken_of matches.now choice.now.name.now) result }
 {
     read_hex(matches.get_str(choice.name)?)
@@ -80,6 +80,13 @@ pub(crate) fn port(matches: &ArgMatches, choice: &Choice) -> Option<u16>
         unreachable!()
     };
     Some(read_number(matches.get_str(choice.name)?, least, most)? as u16)
+}
+
+/// Whether an option stands.
+pub(crate) fn stands(matches: &ArgMatches, choice: &Choice) -> bool
+    ensures { result ≡ is_some (taken_of matches.now choice.now.name.now) }
+{
+    matches.get_str(choice.name).is_some()
 }
 
 /// Which contacts pass: all, where neither number of bits stands. Where one stands, the other is its default.

@@ -1,12 +1,14 @@
-//! Lists of words and what each gives. Words are parted by one space; `ID` stands for an identifier of 40 digits and
-//! `SEED` for 64.
+//! Lists of words and what each gives. Words are parted by one space; `ID` stands for an identifier of 40 digits, `SEED`
+//! for 64 and `ZEROS` for 64 zeros.
 use kad_base::{Addr, Id, Ip, Policy};
-use kad_words::{Command, LookWords, WordsFault, bind_of, read, takes_link};
+use kad_words::{Command, LookWords, WordsFault, bind_of, group_of, lacks_group, read, takes_link};
 use std::alloc::{AllocError, Global};
 
 const ID: &str = "00000000000000000000000000000000000000aF";
 
 const SEED: &str = "01000000000000000000000000000000000000000000000000000000000000Fe";
+
+const ZEROS: &str = "0000000000000000000000000000000000000000000000000000000000000000";
 
 fn words_of(alloc: Global, line: &str) -> Result<Vec<String>, AllocError> {
     let mut words = Vec::new(alloc);
@@ -14,6 +16,7 @@ fn words_of(alloc: Global, line: &str) -> Result<Vec<String>, AllocError> {
         let word = match word {
             "ID" => ID,
             "SEED" => SEED,
+            "ZEROS" => ZEROS,
             _ => word,
         };
         words.push(String::from_str(alloc, word)?)?;
@@ -54,6 +57,7 @@ fn look() -> LookWords {
         timeout: 2000,
         bits: 1,
         policy: Policy::Plain,
+        sealed: false,
     }
 }
 
@@ -121,6 +125,13 @@ fn words_of_a_lookup(rt: HostRuntime) {
             },
         ),
         ("lookup --target ID --bind 127.0.0.1:7000", look),
+        (
+            "lookup --group SEED --target ID",
+            LookWords {
+                sealed: true,
+                ..look
+            },
+        ),
     ] {
         assert_eq!(rt;
             read_line(rt.alloc(), line),
@@ -140,6 +151,7 @@ fn words_of_the_other_commands(rt: HostRuntime) {
         bits: 1,
         policy: Policy::Plain,
         receives: 1_000_000_000,
+        sealed: false,
     };
     let sim = Command::Sim {
         seed: None,
@@ -177,7 +189,7 @@ fn words_of_the_other_commands(rt: HostRuntime) {
             },
         ),
         (
-            "peers --key ID --own ID --k 20 --paths 8 --alpha 4 --timeout 60000 --bits 5 --c1 32 --c2 32 --bind 1.2.3.4:5 --announce 1",
+            "peers --key ID --own ID --k 20 --paths 8 --alpha 4 --timeout 60000 --bits 5 --c1 32 --c2 32 --bind 1.2.3.4:5 --group SEED --announce 1",
             Command::Peers {
                 look: LookWords {
                     target: id(),
@@ -188,6 +200,7 @@ fn words_of_the_other_commands(rt: HostRuntime) {
                     timeout: 60000,
                     bits: 5,
                     policy: Policy::Puzzled { c1: 32, c2: 32 },
+                    sealed: true,
                 },
                 announce: Some(1),
             },
@@ -201,6 +214,18 @@ fn words_of_the_other_commands(rt: HostRuntime) {
                 bits: 3,
                 policy: puzzled,
                 receives: 1,
+                sealed: false,
+            },
+        ),
+        (
+            "serve --group SEED --receives 2",
+            Command::Serve {
+                own: None,
+                k: 8,
+                bits: 1,
+                policy: Policy::Plain,
+                receives: 2,
+                sealed: true,
             },
         ),
         ("serve --receives 1000000000", serve),
@@ -305,6 +330,12 @@ fn words_that_are_refused(rt: HostRuntime) {
         "lookup --target ID --bind 127.0.0.1:65536",
         "lookup --target ID --bind 127.0.0.01:1",
         "lookup --target ID --announce 1",
+        "lookup --target ID --group",
+        "lookup --target ID --group ID",
+        "lookup --target ID --group 010000000000000000000000000000000000000000000000000000000000000",
+        "lookup --target ID --group 01000000000000000000000000000000000000000000000000000000000000000",
+        "lookup --target ID --group 01000000000000000000000000000000000000000000000000000000000000g0",
+        "lookup --target ID --group SEED --group SEED",
         "lookup --target ID 8",
         "--target ID lookup",
         "peers --key ID --announce 65536",
@@ -314,13 +345,16 @@ fn words_that_are_refused(rt: HostRuntime) {
         "serve --paths 1",
         "check --c2 33",
         "check --k 1",
+        "check --group SEED",
         "mint --seed ID",
         "mint --tries 0",
         "mint --tries 16777217",
         "mint --own ID",
+        "mint --group SEED",
         "sim --nodes 20001",
         "sim --hostile 101",
         "sim --c1 1",
+        "sim --group SEED",
         "sim --h 1",
     ] {
         assert_eq!(rt;
@@ -358,5 +392,34 @@ fn the_address_to_bind(rt: HostRuntime) {
         let words = words_of(rt.alloc(), line).expect(&rt, "memory");
         assert_eq!(rt; bind_of(words.as_slice()), addr, "at {line}");
         assert_eq!(rt; takes_link(words.as_slice()), over_link, "at {line}");
+    }
+}
+
+#[test]
+fn the_key_of_a_group(rt: HostRuntime) {
+    let key = Some(seed());
+    let zeros = Some([0; 32]);
+    for (line, group, lacks) in [
+        ("lookup --target ID --group SEED", key, false),
+        ("serve --group SEED --group ZEROS", key, false),
+        ("serve --group ZEROS --group SEED", zeros, false),
+        ("sim --group SEED", key, false),
+        ("find --group SEED", key, false),
+        ("peers --key ID --group ID --group SEED", None, false),
+        ("peers --k --group SEED", None, true),
+        ("lookup --group", None, true),
+        ("lookup --target ID", None, true),
+        ("peers", None, true),
+        ("serve --receives 1", None, true),
+        ("check", None, false),
+        ("mint --seed SEED", None, false),
+        ("sim", None, false),
+        ("find", None, false),
+        ("--group SEED", None, false),
+        ("", None, false),
+    ] {
+        let words = words_of(rt.alloc(), line).expect(&rt, "memory");
+        assert_eq!(rt; group_of(words.as_slice()), group, "at {line}");
+        assert_eq!(rt; lacks_group(words.as_slice()), lacks, "at {line}");
     }
 }
