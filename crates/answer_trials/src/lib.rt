@@ -9,6 +9,8 @@ mod peers;
 #[cfg(test)]
 mod replies;
 #[cfg(test)]
+mod sealed;
+#[cfg(test)]
 mod silence;
 #[cfg(test)]
 mod store;

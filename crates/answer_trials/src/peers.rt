@@ -124,10 +124,11 @@ fn gives_a_token_and_the_peers_of_the_key(rt: HostRuntime) -> Result<(), Fail> {
     Ok(())
 }
 
-/// Adds the peers of 127.0.0.1 with the ports 1 to n, the last one first.
-pub fn add_ports(node: &mut Node, n: u16) -> bool {
+/// Adds the peers of 127.0.0.1 with the ports 1 to n, the last one first, and says whether each reply was this.
+pub fn add_ports(node: &mut Node, n: u16, wanted: &[u8]) -> bool {
+    let datagram = announcement(implied(&TOKEN));
     for i in 0..n {
-        if !adds(node, local(n - i), implied(&TOKEN), 0) {
+        if !replies(node, local(n - i), datagram.as_slice(), 0, wanted) {
             return false;
         }
     }
@@ -137,10 +138,10 @@ pub fn add_ports(node: &mut Node, n: u16) -> bool {
 #[test]
 fn names_the_first_50_peers(rt: HostRuntime) -> Result<(), Fail> {
     let mut node = node(rt.alloc(), 8, Policy::Plain)?;
-    assert!(&rt; add_ports(&mut node, 49));
+    assert!(&rt; add_ports(&mut node, 49, pong().as_slice()));
     let last = b"6:\x7f\0\0\x01\0\x31ee1:t2:aa1:y1:re";
     assert!(&rt; ends(&mut node, local(9), WANTED, 0, 475, last));
-    assert!(&rt; add_ports(&mut node, 51));
+    assert!(&rt; add_ports(&mut node, 51, pong().as_slice()));
     let last = b"6:\x7f\0\0\x01\0\x32ee1:t2:aa1:y1:re";
     assert!(&rt; ends(&mut node, local(9), WANTED, 0, 483, last));
     Ok(())
@@ -152,7 +153,7 @@ fn refuses_a_peer_where_65536_are_held(rt: HostRuntime) -> Result<(), Fail> {
     let token = [15, 197, 79, 164, 210, 200, 79, 22];
     let refused = b"d1:eli202e12:Server Errore1:t2:aa1:y1:ee";
     let datagram = announcement(implied(&token));
-    assert!(&rt; add_ports(&mut node, 65_535));
+    assert!(&rt; add_ports(&mut node, 65_535, pong().as_slice()));
     assert!(&rt; adds(&mut node, other(1), implied(&token), 0));
     assert!(&rt; replies(&mut node, other(2), datagram.as_slice(), 0, refused));
     assert!(&rt; adds(&mut node, other(1), implied(&token), 0));

@@ -1,10 +1,12 @@
 //! Datagrams and replies worked by hand. The node's own identifier is 20 bytes of 255, and who asks has the identifier
-//! `abcdefghij0123456789`. The random bytes are 0 to 31: the tokens of them are another program's.
+//! `abcdefghij0123456789`. The random bytes are 0 to 31, and the seal's key is 32 zero bytes: the tokens and tags of them are
+//! another program's.
 ghost use Rattle.std.specs.Prelude.{◌<◌, ◌≤◌};
 
 use contact_table::Table;
 use kad_base::{Addr, Id, List, NoMemory, Policy};
 use node_serve::{Answered, Node};
+use seal_tags::GroupSeal;
 use std::alloc::Global;
 use trial_kit::contact;
 
@@ -26,14 +28,35 @@ pub fn random() -> [u8; 32] {
     bytes
 }
 
+/// The seal that each node is handed, whether it is sealed or not.
+fn seal() -> GroupSeal {
+    GroupSeal::new([0; 32])
+}
+
 /// A node with no contacts and no proofs.
-pub fn node(alloc: Global, k: u8, policy: Policy) -> Result<Node, NoMemory>
+fn bare_node(alloc: Global, k: u8, policy: Policy, sealed: bool) -> Result<Node, NoMemory>
     requires some_nodes { 0 < k }
     requires few_nodes { k ≤ 20 }
 {
     let table = Table::new(alloc, OWN, k, 1)?;
     let proofs = List::new(alloc);
-    Ok(Node::new(alloc, OWN, k, policy, table, proofs, &random(), 0))
+    Ok(Node::new(alloc, OWN, k, policy, table, proofs, &random(), 0, sealed))
+}
+
+/// One that tags nothing.
+pub fn node(alloc: Global, k: u8, policy: Policy) -> Result<Node, NoMemory>
+    requires some_nodes { 0 < k }
+    requires few_nodes { k ≤ 20 }
+{
+    bare_node(alloc, k, policy, false)
+}
+
+/// One that is sealed.
+pub fn sealed_node(alloc: Global, k: u8, policy: Policy) -> Result<Node, NoMemory>
+    requires some_nodes { 0 < k }
+    requires few_nodes { k ≤ 20 }
+{
+    bare_node(alloc, k, policy, true)
 }
 
 /// The last digit of a number.
@@ -99,7 +122,7 @@ pub fn joined(parts: &[&[u8]]) -> Text {
 /// Whether the reply is this.
 pub fn replies(node: &mut Node, from: Addr, bytes: &[u8], at: u64, wanted: &[u8]) -> bool {
     let mut out = [0; 4096];
-    match node.answer(from, bytes, at, &mut out) {
+    match node.answer(from, bytes, at, &seal(), &mut out) {
         Answered::Reply(length) => &out[..length] == wanted,
         _ => false,
     }
@@ -108,7 +131,7 @@ pub fn replies(node: &mut Node, from: Addr, bytes: &[u8], at: u64, wanted: &[u8]
 /// Whether the reply has this many bytes and ends with these.
 pub fn ends(node: &mut Node, from: Addr, bytes: &[u8], at: u64, length: usize, end: &[u8]) -> bool {
     let mut out = [0; 4096];
-    match node.answer(from, bytes, at, &mut out) {
+    match node.answer(from, bytes, at, &seal(), &mut out) {
         Answered::Reply(n) => n == length && out[..n].ends_with(end),
         _ => false,
     }
@@ -117,7 +140,7 @@ pub fn ends(node: &mut Node, from: Addr, bytes: &[u8], at: u64, length: usize, e
 /// Whether there is no reply.
 pub fn is_silent(node: &mut Node, from: Addr, bytes: &[u8]) -> bool {
     let mut out = [0; 4096];
-    node.answer(from, bytes, 0, &mut out) == Answered::Silent
+    node.answer(from, bytes, 0, &seal(), &mut out) == Answered::Silent
 }
 
 /// How a query says that it is read-only, where it is.
@@ -131,6 +154,16 @@ pub fn mark(read_only: bool) -> &'static [u8] {
 /// The answer to a ping.
 pub fn pong() -> Text {
     joined(&[b"d1:rd2:id20:", &OWN.0, b"e1:t2:aa1:y1:re"])
+}
+
+/// That of a sealed node.
+pub fn tagged_pong() -> Text {
+    joined(&[
+        b"d1:rd2:id20:",
+        &OWN.0,
+        b"e2:sg20:\x2d\x9e\xe4\x59\x1b\x44\x13\xbe\x74\xf1\x94\x2d\x3d\x30\x1f\x43\x40\xfa\x0a\x67",
+        b"1:t2:aa1:y1:re",
+    ])
 }
 
 /// Whether contact n's ping is answered. Unless it is read-only the table is told of it.

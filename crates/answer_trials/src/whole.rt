@@ -1,4 +1,4 @@
-//! Nodes that keep proofs, and the greatest reply.
+//! Nodes that keep proofs, and the greatest reply, plain and tagged.
 ghost use Rattle.std.specs.Prelude.{◌≡◌};
 ghost use Rattle.std.specs.List.{All};
 ghost use Rattle.kad_base.specs.Puzzles.{Passes};
@@ -6,7 +6,7 @@ ghost use Rattle.kad_base.specs.declared.types.Policy.TheVariants.{Puzzled};
 ghost use Rattle.answer_trials.specs.declared.replies.TheConstants.{OWN};
 
 use crate::peers::add_ports;
-use crate::replies::{OWN, ends, joined, random, replies};
+use crate::replies::{OWN, ends, joined, pong, random, replies, tagged_pong};
 use contact_table::{Table, TableCall};
 use id_puzzles::{Minted, mint};
 use kad_base::{Contact, List, NoMemory, Policy, Report, Reports, Serial};
@@ -50,7 +50,7 @@ fn keep(table: &mut Table, proofs: &mut Reports, n: u8) -> Result<(), NoMemory>
 }
 
 /// A node whose table was told of so many contacts without proofs, and of n whose proofs it keeps.
-fn proved_node(alloc: Global, bare: u8, n: u8) -> Result<Node, NoMemory> {
+fn proved_node(alloc: Global, bare: u8, n: u8, sealed: bool) -> Result<Node, NoMemory> {
     let mut table = Table::new(alloc, OWN, 20, 5)?;
     let mut proofs = List::new(alloc);
     for i in 0..bare {
@@ -60,7 +60,7 @@ fn proved_node(alloc: Global, bare: u8, n: u8) -> Result<Node, NoMemory> {
         keep(&mut table, &mut proofs, i)?;
     }
     let policy = Policy::Puzzled { c1: 0, c2: 0 };
-    Ok(Node::new(alloc, OWN, 20, policy, table, proofs, &random(), 0))
+    Ok(Node::new(alloc, OWN, 20, policy, table, proofs, &random(), 0, sealed))
 }
 
 /// The first minted identifier.
@@ -94,7 +94,7 @@ fn names_both(node: &mut Node, one: &Minted) -> bool {
 
 #[test]
 fn names_the_proofs_that_it_keeps(rt: HostRuntime) -> Result<(), Fail> {
-    let mut node = proved_node(rt.alloc(), 1, 1)?;
+    let mut node = proved_node(rt.alloc(), 1, 1, false)?;
     let named = match first() {
         Some(one) => names_both(&mut node, &one),
         None => false,
@@ -103,13 +103,26 @@ fn names_the_proofs_that_it_keeps(rt: HostRuntime) -> Result<(), Fail> {
     Ok(())
 }
 
+/// A query for peers, with the longest transaction id that is answered.
+const WANTED: &[u8] =
+    b"d1:ad2:id20:abcdefghij01234567899:info_hash20:mnopqrstuvwxyz123456e1:q9:get_peers1:t32:012345678901234567890123456789011:y1:qe";
+
 #[test]
 fn writes_the_greatest_reply(rt: HostRuntime) -> Result<(), Fail> {
-    let mut node = proved_node(rt.alloc(), 0, 20)?;
-    let wanted =
-        b"d1:ad2:id20:abcdefghij01234567899:info_hash20:mnopqrstuvwxyz123456e1:q9:get_peers1:t32:012345678901234567890123456789011:y1:qe";
+    let mut node = proved_node(rt.alloc(), 0, 20, false)?;
     let last = b"6:\x7f\0\0\x01\0\x32ee1:t32:012345678901234567890123456789011:y1:re";
-    assert!(&rt; add_ports(&mut node, 51));
-    assert!(&rt; ends(&mut node, local(9), wanted, 0, 2609, last));
+    assert!(&rt; add_ports(&mut node, 51, pong().as_slice()));
+    assert!(&rt; ends(&mut node, local(9), WANTED, 0, 2609, last));
+    Ok(())
+}
+
+/// The tag is that of the whole reply, which another program made of the twenty minted contacts.
+#[test]
+fn tags_the_greatest_reply(rt: HostRuntime) -> Result<(), Fail> {
+    let mut node = proved_node(rt.alloc(), 0, 20, true)?;
+    let last =
+        b"6:\x7f\0\0\x01\0\x32ee2:sg20:\xa6\x1a\xea\xac\xf9\xd1\x4b\x4e\x4e\xc0\x71\xed\xbd\x3f\x32\xb4\x32\x2f\x5c\xf31:t32:012345678901234567890123456789011:y1:re";
+    assert!(&rt; add_ports(&mut node, 51, tagged_pong().as_slice()));
+    assert!(&rt; ends(&mut node, local(9), WANTED, 0, 2636, last));
     Ok(())
 }

@@ -5,7 +5,6 @@ use Rattle.std.proofs.lemmas.List.{map-append}
 use Rattle.std.proofs.lemmas.List.Elements.{All-append}
 use Rattle.kad_base.specs.declared.types.Addr.{Addr}
 use Rattle.kad_base.specs.declared.types.Contact.{Contact}
-use Rattle.kad_krpc.specs.Form.{form}
 use Rattle.kad_krpc.specs.Views.{ask_seen}
 use Rattle.kad_krpc.specs.declared.message.Message.{Message}
 use Rattle.contact_table.specs.TableState.{TableState}
@@ -20,6 +19,7 @@ use Rattle.node_serve.specs.Calls.{Reply, HadMemory, call_of, reply_of, calls_fo
 use Rattle.node_serve.specs.Gains.{calls_wanted, reply_gained, reply_wanted, wants_of}
 use Rattle.node_serve.specs.Gathered.{Gathers, AnswersAsked}
 use Rattle.node_serve.specs.NodeState.{NodeState, with_parts}
+use Rattle.node_serve.specs.Sealing.{Tags, sent_form}
 use Rattle.node_serve.proofs.Same.{told_part, steps_both, by_rules}
 use Rattle.node_serve.proofs.Wanted.{wanted_calls, wanted_reply, gained_reply}
 
@@ -40,11 +40,11 @@ module _ (s : NodeState) (asked : Asked) (at : ℕ) (wants : Wants) (g : Gained)
 
 -- ---- the answer
 
-pub answered : (s : NodeState) (asked : Asked) (at : ℕ) (wants : Wants) (told : Option Contact) (g : Gained) (m : Message) (text : List ℕ) (next : NodeState)
+pub answered : (tag_of : Tags) (s : NodeState) (asked : Asked) (at : ℕ) (wants : Wants) (told : Option Contact) (g : Gained) (m : Message) (text : List ℕ) (next : NodeState)
     → wants ≡ wants_of (setting_of s) asked.from at (ask_seen asked.ask) → told ≡ told_by s.policy asked.read_only (ask_seen asked.ask) asked.from
-    → Gathers s.k at wants g s.table s.peers next.peers → IsTold told s.table next.table → m ≡ reply_gained (setting_of s) asked.from at asked.tx.now g → text ≡ form m → next ≡ with_parts s next.table next.peers
-    → AnswersAsked s asked at text next
-answered s asked at wants told g m text next planned told_is h tells composed is rest =
+    → Gathers s.k at wants g s.table s.peers next.peers → IsTold told s.table next.table → m ≡ reply_gained (setting_of s) asked.from at asked.tx.now g → text ≡ sent_form tag_of s.sealed s.own m → next ≡ with_parts s next.table next.peers
+    → AnswersAsked tag_of s asked at text next
+answered tag_of s asked at wants told g m text next planned told_is h tells composed is rest =
     let S = setting_of s in
     let ask = ask_seen asked.ask in
     let t = told_part told s.table next.table next.peers tells in
@@ -54,13 +54,13 @@ answered s asked at wants told g m text next planned told_is h tells composed is
           ∙ ap (λ l. calls_for S asked.from at ask ++ l) (t.calls ∙ ap calls_told told_is);
       memory = All-append HadMemory h.did t.did h.memory t.memory;
       steps = steps_both s.table s.table next.table s.peers next.peers next.peers h.did t.did h.steps t.steps;
-      written = is ∙ ap form (main_reply s asked at wants g s.table s.peers next.peers planned h m composed (map reply_of t.did) ∙ ap (answer_with S asked.from at asked.tx.now ask) (sym (map-append reply_of h.did t.did)));
+      written = is ∙ ap (sent_form tag_of s.sealed s.own) (main_reply s asked at wants g s.table s.peers next.peers planned h m composed (map reply_of t.did) ∙ ap (answer_with S asked.from at asked.tx.now ask) (sym (map-append reply_of h.did t.did)));
       rest = rest;
     }
 
 -- by the rules of one node
-pub answers : (s : NodeState) (from : Addr) (bytes : List ℕ) (at : ℕ) (asked : Asked) (text : List ℕ) (next : NodeState) → IsAsked from bytes asked → AnswersAsked s asked at text next → Answers s from bytes at text next
-answers s from bytes at asked text next is a =
+pub answers : (tag_of : Tags) (s : NodeState) (from : Addr) (bytes : List ℕ) (at : ℕ) (asked : Asked) (text : List ℕ) (next : NodeState) → IsAsked from bytes asked → AnswersAsked tag_of s asked at text next → Answers tag_of s from bytes at text next
+answers tag_of s from bytes at asked text next is a =
     let S = setting_of s in
     let ask = ask_seen asked.ask in
     let m : Message = answer_with S from at asked.tx.now ask (map reply_of a.did) in
@@ -78,5 +78,5 @@ answers s from bytes at asked text next is a =
         reply_is = refl;
         rest = a.rest;
       });
-      written = a.written ∙ ap (λ f. form (answer_with S f at asked.tx.now ask (map reply_of a.did))) is.from_is;
+      written = a.written ∙ ap (λ f. sent_form tag_of s.sealed s.own (answer_with S f at asked.tx.now ask (map reply_of a.did))) is.from_is;
     }

@@ -10,4 +10,5 @@ pub mod Reading
 pub mod Receiving
 pub mod Same
 pub mod Small
+pub mod Tagging
 pub mod Wanted

@@ -1,8 +1,10 @@
--- A reply with few parts is short.
+-- A reply with few parts is short, and with its tag too.
 use Rattle.std.proofs.Common.{◌≡◌, ℕ, suc, zero, ◌+◌, ◌*◌, ◌<◌, ◌≤◌, List, [], ◌∷◌, ◌++◌, length, map, ℤ, ap, ◌∙◌, arith, length-append, Option, Some, None}
 use Rattle.std.specs.Prelude.{codes}
 use Rattle.std.specs.List.{concat}
 use Rattle.std.specs.Int.Digits.{digits_of}
+use Rattle.std.specs.Ordering.{match_ordering}
+use Rattle.std.specs.declared.cmp.Ordering.TheVariants.{Less, Equal, Greater}
 use Rattle.std.proofs.lemmas.Int.Digits.{length-digits_of-le}
 use Rattle.std.proofs.lemmas.Grind.{flat_map-append}
 use Rattle.std.proofs.lemmas.List.{map-append, length-map}
@@ -10,6 +12,7 @@ use Rattle.kad_base.specs.Limits.{max_datagram, max_answered_tx}
 use Rattle.kad_base.specs.declared.types.Addr.{Addr}
 use Rattle.kad_base.specs.declared.types.Contact.{Contact}
 use Rattle.kad_base.specs.declared.types.Report.{Report}
+use Rattle.kad_bencode.specs.Keys.{key_cmp, put}
 use Rattle.kad_bencode.specs.Spelling.{numeral, integer_text, string_text, pairs_text, text_of}
 use Rattle.kad_bencode.specs.Faults.{pairs_of}
 use Rattle.kad_bencode.specs.declared.entries.Pair.{Pair}
@@ -21,7 +24,8 @@ use Rattle.kad_krpc.specs.declared.message.Answer.{Answer}
 use Rattle.kad_krpc.specs.declared.message.Message.TheVariants as message
 use Rattle.kad_krpc.specs.Form.{pair, maybe, nodes_value, snodes_value, peers_value, answer_pairs, message_pairs, form}
 use Rattle.kad_krpc.specs.Records.{addr_bytes, nodes_bytes, snodes_bytes}
-use Rattle.node_serve.specs.Sizes.{HasFew, IsCompact, count, nodes_size, peers_bytes, snodes_size, values_size}
+use Rattle.kad_krpc.specs.Seal.{tagged}
+use Rattle.node_serve.specs.Sizes.{HasFew, IsCompact, count, max_reply, nodes_size, peers_bytes, snodes_size, values_size}
 
 -- ---- strings
 
@@ -127,7 +131,7 @@ size_ends first tx kind h k =
     let e2 = size_append first (pair (codes "t") (value.Text tx)) in
     omega (arith, t, y, e1, e2)
 
-pub answer_short : (tx : List ℕ) (a : Answer) → length tx ≤ max_answered_tx → HasFew a → IsCompact a → length (form (message.Answer tx a)) ≤ max_datagram
+pub answer_short : (tx : List ℕ) (a : Answer) → length tx ≤ max_answered_tx → HasFew a → IsCompact a → length (form (message.Answer tx a)) ≤ max_reply
 unfolding form
 answer_short tx a h f c =
     let first = pair (codes "r") (value.Dict (answer_pairs a)) in
@@ -136,7 +140,7 @@ answer_short tx a h f c =
     let d = size_dict (message_pairs (message.Answer tx a)) 3936 (omega (arith, r, e)) in
     omega (arith, d)
 
-pub fault_short : (tx text : List ℕ) (code : ℤ) → length tx ≤ max_answered_tx → length (integer_text code) ≤ 7 → length text ≤ 14 → length (form (message.Fault tx code text)) ≤ max_datagram
+pub fault_short : (tx text : List ℕ) (code : ℤ) → length tx ≤ max_answered_tx → length (integer_text code) ≤ 7 → length text ≤ 14 → length (form (message.Fault tx code text)) ≤ max_reply
 unfolding form
 fault_short tx text code h i k =
     let listed = value.List (value.Int code ∷ value.Text text ∷ []) in
@@ -152,3 +156,27 @@ fault_short tx text code h i k =
     let m = size_ends first tx (codes "e") h (omega arith) in
     let d = size_dict (message_pairs (message.Fault tx code text)) 95 (omega (arith, r, m)) in
     omega (arith, d)
+
+-- ---- the tag
+
+-- a pair that is put among others adds no more than its own text
+size_put : (ps : List (Pair Value)) (key : List ℕ) (v : Value) → size (put ps key v) ≤ size ps + size (pair key v)
+size_put [] key v = omega arith
+size_put (p ∷ ps) key v =
+    let q : Pair Value = record { key = key; value = v } in
+    let own = size_append (p ∷ []) ps in
+    elim (key_cmp key p.key) as (λ o. size (match_ordering o (q ∷ p ∷ ps) (q ∷ ps) (p ∷ put ps key v)) ≤ size (p ∷ ps) + size (pair key v)) [
+      | Less ↦ let e = size_append (q ∷ []) (p ∷ ps) in omega (arith, e)
+      | Equal ↦ let e = size_append (q ∷ []) ps in omega (arith, e, own)
+      | Greater ↦ let e = size_append (p ∷ []) (put ps key v) in let h = size_put ps key v in omega (arith, e, own, h)
+    ]
+
+-- a tag adds at most 78 bytes to a dictionary
+pub tagged_short : (ps : List (Pair Value)) (tag : List ℕ) → length tag ≤ 64 → length (text_of (value.Dict ps)) ≤ max_reply → length (tagged ps tag) ≤ max_datagram
+tagged_short ps tag h k =
+    let e = ap length (text_of-dict ps) in
+    let a = length-append (pairs_text (pairs_of ps)) (101 ∷ []) in
+    let p = size_put ps (codes "sg") (value.Text tag) in
+    let t : size (pair (codes "sg") (value.Text tag)) ≤ 78 = size_pair (codes "sg") (value.Text tag) 70 (omega arith) (text_short tag 64 h (omega arith)) in
+    let d = size_dict (put ps (codes "sg") (value.Text tag)) (size ps + 78) (omega (arith, p, t)) in
+    omega (arith, e, a, d, k)

@@ -15,7 +15,7 @@ use Rattle.node_serve.specs.declared.setting.ServeSetting.{ServeSetting}
 
 -- what a node answers by
 abbrev pub setting_of : NodeState → ServeSetting
-setting_of s = record { own = s.own; k = s.k; policy = s.policy; proofs = s.proofs; tokens = s.tokens }
+setting_of s = record { own = s.own; k = s.k; policy = s.policy; proofs = s.proofs; tokens = s.tokens; sealed = s.sealed }
 
 -- the calls are steps, one after another, from a table and peers to a table and peers
 abbrev pub Steps : TableState → List Held → List Did → TableState → List Held → Type 0

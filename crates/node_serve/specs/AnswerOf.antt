@@ -9,7 +9,6 @@ use Rattle.kad_base.specs.declared.types.Policy.TheVariants.{Plain, Puzzled}
 use Rattle.kad_krpc.specs.declared.message.Ask.{Ask}
 use Rattle.kad_krpc.specs.declared.message.Ask.TheVariants.{Ping, FindNode, GetPeers, AnnouncePeer, Other}
 use Rattle.kad_krpc.specs.declared.message.Message.{Message}
-use Rattle.kad_krpc.specs.Form.{form}
 use Rattle.kad_krpc.specs.Records.{ip_bytes}
 use Rattle.contact_table.specs.declared.calls.TableCall.TheVariants.{Seen}
 use Rattle.contact_table.specs.declared.calls.TableReply.{TableReply}
@@ -23,6 +22,7 @@ use Rattle.node_serve.specs.declared.node.Answered.TheVariants as answered
 use Rattle.node_serve.specs.NodeState.{NodeState, with_parts}
 use Rattle.node_serve.specs.Queries.{IsQuery}
 use Rattle.node_serve.specs.Replies.{RepliesWith}
+use Rattle.node_serve.specs.Sealing.{Tags, sent_form}
 
 -- ---- who is told to the table
 
@@ -66,11 +66,11 @@ pub record AnswerOf (s : NodeState) (from : Addr) (bytes : List ℕ) (at : ℕ) 
   pub told : IsTold (told_by s.policy read_only ask from) s.table next.table
   pub rest : next ≡ with_parts s next.table next.peers
 
--- the text is the written form of the reply
-pub record Answers (s : NodeState) (from : Addr) (bytes : List ℕ) (at : ℕ) (text : List ℕ) (next : NodeState) : Type 0 where
+-- the text is what the node sends for the reply, with its tag where it is sealed
+pub record Answers (tag_of : Tags) (s : NodeState) (from : Addr) (bytes : List ℕ) (at : ℕ) (text : List ℕ) (next : NodeState) : Type 0 where
   pub reply : Message
   pub answer : AnswerOf s from bytes at reply next
-  pub written : text ≡ form reply
+  pub written : text ≡ sent_form tag_of s.sealed s.own reply
 
 -- ---- want of memory
 

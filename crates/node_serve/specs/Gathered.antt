@@ -1,7 +1,6 @@
 -- What a node does for a query on what it holds, in terms of its calls; no public contract speaks of these.
 use Rattle.std.specs.Prelude.{◌≡◌, ℕ, List, map}
 use Rattle.std.specs.List.{All}
-use Rattle.kad_krpc.specs.Form.{form}
 use Rattle.kad_krpc.specs.Views.{ask_seen}
 use Rattle.contact_table.specs.TableState.{TableState}
 use Rattle.peer_store.specs.Peers.{Held, purged}
@@ -15,6 +14,7 @@ use Rattle.node_serve.specs.declared.planning.Wants.TheVariants.{Place}
 use Rattle.node_serve.specs.Calls.{Did, HadMemory, call_of, reply_of, calls_of, answer_with}
 use Rattle.node_serve.specs.Gains.{IsFor, calls_wanted, replies_of}
 use Rattle.node_serve.specs.AnswerBy.{Steps, setting_of}
+use Rattle.node_serve.specs.Sealing.{Tags, sent_form}
 
 -- the calls for what is wanted were steps that left the table, and this is what they gave
 pub record Gathers (k at : ℕ) (wants : Wants) (g : Gained) (table : TableState) (old new : List Held) : Type 0 where
@@ -37,13 +37,13 @@ LeavesBy at (gained.Placed stored) old new = Unit {0}
 LeavesBy at gained.Full old new = new ≡ purged old at
 LeavesBy at other old new = new ≡ old
 
--- the text is the reply to the query, and this the node after it
-pub record AnswersAsked (s : NodeState) (asked : Asked) (at : ℕ) (text : List ℕ) (next : NodeState) : Type 0 where
+-- the text is what the node sends for the reply to the query, and this the node after it
+pub record AnswersAsked (tag_of : Tags) (s : NodeState) (asked : Asked) (at : ℕ) (text : List ℕ) (next : NodeState) : Type 0 where
   pub did : List Did
   pub calls : map call_of did ≡ calls_of (setting_of s) asked.from at asked.read_only (ask_seen asked.ask)
   pub memory : All HadMemory did
   pub steps : Steps s.table s.peers did next.table next.peers
-  pub written : text ≡ form (answer_with (setting_of s) asked.from at asked.tx.now (ask_seen asked.ask) (map reply_of did))
+  pub written : text ≡ sent_form tag_of s.sealed s.own (answer_with (setting_of s) asked.from at asked.tx.now (ask_seen asked.ask) (map reply_of did))
   pub rest : next ≡ with_parts s next.table next.peers
 
 -- the query's answer found no memory

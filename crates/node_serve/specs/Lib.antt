@@ -9,4 +9,5 @@ pub mod Queries
 pub mod Receives
 pub mod Replies
 pub mod Responded
+pub mod Sealing
 pub mod Sizes

@@ -1,5 +1,5 @@
 -- What callers see of a node that answers.
-use Rattle.std.specs.Prelude.{◌≡◌, ℕ, ◌<◌, ◌≤◌, List, []}
+use Rattle.std.specs.Prelude.{◌≡◌, ℕ, ◌<◌, ◌≤◌, Bool, List, []}
 use Rattle.std.specs.List.{All}
 use Rattle.kad_base.specs.declared.types.Id.{Id}
 use Rattle.kad_base.specs.declared.types.Report.{Report}
@@ -11,7 +11,7 @@ use Rattle.peer_store.specs.Peers.{Held}
 use Rattle.peer_store.specs.Tokens.{TokensState}
 
 -- its identifier, how many contacts a reply names, under which policy it answers, its routing table, the peers that were
--- announced to it, the proofs that it keeps, and its tokens
+-- announced to it, the proofs that it keeps, its tokens, and whether it tags what it says
 pub record NodeState : Type 0 where
   pub own : Id
   pub k : ℕ
@@ -20,6 +20,7 @@ pub record NodeState : Type 0 where
   pub peers : List Held
   pub proofs : List Report
   pub tokens : TokensState
+  pub sealed : Bool
 
 -- the table is the node's own, k is within its limits, and each proof passes
 pub record IsNode (s : NodeState) : Type 0 where
@@ -29,8 +30,8 @@ pub record IsNode (s : NodeState) : Type 0 where
   pub proofs : All (Passes s.policy) s.proofs
 
 -- a node that begins at the moment: nobody has announced a peer to it, and its tokens are drawn from the random bytes
-abbrev pub new_node : Id → ℕ → Policy → TableState → List Report → List ℕ → ℕ → NodeState
-new_node own k policy table proofs random began = record {
+abbrev pub new_node : Id → ℕ → Policy → TableState → List Report → List ℕ → ℕ → Bool → NodeState
+new_node own k policy table proofs random began sealed = record {
   own = own;
   k = k;
   policy = policy;
@@ -38,6 +39,7 @@ new_node own k policy table proofs random began = record {
   peers = [];
   proofs = proofs;
   tokens = record { seed = random; began = began };
+  sealed = sealed;
 }
 
 -- the node with another table and other peers
@@ -50,4 +52,5 @@ with_parts s table peers = record {
   peers = peers;
   proofs = s.proofs;
   tokens = s.tokens;
+  sealed = s.sealed;
 }

@@ -5,10 +5,10 @@ use Rattle.kad_base.specs.declared.types.Addr.{Addr}
 use Rattle.kad_base.specs.declared.types.Event.{Event}
 use Rattle.kad_base.specs.declared.types.Event.TheVariants.{Got, Quiet, Sent, Unsent}
 use Rattle.kad_krpc.specs.declared.message.Message.{Message}
-use Rattle.kad_krpc.specs.Form.{form}
 use Rattle.node_serve.specs.AnswerOf.{AnswerOf, EndsEarly}
 use Rattle.node_serve.specs.NodeState.{NodeState}
 use Rattle.node_serve.specs.Queries.{IsSilent}
+use Rattle.node_serve.specs.Sealing.{Tags, sent_form}
 
 -- ---- what is sent
 
@@ -37,22 +37,22 @@ abbrev pub waits_until : ℕ → ℕ
 waits_until moment = min (moment + 60000) (2 ^ 64 - 1)
 
 -- What follows a datagram: nothing where no reply is owed, and the node stays as it was; else its reply was sent to its
--- source, or the link refused it.
-pub data Responds (s : NodeState) (from : Addr) (bytes : List ℕ) (at : ℕ) (events : List Event) (next : NodeState) : Type 0 where
-  silent : IsSilent from bytes → events ≡ [] → next ≡ s → Responds s from bytes at events next
-  answered : (reply : Message) (was_sent : Bool) → AnswerOf s from bytes at reply next → events ≡ tried was_sent from (form reply) ∷ [] → Responds s from bytes at events next
+-- source, or the link refused it; a sealed node sends it with the tag that its seal gives.
+pub data Responds (tag_of : Tags) (s : NodeState) (from : Addr) (bytes : List ℕ) (at : ℕ) (events : List Event) (next : NodeState) : Type 0 where
+  silent : IsSilent from bytes → events ≡ [] → next ≡ s → Responds tag_of s from bytes at events next
+  answered : (reply : Message) (was_sent : Bool) → AnswerOf s from bytes at reply next → events ≡ tried was_sent from (sent_form tag_of s.sealed s.own reply) ∷ [] → Responds tag_of s from bytes at events next
 
 -- one receive call: nothing came, or a datagram with what follows it
-pub data ServesOne (s : ServeState) (events : List Event) (t : ServeState) : Type 0 where
-  quiet : events ≡ Quiet (waits_until s.moment) t.moment ∷ [] → t.node ≡ s.node → ServesOne s events t
+pub data ServesOne (tag_of : Tags) (s : ServeState) (events : List Event) (t : ServeState) : Type 0 where
+  quiet : events ≡ Quiet (waits_until s.moment) t.moment ∷ [] → t.node ≡ s.node → ServesOne tag_of s events t
   came : (from : Addr) (bytes : List ℕ) (then : List Event) → events ≡ Got from bytes (waits_until s.moment) t.moment ∷ then
-      → Responds s.node from bytes t.moment then t.node → ServesOne s events t
+      → Responds tag_of s.node from bytes t.moment then t.node → ServesOne tag_of s events t
 
 -- so many of them, one after another
-abbrev pub Serves : ℕ → ServeState → List Event → ServeState → Type 0
-Serves zero s events t = (events ≡ []) × (t ≡ s)
-Serves (suc n) s events t =
-    (one : List Event) × (u : ServeState) × (more : List Event) × (events ≡ one ++ more) × ServesOne s one u × Serves n u more t
+abbrev pub Serves : Tags → ℕ → ServeState → List Event → ServeState → Type 0
+Serves tag_of zero s events t = (events ≡ []) × (t ≡ s)
+Serves tag_of (suc n) s events t =
+    (one : List Event) × (u : ServeState) × (more : List Event) × (events ≡ one ++ more) × ServesOne tag_of s one u × Serves tag_of n u more t
 
 -- a query came whose answer found no memory
 pub record Unanswered (s : ServeState) (events : List Event) : Type 0 where
@@ -74,19 +74,19 @@ abbrev pub got_in : List Event → ℕ
 got_in events = length (filter is_got events)
 
 -- all receive calls of a node, the datagrams that came, and the replies that were sent and not refused
-pub record ServesAll (s : ServeState) (receives received replied : ℕ) (events : List Event) : Type 0 where
+pub record ServesAll (tag_of : Tags) (s : ServeState) (receives received replied : ℕ) (events : List Event) : Type 0 where
   pub end : ServeState
-  pub serves : Serves receives s events end
+  pub serves : Serves tag_of receives s events end
   pub received_are : received ≡ got_in events
   pub replied_are : replied ≡ sent_in events
 
 -- some of them; then no more, unless a query came whose answer found no memory
-pub record ServesSome (s : ServeState) (receives : ℕ) (events : List Event) : Type 0 where
+pub record ServesSome (tag_of : Tags) (s : ServeState) (receives : ℕ) (events : List Event) : Type 0 where
   pub made : ℕ
   pub few : made ≤ receives
   pub front : List Event
   pub end : ServeState
-  pub serves : Serves made s front end
+  pub serves : Serves tag_of made s front end
   pub last : List Event
   pub whole : events ≡ front ++ last
   pub ended : (last ≡ []) ⊎ ((made < receives) × Unanswered end last)

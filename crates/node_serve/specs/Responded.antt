@@ -8,6 +8,7 @@ use Rattle.node_serve.specs.declared.service.ServeFault.{ServeFault}
 use Rattle.node_serve.specs.declared.service.ServeFault.TheVariants.{LinkFault, NoMemory}
 use Rattle.node_serve.specs.NodeState.{NodeState}
 use Rattle.node_serve.specs.Receives.{ServeState, Responds, ServesOne, Serves, Unanswered, got_in, sent_in}
+use Rattle.node_serve.specs.Sealing.{Tags}
 
 -- the node and its moment
 abbrev pub serve_state : Server → ServeState
@@ -18,20 +19,20 @@ abbrev pub server_at : NodeState → ℕ → Server
 server_at node began = record { node = node; moment = began; received = 0; replied = 0 }
 
 -- what follows a datagram: no further one, and so many replies that were sent
-pub record RespondsWith (s : NodeState) (from : Addr) (bytes : List ℕ) (at sent : ℕ) (next : NodeState) (events : List Event) : Type 0 where
-  pub responds : Responds s from bytes at events next
+pub record RespondsWith (tag_of : Tags) (s : NodeState) (from : Addr) (bytes : List ℕ) (at sent : ℕ) (next : NodeState) (events : List Event) : Type 0 where
+  pub responds : Responds tag_of s from bytes at events next
   pub none_got : got_in events ≡ 0
   pub sent_are : sent ≡ sent_in events
 
 -- one receive call, and what it adds to the counts
-pub record ReceivesOne (s t : Server) (events : List Event) : Type 0 where
-  pub serves : ServesOne (serve_state s) events (serve_state t)
+pub record ReceivesOne (tag_of : Tags) (s t : Server) (events : List Event) : Type 0 where
+  pub serves : ServesOne tag_of (serve_state s) events (serve_state t)
   pub received_are : t.received ≡ s.received + got_in events
   pub replied_are : t.replied ≡ s.replied + sent_in events
 
 -- so many of them
-pub record ReceivesAll (receives : ℕ) (s t : Server) (events : List Event) : Type 0 where
-  pub serves : Serves receives (serve_state s) events (serve_state t)
+pub record ReceivesAll (tag_of : Tags) (receives : ℕ) (s t : Server) (events : List Event) : Type 0 where
+  pub serves : Serves tag_of receives (serve_state s) events (serve_state t)
   pub received_are : t.received ≡ s.received + got_in events
   pub replied_are : t.replied ≡ s.replied + sent_in events
 

@@ -1,4 +1,4 @@
--- How long a reply is at most; no public contract speaks of it.
+-- How long a reply is at most.
 use Rattle.std.specs.Prelude.{ℕ, ◌*◌, ◌≤◌, List, length, flat_map, Option, Some, None}
 use Rattle.kad_bencode.specs.Spelling.{integer_text}
 use Rattle.kad_base.specs.declared.types.Addr.{Addr}
@@ -8,6 +8,10 @@ use Rattle.kad_krpc.specs.declared.message.Answer.{Answer}
 use Rattle.kad_krpc.specs.declared.message.Message.{Message}
 use Rattle.kad_krpc.specs.declared.message.Message.TheVariants as message
 use Rattle.kad_krpc.specs.Records.{addr_bytes, nodes_bytes, snodes_bytes}
+
+-- how long a reply is at most, so that in 4,096 bytes there is room for the pair of a tag, which has at most 78
+abbrev pub max_reply : ℕ
+max_reply = 4018
 
 -- how many there are, none where the part is missing
 abbrev pub count : {A : Type 0} → Option (List A) → ℕ

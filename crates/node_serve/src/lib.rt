@@ -3,9 +3,9 @@
 //! no clock.
 //!
 //! An answer has steps that hold no store and make no call: `read_query` reads the datagram, `plan` says which calls it
-//! makes, `told_for` whom the table is told of afterwards, `compose` makes the reply from what the calls gave, and `write`
-//! puts it into bytes. `Node` makes the calls on a table and peers of its own; whoever shares them with others makes the
-//! same calls at its turns.
+//! makes, `told_for` whom the table is told of afterwards, `compose` makes the reply from what the calls gave, `write` puts
+//! it into bytes, and `seal_reply` tags it where the node is sealed. `Node` makes the calls on a table and peers of its own;
+//! whoever shares them with others makes the same calls at its turns.
 #![tactic(auto)]
 
 mod asked;
@@ -16,6 +16,7 @@ mod node;
 mod nodes;
 mod planning;
 mod reply;
+mod sealing;
 mod service;
 mod setting;
 mod size_bound;
@@ -25,6 +26,7 @@ pub use composing::{Gained, compose};
 pub use laws::{one_answer, same_answer};
 pub use node::{Answered, Node};
 pub use planning::{Wants, plan};
+pub use sealing::seal_reply;
 pub use service::{ServeCounts, ServeFault, serve_loop};
 pub use setting::ServeSetting;
 pub use size_bound::write;

@@ -14,11 +14,13 @@ use crate::asked::{Asked, read_query, told_for};
 use crate::composing::compose;
 use crate::gather::{gather, tell};
 use crate::planning::plan;
+use crate::sealing::seal_reply;
 use crate::setting::ServeSetting;
 use crate::size_bound::write;
 use contact_table::Table;
 use kad_base::{Addr, Id, List, NoMemory, Policy, Reports};
 use peer_store::{Peers, Tokens};
+use seal_tags::Seal;
 use std::alloc::Global;
 use std::marker::Model;
 
@@ -50,15 +52,15 @@ impl Model for Node {
 
     ghost Value = { NodeState };
 
-    ghost view = { λ n. record { own = n.setting.own; k = n.setting.k; policy = n.setting.policy; table = n.table; peers = n.peers; proofs = n.setting.proofs; tokens = n.setting.tokens } };
+    ghost view = { λ n. record { own = n.setting.own; k = n.setting.k; policy = n.setting.policy; table = n.table; peers = n.peers; proofs = n.setting.proofs; tokens = n.setting.tokens; sealed = n.setting.sealed } };
 
-    ghost invariant = { λ n. IsNode (record { own = n.setting.own; k = n.setting.k; policy = n.setting.policy; table = n.table; peers = n.peers; proofs = n.setting.proofs; tokens = n.setting.tokens }) };
+    ghost invariant = { λ n. IsNode (record { own = n.setting.own; k = n.setting.k; policy = n.setting.policy; table = n.table; peers = n.peers; proofs = n.setting.proofs; tokens = n.setting.tokens; sealed = n.setting.sealed }) };
 }
 
 impl Node {
     /// A node with this routing table, whose replies name `k` contacts, 1 to 20. Under a policy that asks for puzzles they
     /// name those of `proofs` too. The secrets of its tokens are drawn from `random`, and their epochs count from the moment
-    /// `began`, in milliseconds. Takes no memory.
+    /// `began`, in milliseconds. A node that is `sealed` tags each of its replies. Takes no memory.
     pub fn new(
         alloc: Global,
         own: Id,
@@ -68,12 +70,13 @@ impl Node {
         proofs: Reports,
         random: &[u8; 32],
         began: u64,
+        sealed: bool,
     ) -> Node
         requires own { table.own ≡ own }
         requires some_nodes { 0 < k }
         requires few_nodes { k ≤ max_k }
         requires proofs { All (Passes policy) proofs }
-        ensures { result ≡ new_node own k policy table proofs random.now began }
+        ensures { result ≡ new_node own k policy table proofs random.now began sealed }
     {
         let setting = ServeSetting {
             own,
@@ -81,6 +84,7 @@ impl Node {
             policy,
             proofs,
             tokens: Tokens::new(random, began),
+            sealed,
         };
         Node {
             alloc,
@@ -97,16 +101,17 @@ impl Node {
         self.setting.tokens.renew(at);
     }
 
-    /// Answers a query: its reply is written in front of `out`, and has this many bytes.
-    fn answer_query(
+    /// Answers a query: its reply is written in front of `out`, tagged where the node is sealed, and has this many bytes.
+    fn answer_query<G: Seal>(
         &mut self,
         asked: &Asked,
         at: u64,
+        seal: &G,
         out: &mut [u8; 4096],
     ) -> Result<usize, NoMemory>
         requires ip { ip_bytes asked.now.from.ip ≡ asked.now.ip }
         requires short { length asked.now.tx.now ≤ max_answered_tx }
-        ensures ok { IfOk result (λ n. AnswersAsked self.old asked.now at
+        ensures ok { IfOk result (λ n. AnswersAsked (G.tag_of seal.now) self.old asked.now at
             (take n out.new) self.new) }
         ensures room { IfOk result (λ n. n ≤ 4096) }
         ensures err { OnErr result (EndsAsked self.old asked.now at self.new) }
@@ -126,7 +131,10 @@ impl Node {
             Err(NoMemory) => return Err(NoMemory),
         };
         match tell(&mut self.table, told) {
-            Ok(()) => Ok(write(&reply, out)),
+            Ok(()) => {
+                let length = write(&reply, out);
+                Ok(seal_reply(&self.setting, seal, &reply, length, out))
+            }
             Err(NoMemory) => Err(NoMemory),
         }
     }
@@ -134,11 +142,19 @@ impl Node {
     /// Answers a datagram that came from this address at this moment, in milliseconds. The reply is written in front of
     /// `out`, and made from what the node held before: the nodes that a query asks for, peers with a token for its source,
     /// or a refusal. An announced peer is held where its token is that of its source, and then, under `Plain`, the table is
-    /// told who asked, unless the query is read-only (BEP 43). Reading and writing take no memory; the parts of the reply do.
-    pub fn answer(&mut self, from: Addr, bytes: &[u8], at: u64, out: &mut [u8; 4096]) -> Answered
+    /// told who asked, unless the query is read-only (BEP 43). A sealed node puts the seal's tag into each reply, an error
+    /// message too. Reading, writing and tagging take no memory; the parts of the reply do.
+    pub fn answer<G: Seal>(
+        &mut self,
+        from: Addr,
+        bytes: &[u8],
+        at: u64,
+        seal: &G,
+        out: &mut [u8; 4096],
+    ) -> Answered
         ensures silent { (result ≡ Answered.Silent) ↔ IsSilent from bytes.now }
         ensures unchanged { result ≡ Answered.Silent → self.new ≡ self.old }
-        ensures reply { IfReply result (λ n. Answers self.old from bytes.now at
+        ensures reply { IfReply result (λ n. Answers (G.tag_of seal.now) self.old from bytes.now at
             (take n out.new) self.new) }
         ensures room { IfReply result (λ n. n ≤ 4096) }
         ensures no_memory { result ≡ Answered.NoMemory
@@ -148,7 +164,7 @@ impl Node {
             None => Answered::Silent,
             Some(asked) => {
                 self.renew_tokens(at);
-                match self.answer_query(&asked, at, out) {
+                match self.answer_query(&asked, at, seal, out) {
                     Ok(length) => Answered::Reply(length),
                     Err(NoMemory) => Answered::NoMemory,
                 }

@@ -8,6 +8,7 @@ ghost use Rattle.node_serve.specs.Responded.{serve_state, RespondsWith, Receives
 use crate::node::{Answered, Node};
 use kad_base::limits::{MAX_DATAGRAM, RECEIVE_ROOM};
 use kad_base::{Addr, Came, Link, NoMemory};
+use seal_tags::Seal;
 use thiserror::Error;
 
 /// How long a receive call waits, in milliseconds.
@@ -55,9 +56,10 @@ fn send<L: Link>(link: &mut L, to: Addr, reply: &[u8]) -> bool
 }
 
 /// Answers the datagram, and sends the reply to its source where one is owed; how many were sent: at most one.
-fn answer_one<L: Link>(
+fn answer_one<L: Link, G: Seal>(
     link: &mut L,
     node: &mut Node,
+    seal: &G,
     from: Addr,
     bytes: &[u8],
     at: u64,
@@ -65,12 +67,12 @@ fn answer_one<L: Link>(
 ) -> Result<u32, NoMemory>
     ensures most { IfOk result (λ sent. sent ≤ 1) }
     ensures ok { IfOk result (λ sent. Grows (L.told link.old) (L.told link.new)
-        (RespondsWith node.old from bytes.now at sent node.new)) }
+        (RespondsWith (G.tag_of seal.now) node.old from bytes.now at sent node.new)) }
     ensures err { OnErr result (EndsEarly node.old from bytes.now at node.new) }
     ensures still { OnErr result (link.new ≡ link.old) }
     ensures recv_faults { L.recv_faults link.old ≤ L.recv_faults link.new }
 {
-    match node.answer(from, bytes, at, out) {
+    match node.answer(from, bytes, at, seal, out) {
         Answered::Reply(length) => Ok(u32::from(send(link, from, &out[..length]))),
         Answered::Silent => Ok(0),
         Answered::NoMemory => Err(NoMemory),
@@ -78,9 +80,10 @@ fn answer_one<L: Link>(
 }
 
 /// Makes one receive call, and answers the datagram that came.
-fn receive<L: Link>(
+fn receive<L: Link, G: Seal>(
     link: &mut L,
     server: &mut Server,
+    seal: &G,
     room: &mut [u8],
     out: &mut [u8; MAX_DATAGRAM],
 ) -> Result<(), ServeFault>
@@ -91,7 +94,7 @@ fn receive<L: Link>(
     ensures few { OnOk result (server.new.received ≤ server.old.received + 1) }
     ensures fewer { OnOk result (server.new.replied ≤ server.new.received) }
     ensures ok { OnOk result (Grows (L.told link.old) (L.told link.new)
-        (ReceivesOne server.old server.new)) }
+        (ReceivesOne (G.tag_of seal.now) server.old server.new)) }
     ensures stops { IfErr result (λ fault. Stops fault (serve_state server.old)
         (L.told link.old) (L.told link.new)) }
     ensures link_fault { result ≡ Err ServeFault.LinkFault
@@ -101,7 +104,7 @@ fn receive<L: Link>(
     let until = server.moment.saturating_add(PATIENCE);
     match link.recv(room, until) {
         Ok(Came::Packet { from, len, at }) => {
-            match answer_one(link, &mut server.node, from, &room[..len], at, out) {
+            match answer_one(link, &mut server.node, seal, from, &room[..len], at, out) {
                 Ok(sent) => {
                     server.moment = at;
                     server.received += 1;
@@ -120,18 +123,20 @@ fn receive<L: Link>(
 }
 
 /// Serves from the moment `began` on, in milliseconds: makes that many receive calls on the link, each of which waits for a
-/// minute, and answers the queries that come. Where the link refuses a reply it goes on.
-pub fn serve_loop<L: Link>(
+/// minute, and answers the queries that come, a sealed node under the tags of the seal. Where the link refuses a reply it
+/// goes on.
+pub fn serve_loop<L: Link, G: Seal>(
     link: &mut L,
     node: Node,
+    seal: &G,
     began: u64,
     receives: u32,
 ) -> Result<ServeCounts, ServeFault>
     ensures ok { IfOk result (λ counts. Grows (L.told link.old) (L.told link.new)
-        (ServesAll (record { node = node; moment = began }) receives
+        (ServesAll (G.tag_of seal.now) (record { node = node; moment = began }) receives
         counts.received counts.replied)) }
     ensures begun { OnErr result (Grows (L.told link.old) (L.told link.new)
-        (ServesSome (record { node = node; moment = began }) receives)) }
+        (ServesSome (G.tag_of seal.now) (record { node = node; moment = began }) receives)) }
     ensures link_fault { result ≡ Err ServeFault.LinkFault
         → Rose (L.recv_faults link.old) (L.recv_faults link.new) }
     ensures recv_faults { L.recv_faults link.old ≤ L.recv_faults link.new }
@@ -145,7 +150,7 @@ pub fn serve_loop<L: Link>(
     let mut room = [0u8; RECEIVE_ROOM];
     let mut out = [0u8; MAX_DATAGRAM];
     for i in 0..receives {
-        match receive(link, &mut server, &mut room, &mut out) {
+        match receive(link, &mut server, seal, &mut room, &mut out) {
             Ok(()) => {}
             Err(fault) => return Err(fault),
         }

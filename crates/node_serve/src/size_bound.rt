@@ -1,8 +1,8 @@
-//! That a reply has a place in 4,096 bytes, and its text.
+//! That a reply has a place in 4,096 bytes, its tag too, and its text.
 ghost use Rattle.std.specs.Prelude.{◌≡◌, ◌*◌, ◌≤◌, length, take};
 ghost use Rattle.kad_krpc.specs.Form.{form};
 ghost use Rattle.kad_krpc.specs.Records.{ip_bytes, addr_bytes, node_bytes, nodes_bytes, proof_bytes, proved_bytes, snodes_bytes};
-ghost use Rattle.node_serve.specs.Sizes.{IsCompact, IsSmall, count, nodes_size, peers_bytes, snodes_size, values_size};
+ghost use Rattle.node_serve.specs.Sizes.{IsCompact, IsSmall, count, max_reply, nodes_size, peers_bytes, snodes_size, values_size};
 
 use kad_base::{Addr, Addrs, Contact, Contacts, Id, Ip, Proof, Report, Reports};
 use kad_krpc::{Answer, Message, encode_into};
@@ -122,10 +122,10 @@ fn answer_fits(answer: &Answer)
     some_values_fit(&answer.values)
 }
 
-/// That a reply with few parts has at most 4,096 bytes. It only goes over the parts.
+/// That a reply with few parts leaves room for a tag. It only goes over the parts.
 fn size_bound(message: &Message)
     requires { IsSmall message.now }
-    ensures { length (form message.now) ≤ 4096 }
+    ensures { length (form message.now) ≤ max_reply }
 {
     match message {
         Message::Answer { answer, .. } => answer_fits(answer),
@@ -134,10 +134,10 @@ fn size_bound(message: &Message)
     }
 }
 
-/// Writes a reply with few parts in front of `out`, and answers its length. Takes no memory.
+/// Writes a reply with few parts in front of `out`, and answers its length, which leaves room for a tag. Takes no memory.
 pub fn write(message: &Message, out: &mut [u8; 4096]) -> usize
     requires { IsSmall message.now }
-    ensures room { result ≤ 4096 }
+    ensures room { result ≤ max_reply }
     ensures form { take result out.new ≡ form message.now }
 {
     size_bound(message);

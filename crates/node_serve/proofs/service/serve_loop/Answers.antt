@@ -8,7 +8,7 @@ pub loop-i-preserved : goal.loop-i-preserved
 loop-i-preserved g c =
     let i = c.loop-i.invariant in
     record {
-      all = received_more c.loop-i.i (server_at c.args.node c.args.began) c.loop-i.server c.receive.new.server _ _ _ i.all c.in-Ok.ensures.ok;
+      all = received_more (g.G.Seal.tag_of c.args.seal.now) c.loop-i.i (server_at c.args.node c.args.began) c.loop-i.server c.receive.new.server _ _ _ i.all c.in-Ok.ensures.ok;
       few = (let a = i.few in let b = c.in-Ok.ensures.few in omega (arith, a, b));
       fewer = c.in-Ok.ensures.fewer;
       faults = (let a = i.faults in let b = c.receive.ensures.recv_faults in omega (arith, a, b));
@@ -17,5 +17,5 @@ loop-i-preserved g c =
 pub returns-clause-ok : goal.returns-clause-ok
 returns-clause-ok g c =
     let whole : c.loop-i.i ≡ c.args.receives = search rules in
-    all_made c.args.node c.args.began c.args.receives c.loop-i.server _ _
-    (subst (λ (n : ℕ). Grows (g.L.Link.told c.args.link.now) (g.L.Link.told c.loop-i.link) (ReceivesAll n (server_at c.args.node c.args.began) c.loop-i.server)) whole c.loop-i.invariant.all)
+    all_made (g.G.Seal.tag_of c.args.seal.now) c.args.node c.args.began c.args.receives c.loop-i.server _ _
+    (subst (λ (n : ℕ). Grows (g.L.Link.told c.args.link.now) (g.L.Link.told c.loop-i.link) (ReceivesAll (g.G.Seal.tag_of c.args.seal.now) n (server_at c.args.node c.args.began) c.loop-i.server)) whole c.loop-i.invariant.all)

@@ -6,13 +6,13 @@ use Rattle.node_serve.proofs.Answering.{answers}
 use Rattle.node_serve.proofs.node.Node.answer.Goals as goal
 
 pub returns-in-Ok-clause-silent : goal.returns-in-Ok-clause-silent
-returns-in-Ok-clause-silent c = (λ e. absurd cc, λ h. let n = c.in-Some.ensures.silent h in absurd cc)
+returns-in-Ok-clause-silent g c = (λ e. absurd cc, λ h. let n = c.in-Some.ensures.silent h in absurd cc)
 
 pub returns-in-Err-clause-silent : goal.returns-in-Err-clause-silent
-returns-in-Err-clause-silent c = (λ e. absurd cc, λ h. let n = c.in-Some.ensures.silent h in absurd cc)
+returns-in-Err-clause-silent g c = (λ e. absurd cc, λ h. let n = c.in-Some.ensures.silent h in absurd cc)
 
 pub returns-in-Ok-clause-reply : goal.returns-in-Ok-clause-reply
-returns-in-Ok-clause-reply c = answers c.args.self.now c.args.from c.args.bytes.now c.args.at c.in-Some.asked (take c.in-Ok.length c.answer_query.new.out) c.answer_query.new.self c.in-Some.ensures.query (subst (λ (s : NodeState). AnswersAsked s c.in-Some.asked c.args.at (take c.in-Ok.length c.answer_query.new.out) c.answer_query.new.self) c.renew_tokens.ensures c.in-Ok.ensures.ok)
+returns-in-Ok-clause-reply g c = answers (g.G.Seal.tag_of c.args.seal.now) c.args.self.now c.args.from c.args.bytes.now c.args.at c.in-Some.asked (take c.in-Ok.length c.answer_query.new.out) c.answer_query.new.self c.in-Some.ensures.query (subst (λ (s : NodeState). AnswersAsked (g.G.Seal.tag_of c.args.seal.now) s c.in-Some.asked c.args.at (take c.in-Ok.length c.answer_query.new.out) c.answer_query.new.self) c.renew_tokens.ensures c.in-Ok.ensures.ok)
 
 pub returns-in-Err-clause-no_memory : goal.returns-in-Err-clause-no_memory
-returns-in-Err-clause-no_memory c e = ends_of c.args.self.now c.args.from c.args.bytes.now c.in-Some.asked c.args.at c.answer_query.new.self c.in-Some.ensures.query (subst (λ (s : NodeState). EndsAsked s c.in-Some.asked c.args.at c.answer_query.new.self) c.renew_tokens.ensures c.in-Err.ensures.err)
+returns-in-Err-clause-no_memory g c e = ends_of c.args.self.now c.args.from c.args.bytes.now c.in-Some.asked c.args.at c.answer_query.new.self c.in-Some.ensures.query (subst (λ (s : NodeState). EndsAsked s c.in-Some.asked c.args.at c.answer_query.new.self) c.renew_tokens.ensures c.in-Err.ensures.err)
