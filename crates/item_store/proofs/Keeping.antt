@@ -101,19 +101,3 @@ few_after held key n New le old place same holds =
   where
     apart : ◌≡◌ {A = Result Stored NoMemory} (Ok New) (Ok Renewed) → ⊥
     apart e = absurd cc
-
--- the earliest last add of some items, and of a moment
-abbrev pub least : ℕ → List Item → ℕ
-least n [] = n
-least n (i ∷ items) = least (min n i.last) items
-
-least-le : (n : ℕ) (items : List Item) → least n items ≤ n
-least-le n [] = omega arith
-least-le n (i ∷ items) = let more = least-le (min n i.last) items in omega (arith, more)
-
-pub least_first : (n : ℕ) (items : List Item) → All (λ (i : Item). least n items ≤ i.last) items
-least_first n [] = All-nil (λ (i : Item). least n [] ≤ i.last)
-least_first n (i ∷ items) =
-    let rest = least_first (min n i.last) items in
-    let here : least (min n i.last) items ≤ min n i.last = least-le (min n i.last) items in
-    All-cons (λ (j : Item). least (min n i.last) items ≤ j.last) i items (omega (arith, here)) rest

@@ -1,5 +1,5 @@
 //! The items in order of their keys.
-ghost use Rattle.std.specs.Prelude.{◌≡◌, ◌↔◌, ◌-◌, ◌<◌, ◌≤◌, ◌+◌, IsTrue, OnOk, OnErr, length, option_copied};
+ghost use Rattle.std.specs.Prelude.{◌≡◌, ◌↔◌, ◌⊎◌, ◌-◌, ◌<◌, ◌≤◌, ◌+◌, [], Contains, IsTrue, OnOk, OnErr, length, map, option_copied};
 ghost use Rattle.std.specs.List.{All};
 ghost use Rattle.std.specs.List.Sorted.{IsStrictlySortedBy};
 ghost use Rattle.std.specs.BTreeMap.{values};
@@ -88,11 +88,13 @@ pub(crate) fn drop_old(held: &mut Held, at: u64)
 
 /// The earliest last add, or the greatest number where nothing is held. Goes over all that is held.
 pub(crate) fn oldest(held: &Held) -> u64
-    ensures { All (λ item. result ≤ item.last) (values held.now) }
+    ensures least { All (λ item. result ≤ item.last) (values held.now) }
+    ensures held { Contains (map (λ item. item.last) (values held.now)) result
+        ⊎ (values held.now ≡ []) }
+    ensures none { values held.now ≡ [] → result ≡ 18446744073709551615 }
 {
-    let mut oldest = u64::MAX;
-    for item in held.values() {
-        oldest = oldest.min(item.last);
-    }
-    oldest
+    held.values()
+        .map(|item| item.last)
+        .min()
+        .unwrap_or(u64::MAX)
 }

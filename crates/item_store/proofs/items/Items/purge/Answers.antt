@@ -11,4 +11,4 @@ returns-then-saturating_sub-lt-MAX_AGE c =
 pub invariant_of-self : goal.invariant_of-self
 invariant_of-self c =
     kept_purge c.self.inside.held.entries c.drop_old.new.held.entries c.args.at c.self.inside.since _ c.self.invariant
-    c.drop_old.ensures.kept c.drop_old.ensures.length c.drop_old.ensures.sorted c.oldest-self-inside.ensures
+    c.drop_old.ensures.kept c.drop_old.ensures.length c.drop_old.ensures.sorted c.oldest-self-inside.ensures.least
