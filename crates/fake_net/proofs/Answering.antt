@@ -1,6 +1,6 @@
 -- What a datagram brings about: the query that its bytes say, and the answer to it.
-use Rattle.std.proofs.Common.{◌≡◌, ◌≢◌, ℕ, ◌+◌, ◌%◌, ◌<◌, ◌≤◌, List, [], ◌∷◌, Option, Some, None, Result, Ok, Err, refl, sym, ap, subst, ◌∙◌, arith}
-use Rattle.std.specs.Prelude.{IfSome, IfOk, OnOk, map, filter, option_to_list}
+use Rattle.std.proofs.Common.{◌≡◌, ℕ, ◌<◌, ◌≤◌, List, [], ◌∷◌, Option, Some, None, Result, Ok, Err, refl, sym, ap, subst, ◌∙◌, arith}
+use Rattle.std.specs.Prelude.{IfSome, IfOk, map, filter, option_to_list}
 use Rattle.std.specs.List.{AllByRecursion}
 use Rattle.std.proofs.lemmas.List.Elements.{All-from_recursion, recursion_from_All}
 use Rattle.kad_base.specs.declared.types.Id.{Id}
@@ -9,45 +9,32 @@ use Rattle.kad_distance.specs.KClosest.{k_closest}
 use Rattle.kad_distance.proofs.Chosen.{closest_all}
 use Rattle.kad_krpc.specs.declared.message.Message.{Message}
 use Rattle.kad_krpc.specs.declared.message.Message.TheVariants as message
-use Rattle.kad_krpc.specs.declared.message.Ask.TheVariants.{Ping, FindNode, GetPeers, AnnouncePeer, Other}
+use Rattle.kad_krpc.specs.declared.message.Ask.TheVariants.{FindNode}
 use Rattle.kad_krpc.specs.declared.message.KrpcFault.{KrpcFault}
-use Rattle.kad_krpc.specs.declared.message.KrpcFault.TheVariants.{NoMemory}
-use Rattle.kad_krpc.specs.Reading.{Says, Gives}
-use Rattle.kad_krpc.specs.Form.{IsNode, IsWritable, form}
+use Rattle.kad_krpc.specs.Fields.{Step}
+use Rattle.kad_krpc.specs.Reading.{Says}
+use Rattle.kad_krpc.specs.Form.{IsNode, IsWritable}
 use Rattle.fake_net.specs.declared.replies.Conduct.{Conduct}
 use Rattle.fake_net.specs.declared.replies.Conduct.TheVariants.{Honest, Inventing, Silent, Posing, Failing}
 use Rattle.fake_net.specs.declared.waiting.Waiting.{Waiting}
-use Rattle.fake_net.specs.Scripts.{SaysQuery}
 use Rattle.fake_net.specs.Network.{Network, numbers, node, address_of, number_at, knows}
 use Rattle.fake_net.specs.Replies.{SaysFindNode, find_node_of, conduct_of, invented, said, reply_of, on_its_way, BringsAbout}
-use Rattle.fake_net.proofs.Asking.{refused_none}
 use Rattle.fake_net.proofs.Numbered.{number_back}
 
 -- ---- the query that bytes say
 
-pub read_find : (bytes : List ℕ) (m : Message) → Says bytes m → IfSome (find_node_of m) (λ q. SaysFindNode bytes q.0 q.1)
-read_find bytes (message.Query tx read_only (Ping id)) says = tt
-read_find bytes (message.Query tx read_only (FindNode id target)) says = record { read_only = read_only; asker = id; says = says }
-read_find bytes (message.Query tx read_only (GetPeers id info_hash)) says = tt
-read_find bytes (message.Query tx read_only (AnnouncePeer id info_hash port token)) says = tt
-read_find bytes (message.Query tx read_only (Other method)) says = tt
-read_find bytes (message.Answer tx answer) says = tt
-read_find bytes (message.Fault tx code text) says = tt
-
 -- bytes that say a message say no other
-pub find_only : (bytes tx : List ℕ) (target : Id) (m : Message) → ((n : Message) → Says bytes n → Gives (Ok n) (Ok m)) → SaysFindNode bytes tx target
+pub find_only : (bytes tx : List ℕ) (target : Id) (m : Message) → ((n : Message) → Says bytes n → ◌≡◌ {A = Step Message} (Ok m) (Ok n)) → SaysFindNode bytes tx target
     → find_node_of m ≡ Some (tx, target)
 find_only bytes tx target m only q =
     let query = message.Query tx q.read_only (FindNode q.asker target) in
-    let same : query ≡ m = (let e = only query q.says in cc) in
-    sym (ap find_node_of same)
+    let same : m ≡ query = (let e = only query q.says in cc) in
+    ap find_node_of same
 
-pub refused_find : {E : Type 0} (r : Result (Option (List ℕ × Id)) E) (bytes : List ℕ) (fault : KrpcFault) → IfOk r (λ query. query ≡ None) → OnOk r (fault ≢ NoMemory)
-    → ((n : Message) → Says bytes n → Gives (Ok n) (Err fault)) → IfOk r (λ query. (tx : List ℕ) (target : Id) → SaysFindNode bytes tx target → query ≡ Some (tx, target))
-refused_find (Ok query) bytes fault is not only =
-    λ tx target q. (let s : SaysQuery bytes tx = record { read_only = q.read_only; ask = FindNode q.asker target; says = q.says } in
-    absurd (refused_none bytes tx fault not only s))
-refused_find (Err e) bytes fault is not only = tt
+-- bytes that are refused say none
+pub refused_find : (bytes tx : List ℕ) (target : Id) (fault : KrpcFault) (query : Option (List ℕ × Id))
+    → ((n : Message) → Says bytes n → ◌≡◌ {A = Step Message} (Err fault) (Ok n)) → SaysFindNode bytes tx target → query ≡ Some (tx, target)
+refused_find bytes tx target fault query only q = let e = only _ q.says in absurd cc
 
 -- ---- what is said can be written
 
@@ -74,19 +61,6 @@ said_writable Failing net i tx target = tt
 pub reply_writable : (net : Network) (i : ℕ) (tx : List ℕ) (target : Id) (m : Message) → Some m ≡ reply_of net i tx target → IsWritable m
 reply_writable net i tx target m e =
     subst (λ (o : Option Message). IfSome o IsWritable) (sym e) (said_writable (conduct_of net.hostile i) net i tx target)
-
--- ---- on its way
-
-pub way_some : (moment i : ℕ) (o : Option Message) (m : Message) (from : Addr) (bytes : List ℕ) (at : ℕ) → Some m ≡ o → at ≡ moment + (10 + i % 40)
-    → from ≡ address_of i → bytes ≡ form m → ◌≡◌ {A = List Waiting} (record { at = at; from = from; bytes = bytes } ∷ []) (on_its_way moment i o)
-way_some moment i o m from bytes at e at_is from_is bytes_is =
-    ap (λ (n : ℕ). record { at = n; from = from; bytes = bytes } ∷ []) at_is
-    ∙ ap (λ (a : Addr). record { at = moment + (10 + i % 40); from = a; bytes = bytes } ∷ []) from_is
-    ∙ ap (λ (l : List ℕ). record { at = moment + (10 + i % 40); from = address_of i; bytes = l } ∷ []) bytes_is
-    ∙ ap (on_its_way moment i) e
-
-pub way_none : (moment i : ℕ) (o : Option Message) → None ≡ o → [] ≡ on_its_way moment i o
-way_none moment i o e = ap (on_its_way moment i) e
 
 -- ---- what a datagram brings about
 

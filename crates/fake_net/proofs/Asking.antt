@@ -1,39 +1,32 @@
 -- The query that bytes say.
-use Rattle.std.proofs.Common.{◌≡◌, ◌≢◌, ℕ, List, [], ◌∷◌, ◌++◌, Option, Some, None, Result, Ok, Err, refl, sym, ap, subst, ◌∙◌}
-use Rattle.std.specs.Prelude.{IfSome, IfOk, OnOk}
+use Rattle.std.proofs.Common.{◌≡◌, ℕ, List, [], ◌∷◌, ◌++◌, Option, Some, None, Result, Ok, Err, refl, sym, ap, subst, ◌∙◌}
+use Rattle.std.specs.Prelude.{IfSome, OnOk, OnErr}
 use Rattle.kad_base.specs.declared.types.Addr.{Addr}
 use Rattle.kad_krpc.specs.declared.message.Message.{Message}
 use Rattle.kad_krpc.specs.declared.message.Message.TheVariants as message
 use Rattle.kad_krpc.specs.declared.message.KrpcFault.{KrpcFault}
-use Rattle.kad_krpc.specs.declared.message.KrpcFault.TheVariants.{Bad, Missing, Shape, Records, NoMemory}
-use Rattle.kad_krpc.specs.Reading.{Says, Gives}
+use Rattle.kad_krpc.specs.Fields.{Step}
+use Rattle.kad_krpc.specs.Reading.{Says}
 use Rattle.fake_net.specs.declared.script.Asked.{Asked}
-use Rattle.fake_net.specs.Scripts.{SaysQuery, query_tx, Asks}
-
-pub read_some : (bytes : List ℕ) (m : Message) → Says bytes m → IfSome (query_tx m) (SaysQuery bytes)
-read_some bytes (message.Query tx read_only ask) says = record { read_only = read_only; ask = ask; says = says }
-read_some bytes (message.Answer tx answer) says = tt
-read_some bytes (message.Fault tx code text) says = tt
+use Rattle.fake_net.specs.Scripts.{SaysQuery, IsQuery, query_tx, Asks}
 
 -- bytes that say a message say no other
-pub read_only : (bytes tx : List ℕ) (m : Message) → ((n : Message) → Says bytes n → Gives (Ok n) (Ok m)) → SaysQuery bytes tx → query_tx m ≡ Some tx
+pub read_only : (bytes tx : List ℕ) (m : Message) → ((n : Message) → Says bytes n → ◌≡◌ {A = Step Message} (Ok m) (Ok n)) → SaysQuery bytes tx
+    → query_tx m ≡ Some tx
 read_only bytes tx m only q =
     let query = message.Query tx q.read_only q.ask in
-    let same : query ≡ m = (let e = only query q.says in cc) in
-    sym (ap query_tx same)
+    let same : m ≡ query = (let e = only query q.says in cc) in
+    ap query_tx same
 
 -- bytes that are refused say none
-pub refused_none : (bytes tx : List ℕ) (fault : KrpcFault) → fault ≢ NoMemory → ((n : Message) → Says bytes n → Gives (Ok n) (Err fault)) → SaysQuery bytes tx → ⊥
-refused_none bytes tx NoMemory not only q = not refl
-refused_none bytes tx (Bad bad) not only q = let e = only _ q.says in absurd cc
-refused_none bytes tx (Missing key) not only q = let e = only _ q.says in absurd cc
-refused_none bytes tx (Shape key) not only q = let e = only _ q.says in absurd cc
-refused_none bytes tx (Records key len) not only q = let e = only _ q.says in absurd cc
+pub refused_only : (bytes tx : List ℕ) (fault : KrpcFault) (query : Option (List ℕ)) → ((n : Message) → Says bytes n → ◌≡◌ {A = Step Message} (Err fault) (Ok n))
+    → SaysQuery bytes tx → query ≡ Some tx
+refused_only bytes tx fault query only q = let e = only _ q.says in absurd cc
 
-pub refused_only : {E : Type 0} (r : Result (Option (List ℕ)) E) (bytes : List ℕ) (fault : KrpcFault) → IfOk r (λ query. query ≡ None) → OnOk r (fault ≢ NoMemory)
-    → ((n : Message) → Says bytes n → Gives (Ok n) (Err fault)) → IfOk r (λ query. (tx : List ℕ) → SaysQuery bytes tx → query ≡ Some tx)
-refused_only (Ok query) bytes fault is not only = λ tx q. absurd (refused_none bytes tx fault not only q)
-refused_only (Err e) bytes fault is not only = tt
+-- where it isn't kept there was a query to keep
+pub unkept_only : {A E : Type 0} (r : Result A E) (bytes tx : List ℕ) → SaysQuery bytes tx → OnErr r (IsQuery bytes)
+unkept_only (Ok x) bytes tx says = tt
+unkept_only (Err e) bytes tx says = record { tx = tx; says = says }
 
 asks_one : (to : Addr) (bytes tx : List ℕ) (old new : List Asked) → SaysQuery bytes tx → ((t : List ℕ) → SaysQuery bytes t → Some tx ≡ Some t)
     → new ≡ old ++ record { to = to; tx = tx } ∷ [] → Asks to bytes old new

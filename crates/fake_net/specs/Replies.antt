@@ -1,6 +1,7 @@
 -- What a node of the network answers to a query, and when. Messages are KRPC's (BEP 5); who answers what is this project's
 -- own.
-use Rattle.std.specs.Prelude.{◌≡◌, ℕ, zero, suc, ◌+◌, ◌/◌, ◌%◌, ◌<◌, pos, Bool, cond, List, [], ◌∷◌, map, get_or, set, codes, bit_xor, Option, Some, None}
+use Rattle.std.specs.Prelude.{◌≡◌, ℕ, zero, suc, ◌+◌, ◌-◌, ◌/◌, ◌%◌, ◌^◌, ◌<◌, min, pos, Bool, cond, List, [], ◌∷◌, map, get_or, set, codes, bit_xor, Option, Some, None}
+use Rattle.std.specs.Borrow.{Bor}
 use Rattle.kad_base.specs.declared.types.Id.{Id}
 use Rattle.kad_base.specs.declared.types.Ip.TheVariants.{V4}
 use Rattle.kad_base.specs.declared.types.Addr.{Addr}
@@ -35,6 +36,11 @@ abbrev pub find_node_of : Message → Option (List ℕ × Id)
 find_node_of (message.Query tx read_only ask) = asked_for tx ask
 find_node_of (message.Answer tx answer) = None
 find_node_of (message.Fault tx code text) = None
+
+-- the same, where the transaction id is lent
+abbrev pub lent_query : Option (Bor (List ℕ) × Id) → Option (List ℕ × Id)
+lent_query None = None
+lent_query (Some q) = Some (q.0.now, q.1)
 
 -- ---- what is answered
 
@@ -78,10 +84,15 @@ reply_of net i tx target = said (conduct_of net.hostile i) net i tx target
 
 -- ---- when it comes
 
--- a message on its way from node i, sent for at the moment: it takes 10 to 49 milliseconds, by the number
+-- when an answer of node i comes to what was sent at the moment: 10 to 49 milliseconds later, by the number, and at the last
+-- moment, 2^64 - 1, where the sum is past it
+abbrev pub comes_at : ℕ → ℕ → ℕ
+comes_at moment i = min (moment + (10 + i % 40)) (2 ^ 64 - 1)
+
+-- a message on its way from node i, sent for at the moment
 abbrev pub on_its_way : ℕ → ℕ → Option Message → List Waiting
 on_its_way moment i None = []
-on_its_way moment i (Some m) = record { at = moment + (10 + i % 40); from = address_of i; bytes = form m } ∷ []
+on_its_way moment i (Some m) = record { at = comes_at moment i; from = address_of i; bytes = form m } ∷ []
 
 -- a datagram to an address brings about these answers: a query for a target to a node that of the node, and else none
 pub record BringsAbout (net : Network) (moment : ℕ) (to : Addr) (bytes : List ℕ) (answers : List Waiting) : Type 0 where

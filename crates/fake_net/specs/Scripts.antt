@@ -55,6 +55,11 @@ pub record SaysQuery (bytes tx : List ℕ) : Type 0 where
   pub ask : Ask
   pub says : Says bytes (message.Query tx read_only ask)
 
+-- the bytes say a query
+pub record IsQuery (bytes : List ℕ) : Type 0 where
+  pub tx : List ℕ
+  pub says : SaysQuery bytes tx
+
 -- the transaction id of a query
 abbrev pub query_tx : Message → Option (List ℕ)
 query_tx (message.Query tx read_only ask) = Some tx

@@ -2,7 +2,7 @@
 ghost use Rattle.std.specs.Prelude.{◌≡◌, ◌≤◌, ◌⊎◌, ◌++◌, ◌∷◌, [], ◌↔◌, length, All, Contains, Some, None, IfOk, OnOk, OnErr, IsErr, IsTrue, MatchOption};
 ghost use Rattle.kad_base.specs.declared.types.Event.{Event};
 ghost use Rattle.kad_base.specs.Outside.{Grows, EventOf, Arrives, came_at};
-ghost use Rattle.fake_net.specs.Scripts.{one_more, SameSends, SameReceives, Asks, IsWritableEvent, AnswerNext, Receives};
+ghost use Rattle.fake_net.specs.Scripts.{one_more, SameSends, SameReceives, Asks, IsQuery, IsWritableEvent, AnswerNext, Receives};
 
 use crate::script::{Asked, Script, ScriptEvent, ask, come};
 use crate::telling::{came_at, telling, telling_came, telling_sent, telling_unsent};
@@ -11,7 +11,8 @@ use std::alloc::Global;
 use std::marker::Model;
 
 /// A link in memory. What comes is what its script says. The sends and receives whose numbers, from 0, are listed fail.
-/// A call that finds no memory for its own work fails too; one that finds none to record itself ends the transcript.
+/// It tells its transcript until a call finds no memory for its record: for its event, or for the query of a send, which
+/// fails then too. A receive that finds no memory for what comes fails.
 #[derive(Drop)]
 pub struct ScriptLink {
     alloc: Global,
@@ -133,9 +134,15 @@ impl Link for ScriptLink {
         at
     }
 
-    /// Keeps the query that the bytes say, if they say one. Reading them takes memory in proportion to them.
+    /// Keeps the query that the bytes say, if they say one. Takes memory for the query and for the transcript alone.
     fn send(&mut self, to: Addr, bytes: &[u8]) -> Result<(), Failed>
         ensures fails { Contains self.old.failing_sends self.old.sends → IsErr result }
+        // Where it tells its transcript afterwards, it failed by its number.
+        ensures only { OnErr result (Contains self.old.failing_sends self.old.sends
+            ⊎ (self.new.told ≡ None)) }
+        // Else it failed for a query that there was no memory to keep.
+        ensures only_queries { OnErr result (Contains self.old.failing_sends self.old.sends
+            ⊎ IsQuery bytes.now) }
         ensures sent { OnOk result (Grows self.old.told self.new.told
             (λ t. t ≡ Event.Sent to bytes.now ∷ [])) }
         ensures unsent { OnErr result (Grows self.old.told self.new.told
@@ -163,7 +170,7 @@ impl Link for ScriptLink {
                 Ok(())
             }
             Err(_) => {
-                self.told = telling_unsent(self.alloc, self.told.take(), to, bytes);
+                self.told = None;
                 self.send_faults = one_more(self.send_faults);
                 Err(Failed)
             }

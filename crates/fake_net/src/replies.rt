@@ -1,14 +1,14 @@
 //! What a node of the network answers to a datagram, and when.
-ghost use Rattle.std.specs.Prelude.{◌≡◌, ◌≢◌, ◌%◌, ◌<◌, ◌≤◌, ℕ, List, map, codes, IfOk, IfSome, OnOk, Some, None, option_to_list};
+ghost use Rattle.std.specs.Prelude.{◌≡◌, ◌%◌, ◌<◌, ◌≤◌, ℕ, List, map, codes, IfOk, IfSome, Some, None, option_to_list};
 ghost use Rattle.kad_base.specs.declared.types.Id.{Id};
-ghost use Rattle.kad_krpc.specs.declared.message.KrpcFault.TheVariants as fault_of;
+ghost use Rattle.kad_krpc.specs.Views.{ask_seen, message_seen};
 ghost use Rattle.fake_net.specs.Network.{numbers};
-ghost use Rattle.fake_net.specs.Replies.{SaysFindNode, asked_for, find_node_of, misconduct, conduct_of, invented, naming, reply_of, on_its_way, BringsAbout};
+ghost use Rattle.fake_net.specs.Replies.{SaysFindNode, asked_for, find_node_of, lent_query, misconduct, conduct_of, invented, naming, reply_of, comes_at, on_its_way, BringsAbout};
 
 use crate::nodes::{Nodes, address_of};
 use crate::waiting::Waiting;
 use kad_base::{Addr, Bytes, Contact, Contacts, Id, Ip, List, NoMemory};
-use kad_krpc::{Answer, Ask, KrpcFault, Message, decode, encode};
+use kad_krpc::{Answer, AskView, Message, View, decode_view, encode};
 use std::alloc::Global;
 
 /// How many contacts a node invents.
@@ -131,26 +131,34 @@ fn reply(
     }
 }
 
-/// The answer of node `i` to a query, on its way, if it answers. Its moment is that of the send and 10 to 49 milliseconds,
-/// by the node's number.
+/// When an answer of node `i` comes to what was sent at the moment: 10 to 49 milliseconds later, by the node's number, and at
+/// the last moment of all where the sum is past it.
+fn comes_at(moment: u64, i: u32) -> u64
+    ensures { result ≡ comes_at moment i }
+{
+    moment.saturating_add(u64::from(10 + i % 40))
+}
+
+/// The answer of node `i` to a query, on its way, if it answers.
 fn answer_of(
     alloc: Global,
     nodes: &Nodes,
     moment: u64,
     i: u32,
-    tx: Bytes,
+    tx: &[u8],
     target: &Id,
 ) -> Result<Option<Waiting>, NoMemory>
     requires node { i < nodes.now.count }
     requires few { nodes.now.count ≤ 20000 }
     ensures { IfOk result (λ answer. option_to_list answer ≡ on_its_way moment i
-        (reply_of nodes.now i tx target.now)) }
+        (reply_of nodes.now i tx.now target.now)) }
 {
+    let tx = List::from_slice(alloc, tx)?;
     match reply(alloc, nodes, i, tx, target)? {
         Some(message) => {
             let bytes = encode(alloc, &message)?;
             Ok(Some(Waiting {
-                at: u128::from(moment) + u128::from(10 + i % 40),
+                at: comes_at(moment, i),
                 from: address_of(i),
                 bytes,
             }))
@@ -160,54 +168,42 @@ fn answer_of(
 }
 
 /// The transaction id and the target, where the query is `find_node`.
-fn asked_for(tx: Bytes, ask: Ask) -> Option<(Bytes, Id)>
-    ensures { result ≡ asked_for tx ask }
+fn asked_for<'a>(tx: &'a [u8], ask: AskView<'a>) -> Option<(&'a [u8], Id)>
+    ensures { lent_query result ≡ asked_for tx.now (ask_seen ask.entry) }
 {
     match ask {
-        Ask::Ping { .. } => None,
-        Ask::FindNode { target, .. } => Some((tx, target)),
-        Ask::GetPeers { .. } => None,
-        Ask::AnnouncePeer { .. } => None,
-        Ask::Other { .. } => None,
+        AskView::Ping { .. } => None,
+        AskView::FindNode { target, .. } => Some((tx, target)),
+        AskView::GetPeers { .. } => None,
+        AskView::AnnouncePeer { .. } => None,
+        AskView::Other { .. } => None,
     }
 }
 
 /// The transaction id and the target of a `find_node` query.
-fn find_node_of(message: Message) -> Option<(Bytes, Id)>
-    ensures { result ≡ find_node_of message }
+fn find_node_of<'a>(view: View<'a>) -> Option<(&'a [u8], Id)>
+    ensures { lent_query result ≡ find_node_of (message_seen view.entry) }
 {
-    match message {
-        Message::Query { tx, ask, .. } => asked_for(tx, ask),
-        Message::Answer { .. } => None,
-        Message::Fault { .. } => None,
+    match view {
+        View::Query { tx, ask, .. } => asked_for(tx, ask),
+        View::Answer { .. } => None,
+        View::Fault { .. } => None,
     }
 }
 
-/// Bytes that say no message say no query.
-fn unread(fault: KrpcFault) -> Result<Option<(Bytes, Id)>, NoMemory>
-    ensures ok { IfOk result (λ query. query ≡ None) }
-    ensures err { OnOk result (fault ≢ fault_of.NoMemory) }
+/// The transaction id and the target of the `find_node` query that the bytes say, if they say one. Takes no memory.
+fn find_node_in(bytes: &[u8]) -> Option<(&[u8], Id)>
+    ensures some { IfSome (lent_query result) (λ q. SaysFindNode bytes.now q.0 q.1) }
+    ensures only { (tx : List ℕ) (target : Id) → SaysFindNode bytes.now tx target
+        → lent_query result ≡ Some (tx, target) }
 {
-    match fault {
-        KrpcFault::NoMemory => Err(NoMemory),
-        _ => Ok(None),
+    match decode_view(bytes) {
+        Ok(view) => find_node_of(view),
+        Err(_) => None,
     }
 }
 
-/// The transaction id and the target of the `find_node` query that the bytes say, if they say one.
-#[tactic(auto, using(crate::proofs::Answering::read_find))]
-fn find_node_in(alloc: Global, bytes: &[u8]) -> Result<Option<(Bytes, Id)>, NoMemory>
-    ensures some { IfOk result (λ query. IfSome query (λ q. SaysFindNode bytes.now q.0 q.1)) }
-    ensures only { IfOk result (λ query. (tx : List ℕ) (target : Id)
-        → SaysFindNode bytes.now tx target → query ≡ Some (tx, target)) }
-{
-    match decode(alloc, bytes) {
-        Ok(message) => Ok(find_node_of(message)),
-        Err(fault) => unread(fault),
-    }
-}
-
-/// The answer that a datagram to an address brings about, if one.
+/// The answer that a datagram to an address brings about, if one. Takes memory for the answer alone.
 pub(crate) fn answer(
     alloc: Global,
     nodes: &Nodes,
@@ -221,7 +217,7 @@ pub(crate) fn answer(
     let Some(i) = nodes.number_at(to) else {
         return Ok(None);
     };
-    match find_node_in(alloc, bytes)? {
+    match find_node_in(bytes) {
         Some((tx, target)) => answer_of(alloc, nodes, moment, i, tx, &target),
         None => Ok(None),
     }

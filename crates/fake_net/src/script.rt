@@ -1,13 +1,13 @@
 //! A script: what comes and when, and what of it comes next.
-ghost use Rattle.std.specs.Prelude.{◌≡◌, ◌≢◌, ◌<◌, ◌≤◌, ◌++◌, ◌↔◌, ◌∷◌, [], min, max, length, take, All, Any, IfSome, IsNone, IsTrue, IsFalse, IfOk, OnOk, OnErr, ◌+◌, List, ℕ, Some, None};
+ghost use Rattle.std.specs.Prelude.{◌≡◌, ◌≢◌, ◌<◌, ◌≤◌, ◌++◌, ◌↔◌, ◌∷◌, [], min, max, length, take, All, Any, IfSome, IsNone, IsTrue, IsFalse, IfOk, OnOk, OnErr, ◌+◌, List, ℕ, Some, None, option_copied};
 ghost use Rattle.std.specs.List.{HoldsAt};
-ghost use Rattle.kad_krpc.specs.declared.message.KrpcFault.TheVariants as fault_of;
 ghost use Rattle.kad_krpc.specs.Form.{IsWritable, form};
+ghost use Rattle.kad_krpc.specs.Views.{message_seen};
 ghost use Rattle.fake_net.specs.Searching.{FindsOf};
-ghost use Rattle.fake_net.specs.Scripts.{one_more, SaysQuery, query_tx, Asks, IsFirstTo, IsFirstAt, IsWritableEvent, moment_of, IsReady, IsNext, NoneNext, Finds, under, Answers, Carries, Puts, IsAnswer, AnswerNext, Receives, left_of, spent};
+ghost use Rattle.fake_net.specs.Scripts.{one_more, SaysQuery, IsQuery, query_tx, Asks, IsFirstTo, IsFirstAt, IsWritableEvent, moment_of, IsReady, IsNext, NoneNext, Finds, under, Answers, Carries, Puts, IsAnswer, AnswerNext, Receives, left_of, spent};
 
 use kad_base::{Addr, Bytes, Came, List, NoMemory};
-use kad_krpc::{Answer, Ask, KrpcFault, Message, decode, encode};
+use kad_krpc::{Answer, Ask, Message, View, decode_view, encode};
 use std::alloc::Global;
 
 /// What comes at a moment, in milliseconds, or at the first receive after it.
@@ -312,40 +312,28 @@ pub(crate) fn come(
 }
 
 /// The transaction id of a query.
-fn query_tx(message: Message) -> Option<Bytes>
-    ensures { result ≡ query_tx message }
+fn query_tx<'a>(view: View<'a>) -> Option<&'a [u8]>
+    ensures { option_copied result ≡ query_tx (message_seen view.entry) }
 {
-    match message {
-        Message::Query { tx, .. } => Some(tx),
-        Message::Answer { .. } => None,
-        Message::Fault { .. } => None,
+    match view {
+        View::Query { tx, .. } => Some(tx),
+        View::Answer { .. } => None,
+        View::Fault { .. } => None,
     }
 }
 
-/// Bytes that say no message say no query.
-fn unread(fault: KrpcFault) -> Result<Option<Bytes>, NoMemory>
-    ensures ok { IfOk result (λ query. query ≡ None) }
-    ensures err { OnOk result (fault ≢ fault_of.NoMemory) }
+/// The transaction id of the query that the bytes say, if they say one. Takes no memory.
+fn query_in(bytes: &[u8]) -> Option<&[u8]>
+    ensures some { IfSome (option_copied result) (SaysQuery bytes.now) }
+    ensures only { (tx : List ℕ) → SaysQuery bytes.now tx → option_copied result ≡ Some tx }
 {
-    match fault {
-        KrpcFault::NoMemory => Err(NoMemory),
-        _ => Ok(None),
+    match decode_view(bytes) {
+        Ok(view) => query_tx(view),
+        Err(_) => None,
     }
 }
 
-/// The transaction id of the query that the bytes say, if they say one.
-#[tactic(auto, using(crate::proofs::Asking::read_some))]
-fn query_in(alloc: Global, bytes: &[u8]) -> Result<Option<Bytes>, NoMemory>
-    ensures some { IfOk result (λ query. IfSome query (SaysQuery bytes.now)) }
-    ensures only { IfOk result (λ query. (tx : List ℕ) → SaysQuery bytes.now tx → query ≡ Some tx) }
-{
-    match decode(alloc, bytes) {
-        Ok(message) => Ok(query_tx(message)),
-        Err(fault) => unread(fault),
-    }
-}
-
-/// Keeps the query that the bytes say, if they say one.
+/// Keeps the query that the bytes say, if they say one. Takes memory for it alone.
 pub(crate) fn ask(
     alloc: Global,
     asked: &mut List<Asked>,
@@ -354,9 +342,19 @@ pub(crate) fn ask(
 ) -> Result<(), NoMemory>
     ensures ok { OnOk result (Asks to bytes.now asked.old asked.new) }
     ensures err { OnErr result (asked.new ≡ asked.old) }
+    ensures only { OnErr result (IsQuery bytes.now) }
 {
-    match query_in(alloc, bytes)? {
-        Some(tx) => asked.push(Asked { to, tx }),
+    match query_in(bytes) {
+        Some(tx) => keep(alloc, asked, to, tx),
         None => Ok(()),
     }
+}
+
+/// Keeps a query behind the others.
+fn keep(alloc: Global, asked: &mut List<Asked>, to: Addr, tx: &[u8]) -> Result<(), NoMemory>
+    ensures ok { OnOk result (asked.new ≡ asked.old ++ record { to = to; tx = tx.now } ∷ []) }
+    ensures err { OnErr result (asked.new ≡ asked.old) }
+{
+    let tx = List::from_slice(alloc, tx)?;
+    asked.push(Asked { to, tx })
 }

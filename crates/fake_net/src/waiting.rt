@@ -7,11 +7,10 @@ ghost use Rattle.fake_net.specs.Scripts.{IsWithin};
 use crate::script::fill;
 use kad_base::{Addr, Bytes, Came};
 
-/// An answer that waits to be received. Its moment, in milliseconds, is wider than those of a link, so that it never wraps:
-/// one that no link reaches waits for ever.
+/// An answer that waits to be received, from its moment on, in milliseconds.
 #[derive(Debug, Drop, PartialEq, Eq)]
 pub struct Waiting {
-    pub at: u128,
+    pub at: u64,
     pub from: Addr,
     pub bytes: Bytes,
 }
@@ -24,7 +23,7 @@ fn sooner(waiting: &[Waiting], until: u64, best: Option<usize>, place: usize) ->
 {
     let answer = &waiting[place];
     match best {
-        None if answer.at <= u128::from(until) => Some(place),
+        None if answer.at <= until => Some(place),
         None => None,
         Some(held) if answer.at < waiting[held].at => Some(place),
         Some(held) => Some(held),
@@ -62,10 +61,9 @@ pub(crate) fn take_next(
     };
     let answer = waiting.remove(place);
     let len = fill(buf, answer.bytes.as_slice());
-    let at = answer.at as u64;
     Came::Packet {
         from: answer.from,
         len,
-        at: at.max(moment_before),
+        at: answer.at.max(moment_before),
     }
 }

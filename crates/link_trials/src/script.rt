@@ -396,3 +396,47 @@ fn it_tells_what_it_did(rt: HostRuntime) -> Result<(), Fail> {
     tells(&rt, link.events(), &transcript());
     Ok(())
 }
+
+/// Asks for the moment, sends, and receives nothing, that many times: three events each.
+fn repeats(link: &mut ScriptLink, times: u32) {
+    for _ in 0..times {
+        link.now();
+        sends(link, 6003, b"sent");
+        receives(link, &mut [0; 64], 5);
+    }
+}
+
+/// The event of that number of what `repeats` does at moment 5.
+fn repeated(number: usize) -> Told<'static> {
+    match number % 3 {
+        0 => Told::Now { at: 5 },
+        1 => Told::Sent {
+            to: addr(6003),
+            text: b"sent",
+        },
+        _ => Told::Quiet { until: 5, at: 5 },
+    }
+}
+
+#[test]
+fn five_thousand_events_are_told(rt: HostRuntime) -> Result<(), Fail> {
+    let coming = [bytes(6, b"first", 1), bytes(7, b"second", 1)];
+    let mut link = link(rt.alloc(), coming, &[], &[])?;
+    repeats(&mut link, 1_667);
+    let events = link.events().unwrap_or(&[]);
+    assert_eq!(rt; events.len(), 5_001);
+    for (number, event) in events.iter().enumerate() {
+        assert_eq!(rt; shown(event), repeated(number));
+    }
+    Ok(())
+}
+
+#[test]
+fn a_send_of_any_length_passes(rt: HostRuntime) -> Result<(), Fail> {
+    let rows = [
+        sent(6001, b""),
+        sent(6001, &[b'x'; 2_001]),
+        sent(6001, &[b'x'; 65_507]),
+    ];
+    plays(&rt, rt.alloc(), [ANSWER, OTHER], &[], &[], &rows)
+}

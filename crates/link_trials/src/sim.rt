@@ -283,3 +283,33 @@ fn others_are_silent_and_the_first_of_one_moment_comes_first(rt: HostRuntime) ->
     ];
     plays(&rt, rt.alloc(), &rows)
 }
+
+#[test]
+fn an_answer_past_the_last_moment_comes_at_it(rt: HostRuntime) -> Result<(), Fail> {
+    let rows = [
+        waits(u64::MAX - 20),
+        sent(node_at(0, 25), FIND_NODE),
+        sent(node_at(0, 0), FIND_NODE),
+        waits(u64::MAX - 11),
+        gives(u64::MAX, node_at(0, 0), u64::MAX - 10, inventing()),
+        waits(u64::MAX - 1),
+        gives(u64::MAX, node_at(0, 25), u64::MAX, honest()),
+        waits(u64::MAX),
+    ];
+    plays(&rt, rt.alloc(), &rows)
+}
+
+/// Whether the network is short after that many calls that it tells.
+fn is_short_after(alloc: Global, calls: u32) -> Result<bool, NoMemory> {
+    let mut net = network(alloc)?;
+    for _ in 0..calls {
+        net.now();
+    }
+    Ok(net.short())
+}
+
+#[test]
+fn five_thousand_events_make_no_network_short(rt: HostRuntime) -> Result<(), Fail> {
+    assert!(rt; !is_short_after(rt.alloc(), 5_000)?);
+    Ok(())
+}
