@@ -23,6 +23,7 @@ use Rattle.lookup_core.specs.declared.reply.Reply.TheVariants as reply
 use Rattle.lookup_core.specs.declared.state.Lookup.{Lookup}
 use Rattle.lookup_core.specs.Matching.{ReplyGives}
 use Rattle.lookup_core.specs.LookupSteps.{Holds, query_to, IsMatch, Takes}
+use Rattle.lookup_core.specs.Sealed.{Accepts}
 use Rattle.lookup_core.proofs.Lists.{map_append}
 use Rattle.lookup_core.proofs.Opens.{opens_heard, opens_lost, opens_distinct, without_one}
 
@@ -54,8 +55,8 @@ one_closed c J K before behind old new q is was closes opens distinct after =
     ap (map (λ (x : Query). x.contact)) closes ∙ map_append (λ (x : Query). x.contact) before behind
     ∙ sym (after ∙ ap (λ l. without l (c ∷ [])) were ∙ without_one c cs ds (subst (IsDistinct same) were distinct))
 
-match_holds : (quest : Quest) (from : Addr) (bytes : List ℕ) (old new : Lookup) (heard : List Answered) → Holds old → Legal old.book.setting old.book.journal → IsMatch quest from bytes old new heard → Holds new
-match_holds quest from bytes old new heard holds legal m =
+match_holds : (quest : Quest) (accepts : Accepts) (from : Addr) (bytes : List ℕ) (old new : Lookup) (heard : List Answered) → Holds old → Legal old.book.setting old.book.journal → IsMatch quest accepts from bytes old new heard → Holds new
+match_holds quest accepts from bytes old new heard holds legal m =
     let J = old.book.journal in
     let c = m.query.contact in
     record {
@@ -65,11 +66,11 @@ match_holds quest from bytes old new heard holds legal m =
     }
 
 -- whatever the datagram was
-pub take_holds : (quest : Quest) (from : Addr) (bytes : List ℕ) (old new : Lookup) (out : Taken) → Holds old → Legal old.book.setting old.book.journal → Takes quest from bytes old new out → Holds new
-take_holds quest from bytes old new taken.Stray holds legal t = subst Holds (sym t.1) holds
-take_holds quest from bytes old new (taken.Heard answered) holds legal t = match_holds quest from bytes old new (answered ∷ []) holds legal t
-take_holds quest from bytes old new taken.Lost holds legal t = match_holds quest from bytes old new [] holds legal t
+pub take_holds : (quest : Quest) (accepts : Accepts) (from : Addr) (bytes : List ℕ) (old new : Lookup) (out : Taken) → Holds old → Legal old.book.setting old.book.journal → Takes quest accepts from bytes old new out → Holds new
+take_holds quest accepts from bytes old new taken.Stray holds legal t = subst Holds (sym t.1) holds
+take_holds quest accepts from bytes old new (taken.Heard answered) holds legal t = match_holds quest accepts from bytes old new (answered ∷ []) holds legal t
+take_holds quest accepts from bytes old new taken.Lost holds legal t = match_holds quest accepts from bytes old new [] holds legal t
 
-pub held_result : (quest : Quest) (from : Addr) (bytes : List ℕ) (old new : Lookup) (result : Result Taken NoMemory) → Holds old → Legal old.book.setting old.book.journal → IfOk result (Takes quest from bytes old new) → OnOk result (Holds new)
-held_result quest from bytes old new (Ok out) holds legal t = take_holds quest from bytes old new out holds legal t
-held_result quest from bytes old new (Err e) holds legal t = tt
+pub held_result : (quest : Quest) (accepts : Accepts) (from : Addr) (bytes : List ℕ) (old new : Lookup) (result : Result Taken NoMemory) → Holds old → Legal old.book.setting old.book.journal → IfOk result (Takes quest accepts from bytes old new) → OnOk result (Holds new)
+held_result quest accepts from bytes old new (Ok out) holds legal t = take_holds quest accepts from bytes old new out holds legal t
+held_result quest accepts from bytes old new (Err e) holds legal t = tt

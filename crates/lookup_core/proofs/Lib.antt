@@ -8,3 +8,4 @@ pub mod Matching
 pub mod Opening
 pub mod Holding
 pub mod Expiring
+pub mod Tags

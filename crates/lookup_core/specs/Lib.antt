@@ -1,4 +1,5 @@
 pub mod Quest
+pub mod Sealed
 pub mod Says
 pub mod Matching
 pub mod Timeouts

@@ -25,6 +25,7 @@ use Rattle.lookup_core.specs.declared.reply.Reply.TheVariants as reply
 use Rattle.lookup_core.specs.declared.state.Lookup.{Lookup}
 use Rattle.lookup_core.specs.Matching.{OpenQuery, Replies, ReplyGives}
 use Rattle.lookup_core.specs.Says.{IsReply}
+use Rattle.lookup_core.specs.Sealed.{Accepts}
 use Rattle.lookup_core.specs.Timeouts.{deadline_of, closed_at}
 
 -- an open query with its path, which is the one that asked its contact
@@ -101,28 +102,28 @@ pub record HearsReply (quest : Quest) (c : Contact) (r : Reply) (old new : BookS
   pub taken : out ≢ taken.Stray
 
 -- the datagram replies to one of the open queries and to no other, which is closed, and the reply is heard
-pub record IsMatch (quest : Quest) (from : Addr) (bytes : List ℕ) (old new : Lookup) (heard : List Answered) : Type 0 where
+pub record IsMatch (quest : Quest) (accepts : Accepts) (from : Addr) (bytes : List ℕ) (old new : Lookup) (heard : List Answered) : Type 0 where
   pub before : List Query
   pub query : Query
   pub behind : List Query
   pub what : Reply
   pub was_open : old.queries ≡ before ++ query ∷ behind
   pub alone : (q : Query) → Contains old.queries q → q.tx ≡ query.tx → q ≡ query
-  pub replies : Replies quest bytes from (as_open old.book.journal query) what
+  pub replies : Replies quest accepts bytes from (as_open old.book.journal query) what
   pub reads : IsReply quest bytes (record { tx = query.tx; reply = what })
   pub closes : new.queries ≡ before ++ behind
   pub hears : HearsOne quest query.contact what old.book new.book
   pub hears_in : HearsIn query.contact what heard
 
 -- the datagram replies to none of its open queries
-abbrev pub RepliesToNone : Quest → Addr → List ℕ → Lookup → Type 0
-RepliesToNone quest from bytes k = (q : Query) → Contains k.queries q → (r : Reply) → ¬ Replies quest bytes from (as_open k.book.journal q) r
+abbrev pub RepliesToNone : Quest → Accepts → Addr → List ℕ → Lookup → Type 0
+RepliesToNone quest accepts from bytes k = (q : Query) → Contains k.queries q → (r : Reply) → ¬ Replies quest accepts bytes from (as_open k.book.journal q) r
 
 -- what the datagram was to the lookup
-abbrev pub Takes : Quest → Addr → List ℕ → Lookup → Lookup → Taken → Type 0
-Takes quest from bytes old new taken.Stray = RepliesToNone quest from bytes old × (new ≡ old)
-Takes quest from bytes old new (taken.Heard answered) = IsMatch quest from bytes old new (answered ∷ [])
-Takes quest from bytes old new taken.Lost = IsMatch quest from bytes old new []
+abbrev pub Takes : Quest → Accepts → Addr → List ℕ → Lookup → Lookup → Taken → Type 0
+Takes quest accepts from bytes old new taken.Stray = RepliesToNone quest accepts from bytes old × (new ≡ old)
+Takes quest accepts from bytes old new (taken.Heard answered) = IsMatch quest accepts from bytes old new (answered ∷ [])
+Takes quest accepts from bytes old new taken.Lost = IsMatch quest accepts from bytes old new []
 
 -- ---- expiring
 

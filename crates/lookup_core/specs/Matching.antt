@@ -18,6 +18,7 @@ use Rattle.lookup_core.specs.declared.quest.Quest.{Quest}
 use Rattle.lookup_core.specs.declared.reply.Reply.{Reply}
 use Rattle.lookup_core.specs.declared.reply.Reply.TheVariants as reply
 use Rattle.lookup_core.specs.Quest.{query_message, reports_of, IsBelievable}
+use Rattle.lookup_core.specs.Sealed.{Accepts, IsSealed, speaker}
 
 -- an open query: the path and the contact of its Ask, its transaction id and its deadline
 pub record OpenQuery : Type 0 where
@@ -44,14 +45,15 @@ SaysTo id (message.Query tx read_only ask) r = ⊥
 SaysTo id (message.Answer tx answer) r = (tx ≡ id) × (r ≡ reply.Answer answer)
 SaysTo id (message.Fault tx code text) r = (tx ≡ id) × (r ≡ reply.Error code)
 
--- What is accepted as a reply to an open query: it may be believed, says an answer or an error
--- message with the query's transaction id, and comes from the query's address (BEP 5).
-pub record Replies (quest : Quest) (bytes : List ℕ) (from : Addr) (q : OpenQuery) (r : Reply) : Type 0 where
+-- What is accepted as a reply to an open query: it may be believed, says an answer or an error message with the query's
+-- transaction id, and comes from the query's address (BEP 5); in a sealed lookup it carries a tag of who says it, too.
+pub record Replies (quest : Quest) (accepts : Accepts) (bytes : List ℕ) (from : Addr) (q : OpenQuery) (r : Reply) : Type 0 where
   pub believable : IsBelievable quest bytes
   pub said : Message
   pub says : Says bytes said
   pub to_query : SaysTo (word_bytes q.tx) said r
   pub source : from ≡ q.contact.addr
+  pub sealed : IsSealed quest.sealed accepts bytes (speaker q.contact r)
 
 -- an answer in the contact's own name is heard, and one in another name loses the contact
 abbrev pub AnswerGives : Quest → OpenQuery → Answer → Entry → Type 0
@@ -65,16 +67,16 @@ ReplyGives quest q (reply.Answer answer) e = AnswerGives quest q answer e
 ReplyGives quest q (reply.Error code) e = e ≡ Lost q.path q.contact (Error code)
 
 -- the datagram is matched: it replies to one of the open queries, which it closes
-pub record Matched (quest : Quest) (opens : List OpenQuery) (from : Addr) (bytes : List ℕ) (e : Entry) (left : List OpenQuery) : Type 0 where
+pub record Matched (quest : Quest) (accepts : Accepts) (opens : List OpenQuery) (from : Addr) (bytes : List ℕ) (e : Entry) (left : List OpenQuery) : Type 0 where
   pub before : List OpenQuery
   pub query : OpenQuery
   pub behind : List OpenQuery
   pub what : Reply
   pub queries : opens ≡ before ++ query ∷ behind
-  pub replies : Replies quest bytes from query what
+  pub replies : Replies quest accepts bytes from query what
   pub entry : ReplyGives quest query what e
   pub closes : left ≡ before ++ behind
 
 -- the datagram is a stray: it replies to no open query
-abbrev pub IsStray : Quest → List OpenQuery → Addr → List ℕ → Type 0
-IsStray quest opens from bytes = (q : OpenQuery) → Contains opens q → (r : Reply) → ¬ Replies quest bytes from q r
+abbrev pub IsStray : Quest → Accepts → List OpenQuery → Addr → List ℕ → Type 0
+IsStray quest accepts opens from bytes = (q : OpenQuery) → Contains opens q → (r : Reply) → ¬ Replies quest accepts bytes from q r

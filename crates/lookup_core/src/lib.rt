@@ -7,6 +7,7 @@ mod expire;
 mod on_reply;
 mod quest;
 mod reply;
+mod sealed;
 mod state;
 
 pub use ask::Asked;

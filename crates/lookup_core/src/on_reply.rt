@@ -11,10 +11,12 @@ ghost use Rattle.lookup_core.specs.LookupSteps.{Holds, HearsReply, Takes};
 
 use crate::quest::Quest;
 use crate::reply::{Reply, read_reply};
+use crate::sealed::is_sealed;
 use crate::state::{DRIVER, Lookup};
 use claim_book::{Book, BookCall, BookReply, Cause};
 use kad_base::{Addr, Contact, Id, NoMemory, Reports, Serial};
 use kad_krpc::Answer;
+use seal_tags::SealCheck;
 use std::alloc::Global;
 
 /// A contact that answered in its own name, and its answer.
@@ -109,16 +111,18 @@ fn on_reply(
 
 impl Lookup {
     /// Matches the datagram with the open query that it replies to, which is closed, and tells the book the reply; else
-    /// it is a stray.
-    pub fn take(
+    /// it is a stray. Tags are looked at last, and in a sealed lookup alone.
+    pub fn take<G: SealCheck>(
         &mut self,
         alloc: Global,
         quest: &Quest,
+        seal: &G,
         from: Addr,
         bytes: &[u8],
     ) -> Result<Taken, NoMemory>
         requires { Holds self.old }
-        ensures takes { IfOk result (Takes quest.now from bytes.now self.old self.new) }
+        ensures takes { IfOk result (Takes quest.now (G.accepted seal.now) from bytes.now self.old
+            self.new) }
         ensures holds { OnOk result (Holds self.new) }
     {
         // No two open queries have one transaction id.
@@ -129,9 +133,20 @@ impl Lookup {
             Ok(None) => return Ok(Taken::Stray),
             Err(_) => return Err(NoMemory),
         };
+        let asked = match self.queries.find(said.tx, from) {
+            Some(asked) => asked,
+            None => return Ok(Taken::Stray),
+        };
+        let sealed = match is_sealed(alloc, quest, seal, &asked, &said.reply, bytes) {
+            Ok(sealed) => sealed,
+            Err(NoMemory) => return Err(NoMemory),
+        };
+        if !sealed {
+            return Ok(Taken::Stray);
+        }
         match self.queries.take(said.tx, from) {
             Some(contact) => on_reply(alloc, &mut self.book, quest, contact, said.reply),
-            None => Ok(Taken::Stray),
+            None => unreachable!(),
         }
     }
 }

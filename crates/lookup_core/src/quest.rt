@@ -30,8 +30,9 @@ impl AskKind {
     }
 }
 
-/// What a lookup asks, and what it believes: `own` asks for `target`, `policy` says which reports may be believed, and
-/// `timeout` how long to wait for an answer, in milliseconds.
+/// What a lookup asks, and what it believes: `own` asks for `target`, `policy` says which reports may be believed,
+/// `timeout` how long to wait for an answer, in milliseconds, and `sealed` whether a reply has to carry a tag that is
+/// accepted.
 #[derive(Clone, Copy, Debug, PartialEq, Eq)]
 pub struct Quest {
     pub own: Id,
@@ -39,6 +40,7 @@ pub struct Quest {
     pub policy: Policy,
     pub kind: AskKind,
     pub timeout: u32,
+    pub sealed: bool,
 }
 
 /// The contacts as reports without a proof.

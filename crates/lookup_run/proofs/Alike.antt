@@ -1,4 +1,4 @@
--- What events show of datagrams, whatever the journal is: which are strays, and how many there were.
+-- What events show of datagrams in a lookup that isn't sealed, whatever the journal is: which are strays, and how many.
 use Rattle.std.proofs.Common.{◌≡◌, ◌≢◌, ℕ, zero, suc, ◌+◌, ◌%◌, ◌^◌, ◌<◌, List, [], ◌∷◌, ◌++◌, length, get_or, true, false, not, cond, inl, inr, refl, sym, ap, subst, ◌∙◌, arith}
 use Rattle.std.specs.Prelude.{map, Contains}
 use Rattle.std.specs.List.{AllByRecursion}
@@ -13,10 +13,11 @@ use Rattle.claim_book.specs.declared.types.Entry.{Entry}
 use Rattle.lookup_core.specs.declared.reply.Reply.{Reply}
 use Rattle.lookup_core.specs.Matching.{OpenQuery, query_of, SaysTo, Replies, IsStray}
 use Rattle.lookup_core.specs.Timeouts.{deadline_of, is_overdue, open_at}
-use Rattle.lookup_run.specs.Tells.{Given, Seen, SentGives, MatchGives, GotGives, receives_seen, after_stray, Gives, TellsFrom, begun, TellsSoFar, EndsAtStray}
+use Rattle.lookup_run.specs.Tells.{Given, Seen, SentGives, MatchGives, GotGives, receives_seen, after_stray, Gives, TellsFrom, begun, TellsSoFar, NeverEnds}
 use Rattle.lookup_run.proofs.Driven.{map_push}
 use Rattle.lookup_run.proofs.OnceEvents.{Apart, apart_gives, small_there, one_query, reply_once}
 use Rattle.lookup_core.specs.declared.quest.Quest.{Quest}
+use Rattle.lookup_core.specs.Sealed.{Accepts, IsSealed, speaker}
 
 -- an open query as the events alone show it
 abbrev bare : OpenQuery → OpenQuery
@@ -102,24 +103,25 @@ twin (x ∷ before) behind (r ∷ rs) q e =
     let t = twin before behind rs q tail in
     record { query = t.query; there = (suc t.there.0, (let lt = t.there.1 in omega (arith, lt)), t.there.2); same = t.same }
 
-twin_replies : (quest : Quest) (bytes : List ℕ) (from : Addr) (p q : OpenQuery) (r : Reply) → bare p ≡ bare q → Replies quest bytes from q r → Replies quest bytes from p r
-twin_replies quest bytes from p q r e h = record {
+twin_replies : (quest : Quest) (accepts : Accepts) (bytes : List ℕ) (from : Addr) (p q : OpenQuery) (r : Reply) → quest.sealed ≡ false → bare p ≡ bare q → Replies quest accepts bytes from q r → Replies quest accepts bytes from p r
+twin_replies quest accepts bytes from p q r plain e h = record {
   believable = h.believable;
   said = h.said;
   says = h.says;
   to_query = subst (λ n. SaysTo (word_bytes n) h.said r) (sym (ap (λ (x : OpenQuery). x.tx) e)) h.to_query;
   source = h.source ∙ sym (ap (λ (x : OpenQuery). x.contact.addr) e);
+  sealed = subst (λ b. IsSealed b accepts bytes (speaker p.contact r)) (sym plain) tt;
 }
 
 -- a datagram that replies to a query of the one replies to one of the other
-pub not_both : (quest : Quest) (s t : Seen) (from : Addr) (bytes : List ℕ) (before behind : List OpenQuery) (q : OpenQuery) (r : Reply) → map bare s.queries ≡ map bare t.queries → s.queries ≡ before ++ q ∷ behind → Replies quest bytes from q r → IsStray quest t.queries from bytes → ⊥
-not_both quest s t from bytes before behind q r alike is replies stray =
+pub not_both : (quest : Quest) (accepts : Accepts) (s t : Seen) (from : Addr) (bytes : List ℕ) (before behind : List OpenQuery) (q : OpenQuery) (r : Reply) → quest.sealed ≡ false → map bare s.queries ≡ map bare t.queries → s.queries ≡ before ++ q ∷ behind → Replies quest accepts bytes from q r → IsStray quest accepts t.queries from bytes → ⊥
+not_both quest accepts s t from bytes before behind q r plain alike is replies stray =
     let w = twin before behind t.queries q (ap (map bare) (sym is) ∙ alike) in
-    stray w.query w.there r (twin_replies quest bytes from w.query q r w.same replies)
+    stray w.query w.there r (twin_replies quest accepts bytes from w.query q r plain w.same replies)
 
-left_alike : (quest : Quest) (s t : Seen) (from : Addr) (bytes : List ℕ) (a b c d : List OpenQuery) (x y : OpenQuery) (r u : Reply) → Apart s.queries → Apart t.queries → map bare s.queries ≡ map bare t.queries → s.queries ≡ a ++ x ∷ b → t.queries ≡ c ++ y ∷ d → Replies quest bytes from x r → Replies quest bytes from y u → map bare (a ++ b) ≡ map bare (c ++ d)
-left_alike quest s t from bytes a b c d x y r u hs ht alike is js h k =
-    let ids = (reply_once quest bytes from x y r u (small_there a b x (subst Apart is hs)) (small_there c d y (subst Apart js ht)) h k).0 in
+left_alike : (quest : Quest) (accepts : Accepts) (s t : Seen) (from : Addr) (bytes : List ℕ) (a b c d : List OpenQuery) (x y : OpenQuery) (r u : Reply) → Apart s.queries → Apart t.queries → map bare s.queries ≡ map bare t.queries → s.queries ≡ a ++ x ∷ b → t.queries ≡ c ++ y ∷ d → Replies quest accepts bytes from x r → Replies quest accepts bytes from y u → map bare (a ++ b) ≡ map bare (c ++ d)
+left_alike quest accepts s t from bytes a b c d x y r u hs ht alike is js h k =
+    let ids = (reply_once quest accepts bytes from x y r u (small_there a b x (subst Apart is hs)) (small_there c d y (subst Apart js ht)) h k).0 in
     let whole : map bare a ++ bare x ∷ map bare b ≡ map bare c ++ bare y ∷ map bare d = sym (map-append bare a (x ∷ b)) ∙ ap (map bare) (sym is) ∙ alike ∙ ap (map bare) js ∙ map-append bare c (y ∷ d) in
     let apart : Apart (map bare a ++ bare x ∷ map bare b) = subst Apart (ap (map bare) is ∙ map-append bare a (x ∷ b)) (apart_bare s.queries hs) in
     let one = one_query (map bare a) (map bare b) (map bare c) (map bare d) (bare x) (bare y) apart whole ids in
@@ -127,18 +129,18 @@ left_alike quest s t from bytes a b c d x y r u hs ht alike is js h k =
 
 -- ---- event by event
 
-got_alike : (g : Given) (s t s' t' : Seen) (from : Addr) (bytes : List ℕ) (at : ℕ) → Apart s.queries → Apart t.queries → Alike s t → GotGives g s from bytes at s' → GotGives g t from bytes at t' → Alike s' t'
-got_alike g s t s' t' from bytes at hs ht a j k =
+got_alike : (g : Given) (s t s' t' : Seen) (from : Addr) (bytes : List ℕ) (at : ℕ) → g.quest.sealed ≡ false → Apart s.queries → Apart t.queries → Alike s t → GotGives g s from bytes at s' → GotGives g t from bytes at t' → Alike s' t'
+got_alike g s t s' t' from bytes at plain hs ht a j k =
     elim j [
-      | inl m ↦ elim k [ inl n ↦ both m n | inr n ↦ absurd (not_both g.quest s t from bytes m.matched.before m.matched.behind m.matched.query m.matched.what a.queries m.matched.queries m.matched.replies n.0) ]
-      | inr m ↦ elim k [ inl n ↦ absurd (not_both g.quest t s from bytes n.matched.before n.matched.behind n.matched.query n.matched.what (sym a.queries) n.matched.queries n.matched.replies m.0) | inr n ↦ neither m.1 n.1 ]
+      | inl m ↦ elim k [ inl n ↦ both m n | inr n ↦ absurd (not_both g.quest g.accepts s t from bytes m.matched.before m.matched.behind m.matched.query m.matched.what plain a.queries m.matched.queries m.matched.replies n.0) ]
+      | inr m ↦ elim k [ inl n ↦ absurd (not_both g.quest g.accepts t s from bytes n.matched.before n.matched.behind n.matched.query n.matched.what plain (sym a.queries) n.matched.queries n.matched.replies m.0) | inr n ↦ neither m.1 n.1 ]
     ]
   where
     both : MatchGives g s from bytes at s' → MatchGives g t from bytes at t' → Alike s' t'
     both m n =
         let x = m.matched in
         let y = n.matched in
-        let left : map bare m.left ≡ map bare n.left = ap (map bare) x.closes ∙ left_alike g.quest s t from bytes x.before x.behind y.before y.behind x.query y.query x.what y.what hs ht a.queries x.queries y.queries x.replies y.replies ∙ ap (map bare) (sym y.closes) in
+        let left : map bare m.left ≡ map bare n.left = ap (map bare) x.closes ∙ left_alike g.quest g.accepts s t from bytes x.before x.behind y.before y.behind x.query y.query x.what y.what hs ht a.queries x.queries y.queries x.replies y.replies ∙ ap (map bare) (sym y.closes) in
         let opens = open_alike at m.left n.left left in
         record {
           moment = ap (λ (z : Seen). z.moment) m.after ∙ sym (ap (λ (z : Seen). z.moment) n.after);
@@ -176,18 +178,18 @@ sent_alike g s t s' t' to bytes a j k =
       receives = ap (λ (z : Seen). z.receives) j.after ∙ a.receives ∙ sym (ap (λ (z : Seen). z.receives) k.after);
     }
 
-step_alike : (g : Given) (J K : List Entry) (s t s' t' : Seen) (e : Event) → Apart s.queries → Apart t.queries → Alike s t → Gives g J s e s' → Gives g K t e t' → Alike s' t'
-step_alike g J K s t s' t' (Now at) hs ht a j k = absurd j
-step_alike g J K s t s' t' (Sent to bytes) hs ht a j k = sent_alike g s t s' t' to bytes a j k
-step_alike g J K s t s' t' (Unsent to bytes) hs ht a j k = record {
+step_alike : (g : Given) (J K : List Entry) (s t s' t' : Seen) (e : Event) → g.quest.sealed ≡ false → Apart s.queries → Apart t.queries → Alike s t → Gives g J s e s' → Gives g K t e t' → Alike s' t'
+step_alike g J K s t s' t' (Now at) plain hs ht a j k = absurd j
+step_alike g J K s t s' t' (Sent to bytes) plain hs ht a j k = sent_alike g s t s' t' to bytes a j k
+step_alike g J K s t s' t' (Unsent to bytes) plain hs ht a j k = record {
   moment = ap (λ (z : Seen). z.moment) j.after ∙ a.moment ∙ sym (ap (λ (z : Seen). z.moment) k.after);
   queries = ap (λ (z : Seen). map bare z.queries) j.after ∙ a.queries ∙ sym (ap (λ (z : Seen). map bare z.queries) k.after);
   sends = ap (λ (z : Seen). z.sends) j.after ∙ ap (λ n. n + 1) a.sends ∙ sym (ap (λ (z : Seen). z.sends) k.after);
   strays = ap (λ (z : Seen). z.strays) j.after ∙ a.strays ∙ sym (ap (λ (z : Seen). z.strays) k.after);
   receives = ap (λ (z : Seen). z.receives) j.after ∙ a.receives ∙ sym (ap (λ (z : Seen). z.receives) k.after);
 }
-step_alike g J K s t s' t' (Got from bytes until at) hs ht a j k = got_alike g s t s' t' from bytes at hs ht a j.1 k.1
-step_alike g J K s t s' t' (Quiet until at) hs ht a j k = record {
+step_alike g J K s t s' t' (Got from bytes until at) plain hs ht a j k = got_alike g s t s' t' from bytes at plain hs ht a j.1 k.1
+step_alike g J K s t s' t' (Quiet until at) plain hs ht a j k = record {
   moment = ap (λ (z : Seen). z.moment) j.1 ∙ sym (ap (λ (z : Seen). z.moment) k.1);
   queries = ap (λ (z : Seen). map bare z.queries) j.1 ∙ open_alike at s.queries t.queries a.queries ∙ sym (ap (λ (z : Seen). map bare z.queries) k.1);
   sends = ap (λ (z : Seen). z.sends) j.1 ∙ a.sends ∙ sym (ap (λ (z : Seen). z.sends) k.1);
@@ -195,10 +197,10 @@ step_alike g J K s t s' t' (Quiet until at) hs ht a j k = record {
   receives = ap (λ (z : Seen). z.receives) j.1 ∙ sym (ap (λ (z : Seen). z.receives) k.1);
 }
 
-walk_alike : (g : Given) (J K : List Entry) (s t s' t' : Seen) (es : List Event) → Apart s.queries → Apart t.queries → Alike s t → TellsFrom g J s es s' → TellsFrom g K t es t' → Alike s' t'
-walk_alike g J K s t s' t' [] hs ht a j k = subst (λ (x : Seen). Alike x t') (sym j) (subst (λ (x : Seen). Alike s x) (sym k) a)
-walk_alike g J K s t s' t' (e ∷ es) hs ht a j k =
-    walk_alike g J K j.0 k.0 s' t' es (apart_gives g J s j.0 e hs j.1) (apart_gives g K t k.0 e ht k.1) (step_alike g J K s t j.0 k.0 e hs ht a j.1 k.1) j.2 k.2
+walk_alike : (g : Given) (J K : List Entry) (s t s' t' : Seen) (es : List Event) → g.quest.sealed ≡ false → Apart s.queries → Apart t.queries → Alike s t → TellsFrom g J s es s' → TellsFrom g K t es t' → Alike s' t'
+walk_alike g J K s t s' t' [] plain hs ht a j k = subst (λ (x : Seen). Alike x t') (sym j) (subst (λ (x : Seen). Alike s x) (sym k) a)
+walk_alike g J K s t s' t' (e ∷ es) plain hs ht a j k =
+    walk_alike g J K j.0 k.0 s' t' es plain (apart_gives g J s j.0 e hs j.1) (apart_gives g K t k.0 e ht k.1) (step_alike g J K s t j.0 k.0 e plain hs ht a j.1 k.1) j.2 k.2
 
 -- ---- the last stray
 
@@ -219,28 +221,28 @@ last_of g J s t (x ∷ es) e h = (let r = last_of g J h.0 t es e h.2 in record {
 abbrev same_begun : (at : ℕ) → Alike (begun at) (begun at)
 same_begun at = record { moment = refl; queries = refl; sends = refl; strays = refl; receives = refl }
 
-stray_counts : (g : Given) (m t u : Seen) (from : Addr) (bytes : List ℕ) (at number : ℕ) → Alike m u → GotGives g m from bytes at t → IsStray g.quest u.queries from bytes → u.strays + 1 ≡ number → t.strays ≡ number
-stray_counts g m t u from bytes at number a k stray count =
+stray_counts : (g : Given) (m t u : Seen) (from : Addr) (bytes : List ℕ) (at number : ℕ) → g.quest.sealed ≡ false → Alike m u → GotGives g m from bytes at t → IsStray g.quest g.accepts u.queries from bytes → u.strays + 1 ≡ number → t.strays ≡ number
+stray_counts g m t u from bytes at number plain a k stray count =
     elim k [
-      | inl x ↦ absurd (not_both g.quest m u from bytes x.matched.before x.matched.behind x.matched.query x.matched.what a.queries x.matched.queries x.matched.replies stray)
+      | inl x ↦ absurd (not_both g.quest g.accepts m u from bytes x.matched.before x.matched.behind x.matched.query x.matched.what plain a.queries x.matched.queries x.matched.replies stray)
       | inr x ↦ ap (λ (z : Seen). z.strays) x.1 ∙ ap (λ n. n + 1) a.strays ∙ count
     ]
 
-ends_at : (g : Given) (J : List Entry) (at : ℕ) (rest : List Event) (t : Seen) (number : ℕ) (before : List Event) (K : List Entry) (u : Seen) (from : Addr) (bytes : List ℕ) (until now_ : ℕ) → TellsFrom g J (begun at) rest t → TellsSoFar g K before u → Now at ∷ rest ≡ before ++ Got from bytes until now_ ∷ [] → IsStray g.quest u.queries from bytes → u.strays + 1 ≡ number → t.strays ≡ number
-ends_at g J at rest t number [] K u from bytes until now_ h k e stray count = absurd cc
-ends_at g J at rest t number (Now start ∷ before) K u from bytes until now_ h k e stray count =
+ends_at : (g : Given) (J : List Entry) (at : ℕ) (rest : List Event) (t : Seen) (number : ℕ) (before : List Event) (K : List Entry) (u : Seen) (from : Addr) (bytes : List ℕ) (until now_ : ℕ) → g.quest.sealed ≡ false → TellsFrom g J (begun at) rest t → TellsSoFar g K before u → Now at ∷ rest ≡ before ++ Got from bytes until now_ ∷ [] → IsStray g.quest g.accepts u.queries from bytes → u.strays + 1 ≡ number → t.strays ≡ number
+ends_at g J at rest t number [] K u from bytes until now_ plain h k e stray count = absurd cc
+ends_at g J at rest t number (Now start ∷ before) K u from bytes until now_ plain h k e stray count =
     let one : at ≡ start = cc in
     let same : rest ≡ before ++ Got from bytes until now_ ∷ [] = cc in
     let l = last_of g J (begun at) t before (Got from bytes until now_) (subst (λ es. TellsFrom g J (begun at) es t) same h) in
-    let a = walk_alike g J K (begun at) (begun at) l.mid u before tt tt (same_begun at) l.front (subst (λ n. TellsFrom g K (begun n) before u) (sym one) k.0) in
-    stray_counts g l.mid t u from bytes now_ number a l.gives.1 stray count
-ends_at g J at rest t number (Sent to bytes' ∷ before) K u from bytes until now_ h k e stray count = absurd k
-ends_at g J at rest t number (Unsent to bytes' ∷ before) K u from bytes until now_ h k e stray count = absurd k
-ends_at g J at rest t number (Got from' bytes' until' at' ∷ before) K u from bytes until now_ h k e stray count = absurd k
-ends_at g J at rest t number (Quiet until' at' ∷ before) K u from bytes until now_ h k e stray count = absurd k
+    let a = walk_alike g J K (begun at) (begun at) l.mid u before plain tt tt (same_begun at) l.front (subst (λ n. TellsFrom g K (begun n) before u) (sym one) k.0) in
+    stray_counts g l.mid t u from bytes now_ number plain a l.gives.1 stray count
+ends_at g J at rest t number (Sent to bytes' ∷ before) K u from bytes until now_ plain h k e stray count = absurd k
+ends_at g J at rest t number (Unsent to bytes' ∷ before) K u from bytes until now_ plain h k e stray count = absurd k
+ends_at g J at rest t number (Got from' bytes' until' at' ∷ before) K u from bytes until now_ plain h k e stray count = absurd k
+ends_at g J at rest t number (Quiet until' at' ∷ before) K u from bytes until now_ plain h k e stray count = absurd k
 
 -- where the events show fewer strays, they don't end with the stray of this number
-pub not_ended : (g : Given) (J : List Entry) (at : ℕ) (rest : List Event) (t : Seen) (number : ℕ) → TellsFrom g J (begun at) rest t → t.strays < number → ¬ EndsAtStray g (Now at ∷ rest) number
-not_ended g J at rest t number h few k =
-    let all = ends_at g J at rest t number k.before k.journal k.end k.from k.bytes k.until k.at h k.so_far k.last k.stray k.count in
+pub not_ended : (g : Given) (J : List Entry) (at : ℕ) (rest : List Event) (t : Seen) (number : ℕ) → g.quest.sealed ≡ false → TellsFrom g J (begun at) rest t → t.strays < number → NeverEnds g number (Now at ∷ rest)
+not_ended g J at rest t number plain h few K k =
+    let all = ends_at g J at rest t number k.before K k.end k.from k.bytes k.until k.at plain h k.so_far k.last k.stray k.count in
     absurd (omega (arith, all, few))

@@ -45,6 +45,7 @@ use Rattle.lookup_run.proofs.Others.{none_after_ask, none_after_lost, settled_af
 use Rattle.lookup_run.proofs.Driven.{driven_more, keeps_none, query_back, map_push, all_push}
 use Rattle.lookup_core.specs.declared.state.Lookup.{Lookup}
 use Rattle.lookup_core.specs.declared.ask.Asked.{Asked}
+use Rattle.lookup_core.specs.Sealed.{Accepts}
 
 -- nothing but the book and the open queries changed
 pub record SameRest (old new : LookupState) : Type 0 where
@@ -91,18 +92,18 @@ drawn_more words words' start J J' next one is =
     let place : words.place + 1 ≡ start.place + length (asked J') = (let p = ap (λ (w : WordsState). w.place) is in omega (arith, p, one)) in
     next ∙ ap (λ n. record { seed = words.seed; place = n }) place ∙ ap (λ (w : WordsState). record { seed = w.seed; place = start.place + length (asked J') }) is
 
-id_of : (look : LookSetting) (p : ℕ) (c : Contact) (tx : ℕ) (words words' start : WordsState) (old : LookupState) (s : Seen) → Asking look p c tx words words' old → words ≡ drawn_for start old.lookup.book.journal → KeepsSeen (given_of look start) old words.place s
+id_of : (look : LookSetting) (accepts : Accepts) (p : ℕ) (c : Contact) (tx : ℕ) (words words' start : WordsState) (old : LookupState) (s : Seen) → Asking look p c tx words words' old → words ≡ drawn_for start old.lookup.book.journal → KeepsSeen (given_of look accepts start) old words.place s
     → IsFirstFree (map query_of s.queries) (word start.seed (start.place + s.sends)) tx
-id_of look p c tx words words' start old s a is st =
+id_of look accepts p c tx words words' start old s a is st =
     let J = old.lookup.book.journal in
     let queries : map query_of s.queries ≡ old.lookup.queries = ap (map query_of) st.queries ∙ query_back J old.lookup.queries in
     let drawn : word start.seed (start.place + s.sends) ≡ word words.seed words.place = ap (word start.seed) st.sends ∙ ap (λ (w : WordsState). word w.seed words.place) (sym is) in
     subst (λ l. IsFirstFree l (word start.seed (start.place + s.sends)) tx) (sym queries) (subst (λ w. IsFirstFree old.lookup.queries w tx) (sym drawn) a.id)
 
 -- the query is open
-sent_event : (look : LookSetting) (p : ℕ) (c : Contact) (tx : ℕ) (words words' start : WordsState) (old new : LookupState) (s : Seen) → Asking look p c tx words words' old → SameRest old new → new.lookup.book ≡ added old.lookup.book (Ask p c) → new.lookup.queries ≡ old.lookup.queries ++ the_query look c tx old ∷ []
-    → words ≡ drawn_for start old.lookup.book.journal → KeepsSeen (given_of look start) old words.place s → AllByRecursion (λ (x : Entry). path_number x ≤ p) s.since → OneEvent (given_of look start) old new (Ask p c ∷ []) words'.place p s (Sent c.addr (query_bytes look tx))
-sent_event look p c tx words words' start old new s a rest book queries is st asc =
+sent_event : (look : LookSetting) (accepts : Accepts) (p : ℕ) (c : Contact) (tx : ℕ) (words words' start : WordsState) (old new : LookupState) (s : Seen) → Asking look p c tx words words' old → SameRest old new → new.lookup.book ≡ added old.lookup.book (Ask p c) → new.lookup.queries ≡ old.lookup.queries ++ the_query look c tx old ∷ []
+    → words ≡ drawn_for start old.lookup.book.journal → KeepsSeen (given_of look accepts start) old words.place s → AllByRecursion (λ (x : Entry). path_number x ≤ p) s.since → OneEvent (given_of look accepts start) old new (Ask p c ∷ []) words'.place p s (Sent c.addr (query_bytes look tx))
+sent_event look accepts p c tx words words' start old new s a rest book queries is st asc =
     let J = old.lookup.book.journal in
     let J' = J ++ Ask p c ∷ [] in
     let journal : new.lookup.book.journal ≡ J' = ap (λ (b : BookState). b.journal) book in
@@ -116,7 +117,7 @@ sent_event look p c tx words words' start old new s a rest book queries is st as
     ∙ sym (map_push (as_open J') old.lookup.queries q) ∙ ap (map (as_open J')) (sym queries) ∙ ap (λ K. map (as_open K) new.lookup.queries) (sym journal) in
     record {
       after = after;
-      gives = record { path = p; contact = c; tx = tx; is_query = record { address = refl; id = id_of look p c tx words words' start old s a is st; form = refl }; after = refl };
+      gives = record { path = p; contact = c; tx = tx; is_query = record { address = refl; id = id_of look accepts p c tx words words' start old s a is st; form = refl }; after = refl };
       given = refl;
       in_turn = record { path = p; contact = c; rest = []; asks = refl; begins = st.receives ∙ a.round_over; settled = a.settled; none_before = a.none_below; ascends = asc };
       stands = record {
@@ -133,9 +134,9 @@ sent_event look p c tx words words' start old new s a rest book queries is st as
       keeps = keeps_none (wants_peers look.kind) old.gathered new.gathered rest.gathered;
     }
 
-pub sent_step : (look : LookSetting) (p : ℕ) (c : Contact) (tx : ℕ) (words words' : WordsState) (old new : LookupState) → Asking look p c tx words words' old → SameRest old new → new.lookup.book ≡ added old.lookup.book (Ask p c) → new.lookup.queries ≡ old.lookup.queries ++ the_query look c tx old ∷ []
-    → NextStep look words words' old new p p (Sent c.addr (query_bytes look tx))
-sent_step look p c tx words words' old new a rest book queries =
+pub sent_step : (look : LookSetting) (accepts : Accepts) (p : ℕ) (c : Contact) (tx : ℕ) (words words' : WordsState) (old new : LookupState) → Asking look p c tx words words' old → SameRest old new → new.lookup.book ≡ added old.lookup.book (Ask p c) → new.lookup.queries ≡ old.lookup.queries ++ the_query look c tx old ∷ []
+    → NextStep look accepts words words' old new p p (Sent c.addr (query_bytes look tx))
+sent_step look accepts p c tx words words' old new a rest book queries =
     let J = old.lookup.book.journal in
     let journal : new.lookup.book.journal ≡ J ++ Ask p c ∷ [] = ap (λ (b : BookState). b.journal) book in
     record {
@@ -144,13 +145,13 @@ sent_step look p c tx words words' old new a rest book queries =
       no_seeds = no_seeds_asked p c;
       drawn = λ start is. drawn_more words words' start J new.lookup.book.journal a.drawn (ap (λ K. length (asked K)) journal ∙ ask_counts p J c) is;
       tabled = table_same old.table new.table rest.table;
-      next = λ start is s st asc. sent_event look p c tx words words' start old new s a rest book queries is st asc;
+      next = λ start is s st asc. sent_event look accepts p c tx words words' start old new s a rest book queries is st asc;
     }
 
 -- it could not be sent
-unsent_event : (look : LookSetting) (p : ℕ) (c : Contact) (tx : ℕ) (words words' start : WordsState) (old new : LookupState) (s : Seen) → Asking look p c tx words words' old → SameRest old new → new.lookup.book ≡ added (added old.lookup.book (Ask p c)) (Lost p c SendFault) → new.lookup.queries ≡ old.lookup.queries
-    → words ≡ drawn_for start old.lookup.book.journal → KeepsSeen (given_of look start) old words.place s → AllByRecursion (λ (x : Entry). path_number x ≤ p) s.since → OneEvent (given_of look start) old new (Ask p c ∷ Lost p c SendFault ∷ []) words'.place p s (Unsent c.addr (query_bytes look tx))
-unsent_event look p c tx words words' start old new s a rest book queries is st asc =
+unsent_event : (look : LookSetting) (accepts : Accepts) (p : ℕ) (c : Contact) (tx : ℕ) (words words' start : WordsState) (old new : LookupState) (s : Seen) → Asking look p c tx words words' old → SameRest old new → new.lookup.book ≡ added (added old.lookup.book (Ask p c)) (Lost p c SendFault) → new.lookup.queries ≡ old.lookup.queries
+    → words ≡ drawn_for start old.lookup.book.journal → KeepsSeen (given_of look accepts start) old words.place s → AllByRecursion (λ (x : Entry). path_number x ≤ p) s.since → OneEvent (given_of look accepts start) old new (Ask p c ∷ Lost p c SendFault ∷ []) words'.place p s (Unsent c.addr (query_bytes look tx))
+unsent_event look accepts p c tx words words' start old new s a rest book queries is st asc =
     let J = old.lookup.book.journal in
     let J' = (J ++ Ask p c ∷ []) ++ Lost p c SendFault ∷ [] in
     let journal : new.lookup.book.journal ≡ J' = ap (λ (b : BookState). b.journal) book in
@@ -160,7 +161,7 @@ unsent_event look p c tx words words' start old new s a rest book queries is st 
     st.queries ∙ sym (opens_kept J (Ask p c ∷ Lost p c SendFault ∷ []) old.lookup.queries (each_asked J old.lookup.queries a.keeps.is_open)) ∙ ap (λ K. map (as_open K) old.lookup.queries) (sym longer) ∙ ap (map (as_open new.lookup.book.journal)) (sym queries) in
     record {
       after = after;
-      gives = record { path = p; contact = c; tx = tx; is_query = record { address = refl; id = id_of look p c tx words words' start old s a is st; form = refl }; after = refl };
+      gives = record { path = p; contact = c; tx = tx; is_query = record { address = refl; id = id_of look accepts p c tx words words' start old s a is st; form = refl }; after = refl };
       given = refl;
       in_turn = record { path = p; contact = c; rest = Lost p c SendFault ∷ []; asks = refl; begins = st.receives ∙ a.round_over; settled = a.settled; none_before = a.none_below; ascends = asc };
       stands = record {
@@ -178,9 +179,9 @@ unsent_event look p c tx words words' start old new s a rest book queries is st 
       keeps = keeps_none (wants_peers look.kind) old.gathered new.gathered rest.gathered;
     }
 
-unsent_step : (look : LookSetting) (p : ℕ) (c : Contact) (tx : ℕ) (words words' : WordsState) (old new : LookupState) → Asking look p c tx words words' old → SameRest old new → new.lookup.book ≡ added (added old.lookup.book (Ask p c)) (Lost p c SendFault) → new.lookup.queries ≡ old.lookup.queries
-    → NextStep look words words' old new p p (Unsent c.addr (query_bytes look tx))
-unsent_step look p c tx words words' old new a rest book queries =
+unsent_step : (look : LookSetting) (accepts : Accepts) (p : ℕ) (c : Contact) (tx : ℕ) (words words' : WordsState) (old new : LookupState) → Asking look p c tx words words' old → SameRest old new → new.lookup.book ≡ added (added old.lookup.book (Ask p c)) (Lost p c SendFault) → new.lookup.queries ≡ old.lookup.queries
+    → NextStep look accepts words words' old new p p (Unsent c.addr (query_bytes look tx))
+unsent_step look accepts p c tx words words' old new a rest book queries =
     let J = old.lookup.book.journal in
     let journal : new.lookup.book.journal ≡ (J ++ Ask p c ∷ []) ++ Lost p c SendFault ∷ [] = ap (λ (b : BookState). b.journal) book in
     record {
@@ -189,7 +190,7 @@ unsent_step look p c tx words words' old new a rest book queries =
       no_seeds = no_seeds_lost p c;
       drawn = λ start is. drawn_more words words' start J new.lookup.book.journal a.drawn (ap (λ K. length (asked K)) journal ∙ lost_counts p p J c c) is;
       tabled = table_same old.table new.table rest.table;
-      next = λ start is s st asc. unsent_event look p c tx words words' start old new s a rest book queries is st asc;
+      next = λ start is s st asc. unsent_event look accepts p c tx words words' start old new s a rest book queries is st asc;
     }
 
 few_asks : (look : LookSetting) (J : List Entry) → IsWithinLimits look → Legal (setting_of look) J → length (asked J) ≤ max_asks
@@ -234,7 +235,7 @@ sent_asks look p c tx words words' old new told told' a rest book queries holds 
         none_below = subst (NoneAsks (setting_of look) p) (sym journal) (none_ask look p J c a.none_below);
         progress = rest.progress;
         lighter = omega (arith, less);
-        goes = λ b. along_next look words words' old new b b p p (Sent c.addr (query_bytes look tx)) told told' (sent_step look p c tx words words' old new a rest book queries) grows;
+        goes = λ b accepts. along_next look accepts words words' old new b b p p (Sent c.addr (query_bytes look tx)) told told' (sent_step look accepts p c tx words words' old new a rest book queries) grows;
       },
       less,
     )
@@ -274,7 +275,7 @@ unsent_asks look p c tx words words' old new told told' a rest book queries hold
         none_below = subst (NoneAsks (setting_of look) p) (sym journal) (λ q lt. none_after_lost (setting_of look) p q J1 c SendFault l1 on (λ e. absurd (omega (arith, lt, e))) (none_ask look p J c a.none_below q lt));
         progress = rest.progress;
         lighter = omega (arith, less);
-        goes = λ b. along_next look words words' old new b b p p (Unsent c.addr (query_bytes look tx)) told told' (unsent_step look p c tx words words' old new a rest book queries) grows;
+        goes = λ b accepts. along_next look accepts words words' old new b b p p (Unsent c.addr (query_bytes look tx)) told told' (unsent_step look accepts p c tx words words' old new a rest book queries) grows;
       },
       less,
     )
@@ -327,7 +328,7 @@ asks_not look p words work told keeps has settled none = record {
   none_below = none;
   progress = refl;
   lighter = omega arith;
-  goes = λ b scheduling start table began h. h;
+  goes = λ b accepts scheduling start table began h. h;
 }
 
 none_more : (s : Setting) (p : ℕ) (J : List Entry) → NoneAsks s p J → may_ask s p J ≡ None → NoneAsks s (p + 1) J
@@ -342,7 +343,7 @@ asks_then look p q r words words' words'' old mid new a b c h k = record {
   none_below = k.none_below;
   progress = k.progress ∙ h.progress;
   lighter = (let x = h.lighter in let y = k.lighter in omega (arith, x, y));
-  goes = λ d scheduling start table began x. k.goes d scheduling start table began (h.goes d scheduling start table began x);
+  goes = λ d accepts scheduling start table began x. k.goes d accepts scheduling start table began (h.goes d accepts scheduling start table began x);
 }
 
 -- the path may ask nothing more
@@ -356,7 +357,7 @@ asks_over look p words words' words'' old mid new a b c h k =
       none_below = none;
       progress = h.progress;
       lighter = h.lighter;
-      goes = λ d scheduling start table began x. along_later scheduling look start table began words' mid d p (p + 1) b (omega arith) (h.goes d scheduling start table began x);
+      goes = λ d accepts scheduling start table began x. along_later scheduling look accepts start table began words' mid d p (p + 1) b (omega arith) (h.goes d accepts scheduling start table began x);
     } in
     subst (λ (w : WordsState). Asks look p (p + 1) words w old new a c) (sym k.same_words)
     (subst (λ (x : LookupState). Asks look p (p + 1) words words' old x a c) (sym k.same_work)

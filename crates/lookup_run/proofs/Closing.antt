@@ -5,7 +5,8 @@ use Rattle.std.specs.List.{All}
 use Rattle.std.proofs.lemmas.Bool.{false≢true}
 use Rattle.kad_base.specs.declared.types.Event.{Event}
 use Rattle.kad_base.specs.Contacts.{IsUsable}
-use Rattle.kad_base.specs.Outside.{Rose}
+use Rattle.kad_base.specs.Limits.{max_strays}
+use Rattle.kad_base.specs.Outside.{Grows, Rose}
 use Rattle.id_puzzles.specs.Drawn.{WordsState}
 use Rattle.contact_table.specs.TableState.{TableState}
 use Rattle.contact_table.specs.TableStep.{contacts_of}
@@ -17,10 +18,12 @@ use Rattle.lookup_run.specs.declared.types.LookFault.TheVariants.{NoMemory, Stra
 use Rattle.lookup_run.specs.declared.types.LookSetting.{LookSetting}
 use Rattle.lookup_run.specs.declared.types.Outcome.{Outcome}
 use Rattle.lookup_run.specs.declared.types.LookupState.{LookupState}
+use Rattle.lookup_run.specs.Tells.{HasFewStrays}
 use Rattle.lookup_run.specs.Rounds.{Scheduling}
-use Rattle.lookup_run.specs.Lookup.{setting_of, table_calls, TableToldBy, TableRan, LooksUp}
+use Rattle.lookup_run.specs.Lookup.{setting_of, given_of, table_calls, TableToldBy, TableRan, LooksUp}
 use Rattle.lookup_run.specs.inner.RoundSteps.{IsOver, StopsRound, RoundEndsByStray, RoundFewStrays, IsClosed}
 use Rattle.lookup_run.proofs.Looking.{Opening, Ends, along_of, ends_of, never_began, looks_up, goes_by_rounds, gathered_all, none_gathered, table_told}
+use Rattle.lookup_core.specs.Sealed.{Accepts}
 
 pub on_ok_then : {T F X Y : Type 0} (r : Result T F) → OnOk r X → (X → Y) → OnOk r Y
 on_ok_then (Ok x) h k = k h
@@ -48,42 +51,44 @@ rose_before a b c le (inl lt) = inl (omega (arith, le, lt))
 rose_before a b c le (inr full) = inr full
 
 -- how its rounds ended, from where it began
-pub record Went (scheduling : Scheduling) (look : LookSetting) (words words' : WordsState) (first work : LookupState) (mid told' : Option (List Event)) (faults faults' : ℕ) (ended : Result (Unit {0}) LookFault) : Type 0 where
-  pub over : OnOk ended (IsOver scheduling look words words' first work mid told')
-  pub stops : OnErr ended (StopsRound scheduling look words words' first work mid told')
-  pub strays : IsErrOf ended Strays → RoundEndsByStray scheduling look words first mid told'
-  pub few_strays : IsErrOf ended LinkFault → RoundFewStrays scheduling look words first mid told'
+pub record Went (scheduling : Scheduling) (look : LookSetting) (accepts : Accepts) (words words' : WordsState) (first work : LookupState) (mid told' : Option (List Event)) (faults faults' : ℕ) (ended : Result (Unit {0}) LookFault) : Type 0 where
+  pub over : OnOk ended (IsOver scheduling look accepts words words' first work mid told')
+  pub stops : OnErr ended (StopsRound scheduling look accepts words words' first work mid told')
+  pub strays : IsErrOf ended Strays → RoundEndsByStray scheduling look accepts words first mid told'
+  pub few_strays : IsErrOf ended LinkFault → RoundFewStrays scheduling look accepts words first mid told'
   pub link : IsErrOf ended LinkFault → Rose faults faults'
   pub recv_faults : faults ≤ faults'
 
 -- the whole: what began so, went its rounds so and was closed so looked up
-pub looked_up : {Kept : Type 0} (scheduling : Scheduling) (look : LookSetting) (words words' : WordsState) (table opened after : TableState) (book : BookState) (moment : ℕ) (first work : LookupState) (told mid told' : Option (List Event)) (faults since faults' : ℕ) (was is : Kept) (ended : Result (Unit {0}) LookFault) (r : Result Outcome LookFault)
-    → Opening look words table opened book moment first told mid → Went scheduling look words words' first work mid told' since faults' ended → faults ≤ since → is ≡ was → Legal work.lookup.book.setting work.lookup.book.journal
-    → after ≡ work.table → IfOk r (IsClosed work ended) → IfErr r (λ fault. fault ≢ NoMemory → ended ≡ Err fault) → LooksUp scheduling look table after words words' told told' faults faults' was is r
-looked_up scheduling look words words' table opened after book moment first work told mid told' faults since faults' was is ended r o w rises kept legal same done fault =
-    let along = along_of scheduling look words table opened book moment first told mid o in
-    let ends : IsOver scheduling look words words' first work mid told' → Ends scheduling look words words' table work told told' = λ over. ends_of scheduling look words words' table opened book moment first work told mid told' o over legal in
+pub looked_up : {Kept : Type 0} (scheduling : Scheduling) (look : LookSetting) (accepts : Accepts) (words words' : WordsState) (table opened after : TableState) (book : BookState) (moment : ℕ) (first work : LookupState) (told mid told' : Option (List Event)) (faults since faults' : ℕ) (was is : Kept) (ended : Result (Unit {0}) LookFault) (r : Result Outcome LookFault)
+    → Opening look words table opened book moment first told mid → Went scheduling look accepts words words' first work mid told' since faults' ended → faults ≤ since → is ≡ was → Legal work.lookup.book.setting work.lookup.book.journal
+    → after ≡ work.table → IfOk r (IsClosed work ended) → IfErr r (λ fault. fault ≢ NoMemory → ended ≡ Err fault) → LooksUp scheduling look accepts table after words words' told told' faults faults' was is r
+looked_up scheduling look accepts words words' table opened after book moment first work told mid told' faults since faults' was is ended r o w rises kept legal same done fault =
+    let along = along_of scheduling look accepts words table opened book moment first told mid o in
+    let ends : IsOver scheduling look accepts words words' first work mid told' → Ends scheduling look accepts words words' table work told told' = λ over. ends_of scheduling look accepts words words' table opened book moment first work told mid told' o over legal in
     record {
-      lookup = closed_well work ended r _ w.over done (λ over x d. looks_up scheduling look words words' table work told told' x ((ends over).done x d.done));
-      rounds = closed_well work ended r _ w.over done (λ over x d. goes_by_rounds scheduling look words words' table work told told' x ((ends over).done x d.done));
-      own_answers = closed_well work ended r _ w.over done (λ over x d. own_answers (setting_of look) x.journal (looks_up scheduling look words words' table work told told' x ((ends over).done x d.done)).legal);
-      gathered = closed_well work ended r _ w.over done (λ over x d. gathered_all scheduling look words words' table work told told' x ((ends over).done x d.done) d.peers d.tokens);
+      lookup = closed_well work ended r _ w.over done (λ over x d. looks_up scheduling look accepts words words' table work told told' x ((ends over).done x d.done));
+      rounds = closed_well work ended r _ w.over done (λ over x d. goes_by_rounds scheduling look accepts words words' table work told told' x ((ends over).done x d.done));
+      own_answers = closed_well work ended r _ w.over done (λ over x d. own_answers (setting_of look) x.journal (looks_up scheduling look accepts words words' table work told told' x ((ends over).done x d.done)).legal);
+      gathered = closed_well work ended r _ w.over done (λ over x d. gathered_all scheduling look accepts words words' table work told told' x ((ends over).done x d.done) d.peers d.tokens);
       none_gathered = closed_well work ended r _ w.over done (λ over x d. none_gathered look work x.peers x.tokens over.keeps d.peers d.tokens);
       peers_in_order = closed_well work ended r _ w.over done (λ over x d. d.peers.in_order);
-      table = closed_well work ended r _ w.over done (λ over x d. subst (λ t. TableToldBy scheduling (table_calls look x.journal) table t) (sym same) (table_told scheduling look words words' table work told told' x ((ends over).done x d.done)));
+      table = closed_well work ended r _ w.over done (λ over x d. subst (λ t. TableToldBy scheduling (table_calls look x.journal) table t) (sym same) (table_told scheduling look accepts words words' table work told told' x ((ends over).done x d.done)));
       unfinished = closed_early ended r _ w.over w.stops (λ over. (ends over).left.unfinished) (λ stops. (stops words table told along).unfinished);
       table_left = closed_early ended r _ w.over w.stops (λ over. subst (TableRan table) (sym same) (ends over).left.ran) (λ stops. subst (TableRan table) (sym same) (stops words table told along).ran);
       strays = λ fail. w.strays (same_fault ended r Strays (λ e. absurd cc) fault fail) words table told along;
-      few_strays = closed_well work ended r _ w.over done (λ over x d. (ends over).few);
-      few_strays_at_fault = λ fail. w.few_strays (same_fault ended r LinkFault (λ e. absurd cc) fault fail) words table told along;
+      few_strays = closed_well work ended r _ w.over done (λ over x d. subst (λ J. Grows told told' (λ events. HasFewStrays (given_of look accepts words) J events max_strays)) (sym d.done.journal) (ends over).few);
+      few_strays_at_fault = λ fail. (w.few_strays (same_fault ended r LinkFault (λ e. absurd cc) fault fail) words table told along).meets;
+      no_last_stray = closed_well work ended r _ w.over done (λ over x d. (ends over).never);
+      no_last_stray_at_fault = λ fail. (w.few_strays (same_fault ended r LinkFault (λ e. absurd cc) fault fail) words table told along).never;
       link = λ fail. rose_before faults since faults' rises (w.link (same_fault ended r LinkFault (λ e. absurd cc) fault fail));
       recv_faults = (let b = w.recv_faults in omega (arith, rises, b));
       kept = kept;
     }
 
 -- there was no memory to begin
-pub never_looked : {Kept : Type 0} (scheduling : Scheduling) (look : LookSetting) (words : WordsState) (table after : TableState) (told : Option (List Event)) (faults : ℕ) (was : Kept) → All (IsUsable look.own) (contacts_of table) → after ≡ table → LooksUp scheduling look table after words words told told faults faults was was (Err NoMemory)
-never_looked scheduling look words table after told faults was usable same = record {
+pub never_looked : {Kept : Type 0} (scheduling : Scheduling) (look : LookSetting) (accepts : Accepts) (words : WordsState) (table after : TableState) (told : Option (List Event)) (faults : ℕ) (was : Kept) → All (IsUsable look.own) (contacts_of table) → after ≡ table → LooksUp scheduling look accepts table after words words told told faults faults was was (Err NoMemory)
+never_looked scheduling look accepts words table after told faults was usable same = record {
   lookup = tt;
   rounds = tt;
   own_answers = tt;
@@ -91,11 +96,13 @@ never_looked scheduling look words table after told faults was usable same = rec
   none_gathered = tt;
   peers_in_order = tt;
   table = tt;
-  unfinished = never_began look table words told usable;
+  unfinished = never_began look accepts table words told usable;
   table_left = record { run = []; is_run = tt; leaves = same };
   strays = λ e. absurd cc;
   few_strays = tt;
   few_strays_at_fault = λ e. absurd cc;
+  no_last_stray = tt;
+  no_last_stray_at_fault = λ e. absurd cc;
   link = λ e. absurd cc;
   recv_faults = omega arith;
   kept = refl;

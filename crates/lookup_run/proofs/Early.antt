@@ -24,6 +24,7 @@ use Rattle.lookup_run.specs.Lookup.{setting_of, given_of, TellsEarly, Told, Tabl
 use Rattle.lookup_core.specs.LookupSteps.{as_open}
 use Rattle.lookup_run.specs.inner.DriverInvariant.{Walk, Shows}
 use Rattle.lookup_run.specs.inner.RoundSteps.{Stops, EndsByStray}
+use Rattle.lookup_core.specs.Sealed.{Accepts}
 
 pub tells_of : (scheduling : Scheduling) (g : Given) (J P : List Entry) (s : Seen) (es : List Event) (t : Seen) (Q : List Entry) (heard : List Answered) → Walk scheduling g J P s es t Q heard → TellsFrom g J s es t
 tells_of scheduling g J P s [] t Q heard h = h.0
@@ -50,35 +51,38 @@ pub early_now : (scheduling : Scheduling) (g : Given) (work : LookupState) (plac
 early_now scheduling g work place b a es h = record { front = es; end = h.end; so_far = so_far_of scheduling g work place b a es h; whole = inl refl }
 
 -- the journal is that from before the step
-pub stops_of : (look : LookSetting) (words : WordsState) (old new : LookupState) (told told' : Option (List Event)) → Legal (setting_of look) old.lookup.book.journal → new.table ≡ old.table → Grows told told' IsEarly → Stops look words words old new told told'
-stops_of look words old new told told' legal table grows scheduling start from began b a h = record {
+pub stops_of : (look : LookSetting) (accepts : Accepts) (words : WordsState) (old new : LookupState) (told told' : Option (List Event)) → Legal (setting_of look) old.lookup.book.journal → new.table ≡ old.table → Grows told told' IsEarly → Stops look accepts words words old new told told'
+stops_of look accepts words old new told told' legal table grows scheduling start from began b a h = record {
   unfinished = record {
     journal = old.lookup.book.journal;
     legal = legal;
     seeds_are = h.seeds_are;
-    tells = grows_then began told told' _ _ _ h.shows grows (λ es fs p is. early_of scheduling (given_of look start) old words.place b a es fs p is);
+    tells = grows_then began told told' _ _ _ h.shows grows (λ es fs p is. early_of scheduling (given_of look accepts start) old words.place b a es fs p is);
     drawn = h.drawn;
   };
   ran = ran_of scheduling _ from old.table new.table table h.tabled;
 }
 
 -- the last stray that a lookup takes
-pub ends_by_stray : (look : LookSetting) (words : WordsState) (old : LookupState) (told told' : Option (List Event)) (source : Addr) (bytes : List ℕ) (until at : ℕ) → ((s : Seen) → s.queries ≡ map (as_open old.lookup.book.journal) old.lookup.queries → IsStray (quest_of look) s.queries source bytes) → Grows told told' (λ es. es ≡ Got source bytes until at ∷ []) → old.progress.strays + 1 ≡ max_strays
-    → EndsByStray look words old told told'
-ends_by_stray look words old told told' source bytes until at none grows number scheduling start table began b a h =
-    grows_then began told told' _ _ _ h.shows grows (λ es fs p is. record {
-      journal = old.lookup.book.journal;
-      before = es;
-      end = p.end;
-      from = source;
-      bytes = bytes;
-      until = until;
-      at = at;
-      so_far = so_far_of scheduling (given_of look start) old words.place b a es p;
-      last = ap (λ l. es ++ l) is;
-      stray = none p.end p.stands.queries;
-      count = ap (λ n. n + 1) p.stands.strays ∙ number;
-    })
+pub ends_by_stray : (look : LookSetting) (accepts : Accepts) (words : WordsState) (old : LookupState) (told told' : Option (List Event)) (source : Addr) (bytes : List ℕ) (until at : ℕ) → Legal (setting_of look) old.lookup.book.journal → ((s : Seen) → s.queries ≡ map (as_open old.lookup.book.journal) old.lookup.queries → IsStray (quest_of look) accepts s.queries source bytes) → Grows told told' (λ es. es ≡ Got source bytes until at ∷ []) → old.progress.strays + 1 ≡ max_strays
+    → EndsByStray look accepts words old told told'
+ends_by_stray look accepts words old told told' source bytes until at legal none grows number scheduling start table began b a h = record {
+  journal = old.lookup.book.journal;
+  legal = legal;
+  seeds_are = h.seeds_are;
+  tells = grows_then began told told' _ _ _ h.shows grows (λ es fs p is. record {
+    before = es;
+    end = p.end;
+    from = source;
+    bytes = bytes;
+    until = until;
+    at = at;
+    so_far = so_far_of scheduling (given_of look accepts start) old words.place b a es p;
+    last = ap (λ l. es ++ l) is;
+    stray = none p.end p.stands.queries;
+    count = ap (λ n. n + 1) p.stands.strays ∙ number;
+  });
+}
 
 pub on_err_of : {T E P : Type 0} (r : Result T E) → P → OnErr r P
 on_err_of (Ok x) p = tt

@@ -44,7 +44,7 @@ use Rattle.lookup_run.specs.declared.types.Progress.{Progress}
 use Rattle.lookup_run.specs.declared.types.Token.{Token}
 use Rattle.lookup_run.specs.declared.types.LookupState.{LookupState}
 use Rattle.lookup_core.specs.Timeouts.{deadline_of}
-use Rattle.lookup_run.specs.Tells.{Given, Seen, driven, begun, Tells, EndsAtStray}
+use Rattle.lookup_run.specs.Tells.{Given, Seen, driven, begun, Tells, HasFewStrays, NeverEnds}
 use Rattle.lookup_run.specs.Rounds.{Scheduling, SettlesIn, AllSettled, NoneAsks, RoundsFrom, Rounds}
 use Rattle.lookup_core.specs.declared.on_reply.Answered.{Answered}
 use Rattle.lookup_run.specs.Gathered.{HearsFrom, IsEachOnce, GathersOf, Gathers}
@@ -53,9 +53,10 @@ use Rattle.lookup_core.specs.LookupSteps.{as_open}
 use Rattle.lookup_run.specs.inner.DriverInvariant.{Keeps, Walk, Keeping, TraceInvariant}
 use Rattle.lookup_run.specs.inner.RoundSteps.{Begins, IsOver, IsDone, IsBookOf, asks_seeds, IsBegun, Ended}
 use Rattle.lookup_run.proofs.Early.{so_far_of, ran_of}
-use Rattle.lookup_run.proofs.Fewer.{few_along}
+use Rattle.lookup_run.proofs.Fewer.{few_told, never_told}
 use Rattle.lookup_run.proofs.Walking.{told_in_any}
 use Rattle.lookup_core.specs.Quest.{wants_peers}
+use Rattle.lookup_core.specs.Sealed.{Accepts}
 
 -- ---- a journal of seeds alone
 
@@ -132,8 +133,8 @@ begun_keeping : (wants : Bool) (g : Gathered) → g.peers ≡ [] → g.tokens �
 begun_keeping false g p t = (p, t)
 begun_keeping true g p t = (p, t)
 
-pub along_of : (scheduling : Scheduling) (look : LookSetting) (words : WordsState) (table table' : TableState) (book : BookState) (moment : ℕ) (work : LookupState) (told told' : Option (List Event)) → Opening look words table table' book moment work told told' → TraceInvariant scheduling look words table told words work look.paths 0 told'
-along_of scheduling look words table table' book moment work told told' o =
+pub along_of : (scheduling : Scheduling) (look : LookSetting) (accepts : Accepts) (words : WordsState) (table table' : TableState) (book : BookState) (moment : ℕ) (work : LookupState) (told told' : Option (List Event)) → Opening look words table table' book moment work told told' → TraceInvariant scheduling look accepts words table told words work look.paths 0 told'
+along_of scheduling look accepts words table table' book moment work told told' o =
     let b = o.begun_at in
     let cs = seeds_in look table in
     let journal = journal_of look words table table' book moment work told told' o in
@@ -195,8 +196,8 @@ seeds_fit look table usable = record {
   usable = usable_seeds look table usable;
 }
 
-pub never_began : (look : LookSetting) (table : TableState) (words : WordsState) (told : Option (List Event)) → All (IsUsable look.own) (contacts_of table) → Unfinished look table words words told told
-never_began look table words told usable =
+pub never_began : (look : LookSetting) (accepts : Accepts) (table : TableState) (words : WordsState) (told : Option (List Event)) → All (IsUsable look.own) (contacts_of table) → Unfinished look accepts table words words told told
+never_began look accepts table words told usable =
     let cs = seeds_in look table in
     let J = seeded look.paths cs in
     let fit = seeds_fit look table usable in
@@ -219,8 +220,8 @@ rounds_of scheduling g J P s (e ∷ es) t Q behind heard h is settles = (
   rounds_of scheduling g J ((P ++ h.0.between) ++ h.0.gave) h.0.mid es t Q behind h.1 h.2 is settles,
 )
 
-hears_of : (scheduling : Scheduling) (g : Given) (J P : List Entry) (s : Seen) (es : List Event) (t : Seen) (Q : List Entry) (heard : List Answered) → Walk scheduling g J P s es t Q heard → HearsFrom g J s es heard
-hears_of scheduling g J P s [] t Q heard h = h.2
+hears_of : (scheduling : Scheduling) (g : Given) (J P : List Entry) (s : Seen) (es : List Event) (t : Seen) (Q : List Entry) (heard : List Answered) → Walk scheduling g J P s es t Q heard → HearsFrom g J s es t heard
+hears_of scheduling g J P s [] t Q heard h = (h.0, h.2)
 hears_of scheduling g J P s (e ∷ es) t Q heard h = (record { mid = h.0.mid; gives = h.0.gives; found = h.0.found; hears = h.0.hears }, h.1, hears_of scheduling g J ((P ++ h.0.between) ++ h.0.gave) h.0.mid es t Q h.1 h.2, h.3)
 
 -- where no contact is open, none is on a path
@@ -232,8 +233,8 @@ none_on p J none = none_among (open_on p J) (λ c. no_true (among (open_on p J) 
     no_true false n = refl
 
 -- every path has run out
-pub all_over : (scheduling : Scheduling) (look : LookSetting) (words words' : WordsState) (old new : LookupState) (told told' : Option (List Event)) → IsWithinLimits look → IsOver scheduling look words words' old new told told' → Legal new.lookup.book.setting new.lookup.book.journal → (p : ℕ) → p < new.lookup.book.setting.paths → RunOut new.lookup.book.setting p new.lookup.book.journal
-all_over scheduling look words words' old new told told' limits over legal p lt =
+pub all_over : (scheduling : Scheduling) (look : LookSetting) (accepts : Accepts) (words words' : WordsState) (old new : LookupState) (told told' : Option (List Event)) → IsWithinLimits look → IsOver scheduling look accepts words words' old new told told' → Legal new.lookup.book.setting new.lookup.book.journal → (p : ℕ) → p < new.lookup.book.setting.paths → RunOut new.lookup.book.setting p new.lookup.book.journal
+all_over scheduling look accepts words words' old new told told' limits over legal p lt =
     let k = over.keeps in
     let J = new.lookup.book.journal in
     let less : p < look.paths = (let e = ap (λ (s : Setting). s.paths) k.setting in omega (arith, lt, e)) in
@@ -258,26 +259,26 @@ pub none_gathered : (look : LookSetting) (work : LookupState) (peers : List Addr
 none_gathered look work peers tokens k once is kind = (let none = k.no_peers (ap wants_peers kind) in (each_of_none work.gathered.peers peers none.no_peers once, is ∙ none.no_tokens))
 
 -- what a lookup that is over has
-pub record Done (scheduling : Scheduling) (look : LookSetting) (start words' : WordsState) (table : TableState) (work : LookupState) (began told' : Option (List Event)) (o : Outcome) : Type 0 where
+pub record Done (scheduling : Scheduling) (look : LookSetting) (accepts : Accepts) (start words' : WordsState) (table : TableState) (work : LookupState) (began told' : Option (List Event)) (o : Outcome) : Type 0 where
   pub keeps : Keeps look work
   pub none_open : work.lookup.queries ≡ []
   pub settled : AllSettled look.paths work.lookup.book.journal
   pub none_asks : NoneAsks (setting_of look) look.paths work.lookup.book.journal
-  pub along : TraceInvariant scheduling look start table began words' work look.paths look.paths told'
+  pub along : TraceInvariant scheduling look accepts start table began words' work look.paths look.paths told'
   pub done : IsDone work.lookup.book o
 
-pub looks_up : (scheduling : Scheduling) (look : LookSetting) (start words' : WordsState) (table : TableState) (work : LookupState) (began told' : Option (List Event)) (o : Outcome) → Done scheduling look start words' table work began told' o → Finished look table start words' began told' o
-looks_up scheduling look start words' table work began told' o d =
+pub looks_up : (scheduling : Scheduling) (look : LookSetting) (accepts : Accepts) (start words' : WordsState) (table : TableState) (work : LookupState) (began told' : Option (List Event)) (o : Outcome) → Done scheduling look accepts start words' table work began told' o → Finished look accepts table start words' began told' o
+looks_up scheduling look accepts start words' table work began told' o d =
     let k = d.keeps in
     let a = d.along in
     let J = work.lookup.book.journal in
     record {
       legal = subst (λ (s : Setting). Legal s o.journal) k.setting d.done.legal;
       seeds_are = ap seeds d.done.journal ∙ a.seeds_are;
-      tells = subst (λ K. Grows began told' (λ events. Tells (given_of look start) K events)) (sym d.done.journal)
+      tells = subst (λ K. Grows began told' (λ events. Tells (given_of look accepts start) K events)) (sym d.done.journal)
           (grows_weaker began told' _ _ a.shows (λ es h. record {
             end = h.end;
-            so_far = so_far_of scheduling (given_of look start) work words'.place look.paths look.paths es h;
+            so_far = so_far_of scheduling (given_of look accepts start) work words'.place look.paths look.paths es h;
             none_open = h.stands.queries ∙ ap (map (as_open J)) d.none_open;
           }));
       run_out = subst (λ (s : Setting). (p : ℕ) → p < s.paths → RunOut s p o.journal) k.setting d.done.run_out;
@@ -286,43 +287,45 @@ looks_up scheduling look start words' table work began told' o d =
       drawn = a.drawn ∙ ap (drawn_for start) (sym d.done.journal);
     }
 
-pub goes_by_rounds : (scheduling : Scheduling) (look : LookSetting) (start words' : WordsState) (table : TableState) (work : LookupState) (began told' : Option (List Event)) (o : Outcome) → Done scheduling look start words' table work began told' o → Grows began told' (λ events. Rounds scheduling (given_of look start) o.journal events)
-goes_by_rounds scheduling look start words' table work began told' o d =
+pub goes_by_rounds : (scheduling : Scheduling) (look : LookSetting) (accepts : Accepts) (start words' : WordsState) (table : TableState) (work : LookupState) (began told' : Option (List Event)) (o : Outcome) → Done scheduling look accepts start words' table work began told' o → Grows began told' (λ events. Rounds scheduling (given_of look accepts start) o.journal events)
+goes_by_rounds scheduling look accepts start words' table work began told' o d =
     let J = work.lookup.book.journal in
-    subst (λ K. Grows began told' (λ events. Rounds scheduling (given_of look start) K events)) (sym d.done.journal)
+    subst (λ K. Grows began told' (λ events. Rounds scheduling (given_of look accepts start) K events)) (sym d.done.journal)
     (grows_weaker began told' _ _ d.along.shows (λ es h. record {
       at = h.at;
       rest = h.rest;
       first = h.first;
-      goes = rounds_of scheduling (given_of look start) J (seeded look.paths (seeds J)) (begun h.at) h.rest h.end h.last h.behind h.heard h.walk h.journal h.settles;
+      goes = rounds_of scheduling (given_of look accepts start) J (seeded look.paths (seeds J)) (begun h.at) h.rest h.end h.last h.behind h.heard h.walk h.journal h.settles;
       settled = d.settled;
       none_asks = d.none_asks;
     }))
 
-pub gathered_all : (scheduling : Scheduling) (look : LookSetting) (start words' : WordsState) (table : TableState) (work : LookupState) (began told' : Option (List Event)) (o : Outcome) → Done scheduling look start words' table work began told' o → IsEachOnce work.gathered.peers o.peers → o.tokens ≡ work.gathered.tokens → Grows began told' (λ events. Gathers (given_of look start) o.journal events o.peers o.tokens)
-gathered_all scheduling look start words' table work began told' o d once tokens =
+pub gathered_all : (scheduling : Scheduling) (look : LookSetting) (accepts : Accepts) (start words' : WordsState) (table : TableState) (work : LookupState) (began told' : Option (List Event)) (o : Outcome) → Done scheduling look accepts start words' table work began told' o → IsEachOnce work.gathered.peers o.peers → o.tokens ≡ work.gathered.tokens → Grows began told' (λ events. Gathers (given_of look accepts start) o.journal events o.peers o.tokens)
+gathered_all scheduling look accepts start words' table work began told' o d once tokens =
     let J = work.lookup.book.journal in
-    subst (λ K. Grows began told' (λ events. Gathers (given_of look start) K events o.peers o.tokens)) (sym d.done.journal)
+    subst (λ K. Grows began told' (λ events. Gathers (given_of look accepts start) K events o.peers o.tokens)) (sym d.done.journal)
     (grows_weaker began told' _ _ d.along.shows (λ es h. record {
       at = h.at;
       rest = h.rest;
       first = h.first;
       heard = h.heard;
-      hears = hears_of scheduling (given_of look start) J (seeded look.paths (seeds J)) (begun h.at) h.rest h.end h.last h.heard h.walk;
+      end = h.end;
+      hears = hears_of scheduling (given_of look accepts start) J (seeded look.paths (seeds J)) (begun h.at) h.rest h.end h.last h.heard h.walk;
+      tells = h.stands.given;
       gathers = gathers_of (wants_peers look.kind) h.heard work.gathered o.peers o.tokens h.keeping once tokens;
     }))
 
-pub table_told : (scheduling : Scheduling) (look : LookSetting) (start words' : WordsState) (table : TableState) (work : LookupState) (began told' : Option (List Event)) (o : Outcome) → Done scheduling look start words' table work began told' o → TableToldBy scheduling (table_calls look o.journal) table work.table
-table_told scheduling look start words' table work began told' o d = subst (λ K. TableToldBy scheduling (table_calls look K) table work.table) (sym d.done.journal) d.along.tabled
+pub table_told : (scheduling : Scheduling) (look : LookSetting) (accepts : Accepts) (start words' : WordsState) (table : TableState) (work : LookupState) (began told' : Option (List Event)) (o : Outcome) → Done scheduling look accepts start words' table work began told' o → TableToldBy scheduling (table_calls look o.journal) table work.table
+table_told scheduling look accepts start words' table work began told' o d = subst (λ K. TableToldBy scheduling (table_calls look K) table work.table) (sym d.done.journal) d.along.tabled
 
 -- a lookup that is over, and for which there was no memory
-pub over_ended : (scheduling : Scheduling) (look : LookSetting) (start words' : WordsState) (table : TableState) (work : LookupState) (began told' : Option (List Event)) (b a : ℕ) → Legal (setting_of look) work.lookup.book.journal → TraceInvariant scheduling look start table began words' work b a told' → Ended look start table began words' work.table told'
-over_ended scheduling look start words' table work began told' b a legal h = record {
+pub over_ended : (scheduling : Scheduling) (look : LookSetting) (accepts : Accepts) (start words' : WordsState) (table : TableState) (work : LookupState) (began told' : Option (List Event)) (b a : ℕ) → Legal (setting_of look) work.lookup.book.journal → TraceInvariant scheduling look accepts start table began words' work b a told' → Ended look accepts start table began words' work.table told'
+over_ended scheduling look accepts start words' table work began told' b a legal h = record {
   unfinished = record {
     journal = work.lookup.book.journal;
     legal = legal;
     seeds_are = h.seeds_are;
-    tells = grows_weaker began told' _ _ h.shows (λ es x. record { front = es; end = x.end; so_far = so_far_of scheduling (given_of look start) work words'.place b a es x; whole = inl refl });
+    tells = grows_weaker began told' _ _ h.shows (λ es x. record { front = es; end = x.end; so_far = so_far_of scheduling (given_of look accepts start) work words'.place b a es x; whole = inl refl });
     drawn = h.drawn;
   };
   ran = ran_of scheduling (table_calls look work.lookup.book.journal) table work.table work.table refl h.tabled;
@@ -372,20 +375,22 @@ pub opening_of : (look : LookSetting) (words : WordsState) (table table' : Table
 opening_of look words table table' book moment work told told' b t w g lt = record { book_of = b; tabled = t; begun_at = w; grows = g; place = lt }
 
 -- what a lookup that is over leaves, whether or not there is memory for what it found
-pub record Ends (scheduling : Scheduling) (look : LookSetting) (words words' : WordsState) (table : TableState) (work : LookupState) (told told' : Option (List Event)) : Type 0 where
-  pub done : (o : Outcome) → IsDone work.lookup.book o → Done scheduling look words words' table work told told' o
-  pub left : Ended look words table told words' work.table told'
-  pub few : Grows told told' (λ events. ¬ EndsAtStray (given_of look words) events max_strays)
+pub record Ends (scheduling : Scheduling) (look : LookSetting) (accepts : Accepts) (words words' : WordsState) (table : TableState) (work : LookupState) (told told' : Option (List Event)) : Type 0 where
+  pub done : (o : Outcome) → IsDone work.lookup.book o → Done scheduling look accepts words words' table work told told' o
+  pub left : Ended look accepts words table told words' work.table told'
+  pub few : Grows told told' (λ events. HasFewStrays (given_of look accepts words) work.lookup.book.journal events max_strays)
+  pub never : look.sealed ≡ false → Grows told told' (NeverEnds (given_of look accepts words) max_strays)
 
 -- it went its rounds from its opening
-pub ends_of : (scheduling : Scheduling) (look : LookSetting) (words words' : WordsState) (table table' : TableState) (book : BookState) (moment : ℕ) (begun_ work : LookupState) (told mid told' : Option (List Event)) → Opening look words table table' book moment begun_ told mid → IsOver scheduling look words words' begun_ work mid told'
-    → Legal work.lookup.book.setting work.lookup.book.journal → Ends scheduling look words words' table work told told'
-ends_of scheduling look words words' table table' book moment begun_ work told mid told' opening over legal =
-    let along = over.goes words table told (along_of scheduling look words table table' book moment begun_ told mid opening) in
+pub ends_of : (scheduling : Scheduling) (look : LookSetting) (accepts : Accepts) (words words' : WordsState) (table table' : TableState) (book : BookState) (moment : ℕ) (begun_ work : LookupState) (told mid told' : Option (List Event)) → Opening look words table table' book moment begun_ told mid → IsOver scheduling look accepts words words' begun_ work mid told'
+    → Legal work.lookup.book.setting work.lookup.book.journal → Ends scheduling look accepts words words' table work told told'
+ends_of scheduling look accepts words words' table table' book moment begun_ work told mid told' opening over legal =
+    let along = over.goes words table told (along_of scheduling look accepts words table table' book moment begun_ told mid opening) in
     record {
       done = λ o d. record { keeps = over.keeps; none_open = over.none_open; settled = over.settled; none_asks = over.none_asks; along = along; done = d };
-      left = over_ended scheduling look words words' table work told told' look.paths look.paths (subst (λ (s : Setting). Legal s work.lookup.book.journal) over.keeps.setting legal) along;
-      few = few_along scheduling look words table told words' work look.paths look.paths told' over.keeps.few_strays along;
+      left = over_ended scheduling look accepts words words' table work told told' look.paths look.paths (subst (λ (s : Setting). Legal s work.lookup.book.journal) over.keeps.setting legal) along;
+      few = few_told scheduling look accepts words table told words' work look.paths look.paths told' over.keeps.few_strays along;
+      never = λ plain. never_told scheduling look accepts words table told words' work look.paths look.paths told' plain over.keeps.few_strays along;
     }
 
 pub ok_three : {T F : Type 0} (r : Result T F) (P Q R S : T → Type 0) → IfOk r P → IfOk r Q → IfOk r R → ((x : T) → P x → Q x → R x → S x) → IfOk r S

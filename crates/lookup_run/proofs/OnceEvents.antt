@@ -31,6 +31,7 @@ use Rattle.lookup_run.specs.Tells.{Given, Seen, gives, SentGives, UnsentGives, M
 use Rattle.lookup_run.specs.Rounds.{NoneAsks, AsksInTurn}
 use Rattle.lookup_run.proofs.Driven.{all_push, small_id}
 use Rattle.lookup_core.specs.declared.quest.Quest.{Quest}
+use Rattle.lookup_core.specs.Sealed.{Accepts}
 
 -- ---- queries with different ids
 
@@ -111,8 +112,8 @@ said_once (message.Query tx read_only ask) x y r t h k = absurd h
 said_once (message.Answer tx answer) x y r t h k = (sym h.0 ∙ k.0, h.1 ∙ sym k.1)
 said_once (message.Fault tx code text) x y r t h k = (sym h.0 ∙ k.0, h.1 ∙ sym k.1)
 
-pub reply_once : (quest : Quest) (bytes : List ℕ) (from : Addr) (p q : OpenQuery) (r t : Reply) → p.tx < 2 ^ 32 → q.tx < 2 ^ 32 → Replies quest bytes from p r → Replies quest bytes from q t → (p.tx ≡ q.tx) × (r ≡ t)
-reply_once quest bytes from p q r t lp lq h k =
+pub reply_once : (quest : Quest) (accepts : Accepts) (bytes : List ℕ) (from : Addr) (p q : OpenQuery) (r t : Reply) → p.tx < 2 ^ 32 → q.tx < 2 ^ 32 → Replies quest accepts bytes from p r → Replies quest accepts bytes from q t → (p.tx ≡ q.tx) × (r ≡ t)
+reply_once quest accepts bytes from p q r t lp lq h k =
     let one = one_said bytes h.said k.said h.says k.says in
     let both = said_once k.said (word_bytes p.tx) (word_bytes q.tx) r t (subst (λ m. SaysTo (word_bytes p.tx) m r) one h.to_query) k.to_query in
     (id_once p.tx q.tx lp lq both.0, both.1)
@@ -142,7 +143,7 @@ got_once g s t u from bytes at h j k =
         let x = m.matched in
         let y = n.matched in
         let apart : Apart (x.before ++ x.query ∷ x.behind) = subst Apart x.queries h in
-        let says = reply_once g.quest bytes from x.query y.query x.what y.what (small_there x.before x.behind x.query apart) (small_there y.before y.behind y.query (subst Apart y.queries h)) x.replies y.replies in
+        let says = reply_once g.quest g.accepts bytes from x.query y.query x.what y.what (small_there x.before x.behind x.query apart) (small_there y.before y.behind y.query (subst Apart y.queries h)) x.replies y.replies in
         let one = one_query x.before x.behind y.before y.behind x.query y.query apart (sym x.queries ∙ y.queries) says.0 in
         let left : m.left ≡ n.left = x.closes ∙ ap (λ l. l ++ x.behind) one.0 ∙ ap (λ l. y.before ++ l) one.2 ∙ sym y.closes in
         let gave : m.entry ≡ n.entry = entry_once g.quest y.query y.what m.entry n.entry (subst (λ r. ReplyGives g.quest y.query r m.entry) says.1 (subst (λ q. ReplyGives g.quest q x.what m.entry) one.1 x.entry)) y.entry in

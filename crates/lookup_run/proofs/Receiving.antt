@@ -49,6 +49,7 @@ use Rattle.lookup_core.specs.declared.quest.Quest.{Quest}
 use Rattle.lookup_core.specs.declared.state.Lookup.{Lookup}
 use Rattle.lookup_core.proofs.Holding.{all_dropped}
 use Rattle.lookup_core.specs.Quest.{wants_peers}
+use Rattle.lookup_core.specs.Sealed.{Accepts}
 
 -- ---- how long it waits
 
@@ -83,16 +84,16 @@ some_left : (J : List Entry) (qs : List Query) → qs ≢ [] → map (as_open J)
 some_left J [] some e = some refl
 some_left J (q ∷ qs) some e = absurd cc
 
-receives_of : (look : LookSetting) (start : WordsState) (old : LookupState) (more : List Entry) (place : ℕ) (s : Seen) (until : ℕ) → MayReceive look old → WaitsFor old.progress.receives old.progress.moment old.lookup.queries until → KeepsSeen (given_of look start) old place s
-    → Receives (given_of look start) (old.lookup.book.journal ++ more) s until
-receives_of look start old more place s until may waits st = record {
+receives_of : (look : LookSetting) (accepts : Accepts) (start : WordsState) (old : LookupState) (more : List Entry) (place : ℕ) (s : Seen) (until : ℕ) → MayReceive look old → WaitsFor old.progress.receives old.progress.moment old.lookup.queries until → KeepsSeen (given_of look accepts start) old place s
+    → Receives (given_of look accepts start) (old.lookup.book.journal ++ more) s until
+receives_of look accepts start old more place s until may waits st = record {
   some_open = λ none. some_left old.lookup.book.journal old.lookup.queries may.some_open (sym st.queries ∙ none);
   waits = subst (λ n. WaitsUntil n s until) (sym st.receives) (waits_of old.progress.receives old.lookup.book.journal old.lookup.queries old.progress.moment until s st.queries st.moment waits);
-  asked = subst (λ n. HaveAsked n (given_of look start) (old.lookup.book.journal ++ more) s) (sym st.receives) (asked_of old.progress.receives (given_of look start) old.lookup.book.journal more s may.in_turn st.given);
+  asked = subst (λ n. HaveAsked n (given_of look accepts start) (old.lookup.book.journal ++ more) s) (sym st.receives) (asked_of old.progress.receives (given_of look accepts start) old.lookup.book.journal more s may.in_turn st.given);
 }
 
-turn_of : (look : LookSetting) (start : WordsState) (old : LookupState) (place : ℕ) (s : Seen) → MayReceive look old → KeepsSeen (given_of look start) old place s → WaitsInTurn (setting_of look) old.lookup.book.journal s.receives
-turn_of look start old place s may st = subst (WaitsInTurn (setting_of look) old.lookup.book.journal) (sym st.receives) may.in_turn
+turn_of : (look : LookSetting) (accepts : Accepts) (start : WordsState) (old : LookupState) (place : ℕ) (s : Seen) → MayReceive look old → KeepsSeen (given_of look accepts start) old place s → WaitsInTurn (setting_of look) old.lookup.book.journal s.receives
+turn_of look accepts start old place s may st = subst (WaitsInTurn (setting_of look) old.lookup.book.journal) (sym st.receives) may.in_turn
 
 -- ---- what is overdue
 
@@ -303,10 +304,10 @@ round_is n J (q ∷ qs) = refl
 round_left : (n m at : ℕ) (J : List Entry) (left new : List Query) → n ≡ m → new ≡ filter (λ (q : Query). nat_lt at q.deadline) left → receives_seen n (open_at at (map (as_open J) left)) ≡ receives_kept m new
 round_left n m at J left new same is = ap (receives_seen n) (open_still at J left ∙ ap (map (as_open J)) (sym is)) ∙ round_is n J new ∙ ap (λ k. receives_kept k new) same
 
-next_of : (look : LookSetting) (words : WordsState) (at : ℕ) (old new : LookupState) (first : List Entry) (left : List Query) (a : ℕ) (e : Event) → Left look at old new first left
-    → ((start : WordsState) (s : Seen) → KeepsSeen (given_of look start) old words.place s → OneEvent (given_of look start) old new (first ++ closed_at at (map (as_open old.lookup.book.journal) left)) words.place 0 s e)
-    → NextStep look words words old new a 0 e
-next_of look words at old new first left a e l next =
+next_of : (look : LookSetting) (accepts : Accepts) (words : WordsState) (at : ℕ) (old new : LookupState) (first : List Entry) (left : List Query) (a : ℕ) (e : Event) → Left look at old new first left
+    → ((start : WordsState) (s : Seen) → KeepsSeen (given_of look accepts start) old words.place s → OneEvent (given_of look accepts start) old new (first ++ closed_at at (map (as_open old.lookup.book.journal) left)) words.place 0 s e)
+    → NextStep look accepts words words old new a 0 e
+next_of look accepts words at old new first left a e l next =
     let closed = closed_at at (map (as_open old.lookup.book.journal) left) in
     let ended = filter (is_overdue at) (map (as_open old.lookup.book.journal) left) in
     record {
@@ -361,12 +362,12 @@ goes_count : (from to : Progress) (qs : List Query) → RoundGoes from to qs →
 goes_count from to qs (inl z) = inl z
 goes_count from to qs (inr more) = inr more.0
 
-receives_one : (look : LookSetting) (at : ℕ) (old new : LookupState) (first : List Entry) (left : List Query) (e : Event) (told told' : Option (List Event)) → Left look at old new first left → Keeps look old → new.progress.strays < max_strays → RoundGoes old.progress new.progress new.lookup.queries → (wants_peers look.kind ≡ false → new.gathered ≡ old.gathered)
+receives_one : (look : LookSetting) (accepts : Accepts) (at : ℕ) (old new : LookupState) (first : List Entry) (left : List Query) (e : Event) (told told' : Option (List Event)) → Left look at old new first left → Keeps look old → new.progress.strays < max_strays → RoundGoes old.progress new.progress new.lookup.queries → (wants_peers look.kind ≡ false → new.gathered ≡ old.gathered)
     → length new.lookup.queries + (max_strays - new.progress.strays) ≤ length old.lookup.queries + (max_strays - old.progress.strays)
     → (old.progress.receives ≡ 0 → length new.lookup.queries + (max_strays - new.progress.strays) < length old.lookup.queries + (max_strays - old.progress.strays))
-    → ((words : WordsState) (start : WordsState) (s : Seen) → KeepsSeen (given_of look start) old words.place s → OneEvent (given_of look start) old new (first ++ closed_at at (map (as_open old.lookup.book.journal) left)) words.place 0 s e)
-    → Grows told told' (λ es. es ≡ e ∷ []) → ReceivesOne look old new told told'
-receives_one look at old new first left e told told' l keeps strays round bare light first_light next grows =
+    → ((words : WordsState) (start : WordsState) (s : Seen) → KeepsSeen (given_of look accepts start) old words.place s → OneEvent (given_of look accepts start) old new (first ++ closed_at at (map (as_open old.lookup.book.journal) left)) words.place 0 s e)
+    → Grows told told' (λ es. es ≡ e ∷ []) → ReceivesOne look accepts old new told told'
+receives_one look accepts at old new first left e told told' l keeps strays round bare light first_light next grows =
     let asks = same_asks look at old new first left l in
     record {
       keeps = keeps_left look at old new first left l keeps strays round bare;
@@ -375,7 +376,7 @@ receives_one look at old new first left e told told' l keeps strays round bare l
       same_asks = asks;
       first_lighter = λ z. (let lt = first_light z in lighter (length (asked new.lookup.book.journal)) (length (asked old.lookup.book.journal)) _ _ asks lt);
       lighter = no_heavier (length (asked new.lookup.book.journal)) (length (asked old.lookup.book.journal)) _ _ asks light;
-      goes = λ words b a. along_next look words words old new b 0 a 0 e told told' (next_of look words at old new first left a e l (next words)) grows;
+      goes = λ words b a. along_next look accepts words words old new b 0 a 0 e told told' (next_of look accepts words at old new first left a e l (next words)) grows;
     }
   where
     lighter : (n m x y : ℕ) → n ≡ m → x < y → 2 * (max_asks - n) + x < 2 * (max_asks - m) + y
@@ -395,10 +396,10 @@ keeps_none true g h is = record { peers = ap (λ (x : Gathered). x.peers) is ∙
 
 -- ---- a datagram that replies to none
 
-pub stray_of : (quest : Quest) (work : LookupState) (s : Seen) (from : Addr) (bytes : List ℕ) → s.queries ≡ map (as_open work.lookup.book.journal) work.lookup.queries → RepliesToNone quest from bytes work.lookup → IsStray quest s.queries from bytes
-stray_of quest work s from bytes queries none q has r h =
+pub stray_of : (quest : Quest) (accepts : Accepts) (work : LookupState) (s : Seen) (from : Addr) (bytes : List ℕ) → s.queries ≡ map (as_open work.lookup.book.journal) work.lookup.queries → RepliesToNone quest accepts from bytes work.lookup → IsStray quest accepts s.queries from bytes
+stray_of quest accepts work s from bytes queries none q has r h =
     let found = in_map (as_open work.lookup.book.journal) work.lookup.queries q (subst (λ l. Contains l q) queries has) in
-    none found.0 found.1 r (subst (λ y. Replies quest bytes from y r) found.2 h)
+    none found.0 found.1 r (subst (λ y. Replies quest accepts bytes from y r) found.2 h)
 
 light_stray : (a b c d most : ℕ) → a ≤ b → d ≡ c + 1 → d < most → a + (most - d) < b + (most - c)
 light_stray a b c d most le is lt = omega (arith, le, is, lt)
@@ -407,16 +408,16 @@ fewer_left : (look : LookSetting) (at : ℕ) (old new : LookupState) (first : Li
 fewer_left look at old new first left l = subst (λ qs. length qs ≤ length left) (sym l.queries) (fewer_still at left)
 
 -- the events of a receive that gives no entry at first
-one_quiet : (look : LookSetting) (words start : WordsState) (at : ℕ) (old new : LookupState) (s : Seen) (e : Event) (strays receives : ℕ) → Left look at old new [] old.lookup.queries → KeepsSeen (given_of look start) old words.place s → new.gathered ≡ old.gathered
-    → strays ≡ new.progress.strays → receives ≡ new.progress.receives → Gives (given_of look start) new.lookup.book.journal s e (received s at [] s.queries strays receives) → InTurn (setting_of look) old.lookup.book.journal s e ([] ++ closed_at at (map (as_open old.lookup.book.journal) old.lookup.queries)) → Hears (quest_of look) s e []
-    → OneEvent (given_of look start) old new ([] ++ closed_at at (map (as_open old.lookup.book.journal) old.lookup.queries)) words.place 0 s e
-one_quiet look words start at old new s e strays receives l st gathered is_strays is_receives gives turn hears = record {
+one_quiet : (look : LookSetting) (accepts : Accepts) (words start : WordsState) (at : ℕ) (old new : LookupState) (s : Seen) (e : Event) (strays receives : ℕ) → Left look at old new [] old.lookup.queries → KeepsSeen (given_of look accepts start) old words.place s → new.gathered ≡ old.gathered
+    → strays ≡ new.progress.strays → receives ≡ new.progress.receives → Gives (given_of look accepts start) new.lookup.book.journal s e (received s at [] s.queries strays receives) → InTurn (setting_of look) old.lookup.book.journal s e ([] ++ closed_at at (map (as_open old.lookup.book.journal) old.lookup.queries)) → Hears (quest_of look) accepts s e []
+    → OneEvent (given_of look accepts start) old new ([] ++ closed_at at (map (as_open old.lookup.book.journal) old.lookup.queries)) words.place 0 s e
+one_quiet look accepts words start at old new s e strays receives l st gathered is_strays is_receives gives turn hears = record {
   after = received s at [] s.queries strays receives;
   gives = gives;
   given = ap (λ qs. s.given ++ ([] ++ closed_at at qs)) st.queries;
   in_turn = turn;
-  stands = subst (λ qs. KeepsSeen (given_of look start) new words.place (received s at [] qs strays receives)) (sym st.queries)
-      (stands_left look (given_of look start) words.place at old new [] old.lookup.queries strays receives s l st is_strays is_receives);
+  stands = subst (λ qs. KeepsSeen (given_of look accepts start) new words.place (received s at [] qs strays receives)) (sym st.queries)
+      (stands_left look (given_of look accepts start) words.place at old new [] old.lookup.queries strays receives s l st is_strays is_receives);
   ascends = tt;
   found = [];
   hears = hears;
@@ -430,12 +431,12 @@ pub record Receiving (look : LookSetting) (old : LookupState) (until at : ℕ) :
   pub waits : WaitsFor old.progress.receives old.progress.moment old.lookup.queries until
   pub later : old.progress.moment ≤ at
 
-no_heard : (quest : Quest) (work : LookupState) (s : Seen) (from : Addr) (bytes : List ℕ) → s.queries ≡ map (as_open work.lookup.book.journal) work.lookup.queries → RepliesToNone quest from bytes work.lookup → (a : Answered) → ¬ HeardIn quest s from bytes a
-no_heard quest work s from bytes queries none a h = stray_of quest work s from bytes queries none h.query h.is_open (reply.Answer a.answer) h.replies
+no_heard : (quest : Quest) (accepts : Accepts) (work : LookupState) (s : Seen) (from : Addr) (bytes : List ℕ) → s.queries ≡ map (as_open work.lookup.book.journal) work.lookup.queries → RepliesToNone quest accepts from bytes work.lookup → (a : Answered) → ¬ HeardIn quest accepts s from bytes a
+no_heard quest accepts work s from bytes queries none a h = stray_of quest accepts work s from bytes queries none h.query h.is_open (reply.Answer a.answer) h.replies
 
-stray_receives : (look : LookSetting) (from : Addr) (bytes : List ℕ) (until at n : ℕ) (old mid late : LookupState) (told told' : Option (List Event)) → Receiving look old until at → IsStrayFor look from bytes old mid → Expires at mid late → n ≡ receives_kept late.progress.receives late.lookup.queries
-    → Grows told told' (λ es. es ≡ Got from bytes until at ∷ []) → ReceivesOne look old (record late { progress = record { moment = at; receives = n; strays = late.progress.strays } }) told told'
-stray_receives look from bytes until at n old mid late told told' r t e is grows =
+stray_receives : (look : LookSetting) (accepts : Accepts) (from : Addr) (bytes : List ℕ) (until at n : ℕ) (old mid late : LookupState) (told told' : Option (List Event)) → Receiving look old until at → IsStrayFor look accepts from bytes old mid → Expires at mid late → n ≡ receives_kept late.progress.receives late.lookup.queries
+    → Grows told told' (λ es. es ≡ Got from bytes until at ∷ []) → ReceivesOne look accepts old (record late { progress = record { moment = at; receives = n; strays = late.progress.strays } }) told told'
+stray_receives look accepts from bytes until at n old mid late told told' r t e is grows =
     let keeps = r.may.keeps in
     let progress : Progress = record { moment = at; receives = n; strays = late.progress.strays } in
     let new : LookupState = record late { progress = progress } in
@@ -446,13 +447,13 @@ stray_receives look from bytes until at n old mid late told told' r t e is grows
     let few : late.progress.strays < max_strays = subst (λ (x : Progress). x.strays < max_strays) (sym e.progress) t.takes.few in
     let receives : old.progress.receives ≡ late.progress.receives = sym (ap (λ (x : Progress). x.receives) (e.progress ∙ t.takes.after)) in
     let light = light_stray (length late.lookup.queries) (length old.lookup.queries) old.progress.strays late.progress.strays max_strays (fewer_left look at old new [] old.lookup.queries l) strays few in
-    receives_one look at old new [] old.lookup.queries (Got from bytes until at) told told' l keeps few (round_goes late.progress.receives old.progress progress late.lookup.queries receives is) (λ k. e.gathered ∙ t.gathered)
+    receives_one look accepts at old new [] old.lookup.queries (Got from bytes until at) told told' l keeps few (round_goes late.progress.receives old.progress progress late.lookup.queries receives is) (λ k. e.gathered ∙ t.gathered)
     (omega (arith, light)) (λ z. light)
-    (λ words start s st. one_quiet look words start at old new s (Got from bytes until at) (s.strays + 1) (receives_seen s.receives (open_at at s.queries)) l st (e.gathered ∙ t.gathered)
+    (λ words start s st. one_quiet look accepts words start at old new s (Got from bytes until at) (s.strays + 1) (receives_seen s.receives (open_at at s.queries)) l st (e.gathered ∙ t.gathered)
     (ap (λ m. m + 1) st.strays ∙ sym strays)
     (ap (λ qs. receives_seen s.receives (open_at at qs)) st.queries ∙ round_left s.receives late.progress.receives at old.lookup.book.journal old.lookup.queries late.lookup.queries (st.receives ∙ receives) l.queries ∙ sym is)
-    (subst (λ J. Receives (given_of look start) J s until) (sym l.journal) (receives_of look start old ([] ++ closed_at at (map (as_open old.lookup.book.journal) old.lookup.queries)) words.place s until r.may r.waits st), inr (stray_of (quest_of look) old s from bytes st.queries t.none, refl))
-    (turn_of look start old words.place s r.may st) (inr (no_heard (quest_of look) old s from bytes st.queries t.none, refl)))
+    (subst (λ J. Receives (given_of look accepts start) J s until) (sym l.journal) (receives_of look accepts start old ([] ++ closed_at at (map (as_open old.lookup.book.journal) old.lookup.queries)) words.place s until r.may r.waits st), inr (stray_of (quest_of look) accepts old s from bytes st.queries t.none, refl))
+    (turn_of look accepts start old words.place s r.may st) (inr (no_heard (quest_of look) accepts old s from bytes st.queries t.none, refl)))
     grows
 
 -- ---- no datagram
@@ -464,9 +465,9 @@ quiet_light n at until x y qs qs' moment is strays le begins waits =
     let few : length qs' < length qs = subst (λ l. length l < length qs) (sym is) less in
     omega (arith, few, strays)
 
-pub quiet_receives : (look : LookSetting) (until at : ℕ) (old late : LookupState) (told told' : Option (List Event)) → Receiving look old until at → until ≤ at → Expires at old late → Grows told told' (λ es. es ≡ Quiet until at ∷ [])
-    → ReceivesOne look old (record late { progress = record { moment = at; receives = 0; strays = late.progress.strays } }) told told'
-quiet_receives look until at old late told told' r le e grows =
+pub quiet_receives : (look : LookSetting) (accepts : Accepts) (until at : ℕ) (old late : LookupState) (told told' : Option (List Event)) → Receiving look old until at → until ≤ at → Expires at old late → Grows told told' (λ es. es ≡ Quiet until at ∷ [])
+    → ReceivesOne look accepts old (record late { progress = record { moment = at; receives = 0; strays = late.progress.strays } }) told told'
+quiet_receives look accepts until at old late told told' r le e grows =
     let keeps = r.may.keeps in
     let progress : Progress = record { moment = at; receives = 0; strays = late.progress.strays } in
     let new : LookupState = record late { progress = progress } in
@@ -475,50 +476,50 @@ quiet_receives look until at old late told told' r le e grows =
     let strays : late.progress.strays ≡ old.progress.strays = ap (λ (x : Progress). x.strays) e.progress in
     let few : late.progress.strays < max_strays = (let f = keeps.few_strays in omega (arith, f, strays)) in
     let fewer = fewer_left look at old new [] old.lookup.queries l in
-    receives_one look at old new [] old.lookup.queries (Quiet until at) told told' l keeps few (inl refl) (λ k. e.gathered) (omega (arith, fewer, strays))
+    receives_one look accepts at old new [] old.lookup.queries (Quiet until at) told told' l keeps few (inl refl) (λ k. e.gathered) (omega (arith, fewer, strays))
     (λ z. quiet_light old.progress.receives at until late.progress.strays old.progress.strays old.lookup.queries late.lookup.queries old.progress.moment l.queries strays le z r.waits)
-    (λ words start s st. one_quiet look words start at old new s (Quiet until at) s.strays 0 l st e.gathered (st.strays ∙ sym strays) refl
-    (subst (λ J. Receives (given_of look start) J s until) (sym l.journal) (receives_of look start old ([] ++ closed_at at (map (as_open old.lookup.book.journal) old.lookup.queries)) words.place s until r.may r.waits st), refl)
-    (turn_of look start old words.place s r.may st) refl)
+    (λ words start s st. one_quiet look accepts words start at old new s (Quiet until at) s.strays 0 l st e.gathered (st.strays ∙ sym strays) refl
+    (subst (λ J. Receives (given_of look accepts start) J s until) (sym l.journal) (receives_of look accepts start old ([] ++ closed_at at (map (as_open old.lookup.book.journal) old.lookup.queries)) words.place s until r.may r.waits st), refl)
+    (turn_of look accepts start old words.place s r.may st) refl)
     grows
 
 -- ---- a datagram that replies to one
 
-the_one : (quest : Quest) (J : List Entry) (qs : List Query) (q : Query) (from : Addr) (bytes : List ℕ) (what : Reply) (s : Seen) (a : Answered) → s.queries ≡ map (as_open J) qs → AllByRecursion (λ (x : Query). x.tx < 2 ^ 32) qs → IsReply quest bytes (record { tx = q.tx; reply = what }) → ((x : Query) → Contains qs x → x.tx ≡ q.tx → x ≡ q)
-    → (h : HeardIn quest s from bytes a) → (h.query ≡ as_open J q) × (reply.Answer a.answer ≡ what)
-the_one quest J qs q from bytes what s a queries ids reads alone h =
+the_one : (quest : Quest) (accepts : Accepts) (J : List Entry) (qs : List Query) (q : Query) (from : Addr) (bytes : List ℕ) (what : Reply) (s : Seen) (a : Answered) → s.queries ≡ map (as_open J) qs → AllByRecursion (λ (x : Query). x.tx < 2 ^ 32) qs → IsReply quest bytes (record { tx = q.tx; reply = what }) → ((x : Query) → Contains qs x → x.tx ≡ q.tx → x ≡ q)
+    → (h : HeardIn quest accepts s from bytes a) → (h.query ≡ as_open J q) × (reply.Answer a.answer ≡ what)
+the_one quest accepts J qs q from bytes what s a queries ids reads alone h =
     let found = in_map (as_open J) qs h.query (subst (λ l. Contains l h.query) queries h.is_open) in
     let x = found.0 in
     let small = all_in (λ (y : Query). y.tx < 2 ^ 32) qs x ids found.1 in
-    let replies = to_reply quest J bytes from x (reply.Answer a.answer) (subst (λ y. Replies quest bytes from y (reply.Answer a.answer)) found.2 h.replies) in
+    let replies = to_reply quest accepts J bytes from x (reply.Answer a.answer) (subst (λ y. Replies quest accepts bytes from y (reply.Answer a.answer)) found.2 h.replies) in
     let same : x ≡ q = alone x found.1 (reads.same_id x.tx (reply.Answer a.answer) small replies) in
     (found.2 ∙ ap (as_open J) same, reads.same_reply x.tx (reply.Answer a.answer) small replies)
 
-hears_one : (quest : Quest) (J : List Entry) (qs : List Query) (q : Query) (from : Addr) (bytes : List ℕ) (until at : ℕ) (what : Reply) (heard : List Answered) (s : Seen) → s.queries ≡ map (as_open J) qs → Contains qs q → AllByRecursion (λ (x : Query). x.tx < 2 ^ 32) qs → Replies quest bytes from (as_open J q) what
-    → IsReply quest bytes (record { tx = q.tx; reply = what }) → ((x : Query) → Contains qs x → x.tx ≡ q.tx → x ≡ q) → HearsIn q.contact what heard → Hears quest s (Got from bytes until at) heard
-hears_one quest J qs q from bytes until at (reply.Answer answer) heard s queries has ids replies reads alone (inl own) = inl (
+hears_one : (quest : Quest) (accepts : Accepts) (J : List Entry) (qs : List Query) (q : Query) (from : Addr) (bytes : List ℕ) (until at : ℕ) (what : Reply) (heard : List Answered) (s : Seen) → s.queries ≡ map (as_open J) qs → Contains qs q → AllByRecursion (λ (x : Query). x.tx < 2 ^ 32) qs → Replies quest accepts bytes from (as_open J q) what
+    → IsReply quest bytes (record { tx = q.tx; reply = what }) → ((x : Query) → Contains qs x → x.tx ≡ q.tx → x ≡ q) → HearsIn q.contact what heard → Hears quest accepts s (Got from bytes until at) heard
+hears_one quest accepts J qs q from bytes until at (reply.Answer answer) heard s queries has ids replies reads alone (inl own) = inl (
   record { contact = q.contact; answer = answer },
   record { query = as_open J q; is_open = subst (λ l. Contains l (as_open J q)) (sym queries) (map_in (as_open J) qs q has); replies = replies; own_name = own.0; contact_is = refl },
   own.1,
 )
-hears_one quest J qs q from bytes until at (reply.Answer answer) heard s queries has ids replies reads alone (inr other) = inr (
+hears_one quest accepts J qs q from bytes until at (reply.Answer answer) heard s queries has ids replies reads alone (inr other) = inr (
   (λ a h.
-      let one = the_one quest J qs q from bytes (reply.Answer answer) s a queries ids reads alone h in
+      let one = the_one quest accepts J qs q from bytes (reply.Answer answer) s a queries ids reads alone h in
       let said = one.1 in
       let same : a.answer ≡ answer = cc in
       other.0 (ap (λ (x : Answer). x.id) (sym same) ∙ h.own_name ∙ ap (λ (y : OpenQuery). y.contact.id) one.0)),
   other.1,
 )
-hears_one quest J qs q from bytes until at (reply.Error code) heard s queries has ids replies reads alone none = inr (
+hears_one quest accepts J qs q from bytes until at (reply.Error code) heard s queries has ids replies reads alone none = inr (
   (λ a h.
-      let one = the_one quest J qs q from bytes (reply.Error code) s a queries ids reads alone h in
+      let one = the_one quest accepts J qs q from bytes (reply.Error code) s a queries ids reads alone h in
       let said = one.1 in absurd cc),
   none,
 )
 
-match_receives : (look : LookSetting) (from : Addr) (bytes : List ℕ) (until at n : ℕ) (old mid late : LookupState) (told told' : Option (List Event)) → Receiving look old until at → IsMatchFor look from bytes old mid → Expires at mid late → n ≡ receives_kept late.progress.receives late.lookup.queries
-    → Grows told told' (λ es. es ≡ Got from bytes until at ∷ []) → ReceivesOne look old (record late { progress = record { moment = at; receives = n; strays = late.progress.strays } }) told told'
-match_receives look from bytes until at n old mid late told told' r m e is grows =
+match_receives : (look : LookSetting) (accepts : Accepts) (from : Addr) (bytes : List ℕ) (until at n : ℕ) (old mid late : LookupState) (told told' : Option (List Event)) → Receiving look old until at → IsMatchFor look accepts from bytes old mid → Expires at mid late → n ≡ receives_kept late.progress.receives late.lookup.queries
+    → Grows told told' (λ es. es ≡ Got from bytes until at ∷ []) → ReceivesOne look accepts old (record late { progress = record { moment = at; receives = n; strays = late.progress.strays } }) told told'
+match_receives look accepts from bytes until at n old mid late told told' r m e is grows =
     let keeps = r.may.keeps in
     let k = m.matches in
     let J = old.lookup.book.journal in
@@ -541,12 +542,12 @@ match_receives look from bytes until at n old mid late told told' r m e is grows
     let one : length old.lookup.queries ≡ length k.before + suc (length k.behind) = ap length k.was_open ∙ length-append k.before (k.query ∷ k.behind) in
     let two : length left ≡ length k.before + length k.behind = length-append k.before k.behind in
     let light : length late.lookup.queries + (max_strays - late.progress.strays) < length old.lookup.queries + (max_strays - old.progress.strays) = omega (arith, fewer, strays, one, two) in
-    receives_one look at old new (entry ∷ []) left (Got from bytes until at) told told' l keeps few (round_goes late.progress.receives old.progress progress late.lookup.queries receives is) (λ is_find. e.gathered ∙ kept_find (wants_peers look.kind) m.heard old.gathered mid.gathered is_find m.keeps_for)
+    receives_one look accepts at old new (entry ∷ []) left (Got from bytes until at) told told' l keeps few (round_goes late.progress.receives old.progress progress late.lookup.queries receives is) (λ is_find. e.gathered ∙ kept_find (wants_peers look.kind) m.heard old.gathered mid.gathered is_find m.keeps_for)
     (omega (arith, light)) (λ z. light)
     (λ words start s st. record {
       after = after_match s at entry (map (as_open J) left);
       gives = (
-        subst (λ K. Receives (given_of look start) K s until) (sym l.journal) (receives_of look start old more words.place s until r.may r.waits st),
+        subst (λ K. Receives (given_of look accepts start) K s until) (sym l.journal) (receives_of look accepts start old more words.place s until r.may r.waits st),
         inl (record {
           entry = entry;
           left = map (as_open J) left;
@@ -564,19 +565,19 @@ match_receives look from bytes until at n old mid late told told' r m e is grows
         }),
       );
       given = refl;
-      in_turn = turn_of look start old words.place s r.may st;
-      stands = stands_left look (given_of look start) words.place at old new (entry ∷ []) left s.strays (receives_seen s.receives (open_at at (map (as_open J) left))) s l st (st.strays ∙ sym strays)
+      in_turn = turn_of look accepts start old words.place s r.may st;
+      stands = stands_left look (given_of look accepts start) words.place at old new (entry ∷ []) left s.strays (receives_seen s.receives (open_at at (map (as_open J) left))) s l st (st.strays ∙ sym strays)
           (round_left s.receives late.progress.receives at J left late.lookup.queries (st.receives ∙ receives) l.queries ∙ sym is);
       ascends = tt;
       found = m.heard;
-      hears = hears_one (quest_of look) J old.lookup.queries k.query from bytes until at k.what m.heard s st.queries (subst (λ qs. Contains qs k.query) (sym k.was_open) (in_middle k.before k.query k.behind)) keeps.ids k.replies k.reads k.alone k.hears_in;
+      hears = hears_one (quest_of look) accepts J old.lookup.queries k.query from bytes until at k.what m.heard s st.queries (subst (λ qs. Contains qs k.query) (sym k.was_open) (in_middle k.before k.query k.behind)) keeps.ids k.replies k.reads k.alone k.hears_in;
       keeps = subst (λ g. KeepsFor (wants_peers look.kind) m.heard old.gathered g) (sym e.gathered) m.keeps_for;
     })
     grows
 
 -- ---- a datagram
 
-pub datagram_receives : (look : LookSetting) (from : Addr) (bytes : List ℕ) (until at n : ℕ) (old mid late : LookupState) (told told' : Option (List Event)) → Receiving look old until at → TakesDatagram look from bytes old mid → Expires at mid late → n ≡ receives_kept late.progress.receives late.lookup.queries
-    → Grows told told' (λ es. es ≡ Got from bytes until at ∷ []) → ReceivesOne look old (record late { progress = record { moment = at; receives = n; strays = late.progress.strays } }) told told'
-datagram_receives look from bytes until at n old mid late told told' r (inl m) e is grows = match_receives look from bytes until at n old mid late told told' r m e is grows
-datagram_receives look from bytes until at n old mid late told told' r (inr t) e is grows = stray_receives look from bytes until at n old mid late told told' r t e is grows
+pub datagram_receives : (look : LookSetting) (accepts : Accepts) (from : Addr) (bytes : List ℕ) (until at n : ℕ) (old mid late : LookupState) (told told' : Option (List Event)) → Receiving look old until at → TakesDatagram look accepts from bytes old mid → Expires at mid late → n ≡ receives_kept late.progress.receives late.lookup.queries
+    → Grows told told' (λ es. es ≡ Got from bytes until at ∷ []) → ReceivesOne look accepts old (record late { progress = record { moment = at; receives = n; strays = late.progress.strays } }) told told'
+datagram_receives look accepts from bytes until at n old mid late told told' r (inl m) e is grows = match_receives look accepts from bytes until at n old mid late told told' r m e is grows
+datagram_receives look accepts from bytes until at n old mid late told told' r (inr t) e is grows = stray_receives look accepts from bytes until at n old mid late told told' r t e is grows

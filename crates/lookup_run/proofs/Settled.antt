@@ -39,6 +39,7 @@ use Rattle.lookup_core.proofs.Opens.{opens_kept, each_asked}
 use Rattle.lookup_run.proofs.Quiet.{IsMute, IsQuiet, each_quiet, each_mute, no_seeds, none_driven, asked_same, open_same, unsettled_same, settles_from, below_more}
 use Rattle.lookup_run.proofs.Walking.{walk_longer, seeds_same, told_in_any, table_then, calls_more}
 use Rattle.lookup_core.specs.Quest.{wants_peers}
+use Rattle.lookup_core.specs.Sealed.{Accepts}
 
 -- ---- the table
 
@@ -180,11 +181,11 @@ settles_more scheduling look b b' old new more told k over m settled =
       same_asks = ap length same_asked;
       queries = m.queries;
       ran = record { run = m.tabled.run; is_run = m.tabled.is_run; leaves = m.tabled.leaves };
-      goes = λ words a start table began al. record {
+      goes = λ words a accepts start table began al. record {
         drawn = drawn_same words start J J' same_asked al.drawn;
         seeds_are = seeds_same J more J' m.journal (no_seeds more mute) ∙ al.seeds_are;
         tabled = subst (λ calls. TableToldBy scheduling calls table new.table) (calls_more look J more J' m.journal) (table_then scheduling (table_calls look J) (flat_map told_of more) table old.table new.table al.tabled m.tabled);
-        shows = grows_weaker began told _ _ al.shows (λ es s. shows_settled scheduling (given_of look start) old new more words.place b b' a es over k.is_open m s);
+        shows = grows_weaker began told _ _ al.shows (λ es s. shows_settled scheduling (given_of look accepts start) old new more words.place b b' a es over k.is_open m s);
       };
     }
 
@@ -218,13 +219,13 @@ settles_path scheduling look p old new told k over below h here queries progress
     }) (settled_more p old.lookup.book.journal h.more new.lookup.book.journal h.journal quiet below here)
 
 -- where it ends early, the journal is that from before, and the table is what some run leaves
-pub stops_settling : (look : LookSetting) (old new : LookupState) (told : Option (List Event)) → Legal (setting_of look) old.lookup.book.journal → TableRan old.table new.table → (words : WordsState) → Stops look words words old new told told
-stops_settling look old new told legal ran words scheduling start table began b a al = record {
+pub stops_settling : (look : LookSetting) (accepts : Accepts) (old new : LookupState) (told : Option (List Event)) → Legal (setting_of look) old.lookup.book.journal → TableRan old.table new.table → (words : WordsState) → Stops look accepts words words old new told told
+stops_settling look accepts old new told legal ran words scheduling start table began b a al = record {
   unfinished = record {
     journal = old.lookup.book.journal;
     legal = legal;
     seeds_are = al.seeds_are;
-    tells = grows_weaker began told _ _ al.shows (λ es s. early_now scheduling (given_of look start) old words.place b a es s);
+    tells = grows_weaker began told _ _ al.shows (λ es s. early_now scheduling (given_of look accepts start) old words.place b a es s);
     drawn = al.drawn;
   };
   ran = ran_after scheduling (table_calls look old.lookup.book.journal) table old.table new.table al.tabled ran;
@@ -240,7 +241,7 @@ settles_nothing scheduling look work told k = record {
   same_asks = refl;
   queries = refl;
   ran = record { run = []; is_run = tt; leaves = refl };
-  goes = λ words a start table began al. al;
+  goes = λ words a accepts start table began al. al;
 }
 
 pub settles_then : (scheduling : Scheduling) (look : LookSetting) (from mid to : ℕ) (a b c : LookupState) (told : Option (List Event)) → SettlesPaths scheduling look from mid a b told → SettlesPaths scheduling look mid to b c told → SettlesPaths scheduling look from to a c told
@@ -251,5 +252,5 @@ settles_then scheduling look from mid to a b c told h k = record {
   same_asks = k.same_asks ∙ h.same_asks;
   queries = k.queries ∙ h.queries;
   ran = ran_then a.table b.table c.table h.ran k.ran;
-  goes = λ words n start table began al. k.goes words n start table began (h.goes words n start table began al);
+  goes = λ words n accepts start table began al. k.goes words n accepts start table began (h.goes words n accepts start table began al);
 }

@@ -32,6 +32,7 @@ use Rattle.lookup_run.specs.Lookup.{given_of, drawn_for, told_of, table_calls, t
 use Rattle.lookup_run.specs.inner.DriverInvariant.{Step, Walk, KeepsSeen, Keeping, Shows, TraceInvariant, Preserves}
 use Rattle.lookup_run.specs.inner.RoundSteps.{KeepsFor}
 use Rattle.lookup_core.specs.Quest.{wants_peers}
+use Rattle.lookup_core.specs.Sealed.{Accepts}
 
 -- ---- a longer journal
 
@@ -106,7 +107,7 @@ pub record OneEvent (g : Given) (old new : LookupState) (more : List Entry) (pla
   pub stands : KeepsSeen g new place' after
   pub ascends : AllByRecursion (λ (x : Entry). path_number x ≤ a') after.since
   pub found : List Answered
-  pub hears : Hears g.quest s e found
+  pub hears : Hears g.quest g.accepts s e found
   pub keeps : KeepsFor (wants_peers g.quest.kind) found old.gathered new.gathered
 
 pub seeds_append : (J K : List Entry) → seeds (J ++ K) ≡ seeds J ++ seeds K
@@ -211,22 +212,22 @@ calls_more look J more J' is = sym (ap (table_calls look) is ∙ ap (λ l. table
 -- ---- the whole of what is known
 
 -- what a step with one event owes
-pub record NextStep (look : LookSetting) (words words' : WordsState) (old new : LookupState) (a a' : ℕ) (e : Event) : Type 0 where
+pub record NextStep (look : LookSetting) (accepts : Accepts) (words words' : WordsState) (old new : LookupState) (a a' : ℕ) (e : Event) : Type 0 where
   pub more : List Entry
   pub journal : new.lookup.book.journal ≡ old.lookup.book.journal ++ more
   pub no_seeds : seeds more ≡ []
   pub drawn : (start : WordsState) → words ≡ drawn_for start old.lookup.book.journal → words' ≡ drawn_for start new.lookup.book.journal
   pub tabled : TableTold (flat_map told_of more) old.table new.table
-  pub next : (start : WordsState) → words ≡ drawn_for start old.lookup.book.journal → (s : Seen) → KeepsSeen (given_of look start) old words.place s
-      → AllByRecursion (λ (x : Entry). path_number x ≤ a) s.since → OneEvent (given_of look start) old new more words'.place a' s e
+  pub next : (start : WordsState) → words ≡ drawn_for start old.lookup.book.journal → (s : Seen) → KeepsSeen (given_of look accepts start) old words.place s
+      → AllByRecursion (λ (x : Entry). path_number x ≤ a) s.since → OneEvent (given_of look accepts start) old new more words'.place a' s e
 
-pub along_next : (look : LookSetting) (words words' : WordsState) (old new : LookupState) (b b' a a' : ℕ) (e : Event) (told told' : Option (List Event)) → NextStep look words words' old new a a' e → Grows told told' (λ es. es ≡ e ∷ []) → Preserves look words words' old new b a b' a' told told'
-along_next look words words' old new b b' a a' e told told' n grows scheduling start table began h = record {
+pub along_next : (look : LookSetting) (accepts : Accepts) (words words' : WordsState) (old new : LookupState) (b b' a a' : ℕ) (e : Event) (told told' : Option (List Event)) → NextStep look accepts words words' old new a a' e → Grows told told' (λ es. es ≡ e ∷ []) → Preserves look accepts words words' old new b a b' a' told told'
+along_next look accepts words words' old new b b' a a' e told told' n grows scheduling start table began h = record {
   drawn = n.drawn start h.drawn;
   seeds_are = seeds_same old.lookup.book.journal n.more new.lookup.book.journal n.journal n.no_seeds ∙ h.seeds_are;
   tabled = subst (λ calls. TableToldBy scheduling calls table new.table) (calls_more look old.lookup.book.journal n.more new.lookup.book.journal n.journal)
       (table_then scheduling (table_calls look old.lookup.book.journal) (flat_map told_of n.more) table old.table new.table h.tabled (told_in_any scheduling (flat_map told_of n.more) old.table new.table n.tabled));
-  shows = grows_then began told told' _ _ _ h.shows grows (λ es fs p is. shows_next scheduling (given_of look start) old new n.more words.place words'.place b b' a a' e es fs n.journal n.no_seeds (n.next start h.drawn) p is);
+  shows = grows_then began told told' _ _ _ h.shows grows (λ es fs p is. shows_next scheduling (given_of look accepts start) old new n.more words.place words'.place b b' a a' e es fs n.journal n.no_seeds (n.next start h.drawn) p is);
 }
 
 -- ---- weaker bounds
@@ -253,10 +254,10 @@ shows_later scheduling g work place b a a' es le h = record {
   keeping = h.keeping;
 }
 
-pub along_later : (scheduling : Scheduling) (look : LookSetting) (start : WordsState) (table : TableState) (began : Option (List Event)) (words : WordsState) (work : LookupState) (b a a' : ℕ) (told : Option (List Event)) → a ≤ a' → TraceInvariant scheduling look start table began words work b a told → TraceInvariant scheduling look start table began words work b a' told
-along_later scheduling look start table began words work b a a' told le h = record {
+pub along_later : (scheduling : Scheduling) (look : LookSetting) (accepts : Accepts) (start : WordsState) (table : TableState) (began : Option (List Event)) (words : WordsState) (work : LookupState) (b a a' : ℕ) (told : Option (List Event)) → a ≤ a' → TraceInvariant scheduling look accepts start table began words work b a told → TraceInvariant scheduling look accepts start table began words work b a' told
+along_later scheduling look accepts start table began words work b a a' told le h = record {
   drawn = h.drawn;
   seeds_are = h.seeds_are;
   tabled = h.tabled;
-  shows = grows_weaker began told _ _ h.shows (λ es x. shows_later scheduling (given_of look start) work words.place b a a' es le x);
+  shows = grows_weaker began told _ _ h.shows (λ es x. shows_later scheduling (given_of look accepts start) work words.place b a a' es le x);
 }

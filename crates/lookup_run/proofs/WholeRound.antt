@@ -8,17 +8,18 @@ use Rattle.lookup_run.specs.declared.types.LookSetting.{LookSetting}
 use Rattle.lookup_run.specs.declared.types.LookupState.{LookupState}
 use Rattle.lookup_run.specs.inner.DriverInvariant.{Keeps, weight_of, Preserves}
 use Rattle.lookup_run.specs.inner.RoundSteps.{ReceivesOne, Stops, EndsByStray, FewStrays}
+use Rattle.lookup_core.specs.Sealed.{Accepts}
 
 -- one receive or more
-pub record Rounding (look : LookSetting) (old new : LookupState) (told told' : Option (List Event)) : Type 0 where
+pub record Rounding (look : LookSetting) (accepts : Accepts) (old new : LookupState) (told told' : Option (List Event)) : Type 0 where
   pub keeps : Keeps look new
   pub some_open : new.progress.receives ≢ 0 → new.lookup.queries ≢ []
   pub same_asks : length (asked new.lookup.book.journal) ≡ length (asked old.lookup.book.journal)
   pub lighter : weight_of new < weight_of old
-  pub goes : (words : WordsState) (b a : ℕ) → Preserves look words words old new b a 0 0 told told'
+  pub goes : (words : WordsState) (b a : ℕ) → Preserves look accepts words words old new b a 0 0 told told'
 
-pub next_receive : (look : LookSetting) (old w new : LookupState) (told mid told' : Option (List Event)) → Rounding look old w told mid → ReceivesOne look w new mid told' → Rounding look old new told told'
-next_receive look old w new told mid told' h r = record {
+pub next_receive : (look : LookSetting) (accepts : Accepts) (old w new : LookupState) (told mid told' : Option (List Event)) → Rounding look accepts old w told mid → ReceivesOne look accepts w new mid told' → Rounding look accepts old new told told'
+next_receive look accepts old w new told mid told' h r = record {
   keeps = r.keeps;
   some_open = r.some_open;
   same_asks = r.same_asks ∙ h.same_asks;
@@ -29,14 +30,14 @@ next_receive look old w new told mid told' h r = record {
     less : (x y z : ℕ) → x ≤ y → y < z → x < z
     less x y z a b = omega (arith, a, b)
 
-pub stops_after : (look : LookSetting) (old w new : LookupState) (told mid told' : Option (List Event)) → Rounding look old w told mid → ((words : WordsState) → Stops look words words w new mid told') → (words : WordsState) → Stops look words words old new told told'
-stops_after look old w new told mid told' h stops words scheduling start table began b a along = stops words scheduling start table began 0 0 (h.goes words b a scheduling start table began along)
+pub stops_after : (look : LookSetting) (accepts : Accepts) (old w new : LookupState) (told mid told' : Option (List Event)) → Rounding look accepts old w told mid → ((words : WordsState) → Stops look accepts words words w new mid told') → (words : WordsState) → Stops look accepts words words old new told told'
+stops_after look accepts old w new told mid told' h stops words scheduling start table began b a along = stops words scheduling start table began 0 0 (h.goes words b a scheduling start table began along)
 
-pub stray_after : (look : LookSetting) (old w : LookupState) (told mid told' : Option (List Event)) → Rounding look old w told mid → ((words : WordsState) → EndsByStray look words w mid told') → (words : WordsState) → EndsByStray look words old told told'
-stray_after look old w told mid told' h ends words scheduling start table began b a along = ends words scheduling start table began 0 0 (h.goes words b a scheduling start table began along)
+pub stray_after : (look : LookSetting) (accepts : Accepts) (old w : LookupState) (told mid told' : Option (List Event)) → Rounding look accepts old w told mid → ((words : WordsState) → EndsByStray look accepts words w mid told') → (words : WordsState) → EndsByStray look accepts words old told told'
+stray_after look accepts old w told mid told' h ends words scheduling start table began b a along = ends words scheduling start table began 0 0 (h.goes words b a scheduling start table began along)
 
-pub few_after : (look : LookSetting) (old w : LookupState) (told mid told' : Option (List Event)) → Rounding look old w told mid → ((words : WordsState) → FewStrays look words w mid told') → (words : WordsState) → FewStrays look words old told told'
-few_after look old w told mid told' h few words scheduling start table began b a along = few words scheduling start table began 0 0 (h.goes words b a scheduling start table began along)
+pub few_after : (look : LookSetting) (accepts : Accepts) (old w : LookupState) (told mid told' : Option (List Event)) → Rounding look accepts old w told mid → ((words : WordsState) → FewStrays look accepts words w mid told') → (words : WordsState) → FewStrays look accepts words old told told'
+few_after look accepts old w told mid told' h few words scheduling start table began b a along = few words scheduling start table began 0 0 (h.goes words b a scheduling start table began along)
 
 -- how many receives a round may still have
 abbrev pub still_to : ℕ → ℕ

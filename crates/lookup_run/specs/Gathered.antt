@@ -15,36 +15,37 @@ use Rattle.lookup_run.specs.declared.types.Token.{Token}
 use Rattle.lookup_core.specs.declared.reply.Reply.TheVariants as reply
 use Rattle.lookup_core.specs.Matching.{OpenQuery, Replies}
 use Rattle.lookup_core.specs.Quest.{part_of, wants_peers}
-use Rattle.lookup_run.specs.Tells.{Given, Seen, Gives, begun}
+use Rattle.lookup_run.specs.Tells.{Given, Seen, Gives, begun, driven}
 use Rattle.lookup_core.specs.declared.quest.Quest.{Quest}
 use Rattle.lookup_core.specs.declared.on_reply.Answered.{Answered}
+use Rattle.lookup_core.specs.Sealed.{Accepts}
 
 -- the datagram is the answer of a contact that was asked, in its own name
-pub record HeardIn (quest : Quest) (s : Seen) (from : Addr) (bytes : List ℕ) (a : Answered) : Type 0 where
+pub record HeardIn (quest : Quest) (accepts : Accepts) (s : Seen) (from : Addr) (bytes : List ℕ) (a : Answered) : Type 0 where
   pub query : OpenQuery
   pub is_open : Contains s.queries query
-  pub replies : Replies quest bytes from query (reply.Answer a.answer)
+  pub replies : Replies quest accepts bytes from query (reply.Answer a.answer)
   pub own_name : a.answer.id ≡ query.contact.id
   pub contact_is : a.contact ≡ query.contact
 
 -- what one event shows to be heard
-abbrev pub Hears : Quest → Seen → Event → List Answered → Type 0
-Hears quest s (Got from bytes until at) found =
-    ((a : Answered) × HeardIn quest s from bytes a × (found ≡ a ∷ []))
-    ⊎ (((a : Answered) → ¬ HeardIn quest s from bytes a) × (found ≡ []))
-Hears quest s other found = found ≡ []
+abbrev pub Hears : Quest → Accepts → Seen → Event → List Answered → Type 0
+Hears quest accepts s (Got from bytes until at) found =
+    ((a : Answered) × HeardIn quest accepts s from bytes a × (found ≡ a ∷ []))
+    ⊎ (((a : Answered) → ¬ HeardIn quest accepts s from bytes a) × (found ≡ []))
+Hears quest accepts s other found = found ≡ []
 
 -- one event: what it gives, and what it shows to be heard
 pub record HearsStep (g : Given) (J : List Entry) (s : Seen) (e : Event) : Type 0 where
   pub mid : Seen
   pub gives : Gives g J s e mid
   pub found : List Answered
-  pub hears : Hears g.quest s e found
+  pub hears : Hears g.quest g.accepts s e found
 
--- what the events show to be heard, in order
-abbrev pub HearsFrom : Given → List Entry → Seen → List Event → List Answered → Type 0
-HearsFrom g J s [] heard = heard ≡ []
-HearsFrom g J s (e ∷ es) heard = (step : HearsStep g J s e) × (rest : List Answered) × HearsFrom g J step.mid es rest × (heard ≡ step.found ++ rest)
+-- what the events show to be heard, in order, up to what they show at last
+abbrev pub HearsFrom : Given → List Entry → Seen → List Event → Seen → List Answered → Type 0
+HearsFrom g J s [] t heard = (t ≡ s) × (heard ≡ [])
+HearsFrom g J s (e ∷ es) t heard = (step : HearsStep g J s e) × (rest : List Answered) × HearsFrom g J step.mid es t rest × (heard ≡ step.found ++ rest)
 
 -- in the order of the bytes of the address and then of the port, IPv4 first
 abbrev pub addr_cmp : Addr → Addr → Ordering
@@ -73,11 +74,14 @@ abbrev pub GathersOf : Bool → List Answered → List Addr → List Token → T
 GathersOf false heard peers tokens = (peers ≡ []) × (tokens ≡ [])
 GathersOf true heard peers tokens = IsEachOnce (flat_map values_of heard) peers × (tokens ≡ flat_map token_of heard)
 
--- what was gathered is what the events show
+-- What was gathered is what the events show, read by the journal that they tell: so each query is to the contact that the
+-- journal has asked, and an answer is heard where the journal has it heard.
 pub record Gathers (g : Given) (J : List Entry) (events : List Event) (peers : List Addr) (tokens : List Token) : Type 0 where
   pub at : ℕ
   pub rest : List Event
   pub first : events ≡ Now at ∷ rest
   pub heard : List Answered
-  pub hears : HearsFrom g J (begun at) rest heard
+  pub end : Seen
+  pub hears : HearsFrom g J (begun at) rest end heard
+  pub tells : end.given ≡ driven J
   pub gathers : GathersOf (wants_peers g.quest.kind) heard peers tokens

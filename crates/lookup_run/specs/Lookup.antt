@@ -1,5 +1,5 @@
 -- What a lookup promises: its journal, the table that comes back, and what holds where it ended early.
-use Rattle.std.specs.Prelude.{◌≡◌, ◌≢◌, ◌⊎◌, ℕ, ◌+◌, ◌==◌, filter, ◌<◌, ◌≤◌, List, [], ◌∷◌, ◌++◌, length, map, Option, Result, IfOk, IfErr, IsErrOf}
+use Rattle.std.specs.Prelude.{◌≡◌, ◌≢◌, ◌⊎◌, ℕ, ◌+◌, ◌==◌, filter, ◌<◌, ◌≤◌, List, [], ◌∷◌, ◌++◌, length, map, Option, Result, IfOk, IfErr, IsErrOf, false}
 use Rattle.std.specs.List.{All, flat_map}
 use Rattle.std.specs.List.Sorted.{IsStrictlySortedBy}
 use Rattle.kad_base.specs.declared.types.Addr.{Addr}
@@ -35,9 +35,10 @@ use Rattle.lookup_run.specs.declared.types.LookSetting.{LookSetting}
 use Rattle.lookup_run.specs.declared.types.LookFault.{LookFault}
 use Rattle.lookup_run.specs.declared.types.LookFault.TheVariants.{LinkFault, Strays}
 use Rattle.lookup_run.specs.declared.types.Outcome.{Outcome}
-use Rattle.lookup_run.specs.Tells.{Given, Seen, TellsSoFar, Tells, EndsAtStray}
+use Rattle.lookup_run.specs.Tells.{Given, Seen, TellsSoFar, Tells, EndsAtStray, HasFewStrays, NeverEnds}
 use Rattle.lookup_run.specs.Rounds.{Scheduling, Rounds, sequential, concurrent}
 use Rattle.lookup_run.specs.Gathered.{Gathers, addr_cmp}
+use Rattle.lookup_core.specs.Sealed.{Accepts}
 
 -- what the book is set to
 abbrev pub setting_of : LookSetting → Setting
@@ -45,7 +46,7 @@ setting_of look = record { own = look.own; target = look.target; k = look.k; pat
 
 -- what it asks, and what it believes
 abbrev pub quest_of : LookSetting → Quest
-quest_of look = record { own = look.own; target = look.target; policy = look.policy; kind = look.kind; timeout = look.timeout }
+quest_of look = record { own = look.own; target = look.target; policy = look.policy; kind = look.kind; timeout = look.timeout; sealed = look.sealed }
 
 -- the setting is within the limits
 pub record IsWithinLimits (look : LookSetting) : Type 0 where
@@ -55,9 +56,9 @@ pub record IsWithinLimits (look : LookSetting) : Type 0 where
   pub some_query : 1 ≤ look.alpha
   pub few_queries : look.alpha ≤ max_alpha
 
--- the events of a lookup that starts here
-abbrev pub given_of : LookSetting → WordsState → Given
-given_of look words = record { setting = setting_of look; quest = quest_of look; seed = words.seed; place = words.place }
+-- the events of a lookup that starts here, and accepts these tags
+abbrev pub given_of : LookSetting → Accepts → WordsState → Given
+given_of look accepts words = record { setting = setting_of look; quest = quest_of look; accepts = accepts; seed = words.seed; place = words.place }
 
 -- the contacts that a lookup begins with: the k closest of the table (Kademlia, 2002, section 2.3)
 abbrev pub seeds_in : LookSetting → TableState → List Contact
@@ -70,10 +71,10 @@ drawn_for words J = record { seed = words.seed; place = words.place + length (as
 -- A whole lookup. Its journal is legal, starts with the closest contacts of the table, is what the link's events tell,
 -- goes by rounds, and has run out on every path; what was found is its result; each word that was drawn went to one
 -- contact; and the peers and tokens are those of the answers that were heard.
-pub record Finished (look : LookSetting) (table : TableState) (words words' : WordsState) (told told' : Option (List Event)) (outcome : Outcome) : Type 0 where
+pub record Finished (look : LookSetting) (accepts : Accepts) (table : TableState) (words words' : WordsState) (told told' : Option (List Event)) (outcome : Outcome) : Type 0 where
   pub legal : Legal (setting_of look) outcome.journal
   pub seeds_are : seeds outcome.journal ≡ seeds_in look table
-  pub tells : Grows told told' (λ events. Tells (given_of look words) outcome.journal events)
+  pub tells : Grows told told' (λ events. Tells (given_of look accepts words) outcome.journal events)
   pub run_out : (p : ℕ) → p < look.paths → RunOut (setting_of look) p outcome.journal
   pub found : outcome.found ≡ result_of (setting_of look) outcome.journal
   pub counted : Counted outcome.journal outcome.counts
@@ -88,12 +89,27 @@ pub record TellsEarly (g : Given) (J : List Entry) (events : List Event) : Type 
 
 -- A lookup that ended early: there is a legal journal with the same seeds that the events tell so far, so nobody was asked
 -- twice either.
-pub record Unfinished (look : LookSetting) (table : TableState) (words words' : WordsState) (told told' : Option (List Event)) : Type 0 where
+pub record Unfinished (look : LookSetting) (accepts : Accepts) (table : TableState) (words words' : WordsState) (told told' : Option (List Event)) : Type 0 where
   pub journal : List Entry
   pub legal : Legal (setting_of look) journal
   pub seeds_are : seeds journal ≡ seeds_in look table
-  pub tells : Grows told told' (λ events. TellsEarly (given_of look words) journal events)
+  pub tells : Grows told told' (λ events. TellsEarly (given_of look accepts words) journal events)
   pub drawn : words' ≡ drawn_for words journal
+
+-- A lookup that ended with the last stray that it takes: there is a legal journal with the same seeds that the events before
+-- that one tell, and by which it is the last.
+pub record EndsByStrays (look : LookSetting) (accepts : Accepts) (table : TableState) (words : WordsState) (told told' : Option (List Event)) : Type 0 where
+  pub journal : List Entry
+  pub legal : Legal (setting_of look) journal
+  pub seeds_are : seeds journal ≡ seeds_in look table
+  pub tells : Grows told told' (λ events. EndsAtStray (given_of look accepts words) journal events max_strays)
+
+-- A lookup that ended early and has met fewer: there is such a journal that the events tell, and by which there are fewer.
+pub record MeetsFewStrays (look : LookSetting) (accepts : Accepts) (table : TableState) (words : WordsState) (told told' : Option (List Event)) : Type 0 where
+  pub journal : List Entry
+  pub legal : Legal (setting_of look) journal
+  pub seeds_are : seeds journal ≡ seeds_in look table
+  pub tells : Grows told told' (λ events. HasFewStrays (given_of look accepts words) journal events max_strays)
 
 -- ---- the table
 
@@ -150,21 +166,24 @@ TableTold calls table table' = TableToldBy sequential calls table table'
 
 -- ---- the promise
 
--- What a lookup promises, whichever way its rounds settle: by its setting, the table, the words, and what the link tells,
+-- What a lookup promises, whichever way its rounds settle: by its setting, the tags that it accepts, the table, the words, and what the link tells,
 -- how often it failed to receive, and what of it no call changes, each before and after.
-pub record LooksUp {Kept : Type 0} (scheduling : Scheduling) (look : LookSetting) (before after : TableState) (words words' : WordsState) (told told' : Option (List Event)) (faults faults' : ℕ) (was is : Kept) (ended : Result Outcome LookFault) : Type 0 where
-  pub lookup : IfOk ended (Finished look before words words' told told')
-  pub rounds : IfOk ended (λ outcome. Grows told told' (λ events. Rounds scheduling (given_of look words) outcome.journal events))
+pub record LooksUp {Kept : Type 0} (scheduling : Scheduling) (look : LookSetting) (accepts : Accepts) (before after : TableState) (words words' : WordsState) (told told' : Option (List Event)) (faults faults' : ℕ) (was is : Kept) (ended : Result Outcome LookFault) : Type 0 where
+  pub lookup : IfOk ended (Finished look accepts before words words' told told')
+  pub rounds : IfOk ended (λ outcome. Grows told told' (λ events. Rounds scheduling (given_of look accepts words) outcome.journal events))
   pub own_answers : IfOk ended (λ outcome. GoesByOwnAnswers (setting_of look) outcome.journal)
-  pub gathered : IfOk ended (λ outcome. Grows told told' (λ events. Gathers (given_of look words) outcome.journal events outcome.peers outcome.tokens))
+  pub gathered : IfOk ended (λ outcome. Grows told told' (λ events. Gathers (given_of look accepts words) outcome.journal events outcome.peers outcome.tokens))
   pub none_gathered : IfOk ended (λ outcome. look.kind ≡ FindNode → (outcome.peers ≡ []) × (outcome.tokens ≡ []))
   pub peers_in_order : IfOk ended (λ outcome. IsStrictlySortedBy addr_cmp outcome.peers)
   pub table : IfOk ended (λ outcome. TableToldBy scheduling (table_calls look outcome.journal) before after)
-  pub unfinished : IfErr ended (λ fault. Unfinished look before words words' told told')
+  pub unfinished : IfErr ended (λ fault. Unfinished look accepts before words words' told told')
   pub table_left : IfErr ended (λ fault. TableRan before after)
-  pub strays : IsErrOf ended Strays → Grows told told' (λ events. EndsAtStray (given_of look words) events max_strays)
-  pub few_strays : IfOk ended (λ outcome. Grows told told' (λ events. ¬ EndsAtStray (given_of look words) events max_strays))
-  pub few_strays_at_fault : IsErrOf ended LinkFault → Grows told told' (λ events. ¬ EndsAtStray (given_of look words) events max_strays)
+  pub strays : IsErrOf ended Strays → EndsByStrays look accepts before words told told'
+  pub few_strays : IfOk ended (λ outcome. Grows told told' (λ events. HasFewStrays (given_of look accepts words) outcome.journal events max_strays))
+  pub few_strays_at_fault : IsErrOf ended LinkFault → MeetsFewStrays look accepts before words told told'
+  -- the events of a lookup that isn't sealed show by themselves which datagrams are strays
+  pub no_last_stray : IfOk ended (λ outcome. look.sealed ≡ false → Grows told told' (NeverEnds (given_of look accepts words) max_strays))
+  pub no_last_stray_at_fault : IsErrOf ended LinkFault → look.sealed ≡ false → Grows told told' (NeverEnds (given_of look accepts words) max_strays)
   pub link : IsErrOf ended LinkFault → Rose faults faults'
   pub recv_faults : faults ≤ faults'
   pub kept : is ≡ was

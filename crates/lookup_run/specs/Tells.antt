@@ -17,12 +17,15 @@ use Rattle.claim_book.specs.Journal.{may_ask}
 use Rattle.claim_book.specs.Legal.{is_of}
 use Rattle.lookup_core.specs.declared.quest.Quest.{Quest}
 use Rattle.lookup_core.specs.Matching.{OpenQuery, IsQuery, Matched, IsStray}
+use Rattle.lookup_core.specs.Sealed.{Accepts}
 use Rattle.lookup_core.specs.Timeouts.{deadline_of, closed_at, open_at}
 
--- what a lookup is given: its setting, what it asks and believes, and the generator's seed and next place
+-- what a lookup is given: its setting, what it asks and believes, which tags it accepts, and the generator's seed and next
+-- place
 pub record Given : Type 0 where
   pub setting : Setting
   pub quest : Quest
+  pub accepts : Accepts
   pub seed : List ℕ
   pub place : ℕ
 
@@ -140,12 +143,12 @@ after_quiet s at = received s at [] s.queries s.strays 0
 pub record MatchGives (g : Given) (s : Seen) (from : Addr) (bytes : List ℕ) (at : ℕ) (t : Seen) : Type 0 where
   pub entry : Entry
   pub left : List OpenQuery
-  pub matched : Matched g.quest s.queries from bytes entry left
+  pub matched : Matched g.quest g.accepts s.queries from bytes entry left
   pub after : t ≡ after_match s at entry left
 
 -- a datagram is matched, or is a stray
 abbrev pub GotGives : Given → Seen → Addr → List ℕ → ℕ → Seen → Type 0
-GotGives g s from bytes at t = MatchGives g s from bytes at t ⊎ (IsStray g.quest s.queries from bytes × (t ≡ after_stray s at))
+GotGives g s from bytes at t = MatchGives g s from bytes at t ⊎ (IsStray g.quest g.accepts s.queries from bytes × (t ≡ after_stray s at))
 
 -- what one event gives; a lookup asks for the moment before anything else, and never again
 abbrev pub Gives : Given → List Entry → Seen → Event → Seen → Type 0
@@ -177,16 +180,25 @@ pub record Tells (g : Given) (J : List Entry) (events : List Event) : Type 0 whe
   pub so_far : TellsSoFar g J events end
   pub none_open : end.queries ≡ []
 
--- the events end with the stray of this number
-pub record EndsAtStray (g : Given) (events : List Event) (number : ℕ) : Type 0 where
-  pub journal : List Entry
+-- the events tell the journal so far, and end with their stray of this number
+pub record EndsAtStray (g : Given) (J : List Entry) (events : List Event) (number : ℕ) : Type 0 where
   pub before : List Event
   pub end : Seen
   pub from : Addr
   pub bytes : List ℕ
   pub until : ℕ
   pub at : ℕ
-  pub so_far : TellsSoFar g journal before end
+  pub so_far : TellsSoFar g J before end
   pub last : events ≡ before ++ Got from bytes until at ∷ []
-  pub stray : IsStray g.quest end.queries from bytes
+  pub stray : IsStray g.quest g.accepts end.queries from bytes
   pub count : end.strays + 1 ≡ number
+
+-- they tell the journal so far, and have fewer strays
+pub record HasFewStrays (g : Given) (J : List Entry) (events : List Event) (number : ℕ) : Type 0 where
+  pub end : Seen
+  pub so_far : TellsSoFar g J events end
+  pub few : end.strays < number
+
+-- they don't end so, whichever journal they are read by
+abbrev pub NeverEnds : Given → ℕ → List Event → Type 0
+NeverEnds g number events = (J : List Entry) → ¬ EndsAtStray g J events number

@@ -22,6 +22,7 @@ use contact_table::{Table, TableCall, TableReply};
 use id_puzzles::Words;
 use kad_base::{Check, Contacts, Link, NoMemory, Serial};
 use lookup_core::Lookup;
+use seal_tags::SealCheck;
 use std::alloc::Global;
 use std::hash::RandomState;
 use std::sync::Wait;
@@ -122,12 +123,18 @@ fn begin<L: Link>(alloc: Global, link: &mut L, table: Table, book: Book) -> Look
 }
 
 /// One lookup: `settle` settles what the paths have after a round.
-fn look_by<O: Schedule, L: Link, S: Fn(LookupState) -> (LookupState, Result<(), LookFault>)>(
+fn look_by<
+    O: Schedule,
+    L: Link,
+    G: SealCheck,
+    S: Fn(LookupState) -> (LookupState, Result<(), LookFault>),
+>(
     alloc: Global,
     link: &mut L,
     words: &mut Words,
     table: Table,
     setting: &LookSetting,
+    seal: &G,
     hasher: RandomState,
     settle: S,
 ) -> (Table, Result<Outcome, LookFault>)
@@ -137,7 +144,7 @@ fn look_by<O: Schedule, L: Link, S: Fn(LookupState) -> (LookupState, Result<(), 
     requires callable { (before : LookupState) → MaySettle setting.now before → S.pre settle before }
     requires settles { (before : LookupState) (after : _) → MaySettle setting.now before
         → S.post settle before after → Settles O.scheduling setting.now before after.0 after.1 }
-    ensures { LooksUp O.scheduling setting.now table result.0 words.old words.new (L.told link.old)
+    ensures { LooksUp O.scheduling setting.now (G.accepted seal.now) table result.0 words.old words.new (L.told link.old)
         (L.told link.new) (L.recv_faults link.old) (L.recv_faults link.new) (L.kept link.old)
         (L.kept link.new) result.1 }
 {
@@ -147,7 +154,7 @@ fn look_by<O: Schedule, L: Link, S: Fn(LookupState) -> (LookupState, Result<(), 
         Err(_) => return (table, Err(LookFault::NoMemory)),
     };
     let work = begin(alloc, link, table, book);
-    let (work, ended) = go_rounds::<O, L, S>(alloc, link, work, words, setting, settle);
+    let (work, ended) = go_rounds::<O, L, G, S>(alloc, link, work, words, setting, seal, settle);
     work.lookup.book.legal();
     close(work, ended)
 }
@@ -155,29 +162,32 @@ fn look_by<O: Schedule, L: Link, S: Fn(LookupState) -> (LookupState, Result<(), 
 /// Looks the target up from the k closest contacts of the table, and tells the table who answered and who didn't: asks,
 /// receives and settles in rounds until every path has run out. What a path asks comes from its own seeds and answers
 /// (S/Kademlia, section 4.4). The table comes back on every answer. It waits for nobody but the link, and returns for every
-/// link. Strangers choose the contacts, so the hasher of the book's index is handed in; no answer depends on it.
-pub fn look_up_alone<L: Link, C: Check>(
+/// link. A sealed lookup believes no reply without a tag that the seal accepts of who says it; any other never asks the
+/// seal. Strangers choose the contacts, so the hasher of the book's index is handed in; no answer depends on it.
+pub fn look_up_alone<L: Link, C: Check, G: SealCheck>(
     alloc: Global,
     link: &mut L,
     words: &mut Words,
     table: Table,
     setting: &LookSetting,
     check: &C,
+    seal: &G,
     hasher: RandomState,
 ) -> (Table, Result<Outcome, LookFault>)
     requires limits { IsWithinLimits setting.now }
     requires usable { All (IsUsable setting.now.own) (contacts_of table) }
     requires place { words.old.place < 2 ^ 59 }
-    ensures { LooksUp sequential setting.now table result.0 words.old words.new (L.told link.old)
+    ensures { LooksUp sequential setting.now (G.accepted seal.now) table result.0 words.old words.new (L.told link.old)
         (L.told link.new) (L.recv_faults link.old) (L.recv_faults link.new) (L.kept link.old)
         (L.kept link.new) result.1 }
 {
-    look_by::<Sequential, _, _>(
+    look_by::<Sequential, _, _, _>(
         alloc,
         link,
         words,
         table,
         setting,
+        seal,
         hasher,
         |work|
             requires { MaySettle setting.now work }
@@ -191,8 +201,9 @@ pub fn look_up_alone<L: Link, C: Check>(
 /// (S/Kademlia, section 4.4). Where the check says that it takes long, the paths settle at once in a round, each on a
 /// thread of its own, where more than one has something to settle; the caller does the work of those that no thread can be
 /// made for. Else they settle one after another: a thread costs more than two hashes. The table comes back on every answer.
+/// A sealed lookup believes no reply without a tag that the seal accepts of who says it; any other never asks the seal.
 /// Strangers choose the contacts, so the hasher of the book's index is handed in; no answer depends on it.
-pub fn look_up<R: Threads + Wait + Sync, L: Link, C: Check + Sync>(
+pub fn look_up<R: Threads + Wait + Sync, L: Link, C: Check + Sync, G: SealCheck>(
     rt: &R,
     alloc: Global,
     link: &mut L,
@@ -200,21 +211,23 @@ pub fn look_up<R: Threads + Wait + Sync, L: Link, C: Check + Sync>(
     table: Table,
     setting: &LookSetting,
     check: &C,
+    seal: &G,
     hasher: RandomState,
 ) -> (Table, Result<Outcome, LookFault>)
     requires limits { IsWithinLimits setting.now }
     requires usable { All (IsUsable setting.now.own) (contacts_of table) }
     requires place { words.old.place < 2 ^ 59 }
-    ensures { LooksUp concurrent setting.now table result.0 words.old words.new (L.told link.old)
+    ensures { LooksUp concurrent setting.now (G.accepted seal.now) table result.0 words.old words.new (L.told link.old)
         (L.told link.new) (L.recv_faults link.old) (L.recv_faults link.new) (L.kept link.old)
         (L.kept link.new) result.1 }
 {
-    look_by::<Concurrent, _, _>(
+    look_by::<Concurrent, _, _, _>(
         alloc,
         link,
         words,
         table,
         setting,
+        seal,
         hasher,
         |work|
             requires { MaySettle setting.now work }

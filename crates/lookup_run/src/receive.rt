@@ -15,6 +15,7 @@ use kad_base::limits::{MAX_ROUND_RECEIVES, MAX_STRAYS};
 use kad_base::{Addr, Came, Link};
 use lookup_core::Taken;
 use query_book::Queries;
+use seal_tags::SealCheck;
 use std::alloc::Global;
 
 /// How long the next receive waits: to the earliest deadline where it begins a round, and else not at all.
@@ -61,22 +62,24 @@ fn take_stray(progress: &mut Progress) -> Result<(), LookFault>
 }
 
 /// Hands the datagram to the lookup, and keeps what it heard; what replies to no open query is a stray.
-fn take_datagram(
+fn take_datagram<G: SealCheck>(
     alloc: Global,
     work: &mut LookupState,
     look: &LookSetting,
+    seal: &G,
     from: Addr,
     bytes: &[u8],
 ) -> Result<(), LookFault>
     requires { Keeps look.now work.old }
-    ensures ok { OnOk result (TakesDatagram look.now from bytes.now work.old work.new) }
-    ensures strays { IsErrOf result LookFault.Strays → IsLastStray look.now from bytes.now
-        work.old }
+    ensures ok { OnOk result (TakesDatagram look.now (G.accepted seal.now) from bytes.now
+        work.old work.new) }
+    ensures strays { IsErrOf result LookFault.Strays → IsLastStray look.now (G.accepted seal.now)
+        from bytes.now work.old }
     ensures link { ¬ IsErrOf result LookFault.LinkFault }
     ensures holds { OnOk result (Holds work.new.lookup) }
     ensures table { work.new.table ≡ work.old.table }
 {
-    let taken = work.lookup.take(alloc, &look.quest(), from, bytes)?;
+    let taken = work.lookup.take(alloc, &look.quest(), seal, from, bytes)?;
     match taken {
         Taken::Stray => take_stray(&mut work.progress),
         Taken::Heard(answered) => {
@@ -89,26 +92,27 @@ fn take_datagram(
 
 /// Makes one receive call, and tells the book what it gave: the reply to an open query, and whose deadlines the told
 /// moment has passed.
-pub(crate) fn receive<L: Link>(
+pub(crate) fn receive<L: Link, G: SealCheck>(
     alloc: Global,
     link: &mut L,
     work: &mut LookupState,
     buf: &mut [u8],
     look: &LookSetting,
+    seal: &G,
 ) -> Result<(), LookFault>
     requires limits { IsWithinLimits look.now }
     requires may_receive { MayReceive look.now work.old }
     requires room { length buf.old ≡ max_datagram + 1 }
     requires moment { L.moment link.old ≡ work.old.progress.moment }
-    ensures ok { OnOk result (ReceivesOne look.now work.old work.new (L.told link.old)
+    ensures ok { OnOk result (ReceivesOne look.now (G.accepted seal.now) work.old work.new (L.told link.old)
         (L.told link.new)) }
     ensures moment { OnOk result (L.moment link.new ≡ work.new.progress.moment) }
     ensures stops { OnErr result ((words : WordsState)
-        → Stops look.now words words work.old work.new (L.told link.old) (L.told link.new)) }
+        → Stops look.now (G.accepted seal.now) words words work.old work.new (L.told link.old) (L.told link.new)) }
     ensures strays { IsErrOf result LookFault.Strays → (words : WordsState)
-        → EndsByStray look.now words work.old (L.told link.old) (L.told link.new) }
+        → EndsByStray look.now (G.accepted seal.now) words work.old (L.told link.old) (L.told link.new) }
     ensures few_strays { IsErrOf result LookFault.LinkFault → (words : WordsState)
-        → FewStrays look.now words work.old (L.told link.old) (L.told link.new) }
+        → FewStrays look.now (G.accepted seal.now) words work.old (L.told link.old) (L.told link.new) }
     ensures link { IsErrOf result LookFault.LinkFault
         → Rose (L.recv_faults link.old) (L.recv_faults link.new) }
     ensures recv_faults { L.recv_faults link.old ≤ L.recv_faults link.new }
@@ -118,7 +122,7 @@ pub(crate) fn receive<L: Link>(
     let until = wait_until(&work.progress, &work.lookup.queries);
     match link.recv(buf, until) {
         Ok(Came::Packet { from, len, at }) => {
-            take_datagram(alloc, work, look, from, &buf[..len])?;
+            take_datagram(alloc, work, look, seal, from, &buf[..len])?;
             expire(work, at);
             work.progress.moment = at;
             work.progress.receives = round_after(work.progress.receives, &work.lookup.queries);
@@ -135,35 +139,36 @@ pub(crate) fn receive<L: Link>(
 }
 
 /// Makes the receives of a round: one that waits to the earliest deadline, and up to 31 more that wait for nothing.
-pub(crate) fn receive_round<L: Link>(
+pub(crate) fn receive_round<L: Link, G: SealCheck>(
     alloc: Global,
     link: &mut L,
     work: &mut LookupState,
     buf: &mut [u8],
     look: &LookSetting,
+    seal: &G,
 ) -> Result<(), LookFault>
     requires limits { IsWithinLimits look.now }
     requires may_receive { MayReceive look.now work.old }
     requires begins { work.old.progress.receives ≡ 0 }
     requires room { length buf.old ≡ max_datagram + 1 }
     requires moment { L.moment link.old ≡ work.old.progress.moment }
-    ensures ok { OnOk result (ReceivesAll look.now work.old work.new (L.told link.old)
+    ensures ok { OnOk result (ReceivesAll look.now (G.accepted seal.now) work.old work.new (L.told link.old)
         (L.told link.new)) }
     ensures moment { OnOk result (L.moment link.new ≡ work.new.progress.moment) }
     ensures stops { OnErr result ((words : WordsState)
-        → Stops look.now words words work.old work.new (L.told link.old) (L.told link.new)) }
+        → Stops look.now (G.accepted seal.now) words words work.old work.new (L.told link.old) (L.told link.new)) }
     ensures strays { IsErrOf result LookFault.Strays → (words : WordsState)
-        → EndsByStray look.now words work.old (L.told link.old) (L.told link.new) }
+        → EndsByStray look.now (G.accepted seal.now) words work.old (L.told link.old) (L.told link.new) }
     ensures few_strays { IsErrOf result LookFault.LinkFault → (words : WordsState)
-        → FewStrays look.now words work.old (L.told link.old) (L.told link.new) }
+        → FewStrays look.now (G.accepted seal.now) words work.old (L.told link.old) (L.told link.new) }
     ensures link { IsErrOf result LookFault.LinkFault
         → Rose (L.recv_faults link.old) (L.recv_faults link.new) }
     ensures recv_faults { L.recv_faults link.old ≤ L.recv_faults link.new }
     ensures kept { L.kept link.new ≡ L.kept link.old }
 {
-    receive(alloc, link, work, buf, look)?;
+    receive(alloc, link, work, buf, look, seal)?;
     'receiving: while work.progress.receives != 0 {
-        receive(alloc, link, work, buf, look)?;
+        receive(alloc, link, work, buf, look, seal)?;
     }
     Ok(())
 }

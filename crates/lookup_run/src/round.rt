@@ -13,35 +13,39 @@ use crate::types::{LookFault, LookSetting, LookupState};
 use id_puzzles::Words;
 use kad_base::Link;
 use kad_base::limits::RECEIVE_ROOM;
+use seal_tags::SealCheck;
 use std::alloc::Global;
 
 /// Asks what may be asked, and receives; false where nothing was left to wait for.
-fn ask_and_receive<L: Link>(
+fn ask_and_receive<L: Link, G: SealCheck>(
     alloc: Global,
     link: &mut L,
     work: &mut LookupState,
     words: &mut Words,
     buf: &mut [u8],
     look: &LookSetting,
+    seal: &G,
 ) -> Result<bool, LookFault>
     requires limits { IsWithinLimits look.now }
     requires begins { Begins look.now words.old work.old }
     requires room { length buf.old ≡ max_datagram + 1 }
     requires moment { L.moment link.old ≡ work.old.progress.moment }
     ensures more { IfOk result (λ more. more ≡ true
-        → HasReceived look.now words.old words.new work.old work.new (L.told link.old)
+        → HasReceived look.now (G.accepted seal.now) words.old words.new work.old work.new (L.told link.old)
         (L.told link.new)) }
     ensures over { (scheduling : Scheduling) → IfOk result
-        (λ more. more ≡ false → IsOver scheduling look.now words.old words.new work.old work.new
-        (L.told link.old) (L.told link.new)) }
+        (λ more. more ≡ false → IsOver scheduling look.now (G.accepted seal.now) words.old words.new
+        work.old work.new (L.told link.old) (L.told link.new)) }
     ensures moment { OnOk result (L.moment link.new ≡ work.new.progress.moment) }
     ensures stops { (scheduling : Scheduling) → OnErr result
-        (StopsRound scheduling look.now words.old words.new work.old work.new (L.told link.old)
-        (L.told link.new)) }
+        (StopsRound scheduling look.now (G.accepted seal.now) words.old words.new work.old work.new
+        (L.told link.old) (L.told link.new)) }
     ensures strays { (scheduling : Scheduling) → IsErrOf result LookFault.Strays
-        → RoundEndsByStray scheduling look.now words.old work.old (L.told link.old) (L.told link.new) }
+        → RoundEndsByStray scheduling look.now (G.accepted seal.now) words.old work.old
+        (L.told link.old) (L.told link.new) }
     ensures few_strays { (scheduling : Scheduling) → IsErrOf result LookFault.LinkFault
-        → RoundFewStrays scheduling look.now words.old work.old (L.told link.old) (L.told link.new) }
+        → RoundFewStrays scheduling look.now (G.accepted seal.now) words.old work.old
+        (L.told link.old) (L.told link.new) }
     ensures link { IsErrOf result LookFault.LinkFault
         → Rose (L.recv_faults link.old) (L.recv_faults link.new) }
     ensures recv_faults { L.recv_faults link.old ≤ L.recv_faults link.new }
@@ -51,7 +55,7 @@ fn ask_and_receive<L: Link>(
     if work.lookup.queries.is_empty() {
         return Ok(false);
     }
-    match receive_round(alloc, link, work, buf, look) {
+    match receive_round(alloc, link, work, buf, look, seal) {
         Ok(()) => Ok(true),
         Err(fault) => Err(fault),
     }
@@ -61,6 +65,7 @@ fn ask_and_receive<L: Link>(
 pub(crate) fn go_rounds<
     O: Schedule,
     L: Link,
+    G: SealCheck,
     S: Fn(LookupState) -> (LookupState, Result<(), LookFault>),
 >(
     alloc: Global,
@@ -68,6 +73,7 @@ pub(crate) fn go_rounds<
     work: LookupState,
     words: &mut Words,
     look: &LookSetting,
+    seal: &G,
     settle: S,
 ) -> (LookupState, Result<(), LookFault>)
     requires limits { IsWithinLimits look.now }
@@ -76,14 +82,14 @@ pub(crate) fn go_rounds<
     requires callable { (before : LookupState) → MaySettle look.now before → S.pre settle before }
     requires settles { (before : LookupState) (after : _) → MaySettle look.now before
         → S.post settle before after → Settles O.scheduling look.now before after.0 after.1 }
-    ensures over { OnOk result.1 (IsOver O.scheduling look.now words.old words.new work result.0
+    ensures over { OnOk result.1 (IsOver O.scheduling look.now (G.accepted seal.now) words.old words.new work result.0
         (L.told link.old) (L.told link.new)) }
-    ensures stops { OnErr result.1 (StopsRound O.scheduling look.now words.old words.new work result.0
+    ensures stops { OnErr result.1 (StopsRound O.scheduling look.now (G.accepted seal.now) words.old words.new work result.0
         (L.told link.old) (L.told link.new)) }
     ensures strays { IsErrOf result.1 LookFault.Strays
-        → RoundEndsByStray O.scheduling look.now words.old work (L.told link.old) (L.told link.new) }
+        → RoundEndsByStray O.scheduling look.now (G.accepted seal.now) words.old work (L.told link.old) (L.told link.new) }
     ensures few_strays { IsErrOf result.1 LookFault.LinkFault
-        → RoundFewStrays O.scheduling look.now words.old work (L.told link.old) (L.told link.new) }
+        → RoundFewStrays O.scheduling look.now (G.accepted seal.now) words.old work (L.told link.old) (L.told link.new) }
     ensures link { IsErrOf result.1 LookFault.LinkFault
         → Rose (L.recv_faults link.old) (L.recv_faults link.new) }
     ensures recv_faults { L.recv_faults link.old ≤ L.recv_faults link.new }
@@ -92,7 +98,7 @@ pub(crate) fn go_rounds<
     let mut work = work;
     let mut buf = [0u8; RECEIVE_ROOM];
     'rounds: loop {
-        match ask_and_receive(alloc, link, &mut work, words, &mut buf, look) {
+        match ask_and_receive(alloc, link, &mut work, words, &mut buf, look, seal) {
             Ok(true) => {}
             Ok(false) => return (work, Ok(())),
             Err(fault) => return (work, Err(fault)),

@@ -10,7 +10,8 @@ use thiserror::Error;
 
 /// What a lookup is given. `own` is the node that asks; each of `paths` disjoint paths (S/Kademlia, section 4.4) has at
 /// most `alpha` queries open and ends when its `k` closest contacts have answered (Kademlia, section 2.3). `policy`
-/// says which reports may be believed, and `timeout` how long to wait for an answer, in milliseconds.
+/// says which reports may be believed, `timeout` how long to wait for an answer, in milliseconds, and `sealed` whether a
+/// reply has to carry a tag that the seal accepts.
 #[derive(Clone, Copy, Debug, PartialEq, Eq)]
 pub struct LookSetting {
     pub own: Id,
@@ -21,6 +22,7 @@ pub struct LookSetting {
     pub policy: Policy,
     pub timeout: u32,
     pub kind: AskKind,
+    pub sealed: bool,
 }
 
 impl LookSetting {
@@ -48,6 +50,7 @@ impl LookSetting {
             policy: self.policy,
             kind: self.kind,
             timeout: self.timeout,
+            sealed: self.sealed,
         }
     }
 }

@@ -7,6 +7,7 @@ ghost use Rattle.lookup_run.specs.Lookup.{IsWithinLimits};
 
 mod hostile;
 mod script;
+mod sealed;
 mod together;
 
 use bucket_tree::Gone;
@@ -16,6 +17,7 @@ use id_puzzles::{Sha1Check, Words};
 use kad_base::{Id, Policy, Serial, is_usable};
 use lookup_run::{AskKind, LookSetting, Outcome, look_up_alone};
 use script::peers_link;
+use seal_tags::GroupSeal;
 use std::alloc::Global;
 use std::hash::RandomState;
 use std::test::Fail;
@@ -39,6 +41,7 @@ fn setting(own: Id, paths: u8, kind: AskKind) -> LookSetting
         policy: Policy::Plain,
         timeout: 2000,
         kind,
+        sealed: false,
     }
 }
 
@@ -74,7 +77,10 @@ fn play(
     let table = table_of(alloc, own, contacts)?;
     let look = setting(own, paths, kind);
     let mut words = Words::new(&[0; 32], 5);
-    let (table, result) = look_up_alone(alloc, link, &mut words, table, &look, &Sha1Check, hasher);
+    let seal = GroupSeal::new([0; 32]);
+    let (table, result) = look_up_alone(
+        alloc, link, &mut words, table, &look, &Sha1Check, &seal, hasher,
+    );
     match result {
         Ok(outcome) => Ok((table, outcome)),
         Err(_) => Err(Fail::new("it ended early")),

@@ -16,6 +16,7 @@ use kad_base::limits::{DEFAULT_TIMEOUT, MAX_ALPHA, MAX_K, MAX_PATHS};
 use kad_base::{Contact, Id, NoMemory, Policy, Serial, is_usable};
 use kad_distance::k_least;
 use lookup_run::{AskKind, LookSetting, Outcome, look_up_alone};
+use seal_tags::GroupSeal;
 use std::alloc::{AllocError, Global};
 use std::fmt;
 use std::hash::RandomState;
@@ -139,6 +140,7 @@ fn look_setting(setting: &StudySetting, own: Id, target: Id) -> Option<LookSetti
         policy: Policy::Plain,
         timeout: DEFAULT_TIMEOUT,
         kind: AskKind::FindNode,
+        sealed: false,
     })
 }
 
@@ -193,8 +195,9 @@ fn look_once(
     let mut link = StudyLink::new(alloc, network, setting.attack, look.target, look.k)?;
     let table = table_of(alloc, look.own, look.k, seeds)?;
     let mut words = Words::new(&setting.seed, 5);
+    let seal = GroupSeal::new([0; 32]);
     let (_table, result) = look_up_alone(
-        alloc, &mut link, &mut words, table, look, &Sha1Check, hasher,
+        alloc, &mut link, &mut words, table, look, &Sha1Check, &seal, hasher,
     );
     match result {
         Ok(outcome) => {

@@ -22,6 +22,7 @@ use Rattle.lookup_run.specs.Gathered.{Hears, values_of, token_of}
 use Rattle.lookup_run.specs.Lookup.{setting_of, given_of, seeds_in, drawn_for, table_calls, TableToldBy}
 use Rattle.lookup_core.specs.LookupSteps.{as_open}
 use Rattle.lookup_core.specs.Quest.{wants_peers}
+use Rattle.lookup_core.specs.Sealed.{Accepts}
 
 -- ---- the driver's own state
 
@@ -65,7 +66,7 @@ pub record Step (scheduling : Scheduling) (g : Given) (J P : List Entry) (s : Se
   pub given : mid.given ≡ s.given ++ gave
   pub settles : SettlesIn scheduling s.receives between
   pub in_turn : InTurn g.setting (P ++ between) s e gave
-  pub hears : Hears g.quest s e found
+  pub hears : Hears g.quest g.accepts s e found
 
 -- the events, one after another, from the part P of the journal J to its part Q
 abbrev pub Walk : Scheduling → Given → List Entry → List Entry → Seen → List Event → Seen → List Entry → List Answered → Type 0
@@ -106,17 +107,17 @@ pub record Shows (scheduling : Scheduling) (g : Given) (work : LookupState) (pla
   pub keeping : Keeping (wants_peers g.quest.kind) heard work.gathered
 
 -- since the lookup began, with these words and this table
-pub record TraceInvariant (scheduling : Scheduling) (look : LookSetting) (start : WordsState) (table : TableState) (began : Option (List Event)) (words : WordsState) (work : LookupState) (b a : ℕ) (told : Option (List Event)) : Type 0 where
+pub record TraceInvariant (scheduling : Scheduling) (look : LookSetting) (accepts : Accepts) (start : WordsState) (table : TableState) (began : Option (List Event)) (words : WordsState) (work : LookupState) (b a : ℕ) (told : Option (List Event)) : Type 0 where
   pub drawn : words ≡ drawn_for start work.lookup.book.journal
   pub seeds_are : seeds work.lookup.book.journal ≡ seeds_in look table
   pub tabled : TableToldBy scheduling (table_calls look work.lookup.book.journal) table work.table
-  pub shows : Grows began told (λ events. Shows scheduling (given_of look start) work words.place b a events)
+  pub shows : Grows began told (λ events. Shows scheduling (given_of look accepts start) work words.place b a events)
 
 -- whatever holds since a lookup began goes on to hold, where its rounds settle in this scheduling
-abbrev pub PreservesBy : Scheduling → LookSetting → WordsState → WordsState → LookupState → LookupState → ℕ → ℕ → ℕ → ℕ → Option (List Event) → Option (List Event) → Type 0
-PreservesBy scheduling look words words' old new b a b' a' told told' =
-    (start : WordsState) (table : TableState) (began : Option (List Event)) → TraceInvariant scheduling look start table began words old b a told → TraceInvariant scheduling look start table began words' new b' a' told'
+abbrev pub PreservesBy : Scheduling → LookSetting → Accepts → WordsState → WordsState → LookupState → LookupState → ℕ → ℕ → ℕ → ℕ → Option (List Event) → Option (List Event) → Type 0
+PreservesBy scheduling look accepts words words' old new b a b' a' told told' =
+    (start : WordsState) (table : TableState) (began : Option (List Event)) → TraceInvariant scheduling look accepts start table began words old b a told → TraceInvariant scheduling look accepts start table began words' new b' a' told'
 
 -- in whatever scheduling
-abbrev pub Preserves : LookSetting → WordsState → WordsState → LookupState → LookupState → ℕ → ℕ → ℕ → ℕ → Option (List Event) → Option (List Event) → Type 0
-Preserves look words words' old new b a b' a' told told' = (scheduling : Scheduling) → PreservesBy scheduling look words words' old new b a b' a' told told'
+abbrev pub Preserves : LookSetting → Accepts → WordsState → WordsState → LookupState → LookupState → ℕ → ℕ → ℕ → ℕ → Option (List Event) → Option (List Event) → Type 0
+Preserves look accepts words words' old new b a b' a' told told' = (scheduling : Scheduling) → PreservesBy scheduling look accepts words words' old new b a b' a' told told'

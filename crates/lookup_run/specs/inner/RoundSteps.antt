@@ -23,14 +23,15 @@ use Rattle.lookup_run.specs.declared.types.Outcome.{Outcome}
 use Rattle.lookup_run.specs.declared.types.Progress.{Progress}
 use Rattle.lookup_run.specs.declared.types.LookupState.{LookupState}
 use Rattle.lookup_core.specs.Timeouts.{closed_at}
-use Rattle.lookup_run.specs.Tells.{EndsAtStray}
+use Rattle.lookup_run.specs.Tells.{NeverEnds}
 use Rattle.lookup_run.specs.Rounds.{Scheduling, AllSettled, NoneAsks, WaitsInTurn}
 use Rattle.lookup_core.specs.declared.on_reply.Answered.{Answered}
 use Rattle.lookup_run.specs.Gathered.{values_of, token_of, IsEachOnce}
-use Rattle.lookup_run.specs.Lookup.{IsWithinLimits, setting_of, given_of, seeds_in, told_of, Unfinished, TableRan, TableTold, Told, quest_of}
+use Rattle.lookup_run.specs.Lookup.{IsWithinLimits, setting_of, given_of, seeds_in, told_of, Unfinished, EndsByStrays, MeetsFewStrays, TableRan, TableTold, Told, quest_of}
 use Rattle.lookup_core.specs.LookupSteps.{as_open, LosesOverdue, IsMatch, RepliesToNone}
 use Rattle.lookup_run.specs.inner.DriverInvariant.{Keeps, HasWords, weight_of, TraceInvariant, PreservesBy, Preserves}
 use Rattle.lookup_core.specs.Quest.{wants_peers}
+use Rattle.lookup_core.specs.Sealed.{Accepts}
 
 -- ---- asking
 
@@ -42,7 +43,7 @@ pub record Asks (look : LookSetting) (from to : ℕ) (words words' : WordsState)
   pub none_below : NoneAsks (setting_of look) to new.lookup.book.journal
   pub progress : new.progress ≡ old.progress
   pub lighter : weight_of new ≤ weight_of old
-  pub goes : (b : ℕ) → Preserves look words words' old new b from b to told told'
+  pub goes : (b : ℕ) (accepts : Accepts) → Preserves look accepts words words' old new b from b to told told'
 
 -- the path may ask nothing, and nothing changed
 pub record AsksNone (look : LookSetting) (path : ℕ) (words words' : WordsState) (old new : LookupState) (told told' : Option (List Event)) : Type 0 where
@@ -73,39 +74,44 @@ pub record Expires (at : ℕ) (old new : LookupState) : Type 0 where
 -- ---- ending early
 
 -- what holds where a lookup ended early
-pub record Ended (look : LookSetting) (start : WordsState) (table : TableState) (began : Option (List Event)) (words' : WordsState) (table' : TableState) (told' : Option (List Event)) : Type 0 where
-  pub unfinished : Unfinished look table start words' began told'
+pub record Ended (look : LookSetting) (accepts : Accepts) (start : WordsState) (table : TableState) (began : Option (List Event)) (words' : WordsState) (table' : TableState) (told' : Option (List Event)) : Type 0 where
+  pub unfinished : Unfinished look accepts table start words' began told'
   pub ran : TableRan table table'
 
 -- a lookup that ends early in this step
-abbrev pub Stops : LookSetting → WordsState → WordsState → LookupState → LookupState → Option (List Event) → Option (List Event) → Type 0
-Stops look words words' old new told told' =
-    (scheduling : Scheduling) (start : WordsState) (table : TableState) (began : Option (List Event)) (b a : ℕ) → TraceInvariant scheduling look start table began words old b a told → Ended look start table began words' new.table told'
+abbrev pub Stops : LookSetting → Accepts → WordsState → WordsState → LookupState → LookupState → Option (List Event) → Option (List Event) → Type 0
+Stops look accepts words words' old new told told' =
+    (scheduling : Scheduling) (start : WordsState) (table : TableState) (began : Option (List Event)) (b a : ℕ) → TraceInvariant scheduling look accepts start table began words old b a told → Ended look accepts start table began words' new.table told'
 
 -- the same from where a round begins
-abbrev pub StopsRound : Scheduling → LookSetting → WordsState → WordsState → LookupState → LookupState → Option (List Event) → Option (List Event) → Type 0
-StopsRound scheduling look words words' old new told told' =
-    (start : WordsState) (table : TableState) (began : Option (List Event)) → TraceInvariant scheduling look start table began words old look.paths 0 told → Ended look start table began words' new.table told'
+abbrev pub StopsRound : Scheduling → LookSetting → Accepts → WordsState → WordsState → LookupState → LookupState → Option (List Event) → Option (List Event) → Type 0
+StopsRound scheduling look accepts words words' old new told told' =
+    (start : WordsState) (table : TableState) (began : Option (List Event)) → TraceInvariant scheduling look accepts start table began words old look.paths 0 told → Ended look accepts start table began words' new.table told'
+
+-- a lookup that has met fewer strays than it takes
+pub record FewMet (look : LookSetting) (accepts : Accepts) (start : WordsState) (table : TableState) (began told' : Option (List Event)) : Type 0 where
+  pub meets : MeetsFewStrays look accepts table start began told'
+  pub never : look.sealed ≡ false → Grows began told' (NeverEnds (given_of look accepts start) max_strays)
 
 -- the events of a lookup that ends in this round end with the last stray that it takes
-abbrev pub RoundEndsByStray : Scheduling → LookSetting → WordsState → LookupState → Option (List Event) → Option (List Event) → Type 0
-RoundEndsByStray scheduling look words old told told' =
-    (start : WordsState) (table : TableState) (began : Option (List Event)) → TraceInvariant scheduling look start table began words old look.paths 0 told → Grows began told' (λ events. EndsAtStray (given_of look start) events max_strays)
+abbrev pub RoundEndsByStray : Scheduling → LookSetting → Accepts → WordsState → LookupState → Option (List Event) → Option (List Event) → Type 0
+RoundEndsByStray scheduling look accepts words old told told' =
+    (start : WordsState) (table : TableState) (began : Option (List Event)) → TraceInvariant scheduling look accepts start table began words old look.paths 0 told → EndsByStrays look accepts table start began told'
 
 -- the events of a lookup that ends in this step end with the last stray that it takes
-abbrev pub EndsByStray : LookSetting → WordsState → LookupState → Option (List Event) → Option (List Event) → Type 0
-EndsByStray look words old told told' =
-    (scheduling : Scheduling) (start : WordsState) (table : TableState) (began : Option (List Event)) (b a : ℕ) → TraceInvariant scheduling look start table began words old b a told → Grows began told' (λ events. EndsAtStray (given_of look start) events max_strays)
+abbrev pub EndsByStray : LookSetting → Accepts → WordsState → LookupState → Option (List Event) → Option (List Event) → Type 0
+EndsByStray look accepts words old told told' =
+    (scheduling : Scheduling) (start : WordsState) (table : TableState) (began : Option (List Event)) (b a : ℕ) → TraceInvariant scheduling look accepts start table began words old b a told → EndsByStrays look accepts table start began told'
 
--- the events of a lookup that ends in this step don't end so
-abbrev pub FewStrays : LookSetting → WordsState → LookupState → Option (List Event) → Option (List Event) → Type 0
-FewStrays look words old told told' =
-    (scheduling : Scheduling) (start : WordsState) (table : TableState) (began : Option (List Event)) (b a : ℕ) → TraceInvariant scheduling look start table began words old b a told → Grows began told' (λ events. ¬ EndsAtStray (given_of look start) events max_strays)
+-- a lookup that ends in this step has met fewer
+abbrev pub FewStrays : LookSetting → Accepts → WordsState → LookupState → Option (List Event) → Option (List Event) → Type 0
+FewStrays look accepts words old told told' =
+    (scheduling : Scheduling) (start : WordsState) (table : TableState) (began : Option (List Event)) (b a : ℕ) → TraceInvariant scheduling look accepts start table began words old b a told → FewMet look accepts start table began told'
 
 -- the same of a lookup that ends in this round
-abbrev pub RoundFewStrays : Scheduling → LookSetting → WordsState → LookupState → Option (List Event) → Option (List Event) → Type 0
-RoundFewStrays scheduling look words old told told' =
-    (start : WordsState) (table : TableState) (began : Option (List Event)) → TraceInvariant scheduling look start table began words old look.paths 0 told → Grows began told' (λ events. ¬ EndsAtStray (given_of look start) events max_strays)
+abbrev pub RoundFewStrays : Scheduling → LookSetting → Accepts → WordsState → LookupState → Option (List Event) → Option (List Event) → Type 0
+RoundFewStrays scheduling look accepts words old told told' =
+    (start : WordsState) (table : TableState) (began : Option (List Event)) → TraceInvariant scheduling look accepts start table began words old look.paths 0 told → FewMet look accepts start table began told'
 
 -- ---- receiving
 
@@ -130,29 +136,29 @@ pub record TakesStray (old new : Progress) : Type 0 where
   pub few : new.strays < max_strays
 
 -- the datagram is a stray: it replies to no open query, and only the count of strays changes
-pub record IsStrayFor (look : LookSetting) (from : Addr) (bytes : List ℕ) (old new : LookupState) : Type 0 where
-  pub none : RepliesToNone (quest_of look) from bytes old.lookup
+pub record IsStrayFor (look : LookSetting) (accepts : Accepts) (from : Addr) (bytes : List ℕ) (old new : LookupState) : Type 0 where
+  pub none : RepliesToNone (quest_of look) accepts from bytes old.lookup
   pub takes : TakesStray old.progress new.progress
   pub lookup : new.lookup ≡ old.lookup
   pub table : new.table ≡ old.table
   pub gathered : new.gathered ≡ old.gathered
 
 -- the last stray that a lookup takes
-pub record IsLastStray (look : LookSetting) (from : Addr) (bytes : List ℕ) (work : LookupState) : Type 0 where
-  pub none : RepliesToNone (quest_of look) from bytes work.lookup
+pub record IsLastStray (look : LookSetting) (accepts : Accepts) (from : Addr) (bytes : List ℕ) (work : LookupState) : Type 0 where
+  pub none : RepliesToNone (quest_of look) accepts from bytes work.lookup
   pub last : work.progress.strays + 1 ≡ max_strays
 
 -- the lookup matches it, and what the answer gave beside contacts is kept
-pub record IsMatchFor (look : LookSetting) (from : Addr) (bytes : List ℕ) (old new : LookupState) : Type 0 where
+pub record IsMatchFor (look : LookSetting) (accepts : Accepts) (from : Addr) (bytes : List ℕ) (old new : LookupState) : Type 0 where
   pub heard : List Answered
-  pub matches : IsMatch (quest_of look) from bytes old.lookup new.lookup heard
+  pub matches : IsMatch (quest_of look) accepts from bytes old.lookup new.lookup heard
   pub keeps_for : KeepsFor (wants_peers look.kind) heard old.gathered new.gathered
   pub table : new.table ≡ old.table
   pub progress : new.progress ≡ old.progress
 
 -- a datagram is matched to the open query that it replies to (BEP 5), or is a stray
-abbrev pub TakesDatagram : LookSetting → Addr → List ℕ → LookupState → LookupState → Type 0
-TakesDatagram look from bytes old new = IsMatchFor look from bytes old new ⊎ IsStrayFor look from bytes old new
+abbrev pub TakesDatagram : LookSetting → Accepts → Addr → List ℕ → LookupState → LookupState → Type 0
+TakesDatagram look accepts from bytes old new = IsMatchFor look accepts from bytes old new ⊎ IsStrayFor look accepts from bytes old new
 
 -- before a receive some query is open, and where it begins a round nothing is unsettled and no path may ask
 pub record MayReceive (look : LookSetting) (work : LookupState) : Type 0 where
@@ -161,22 +167,22 @@ pub record MayReceive (look : LookSetting) (work : LookupState) : Type 0 where
   pub in_turn : WaitsInTurn (setting_of look) work.lookup.book.journal work.progress.receives
 
 -- a receive gave a datagram, or the moment that was waited for
-pub record ReceivesOne (look : LookSetting) (old new : LookupState) (told told' : Option (List Event)) : Type 0 where
+pub record ReceivesOne (look : LookSetting) (accepts : Accepts) (old new : LookupState) (told told' : Option (List Event)) : Type 0 where
   pub keeps : Keeps look new
   pub some_open : new.progress.receives ≢ 0 → new.lookup.queries ≢ []
   pub round : (new.progress.receives ≡ 0) ⊎ (new.progress.receives ≡ old.progress.receives + 1)
   pub same_asks : length (asked new.lookup.book.journal) ≡ length (asked old.lookup.book.journal)
   pub first_lighter : old.progress.receives ≡ 0 → weight_of new < weight_of old
   pub lighter : weight_of new ≤ weight_of old
-  pub goes : (words : WordsState) (b a : ℕ) → Preserves look words words old new b a 0 0 told told'
+  pub goes : (words : WordsState) (b a : ℕ) → Preserves look accepts words words old new b a 0 0 told told'
 
 -- the receives of a whole round
-pub record ReceivesAll (look : LookSetting) (old new : LookupState) (told told' : Option (List Event)) : Type 0 where
+pub record ReceivesAll (look : LookSetting) (accepts : Accepts) (old new : LookupState) (told told' : Option (List Event)) : Type 0 where
   pub keeps : Keeps look new
   pub round_over : new.progress.receives ≡ 0
   pub same_asks : length (asked new.lookup.book.journal) ≡ length (asked old.lookup.book.journal)
   pub lighter : weight_of new < weight_of old
-  pub goes : (words : WordsState) (b a : ℕ) → Preserves look words words old new b a 0 0 told told'
+  pub goes : (words : WordsState) (b a : ℕ) → Preserves look accepts words words old new b a 0 0 told told'
 
 -- ---- settling
 
@@ -194,12 +200,12 @@ pub record SettlesPaths (scheduling : Scheduling) (look : LookSetting) (from to 
   pub same_asks : length (asked new.lookup.book.journal) ≡ length (asked old.lookup.book.journal)
   pub queries : new.lookup.queries ≡ old.lookup.queries
   pub ran : TableRan old.table new.table
-  pub goes : (words : WordsState) (a : ℕ) → PreservesBy scheduling look words words old new from a to a told told
+  pub goes : (words : WordsState) (a : ℕ) (accepts : Accepts) → PreservesBy scheduling look accepts words words old new from a to a told told
 
 -- all paths were settled, or memory ran out
 pub record Settles (scheduling : Scheduling) (look : LookSetting) (old new : LookupState) (settled : Result (Unit {0}) LookFault) : Type 0 where
   pub ok : (told : Option (List Event)) → OnOk settled (SettlesPaths scheduling look 0 look.paths old new told)
-  pub stops : (told : Option (List Event)) → OnErr settled ((words : WordsState) → Stops look words words old new told told)
+  pub stops : (told : Option (List Event)) → OnErr settled ((accepts : Accepts) (words : WordsState) → Stops look accepts words words old new told told)
   pub fault : IfErr settled (λ fault. fault ≡ NoMemory)
 
 -- ---- rounds
@@ -212,26 +218,26 @@ pub record Begins (look : LookSetting) (words : WordsState) (work : LookupState)
   pub settled : AllSettled look.paths work.lookup.book.journal
 
 -- contacts were asked, and the receives of the round are over
-pub record HasReceived (look : LookSetting) (words words' : WordsState) (old new : LookupState) (told told' : Option (List Event)) : Type 0 where
+pub record HasReceived (look : LookSetting) (accepts : Accepts) (words words' : WordsState) (old new : LookupState) (told told' : Option (List Event)) : Type 0 where
   pub keeps : Keeps look new
   pub has_words : HasWords words' new.lookup.book.journal
   pub round_over : new.progress.receives ≡ 0
   pub lighter : weight_of new < weight_of old
-  pub goes : Preserves look words words' old new look.paths 0 0 0 told told'
+  pub goes : Preserves look accepts words words' old new look.paths 0 0 0 told told'
 
 -- one round more, and the next begins
-pub record RoundAlong (scheduling : Scheduling) (look : LookSetting) (words words' : WordsState) (old new : LookupState) (told told' : Option (List Event)) : Type 0 where
+pub record RoundAlong (scheduling : Scheduling) (look : LookSetting) (accepts : Accepts) (words words' : WordsState) (old new : LookupState) (told told' : Option (List Event)) : Type 0 where
   pub begins : Begins look words' new
   pub lighter : weight_of new < weight_of old
-  pub goes : PreservesBy scheduling look words words' old new look.paths 0 look.paths 0 told told'
+  pub goes : PreservesBy scheduling look accepts words words' old new look.paths 0 look.paths 0 told told'
 
 -- no query is open, nothing is unsettled, and no path may ask
-pub record IsOver (scheduling : Scheduling) (look : LookSetting) (words words' : WordsState) (old new : LookupState) (told told' : Option (List Event)) : Type 0 where
+pub record IsOver (scheduling : Scheduling) (look : LookSetting) (accepts : Accepts) (words words' : WordsState) (old new : LookupState) (told told' : Option (List Event)) : Type 0 where
   pub keeps : Keeps look new
   pub none_open : new.lookup.queries ≡ []
   pub settled : AllSettled look.paths new.lookup.book.journal
   pub none_asks : NoneAsks (setting_of look) look.paths new.lookup.book.journal
-  pub goes : PreservesBy scheduling look words words' old new look.paths 0 look.paths look.paths told told'
+  pub goes : PreservesBy scheduling look accepts words words' old new look.paths 0 look.paths look.paths told told'
 
 -- what the book that has run out found
 pub record IsDone (book : BookState) (outcome : Outcome) : Type 0 where

@@ -6,6 +6,7 @@ use fake_net::ScriptLink;
 use id_puzzles::{Sha1Check, Words};
 use kad_base::{Contact, Id};
 use lookup_run::{AskKind, LookFault, Outcome, look_up_alone};
+use seal_tags::GroupSeal;
 use std::alloc::Global;
 use std::hash::RandomState;
 use std::test::Fail;
@@ -56,7 +57,10 @@ fn play_out(
     let table = table_of(alloc, own, contacts)?;
     let look = setting(own, paths, AskKind::FindNode);
     let mut words = Words::new(&[0; 32], 5);
-    let (_table, ended) = look_up_alone(alloc, link, &mut words, table, &look, &Sha1Check, hasher);
+    let seal = GroupSeal::new([0; 32]);
+    let (_table, ended) = look_up_alone(
+        alloc, link, &mut words, table, &look, &Sha1Check, &seal, hasher,
+    );
     Ok(ended)
 }
 

@@ -8,6 +8,7 @@ use fake_net::ScriptLink;
 use id_puzzles::{Sha1Check, Words};
 use kad_base::{Check, NoMemory, Serial};
 use lookup_run::{AskKind, LookFault, Outcome, look_up, look_up_alone};
+use seal_tags::GroupSeal;
 use std::alloc::Global;
 use std::hash::RandomState;
 use std::random::RandomSource;
@@ -32,7 +33,11 @@ fn play<R: Threads + Wait + Sync, C: Check + Sync>(
     let table = table_of(alloc, OWN, contacts)?;
     let look = setting(OWN, paths, AskKind::FindNode);
     let mut words = Words::new(&[0; 32], 5);
-    Ok(look_up(rt, alloc, link, &mut words, table, &look, check, hasher))
+    let seal = GroupSeal::new([0; 32]);
+    let (table, ended) = look_up(
+        rt, alloc, link, &mut words, table, &look, check, &seal, hasher,
+    );
+    Ok((table, ended))
 }
 
 /// Contacts 1 and 2 answer at moment 10, and name these.
@@ -135,6 +140,7 @@ fn one_of_two_paths_takes_it_alone(rt: HostRuntime) -> Result<(), Fail> {
     let table = table_of(rt.alloc(), OWN, &[1, 2])?;
     let look = setting(OWN, 2, AskKind::FindNode);
     let mut words = Words::new(&[0; 32], 5);
+    let seal = GroupSeal::new([0; 32]);
     let (_table, result) = look_up_alone(
         rt.alloc(),
         &mut link,
@@ -142,6 +148,7 @@ fn one_of_two_paths_takes_it_alone(rt: HostRuntime) -> Result<(), Fail> {
         table,
         &look,
         &Sha1Check,
+        &seal,
         hasher,
     );
     let (outcome, asked) = found(result)?;

@@ -7,7 +7,7 @@ use Rattle.lookup_run.proofs.receive.receive_round.Goals as goal
 
 pub receiving-preserved : goal.receiving-preserved
 receiving-preserved g c = record {
-  so_far = next_receive c.args.look.now c.args.work.now c.receiving.work c.receive-in-receiving.new.work _ _ _ c.receiving.invariant.so_far c.in_ok-receive-2.ensures.ok;
+  so_far = next_receive c.args.look.now (g.G.SealCheck.accepted c.args.seal.now) c.args.work.now c.receiving.work c.receive-in-receiving.new.work _ _ _ c.receiving.invariant.so_far c.in_ok-receive-2.ensures.ok;
   room = search rules;
   moment = search rules;
   faults = search rules;
@@ -16,19 +16,19 @@ receiving-preserved g c = record {
 
 pub returns-in_err-receive-2-clause-stops : goal.returns-in_err-receive-2-clause-stops
 returns-in_err-receive-2-clause-stops g c =
-    on_err_of c.from_residual-in_err-receive-2.result (stops_after c.args.look.now c.args.work.now c.receiving.work c.receive-in-receiving.new.work _ _ _ c.receiving.invariant.so_far c.in_err-receive-2.ensures.stops)
+    on_err_of c.from_residual-in_err-receive-2.result (stops_after c.args.look.now (g.G.SealCheck.accepted c.args.seal.now) c.args.work.now c.receiving.work c.receive-in-receiving.new.work _ _ _ c.receiving.invariant.so_far c.in_err-receive-2.ensures.stops)
 
 pub returns-in_err-receive-2-clause-strays : goal.returns-in_err-receive-2-clause-strays
 returns-in_err-receive-2-clause-strays g c is =
     let f = c.in_err-receive-2 in
     let out = err_from_is_err_and c.from_residual-in_err-receive-2.result c.from_residual-in_err-receive-2.ensures.1 in
-    stray_after c.args.look.now c.args.work.now c.receiving.work _ _ _ c.receiving.invariant.so_far (f.ensures.strays (passed_on Strays c.from_residual-in_err-receive-2.result out.0 f.field-0.0 out.1 out.2 is))
+    stray_after c.args.look.now (g.G.SealCheck.accepted c.args.seal.now) c.args.work.now c.receiving.work _ _ _ c.receiving.invariant.so_far (f.ensures.strays (passed_on Strays c.from_residual-in_err-receive-2.result out.0 f.field-0.0 out.1 out.2 is))
 
 pub returns-in_err-receive-2-clause-few_strays : goal.returns-in_err-receive-2-clause-few_strays
 returns-in_err-receive-2-clause-few_strays g c is =
     let f = c.in_err-receive-2 in
     let out = err_from_is_err_and c.from_residual-in_err-receive-2.result c.from_residual-in_err-receive-2.ensures.1 in
-    few_after c.args.look.now c.args.work.now c.receiving.work _ _ _ c.receiving.invariant.so_far (f.ensures.few_strays (passed_on LinkFault c.from_residual-in_err-receive-2.result out.0 f.field-0.0 out.1 out.2 is))
+    few_after c.args.look.now (g.G.SealCheck.accepted c.args.seal.now) c.args.work.now c.receiving.work _ _ _ c.receiving.invariant.so_far (f.ensures.few_strays (passed_on LinkFault c.from_residual-in_err-receive-2.result out.0 f.field-0.0 out.1 out.2 is))
 
 pub returns-in_err-receive-clause-strays : goal.returns-in_err-receive-clause-strays
 returns-in_err-receive-clause-strays g c is =

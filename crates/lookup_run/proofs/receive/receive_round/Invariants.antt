@@ -5,7 +5,7 @@ use Rattle.lookup_run.proofs.receive.receive_round.Given as goal
 
 abbrev pub invariant-receiving : goal.invariant-receiving
 invariant-receiving g l = record {
-  so_far : Rounding l.look l.fn.work l.work (g.L.Link.told l.fn.link) (g.L.Link.told l.link);
+  so_far : Rounding l.look (g.G.SealCheck.accepted l.seal) l.fn.work l.work (g.L.Link.told l.fn.link) (g.L.Link.told l.link);
   room : length l.buf ≡ max_datagram + 1;
   moment : g.L.Link.moment l.link ≡ l.work.progress.moment;
   faults : g.L.Link.recv_faults l.fn.link ≤ g.L.Link.recv_faults l.link;

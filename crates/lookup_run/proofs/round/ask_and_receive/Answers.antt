@@ -4,20 +4,20 @@ use Rattle.lookup_run.proofs.Rounding.{round_over, has_received, stops_receiving
 use Rattle.lookup_run.proofs.round.ask_and_receive.Goals as goal
 
 pub returns-then-is_empty-clause-over : goal.returns-then-is_empty-clause-over
-returns-then-is_empty-clause-over g c scheduling _ = round_over scheduling c.args.look.now c.args.words.now c.ask_all.new.words c.args.work.now c.ask_all.new.work _ _ c.ask_all.ensures.asks (c.is_empty.ensures.0 c.if-is_empty.true)
+returns-then-is_empty-clause-over g c scheduling _ = round_over scheduling c.args.look.now (g.G.SealCheck.accepted c.args.seal.now) c.args.words.now c.ask_all.new.words c.args.work.now c.ask_all.new.work _ _ c.ask_all.ensures.asks (c.is_empty.ensures.0 c.if-is_empty.true)
 
 pub returns-in-Ok-clause-more : goal.returns-in-Ok-clause-more
-returns-in-Ok-clause-more g c _ = has_received c.args.look.now c.args.words.now c.ask_all.new.words c.args.work.now c.ask_all.new.work c.receive_round.new.work _ _ _ c.ask_all.ensures.asks c.in-Ok.ensures.ok
+returns-in-Ok-clause-more g c _ = has_received c.args.look.now (g.G.SealCheck.accepted c.args.seal.now) c.args.words.now c.ask_all.new.words c.args.work.now c.ask_all.new.work c.receive_round.new.work _ _ _ c.ask_all.ensures.asks c.in-Ok.ensures.ok
 
 pub returns-in-Err-clause-stops : goal.returns-in-Err-clause-stops
-returns-in-Err-clause-stops g c scheduling = stops_receiving scheduling c.args.look.now c.args.words.now c.ask_all.new.words c.args.work.now c.ask_all.new.work c.receive_round.new.work _ _ _ c.ask_all.ensures.asks (c.in-Err.ensures.stops c.ask_all.new.words)
+returns-in-Err-clause-stops g c scheduling = stops_receiving scheduling c.args.look.now (g.G.SealCheck.accepted c.args.seal.now) c.args.words.now c.ask_all.new.words c.args.work.now c.ask_all.new.work c.receive_round.new.work _ _ _ c.ask_all.ensures.asks (c.in-Err.ensures.stops c.ask_all.new.words)
 
 pub returns-in-Err-clause-strays : goal.returns-in-Err-clause-strays
 returns-in-Err-clause-strays g c scheduling is =
     let fault : c.in-Err.fault ≡ Strays = cc in
-    strays_receiving scheduling c.args.look.now c.args.words.now c.ask_all.new.words c.args.work.now c.ask_all.new.work _ _ _ c.ask_all.ensures.asks (c.in-Err.ensures.strays (ap (λ x. Err x) fault) c.ask_all.new.words)
+    strays_receiving scheduling c.args.look.now (g.G.SealCheck.accepted c.args.seal.now) c.args.words.now c.ask_all.new.words c.args.work.now c.ask_all.new.work _ _ _ c.ask_all.ensures.asks (c.in-Err.ensures.strays (ap (λ x. Err x) fault) c.ask_all.new.words)
 
 pub returns-in-Err-clause-few_strays : goal.returns-in-Err-clause-few_strays
 returns-in-Err-clause-few_strays g c scheduling is =
     let fault : c.in-Err.fault ≡ LinkFault = cc in
-    few_receiving scheduling c.args.look.now c.args.words.now c.ask_all.new.words c.args.work.now c.ask_all.new.work _ _ _ c.ask_all.ensures.asks (c.in-Err.ensures.few_strays (ap (λ x. Err x) fault) c.ask_all.new.words)
+    few_receiving scheduling c.args.look.now (g.G.SealCheck.accepted c.args.seal.now) c.args.words.now c.ask_all.new.words c.args.work.now c.ask_all.new.work _ _ _ c.ask_all.ensures.asks (c.in-Err.ensures.few_strays (ap (λ x. Err x) fault) c.ask_all.new.words)

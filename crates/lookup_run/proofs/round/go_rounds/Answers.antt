@@ -1,13 +1,13 @@
 use Rattle.std.proofs.Common.{◌≡◌, ◌∙◌, Err, None, refl, sym, arith, ap, rules}
-use Rattle.lookup_run.specs.declared.types.LookFault.TheVariants.{Strays, LinkFault}
+use Rattle.lookup_run.specs.declared.types.LookFault.TheVariants.{Strays, LinkFault, NoMemory}
 use Rattle.lookup_run.specs.inner.RoundSteps.{MaySettle}
-use Rattle.lookup_run.proofs.Early.{on_ok, on_err}
+use Rattle.lookup_run.proofs.Early.{on_ok, on_err, err_of}
 use Rattle.lookup_run.proofs.Rounding.{round_more, stops_settling_round, rounds_none, rounds_then, rounds_over, rounds_stop, rounds_stray, rounds_few}
 use Rattle.lookup_run.proofs.round.go_rounds.Goals as goal
 
 pub rounds-init : goal.rounds-init
 rounds-init g c = record {
-  rounding = rounds_none g.O.Schedule.scheduling c.args.look.now c.args.words.now c.args.work _ c.requires.begins;
+  rounding = rounds_none g.O.Schedule.scheduling c.args.look.now (g.G.SealCheck.accepted c.args.seal.now) c.args.words.now c.args.work _ c.requires.begins;
   moment = c.requires.moment;
   room = refl;
   faults = omega arith;
@@ -20,7 +20,7 @@ rounds-smaller g c =
     let may : MaySettle c.args.look.now c.ask_and_receive.new.work = record { limits = c.requires.limits; keeps = h.keeps; round_over = h.round_over } in
     let settled = c.requires.settles c.ask_and_receive.new.work c.settle-after.result may c.settle-after.ensures in
     let told = g.L.Link.told c.ask_and_receive.new.link in
-    (round_more g.O.Schedule.scheduling c.args.look.now c.rounds.words c.ask_and_receive.new.words c.rounds.work c.ask_and_receive.new.work c.settle-after.result.0 (g.L.Link.told c.rounds.link) told h (on_ok c.settle-after.result.1 c.in-Ok.field-0 c.in-Ok.is (settled.ok told))).lighter
+    (round_more g.O.Schedule.scheduling c.args.look.now (g.G.SealCheck.accepted c.args.seal.now) c.rounds.words c.ask_and_receive.new.words c.rounds.work c.ask_and_receive.new.work c.settle-after.result.0 (g.L.Link.told c.rounds.link) told h (on_ok c.settle-after.result.1 c.in-Ok.field-0 c.in-Ok.is (settled.ok told))).lighter
 
 pub rounds-preserved : goal.rounds-preserved
 rounds-preserved g c =
@@ -29,9 +29,9 @@ rounds-preserved g c =
     let settled = c.requires.settles c.ask_and_receive.new.work c.settle-after.result may c.settle-after.ensures in
     let i = c.rounds.invariant in
     let told = g.L.Link.told c.ask_and_receive.new.link in
-    let more = round_more g.O.Schedule.scheduling c.args.look.now c.rounds.words c.ask_and_receive.new.words c.rounds.work c.ask_and_receive.new.work c.settle-after.result.0 _ told h (on_ok c.settle-after.result.1 c.in-Ok.field-0 c.in-Ok.is (settled.ok told)) in
+    let more = round_more g.O.Schedule.scheduling c.args.look.now (g.G.SealCheck.accepted c.args.seal.now) c.rounds.words c.ask_and_receive.new.words c.rounds.work c.ask_and_receive.new.work c.settle-after.result.0 _ told h (on_ok c.settle-after.result.1 c.in-Ok.field-0 c.in-Ok.is (settled.ok told)) in
     record {
-      rounding = rounds_then g.O.Schedule.scheduling c.args.look.now c.args.words.now c.rounds.words c.ask_and_receive.new.words c.args.work c.rounds.work c.settle-after.result.0 _ _ _ i.rounding more;
+      rounding = rounds_then g.O.Schedule.scheduling c.args.look.now (g.G.SealCheck.accepted c.args.seal.now) c.args.words.now c.rounds.words c.ask_and_receive.new.words c.args.work c.rounds.work c.settle-after.result.0 _ _ _ i.rounding more;
       moment = c.in-Ok-true.ensures.moment ∙ sym (ap (λ s. s.moment) (on_ok c.settle-after.result.1 c.in-Ok.field-0 c.in-Ok.is (settled.ok None)).progress);
       room = search rules;
       faults = (let a = i.faults in let b = c.ask_and_receive.ensures.recv_faults in omega (arith, a, b));
@@ -40,21 +40,21 @@ rounds-preserved g c =
 
 pub returns-in-Ok-false-clause-over : goal.returns-in-Ok-false-clause-over
 returns-in-Ok-false-clause-over g c =
-    rounds_over g.O.Schedule.scheduling c.args.look.now c.args.words.now c.rounds.words c.ask_and_receive.new.words c.args.work c.rounds.work c.ask_and_receive.new.work _ _ _ c.rounds.invariant.rounding (c.in-Ok-false.ensures.over g.O.Schedule.scheduling c.in-Ok-false.field-0-test)
+    rounds_over g.O.Schedule.scheduling c.args.look.now (g.G.SealCheck.accepted c.args.seal.now) c.args.words.now c.rounds.words c.ask_and_receive.new.words c.args.work c.rounds.work c.ask_and_receive.new.work _ _ _ c.rounds.invariant.rounding (c.in-Ok-false.ensures.over g.O.Schedule.scheduling c.in-Ok-false.field-0-test)
 
 pub returns-in-Err-clause-stops : goal.returns-in-Err-clause-stops
 returns-in-Err-clause-stops g c =
-    rounds_stop g.O.Schedule.scheduling c.args.look.now c.args.words.now c.rounds.words c.ask_and_receive.new.words c.args.work c.rounds.work c.ask_and_receive.new.work _ _ _ c.rounds.invariant.rounding (c.in-Err.ensures.stops g.O.Schedule.scheduling)
+    rounds_stop g.O.Schedule.scheduling c.args.look.now (g.G.SealCheck.accepted c.args.seal.now) c.args.words.now c.rounds.words c.ask_and_receive.new.words c.args.work c.rounds.work c.ask_and_receive.new.work _ _ _ c.rounds.invariant.rounding (c.in-Err.ensures.stops g.O.Schedule.scheduling)
 
 pub returns-in-Err-clause-strays : goal.returns-in-Err-clause-strays
 returns-in-Err-clause-strays g c is =
     let fault : c.in-Err.fault ≡ Strays = cc in
-    rounds_stray g.O.Schedule.scheduling c.args.look.now c.args.words.now c.rounds.words c.args.work c.rounds.work _ _ _ c.rounds.invariant.rounding (c.in-Err.ensures.strays g.O.Schedule.scheduling (ap (λ x. Err x) fault))
+    rounds_stray g.O.Schedule.scheduling c.args.look.now (g.G.SealCheck.accepted c.args.seal.now) c.args.words.now c.rounds.words c.args.work c.rounds.work _ _ _ c.rounds.invariant.rounding (c.in-Err.ensures.strays g.O.Schedule.scheduling (ap (λ x. Err x) fault))
 
 pub returns-in-Err-clause-few_strays : goal.returns-in-Err-clause-few_strays
 returns-in-Err-clause-few_strays g c is =
     let fault : c.in-Err.fault ≡ LinkFault = cc in
-    rounds_few g.O.Schedule.scheduling c.args.look.now c.args.words.now c.rounds.words c.args.work c.rounds.work _ _ _ c.rounds.invariant.rounding (c.in-Err.ensures.few_strays g.O.Schedule.scheduling (ap (λ x. Err x) fault))
+    rounds_few g.O.Schedule.scheduling c.args.look.now (g.G.SealCheck.accepted c.args.seal.now) c.args.words.now c.rounds.words c.args.work c.rounds.work _ _ _ c.rounds.invariant.rounding (c.in-Err.ensures.few_strays g.O.Schedule.scheduling (ap (λ x. Err x) fault))
 
 pub returns-in-Err-settled-clause-stops : goal.returns-in-Err-settled-clause-stops
 returns-in-Err-settled-clause-stops g c =
@@ -62,5 +62,14 @@ returns-in-Err-settled-clause-stops g c =
     let may : MaySettle c.args.look.now c.ask_and_receive.new.work = record { limits = c.requires.limits; keeps = h.keeps; round_over = h.round_over } in
     let settled = c.requires.settles c.ask_and_receive.new.work c.settle-after.result may c.settle-after.ensures in
     let told = g.L.Link.told c.ask_and_receive.new.link in
-    let stop = stops_settling_round g.O.Schedule.scheduling c.args.look.now c.rounds.words c.ask_and_receive.new.words c.rounds.work c.ask_and_receive.new.work c.settle-after.result.0 _ told h (on_err c.settle-after.result.1 c.in-Err-settled.fault c.in-Err-settled.is (settled.stops told) c.ask_and_receive.new.words) in
-    rounds_stop g.O.Schedule.scheduling c.args.look.now c.args.words.now c.rounds.words c.ask_and_receive.new.words c.args.work c.rounds.work c.settle-after.result.0 _ _ _ c.rounds.invariant.rounding stop
+    let stop = stops_settling_round g.O.Schedule.scheduling c.args.look.now (g.G.SealCheck.accepted c.args.seal.now) c.rounds.words c.ask_and_receive.new.words c.rounds.work c.ask_and_receive.new.work c.settle-after.result.0 _ told h (on_err c.settle-after.result.1 c.in-Err-settled.fault c.in-Err-settled.is (settled.stops told) (g.G.SealCheck.accepted c.args.seal.now) c.ask_and_receive.new.words) in
+    rounds_stop g.O.Schedule.scheduling c.args.look.now (g.G.SealCheck.accepted c.args.seal.now) c.args.words.now c.rounds.words c.ask_and_receive.new.words c.args.work c.rounds.work c.settle-after.result.0 _ _ _ c.rounds.invariant.rounding stop
+
+pub returns-in-Err-settled-clause-few_strays : goal.returns-in-Err-settled-clause-few_strays
+returns-in-Err-settled-clause-few_strays g c is =
+    let h = c.in-Ok-true.ensures.more c.in-Ok-true.field-0-test in
+    let may : MaySettle c.args.look.now c.ask_and_receive.new.work = record { limits = c.requires.limits; keeps = h.keeps; round_over = h.round_over } in
+    let settled = c.requires.settles c.ask_and_receive.new.work c.settle-after.result may c.settle-after.ensures in
+    let full : c.in-Err-settled.fault ≡ NoMemory = err_of c.settle-after.result.1 c.in-Err-settled.fault (λ f. f ≡ NoMemory) c.in-Err-settled.is settled.fault in
+    let link : c.in-Err-settled.fault ≡ LinkFault = cc in
+    absurd cc

@@ -6,7 +6,7 @@ use Rattle.lookup_run.proofs.round.go_rounds.Given as goal
 
 abbrev pub invariant-rounds : goal.invariant-rounds
 invariant-rounds g l = record {
-  rounding : Rounding g.O.Schedule.scheduling l.look l.fn.words l.words l.fn.work l.work (g.L.Link.told l.fn.link) (g.L.Link.told l.link);
+  rounding : Rounding g.O.Schedule.scheduling l.look (g.G.SealCheck.accepted l.seal) l.fn.words l.words l.fn.work l.work (g.L.Link.told l.fn.link) (g.L.Link.told l.link);
   moment : g.L.Link.moment l.link ≡ l.work.progress.moment;
   room : length l.buf ≡ max_datagram + 1;
   faults : g.L.Link.recv_faults l.fn.link ≤ g.L.Link.recv_faults l.link;

@@ -36,6 +36,6 @@ returns-in-Err g c =
     let legal = rw c.has_several.ensures.same at c.legal.ensures in
     record {
       ok = λ told. tt;
-      stops = λ told words. stops_settling c.args.look.now work after told (subst (λ s. Legal s work.lookup.book.journal) c.requires.keeps.setting legal) (ran_together work after left) words;
+      stops = λ told accepts words. stops_settling c.args.look.now accepts work after told (subst (λ s. Legal s work.lookup.book.journal) c.requires.keeps.setting legal) (ran_together work after left) words;
       fault = refl;
     }
