@@ -2,7 +2,7 @@
 //! socket where the command needs one.
 #![tactic(auto)]
 
-ghost use Rattle.std.specs.Prelude.{◌≡◌, ◌≢◌, codes};
+ghost use Rattle.std.specs.Prelude.{◌≡◌, ◌≢◌, [], ◌∷◌, ◌++◌, OnOk, codes, map, string_bytes};
 ghost use Rattle.std.specs.IoError.{error_kind};
 ghost use Rattle.node_main.specs.declared.Refusal.{Refusal};
 
@@ -10,9 +10,11 @@ mod stdin;
 mod stdout;
 
 use id_puzzles::Sha1Check;
-use kad_words::{bind_of, takes_link};
+use kad_words::{bind_of, group_of, lacks_group, takes_link};
 use node_top::{run, run_plain};
-use std::alloc::AllocError;
+use seal_tags::GroupSeal;
+use std::alloc::{AllocError, Global};
+use std::env::VarError;
 use std::hash::RandomState;
 use std::io::{ErrorKind, Input};
 use std::process::ExitCode;
@@ -62,8 +64,19 @@ impl Refusal {
     }
 }
 
-/// The words after the program's name.
+/// The words after the program's name, and behind them a group's key where only the environment names one.
 fn words<R: Env + AllocGlobal>(rt: &R) -> Result<Vec<String>, Refusal> {
+    let mut words = words_given(rt)?;
+    if lacks_group(words.as_slice()) {
+        if let Some(key) = key_given(rt)? {
+            put_group(rt.alloc(), &mut words, key).map_err(|_| Refusal::Memory)?;
+        }
+    }
+    Ok(words)
+}
+
+/// The words after the program's name.
+fn words_given<R: Env + AllocGlobal>(rt: &R) -> Result<Vec<String>, Refusal> {
     let args = env::args(rt).map_err(|e| refusal_of(&e))?;
     args.skip(1)
         .collect(rt.alloc())
@@ -79,6 +92,27 @@ fn refusal_of(error: &io::Error) -> Refusal
         ErrorKind::OutOfMemory => Refusal::Memory,
         _ => Refusal::Start,
     }
+}
+
+/// The key of a group in the environment, where nobody reads it who may list processes and their words. An empty one
+/// counts as none. One that isn't UTF-8 is no key either, as the empty word is none.
+fn key_given<R: Env + AllocGlobal>(rt: &R) -> Result<Option<String>, Refusal> {
+    match env::var(rt, "NOLZAVIRT_GROUP") {
+        Ok(key) => Ok((!key.is_empty()).then_some(key)),
+        Err(VarError::NotPresent) => Ok(None),
+        Err(VarError::NotUnicode) => Ok(Some(String::new(rt.alloc()))),
+        Err(VarError::OutOfMemory) => Err(Refusal::Memory),
+    }
+}
+
+/// Puts a group's key behind the words, as its option.
+fn put_group(alloc: Global, words: &mut Vec<String>, key: String) -> Result<(), AllocError>
+    ensures { OnOk result (map (λ w. string_bytes w) words.new.items
+        ≡ map (λ w. string_bytes w) words.old.items ++ codes "--group" ∷ string_bytes key ∷ []) }
+{
+    words.push(String::from_str(alloc, "--group")?)?;
+    words.push(key)?;
+    Ok(())
 }
 
 /// Takes the words, then draws, then binds where the command takes a link, and runs the node; its status.
@@ -105,6 +139,7 @@ where
         ));
     }
     let mut link = UdpLink::bind(rt, bind_of(words)).map_err(|_| Refusal::Socket)?;
+    let seal = GroupSeal::new(group_of(words).unwrap_or([0; 32]));
     Ok(run(
         rt,
         rt.alloc(),
@@ -115,6 +150,7 @@ where
         &random,
         &Sha1Check,
         hasher,
+        &seal,
     ))
 }
 

@@ -1,6 +1,6 @@
 -- From a lookup to the command that asked for it.
 use Rattle.std.proofs.Common.{◌≡◌, ◌≢◌, ℕ, List, [], ◌∷◌, length, Result, Ok, Err, ◌⊎◌, inl, inr, refl, sym, ap, subst, ◌∙◌}
-use Rattle.std.specs.Prelude.{map, IfOk, IfErr}
+use Rattle.std.specs.Prelude.{false, map, IfOk, IfErr}
 use Rattle.std.specs.List.{All}
 use Rattle.std.proofs.lemmas.List.Elements.{All-cons, All-nil}
 use Rattle.kad_base.specs.declared.types.Id.{Id}
@@ -24,8 +24,8 @@ use Rattle.claim_book.proofs.Descent.{own_answers}
 use Rattle.lookup_run.specs.declared.types.LookSetting.{LookSetting}
 use Rattle.lookup_core.specs.declared.quest.AskKind.{AskKind}
 use Rattle.lookup_run.specs.declared.types.Outcome.{Outcome}
-use Rattle.lookup_run.specs.Tells.{Given, Tells, EndsAtStray}
-use Rattle.lookup_run.specs.Lookup.{IsWithinLimits, given_of, TableTold, TellsEarly, Unfinished}
+use Rattle.lookup_run.specs.Tells.{Given, Tells, NeverEnds}
+use Rattle.lookup_run.specs.Lookup.{IsWithinLimits, given_of, TableTold, TellsEarly, Unfinished, EndsByStrays, MeetsFewStrays}
 use Rattle.kad_words.specs.declared.command.LookWords.{LookWords}
 use Rattle.node_top.specs.declared.status.Status.{Status}
 use Rattle.node_top.specs.declared.status.Status.TheVariants.{NoMemory}
@@ -33,8 +33,9 @@ use Rattle.node_top.specs.Printed.{printed}
 use Rattle.node_top.specs.Shown.{Shown}
 use Rattle.node_top.specs.Input.{Admits, Reads}
 use Rattle.node_top.specs.Started.{look_of, book_of, drawn_of, IsInRange, seen_call, Start}
-use Rattle.node_top.specs.Looked.{printed_of, LookupBegun, EndsByStrays, MeetsFewStrays}
+use Rattle.node_top.specs.Looked.{printed_of, LookupBegun, EndsByLastStray, MeetsFew}
 use Rattle.node_top.proofs.Starting.{usable_told}
+use Rattle.node_top.specs.Called.{Called}
 
 pub admits_usable : (own : Id) (policy : Policy) (rs : List Report) (cs : List Contact) → Admits own policy rs cs → All (IsUsable own) cs
 admits_usable own policy [] cs h = subst (All (IsUsable own)) (sym h) (All-nil (IsUsable own))
@@ -54,14 +55,14 @@ text_is s o text a b c d is =
     ∙ ap (λ n. printed (result_of s o.journal) (length (asked o.journal)) n o.counts.turned) c
     ∙ ap (λ n. printed (result_of s o.journal) (length (asked o.journal)) (length (failed o.journal)) n) d
 
-pub begun_of : (kind : AskKind) (look : LookWords) (random : List ℕ) (source : Shown ℕ) (link : Shown Event) (start : Start look random source) (left : WordsState) → Unfinished (look_of kind look random) start.table (drawn_of random) left link.before link.after
-    → LookupBegun kind look random source link
-begun_of kind look random source link start left h = record {
+pub begun_of : (kind : AskKind) (look : LookWords) (called : Called) (source : Shown ℕ) (link : Shown Event) (start : Start look called.random source) (left : WordsState) → Unfinished (look_of kind look called.random) called.accepts start.table (drawn_of called.random) left link.before link.after
+    → LookupBegun kind look called source link
+begun_of kind look called source link start left h = record {
   start = start;
   left = left;
   so_far = h;
-  asked_once = asked_distinct (book_of kind look random) h.journal h.legal;
-  own_answers = own_answers (book_of kind look random) h.journal h.legal;
+  asked_once = asked_distinct (book_of kind look called.random) h.journal h.legal;
+  own_answers = own_answers (book_of kind look called.random) h.journal h.legal;
 }
 
 pub tells_early : (g : Given) (J : List Entry) (events : List Event) → Tells g J events → TellsEarly g J events
@@ -111,19 +112,26 @@ pub usable_in_table : (kind : AskKind) (look : LookWords) (random : List ℕ) (s
 usable_in_table kind look random source setting words table h =
     usable_told setting.own look.k look.bits h.contacts table (admits_usable setting.own setting.policy h.reads.reports h.contacts h.reads.admits) h.told
 
-pub few_from : (kind : AskKind) (look : LookWords) (random : List ℕ) (source : Shown ℕ) (link : Shown Event) (setting : LookSetting) (words : WordsState) (table : TableState) → Has kind look random source setting words table
-    → Grows link.before link.after (λ events. ¬ EndsAtStray (given_of setting words) events max_strays) → MeetsFewStrays kind look random link
-few_from kind look random source link setting words table h few = moved kind look random source setting words table (λ s w. Grows link.before link.after (λ events. ¬ EndsAtStray (given_of s w) events max_strays)) h few
+pub few_from : (kind : AskKind) (look : LookWords) (called : Called) (source : Shown ℕ) (link : Shown Event) (setting : LookSetting) (words : WordsState) (table : TableState) → Has kind look called.random source setting words table
+    → MeetsFewStrays setting called.accepts table words link.before link.after → (setting.sealed ≡ false → Grows link.before link.after (NeverEnds (given_of setting called.accepts words) max_strays)) → MeetsFew kind look called source link
+few_from kind look called source link setting words table h few never = record {
+  start = start_of kind look called.random source setting words table h;
+  meets = moved kind look called.random source setting words table (λ s w. MeetsFewStrays s called.accepts table w link.before link.after) h few;
+  never = moved kind look called.random source setting words table (λ s w. s.sealed ≡ false → Grows link.before link.after (NeverEnds (given_of s called.accepts w) max_strays)) h never;
+}
 
-pub begun_from : (kind : AskKind) (look : LookWords) (random : List ℕ) (source : Shown ℕ) (link : Shown Event) (setting : LookSetting) (words left : WordsState) (table : TableState) → Has kind look random source setting words table
-    → Unfinished setting table words left link.before link.after → LookupBegun kind look random source link
-begun_from kind look random source link setting words left table h so_far =
-    begun_of kind look random source link (start_of kind look random source setting words table h) left
-    (moved kind look random source setting words table (λ s w. Unfinished s table w left link.before link.after) h so_far)
+pub begun_from : (kind : AskKind) (look : LookWords) (called : Called) (source : Shown ℕ) (link : Shown Event) (setting : LookSetting) (words left : WordsState) (table : TableState) → Has kind look called.random source setting words table
+    → Unfinished setting called.accepts table words left link.before link.after → LookupBegun kind look called source link
+begun_from kind look called source link setting words left table h so_far =
+    begun_of kind look called source link (start_of kind look called.random source setting words table h) left
+    (moved kind look called.random source setting words table (λ s w. Unfinished s called.accepts table w left link.before link.after) h so_far)
 
-pub strays_from : (kind : AskKind) (look : LookWords) (random : List ℕ) (source : Shown ℕ) (link : Shown Event) (setting : LookSetting) (words : WordsState) (table : TableState) → Has kind look random source setting words table
-    → Grows link.before link.after (λ events. EndsAtStray (given_of setting words) events max_strays) → EndsByStrays kind look random link
-strays_from kind look random source link setting words table h ends = moved kind look random source setting words table (λ s w. Grows link.before link.after (λ events. EndsAtStray (given_of s w) events max_strays)) h ends
+pub strays_from : (kind : AskKind) (look : LookWords) (called : Called) (source : Shown ℕ) (link : Shown Event) (setting : LookSetting) (words : WordsState) (table : TableState) → Has kind look called.random source setting words table
+    → EndsByStrays setting called.accepts table words link.before link.after → EndsByLastStray kind look called source link
+strays_from kind look called source link setting words table h ends = record {
+  start = start_of kind look called.random source setting words table h;
+  ends = moved kind look called.random source setting words table (λ s w. EndsByStrays s called.accepts table w link.before link.after) h ends;
+}
 
 -- ---- results
 

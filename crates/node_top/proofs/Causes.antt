@@ -13,47 +13,48 @@ use Rattle.node_top.specs.Looked.{GivesSeeds, GivesNoSeeds}
 use Rattle.node_top.specs.Promise.{Sought}
 use Rattle.node_top.specs.Shown.{Shown, IsTold, HasFailed, nowhere}
 use Rattle.node_top.specs.Input.{ReadsTooMuch, HasBadLine}
-use Rattle.node_top.specs.Commands.{promise_of, HasText, IsCaused, HasCause, HasBegun, HasStart, HasSeeds, HasNoSeeds, HasStrays, HasNothing, ReadsInput, GoesWell, IsDone}
+use Rattle.node_top.specs.Commands.{EndsInStrays, promise_of, HasText, IsCaused, HasCause, HasBegun, HasStart, HasSeeds, HasNoSeeds, HasStrays, HasNothing, ReadsInput, GoesWell, IsDone}
 use Rattle.node_top.specs.Endings.{number_of, OrNoMemory, Names, CutShort, MayEnd, EndsByCommand}
 use Rattle.node_top.specs.Written.{IsFront}
 use Rattle.node_top.proofs.Exactly.{unread_few, few_not_much}
 use Rattle.node_top.proofs.Lawful.{Sign, IsJudged, Means, IsUncalled}
 use Rattle.node_top.proofs.Lawfully.{lawful}
+use Rattle.node_top.specs.Called.{Called}
 
 -- ---- what holds of a command holds of the one that it is
 
 pub ranges_at : (a b : Command) → a ≡ b → (promise_of a).ranges → (promise_of b).ranges
 ranges_at a b e h = subst (λ (k : Command). (promise_of k).ranges) e h
 
-pub text_at : {F : Type 0} (r : Result (List ℕ) F) (random : List ℕ) (source : Shown ℕ) (link : Shown Event) (a b : Command) → a ≡ b → IfOk r ((promise_of a).text random source link) → IfOk r ((promise_of b).text random source link)
-text_at r random source link a b e h = subst (λ (k : Command). IfOk r ((promise_of k).text random source link)) e h
+pub text_at : {F : Type 0} (r : Result (List ℕ) F) (called : Called) (source : Shown ℕ) (link : Shown Event) (a b : Command) → a ≡ b → IfOk r ((promise_of a).text called source link) → IfOk r ((promise_of b).text called source link)
+text_at r called source link a b e h = subst (λ (k : Command). IfOk r ((promise_of k).text called source link)) e h
 
-pub cause_at : {T : Type 0} (r : Result T Status) (random : List ℕ) (source : Shown ℕ) (link : Shown Event) (a b : Command) → a ≡ b → IfErr r ((promise_of a).cause random source link) → IfErr r ((promise_of b).cause random source link)
-cause_at r random source link a b e h = subst (λ (k : Command). IfErr r ((promise_of k).cause random source link)) e h
+pub cause_at : {T : Type 0} (r : Result T Status) (called : Called) (source : Shown ℕ) (link : Shown Event) (a b : Command) → a ≡ b → IfErr r ((promise_of a).cause called source link) → IfErr r ((promise_of b).cause called source link)
+cause_at r called source link a b e h = subst (λ (k : Command). IfErr r ((promise_of k).cause called source link)) e h
 
 -- ---- a command that has its output
 
-module _ (words : List Word) (random : List ℕ) (source : Shown ℕ) (link : Shown Event) (sink : Shown ℕ) (text t : List ℕ) (same : t ≡ text) (has : HasText words random source link text) where
-  pub done_of : Grows sink.before sink.after (λ added. added ≡ t) → IsDone words random source link sink
+module _ (words : List Word) (called : Called) (source : Shown ℕ) (link : Shown Event) (sink : Shown ℕ) (text t : List ℕ) (same : t ≡ text) (has : HasText words called source link text) where
+  pub done_of : Grows sink.before sink.after (λ added. added ≡ t) → IsDone words called source link sink
   done_of w = record { text = text; has_text = has; writes = subst (λ (l : List ℕ). Grows sink.before sink.after (λ added. added ≡ l)) same w }
 
-  pub cut_of : Grows sink.before sink.after (λ added. IsFront added t) → CutShort words random source link sink
+  pub cut_of : Grows sink.before sink.after (λ added. IsFront added t) → CutShort words called source link sink
   cut_of w = record { text = text; has_text = has; writes = subst (λ (l : List ℕ). Grows sink.before sink.after (λ added. IsFront added l)) same w }
 
 pub done_end : (words : List Word) (status : ℕ) → (status ≡ 0) ⊎ (status ≡ 5) → EndsByCommand words status
 done_end words status e command asked = elim e [ inl done ↦ inl done | inr cut ↦ inr (inl cut) ]
 
 -- the sign of a status, of the command that the words ask for
-record HasSign (words : List Word) (random : List ℕ) (source : Shown ℕ) (link : Shown Event) (status : Status) : Type 0 where
+record HasSign (words : List Word) (called : Called) (source : Shown ℕ) (link : Shown Event) (status : Status) : Type 0 where
   pub command : Command
   pub asked : CommandOf words command
-  pub sign : Sign (promise_of command) random source link status
+  pub sign : Sign (promise_of command) called source link status
 
-module _ (words : List Word) (random : List ℕ) (source : Shown ℕ) (link : Shown Event) (text : List ℕ) (h : HasText words random source link text) where
-  not_signed : (t : Status) → IsJudged source link t → HasSign words random source link t → ⊥
+module _ (words : List Word) (called : Called) (source : Shown ℕ) (link : Shown Event) (text : List ℕ) (h : HasText words called source link text) where
+  not_signed : (t : Status) → IsJudged source link t → HasSign words called source link t → ⊥
   not_signed t j d =
-      let sign = subst (λ (k : Command). Sign (promise_of k) random source link t) (command_once words d.command h.command d.asked h.asked) d.sign in
-      (lawful h.command).no_sign random source link text t j h.text_of sign
+      let sign = subst (λ (k : Command). Sign (promise_of k) called source link t) (command_once words d.command h.command d.asked h.asked) d.sign in
+      (lawful h.command).no_sign called source link text t j h.text_of sign
 
   pub not_bad : IsTold source → ¬ HasFailed source → HasBadLine source → ⊥
   not_bad told quiet bad = not_signed (BadLine bad.0) (told, quiet) (record { command = h.command; asked = h.asked; sign = bad.1 })
@@ -61,13 +62,13 @@ module _ (words : List Word) (random : List ℕ) (source : Shown ℕ) (link : Sh
   pub not_much : IsTold source → ReadsTooMuch source.before source.after → ⊥
   not_much told much = not_signed TooLong told (record { command = h.command; asked = h.asked; sign = much })
 
-  pub not_seedless : IsTold source → ¬ HasFailed source → HasNoSeeds words random source → ⊥
+  pub not_seedless : IsTold source → ¬ HasFailed source → HasNoSeeds words called source → ⊥
   not_seedless told quiet n = not_signed NoSeeds (told, quiet) (record { command = n.command; asked = n.asked; sign = n.no_seeds })
 
-  pub not_strays : IsTold link → HasStrays words random link → ⊥
+  pub not_strays : IsTold link → EndsInStrays words called link → ⊥
   not_strays told n = not_signed Strays told (record { command = n.command; asked = n.asked; sign = n.strays })
 
-  pub not_nothing : HasNothing words random → ⊥
+  pub not_nothing : HasNothing words called.random → ⊥
   not_nothing n = not_signed Unminted tt (record { command = n.command; asked = n.asked; sign = n.nothing })
 
 -- ---- and one that has none, by its cause
@@ -76,120 +77,120 @@ never_rose : Rose 0 0 → ⊥
 never_rose h = elim h [ inl more ↦ absurd (omega (arith, more)) | inr last ↦ absurd (omega (arith, last)) ]
 
 -- the cause of a command that takes no link is none of a link's
-pub linkless : (command : Command) → ¬ IsTrue (promise_of command).links → (random : List ℕ) (source : Shown ℕ) (s : Status) → (promise_of command).cause random source nowhere s → (number_of s ≢ 4) × (number_of s ≢ 7) × (number_of s ≢ 8)
-linkless command n random source LinkFault c = absurd (never_rose ((lawful command).means random source nowhere LinkFault c).0)
-linkless command n random source Strays c =
-    let seeds = ((lawful command).means random source nowhere Strays c).1 in
-    absurd (subst (λ (o : Option Sought). GivesSeeds o random source) ((lawful command).seeks n) seeds)
-linkless command n random source NoSeeds c =
-    let none_ = (lawful command).means random source nowhere NoSeeds c in
-    absurd (subst (λ (o : Option Sought). GivesNoSeeds o random source) ((lawful command).seeks n) none_)
-linkless command n random source other c = ((λ e. absurd cc), (λ e. absurd cc), (λ e. absurd cc))
+pub linkless : (command : Command) → ¬ IsTrue (promise_of command).links → (called : Called) (source : Shown ℕ) (s : Status) → (promise_of command).cause called source nowhere s → (number_of s ≢ 4) × (number_of s ≢ 7) × (number_of s ≢ 8)
+linkless command n called source LinkFault c = absurd (never_rose ((lawful command).means called source nowhere LinkFault c).0)
+linkless command n called source Strays c =
+    let seeds = ((lawful command).means called source nowhere Strays c).1 in
+    absurd (subst (λ (o : Option Sought). GivesSeeds o called.random source) ((lawful command).seeks n) seeds)
+linkless command n called source NoSeeds c =
+    let none_ = (lawful command).means called source nowhere NoSeeds c in
+    absurd (subst (λ (o : Option Sought). GivesNoSeeds o called.random source) ((lawful command).seeks n) none_)
+linkless command n called source other c = ((λ e. absurd cc), (λ e. absurd cc), (λ e. absurd cc))
 
 -- no command's cause is that of words which ask for none
-pub unasked : (command : Command) (random : List ℕ) (source : Shown ℕ) (link : Shown Event) (s : Status) → (promise_of command).cause random source link s → number_of s ≡ 2 → ⊥
-unasked command random source link Usage c e = (lawful command).means random source link Usage c
-unasked command random source link other c e = absurd cc
+pub unasked : (command : Command) (called : Called) (source : Shown ℕ) (link : Shown Event) (s : Status) → (promise_of command).cause called source link s → number_of s ≡ 2 → ⊥
+unasked command called source link Usage c e = (lawful command).means called source link Usage c
+unasked command called source link other c e = absurd cc
 
 -- words that gave no command
-pub refused : {T : Type 0} (asks : Type 0) (words : List Word) (random : List ℕ) (source : Shown ℕ) (link : Shown Event) (r : Result T Status) (y x : Status) → r ≡ Err y → y ≡ x
-    → (asks → Asks words) → (x ≡ Usage → ¬ Asks words) → (x ≡ Usage) ⊎ (x ≡ NoMemory) → source.after ≡ source.before → IfErr r (HasCause asks words random source link)
-refused {T} asks words random source link r y x e f asking usage either same =
-    let cause : HasCause asks words random source link x = elim either as (λ _. HasCause asks words random source link x) [
-      | inl is ↦ subst (HasCause asks words random source link) (sym is) ((λ a. usage is (asking a)), same)
-      | inr is ↦ subst (HasCause asks words random source link) (sym is) tt
+pub refused : {T : Type 0} (asks : Type 0) (words : List Word) (called : Called) (source : Shown ℕ) (link : Shown Event) (r : Result T Status) (y x : Status) → r ≡ Err y → y ≡ x
+    → (asks → Asks words) → (x ≡ Usage → ¬ Asks words) → (x ≡ Usage) ⊎ (x ≡ NoMemory) → source.after ≡ source.before → IfErr r (HasCause asks words called source link)
+refused {T} asks words called source link r y x e f asking usage either same =
+    let cause : HasCause asks words called source link x = elim either as (λ _. HasCause asks words called source link x) [
+      | inl is ↦ subst (HasCause asks words called source link) (sym is) ((λ a. usage is (asking a)), same)
+      | inr is ↦ subst (HasCause asks words called source link) (sym is) tt
     ] in
-    subst (λ (q : Result T Status). IfErr q (HasCause asks words random source link)) (sym e) (subst (HasCause asks words random source link) (sym f) cause)
+    subst (λ (q : Result T Status). IfErr q (HasCause asks words called source link)) (sym e) (subst (HasCause asks words called source link) (sym f) cause)
 
 pub is_no_memory : (status : Status) → number_of status ≡ 9 → status ≡ NoMemory
 is_no_memory NoMemory e = refl
 is_no_memory other e = absurd cc
 
-module _ (asks : Type 0) (words : List Word) (random : List ℕ) (source : Shown ℕ) (link : Shown Event) where
+module _ (asks : Type 0) (words : List Word) (called : Called) (source : Shown ℕ) (link : Shown Event) where
   -- a command's own cause is that of its words
-  pub caused : (command : Command) → CommandOf words command → (s : Status) → (promise_of command).cause random source link s → HasCause asks words random source link s
-  caused command asked Usage c = absurd ((lawful command).means random source link Usage c)
+  pub caused : (command : Command) → CommandOf words command → (s : Status) → (promise_of command).cause called source link s → HasCause asks words called source link s
+  caused command asked Usage c = absurd ((lawful command).means called source link Usage c)
   caused command asked NoMemory c = tt
   caused command asked s c = record { command = command; asked = asked; cause = c }
 
-  means : (s : Status) (c : IsCaused words random source link s) → Means (promise_of c.command) random source link s
-  means s c = (lawful c.command).means random source link s c.cause
+  means : (s : Status) (c : IsCaused words called source link s) → Means (promise_of c.command) called source link s
+  means s c = (lawful c.command).means called source link s c.cause
 
-  pub named : (s : Status) → HasCause asks words random source link s → Names source s
+  pub named : (s : Status) → HasCause asks words called source link s → Names source s
   named (BadLine line) c = (means (BadLine line) c).1
   named other c = tt
 
-  pub usage_alone : (s : Status) → HasCause asks words random source link s → number_of s ≡ 2 → ¬ asks
+  pub usage_alone : (s : Status) → HasCause asks words called source link s → number_of s ≡ 2 → ¬ asks
   usage_alone Usage c e = c.0
   usage_alone other c e = absurd cc
 
-  pub bad_line : (s : Status) → HasCause asks words random source link s → number_of s ≡ 3 → ReadsInput words × HasBadLine source
+  pub bad_line : (s : Status) → HasCause asks words called source link s → number_of s ≡ 3 → ReadsInput words × HasBadLine source
   bad_line (BadLine line) c e = let m = means (BadLine line) c in (record { command = c.command; asked = c.asked; reads = m.0 }, (line, m.1))
   bad_line other c e = absurd cc
 
-  pub link_fault : (s : Status) → HasCause asks words random source link s → number_of s ≡ 4 → HasFailed link × HasStart words random source × HasBegun words random source link
+  pub link_fault : (s : Status) → HasCause asks words called source link s → number_of s ≡ 4 → HasFailed link × HasStart words called source × HasBegun words called source link
   link_fault LinkFault c e =
       let m = means LinkFault c in
       (m.0, record { command = c.command; asked = c.asked; started = m.1 }, record { command = c.command; asked = c.asked; begun = m.2 })
   link_fault other c e = absurd cc
 
-  pub source_fault : (s : Status) → HasCause asks words random source link s → number_of s ≡ 6 → ReadsInput words × HasFailed source
+  pub source_fault : (s : Status) → HasCause asks words called source link s → number_of s ≡ 6 → ReadsInput words × HasFailed source
   source_fault SourceFault c e = let m = means SourceFault c in (record { command = c.command; asked = c.asked; reads = m.0 }, m.1)
   source_fault other c e = absurd cc
 
-  pub strays : (s : Status) → HasCause asks words random source link s → number_of s ≡ 7 → HasStrays words random link × HasSeeds words random source × HasBegun words random source link
+  pub strays : (s : Status) → HasCause asks words called source link s → number_of s ≡ 7 → HasStrays words called source link × HasSeeds words called source × HasBegun words called source link
   strays Strays c e =
       let m = means Strays c in
       (record { command = c.command; asked = c.asked; strays = m.0 }, record { command = c.command; asked = c.asked; seeds = m.1 }, record { command = c.command; asked = c.asked; begun = m.2 })
   strays other c e = absurd cc
 
-  pub no_seeds : (s : Status) → HasCause asks words random source link s → number_of s ≡ 8 → HasNoSeeds words random source
+  pub no_seeds : (s : Status) → HasCause asks words called source link s → number_of s ≡ 8 → HasNoSeeds words called source
   no_seeds NoSeeds c e = record { command = c.command; asked = c.asked; no_seeds = means NoSeeds c }
   no_seeds other c e = absurd cc
 
-  pub unminted : (s : Status) → HasCause asks words random source link s → number_of s ≡ 10 → HasNothing words random
+  pub unminted : (s : Status) → HasCause asks words called source link s → number_of s ≡ 10 → HasNothing words called.random
   unminted Unminted c e = record { command = c.command; asked = c.asked; nothing = means Unminted c }
   unminted other c e = absurd cc
 
-  pub too_long : (s : Status) → HasCause asks words random source link s → number_of s ≡ 11 → ReadsInput words × ReadsTooMuch source.before source.after
+  pub too_long : (s : Status) → HasCause asks words called source link s → number_of s ≡ 11 → ReadsInput words × ReadsTooMuch source.before source.after
   too_long TooLong c e = let m = means TooLong c in (record { command = c.command; asked = c.asked; reads = m.0 }, m.1)
   too_long other c e = absurd cc
 
   -- the sign of a status brings it
-  comes : (s t : Status) → HasCause asks words random source link s → IsUncalled link s → IsJudged source link t → HasSign words random source link t → (HasSign words random source link t → asks) → OrNoMemory (number_of s) (number_of t)
+  comes : (s t : Status) → HasCause asks words called source link s → IsUncalled link s → IsJudged source link t → HasSign words called source link t → (HasSign words called source link t → asks) → OrNoMemory (number_of s) (number_of t)
   comes Usage t c early j d asking = absurd (c.0 (asking d))
   comes NoMemory t c early j d asking = inr refl
   comes s t c early j d asking =
-      let sign = subst (λ (k : Command). Sign (promise_of k) random source link t) (command_once words d.command c.command d.asked c.asked) d.sign in
-      (lawful c.command).one_sign random source link s t j early c.cause sign
+      let sign = subst (λ (k : Command). Sign (promise_of k) called source link t) (command_once words d.command c.command d.asked c.asked) d.sign in
+      (lawful c.command).one_sign called source link s t j early c.cause sign
 
-  pub no_seeds_come : (s : Status) → HasCause asks words random source link s → IsUncalled link s → ((command : Command) → CommandOf words command → asks) → IsTold source → ¬ HasFailed source → HasNoSeeds words random source → OrNoMemory (number_of s) 8
+  pub no_seeds_come : (s : Status) → HasCause asks words called source link s → IsUncalled link s → ((command : Command) → CommandOf words command → asks) → IsTold source → ¬ HasFailed source → HasNoSeeds words called source → OrNoMemory (number_of s) 8
   no_seeds_come s c early asking told quiet n = comes s NoSeeds c early (told, quiet) (record { command = n.command; asked = n.asked; sign = n.no_seeds }) (λ d. asking d.command d.asked)
 
-  pub strays_come : (s : Status) → HasCause asks words random source link s → IsUncalled link s → ((command : Command) → CommandOf words command → asks) → IsTold link → HasStrays words random link → OrNoMemory (number_of s) 7
+  pub strays_come : (s : Status) → HasCause asks words called source link s → IsUncalled link s → ((command : Command) → CommandOf words command → asks) → IsTold link → EndsInStrays words called link → OrNoMemory (number_of s) 7
   strays_come s c early asking told n = comes s Strays c early told (record { command = n.command; asked = n.asked; sign = n.strays }) (λ d. asking d.command d.asked)
 
-  pub unminted_comes : (s : Status) → HasCause asks words random source link s → IsUncalled link s → (HasNothing words random → asks) → HasNothing words random → OrNoMemory (number_of s) 10
+  pub unminted_comes : (s : Status) → HasCause asks words called source link s → IsUncalled link s → (HasNothing words called.random → asks) → HasNothing words called.random → OrNoMemory (number_of s) 10
   unminted_comes s c early asking n = comes s Unminted c early tt (record { command = n.command; asked = n.asked; sign = n.nothing }) (λ d. asking n)
 
-  pub bad_line_comes : (s : Status) → HasCause asks words random source link s → IsUncalled link s → asks → IsTold source → ¬ HasFailed source → HasBadLine source → OrNoMemory (number_of s) 3
+  pub bad_line_comes : (s : Status) → HasCause asks words called source link s → IsUncalled link s → asks → IsTold source → ¬ HasFailed source → HasBadLine source → OrNoMemory (number_of s) 3
   bad_line_comes Usage c early asking told quiet bad = absurd (c.0 asking)
   bad_line_comes NoMemory c early asking told quiet bad = inr refl
-  bad_line_comes s c early asking told quiet bad = (lawful c.command).one_sign random source link s (BadLine bad.0) (told, quiet) early c.cause bad.1
+  bad_line_comes s c early asking told quiet bad = (lawful c.command).one_sign called source link s (BadLine bad.0) (told, quiet) early c.cause bad.1
 
-  pub too_long_comes : (s : Status) → HasCause asks words random source link s → IsUncalled link s → IsTold source → ReadsTooMuch source.before source.after → OrNoMemory (number_of s) 11
+  pub too_long_comes : (s : Status) → HasCause asks words called source link s → IsUncalled link s → IsTold source → ReadsTooMuch source.before source.after → OrNoMemory (number_of s) 11
   too_long_comes Usage c early told much = absurd (few_not_much source.before source.after told (unread_few source.before source.after c.1) much)
   too_long_comes NoMemory c early told much = inr refl
-  too_long_comes s c early told much = (lawful c.command).one_sign random source link s TooLong told early c.cause much
+  too_long_comes s c early told much = (lawful c.command).one_sign called source link s TooLong told early c.cause much
 
-  pub completes : (sink : Shown ℕ) (s : Status) → HasCause asks words random source link s → asks → GoesWell words random source link sink → number_of s ≡ 9
+  pub completes : (sink : Shown ℕ) (s : Status) → HasCause asks words called source link s → asks → GoesWell words called source link sink → number_of s ≡ 9
   completes sink Usage c asking well = absurd (c.0 asking)
   completes sink NoMemory c asking well = refl
   completes sink s c asking well =
-      let needs = subst (λ (k : Command). (promise_of k).needs random source link) (command_once words well.command c.command well.asked c.asked) well.needs in
-      (lawful c.command).needed random source link s needs c.cause
+      let needs = subst (λ (k : Command). (promise_of k).needs called source link) (command_once words well.command c.command well.asked c.asked) well.needs in
+      (lawful c.command).needed called source link s needs c.cause
 
-  pub may_end : (s : Status) → HasCause asks words random source link s → asks → EndsByCommand words (number_of s)
+  pub may_end : (s : Status) → HasCause asks words called source link s → asks → EndsByCommand words (number_of s)
   may_end Usage c asking command asked = absurd (c.0 asking)
   may_end NoMemory c asking command asked = inr (inr (inl refl))
-  may_end s c asking command asked = subst (λ (k : Command). MayEnd (promise_of k) (number_of s)) (command_once words c.command command c.asked asked) ((lawful c.command).may_end random source link s c.cause)
+  may_end s c asking command asked = subst (λ (k : Command). MayEnd (promise_of k) (number_of s)) (command_once words c.command command c.asked asked) ((lawful c.command).may_end called source link s c.cause)

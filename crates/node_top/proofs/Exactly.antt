@@ -9,15 +9,17 @@ use Rattle.kad_base.specs.declared.types.Event.{Event}
 use Rattle.kad_base.specs.declared.types.Event.TheVariants.{Got}
 use Rattle.kad_base.specs.Limits.{max_strays}
 use Rattle.kad_base.specs.Outside.{Grows, Rose}
-use Rattle.kad_base.proofs.Grown.{grows_none}
+use Rattle.kad_base.proofs.Grown.{grows_none, grows_weaker}
+use Rattle.claim_book.specs.declared.types.Entry.{Entry}
 use Rattle.lookup_run.specs.Tells.{Given, EndsAtStray}
 use Rattle.node_top.specs.Lines.{lines, Reporting, IsBad, IsFirstBad}
 use Rattle.node_top.specs.Shown.{Shown}
 use Rattle.node_top.specs.Input.{ReadsAll, ReadsFew, ReadsTooMuch, Admits, Reads, ReadsSome, IsGood, Lists, HasBadLine}
-use Rattle.node_top.specs.Looked.{MeetsFewStrays, EndsByStrays, GivesNoSeeds, MeetsLastStray}
+use Rattle.node_top.specs.Looked.{NeverInStrays, IsInStrays, GivesNoSeeds, ShowsLastStray}
 use Rattle.node_top.specs.Promise.{Sought}
 use Rattle.node_top.specs.Started.{own_of, lookup_of}
 use Rattle.node_top.proofs.TextLaws.{read_or_bad, reading_once}
+use Rattle.node_top.specs.Called.{Called}
 
 -- ---- what was read
 
@@ -123,21 +125,23 @@ added_once {A} old (Some after) P told g h =
     let same : g.before ++ g.added ≡ g.before ++ h.added = sym g.sum_is ∙ h.sum_is ∙ ap (λ (l : List A). l ++ h.added) (sym before) in
     h.holds (subst P (append_cancel_left g.before g.added h.added same) g.holds)
 
-pub few_not_last : (sought : Sought) (random : List ℕ) (link : Shown Event) → link.after ≢ None → MeetsFewStrays sought.kind sought.look random link → EndsByStrays sought.kind sought.look random link → ⊥
-few_not_last sought random link told few ends = added_once link.before link.after (λ events. EndsAtStray (lookup_of sought.kind sought.look random) events max_strays) told ends few
+pub few_not_last : (sought : Sought) (called : Called) (link : Shown Event) → link.after ≢ None → NeverInStrays sought.kind sought.look called link → IsInStrays sought.kind sought.look called link → ⊥
+few_not_last sought called link told never ends =
+    let g = lookup_of sought.kind sought.look called in
+    added_once link.before link.after (λ events. (J : List Entry) × EndsAtStray g J events max_strays) told ends.1 (grows_weaker link.before link.after _ _ (never ends.0) (λ t none_ e. none_ e.0 e.1))
 
-none_last : (g : Given) (number : ℕ) → ¬ EndsAtStray g [] number
-none_last g number e = nothing_more e.before (Got e.from e.bytes e.until e.at) e.last
+none_last : (g : Given) (number : ℕ) → ((J : List Entry) × EndsAtStray g J [] number) → ⊥
+none_last g number e = nothing_more e.1.before (Got e.1.from e.1.bytes e.1.until e.1.at) e.1.last
   where
     nothing_more : (es : List Event) (x : Event) → [] ≡ es ++ x ∷ [] → ⊥
     nothing_more [] x e = cc
     nothing_more (y ∷ es) x e = cc
 
 -- where nothing was told it didn't
-pub uncalled_not_last : (sought : Option Sought) (random : List ℕ) (link : Shown Event) → link.after ≢ None → link.after ≡ link.before → MeetsLastStray sought random link → ⊥
-uncalled_not_last None random link told same t = t
-uncalled_not_last (Some sought) random link told same t =
-    let g = lookup_of sought.kind sought.look random in
-    let none_ : Grows link.before link.after (λ events. ¬ EndsAtStray g events max_strays) =
-    subst (λ (o : Option (List Event)). Grows link.before o (λ events. ¬ EndsAtStray g events max_strays)) (sym same) (grows_none link.before (λ events. ¬ EndsAtStray g events max_strays) (none_last g max_strays)) in
-    added_once link.before link.after (λ events. EndsAtStray g events max_strays) told t none_
+pub uncalled_not_last : (sought : Option Sought) (called : Called) (link : Shown Event) → link.after ≢ None → link.after ≡ link.before → ShowsLastStray sought called link → ⊥
+uncalled_not_last None called link told same t = t
+uncalled_not_last (Some sought) called link told same t =
+    let g = lookup_of sought.kind sought.look called in
+    let Last : List Event → Type 0 = (λ events. (J : List Entry) × EndsAtStray g J events max_strays) in
+    let none_ : Grows link.before link.after (λ events. Last events → ⊥) = subst (λ (o : Option (List Event)). Grows link.before o (λ events. Last events → ⊥)) (sym same) (grows_none link.before (λ events. Last events → ⊥) (none_last g max_strays)) in
+    added_once link.before link.after Last told t.1 none_

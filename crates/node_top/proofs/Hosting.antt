@@ -10,6 +10,7 @@ use Rattle.node_top.specs.Promise.{HostCause, HostsWell, IsOneOf, host_aim, judg
 use Rattle.node_top.specs.Shown.{Shown}
 use Rattle.node_top.proofs.Lawful.{Lawful}
 use Rattle.node_top.proofs.Staged.{Behind, reading_lawful}
+use Rattle.node_top.specs.Called.{Called}
 
 module _ (source : Shown ℕ) (link : Shown Event) (begun : Type 0) where
   needed : (s : Status) → HostsWell source link → ¬ HostCause begun link s
@@ -20,35 +21,35 @@ module _ (source : Shown ℕ) (link : Shown Event) (begun : Type 0) where
   in_ends LinkFault c = inl refl
   in_ends other c = absurd c
 
-module _ (ranges : Type 0) (text : List ℕ → Shown ℕ → Shown Event → List ℕ → Type 0) (begun : List ℕ → Shown ℕ → Shown Event → Type 0)
-    (good : (random : List ℕ) (source : Shown ℕ) (link : Shown Event) (written : List ℕ) → text random source link written → IsGood source)
-    (begins : (random : List ℕ) (source : Shown ℕ) (link : Shown Event) → begun random source link → IsGood source) where
-  behind : (random : List ℕ) (source : Shown ℕ) (link : Shown Event) (s : Status) → HostCause (begun random source link) link s → Behind (host_aim ranges text begun) random source link s
-  behind random source link LinkFault c =
-      let well = begins random source link c.1 in
+module _ (ranges : Type 0) (text : Called → Shown ℕ → Shown Event → List ℕ → Type 0) (begun : Called → Shown ℕ → Shown Event → Type 0)
+    (good : (called : Called) (source : Shown ℕ) (link : Shown Event) (written : List ℕ) → text called source link written → IsGood source)
+    (begins : (called : Called) (source : Shown ℕ) (link : Shown Event) → begun called source link → IsGood source) where
+  behind : (called : Called) (source : Shown ℕ) (link : Shown Event) (s : Status) → HostCause (begun called source link) link s → Behind (host_aim ranges text begun) called source link s
+  behind called source link LinkFault c =
+      let well = begins called source link c.1 in
       (well, (c.0, well, c.1), λ told none_. absurd none_, λ told early last. absurd last)
-  behind random source link other c = absurd c
+  behind called source link other c = absurd c
 
   pub hosting_lawful : Lawful (reading (host_aim ranges text begun))
   hosting_lawful = reading_lawful (host_aim ranges text begun) (record {
     good = good;
-    seeded = λ random source link written told t none_. none_;
-    few = λ random source link written told t last. last;
-    behind = λ random source link s c. behind random source link s c;
-    well = λ random source link n. record { told = n.told; reads = n.reads; reports = n.good.reports; lists = n.good.lists };
-    needed = λ random source link s n c. needed source link (begun random source link) s n c;
-    in_ends = λ random source link s c. in_ends source link (begun random source link) s c;
+    seeded = λ called source link written told t none_. none_;
+    few = λ called source link written told t last. last;
+    behind = λ called source link s c. behind called source link s c;
+    well = λ called source link n. record { told = n.told; reads = n.reads; reports = n.good.reports; lists = n.good.lists };
+    needed = λ called source link s n c. needed source link (begun called source link) s n c;
+    in_ends = λ called source link s c. in_ends source link (begun called source link) s c;
     seeks = λ none_. refl;
   })
 
-pub judging_lawful : (ranges : Type 0) (text : List ℕ → Shown ℕ → List ℕ → Type 0) → ((random : List ℕ) (source : Shown ℕ) (written : List ℕ) → text random source written → IsGood source) → Lawful (reading (judge_aim ranges text))
+pub judging_lawful : (ranges : Type 0) (text : Shown ℕ → List ℕ → Type 0) → ((source : Shown ℕ) (written : List ℕ) → text source written → IsGood source) → Lawful (reading (judge_aim ranges text))
 judging_lawful ranges text good = reading_lawful (judge_aim ranges text) (record {
-  good = λ random source link written t. good random source written t;
-  seeded = λ random source link written told t none_. none_;
-  few = λ random source link written told t last. last;
-  behind = λ random source link s c. absurd c;
-  well = λ random source link n. n;
-  needed = λ random source link s n c. c;
-  in_ends = λ random source link s c. absurd c;
+  good = λ called source link written t. good source written t;
+  seeded = λ called source link written told t none_. none_;
+  few = λ called source link written told t last. last;
+  behind = λ called source link s c. absurd c;
+  well = λ called source link n. n;
+  needed = λ called source link s n c. c;
+  in_ends = λ called source link s c. absurd c;
   seeks = λ none_. refl;
 })

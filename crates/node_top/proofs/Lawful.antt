@@ -5,18 +5,19 @@ use Rattle.node_top.specs.declared.status.Status.{Status}
 use Rattle.node_top.specs.declared.status.Status.TheVariants.{Usage, BadLine, LinkFault, SourceFault, Strays, NoSeeds, NoMemory, Unminted, TooLong}
 use Rattle.node_top.specs.Endings.{number_of, EndsUnasked, MayEnd, OrNoMemory}
 use Rattle.node_top.specs.Input.{ReadsTooMuch, IsBadLine}
-use Rattle.node_top.specs.Looked.{GivesSeeds, GivesNoSeeds, MeetsLastStray}
+use Rattle.node_top.specs.Looked.{GivesSeeds, GivesNoSeeds, MeetsLastStray, ShowsLastStray}
 use Rattle.node_top.specs.Promise.{Promise}
 use Rattle.node_top.specs.Shown.{Shown, IsTold, HasFailed}
+use Rattle.node_top.specs.Called.{Called}
 
 -- what brings a status, whatever else holds
-abbrev pub Sign : Promise → List ℕ → Shown ℕ → Shown Event → Status → Type 0
-Sign p random source link (BadLine line) = IsBadLine source line
-Sign p random source link NoSeeds = GivesNoSeeds p.sought random source
-Sign p random source link Strays = MeetsLastStray p.sought random link
-Sign p random source link Unminted = p.nothing random
-Sign p random source link TooLong = ReadsTooMuch source.before source.after
-Sign p random source link other = ⊥
+abbrev pub Sign : Promise → Called → Shown ℕ → Shown Event → Status → Type 0
+Sign p called source link (BadLine line) = IsBadLine source line
+Sign p called source link NoSeeds = GivesNoSeeds p.sought called.random source
+Sign p called source link Strays = ShowsLastStray p.sought called link
+Sign p called source link Unminted = p.nothing called.random
+Sign p called source link TooLong = ReadsTooMuch source.before source.after
+Sign p called source link other = ⊥
 
 -- the outside tells enough that the sign of this status decides
 abbrev pub IsJudged : Shown ℕ → Shown Event → Status → Type 0
@@ -27,16 +28,16 @@ IsJudged source link TooLong = IsTold source
 IsJudged source link other = Unit {0}
 
 -- what a status says of the source and the link, whatever the command is
-abbrev pub Means : Promise → List ℕ → Shown ℕ → Shown Event → Status → Type 0
-Means p random source link Usage = ⊥
-Means p random source link (BadLine line) = IsTrue p.reads × IsBadLine source line
-Means p random source link LinkFault = HasFailed link × p.started random source × p.begun random source link
-Means p random source link SourceFault = IsTrue p.reads × HasFailed source
-Means p random source link Strays = MeetsLastStray p.sought random link × GivesSeeds p.sought random source × p.begun random source link
-Means p random source link NoSeeds = GivesNoSeeds p.sought random source
-Means p random source link NoMemory = Unit {0}
-Means p random source link Unminted = p.nothing random
-Means p random source link TooLong = IsTrue p.reads × ReadsTooMuch source.before source.after
+abbrev pub Means : Promise → Called → Shown ℕ → Shown Event → Status → Type 0
+Means p called source link Usage = ⊥
+Means p called source link (BadLine line) = IsTrue p.reads × IsBadLine source line
+Means p called source link LinkFault = HasFailed link × p.started called source × p.begun called source link
+Means p called source link SourceFault = IsTrue p.reads × HasFailed source
+Means p called source link Strays = MeetsLastStray p.sought called source link × GivesSeeds p.sought called.random source × p.begun called source link
+Means p called source link NoSeeds = GivesNoSeeds p.sought called.random source
+Means p called source link NoMemory = Unit {0}
+Means p called source link Unminted = p.nothing called.random
+Means p called source link TooLong = IsTrue p.reads × ReadsTooMuch source.before source.after
 
 -- nothing was told before the link was called
 abbrev pub IsUncalled : Shown Event → Status → Type 0
@@ -44,13 +45,13 @@ IsUncalled link status = EndsUnasked (number_of status) → link.after ≡ link.
 
 pub record Lawful (p : Promise) : Type 0 where
   -- with its text there is no sign of another end
-  pub no_sign : (random : List ℕ) (source : Shown ℕ) (link : Shown Event) (text : List ℕ) (t : Status) → IsJudged source link t → p.text random source link text → Sign p random source link t → ⊥
+  pub no_sign : (called : Called) (source : Shown ℕ) (link : Shown Event) (text : List ℕ) (t : Status) → IsJudged source link t → p.text called source link text → Sign p called source link t → ⊥
   -- and with a cause no sign of another than that
-  pub one_sign : (random : List ℕ) (source : Shown ℕ) (link : Shown Event) (s t : Status) → IsJudged source link t → IsUncalled link s → p.cause random source link s → Sign p random source link t → OrNoMemory (number_of s) (number_of t)
+  pub one_sign : (called : Called) (source : Shown ℕ) (link : Shown Event) (s t : Status) → IsJudged source link t → IsUncalled link s → p.cause called source link s → Sign p called source link t → OrNoMemory (number_of s) (number_of t)
   -- with what it needs there is no cause but want of memory
-  pub needed : (random : List ℕ) (source : Shown ℕ) (link : Shown Event) (s : Status) → p.needs random source link → p.cause random source link s → number_of s ≡ 9
-  pub may_end : (random : List ℕ) (source : Shown ℕ) (link : Shown Event) (s : Status) → p.cause random source link s → MayEnd p (number_of s)
-  pub means : (random : List ℕ) (source : Shown ℕ) (link : Shown Event) (s : Status) → p.cause random source link s → Means p random source link s
+  pub needed : (called : Called) (source : Shown ℕ) (link : Shown Event) (s : Status) → p.needs called source link → p.cause called source link s → number_of s ≡ 9
+  pub may_end : (called : Called) (source : Shown ℕ) (link : Shown Event) (s : Status) → p.cause called source link s → MayEnd p (number_of s)
+  pub means : (called : Called) (source : Shown ℕ) (link : Shown Event) (s : Status) → p.cause called source link s → Means p called source link s
   -- what is looked up is so over the link, and a search needs none
   pub seeks : ¬ IsTrue p.links → p.sought ≡ None
   pub no_link : (random : List ℕ) → p.nothing random → ¬ IsTrue p.links

@@ -36,11 +36,11 @@ ruleset limits = (look_in_range, table_in_range, simulable)
 
 pub lawful : (command : Command) → Lawful (promise_of command)
 lawful (Lookup look) =
-    seeking_lawful (record { kind = FindNode; look = look }) (λ random source link text. LookupText FindNode look random source link text) (λ random source link. LookupBegun FindNode look random source link)
-    (λ random source link text t. t.ran.start) (λ random source link text t. t.few_strays) (λ random source link b. b)
+    seeking_lawful (record { kind = FindNode; look = look }) (λ called source link text. LookupText FindNode look called source link text) (λ called source link. LookupBegun FindNode look called source link)
+    (λ called source link text t. t.ran.start) (λ called source link text t. t.no_last_stray) (λ called source link b. b)
 lawful (Peers look announce) =
-    seeking_lawful (record { kind = GetPeers; look = look }) (λ random source link text. PeersText look announce random source link text) (λ random source link. PeersBegun look announce random source link)
-    (λ random source link text t. t.ran.start) (λ random source link text t. t.few_strays) (λ random source link b. inl b)
+    seeking_lawful (record { kind = GetPeers; look = look }) (λ called source link text. PeersText look announce called source link text) (λ called source link. PeersBegun look announce called source link)
+    (λ called source link text t. t.ran.start) (λ called source link text t. t.no_last_stray) (λ called source link b. inl b)
 lawful (Mint seed c1 c2 tries) = mint_lawful seed c1 c2 tries
 lawful other = search (rules, forms)
 

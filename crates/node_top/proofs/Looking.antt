@@ -5,19 +5,20 @@ use Rattle.node_top.specs.declared.status.Status.{Status}
 use Rattle.node_top.specs.declared.status.Status.TheVariants.{LinkFault, Strays, NoSeeds}
 use Rattle.node_top.specs.Endings.{number_of}
 use Rattle.node_top.specs.Input.{ReadsSome, ReadsWell}
-use Rattle.node_top.specs.Looked.{LookupBegun, MeetsFewStrays, SeekCause, SeeksWell, seek_aim}
+use Rattle.node_top.specs.Looked.{LookupBegun, NeverInStrays, SeekCause, SeeksWell, seek_aim}
 use Rattle.node_top.specs.Promise.{Sought, IsOneOf, reading}
 use Rattle.node_top.specs.Shown.{Shown}
 use Rattle.node_top.specs.Started.{own_of, Start}
 use Rattle.node_top.proofs.Exactly.{reads_good, some_not_none, few_not_last, uncalled_not_last}
 use Rattle.node_top.proofs.Lawful.{Lawful}
 use Rattle.node_top.proofs.Staged.{Behind, reading_lawful}
+use Rattle.node_top.specs.Called.{Called}
 
-module _ (sought : Sought) (random : List ℕ) (source : Shown ℕ) (link : Shown Event) where
-  start_seeds : Start sought.look random source → ReadsSome (own_of sought.look.own random) sought.look.policy source
+module _ (sought : Sought) (called : Called) (source : Shown ℕ) (link : Shown Event) where
+  start_seeds : Start sought.look called.random source → ReadsSome (own_of sought.look.own called.random) sought.look.policy source
   start_seeds s = record { contacts = s.contacts; reads = s.reads; some_one = s.some_one }
 
-  well : SeeksWell sought random source link → ReadsWell source
+  well : SeeksWell sought called source link → ReadsWell source
   well n = record {
     told = n.told;
     reads = n.reads;
@@ -25,53 +26,53 @@ module _ (sought : Sought) (random : List ℕ) (source : Shown ℕ) (link : Show
     lists = record { input = n.seeds.reads.input; read = n.seeds.reads.read; good_lines = n.seeds.reads.good_lines };
   }
 
-  needed : (s : Status) → SeeksWell sought random source link → ¬ SeekCause sought.kind sought.look random source link s
+  needed : (s : Status) → SeeksWell sought called source link → ¬ SeekCause sought.kind sought.look called source link s
   needed LinkFault n c = n.hears c.0
   needed Strays n c = n.few_strays c.0
-  needed NoSeeds n c = some_not_none (own_of sought.look.own random) sought.look.policy source n.told n.seeds c
+  needed NoSeeds n c = some_not_none (own_of sought.look.own called.random) sought.look.policy source n.told n.seeds c
   needed other n c = c
 
-  in_ends : (s : Status) → SeekCause sought.kind sought.look random source link s → IsOneOf (4 ∷ 7 ∷ 8 ∷ []) (number_of s)
+  in_ends : (s : Status) → SeekCause sought.kind sought.look called source link s → IsOneOf (4 ∷ 7 ∷ 8 ∷ []) (number_of s)
   in_ends LinkFault c = inl refl
   in_ends Strays c = inr (inl refl)
   in_ends NoSeeds c = inr (inr (inl refl))
   in_ends other c = absurd c
 
-module _ (sought : Sought) (text : List ℕ → Shown ℕ → Shown Event → List ℕ → Type 0) (begun : List ℕ → Shown ℕ → Shown Event → Type 0)
-    (starts : (random : List ℕ) (source : Shown ℕ) (link : Shown Event) (written : List ℕ) → text random source link written → Start sought.look random source)
-    (few : (random : List ℕ) (source : Shown ℕ) (link : Shown Event) (written : List ℕ) → text random source link written → MeetsFewStrays sought.kind sought.look random link)
-    (begins : (random : List ℕ) (source : Shown ℕ) (link : Shown Event) → LookupBegun sought.kind sought.look random source link → begun random source link) where
-  behind : (random : List ℕ) (source : Shown ℕ) (link : Shown Event) (s : Status) → SeekCause sought.kind sought.look random source link s → Behind (seek_aim sought text begun) random source link s
-  behind random source link LinkFault c =
-      let seeds = start_seeds sought random source link c.1.start in (
-        reads_good (own_of sought.look.own random) sought.look.policy source seeds.contacts seeds.reads,
-        (c.0, seeds, begins random source link c.1),
-        λ told none_. absurd (some_not_none (own_of sought.look.own random) sought.look.policy source told seeds none_),
-        λ told early last. absurd (few_not_last sought random link told c.2 last),
+module _ (sought : Sought) (text : Called → Shown ℕ → Shown Event → List ℕ → Type 0) (begun : Called → Shown ℕ → Shown Event → Type 0)
+    (starts : (called : Called) (source : Shown ℕ) (link : Shown Event) (written : List ℕ) → text called source link written → Start sought.look called.random source)
+    (few : (called : Called) (source : Shown ℕ) (link : Shown Event) (written : List ℕ) → text called source link written → NeverInStrays sought.kind sought.look called link)
+    (begins : (called : Called) (source : Shown ℕ) (link : Shown Event) → LookupBegun sought.kind sought.look called source link → begun called source link) where
+  behind : (called : Called) (source : Shown ℕ) (link : Shown Event) (s : Status) → SeekCause sought.kind sought.look called source link s → Behind (seek_aim sought text begun) called source link s
+  behind called source link LinkFault c =
+      let seeds = start_seeds sought called source link c.1.start in (
+        reads_good (own_of sought.look.own called.random) sought.look.policy source seeds.contacts seeds.reads,
+        (c.0, seeds, begins called source link c.1),
+        λ told none_. absurd (some_not_none (own_of sought.look.own called.random) sought.look.policy source told seeds none_),
+        λ told early last. absurd (few_not_last sought called link told c.2.never last),
       )
-  behind random source link Strays c =
-      let seeds = start_seeds sought random source link c.1.start in (
-        reads_good (own_of sought.look.own random) sought.look.policy source seeds.contacts seeds.reads,
-        (c.0, seeds, begins random source link c.1),
-        λ told none_. absurd (some_not_none (own_of sought.look.own random) sought.look.policy source told seeds none_),
+  behind called source link Strays c =
+      let seeds = start_seeds sought called source link c.1.start in (
+        reads_good (own_of sought.look.own called.random) sought.look.policy source seeds.contacts seeds.reads,
+        (c.0, seeds, begins called source link c.1),
+        λ told none_. absurd (some_not_none (own_of sought.look.own called.random) sought.look.policy source told seeds none_),
         λ told early last. inl refl,
       )
-  behind random source link NoSeeds c = (
-    reads_good (own_of sought.look.own random) sought.look.policy source [] c,
+  behind called source link NoSeeds c = (
+    reads_good (own_of sought.look.own called.random) sought.look.policy source [] c,
     c,
     λ told none_. inl refl,
-    λ told early last. absurd (uncalled_not_last (Some sought) random link told (early (inr (inr (inr (inl refl))))) last),
+    λ told early last. absurd (uncalled_not_last (Some sought) called link told (early (inr (inr (inr (inl refl))))) last),
   )
-  behind random source link other c = absurd c
+  behind called source link other c = absurd c
 
   pub seeking_lawful : Lawful (reading (seek_aim sought text begun))
   seeking_lawful = reading_lawful (seek_aim sought text begun) (record {
-    good = λ random source link written x. let s = starts random source link written x in reads_good (own_of sought.look.own random) sought.look.policy source s.contacts s.reads;
-    seeded = λ random source link written told x none_. some_not_none (own_of sought.look.own random) sought.look.policy source told (start_seeds sought random source link (starts random source link written x)) none_;
-    few = λ random source link written told x last. few_not_last sought random link told (few random source link written x) last;
-    behind = λ random source link s c. behind random source link s c;
-    well = λ random source link n. well sought random source link n;
-    needed = λ random source link s n c. needed sought random source link s n c;
-    in_ends = λ random source link s c. in_ends sought random source link s c;
+    good = λ called source link written x. let s = starts called source link written x in reads_good (own_of sought.look.own called.random) sought.look.policy source s.contacts s.reads;
+    seeded = λ called source link written told x none_. some_not_none (own_of sought.look.own called.random) sought.look.policy source told (start_seeds sought called source link (starts called source link written x)) none_;
+    few = λ called source link written told x last. few_not_last sought called link told (few called source link written x) last;
+    behind = λ called source link s c. behind called source link s c;
+    well = λ called source link n. well sought called source link n;
+    needed = λ called source link s n c. needed sought called source link s n c;
+    in_ends = λ called source link s c. in_ends sought called source link s c;
     seeks = λ none_. absurd (none_ refl);
   })

@@ -10,6 +10,7 @@ use Rattle.node_top.specs.Commands.Minted.{seed_of, MintText, MintCause, FindsNo
 use Rattle.node_top.specs.Shown.{Shown}
 use Rattle.node_top.proofs.Lawful.{Lawful}
 use Rattle.node_top.proofs.Staged.{unread_lawful}
+use Rattle.node_top.specs.Called.{Called}
 
 first_key_once : (seed : List ℕ) (c1 tries : ℕ) (a b : List ℕ) → IsFirstKey seed c1 tries a → IsFirstKey seed c1 tries b → a ≡ b
 first_key_once seed c1 tries a b s t =
@@ -37,8 +38,8 @@ mint_lawful seed c1 c2 tries =
     (λ random text t nothing. minted_not_nothing (seed_of seed random) c1 c2 tries text t nothing) (λ random nothing. inl refl)
 
 -- its own cause is that of its promise, where nothing was read
-pub mint_cause : (seed : Option (List ℕ)) (c1 c2 tries : ℕ) (random : List ℕ) (source : Shown ℕ) (link : Shown Event) → source.after ≡ source.before → (from : List ℕ) → from ≡ seed_of seed random
-    → (s : Status) → MintCause from c1 c2 tries s → (mint_promise seed c1 c2 tries).cause random source link s
-mint_cause seed c1 c2 tries random source link same from is NoMemory h = tt
-mint_cause seed c1 c2 tries random source link same from is Unminted h = (subst (λ (seed : List ℕ). FindsNothing seed c1 c2 tries) is h, same)
-mint_cause seed c1 c2 tries random source link same from is other h = h
+pub mint_cause : (seed : Option (List ℕ)) (c1 c2 tries : ℕ) (called : Called) (source : Shown ℕ) (link : Shown Event) → source.after ≡ source.before → (from : List ℕ) → from ≡ seed_of seed called.random
+    → (s : Status) → MintCause from c1 c2 tries s → (mint_promise seed c1 c2 tries).cause called source link s
+mint_cause seed c1 c2 tries called source link same from is NoMemory h = tt
+mint_cause seed c1 c2 tries called source link same from is Unminted h = (subst (λ (seed : List ℕ). FindsNothing seed c1 c2 tries) is h, same)
+mint_cause seed c1 c2 tries called source link same from is other h = h

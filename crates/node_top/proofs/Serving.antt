@@ -29,35 +29,36 @@ use Rattle.node_top.specs.Printed.{served_text}
 use Rattle.node_top.specs.Shown.{Shown}
 use Rattle.node_top.specs.Commands.Served.{Hosts, begun_at, Served, ServedSome, ServeBegun}
 use Rattle.node_top.specs.Started.{own_of, seen_call}
+use Rattle.node_top.specs.Called.{Called}
 
 -- ---- the command
 
 -- the node that it begins with, as the code has it
 pub node_begun : (service : Service) (random : List ℕ) (table : TableState) (proofs : List Report) (own : Id) (began : ℕ) (node : NodeState) → own ≡ own_of service.own random
-    → node ≡ new_node own service.k service.policy table proofs random began → record { node = node; moment = began } ≡ begun_at service random table proofs began
+    → node ≡ new_node own service.k service.policy table proofs random began service.sealed → record { node = node; moment = began } ≡ begun_at service random table proofs began
 node_begun service random table proofs own began node mine is =
-    ap (λ n. record { node = n; moment = began }) (is ∙ ap (λ (id : Id). new_node id service.k service.policy table proofs random began) mine)
+    ap (λ n. record { node = n; moment = began }) (is ∙ ap (λ (id : Id). new_node id service.k service.policy table proofs random began service.sealed) mine)
 
-pub served_all : (service : Service) (random : List ℕ) (table : TableState) (proofs : List Report) (node : NodeState) (began received replied : ℕ) (a b c : Option (List Event))
-    → record { node = node; moment = began } ≡ begun_at service random table proofs began → Grows a b (λ es. es ≡ Now began ∷ []) → Grows b c (ServesAll (record { node = node; moment = began }) service.receives received replied)
-    → Grows a c (Served service random table proofs received replied)
-served_all service random table proofs node began received replied a b c begins g h =
+pub served_all : (service : Service) (called : Called) (table : TableState) (proofs : List Report) (node : NodeState) (began received replied : ℕ) (a b c : Option (List Event))
+    → record { node = node; moment = began } ≡ begun_at service called.random table proofs began → Grows a b (λ es. es ≡ Now began ∷ []) → Grows b c (ServesAll called.tags (record { node = node; moment = began }) service.receives received replied)
+    → Grows a c (Served service called table proofs received replied)
+served_all service called table proofs node began received replied a b c begins g h =
     grows_then a b c _ _ _ g h (λ es fs e p. record {
       began = began;
       then = fs;
       whole = ap (λ (l : List Event). l ++ fs) e;
-      serves = subst (λ (s : ServeState). ServesAll s service.receives received replied fs) begins p;
+      serves = subst (λ (s : ServeState). ServesAll called.tags s service.receives received replied fs) begins p;
     })
 
-pub served_some : (service : Service) (random : List ℕ) (table : TableState) (proofs : List Report) (node : NodeState) (began : ℕ) (a b c : Option (List Event))
-    → record { node = node; moment = began } ≡ begun_at service random table proofs began → Grows a b (λ es. es ≡ Now began ∷ []) → Grows b c (ServesSome (record { node = node; moment = began }) service.receives)
-    → Grows a c (ServedSome service random table proofs)
-served_some service random table proofs node began a b c begins g h =
+pub served_some : (service : Service) (called : Called) (table : TableState) (proofs : List Report) (node : NodeState) (began : ℕ) (a b c : Option (List Event))
+    → record { node = node; moment = began } ≡ begun_at service called.random table proofs began → Grows a b (λ es. es ≡ Now began ∷ []) → Grows b c (ServesSome called.tags (record { node = node; moment = began }) service.receives)
+    → Grows a c (ServedSome service called table proofs)
+served_some service called table proofs node began a b c begins g h =
     grows_then a b c _ _ _ g h (λ es fs e p. record {
       began = began;
       then = fs;
       whole = ap (λ (l : List Event). l ++ fs) e;
-      serves = subst (λ (s : ServeState). ServesSome s service.receives fs) begins p;
+      serves = subst (λ (s : ServeState). ServesSome called.tags s service.receives fs) begins p;
     })
 
 -- what it begins with, as the code has it
@@ -73,11 +74,11 @@ hosted service random source own reports read contacts cs proofs table mine list
 }
 
 -- how it ends where its receive calls stop
-pub some_begun : (service : Service) (random : List ℕ) (source : Shown ℕ) (link : Shown Event) (table : TableState) (proofs : List Report) (node : NodeState) (began : ℕ) (b : Option (List Event)) → Hosts service random source table proofs
-    → record { node = node; moment = began } ≡ begun_at service random table proofs began → Grows link.before b (λ es. es ≡ Now began ∷ []) → Grows b link.after (ServesSome (record { node = node; moment = began }) service.receives)
-    → ServeBegun service random source link
-some_begun service random source link table proofs node began b hosts begins g h =
-    record { table = table; proofs = proofs; hosts = hosts; tells = served_some service random table proofs node began link.before b link.after begins g h }
+pub some_begun : (service : Service) (called : Called) (source : Shown ℕ) (link : Shown Event) (table : TableState) (proofs : List Report) (node : NodeState) (began : ℕ) (b : Option (List Event)) → Hosts service called.random source table proofs
+    → record { node = node; moment = began } ≡ begun_at service called.random table proofs began → Grows link.before b (λ es. es ≡ Now began ∷ []) → Grows b link.after (ServesSome called.tags (record { node = node; moment = began }) service.receives)
+    → ServeBegun service called source link
+some_begun service called source link table proofs node began b hosts begins g h =
+    record { table = table; proofs = proofs; hosts = hosts; tells = served_some service called table proofs node began link.before b link.after begins g h }
 
 pub err_is : {T E : Type 0} (r : Result T E) (x y : E) → r ≡ Err x → x ≡ y → r ≡ Err y
 err_is r x y e f = subst (λ z. r ≡ Err z) f e

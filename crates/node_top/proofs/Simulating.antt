@@ -31,7 +31,8 @@ use Rattle.node_top.specs.declared.commands.sim.Start.{Start}
 use Rattle.node_top.specs.Input.{Admits}
 use Rattle.node_top.specs.Printed.{line_of}
 use Rattle.node_top.specs.Started.{own_of, look_of, book_of, drawn_of, lookup_of, IsInRange, seen_call, StartsWith}
-use Rattle.node_top.specs.Commands.Simulated.{network_of, look_to, sim_look, IsSimulable, report_of, first_nodes, Begins, count_among, sought_in, sim_text, SimText}
+use Rattle.seal_tags.specs.Seals.{is_group_tag}
+use Rattle.node_top.specs.Commands.Simulated.{network_of, look_to, sim_look, IsSimulable, report_of, first_nodes, Begins, count_among, sought_in, sim_text, SimText, no_key, sim_called}
 use Rattle.node_top.proofs.Begun.{admits_usable, within_limits}
 use Rattle.node_top.proofs.Starting.{usable_told}
 
@@ -95,8 +96,8 @@ sim_usable s start b =
 
 simulates_at : (s : Simulation) (left : WordsState) (contacts : List Contact) (table : TableState) (near : List Contact) (o : Outcome) (events : List Event) (text : List ℕ)
     → Admits (own_of None s.seed) Plain (first_nodes s) contacts → StartsWith (sim_look s) s.seed contacts table → near ≡ sought_in s → Plays (network_of s) events
-    → Finished (look_of FindNode (sim_look s) s.seed) table (drawn_of s.seed) left (Some []) (Some events) o
-    → Grows (Some []) (Some events) (λ events. Rounds sequential (lookup_of FindNode (sim_look s) s.seed) o.journal events)
+    → Finished (look_of FindNode (sim_look s) s.seed) (sim_called s).accepts table (drawn_of s.seed) left (Some []) (Some events) o
+    → Grows (Some []) (Some events) (λ events. Rounds sequential (lookup_of FindNode (sim_look s) (sim_called s)) o.journal events)
     → text ≡ line_of (sim_text (length o.found) o.counts.asked o.counts.failed o.counts.turned (count_among near o.found)) → SimText s text
 simulates_at s left contacts table near o events text admits told near_is plays up rounds is =
     let R = result_of (book_of FindNode (sim_look s) s.seed) o.journal in
@@ -124,20 +125,21 @@ simulates_at s left contacts table near o events text admits told near_is plays 
     }
 
 -- the same over the values that the code has
-pub simulates : (s : Simulation) (start : Start) (words left : WordsState) (o : Outcome) (net : Network) (before after : Option (List Event)) (text : List ℕ)
-    → Begins s start → words ≡ drawn_of s.seed → net ≡ network_of s → before ≡ Some [] → (after ≡ None → ⊥) → IfSome after (Plays net)
-    → Finished start.setting start.table words left before after o → Grows before after (λ events. Rounds sequential (given_of start.setting words) o.journal events)
+pub simulates : (s : Simulation) (start : Start) (key : List ℕ) (words left : WordsState) (o : Outcome) (net : Network) (before after : Option (List Event)) (text : List ℕ)
+    → Begins s start → key ≡ no_key → words ≡ drawn_of s.seed → net ≡ network_of s → before ≡ Some [] → (after ≡ None → ⊥) → IfSome after (Plays net)
+    → Finished start.setting (is_group_tag key) start.table words left before after o → Grows before after (λ events. Rounds sequential (given_of start.setting (is_group_tag key) words) o.journal events)
     → text ≡ line_of (sim_text (length o.found) o.counts.asked o.counts.failed o.counts.turned (count_among start.near o.found)) → SimText s text
-simulates s start words left o net before None text begun f net_is began goes_on plays up rounds is = absurd (goes_on refl)
-simulates s start words left o net before (Some events) text begun f net_is began goes_on plays up rounds is =
-    let setting = look_of FindNode (sim_look s) s.seed in
+simulates s start key words left o net before None text begun sealed f net_is began goes_on plays up rounds is = absurd (goes_on refl)
+simulates s start key words left o net before (Some events) text begun sealed f net_is began goes_on plays up rounds is =
     simulates_at s left begun.contacts start.table start.near o events text begun.admits begun.told begun.near_is (subst (λ (n : Network). Plays n events) net_is plays)
-    (subst (λ (st : LookSetting). Finished st start.table (drawn_of s.seed) left (Some []) (Some events) o) begun.setting_is
-    (subst (λ (w : WordsState). Finished start.setting start.table w left (Some []) (Some events) o) f
-    (subst (λ (b : Option (List Event)). Finished start.setting start.table words left b (Some events) o) began up)))
-    (subst (λ (st : LookSetting). Grows (Some []) (Some events) (λ events. Rounds sequential (given_of st (drawn_of s.seed)) o.journal events)) begun.setting_is
-    (subst (λ (w : WordsState). Grows (Some []) (Some events) (λ events. Rounds sequential (given_of start.setting w) o.journal events)) f
-    (subst (λ (b : Option (List Event)). Grows b (Some events) (λ events. Rounds sequential (given_of start.setting words) o.journal events)) began rounds)))
+    (subst (λ (st : LookSetting). Finished st (is_group_tag no_key) start.table (drawn_of s.seed) left (Some []) (Some events) o) begun.setting_is
+    (subst (λ (w : WordsState). Finished start.setting (is_group_tag no_key) start.table w left (Some []) (Some events) o) f
+    (subst (λ (b : Option (List Event)). Finished start.setting (is_group_tag no_key) start.table words left b (Some events) o) began
+    (subst (λ (k : List ℕ). Finished start.setting (is_group_tag k) start.table words left before (Some events) o) sealed up))))
+    (subst (λ (st : LookSetting). Grows (Some []) (Some events) (λ events. Rounds sequential (given_of st (is_group_tag no_key) (drawn_of s.seed)) o.journal events)) begun.setting_is
+    (subst (λ (w : WordsState). Grows (Some []) (Some events) (λ events. Rounds sequential (given_of start.setting (is_group_tag no_key) w) o.journal events)) f
+    (subst (λ (b : Option (List Event)). Grows b (Some events) (λ events. Rounds sequential (given_of start.setting (is_group_tag no_key) words) o.journal events)) began
+    (subst (λ (k : List ℕ). Grows before (Some events) (λ events. Rounds sequential (given_of start.setting (is_group_tag k) words) o.journal events)) sealed rounds))))
     is
 
 pub sim_pieces : (found asked failed turned honest : ℕ)

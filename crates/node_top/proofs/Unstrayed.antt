@@ -19,7 +19,8 @@ use Rattle.claim_book.specs.Journal.{ask_of, asked}
 use Rattle.claim_book.proofs.Bounds.{asked_few}
 use Rattle.lookup_run.specs.declared.types.LookSetting.{LookSetting}
 use Rattle.lookup_run.specs.Tells.{Given, Seen, driven, Gives, TellsFrom, begun, TellsSoFar, EndsAtStray}
-use Rattle.lookup_run.specs.Lookup.{IsWithinLimits, setting_of, given_of, TellsEarly, Unfinished}
+use Rattle.lookup_run.specs.Lookup.{IsWithinLimits, setting_of, given_of, TellsEarly, Unfinished, EndsByStrays}
+use Rattle.lookup_core.specs.Sealed.{Accepts}
 
 -- ---- whom a journal asks
 
@@ -117,9 +118,9 @@ early g J events t =
       | inr w ↦ (let same = ap (count sent_of) w.4 in let sum = count_append sent_of t.front (Got w.0 w.1 w.2 w.3 ∷ []) in omega (arith, asks, same, sum))
     ]
 
-last : (g : Given) (events : List Event) (n : ℕ) → EndsAtStray g events n → n ≤ count got_of events
-last g events n h =
-    let strays = (few g h.journal h.before h.end h.so_far).strays in
+last : (g : Given) (J : List Entry) (events : List Event) (n : ℕ) → EndsAtStray g J events n → n ≤ count got_of events
+last g J events n h =
+    let strays = (few g J h.before h.end h.so_far).strays in
     let is = h.count in
     let same = ap (count got_of) h.last in
     let sum = count_append got_of h.before (Got h.from h.bytes h.until h.at ∷ []) in
@@ -135,12 +136,12 @@ whole before events P began a =
 few_asked : (look : LookSetting) (J : List Entry) (n : ℕ) → IsWithinLimits look → n ≤ length (asked J) → length (asked J) ≤ max_path_contacts * look.paths → n < max_strays
 few_asked look J n limits le most = (let paths = limits.few_paths in omega (arith, le, most, paths))
 
-pub no_strays : (look : LookSetting) (table : TableState) (words words' : WordsState) (net : Network) (before after : Option (List Event)) → IsWithinLimits look → before ≡ Some [] → (after ≡ None → ⊥)
-    → IfSome after (Plays net) → Unfinished look table words words' before after → Grows before after (λ events. EndsAtStray (given_of look words) events max_strays) → ⊥
-no_strays look table words words' net before None limits began goes_on plays left ends = absurd (goes_on refl)
-no_strays look table words words' net before (Some events) limits began goes_on plays left ends =
-    let asks = early (given_of look words) left.journal events (whole before events _ began left.tells) in
-    let strays = last (given_of look words) events max_strays (whole before events _ began ends) in
+pub no_strays : (look : LookSetting) (accepts : Accepts) (table : TableState) (words words' : WordsState) (net : Network) (before after : Option (List Event)) → IsWithinLimits look → before ≡ Some [] → (after ≡ None → ⊥)
+    → IfSome after (Plays net) → Unfinished look accepts table words words' before after → EndsByStrays look accepts table words before after → ⊥
+no_strays look accepts table words words' net before None limits began goes_on plays left ends = absurd (goes_on refl)
+no_strays look accepts table words words' net before (Some events) limits began goes_on plays left ends =
+    let asks = early (given_of look accepts words) left.journal events (whole before events _ began left.tells) in
+    let strays = last (given_of look accepts words) ends.journal events max_strays (whole before events _ began ends.tells) in
     let come = few_come net events plays in
     let some_path = limits.some_path in
     let few_live = limits.few in

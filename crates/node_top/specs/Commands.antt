@@ -5,7 +5,7 @@ pub mod Minted
 pub mod Peered
 pub mod Served
 pub mod Simulated
-use Rattle.std.specs.Prelude.{◌≡◌, ℕ, List, Option, IsTrue}
+use Rattle.std.specs.Prelude.{◌≡◌, ℕ, List, Option, Bool, IsTrue}
 use Rattle.kad_base.specs.declared.types.Id.{Id}
 use Rattle.kad_base.specs.declared.types.Policy.{Policy}
 use Rattle.kad_base.specs.declared.types.Event.{Event}
@@ -21,16 +21,17 @@ use Rattle.node_top.specs.declared.status.Status.TheVariants.{Usage, NoMemory}
 use Rattle.node_top.specs.Asked.{AsksPlain}
 use Rattle.node_top.specs.Commands.Checked.{check_promise}
 use Rattle.node_top.specs.Commands.Served.{serve_promise}
-use Rattle.node_top.specs.Looked.{lookup_promise, GivesSeeds, GivesNoSeeds, MeetsLastStray}
+use Rattle.node_top.specs.Looked.{lookup_promise, GivesSeeds, GivesNoSeeds, MeetsLastStray, ShowsLastStray}
 use Rattle.node_top.specs.Commands.Minted.{seed_of, mint_promise}
 use Rattle.node_top.specs.Commands.Peered.{peers_promise}
 use Rattle.node_top.specs.Promise.{Promise}
 use Rattle.node_top.specs.Shown.{Shown, HasFailed, nowhere}
+use Rattle.node_top.specs.Called.{Called}
 use Rattle.node_top.specs.Commands.Simulated.{sim_promise}
 
 -- what the words of `serve` say
-abbrev pub service_of : Option Id → ℕ → ℕ → Policy → ℕ → Service
-service_of own k bits policy receives = record { own = own; k = k; bits = bits; policy = policy; receives = receives }
+abbrev pub service_of : Option Id → ℕ → ℕ → Policy → ℕ → Bool → Service
+service_of own k bits policy receives sealed = record { own = own; k = k; bits = bits; policy = policy; receives = receives; sealed = sealed }
 
 -- the simulation of the words
 abbrev pub simulation_of : Option (List ℕ) → ℕ → ℕ → ℕ → ℕ → ℕ → ℕ → List ℕ → Simulation
@@ -47,7 +48,7 @@ simulation_of seed nodes hostile k paths alpha timeout random = record {
 abbrev pub promise_of : Command → Promise
 promise_of (Lookup look) = lookup_promise look
 promise_of (Peers look announce) = peers_promise look announce
-promise_of (Serve own k bits policy receives) = serve_promise (service_of own k bits policy receives)
+promise_of (Serve own k bits policy receives sealed) = serve_promise (service_of own k bits policy receives sealed)
 promise_of (Check policy) = check_promise policy
 promise_of (Mint seed c1 c2 tries) = mint_promise seed c1 c2 tries
 promise_of (Sim seed nodes hostile k paths alpha timeout) = sim_promise (simulation_of seed nodes hostile k paths alpha timeout)
@@ -55,28 +56,28 @@ promise_of (Sim seed nodes hostile k paths alpha timeout) = sim_promise (simulat
 -- ---- what it makes
 
 -- the words ask for a command, and this is its text
-pub record HasText (words : List Word) (random : List ℕ) (source : Shown ℕ) (link : Shown Event) (text : List ℕ) : Type 0 where
+pub record HasText (words : List Word) (called : Called) (source : Shown ℕ) (link : Shown Event) (text : List ℕ) : Type 0 where
   pub command : Command
   pub asked : CommandOf words command
-  pub text_of : (promise_of command).text random source link text
+  pub text_of : (promise_of command).text called source link text
 
 -- a whole command: the words ask for it, and its text was written
-pub record IsDone (words : List Word) (random : List ℕ) (source : Shown ℕ) (link : Shown Event) (sink : Shown ℕ) : Type 0 where
+pub record IsDone (words : List Word) (called : Called) (source : Shown ℕ) (link : Shown Event) (sink : Shown ℕ) : Type 0 where
   pub text : List ℕ
-  pub has_text : HasText words random source link text
+  pub has_text : HasText words called source link text
   pub writes : Grows sink.before sink.after (λ added. added ≡ text)
 
 -- the words ask for a command over a link, which was begun and not ended
-pub record HasBegun (words : List Word) (random : List ℕ) (source : Shown ℕ) (link : Shown Event) : Type 0 where
+pub record HasBegun (words : List Word) (called : Called) (source : Shown ℕ) (link : Shown Event) : Type 0 where
   pub command : Command
   pub asked : CommandOf words command
-  pub begun : (promise_of command).begun random source link
+  pub begun : (promise_of command).begun called source link
 
 -- the words ask for a command over a link, which had read what it begins with
-pub record HasStart (words : List Word) (random : List ℕ) (source : Shown ℕ) : Type 0 where
+pub record HasStart (words : List Word) (called : Called) (source : Shown ℕ) : Type 0 where
   pub command : Command
   pub asked : CommandOf words command
-  pub started : (promise_of command).started random source
+  pub started : (promise_of command).started called source
 
 -- ---- what it met
 
@@ -88,23 +89,29 @@ pub record ReadsInput (words : List Word) : Type 0 where
 
 -- the words ask for a lookup; the input was read to its end, its lines are good, and some give a contact that is usable
 -- and passes
-pub record HasSeeds (words : List Word) (random : List ℕ) (source : Shown ℕ) : Type 0 where
+pub record HasSeeds (words : List Word) (called : Called) (source : Shown ℕ) : Type 0 where
   pub command : Command
   pub asked : CommandOf words command
-  pub seeds : GivesSeeds (promise_of command).sought random source
+  pub seeds : GivesSeeds (promise_of command).sought called.random source
 
 -- the words ask for a lookup; the input was read to its end, its lines are good, and none gives a contact that is
 -- usable and passes
-pub record HasNoSeeds (words : List Word) (random : List ℕ) (source : Shown ℕ) : Type 0 where
+pub record HasNoSeeds (words : List Word) (called : Called) (source : Shown ℕ) : Type 0 where
   pub command : Command
   pub asked : CommandOf words command
-  pub no_seeds : GivesNoSeeds (promise_of command).sought random source
+  pub no_seeds : GivesNoSeeds (promise_of command).sought called.random source
 
--- the words ask for a lookup, and the link's events end with the last stray that it takes
-pub record HasStrays (words : List Word) (random : List ℕ) (link : Shown Event) : Type 0 where
+-- the words ask for a lookup, and the link's events end with the last stray that it takes, by a journal of its own
+pub record HasStrays (words : List Word) (called : Called) (source : Shown ℕ) (link : Shown Event) : Type 0 where
   pub command : Command
   pub asked : CommandOf words command
-  pub strays : MeetsLastStray (promise_of command).sought random link
+  pub strays : MeetsLastStray (promise_of command).sought called source link
+
+-- the words ask for a lookup that isn't sealed, and the link's events end with that stray, by whatever journal
+pub record EndsInStrays (words : List Word) (called : Called) (link : Shown Event) : Type 0 where
+  pub command : Command
+  pub asked : CommandOf words command
+  pub strays : ShowsLastStray (promise_of command).sought called link
 
 -- the words ask for a search, which finds nothing
 pub record HasNothing (words : List Word) (random : List ℕ) : Type 0 where
@@ -115,26 +122,26 @@ pub record HasNothing (words : List Word) (random : List ℕ) : Type 0 where
 -- ---- why it has no text
 
 -- the words ask for a command, and it has this cause of this status
-pub record IsCaused (words : List Word) (random : List ℕ) (source : Shown ℕ) (link : Shown Event) (status : Status) : Type 0 where
+pub record IsCaused (words : List Word) (called : Called) (source : Shown ℕ) (link : Shown Event) (status : Status) : Type 0 where
   pub command : Command
   pub asked : CommandOf words command
-  pub cause : (promise_of command).cause random source link status
+  pub cause : (promise_of command).cause called source link status
 
 -- why there is no output, of words that may ask or not: they don't, there was no memory to read them, or the command's own
-abbrev pub HasCause : Type 0 → List Word → List ℕ → Shown ℕ → Shown Event → Status → Type 0
-HasCause asks words random source link Usage = (¬ asks) × (source.after ≡ source.before)
-HasCause asks words random source link NoMemory = Unit {0}
-HasCause asks words random source link status = IsCaused words random source link status
+abbrev pub HasCause : Type 0 → List Word → Called → Shown ℕ → Shown Event → Status → Type 0
+HasCause asks words called source link Usage = (¬ asks) × (source.after ≡ source.before)
+HasCause asks words called source link NoMemory = Unit {0}
+HasCause asks words called source link status = IsCaused words called source link status
 
 -- ---- what it needs
 
 -- what a command that ends well goes by
-pub record GoesWell (words : List Word) (random : List ℕ) (source : Shown ℕ) (link : Shown Event) (sink : Shown ℕ) : Type 0 where
+pub record GoesWell (words : List Word) (called : Called) (source : Shown ℕ) (link : Shown Event) (sink : Shown ℕ) : Type 0 where
   pub command : Command
   pub asked : CommandOf words command
-  pub needs : (promise_of command).needs random source link
+  pub needs : (promise_of command).needs called source link
   pub writes : ¬ HasFailed sink
 
 -- the same of a command that takes no link
-abbrev pub GoesPlainlyWell : List Word → List ℕ → Shown ℕ → Shown ℕ → Type 0
-GoesPlainlyWell words random source sink = AsksPlain words × GoesWell words random source nowhere sink
+abbrev pub GoesPlainlyWell : List Word → Called → Shown ℕ → Shown ℕ → Type 0
+GoesPlainlyWell words called source sink = AsksPlain words × GoesWell words called source nowhere sink

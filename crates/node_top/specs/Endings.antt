@@ -9,6 +9,7 @@ use Rattle.kad_words.specs.Plain.{CommandOf}
 use Rattle.kad_words.specs.declared.command.Command.{Command}
 use Rattle.node_top.specs.Written.{IsFront}
 use Rattle.node_top.specs.Shown.{Shown, HasFailed}
+use Rattle.node_top.specs.Called.{Called}
 use Rattle.node_top.specs.Input.{IsBadLine}
 use Rattle.node_top.specs.Commands.{promise_of, HasText}
 use Rattle.node_top.specs.Promise.{Promise, IsOneOf}
@@ -60,9 +61,9 @@ pub record WritesLine (number : ℕ) (source sink : Shown ℕ) : Type 0 where
   pub writes : Writes (status_line status) sink
 
 -- a command whose text was not written to its end: all is as in a whole one, but that a front of its text was written
-pub record CutShort (words : List Word) (random : List ℕ) (source : Shown ℕ) (link : Shown Event) (sink : Shown ℕ) : Type 0 where
+pub record CutShort (words : List Word) (called : Called) (source : Shown ℕ) (link : Shown Event) (sink : Shown ℕ) : Type 0 where
   pub text : List ℕ
-  pub has_text : HasText words random source link text
+  pub has_text : HasText words called source link text
   pub writes : Grows sink.before sink.after (λ added. IsFront added text)
 
 -- the statuses with which a command may end

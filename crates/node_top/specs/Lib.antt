@@ -2,6 +2,7 @@ pub mod Asked
 pub mod Lines
 pub mod Printed
 pub mod Shown
+pub mod Called
 pub mod Input
 pub mod Promise
 pub mod Started

@@ -1,6 +1,6 @@
 -- What the command `lookup` promises: that its text is that of the journal of a lookup that has run out, which the link's
 -- events tell (S/Kademlia, 2007, section 4.4, over Kademlia, 2002, section 2.3); and what any lookup is that ended early.
-use Rattle.std.specs.Prelude.{◌≡◌, ℕ, List, [], ◌∷◌, length, true, Option, Some, None}
+use Rattle.std.specs.Prelude.{◌≡◌, ℕ, List, [], ◌∷◌, length, true, false, Option, Some, None}
 use Rattle.std.specs.List.{IsDistinct}
 use Rattle.kad_base.specs.declared.types.Id.{Id}
 use Rattle.kad_base.specs.declared.types.Policy.{Policy}
@@ -16,14 +16,15 @@ use Rattle.claim_book.specs.Lineage.{GoesByOwnAnswers}
 use Rattle.claim_book.specs.Result.{result_of}
 use Rattle.lookup_core.specs.declared.quest.AskKind.{AskKind}
 use Rattle.lookup_core.specs.declared.quest.AskKind.TheVariants.{FindNode}
-use Rattle.lookup_run.specs.Tells.{Tells, EndsAtStray}
+use Rattle.lookup_run.specs.Tells.{Tells, EndsAtStray, HasFewStrays, NeverEnds}
 use Rattle.lookup_run.specs.Rounds.{Rounds, concurrent}
-use Rattle.lookup_run.specs.Lookup.{Unfinished}
+use Rattle.lookup_run.specs.Lookup.{Unfinished, EndsByStrays, MeetsFewStrays}
 use Rattle.kad_words.specs.declared.command.LookWords.{LookWords}
 use Rattle.node_top.specs.declared.status.Status.{Status}
 use Rattle.node_top.specs.declared.status.Status.TheVariants.{LinkFault, Strays, NoSeeds}
 use Rattle.node_top.specs.Printed.{printed}
 use Rattle.node_top.specs.Shown.{Shown, IsTold, HasFailed}
+use Rattle.node_top.specs.Called.{Called}
 use Rattle.node_top.specs.Input.{Reads, ReadsSome}
 use Rattle.node_top.specs.Promise.{Promise, Sought, Aim, ReadingCause, reading}
 use Rattle.node_top.specs.Reached.{HasRunOut}
@@ -33,45 +34,57 @@ use Rattle.node_top.specs.Started.{own_of, look_of, book_of, drawn_of, lookup_of
 abbrev pub printed_of : Setting → List Entry → List ℕ
 printed_of setting J = printed (result_of setting J) (length (asked J)) (length (failed J)) (length (turned J))
 
--- the link's events end with the last stray that a lookup takes
-abbrev pub EndsByStrays : AskKind → LookWords → List ℕ → Shown Event → Type 0
-EndsByStrays kind look random link = Grows link.before link.after (λ events. EndsAtStray (lookup_of kind look random) events max_strays)
+-- the events of a lookup that isn't sealed don't end with the last stray that it takes, by whatever journal
+abbrev pub NeverInStrays : AskKind → LookWords → Called → Shown Event → Type 0
+NeverInStrays kind look called link = look.sealed ≡ false → Grows link.before link.after (NeverEnds (lookup_of kind look called) max_strays)
 
--- they don't
-abbrev pub MeetsFewStrays : AskKind → LookWords → List ℕ → Shown Event → Type 0
-MeetsFewStrays kind look random link = Grows link.before link.after (λ events. ¬ EndsAtStray (lookup_of kind look random) events max_strays)
+-- they do, by some
+abbrev pub IsInStrays : AskKind → LookWords → Called → Shown Event → Type 0
+IsInStrays kind look called link = (look.sealed ≡ false) × Grows link.before link.after (λ events. (J : List Entry) × EndsAtStray (lookup_of kind look called) J events max_strays)
 
 -- A lookup that was asked for: its journal has run out, the link's events tell it and go by rounds, and the text is its
 -- own. So each that is printed has answered.
-pub record LookupText (kind : AskKind) (look : LookWords) (random : List ℕ) (source : Shown ℕ) (link : Shown Event) (text : List ℕ) : Type 0 where
+pub record LookupText (kind : AskKind) (look : LookWords) (called : Called) (source : Shown ℕ) (link : Shown Event) (text : List ℕ) : Type 0 where
   pub journal : List Entry
-  pub ran : HasRunOut kind look random source journal
-  pub tells : Grows link.before link.after (λ events. Tells (lookup_of kind look random) journal events)
-  pub rounds : Grows link.before link.after (λ events. Rounds concurrent (lookup_of kind look random) journal events)
-  pub few_strays : MeetsFewStrays kind look random link
-  pub text_is : text ≡ printed_of (book_of kind look random) journal
+  pub ran : HasRunOut kind look called.random source journal
+  pub tells : Grows link.before link.after (λ events. Tells (lookup_of kind look called) journal events)
+  pub rounds : Grows link.before link.after (λ events. Rounds concurrent (lookup_of kind look called) journal events)
+  pub few_strays : Grows link.before link.after (λ events. HasFewStrays (lookup_of kind look called) journal events max_strays)
+  pub no_last_stray : NeverInStrays kind look called link
+  pub text_is : text ≡ printed_of (book_of kind look called.random) journal
 
 -- A lookup that ended early: there is a legal journal that begins with the same contacts, which the events tell so far. So
 -- no contact was asked twice either, and what a path asked came from its own seeds and answers.
-pub record LookupBegun (kind : AskKind) (look : LookWords) (random : List ℕ) (source : Shown ℕ) (link : Shown Event) : Type 0 where
-  pub start : Start look random source
+pub record LookupBegun (kind : AskKind) (look : LookWords) (called : Called) (source : Shown ℕ) (link : Shown Event) : Type 0 where
+  pub start : Start look called.random source
   pub left : WordsState
-  pub so_far : Unfinished (look_of kind look random) start.table (drawn_of random) left link.before link.after
+  pub so_far : Unfinished (look_of kind look called.random) called.accepts start.table (drawn_of called.random) left link.before link.after
   pub asked_once : IsDistinct same (asked so_far.journal)
-  pub own_answers : GoesByOwnAnswers (book_of kind look random) so_far.journal
+  pub own_answers : GoesByOwnAnswers (book_of kind look called.random) so_far.journal
+
+-- one that ended with the last stray that it takes: so it is by a legal journal that begins with the same contacts
+pub record EndsByLastStray (kind : AskKind) (look : LookWords) (called : Called) (source : Shown ℕ) (link : Shown Event) : Type 0 where
+  pub start : Start look called.random source
+  pub ends : EndsByStrays (look_of kind look called.random) called.accepts start.table (drawn_of called.random) link.before link.after
+
+-- one that ended early and has met fewer, by such a journal
+pub record MeetsFew (kind : AskKind) (look : LookWords) (called : Called) (source : Shown ℕ) (link : Shown Event) : Type 0 where
+  pub start : Start look called.random source
+  pub meets : MeetsFewStrays (look_of kind look called.random) called.accepts start.table (drawn_of called.random) link.before link.after
+  pub never : NeverInStrays kind look called link
 
 -- ---- why there is no text
 
 -- why a lookup ended behind its input
-abbrev pub SeekCause : AskKind → LookWords → List ℕ → Shown ℕ → Shown Event → Status → Type 0
-SeekCause kind look random source link LinkFault = HasFailed link × LookupBegun kind look random source link × MeetsFewStrays kind look random link
-SeekCause kind look random source link Strays = EndsByStrays kind look random link × LookupBegun kind look random source link
-SeekCause kind look random source link NoSeeds = Reads (own_of look.own random) look.policy source []
-SeekCause kind look random source link other = ⊥
+abbrev pub SeekCause : AskKind → LookWords → Called → Shown ℕ → Shown Event → Status → Type 0
+SeekCause kind look called source link LinkFault = HasFailed link × LookupBegun kind look called source link × MeetsFew kind look called source link
+SeekCause kind look called source link Strays = EndsByLastStray kind look called source link × LookupBegun kind look called source link
+SeekCause kind look called source link NoSeeds = Reads (own_of look.own called.random) look.policy source []
+SeekCause kind look called source link other = ⊥
 
 -- why a lookup ended with no output
-abbrev pub LookupCause : AskKind → LookWords → List ℕ → Shown ℕ → Shown Event → Status → Type 0
-LookupCause kind look random source link status = ReadingCause (SeekCause kind look random source link) source status
+abbrev pub LookupCause : AskKind → LookWords → Called → Shown ℕ → Shown Event → Status → Type 0
+LookupCause kind look called source link status = ReadingCause (SeekCause kind look called source link) source status
 
 -- why an input gave no reports
 abbrev pub ReportsCause : Shown ℕ → Status → Type 0
@@ -94,34 +107,39 @@ abbrev pub GivesNoSeeds : Option Sought → List ℕ → Shown ℕ → Type 0
 GivesNoSeeds None random source = ⊥
 GivesNoSeeds (Some sought) random source = Reads (own_of sought.look.own random) sought.look.policy source []
 
--- the link's events end with the last stray that the lookup takes
-abbrev pub MeetsLastStray : Option Sought → List ℕ → Shown Event → Type 0
-MeetsLastStray None random link = ⊥
-MeetsLastStray (Some sought) random link = EndsByStrays sought.kind sought.look random link
+-- the link's events end with the last stray that the lookup takes, by a journal of its own
+abbrev pub MeetsLastStray : Option Sought → Called → Shown ℕ → Shown Event → Type 0
+MeetsLastStray None called source link = ⊥
+MeetsLastStray (Some sought) called source link = EndsByLastStray sought.kind sought.look called source link
+
+-- the lookup isn't sealed, and they do by whatever journal
+abbrev pub ShowsLastStray : Option Sought → Called → Shown Event → Type 0
+ShowsLastStray None called link = ⊥
+ShowsLastStray (Some sought) called link = IsInStrays sought.kind sought.look called link
 
 -- ---- what a command that looks up promises
 
 -- what it needs: a good input with a node to begin with, no failure and few strays
-pub record SeeksWell (sought : Sought) (random : List ℕ) (source : Shown ℕ) (link : Shown Event) : Type 0 where
+pub record SeeksWell (sought : Sought) (called : Called) (source : Shown ℕ) (link : Shown Event) : Type 0 where
   pub told : IsTold source
   pub reads : ¬ HasFailed source
   pub hears : ¬ HasFailed link
-  pub few_strays : ¬ EndsByStrays sought.kind sought.look random link
-  pub seeds : ReadsSome (own_of sought.look.own random) sought.look.policy source
+  pub few_strays : ¬ EndsByLastStray sought.kind sought.look called source link
+  pub seeds : ReadsSome (own_of sought.look.own called.random) sought.look.policy source
 
 -- what a command does that looks this up, by its text and by what it had done when it ended early
-abbrev pub seek_aim : Sought → (List ℕ → Shown ℕ → Shown Event → List ℕ → Type 0) → (List ℕ → Shown ℕ → Shown Event → Type 0) → Aim
+abbrev pub seek_aim : Sought → (Called → Shown ℕ → Shown Event → List ℕ → Type 0) → (Called → Shown ℕ → Shown Event → Type 0) → Aim
 seek_aim sought text begun = record {
   links = true;
   sought = Some sought;
   ends = 4 ∷ 7 ∷ 8 ∷ [];
   ranges = IsInRange sought.look;
   text = text;
-  started = λ random source. ReadsSome (own_of sought.look.own random) sought.look.policy source;
+  started = λ called source. ReadsSome (own_of sought.look.own called.random) sought.look.policy source;
   begun = begun;
-  cause = λ random source link status. SeekCause sought.kind sought.look random source link status;
-  needs = λ random source link. SeeksWell sought random source link;
+  cause = λ called source link status. SeekCause sought.kind sought.look called source link status;
+  needs = λ called source link. SeeksWell sought called source link;
 }
 
 abbrev pub lookup_promise : LookWords → Promise
-lookup_promise look = reading (seek_aim (record { kind = FindNode; look = look }) (λ random source link text. LookupText FindNode look random source link text) (λ random source link. LookupBegun FindNode look random source link))
+lookup_promise look = reading (seek_aim (record { kind = FindNode; look = look }) (λ called source link text. LookupText FindNode look called source link text) (λ called source link. LookupBegun FindNode look called source link))

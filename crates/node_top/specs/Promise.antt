@@ -1,4 +1,4 @@
--- What a command promises: one record of predicates, by the random bytes and by what the source and the link showed. Each
+-- What a command promises: one record of predicates, by what it is called with and by what the source and the link showed. Each
 -- command's own stands in its spec, and `promise_of` (`Commands`) is the table of all.
 use Rattle.std.specs.Prelude.{◌≡◌, ◌⊎◌, ℕ, List, [], ◌∷◌, Bool, true, false, Option, None}
 use Rattle.kad_base.specs.declared.types.Event.{Event}
@@ -8,6 +8,7 @@ use Rattle.node_top.specs.declared.status.Status.{Status}
 use Rattle.node_top.specs.declared.status.Status.TheVariants.{BadLine, LinkFault, SourceFault, NoMemory, Unminted, TooLong}
 use Rattle.node_top.specs.Input.{ReadsFew, ReadsTooMuch, ReadsWell, IsBadLine, IsGood}
 use Rattle.node_top.specs.Shown.{Shown, IsTold, HasFailed}
+use Rattle.node_top.specs.Called.{Called}
 
 -- the query that a lookup asks by, and its options
 pub record Sought : Type 0 where
@@ -25,17 +26,17 @@ pub record Promise : Type 1 where
   -- the values of its words are within the limits
   pub ranges : Type 0
   -- its text
-  pub text : List ℕ → Shown ℕ → Shown Event → List ℕ → Type 0
+  pub text : Called → Shown ℕ → Shown Event → List ℕ → Type 0
   -- what it had read before it called the link
-  pub started : List ℕ → Shown ℕ → Type 0
+  pub started : Called → Shown ℕ → Type 0
   -- what it had done over the link when it ended early
-  pub begun : List ℕ → Shown ℕ → Shown Event → Type 0
+  pub begun : Called → Shown ℕ → Shown Event → Type 0
   -- what it searches for isn't there to be found
   pub nothing : List ℕ → Type 0
   -- why it has no text
-  pub cause : List ℕ → Shown ℕ → Shown Event → Status → Type 0
+  pub cause : Called → Shown ℕ → Shown Event → Status → Type 0
   -- what it needs to have one
-  pub needs : List ℕ → Shown ℕ → Shown Event → Type 0
+  pub needs : Called → Shown ℕ → Shown Event → Type 0
 
 -- one of these numbers
 abbrev pub IsOneOf : List ℕ → ℕ → Type 0
@@ -50,11 +51,11 @@ pub record Aim : Type 1 where
   pub sought : Option Sought
   pub ends : List ℕ
   pub ranges : Type 0
-  pub text : List ℕ → Shown ℕ → Shown Event → List ℕ → Type 0
-  pub started : List ℕ → Shown ℕ → Type 0
-  pub begun : List ℕ → Shown ℕ → Shown Event → Type 0
-  pub cause : List ℕ → Shown ℕ → Shown Event → Status → Type 0
-  pub needs : List ℕ → Shown ℕ → Shown Event → Type 0
+  pub text : Called → Shown ℕ → Shown Event → List ℕ → Type 0
+  pub started : Called → Shown ℕ → Type 0
+  pub begun : Called → Shown ℕ → Shown Event → Type 0
+  pub cause : Called → Shown ℕ → Shown Event → Status → Type 0
+  pub needs : Called → Shown ℕ → Shown Event → Type 0
 
 -- why an input, or what is done behind it, ended with no text
 abbrev pub ReadingCause : (Status → Type 0) → Shown ℕ → Status → Type 0
@@ -75,22 +76,22 @@ reading aim = record {
   started = aim.started;
   begun = aim.begun;
   nothing = λ random. ⊥;
-  cause = λ random source link status. ReadingCause (aim.cause random source link) source status;
+  cause = λ called source link status. ReadingCause (aim.cause called source link) source status;
   needs = aim.needs;
 }
 
 -- what a command does behind its input that takes no link: nothing ends it but want of memory
-abbrev pub judge_aim : Type 0 → (List ℕ → Shown ℕ → List ℕ → Type 0) → Aim
+abbrev pub judge_aim : Type 0 → (Shown ℕ → List ℕ → Type 0) → Aim
 judge_aim ranges text = record {
   links = false;
   sought = None;
   ends = [];
   ranges = ranges;
-  text = λ random source link written. text random source written;
-  started = λ random source. ⊥;
-  begun = λ random source link. ⊥;
-  cause = λ random source link status. ⊥;
-  needs = λ random source link. ReadsWell source;
+  text = λ called source link written. text source written;
+  started = λ called source. ⊥;
+  begun = λ called source link. ⊥;
+  cause = λ called source link status. ⊥;
+  needs = λ called source link. ReadsWell source;
 }
 
 -- why a command ended that goes on over a link, and looks nothing up
@@ -106,17 +107,17 @@ pub record HostsWell (source : Shown ℕ) (link : Shown Event) : Type 0 where
   pub good : IsGood source
 
 -- what such a command does, by its text and by what it had done when it ended early
-abbrev pub host_aim : Type 0 → (List ℕ → Shown ℕ → Shown Event → List ℕ → Type 0) → (List ℕ → Shown ℕ → Shown Event → Type 0) → Aim
+abbrev pub host_aim : Type 0 → (Called → Shown ℕ → Shown Event → List ℕ → Type 0) → (Called → Shown ℕ → Shown Event → Type 0) → Aim
 host_aim ranges text begun = record {
   links = true;
   sought = None;
   ends = 4 ∷ [];
   ranges = ranges;
   text = text;
-  started = λ random source. IsGood source;
+  started = λ called source. IsGood source;
   begun = begun;
-  cause = λ random source link status. HostCause (begun random source link) link status;
-  needs = λ random source link. HostsWell source link;
+  cause = λ called source link status. HostCause (begun called source link) link status;
+  needs = λ called source link. HostsWell source link;
 }
 
 -- ---- a command that reads nothing and takes no link
@@ -135,10 +136,10 @@ unread ends ranges text nothing = record {
   sought = None;
   ends = ends;
   ranges = ranges;
-  text = λ random source link written. text random written × (source.after ≡ source.before);
-  started = λ random source. ⊥;
-  begun = λ random source link. ⊥;
+  text = λ called source link written. text called.random written × (source.after ≡ source.before);
+  started = λ called source. ⊥;
+  begun = λ called source link. ⊥;
   nothing = nothing;
-  cause = λ random source link status. UnreadCause (nothing random) source status;
-  needs = λ random source link. ¬ nothing random;
+  cause = λ called source link status. UnreadCause (nothing called.random) source status;
+  needs = λ called source link. ¬ nothing called.random;
 }

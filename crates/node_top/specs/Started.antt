@@ -16,6 +16,7 @@ use Rattle.lookup_run.specs.Tells.{Given}
 use Rattle.lookup_run.specs.Lookup.{setting_of, given_of, Told, TableTold}
 use Rattle.kad_words.specs.declared.command.LookWords.{LookWords}
 use Rattle.node_top.specs.Shown.{Shown}
+use Rattle.node_top.specs.Called.{Called}
 use Rattle.node_top.specs.Input.{Reads}
 
 -- the node's identifier: the one of the words, or the first five drawn words
@@ -34,6 +35,7 @@ look_of kind look random = record {
   policy = look.policy;
   timeout = look.timeout;
   kind = kind;
+  sealed = look.sealed;
 }
 
 -- what its book is set to
@@ -44,9 +46,9 @@ book_of kind look random = setting_of (look_of kind look random)
 abbrev pub drawn_of : List ℕ → WordsState
 drawn_of random = record { seed = random; place = 5 }
 
--- what its events are read by: the setting and the drawn words
-abbrev pub lookup_of : AskKind → LookWords → List ℕ → Given
-lookup_of kind look random = given_of (look_of kind look random) (drawn_of random)
+-- what its events are read by: the setting, the tags that are accepted, and the drawn words
+abbrev pub lookup_of : AskKind → LookWords → Called → Given
+lookup_of kind look called = given_of (look_of kind look called.random) called.accepts (drawn_of called.random)
 
 -- the values of the words are within the limits
 pub record IsInRange (look : LookWords) : Type 0 where

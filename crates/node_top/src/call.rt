@@ -3,10 +3,11 @@
 use std::hash::RandomState;
 
 /// What every command is called with, below the top calls: 32 bytes that nobody else knows, how a contact's proof is
-/// checked, and the hasher of what it indexes.
+/// checked, the group's seal, and the hasher of what it indexes.
 #[derive(Drop)]
-pub(crate) struct Call<'a, C> {
+pub(crate) struct Call<'a, C, G> {
     pub random: [u8; 32],
     pub check: &'a C,
+    pub seal: &'a G,
     pub hasher: RandomState,
 }

@@ -1,6 +1,9 @@
 //! The commands: a module each, and an arm here; and what the words ask for, done.
 ghost use Rattle.std.specs.Prelude.{◌≡◌, ◌≢◌, ◌⊎◌, IfOk, IfErr, IsTrue};
 ghost use Rattle.kad_base.specs.declared.types.Event.{Event};
+ghost use Rattle.lookup_core.specs.Sealed.{Accepts};
+ghost use Rattle.node_serve.specs.Sealing.{Tags};
+ghost use Rattle.node_top.specs.Called.{called_plainly, called_with};
 ghost use Rattle.node_top.specs.Asked.{Asks, AsksPlain, bytes_of};
 ghost use Rattle.node_top.specs.Commands.{promise_of, HasBegun, HasCause, HasText, ReadsInput};
 ghost use Rattle.node_top.specs.Endings.{EndsUnasked, number_of};
@@ -18,29 +21,33 @@ use crate::call::Call;
 use crate::status::Status;
 use kad_base::{Bytes, Check, Link, Source};
 use kad_words::{Command, takes_link};
+use seal_tags::{Seal, SealCheck};
 use std::alloc::Global;
 use std::sync::Wait;
 use std::thread::Threads;
 
 /// Does a command, and makes its output. Nothing is written yet.
-fn output_of<R: Threads + Wait + Sync, S: Source, L: Link, C: Check + Sync>(
+fn output_of<R: Threads + Wait + Sync, S: Source, L: Link, C: Check + Sync, G: Seal + SealCheck>(
     rt: &R,
     alloc: Global,
     command: Command,
     source: &mut S,
     link: &mut L,
-    call: &Call<'_, C>,
+    call: &Call<'_, C, G>,
 ) -> Result<Bytes, Status>
     requires ranges { (promise_of command).ranges }
-    ensures ok { IfOk result ((promise_of command).text call.now.random
+    ensures ok { IfOk result ((promise_of command).text (called_with call.now.random (G.accepted call.now.seal.now)
+        (G.tag_of call.now.seal.now))
         (shown S.left S.faults source.old source.new)
         (shown L.told L.recv_faults link.old link.new)) }
-    ensures cause { IfErr result ((promise_of command).cause call.now.random
+    ensures cause { IfErr result ((promise_of command).cause (called_with call.now.random (G.accepted call.now.seal.now)
+        (G.tag_of call.now.seal.now))
         (shown S.left S.faults source.old source.new)
         (shown L.told L.recv_faults link.old link.new)) }
     ensures early { IfErr result (λ status. EndsUnasked (number_of status) → link.new ≡ link.old) }
     ensures no_memory { IfErr result (λ status. status ≡ Status.NoMemory →
-        (promise_of command).begun call.now.random
+        (promise_of command).begun (called_with call.now.random (G.accepted call.now.seal.now)
+        (G.tag_of call.now.seal.now))
         (shown S.left S.faults source.old source.new)
         (shown L.told L.recv_faults link.old link.new) ⊎ (link.new ≡ link.old)) }
     ensures no_input { ¬ IsTrue (promise_of command).reads → source.new ≡ source.old }
@@ -57,6 +64,7 @@ fn output_of<R: Threads + Wait + Sync, S: Source, L: Link, C: Check + Sync>(
             bits,
             policy,
             receives,
+            sealed,
         } => {
             let service = serve::Service {
                 own,
@@ -64,6 +72,7 @@ fn output_of<R: Threads + Wait + Sync, S: Source, L: Link, C: Check + Sync>(
                 bits,
                 policy,
                 receives,
+                sealed,
             };
             serve::serve(alloc, &service, source, link, call)
         }
@@ -72,17 +81,19 @@ fn output_of<R: Threads + Wait + Sync, S: Source, L: Link, C: Check + Sync>(
 }
 
 /// Does a command that takes no link, and makes its output. Nothing is written yet.
-fn plain_output_of<S: Source, C: Check>(
+fn plain_output_of<S: Source, C: Check, G: Seal + SealCheck>(
     alloc: Global,
     command: Command,
     source: &mut S,
-    call: &Call<'_, C>,
+    call: &Call<'_, C, G>,
 ) -> Result<Bytes, Status>
     requires plain { ¬ IsTrue (promise_of command).links }
     requires ranges { (promise_of command).ranges }
-    ensures ok { (link : Shown Event) → IfOk result ((promise_of command).text call.now.random
+    ensures ok { (accepts : Accepts) (tags : Tags) (link : Shown Event) → IfOk result
+        ((promise_of command).text (called_with call.now.random accepts tags)
         (shown S.left S.faults source.old source.new) link) }
-    ensures cause { (link : Shown Event) → IfErr result ((promise_of command).cause call.now.random
+    ensures cause { (accepts : Accepts) (tags : Tags) (link : Shown Event) → IfErr result
+        ((promise_of command).cause (called_with call.now.random accepts tags)
         (shown S.left S.faults source.old source.new) link) }
     ensures no_input { ¬ IsTrue (promise_of command).reads → source.new ≡ source.old }
 {
@@ -120,25 +131,34 @@ fn plain_output_of<S: Source, C: Check>(
 }
 
 /// Does the command that the words ask for, and makes its output. Nothing is written yet.
-pub(crate) fn asked_output<R: Threads + Wait + Sync, S: Source, L: Link, C: Check + Sync>(
+pub(crate) fn asked_output<
+    R: Threads + Wait + Sync,
+    S: Source,
+    L: Link,
+    C: Check + Sync,
+    G: Seal + SealCheck,
+>(
     rt: &R,
     alloc: Global,
     words: &[String],
     source: &mut S,
     link: &mut L,
-    call: &Call<'_, C>,
+    call: &Call<'_, C, G>,
 ) -> Result<Bytes, Status>
-    ensures ok { IfOk result (HasText (bytes_of words.now) call.now.random
+    ensures ok { IfOk result (HasText (bytes_of words.now) (called_with call.now.random (G.accepted call.now.seal.now)
+        (G.tag_of call.now.seal.now))
         (shown S.left S.faults source.old source.new)
         (shown L.told L.recv_faults link.old link.new)) }
     ensures cause { IfErr result (HasCause (Asks (bytes_of words.now)) (bytes_of words.now)
-        call.now.random
+        (called_with call.now.random (G.accepted call.now.seal.now)
+        (G.tag_of call.now.seal.now))
         (shown S.left S.faults source.old source.new)
         (shown L.told L.recv_faults link.old link.new)) }
     ensures unread { IfErr result (λ status. number_of status ≡ 2 → source.new ≡ source.old) }
     ensures early { IfErr result (λ status. EndsUnasked (number_of status) → link.new ≡ link.old) }
     ensures no_memory { IfErr result (λ status. status ≡ Status.NoMemory →
-        HasBegun (bytes_of words.now) call.now.random
+        HasBegun (bytes_of words.now) (called_with call.now.random (G.accepted call.now.seal.now)
+        (G.tag_of call.now.seal.now))
         (shown S.left S.faults source.old source.new)
         (shown L.told L.recv_faults link.old link.new) ⊎ (link.new ≡ link.old)) }
     ensures plain { ¬ Asks (bytes_of words.now) → IfErr result (λ status. number_of status ≡ 2) }
@@ -150,17 +170,17 @@ pub(crate) fn asked_output<R: Threads + Wait + Sync, S: Source, L: Link, C: Chec
 }
 
 /// Does the command that the words ask for, if it takes no link, and makes its output. Nothing is written yet.
-pub(crate) fn asked_plainly<S: Source, C: Check>(
+pub(crate) fn asked_plainly<S: Source, C: Check, G: Seal + SealCheck>(
     alloc: Global,
     words: &[String],
     source: &mut S,
-    call: &Call<'_, C>,
+    call: &Call<'_, C, G>,
 ) -> Result<Bytes, Status>
     ensures asks { IfOk result (λ text. AsksPlain (bytes_of words.now)) }
-    ensures ok { IfOk result (HasText (bytes_of words.now) call.now.random
+    ensures ok { IfOk result (HasText (bytes_of words.now) (called_plainly call.now.random)
         (shown S.left S.faults source.old source.new) nowhere) }
     ensures cause { IfErr result (HasCause (AsksPlain (bytes_of words.now)) (bytes_of words.now)
-        call.now.random (shown S.left S.faults source.old source.new) nowhere) }
+        (called_plainly call.now.random) (shown S.left S.faults source.old source.new) nowhere) }
     ensures unread { IfErr result (λ status. number_of status ≡ 2 → source.new ≡ source.old) }
     ensures plain { ¬ AsksPlain (bytes_of words.now)
         → IfErr result (λ status. number_of status ≡ 2) }

@@ -1,6 +1,7 @@
 //! What every command that looks up does first: it reads the contacts of the input, tells a new routing table of them, and
 //! looks up from its closest until every path has run out.
 ghost use Rattle.std.specs.Prelude.{◌≡◌, ◌≢◌, ◌⊎◌, [], IfOk, IfErr};
+ghost use Rattle.node_top.specs.Called.{called_with};
 ghost use Rattle.node_top.specs.Endings.{EndsUnasked, number_of};
 ghost use Rattle.node_top.specs.Input.{Reads};
 ghost use Rattle.node_top.specs.Looked.{LookupCause, InputCause, LookupBegun};
@@ -16,6 +17,7 @@ use id_puzzles::Words;
 use kad_base::{Check, Contacts, Id, Link, Policy, Source};
 use kad_words::LookWords;
 use lookup_run::{AskKind, LookFault, Outcome, look_up};
+use seal_tags::{Seal, SealCheck};
 use std::alloc::Global;
 use std::sync::Wait;
 use std::thread::Threads;
@@ -50,24 +52,33 @@ pub(crate) fn read_contacts<S: Source, C: Check>(
 }
 
 /// Looks the target up by this query, or says why it was not found out.
-pub(crate) fn run_lookup<R: Threads + Wait + Sync, S: Source, L: Link, C: Check + Sync>(
+pub(crate) fn run_lookup<
+    R: Threads + Wait + Sync,
+    S: Source,
+    L: Link,
+    C: Check + Sync,
+    G: Seal + SealCheck,
+>(
     rt: &R,
     alloc: Global,
     kind: AskKind,
     look: &LookWords,
     source: &mut S,
     link: &mut L,
-    call: &Call<'_, C>,
+    call: &Call<'_, C, G>,
 ) -> Result<Reached, Status>
     requires { IsInRange look.now }
-    ensures ok { IfOk result (Reaches kind look.now call.now.random
+    ensures ok { IfOk result (Reaches kind look.now (called_with call.now.random (G.accepted call.now.seal.now)
+        (G.tag_of call.now.seal.now))
         (shown S.left S.faults source.old source.new)
         (shown L.told L.recv_faults link.old link.new)) }
-    ensures cause { IfErr result (LookupCause kind look.now call.now.random
+    ensures cause { IfErr result (LookupCause kind look.now (called_with call.now.random (G.accepted call.now.seal.now)
+        (G.tag_of call.now.seal.now))
         (shown S.left S.faults source.old source.new)
         (shown L.told L.recv_faults link.old link.new)) }
     ensures no_memory { IfErr result (λ status. status ≡ Status.NoMemory →
-        LookupBegun kind look.now call.now.random
+        LookupBegun kind look.now (called_with call.now.random (G.accepted call.now.seal.now)
+        (G.tag_of call.now.seal.now))
         (shown S.left S.faults source.old source.new)
         (shown L.told L.recv_faults link.old link.new) ⊎ (link.new ≡ link.old)) }
     ensures early { IfErr result (λ status. EndsUnasked (number_of status) → link.new ≡ link.old) }
@@ -84,6 +95,7 @@ pub(crate) fn run_lookup<R: Threads + Wait + Sync, S: Source, L: Link, C: Check 
         table,
         &setting,
         call.check,
+        call.seal,
         call.hasher,
     );
     match ended {

@@ -1,10 +1,11 @@
 //! The top calls: one command, its output and its status.
 ghost use Rattle.std.specs.Prelude.{◌≡◌, ◌≢◌, ◌≤◌, ◌⊎◌, ◌↔◌, None};
 ghost use Rattle.node_top.specs.Asked.{Asks, AsksPlain, bytes_of};
+ghost use Rattle.node_top.specs.Called.{called_plainly, called_with};
 ghost use Rattle.node_top.specs.Shown.{shown, nowhere, IsTold, HasFailed};
 ghost use Rattle.node_top.specs.Input.{HasBadLine, ReadsTooMuch};
 ghost use Rattle.node_top.specs.Commands.{GoesPlainlyWell, GoesWell, HasBegun};
-ghost use Rattle.node_top.specs.Commands.{HasNoSeeds, HasNothing, HasSeeds, HasStart, HasStrays};
+ghost use Rattle.node_top.specs.Commands.{HasNoSeeds, HasNothing, HasSeeds, HasStart, HasStrays, EndsInStrays};
 ghost use Rattle.node_top.specs.Commands.{IsDone, ReadsInput};
 ghost use Rattle.node_top.specs.Endings.{last_status, CutShort, EndsByCommand};
 ghost use Rattle.node_top.specs.Endings.{EndsUnasked, OrNoMemory, WritesLine};
@@ -13,6 +14,7 @@ use crate::call::Call;
 use crate::commands::{asked_output, asked_plainly};
 use crate::output::{write_line, write_output};
 use kad_base::{Check, Link, Sink, Source};
+use seal_tags::{GroupSeal, Seal, SealCheck};
 use std::alloc::Global;
 use std::hash::RandomState;
 use std::sync::Wait;
@@ -27,7 +29,14 @@ use std::thread::Threads;
 /// Each command's module says what it writes, `status` with what number and line a command ends that writes no output, and
 /// `docs/COMMANDS.md` both; what words a command has is the business of `kad_words`. At 0 the output was written whole, and
 /// at 5 a front of it. The commands that take no link are done as by `run_plain`.
-pub fn run<R: Threads + Wait + Sync, S: Source, K: Sink, L: Link, C: Check + Sync>(
+pub fn run<
+    R: Threads + Wait + Sync,
+    S: Source,
+    K: Sink,
+    L: Link,
+    C: Check + Sync,
+    G: Seal + SealCheck,
+>(
     rt: &R,
     alloc: Global,
     words: &[String],
@@ -37,10 +46,12 @@ pub fn run<R: Threads + Wait + Sync, S: Source, K: Sink, L: Link, C: Check + Syn
     random: &[u8; 32],
     check: &C,
     hasher: RandomState,
+    seal: &G,
 ) -> u8
     // The text that was written is the command's own: a lookup's is that of a legal journal which the link's events tell
     // and whose paths have run out, and that of a node which served counts what they tell.
-    ensures done { result ≡ 0 → IsDone (bytes_of words.now) random.now
+    ensures done { result ≡ 0 → IsDone (bytes_of words.now)
+        (called_with random.now (G.accepted seal.now) (G.tag_of seal.now))
         (shown S.left S.faults source.old source.new)
         (shown L.told L.recv_faults link.old link.new)
         (shown K.written K.faults sink.old sink.new) }
@@ -55,19 +66,26 @@ pub fn run<R: Threads + Wait + Sync, S: Source, K: Sink, L: Link, C: Check + Syn
     ensures sink_fault { result ≡ 5 → HasFailed (shown K.written K.faults sink.old sink.new) }
     ensures source_fault { result ≡ 6 → ReadsInput (bytes_of words.now)
         × HasFailed (shown S.left S.faults source.old source.new) }
-    ensures strays { result ≡ 7 → HasStrays (bytes_of words.now) random.now
-        (shown L.told L.recv_faults link.old link.new) }
-    ensures begun { result ≡ 4 → HasStart (bytes_of words.now) random.now
-        (shown S.left S.faults source.old source.new) }
-    ensures seeded { result ≡ 7 → HasSeeds (bytes_of words.now) random.now
-        (shown S.left S.faults source.old source.new) }
-    ensures unfinished { (result ≡ 4) ⊎ (result ≡ 7) → HasBegun (bytes_of words.now) random.now
+    ensures strays { result ≡ 7 → HasStrays (bytes_of words.now)
+        (called_with random.now (G.accepted seal.now) (G.tag_of seal.now))
         (shown S.left S.faults source.old source.new)
         (shown L.told L.recv_faults link.old link.new) }
-    ensures no_memory { result ≡ 9 → HasBegun (bytes_of words.now) random.now
+    ensures begun { result ≡ 4 → HasStart (bytes_of words.now)
+        (called_with random.now (G.accepted seal.now) (G.tag_of seal.now))
+        (shown S.left S.faults source.old source.new) }
+    ensures seeded { result ≡ 7 → HasSeeds (bytes_of words.now)
+        (called_with random.now (G.accepted seal.now) (G.tag_of seal.now))
+        (shown S.left S.faults source.old source.new) }
+    ensures unfinished { (result ≡ 4) ⊎ (result ≡ 7) → HasBegun (bytes_of words.now)
+        (called_with random.now (G.accepted seal.now) (G.tag_of seal.now))
+        (shown S.left S.faults source.old source.new)
+        (shown L.told L.recv_faults link.old link.new) }
+    ensures no_memory { result ≡ 9 → HasBegun (bytes_of words.now)
+        (called_with random.now (G.accepted seal.now) (G.tag_of seal.now))
         (shown S.left S.faults source.old source.new)
         (shown L.told L.recv_faults link.old link.new) ⊎ (link.new ≡ link.old) }
-    ensures no_seeds { result ≡ 8 → HasNoSeeds (bytes_of words.now) random.now
+    ensures no_seeds { result ≡ 8 → HasNoSeeds (bytes_of words.now)
+        (called_with random.now (G.accepted seal.now) (G.tag_of seal.now))
         (shown S.left S.faults source.old source.new) }
     ensures unminted { result ≡ 10 → HasNothing (bytes_of words.now) random.now }
     ensures too_long { result ≡ 11 → ReadsInput (bytes_of words.now)
@@ -78,17 +96,20 @@ pub fn run<R: Threads + Wait + Sync, S: Source, K: Sink, L: Link, C: Check + Syn
         Asks (bytes_of words.now) → IsTold input → ¬ HasFailed input → HasBadLine input
         → OrNoMemory result 3 }
     ensures no_seeds_come { let input = shown S.left S.faults source.old source.new in
-        IsTold input → ¬ HasFailed input → HasNoSeeds (bytes_of words.now) random.now input
+        IsTold input → ¬ HasFailed input → HasNoSeeds (bytes_of words.now)
+        (called_with random.now (G.accepted seal.now) (G.tag_of seal.now)) input
         → OrNoMemory result 8 }
     ensures strays_come { let told = shown L.told L.recv_faults link.old link.new in
-        IsTold told → HasStrays (bytes_of words.now) random.now told → OrNoMemory result 7 }
+        IsTold told → EndsInStrays (bytes_of words.now)
+        (called_with random.now (G.accepted seal.now) (G.tag_of seal.now)) told → OrNoMemory result 7 }
     ensures unminted_comes { HasNothing (bytes_of words.now) random.now → OrNoMemory result 10 }
     ensures too_long_comes { S.left source.new ≢ None
         → ReadsTooMuch (S.left source.old) (S.left source.new)
         → OrNoMemory result 11 }
 
     // With what it needs, and no failure, a command is done, want of memory aside.
-    ensures complete { GoesWell (bytes_of words.now) random.now
+    ensures complete { GoesWell (bytes_of words.now)
+        (called_with random.now (G.accepted seal.now) (G.tag_of seal.now))
         (shown S.left S.faults source.old source.new)
         (shown L.told L.recv_faults link.old link.new)
         (shown K.written K.faults sink.old sink.new)
@@ -98,7 +119,8 @@ pub fn run<R: Threads + Wait + Sync, S: Source, K: Sink, L: Link, C: Check + Syn
     ensures line { result ≢ 0 → result ≢ 5 → WritesLine result
         (shown S.left S.faults source.old source.new)
         (shown K.written K.faults sink.old sink.new) }
-    ensures cut_short { result ≡ 5 → CutShort (bytes_of words.now) random.now
+    ensures cut_short { result ≡ 5 → CutShort (bytes_of words.now)
+        (called_with random.now (G.accepted seal.now) (G.tag_of seal.now))
         (shown S.left S.faults source.old source.new)
         (shown L.told L.recv_faults link.old link.new)
         (shown K.written K.faults sink.old sink.new) }
@@ -115,6 +137,7 @@ pub fn run<R: Threads + Wait + Sync, S: Source, K: Sink, L: Link, C: Check + Syn
     let call = Call {
         random: *random,
         check,
+        seal,
         hasher,
     };
     match asked_output(rt, alloc, words, source, link, &call) {
@@ -145,7 +168,7 @@ pub fn run_plain<S: Source, K: Sink, C: Check>(
 ) -> u8
     // The text that was written is the command's own.
     ensures done { result ≡ 0 → AsksPlain (bytes_of words.now)
-        × IsDone (bytes_of words.now) random.now
+        × IsDone (bytes_of words.now) (called_plainly random.now)
         (shown S.left S.faults source.old source.new) nowhere
         (shown K.written K.faults sink.old sink.new) }
 
@@ -172,7 +195,7 @@ pub fn run_plain<S: Source, K: Sink, C: Check>(
         → OrNoMemory result 11 }
 
     // With what it needs, and no failure, a command is done, want of memory aside.
-    ensures complete { GoesPlainlyWell (bytes_of words.now) random.now
+    ensures complete { GoesPlainlyWell (bytes_of words.now) (called_plainly random.now)
         (shown S.left S.faults source.old source.new)
         (shown K.written K.faults sink.old sink.new)
         → OrNoMemory result 0 }
@@ -182,7 +205,7 @@ pub fn run_plain<S: Source, K: Sink, C: Check>(
         (shown S.left S.faults source.old source.new)
         (shown K.written K.faults sink.old sink.new) }
     ensures cut_short { result ≡ 5 → AsksPlain (bytes_of words.now)
-        × CutShort (bytes_of words.now) random.now
+        × CutShort (bytes_of words.now) (called_plainly random.now)
         (shown S.left S.faults source.old source.new) nowhere
         (shown K.written K.faults sink.old sink.new) }
 
@@ -193,9 +216,11 @@ pub fn run_plain<S: Source, K: Sink, C: Check>(
         → EndsByCommand (bytes_of words.now) result }
     ensures statuses { (result ≤ last_status) × (result ≢ 1) × (result ≢ 4) × (result ≢ 7) × (result ≢ 8) }
 {
+    let seal = GroupSeal::new([0; 32]);
     let call = Call {
         random: *random,
         check,
+        seal: &seal,
         hasher,
     };
     match asked_plainly(alloc, words, source, &call) {

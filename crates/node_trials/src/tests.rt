@@ -1,6 +1,7 @@
 //! Whole lookups over a scripted link.
 mod crowd;
 mod drawn;
+mod grouped;
 mod hostile;
 mod paths;
 mod peering;

@@ -5,7 +5,9 @@
 use fake_net::ScriptLink;
 use id_puzzles::Sha1Check;
 use kad_base::{BytesSink, Check, Link, List, Numbers, Sink, Source, SteadySource};
+use kad_words::group_of;
 use node_top::{run, run_plain};
+use seal_tags::GroupSeal;
 use std::alloc::{AllocError, Global};
 use std::hash::RandomState;
 use std::random::RandomSource;
@@ -50,6 +52,7 @@ pub fn status_of<
     sink: &mut K,
     check: &C,
 ) -> Result<u8, Fail> {
+    let seal = GroupSeal::new(group_of(words).unwrap_or([0; 32]));
     Ok(run(
         rt,
         rt.alloc(),
@@ -60,6 +63,7 @@ pub fn status_of<
         &[0; 32],
         check,
         RandomState::new(rt)?,
+        &seal,
     ))
 }
 

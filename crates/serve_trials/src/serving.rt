@@ -39,6 +39,21 @@ const PING: &[u8] = b"d1:ad2:id20:abcdefghij0123456789e1:q4:ping1:t2:aa1:y1:qe";
 const PONG: &[u8] =
     b"d1:rd2:id20:\xff\xff\xff\xff\xff\xff\xff\xff\xff\xff\xff\xff\xff\xff\xff\xff\xff\xff\xff\xffe1:t2:aa1:y1:re";
 
+/// The same with the tag of a group whose key is 32 zero bytes, as Python's `hmac` makes it.
+const TAGGED_PONG: &[u8] =
+    b"d1:rd2:id20:\xff\xff\xff\xff\xff\xff\xff\xff\xff\xff\xff\xff\xff\xff\xff\xff\xff\xff\xff\xffe2:sg20:-\x9e\xe4Y\x1bD\x13\xbet\xf1\x94-=0\x1fC@\xfa\x0ag1:t2:aa1:y1:re";
+
+/// The node of ones serves in that group, for one receive call.
+const GROUPED: &[&str] = &[
+    "serve",
+    "--receives",
+    "1",
+    "--own",
+    "ffffffffffffffffffffffffffffffffffffffff",
+    "--group",
+    "0000000000000000000000000000000000000000000000000000000000000000",
+];
+
 /// A ping whose transaction id has 33 bytes.
 const LONG_TX: &[u8] =
     b"d1:ad2:id20:abcdefghij0123456789e1:q4:ping1:t33:0123456789012345678901234567890121:y1:qe";
@@ -167,5 +182,16 @@ fn the_proofs_of_the_input_come_back(rt: HostRuntime) -> Result<(), Fail> {
     assert_eq!(rt; played.text.as_str(), "received 1 replied 1\n");
     assert_eq!(rt; sent.len(), 1);
     assert_eq!(rt; sent[0].as_slice(), FOUND);
+    Ok(())
+}
+
+#[test]
+fn a_member_tags_what_it_says(rt: HostRuntime) -> Result<(), Fail> {
+    let link = link_from(rt.alloc(), &[(7000, PING)], &[], &[])?;
+    let played = play(&rt, GROUPED, "", link)?;
+    let sent = sent(rt.alloc(), &played.link)?;
+    assert_eq!(rt; played.text.as_str(), "received 1 replied 1\n");
+    assert_eq!(rt; sent.len(), 1);
+    assert_eq!(rt; sent[0].as_slice(), TAGGED_PONG);
     Ok(())
 }

@@ -11,10 +11,11 @@ use Rattle.lookup_core.specs.declared.quest.AskKind.TheVariants.{GetPeers}
 use Rattle.lookup_run.specs.declared.types.Token.{Token}
 use Rattle.kad_words.specs.declared.command.LookWords.{LookWords}
 use Rattle.node_top.specs.Announced.{Announcement, owed, Announces, AnnouncesSome, sent_in}
-use Rattle.node_top.specs.Looked.{LookupBegun, MeetsFewStrays, seek_aim}
+use Rattle.node_top.specs.Looked.{LookupBegun, NeverInStrays, seek_aim}
 use Rattle.node_top.specs.Printed.{printed_peers}
 use Rattle.node_top.specs.Promise.{Promise, reading}
 use Rattle.node_top.specs.Shown.{Shown}
+use Rattle.node_top.specs.Called.{Called}
 use Rattle.node_top.specs.Reached.{HasRunOut, TellsAll}
 use Rattle.node_top.specs.Started.{own_of, book_of, drawn_of, lookup_of}
 
@@ -27,46 +28,46 @@ abbrev pub next_place : List ℕ → List Entry → ℕ
 next_place random J = (drawn_of random).place + length (asked J)
 
 -- what the events tell: first a whole lookup, and then each announcement
-pub record TellsPeers (look : LookWords) (announce : Option ℕ) (random : List ℕ) (J : List Entry) (peers : List Addr) (announced : ℕ) (events : List Event) : Type 0 where
+pub record TellsPeers (look : LookWords) (announce : Option ℕ) (called : Called) (J : List Entry) (peers : List Addr) (announced : ℕ) (events : List Event) : Type 0 where
   pub lookup : List Event
   pub then : List Event
   pub whole : events ≡ lookup ++ then
   pub tokens : List Token
-  pub tells : TellsAll (lookup_of GetPeers look random) J peers tokens lookup
-  pub announces : Announces random (next_place random J) (announced_by look announce random J tokens) then
+  pub tells : TellsAll (lookup_of GetPeers look called) J peers tokens lookup
+  pub announces : Announces called.random (next_place called.random J) (announced_by look announce called.random J tokens) then
   pub counts : announced ≡ sent_in then
 
 -- first a whole lookup, and then a front of the announcements
-pub record TellsSomePeers (look : LookWords) (announce : Option ℕ) (random : List ℕ) (J : List Entry) (events : List Event) : Type 0 where
+pub record TellsSomePeers (look : LookWords) (announce : Option ℕ) (called : Called) (J : List Entry) (events : List Event) : Type 0 where
   pub lookup : List Event
   pub then : List Event
   pub whole : events ≡ lookup ++ then
   pub peers : List Addr
   pub tokens : List Token
-  pub tells : TellsAll (lookup_of GetPeers look random) J peers tokens lookup
-  pub announces : AnnouncesSome random (next_place random J) (announced_by look announce random J tokens) then
+  pub tells : TellsAll (lookup_of GetPeers look called) J peers tokens lookup
+  pub announces : AnnouncesSome called.random (next_place called.random J) (announced_by look announce called.random J tokens) then
 
 -- A lookup for peers that was asked for, with its announcements. The text names each peer once, in the order of addresses,
 -- and counts what was found, asked and announced.
-pub record PeersText (look : LookWords) (announce : Option ℕ) (random : List ℕ) (source : Shown ℕ) (link : Shown Event) (text : List ℕ) : Type 0 where
+pub record PeersText (look : LookWords) (announce : Option ℕ) (called : Called) (source : Shown ℕ) (link : Shown Event) (text : List ℕ) : Type 0 where
   pub journal : List Entry
-  pub ran : HasRunOut GetPeers look random source journal
+  pub ran : HasRunOut GetPeers look called.random source journal
   pub peers : List Addr
   pub announced : ℕ
-  pub tells : Grows link.before link.after (TellsPeers look announce random journal peers announced)
-  pub few_strays : MeetsFewStrays GetPeers look random link
-  pub text_is : text ≡ printed_peers peers (length (result_of (book_of GetPeers look random) journal)) (length (asked journal)) (length (failed journal)) (length (turned journal)) announced
+  pub tells : Grows link.before link.after (TellsPeers look announce called journal peers announced)
+  pub no_last_stray : NeverInStrays GetPeers look called link
+  pub text_is : text ≡ printed_peers peers (length (result_of (book_of GetPeers look called.random) journal)) (length (asked journal)) (length (failed journal)) (length (turned journal)) announced
 
 -- a lookup for peers that has run out, and whose announcements were not all made
-pub record AnnouncedSome (look : LookWords) (announce : Option ℕ) (random : List ℕ) (source : Shown ℕ) (link : Shown Event) : Type 0 where
+pub record AnnouncedSome (look : LookWords) (announce : Option ℕ) (called : Called) (source : Shown ℕ) (link : Shown Event) : Type 0 where
   pub journal : List Entry
-  pub ran : HasRunOut GetPeers look random source journal
-  pub tells : Grows link.before link.after (TellsSomePeers look announce random journal)
+  pub ran : HasRunOut GetPeers look called.random source journal
+  pub tells : Grows link.before link.after (TellsSomePeers look announce called journal)
 
 -- a lookup for peers that ended early, itself or in its announcements
-abbrev pub PeersBegun : LookWords → Option ℕ → List ℕ → Shown ℕ → Shown Event → Type 0
-PeersBegun look announce random source link = LookupBegun GetPeers look random source link ⊎ AnnouncedSome look announce random source link
+abbrev pub PeersBegun : LookWords → Option ℕ → Called → Shown ℕ → Shown Event → Type 0
+PeersBegun look announce called source link = LookupBegun GetPeers look called source link ⊎ AnnouncedSome look announce called source link
 
 abbrev pub peers_promise : LookWords → Option ℕ → Promise
 peers_promise look announce =
-    reading (seek_aim (record { kind = GetPeers; look = look }) (λ random source link text. PeersText look announce random source link text) (λ random source link. PeersBegun look announce random source link))
+    reading (seek_aim (record { kind = GetPeers; look = look }) (λ called source link text. PeersText look announce called source link text) (λ called source link. PeersBegun look announce called source link))

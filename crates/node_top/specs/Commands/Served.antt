@@ -17,6 +17,7 @@ use Rattle.node_top.specs.Input.{Lists, Admits, Keeps}
 use Rattle.node_top.specs.Printed.{printed_served}
 use Rattle.node_top.specs.Promise.{Promise, host_aim, reading}
 use Rattle.node_top.specs.Shown.{Shown}
+use Rattle.node_top.specs.Called.{Called}
 use Rattle.node_top.specs.Started.{AreTableBounds, own_of, seen_call}
 
 -- ---- the node that it begins with
@@ -34,43 +35,43 @@ pub record Hosts (service : Service) (random : List ℕ) (source : Shown ℕ) (t
 -- the node as it begins at a moment
 abbrev pub begun_at : Service → List ℕ → TableState → List Report → ℕ → ServeState
 begun_at service random table proofs began = record {
-  node = new_node (own_of service.own random) service.k service.policy table proofs random began;
+  node = new_node (own_of service.own random) service.k service.policy table proofs random began service.sealed;
   moment = began;
 }
 
 -- ---- the command
 
 -- what its events tell: the moment at which it begins, and then its receive calls
-pub record Served (service : Service) (random : List ℕ) (table : TableState) (proofs : List Report) (received replied : ℕ) (events : List Event) : Type 0 where
+pub record Served (service : Service) (called : Called) (table : TableState) (proofs : List Report) (received replied : ℕ) (events : List Event) : Type 0 where
   pub began : ℕ
   pub then : List Event
   pub whole : events ≡ Now began ∷ then
-  pub serves : ServesAll (begun_at service random table proofs began) service.receives received replied then
+  pub serves : ServesAll called.tags (begun_at service called.random table proofs began) service.receives received replied then
 
-pub record ServedSome (service : Service) (random : List ℕ) (table : TableState) (proofs : List Report) (events : List Event) : Type 0 where
+pub record ServedSome (service : Service) (called : Called) (table : TableState) (proofs : List Report) (events : List Event) : Type 0 where
   pub began : ℕ
   pub then : List Event
   pub whole : events ≡ Now began ∷ then
-  pub serves : ServesSome (begun_at service random table proofs began) service.receives then
+  pub serves : ServesSome called.tags (begun_at service called.random table proofs began) service.receives then
 
 -- a whole service, whose text counts the datagrams that came and the replies that were sent
-pub record ServeText (service : Service) (random : List ℕ) (source : Shown ℕ) (link : Shown Event) (text : List ℕ) : Type 0 where
+pub record ServeText (service : Service) (called : Called) (source : Shown ℕ) (link : Shown Event) (text : List ℕ) : Type 0 where
   pub table : TableState
   pub proofs : List Report
-  pub hosts : Hosts service random source table proofs
+  pub hosts : Hosts service called.random source table proofs
   pub received : ℕ
   pub replied : ℕ
-  pub tells : Grows link.before link.after (Served service random table proofs received replied)
+  pub tells : Grows link.before link.after (Served service called table proofs received replied)
   pub text_is : text ≡ printed_served received replied
 
 -- one that ended early
-pub record ServeBegun (service : Service) (random : List ℕ) (source : Shown ℕ) (link : Shown Event) : Type 0 where
+pub record ServeBegun (service : Service) (called : Called) (source : Shown ℕ) (link : Shown Event) : Type 0 where
   pub table : TableState
   pub proofs : List Report
-  pub hosts : Hosts service random source table proofs
-  pub tells : Grows link.before link.after (ServedSome service random table proofs)
+  pub hosts : Hosts service called.random source table proofs
+  pub tells : Grows link.before link.after (ServedSome service called table proofs)
 
 -- ---- what it promises
 
 abbrev pub serve_promise : Service → Promise
-serve_promise service = reading (host_aim (AreTableBounds service.k service.bits) (λ random source link text. ServeText service random source link text) (λ random source link. ServeBegun service random source link))
+serve_promise service = reading (host_aim (AreTableBounds service.k service.bits) (λ called source link text. ServeText service called source link text) (λ called source link. ServeBegun service called source link))

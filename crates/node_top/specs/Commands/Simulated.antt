@@ -1,6 +1,6 @@
 -- What `sim` makes: the line of a lookup in a network that follows from a seed, which begins with the network's first
 -- nodes. The network and the line are this project's own.
-use Rattle.std.specs.Prelude.{◌≡◌, ℕ, ◌<◌, ◌≤◌, List, [], ◌++◌, min, map, filter, length, codes, decimal, Some, None}
+use Rattle.std.specs.Prelude.{◌≡◌, ℕ, ◌<◌, ◌≤◌, List, [], ◌++◌, min, map, filter, length, codes, decimal, replicate, false, Some, None}
 use Rattle.kad_base.specs.declared.types.Id.{Id}
 use Rattle.kad_base.specs.declared.types.Contact.{Contact}
 use Rattle.kad_base.specs.declared.types.Report.{Report}
@@ -26,6 +26,8 @@ use Rattle.lookup_run.specs.Lookup.{seeds_in}
 use Rattle.kad_words.specs.declared.command.LookWords.{LookWords}
 use Rattle.node_top.specs.declared.commands.sim.Simulation.{Simulation}
 use Rattle.node_top.specs.declared.commands.sim.Start.{Start}
+use Rattle.seal_tags.specs.Seals.{group_tag, is_group_tag}
+use Rattle.node_top.specs.Called.{Called, called_with}
 use Rattle.node_top.specs.Input.{Admits}
 use Rattle.node_top.specs.Printed.{line_of, counts_text}
 use Rattle.node_top.specs.Promise.{Promise, unread}
@@ -47,10 +49,18 @@ look_to target s = record {
   timeout = s.timeout;
   bits = 1;
   policy = Plain;
+  sealed = false;
 }
 
 abbrev pub sim_look : Simulation → LookWords
 sim_look s = look_to (target_of s.seed) s
+
+-- the key of the seal that it is called with, and never asks
+abbrev pub no_key : List ℕ
+no_key = replicate 32 0
+
+abbrev pub sim_called : Simulation → Called
+sim_called s = called_with s.seed (is_group_tag no_key) (group_tag no_key)
 
 -- the values of the words are within the limits
 pub record IsSimulable (s : Simulation) : Type 0 where
@@ -111,8 +121,8 @@ pub record SimText (s : Simulation) (text : List ℕ) : Type 0 where
   pub journal : List Entry
   pub legal : Legal (book_of FindNode (sim_look s) s.seed) journal
   pub seeds_are : seeds journal ≡ seeds_in (look_of FindNode (sim_look s) s.seed) table
-  pub tells : Grows (Some []) (Some events) (λ events. Tells (lookup_of FindNode (sim_look s) s.seed) journal events)
-  pub rounds : Grows (Some []) (Some events) (λ events. Rounds sequential (lookup_of FindNode (sim_look s) s.seed) journal events)
+  pub tells : Grows (Some []) (Some events) (λ events. Tells (lookup_of FindNode (sim_look s) (sim_called s)) journal events)
+  pub rounds : Grows (Some []) (Some events) (λ events. Rounds sequential (lookup_of FindNode (sim_look s) (sim_called s)) journal events)
   pub run_out : (p : ℕ) → p < s.paths → RunOut (book_of FindNode (sim_look s) s.seed) p journal
   pub own_answers : GoesByOwnAnswers (book_of FindNode (sim_look s) s.seed) journal
   pub text_is : text ≡ line_of (sim_text_of s journal)

@@ -1,6 +1,7 @@
 //! The command `check`: says of each contact line of the input whether its contact passes the puzzles.
 ghost use Rattle.std.specs.Prelude.{◌≡◌, IfOk, IfErr, string_bytes};
 ghost use Rattle.std.specs.List.{AllZip};
+ghost use Rattle.node_top.specs.Called.{Called};
 ghost use Rattle.node_top.specs.Commands.Checked.{CheckText, Judges, check_promise, passed_of, passed_text, verdict_text, verdicts_printed};
 ghost use Rattle.kad_base.specs.declared.types.Event.{Event};
 ghost use Rattle.node_top.specs.Shown.{Shown, shown};
@@ -10,6 +11,7 @@ use crate::input::read_reports;
 use crate::printed::add_line;
 use crate::status::Status;
 use kad_base::{Bytes, Check, List, NoMemory, Policy, Report, Source};
+use seal_tags::{Seal, SealCheck};
 use std::alloc::{AllocError, Global};
 
 /// Whether each report passes the policy, in order.
@@ -65,15 +67,15 @@ fn print_verdicts(alloc: Global, verdicts: &[bool]) -> Result<Bytes, NoMemory>
 }
 
 /// Judges the contacts of the input's lines, and makes the text, or says why there is none. Nothing is written yet.
-pub(crate) fn check<S: Source, C: Check>(
+pub(crate) fn check<S: Source, C: Check, G: Seal + SealCheck>(
     alloc: Global,
     policy: Policy,
     source: &mut S,
-    call: &Call<'_, C>,
+    call: &Call<'_, C, G>,
 ) -> Result<Bytes, Status>
     ensures ok { IfOk result (CheckText policy (shown S.left S.faults source.old source.new)) }
-    ensures cause { (link : Shown Event) → IfErr result ((check_promise policy).cause call.now.random
-        (shown S.left S.faults source.old source.new) link) }
+    ensures cause { (called : Called) (link : Shown Event) → IfErr result ((check_promise policy).cause
+        called (shown S.left S.faults source.old source.new) link) }
 {
     let reports = read_reports(alloc, source)?;
     let verdicts = judged(alloc, policy, call.check, reports.as_slice())?;

@@ -1,5 +1,6 @@
 //! The command `lookup`: looks the target up, and makes the text of what it found.
 ghost use Rattle.std.specs.Prelude.{◌≡◌, ◌⊎◌, IfOk, IfErr};
+ghost use Rattle.node_top.specs.Called.{called_with};
 ghost use Rattle.node_top.specs.Endings.{EndsUnasked, number_of};
 ghost use Rattle.node_top.specs.Looked.{LookupText, LookupBegun, lookup_promise};
 ghost use Rattle.node_top.specs.Printed.{printed};
@@ -13,6 +14,7 @@ use crate::status::Status;
 use kad_base::{Bytes, Check, Link, NoMemory, Source};
 use kad_words::LookWords;
 use lookup_run::{AskKind, Outcome};
+use seal_tags::{Seal, SealCheck};
 use std::alloc::Global;
 use std::sync::Wait;
 use std::thread::Threads;
@@ -34,23 +36,32 @@ fn text_of(alloc: Global, outcome: &Outcome) -> Result<Bytes, NoMemory>
 }
 
 /// Looks the target up and makes the text of what was found, or says why there is none. Nothing is written yet.
-pub(crate) fn lookup<R: Threads + Wait + Sync, S: Source, L: Link, C: Check + Sync>(
+pub(crate) fn lookup<
+    R: Threads + Wait + Sync,
+    S: Source,
+    L: Link,
+    C: Check + Sync,
+    G: Seal + SealCheck,
+>(
     rt: &R,
     alloc: Global,
     look: &LookWords,
     source: &mut S,
     link: &mut L,
-    call: &Call<'_, C>,
+    call: &Call<'_, C, G>,
 ) -> Result<Bytes, Status>
     requires { IsInRange look.now }
-    ensures ok { IfOk result (LookupText AskKind.FindNode look.now call.now.random
+    ensures ok { IfOk result (LookupText AskKind.FindNode look.now (called_with call.now.random (G.accepted call.now.seal.now)
+        (G.tag_of call.now.seal.now))
         (shown S.left S.faults source.old source.new)
         (shown L.told L.recv_faults link.old link.new)) }
-    ensures cause { IfErr result ((lookup_promise look.now).cause call.now.random
+    ensures cause { IfErr result ((lookup_promise look.now).cause (called_with call.now.random (G.accepted call.now.seal.now)
+        (G.tag_of call.now.seal.now))
         (shown S.left S.faults source.old source.new)
         (shown L.told L.recv_faults link.old link.new)) }
     ensures no_memory { IfErr result (λ status. status ≡ Status.NoMemory →
-        LookupBegun AskKind.FindNode look.now call.now.random
+        LookupBegun AskKind.FindNode look.now (called_with call.now.random (G.accepted call.now.seal.now)
+        (G.tag_of call.now.seal.now))
         (shown S.left S.faults source.old source.new)
         (shown L.told L.recv_faults link.old link.new) ⊎ (link.new ≡ link.old)) }
     ensures early { IfErr result (λ status. EndsUnasked (number_of status) → link.new ≡ link.old) }

@@ -3,6 +3,7 @@
 ghost use Rattle.std.specs.Prelude.{◌≡◌, ◌≤◌, ◌⊎◌, ◌+◌, ◌^◌, length, IfOk, IfErr, OnErr};
 ghost use Rattle.kad_base.specs.Outside.{Grows};
 ghost use Rattle.lookup_core.specs.declared.quest.AskKind.TheVariants.{GetPeers};
+ghost use Rattle.node_top.specs.Called.{called_with};
 ghost use Rattle.node_top.specs.Announced.{owed, Announces, AnnouncesSome, sent_in};
 ghost use Rattle.node_top.specs.Endings.{EndsUnasked, number_of};
 ghost use Rattle.node_top.specs.Commands.Peered.{PeersText, PeersBegun, peers_promise};
@@ -18,6 +19,7 @@ use id_puzzles::Words;
 use kad_base::{Bytes, Check, Id, Link, NoMemory, Source};
 use kad_words::LookWords;
 use lookup_run::{AskKind, Outcome};
+use seal_tags::{Seal, SealCheck};
 use std::alloc::Global;
 use std::sync::Wait;
 use std::thread::Threads;
@@ -56,24 +58,33 @@ fn announce_told<L: Link>(
 }
 
 /// Looks for peers, announces, and makes the text of what was found, or says why there is none. Nothing is written yet.
-pub(crate) fn peers<R: Threads + Wait + Sync, S: Source, L: Link, C: Check + Sync>(
+pub(crate) fn peers<
+    R: Threads + Wait + Sync,
+    S: Source,
+    L: Link,
+    C: Check + Sync,
+    G: Seal + SealCheck,
+>(
     rt: &R,
     alloc: Global,
     look: &LookWords,
     port: Option<u16>,
     source: &mut S,
     link: &mut L,
-    call: &Call<'_, C>,
+    call: &Call<'_, C, G>,
 ) -> Result<Bytes, Status>
     requires { IsInRange look.now }
-    ensures ok { IfOk result (PeersText look.now port call.now.random
+    ensures ok { IfOk result (PeersText look.now port (called_with call.now.random (G.accepted call.now.seal.now)
+        (G.tag_of call.now.seal.now))
         (shown S.left S.faults source.old source.new)
         (shown L.told L.recv_faults link.old link.new)) }
-    ensures cause { IfErr result ((peers_promise look.now port).cause call.now.random
+    ensures cause { IfErr result ((peers_promise look.now port).cause (called_with call.now.random (G.accepted call.now.seal.now)
+        (G.tag_of call.now.seal.now))
         (shown S.left S.faults source.old source.new)
         (shown L.told L.recv_faults link.old link.new)) }
     ensures no_memory { IfErr result (λ status. status ≡ Status.NoMemory →
-        PeersBegun look.now port call.now.random
+        PeersBegun look.now port (called_with call.now.random (G.accepted call.now.seal.now)
+        (G.tag_of call.now.seal.now))
         (shown S.left S.faults source.old source.new)
         (shown L.told L.recv_faults link.old link.new) ⊎ (link.new ≡ link.old)) }
     ensures early { IfErr result (λ status. EndsUnasked (number_of status) → link.new ≡ link.old) }

@@ -1,6 +1,7 @@
 //! The command `serve`: a node that answers queries, and in the end the text of how many datagrams came and how many
 //! replies it sent.
 ghost use Rattle.std.specs.Prelude.{◌≡◌, ◌⊎◌, IfOk, IfErr, string_bytes};
+ghost use Rattle.node_top.specs.Called.{called_with};
 ghost use Rattle.node_top.specs.Endings.{EndsUnasked, number_of};
 ghost use Rattle.node_top.specs.Looked.{ReportsCause};
 ghost use Rattle.node_top.specs.Printed.{printed_served, served_text};
@@ -16,10 +17,11 @@ use crate::status::Status;
 use contact_table::Table;
 use kad_base::{Bytes, Check, Id, Link, List, NoMemory, Policy, Reports, Source};
 use node_serve::{Node, ServeFault, serve_loop};
+use seal_tags::{Seal, SealCheck};
 use std::alloc::{AllocError, Global};
 
 /// What the words of `serve` say: the node's own identifier where they name it, Kademlia's k and b, which contacts pass,
-/// and how many receive calls are made.
+/// how many receive calls are made, and whether what it says is tagged.
 #[derive(Clone, Copy, Debug, PartialEq, Eq)]
 pub(crate) struct Service {
     pub own: Option<Id>,
@@ -27,6 +29,7 @@ pub(crate) struct Service {
     pub bits: u8,
     pub policy: Policy,
     pub receives: u32,
+    pub sealed: bool,
 }
 
 /// What a node begins with: its routing table, and the reports that it keeps.
@@ -37,12 +40,12 @@ struct Host {
 }
 
 /// Reads the contacts of the input, tells a new routing table of them, and keeps the reports that have a proof.
-fn read_host<S: Source, C: Check>(
+fn read_host<S: Source, C: Check, G: Seal + SealCheck>(
     alloc: Global,
     service: &Service,
     own: Id,
     source: &mut S,
-    call: &Call<'_, C>,
+    call: &Call<'_, C, G>,
 ) -> Result<Host, Status>
     requires ranges { AreTableBounds service.now.k service.now.bits }
     requires own { own ≡ own_of service.now.own call.now.random }
@@ -78,22 +81,25 @@ fn text_of(alloc: Global, received: u32, replied: u32) -> Result<Bytes, NoMemory
 }
 
 /// Serves, and makes the text of how much was served, or says why there is none. Nothing is written yet.
-pub(crate) fn serve<S: Source, L: Link, C: Check>(
+pub(crate) fn serve<S: Source, L: Link, C: Check, G: Seal + SealCheck>(
     alloc: Global,
     service: &Service,
     source: &mut S,
     link: &mut L,
-    call: &Call<'_, C>,
+    call: &Call<'_, C, G>,
 ) -> Result<Bytes, Status>
     requires { AreTableBounds service.now.k service.now.bits }
-    ensures ok { IfOk result (ServeText service.now call.now.random
+    ensures ok { IfOk result (ServeText service.now (called_with call.now.random (G.accepted call.now.seal.now)
+        (G.tag_of call.now.seal.now))
         (shown S.left S.faults source.old source.new)
         (shown L.told L.recv_faults link.old link.new)) }
-    ensures cause { IfErr result ((serve_promise service.now).cause call.now.random
+    ensures cause { IfErr result ((serve_promise service.now).cause (called_with call.now.random (G.accepted call.now.seal.now)
+        (G.tag_of call.now.seal.now))
         (shown S.left S.faults source.old source.new)
         (shown L.told L.recv_faults link.old link.new)) }
     ensures no_memory { IfErr result (λ status. status ≡ Status.NoMemory →
-        ServeBegun service.now call.now.random
+        ServeBegun service.now (called_with call.now.random (G.accepted call.now.seal.now)
+        (G.tag_of call.now.seal.now))
         (shown S.left S.faults source.old source.new)
         (shown L.told L.recv_faults link.old link.new) ⊎ (link.new ≡ link.old)) }
     ensures early { IfErr result (λ status. EndsUnasked (number_of status) → link.new ≡ link.old) }
@@ -111,8 +117,9 @@ pub(crate) fn serve<S: Source, L: Link, C: Check>(
         proofs,
         &call.random,
         began,
+        service.sealed,
     );
-    let counts = match serve_loop(link, node, began, service.receives) {
+    let counts = match serve_loop(link, node, call.seal, began, service.receives) {
         Ok(counts) => counts,
         Err(ServeFault::LinkFault) => return Err(Status::LinkFault),
         Err(ServeFault::NoMemory) => return Err(Status::NoMemory),

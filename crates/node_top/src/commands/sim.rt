@@ -19,6 +19,7 @@ use kad_base::{
 };
 use kad_words::LookWords;
 use lookup_run::{AskKind, LookFault, LookSetting, Outcome, look_up_alone};
+use seal_tags::{GroupSeal, Seal, SealCheck};
 use std::alloc::{AllocError, Global};
 
 /// What a network is made from, and how is looked up in it.
@@ -46,6 +47,7 @@ fn look_to(target: Id, simulation: &Simulation) -> LookWords
         timeout: simulation.timeout,
         bits: 1,
         policy: Policy::Plain,
+        sealed: false,
     }
 }
 
@@ -163,10 +165,10 @@ fn begin<C: Check>(
 /// Looks the network's target up from its first k nodes, or from all where there are fewer, and makes the line of what was
 /// found. Nothing is written yet. The network never fails, and gives fewer datagrams than a lookup takes strays, so that
 /// only want of memory ends it early. A network that is short has lost events, and so gives no line.
-pub(crate) fn sim<C: Check>(
+pub(crate) fn sim<C: Check, G: Seal + SealCheck>(
     alloc: Global,
     simulation: &Simulation,
-    call: &Call<'_, C>,
+    call: &Call<'_, C, G>,
 ) -> Result<Bytes, Status>
     requires { IsSimulable simulation.now }
     ensures ok { IfOk result (SimText simulation.now) }
@@ -185,6 +187,7 @@ pub(crate) fn sim<C: Check>(
         near,
     } = start;
     let mut words = Words::new(&simulation.seed, FIRST_TX);
+    let seal = GroupSeal::new([0; 32]);
     let (_, ended) = look_up_alone(
         alloc,
         &mut net,
@@ -192,6 +195,7 @@ pub(crate) fn sim<C: Check>(
         table,
         &setting,
         call.check,
+        &seal,
         call.hasher,
     );
     if net.short() {

@@ -1,4 +1,5 @@
 use Rattle.std.proofs.Common.{inl, sym, ◌∙◌}
+use Rattle.node_top.specs.Called.{called_with}
 use Rattle.node_top.specs.Shown.{shown}
 use Rattle.node_top.proofs.Begun.{err_began}
 use Rattle.node_top.proofs.Exactly.{rose_after}
@@ -22,7 +23,7 @@ returns-clause-ok g c =
       hosts = c.in_ok-host.ensures.ok;
       received = c.in-Ok.counts.received;
       replied = c.in-Ok.counts.replied;
-      tells = served_all c.args.service.now c.args.call.now.random h.table h.proofs c.new-node.result c.now-began.result c.in-Ok.counts.received c.in-Ok.counts.replied _ _ _
+      tells = served_all c.args.service.now (called_with c.args.call.now.random (g.G.SealCheck.accepted c.args.call.now.seal.now) (g.G.Seal.tag_of c.args.call.now.seal.now)) h.table h.proofs c.new-node.result c.now-began.result c.in-Ok.counts.received c.in-Ok.counts.replied _ _ _
           (node_begun c.args.service.now c.args.call.now.random h.table h.proofs c.own_id-own.result c.now-began.result c.new-node.result c.own_id-own.ensures c.new-node.ensures) c.now-began.ensures.told c.in-Ok.ensures.ok;
       text_is = c.in_ok-text_of.ensures;
     }
@@ -32,7 +33,7 @@ returns-in-Err-LinkFault-clause-cause g c =
     let h = c.in_ok-host.host in
     let link = shown g.L.Link.told g.L.Link.recv_faults c.args.link.now c.serve_loop.new.link in (
       rose_after _ _ _ c.now-began.ensures.recv_faults (c.serve_loop.ensures.link_fault (err_is _ _ _ c.in-Err-LinkFault.is c.in-Err-LinkFault.field-0-is)),
-      some_begun c.args.service.now c.args.call.now.random _ link h.table h.proofs c.new-node.result c.now-began.result _ c.in_ok-host.ensures.ok
+      some_begun c.args.service.now (called_with c.args.call.now.random (g.G.SealCheck.accepted c.args.call.now.seal.now) (g.G.Seal.tag_of c.args.call.now.seal.now)) _ link h.table h.proofs c.new-node.result c.now-began.result _ c.in_ok-host.ensures.ok
           (node_begun c.args.service.now c.args.call.now.random h.table h.proofs c.own_id-own.result c.now-began.result c.new-node.result c.own_id-own.ensures c.new-node.ensures) c.now-began.ensures.told c.in-Err-LinkFault.ensures.begun,
     )
 
@@ -40,7 +41,7 @@ pub returns-in-Err-NoMemory-clause-no_memory : goal.returns-in-Err-NoMemory-clau
 returns-in-Err-NoMemory-clause-no_memory g c = λ same.
     let h = c.in_ok-host.host in
     let link = shown g.L.Link.told g.L.Link.recv_faults c.args.link.now c.serve_loop.new.link in
-    inl (some_begun c.args.service.now c.args.call.now.random _ link h.table h.proofs c.new-node.result c.now-began.result _ c.in_ok-host.ensures.ok
+    inl (some_begun c.args.service.now (called_with c.args.call.now.random (g.G.SealCheck.accepted c.args.call.now.seal.now) (g.G.Seal.tag_of c.args.call.now.seal.now)) _ link h.table h.proofs c.new-node.result c.now-began.result _ c.in_ok-host.ensures.ok
     (node_begun c.args.service.now c.args.call.now.random h.table h.proofs c.own_id-own.result c.now-began.result c.new-node.result c.own_id-own.ensures c.new-node.ensures) c.now-began.ensures.told c.in-Err-NoMemory.ensures.begun)
 
 pub returns-in_err-text_of-clause-no_memory : goal.returns-in_err-text_of-clause-no_memory
@@ -50,7 +51,7 @@ returns-in_err-text_of-clause-no_memory g c =
       table = h.table;
       proofs = h.proofs;
       hosts = c.in_ok-host.ensures.ok;
-      tells = served_some c.args.service.now c.args.call.now.random h.table h.proofs c.new-node.result c.now-began.result _ _ _
+      tells = served_some c.args.service.now (called_with c.args.call.now.random (g.G.SealCheck.accepted c.args.call.now.seal.now) (g.G.Seal.tag_of c.args.call.now.seal.now)) h.table h.proofs c.new-node.result c.now-began.result _ _ _
           (node_begun c.args.service.now c.args.call.now.random h.table h.proofs c.own_id-own.result c.now-began.result c.new-node.result c.own_id-own.ensures c.new-node.ensures) c.now-began.ensures.told
-          (all_some (record { node = c.new-node.result; moment = c.now-began.result }) c.args.service.now.receives c.in-Ok.counts.received c.in-Ok.counts.replied _ _ c.in-Ok.ensures.ok);
+          (all_some (g.G.Seal.tag_of c.args.call.now.seal.now) (record { node = c.new-node.result; moment = c.now-began.result }) c.args.service.now.receives c.in-Ok.counts.received c.in-Ok.counts.replied _ _ c.in-Ok.ensures.ok);
     })
