@@ -8,7 +8,7 @@ use Rattle.kad_base.specs.declared.types.Policy.TheVariants as policy
 use Rattle.kad_words.specs.Text.{SpellsHex, SpellsId}
 use Rattle.kad_words.specs.Values.{IsGiven, MayBeGiven, MayNumberBy, NumberBy}
 use Rattle.kad_words.specs.declared.command.Command.{Command}
-use Rattle.kad_words.specs.declared.command.Command.TheVariants.{Lookup, Peers, Serve, Check, Mint, Sim}
+use Rattle.kad_words.specs.declared.command.Command.TheVariants.{Lookup, Peers, Serve, Table, Check, Mint, Sim}
 use Rattle.kad_words.specs.declared.command.CommandKind.{CommandKind}
 use Rattle.kad_words.specs.declared.command.CommandKind.TheVariants as kind
 use Rattle.kad_words.specs.declared.command.LookWords.{LookWords}
@@ -48,6 +48,9 @@ peers = codes "peers"
 abbrev pub serve : Word
 serve = codes "serve"
 
+abbrev pub table : Word
+table = codes "table"
+
 abbrev pub check : Word
 check = codes "check"
 
@@ -62,6 +65,7 @@ abbrev pub kind_word : CommandKind → Word
 kind_word kind.Lookup = lookup
 kind_word kind.Peers = peers
 kind_word kind.Serve = serve
+kind_word kind.Table = table
 kind_word kind.Check = check
 kind_word kind.Mint = mint
 kind_word kind.Sim = sim
@@ -82,10 +86,10 @@ abbrev pub key_option : Choice
 key_option = choice (codes "key") Identifier Required (peers ∷ [])
 
 abbrev pub own_option : Choice
-own_option = choice (codes "own") Identifier Optional (lookup ∷ peers ∷ serve ∷ [])
+own_option = choice (codes "own") Identifier Optional (lookup ∷ peers ∷ serve ∷ table ∷ [])
 
 abbrev pub k_option : Choice
-k_option = choice (codes "k") (Number 1 20) (OrElse 8) (lookup ∷ peers ∷ serve ∷ sim ∷ [])
+k_option = choice (codes "k") (Number 1 20) (OrElse 8) (lookup ∷ peers ∷ serve ∷ table ∷ sim ∷ [])
 
 abbrev pub paths_option : Choice
 paths_option = choice (codes "paths") (Number 1 8) (OrElse 4) (lookup ∷ peers ∷ sim ∷ [])
@@ -97,13 +101,13 @@ abbrev pub timeout_option : Choice
 timeout_option = choice (codes "timeout") (Number 1 60000) (OrElse 2000) (lookup ∷ peers ∷ sim ∷ [])
 
 abbrev pub bits_option : Choice
-bits_option = choice (codes "bits") (Number 1 5) (OrElse 1) (lookup ∷ peers ∷ serve ∷ [])
+bits_option = choice (codes "bits") (Number 1 5) (OrElse 1) (lookup ∷ peers ∷ serve ∷ table ∷ [])
 
 abbrev pub c1_option : Choice
-c1_option = choice (codes "c1") (Number 0 32) (OrElse 0) (lookup ∷ peers ∷ serve ∷ check ∷ mint ∷ [])
+c1_option = choice (codes "c1") (Number 0 32) (OrElse 0) (lookup ∷ peers ∷ serve ∷ table ∷ check ∷ mint ∷ [])
 
 abbrev pub c2_option : Choice
-c2_option = choice (codes "c2") (Number 0 32) (OrElse 0) (lookup ∷ peers ∷ serve ∷ check ∷ mint ∷ [])
+c2_option = choice (codes "c2") (Number 0 32) (OrElse 0) (lookup ∷ peers ∷ serve ∷ table ∷ check ∷ mint ∷ [])
 
 abbrev pub bind_option : Choice
 bind_option = choice (codes "bind") Address Optional (lookup ∷ peers ∷ serve ∷ [])
@@ -130,13 +134,13 @@ abbrev pub hostile_option : Choice
 hostile_option = choice (codes "hostile") (Number 0 100) (OrElse 0) (sim ∷ [])
 
 -- all of them
-abbrev pub table : List Choice
-table = target_option ∷ key_option ∷ own_option ∷ k_option ∷ paths_option ∷ alpha_option ∷ timeout_option ∷ bits_option ∷ c1_option ∷ c2_option ∷ bind_option ∷ group_option ∷ announce_option ∷ receives_option
+abbrev pub every_option : List Choice
+every_option = target_option ∷ key_option ∷ own_option ∷ k_option ∷ paths_option ∷ alpha_option ∷ timeout_option ∷ bits_option ∷ c1_option ∷ c2_option ∷ bind_option ∷ group_option ∷ announce_option ∷ receives_option
     ∷ seed_option ∷ tries_option ∷ nodes_option ∷ hostile_option ∷ []
 
 -- the options of a command
 abbrev pub options_of : Word → List Entry
-options_of command = map (λ (c : Choice). c.entry) (filter (λ (c : Choice). list_any (bytes_eq command) c.commands) table)
+options_of command = map (λ (c : Choice). c.entry) (filter (λ (c : Choice). list_any (bytes_eq command) c.commands) every_option)
 
 -- an option's word is its name after two dashes
 abbrev pub option_word : Word → Word
@@ -226,6 +230,7 @@ parts_of (Lookup look) = gives_look target_option look ∷ []
 parts_of (Peers look announce) = gives_look key_option look ∷ may_give_number announce_option announce ∷ []
 parts_of (Serve own k bits policy receives sealed) =
     gives_id own_option own ∷ gives_number k_option k ∷ gives_number bits_option bits ∷ gives_policy policy ∷ gives_number receives_option receives ∷ says_whether group_option sealed ∷ []
+parts_of (Table own k bits policy) = gives_id own_option own ∷ gives_number k_option k ∷ gives_number bits_option bits ∷ gives_policy policy ∷ []
 parts_of (Check policy) = gives_policy policy ∷ []
 parts_of (Mint seed c1 c2 tries) = gives_seed seed_option seed ∷ gives_number c1_option c1 ∷ gives_number c2_option c2 ∷ gives_number tries_option tries ∷ []
 parts_of (Sim seed nodes hostile k paths alpha timeout) =
@@ -240,6 +245,7 @@ abbrev pub kind_of : Command → CommandKind
 kind_of (Lookup look) = kind.Lookup
 kind_of (Peers look announce) = kind.Peers
 kind_of (Serve own k bits policy receives sealed) = kind.Serve
+kind_of (Table own k bits policy) = kind.Table
 kind_of (Check policy) = kind.Check
 kind_of (Mint seed c1 c2 tries) = kind.Mint
 kind_of (Sim seed nodes hostile k paths alpha timeout) = kind.Sim

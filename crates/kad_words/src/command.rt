@@ -1,6 +1,6 @@
 //! The commands: what each asks for, its word, its options, and how it is made of their values.
 ghost use Rattle.std.specs.Prelude.{◌≡◌, MatchOption};
-ghost use Rattle.kad_words.specs.Table.{check, lookup, mint, peers, serve, sim, kind_word, links, options_of, word_of, IsLook, Says};
+ghost use Rattle.kad_words.specs.Table.{check, lookup, mint, peers, serve, sim, table, kind_word, links, options_of, word_of, IsLook, Says};
 ghost use Rattle.kad_words.specs.Listed.{entries_of, entry_of};
 ghost use Rattle.kad_words.specs.Taken.{taken_of};
 ghost use Rattle.kad_words.specs.Fitting.{AllFit, LookFits};
@@ -37,6 +37,13 @@ pub enum Command {
         policy: Policy,
         receives: u32,
         sealed: bool,
+    },
+    /// Make the routing table of contact lines, and save it as a text.
+    Table {
+        own: Option<Id>,
+        k: u8,
+        bits: u8,
+        policy: Policy,
     },
     /// Say which contact lines pass a policy.
     Check {
@@ -99,6 +106,8 @@ static PEERS: [Choice; 12] = [
 
 static SERVE: [Choice; 8] = [OWN, K, BITS, C1, C2, BIND, GROUP, RECEIVES];
 
+static TABLE: [Choice; 5] = [OWN, K, BITS, C1, C2];
+
 static CHECK: [Choice; 2] = [C1, C2];
 
 static MINT: [Choice; 4] = [C1, C2, SEED, TRIES];
@@ -111,6 +120,7 @@ pub enum CommandKind {
     Lookup,
     Peers,
     Serve,
+    Table,
     Check,
     Mint,
     Sim,
@@ -125,6 +135,7 @@ pub(crate) fn kind_named(word: &str) -> Option<CommandKind>
         "lookup" => Some(CommandKind::Lookup),
         "peers" => Some(CommandKind::Peers),
         "serve" => Some(CommandKind::Serve),
+        "table" => Some(CommandKind::Table),
         "check" => Some(CommandKind::Check),
         "mint" => Some(CommandKind::Mint),
         "sim" => Some(CommandKind::Sim),
@@ -150,6 +161,7 @@ pub(crate) fn options(kind: CommandKind) -> &'static [Choice]
         CommandKind::Lookup => &LOOKUP,
         CommandKind::Peers => &PEERS,
         CommandKind::Serve => &SERVE,
+        CommandKind::Table => &TABLE,
         CommandKind::Check => &CHECK,
         CommandKind::Mint => &MINT,
         CommandKind::Sim => &SIM,
@@ -166,6 +178,7 @@ pub(crate) fn command_for(kind: CommandKind, matches: &ArgMatches) -> Command
         CommandKind::Lookup => lookup(matches),
         CommandKind::Peers => peers(matches),
         CommandKind::Serve => serve(matches),
+        CommandKind::Table => table(matches),
         CommandKind::Check => check(matches),
         CommandKind::Mint => mint(matches),
         CommandKind::Sim => sim(matches),
@@ -225,6 +238,19 @@ fn serve(matches: &ArgMatches) -> Command
         policy: policy(matches),
         receives: number(matches, &RECEIVES),
         sealed: stands(matches, &GROUP),
+    }
+}
+
+fn table(matches: &ArgMatches) -> Command
+    requires { AllFit (options_of table) (taken_of matches.now) }
+    ensures says { Says (taken_of matches.now) result }
+    ensures word { word_of result ≡ table }
+{
+    Command::Table {
+        own: id(matches, &OWN),
+        k: small(matches, &K),
+        bits: small(matches, &BITS),
+        policy: policy(matches),
     }
 }
 

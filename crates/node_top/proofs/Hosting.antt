@@ -42,9 +42,9 @@ module _ (ranges : Type 0) (text : Called → Shown ℕ → Shown Event → List
     seeks = λ none_. refl;
   })
 
-pub judging_lawful : (ranges : Type 0) (text : Shown ℕ → List ℕ → Type 0) → ((source : Shown ℕ) (written : List ℕ) → text source written → IsGood source) → Lawful (reading (judge_aim ranges text))
+pub judging_lawful : (ranges : Type 0) (text : List ℕ → Shown ℕ → List ℕ → Type 0) → ((random : List ℕ) (source : Shown ℕ) (written : List ℕ) → text random source written → IsGood source) → Lawful (reading (judge_aim ranges text))
 judging_lawful ranges text good = reading_lawful (judge_aim ranges text) (record {
-  good = λ called source link written t. good source written t;
+  good = λ called source link written t. good called.random source written t;
   seeded = λ called source link written told t none_. none_;
   few = λ called source link written told t last. last;
   behind = λ called source link s c. absurd c;

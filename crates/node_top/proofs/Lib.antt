@@ -21,4 +21,5 @@ pub mod Reaching
 pub mod Peering
 pub mod Simulating
 pub mod Serving
+pub mod Tabling
 pub mod Unstrayed

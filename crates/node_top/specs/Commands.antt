@@ -5,6 +5,7 @@ pub mod Minted
 pub mod Peered
 pub mod Served
 pub mod Simulated
+pub mod Tabled
 use Rattle.std.specs.Prelude.{◌≡◌, ℕ, List, Option, Bool, IsTrue}
 use Rattle.kad_base.specs.declared.types.Id.{Id}
 use Rattle.kad_base.specs.declared.types.Policy.{Policy}
@@ -13,7 +14,7 @@ use Rattle.kad_base.specs.Outside.{Grows}
 use Rattle.kad_words.specs.Table.{Word}
 use Rattle.kad_words.specs.Plain.{CommandOf}
 use Rattle.kad_words.specs.declared.command.Command.{Command}
-use Rattle.kad_words.specs.declared.command.Command.TheVariants.{Lookup, Peers, Serve, Check, Mint, Sim}
+use Rattle.kad_words.specs.declared.command.Command.TheVariants.{Lookup, Peers, Serve, Table, Check, Mint, Sim}
 use Rattle.node_top.specs.declared.commands.serve.Service.{Service}
 use Rattle.node_top.specs.declared.commands.sim.Simulation.{Simulation}
 use Rattle.node_top.specs.declared.status.Status.{Status}
@@ -28,6 +29,7 @@ use Rattle.node_top.specs.Promise.{Promise}
 use Rattle.node_top.specs.Shown.{Shown, HasFailed, nowhere}
 use Rattle.node_top.specs.Called.{Called}
 use Rattle.node_top.specs.Commands.Simulated.{sim_promise}
+use Rattle.node_top.specs.Commands.Tabled.{table_promise}
 
 -- what the words of `serve` say
 abbrev pub service_of : Option Id → ℕ → ℕ → Policy → ℕ → Bool → Service
@@ -49,6 +51,7 @@ abbrev pub promise_of : Command → Promise
 promise_of (Lookup look) = lookup_promise look
 promise_of (Peers look announce) = peers_promise look announce
 promise_of (Serve own k bits policy receives sealed) = serve_promise (service_of own k bits policy receives sealed)
+promise_of (Table own k bits policy) = table_promise own k bits policy
 promise_of (Check policy) = check_promise policy
 promise_of (Mint seed c1 c2 tries) = mint_promise seed c1 c2 tries
 promise_of (Sim seed nodes hostile k paths alpha timeout) = sim_promise (simulation_of seed nodes hostile k paths alpha timeout)

@@ -81,13 +81,13 @@ reading aim = record {
 }
 
 -- what a command does behind its input that takes no link: nothing ends it but want of memory
-abbrev pub judge_aim : Type 0 → (Shown ℕ → List ℕ → Type 0) → Aim
+abbrev pub judge_aim : Type 0 → (List ℕ → Shown ℕ → List ℕ → Type 0) → Aim
 judge_aim ranges text = record {
   links = false;
   sought = None;
   ends = [];
   ranges = ranges;
-  text = λ called source link written. text source written;
+  text = λ called source link written. text called.random source written;
   started = λ called source. ⊥;
   begun = λ called source link. ⊥;
   cause = λ called source link status. ⊥;

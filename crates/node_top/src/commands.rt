@@ -15,6 +15,7 @@ pub(crate) mod mint;
 pub(crate) mod peers;
 pub(crate) mod serve;
 pub(crate) mod sim;
+pub(crate) mod table;
 
 use crate::asked::asked;
 use crate::call::Call;
@@ -98,6 +99,12 @@ fn plain_output_of<S: Source, C: Check, G: Seal + SealCheck>(
     ensures no_input { ¬ IsTrue (promise_of command).reads → source.new ≡ source.old }
 {
     match command {
+        Command::Table {
+            own,
+            k,
+            bits,
+            policy,
+        } => table::table(alloc, own, k, bits, policy, source, call),
         Command::Check { policy } => check::check(alloc, policy, source, call),
         Command::Mint {
             seed,

@@ -25,6 +25,8 @@ use std::thread::Threads;
 /// names it) and the transaction ids are drawn. `rt` is the runtime: where the check says that it takes long, `lookup` and
 /// `peers` settle what a round gave on several threads, which wait for each other in turn.
 /// Strangers choose what the lookup keeps an index of, so its `hasher` is handed in; nothing that is written depends on it.
+/// `seal` is the group's: a command that the words say is sealed believes no reply without a tag that it accepts, and tags
+/// what it says; no other asks it for anything.
 ///
 /// Each command's module says what it writes, `status` with what number and line a command ends that writes no output, and
 /// `docs/COMMANDS.md` both; what words a command has is the business of `kad_words`. At 0 the output was written whole, and
@@ -152,6 +154,7 @@ pub fn run<
 /// that is written depends on it.
 ///
 /// `check` writes of each contact line of the source whether its contact passes the puzzles, and then how many do.
+/// `table` writes the saved text of the routing table that the contact lines of the source make.
 /// `mint` reads nothing, and writes an identifier that solves both puzzles, with its key and X.
 /// `sim` reads nothing, looks up in a network in memory that is made from a seed, and writes the counts of the lookup and how
 /// many of the closest nodes that aren't hostile it found. It waits by the network's own clock, which takes no time.

@@ -230,6 +230,24 @@ fn words_of_the_other_commands(rt: HostRuntime) {
         ),
         ("serve --receives 1000000000", serve),
         (
+            "table",
+            Command::Table {
+                own: None,
+                k: 8,
+                bits: 1,
+                policy: Policy::Plain,
+            },
+        ),
+        (
+            "table --c1 8 --bits 5 --own ID --k 20",
+            Command::Table {
+                own: Some(id()),
+                k: 20,
+                bits: 5,
+                policy: puzzled,
+            },
+        ),
+        (
             "check",
             Command::Check {
                 policy: Policy::Plain,
@@ -343,6 +361,10 @@ fn words_that_are_refused(rt: HostRuntime) {
         "serve --receives 0",
         "serve --receives 1000000001",
         "serve --paths 1",
+        "table --target ID",
+        "table --group SEED",
+        "table --bind 127.0.0.1:1",
+        "table --k 0",
         "check --c2 33",
         "check --k 1",
         "check --group SEED",
@@ -386,6 +408,7 @@ fn the_address_to_bind(rt: HostRuntime) {
         ),
         ("check --k --bind 127.0.0.1:7000", chosen, false),
         ("lookup --bind", chosen, true),
+        ("table --bind 127.0.0.1:7000", four, false),
         ("mint", chosen, false),
         ("", chosen, false),
     ] {
@@ -411,6 +434,7 @@ fn the_key_of_a_group(rt: HostRuntime) {
         ("lookup --target ID", None, true),
         ("peers", None, true),
         ("serve --receives 1", None, true),
+        ("table", None, false),
         ("check", None, false),
         ("mint --seed SEED", None, false),
         ("sim", None, false),

@@ -46,4 +46,4 @@ pub record CheckText (policy : Policy) (source : Shown ℕ) (text : List ℕ) : 
   pub printed : CheckPrinted policy reports text
 
 abbrev pub check_promise : Policy → Promise
-check_promise policy = reading (judge_aim (Unit {0}) (λ source text. CheckText policy source text))
+check_promise policy = reading (judge_aim (Unit {0}) (λ random source text. CheckText policy source text))

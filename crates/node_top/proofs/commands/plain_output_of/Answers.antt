@@ -13,6 +13,9 @@ use Rattle.node_top.proofs.commands.plain_output_of.Goals as goal
 pub returns-in-Check-clause-cause : goal.returns-in-Check-clause-cause
 returns-in-Check-clause-cause g c = λ accepts tags link. cause_at c.check.result _ _ link _ _ (sym c.in-Check.is) (c.check.ensures.cause (called_with c.args.call.now.random accepts tags) link)
 
+pub returns-in-Table-clause-cause : goal.returns-in-Table-clause-cause
+returns-in-Table-clause-cause g c = λ accepts tags link. cause_at c.table.result _ _ link _ _ (sym c.in-Table.is) (c.table.ensures.cause (called_with c.args.call.now.random accepts tags) link)
+
 pub returns-in-Mint-clause-ok : goal.returns-in-Mint-clause-ok
 returns-in-Mint-clause-ok g c = λ accepts tags link.
     text_at c.mint.result (called_with c.args.call.now.random accepts tags) _ link _ _ (sym c.in-Mint.is)

@@ -1,0 +1,51 @@
+//! The command `table`: makes the saved text of the routing table that the contacts of the input make. It asks nobody.
+ghost use Rattle.std.specs.Prelude.{IfOk, IfErr};
+ghost use Rattle.kad_base.specs.declared.types.Event.{Event};
+ghost use Rattle.node_top.specs.Called.{Called};
+ghost use Rattle.node_top.specs.Commands.Tabled.{IsTextOf, TableText, table_promise};
+ghost use Rattle.node_top.specs.Started.{AreTableBounds};
+ghost use Rattle.node_top.specs.Shown.{Shown, shown};
+
+use crate::bootstrap::{own_id, table_of};
+use crate::call::Call;
+use crate::input::{admitted, read_reports};
+use crate::status::Status;
+use contact_table::Table;
+use kad_base::{Bytes, Check, Id, NoMemory, Policy, Source};
+use seal_tags::{Seal, SealCheck};
+use std::alloc::Global;
+use table_file::write;
+
+/// The saved text of a table.
+fn text_of(alloc: Global, table: &Table) -> Result<Bytes, NoMemory>
+    ensures { IfOk result (IsTextOf table.now) }
+{
+    table.sound();
+    let saved = table.rows()?;
+    write(alloc, &saved)
+}
+
+/// Reads the contacts of the input, tells a new routing table of them, and makes its saved text, or says why there is
+/// none. Nothing is written yet.
+pub(crate) fn table<S: Source, C: Check, G: Seal + SealCheck>(
+    alloc: Global,
+    own: Option<Id>,
+    k: u8,
+    bits: u8,
+    policy: Policy,
+    source: &mut S,
+    call: &Call<'_, C, G>,
+) -> Result<Bytes, Status>
+    requires { AreTableBounds k bits }
+    ensures ok { IfOk result (TableText own k bits policy call.now.random
+        (shown S.left S.faults source.old source.new)) }
+    ensures cause { (called : Called) (link : Shown Event) → IfErr result
+        ((table_promise own k bits policy).cause called
+        (shown S.left S.faults source.old source.new) link) }
+{
+    let id = own_id(own, &call.random);
+    let reports = read_reports(alloc, source)?;
+    let contacts = admitted(alloc, &id, policy, call.check, reports.as_slice())?;
+    let table = table_of(alloc, id, k, bits, contacts.as_slice())?;
+    Ok(text_of(alloc, &table)?)
+}
