@@ -80,9 +80,6 @@ found_taken tx from c d old new is found closes =
     let one : found.1 ≡ closes.query = only_one old closes.place closes.query is closes.here found.1 (found.0, found.2, found.3) (found.4.0.0 ∙ sym closes.answers.0) in
     closes.contact_is ∙ sym (ap (λ (q : Query). q.contact) one) ∙ found.4.1
 
-pub found_some : (tx : ℕ) (from : Addr) (c : Contact) (qs : List Query) → Found tx from c qs → All (λ (q : Query). ¬ IsOf tx from q) qs → ⊥
-found_some tx from c qs found none = all_at (λ (q : Query). ¬ IsOf tx from q) qs found.1 none (found.0, found.2, found.3) found.4.0
-
 -- a reply without the tag that it needs replies to none
 pub unsealed : (quest : Quest) (accepts : Accepts) (k : Lookup) (from : Addr) (bytes : List ℕ) (said : Said) (c : Contact) → Holds k → IsQueries k.queries → IsReply quest bytes said → Found said.tx from c k.queries → ¬ IsSealed quest.sealed accepts bytes (speaker c said.reply) → RepliesToNone quest accepts from bytes k
 unsealed quest accepts k from bytes said c holds is reads found lacks q has r h =

@@ -7,7 +7,7 @@ use Rattle.kad_base.specs.declared.types.Contact.{Contact}
 use Rattle.kad_base.specs.declared.types.Event.{Event}
 use Rattle.kad_base.specs.declared.types.Event.TheVariants.{Now, Sent, Unsent, Got, Quiet}
 use Rattle.kad_base.specs.Limits.{max_path_contacts, max_strays}
-use Rattle.kad_base.specs.Outside.{Added, Grows, Rose}
+use Rattle.kad_base.specs.Outside.{Added, Rose}
 use Rattle.fake_net.specs.Network.{Network}
 use Rattle.fake_net.specs.Plays.{Plays}
 use Rattle.fake_net.proofs.Answered.{got_of, sent_of, count, count_append, few_come}
