@@ -1,5 +1,6 @@
 //! Sealed lookups, which believe no reply without the tag of who says it. The tags are HMAC-SHA-1 under a key of 32 zero
 //! bytes, as Python's `hmac` makes them.
+ghost use Rattle.std.specs.Prelude.{◌≡◌};
 ghost use Rattle.lookup_run.specs.Lookup.{IsWithinLimits};
 
 use crate::tests::{OWN, setting, table_of};
