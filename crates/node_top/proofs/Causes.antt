@@ -13,7 +13,7 @@ use Rattle.node_top.specs.Looked.{GivesSeeds, GivesNoSeeds}
 use Rattle.node_top.specs.Promise.{Sought}
 use Rattle.node_top.specs.Shown.{Shown, IsTold, HasFailed, nowhere}
 use Rattle.node_top.specs.Input.{ReadsTooMuch, HasBadLine}
-use Rattle.node_top.specs.Commands.{EndsInStrays, promise_of, HasText, IsCaused, HasCause, HasBegun, HasStart, HasSeeds, HasNoSeeds, HasStrays, HasNothing, ReadsInput, GoesWell, IsDone}
+use Rattle.node_top.specs.Commands.{EndsInStrays, promise_of, HasText, IsCaused, HasCause, HasBegun, HasStart, HasSeeds, HasNoSeeds, HasStrays, HasNoLastStray, HasNothing, ReadsInput, GoesWell, IsDone}
 use Rattle.node_top.specs.Endings.{number_of, OrNoMemory, Names, CutShort, MayEnd, EndsByCommand}
 use Rattle.node_top.specs.Written.{IsFront}
 use Rattle.node_top.proofs.Exactly.{unread_few, few_not_much}
@@ -128,10 +128,10 @@ module _ (asks : Type 0) (words : List Word) (called : Called) (source : Shown �
   bad_line (BadLine line) c e = let m = means (BadLine line) c in (record { command = c.command; asked = c.asked; reads = m.0 }, (line, m.1))
   bad_line other c e = absurd cc
 
-  pub link_fault : (s : Status) → HasCause asks words called source link s → number_of s ≡ 4 → HasFailed link × HasStart words called source × HasBegun words called source link
+  pub link_fault : (s : Status) → HasCause asks words called source link s → number_of s ≡ 4 → HasFailed link × HasStart words called source × HasBegun words called source link × HasNoLastStray words called source link
   link_fault LinkFault c e =
       let m = means LinkFault c in
-      (m.0, record { command = c.command; asked = c.asked; started = m.1 }, record { command = c.command; asked = c.asked; begun = m.2 })
+      (m.0, record { command = c.command; asked = c.asked; started = m.1 }, record { command = c.command; asked = c.asked; begun = m.2 }, record { command = c.command; asked = c.asked; few = m.3 })
   link_fault other c e = absurd cc
 
   pub source_fault : (s : Status) → HasCause asks words called source link s → number_of s ≡ 6 → ReadsInput words × HasFailed source

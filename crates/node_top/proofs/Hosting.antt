@@ -27,7 +27,7 @@ module _ (ranges : Type 0) (text : Called → Shown ℕ → Shown Event → List
   behind : (called : Called) (source : Shown ℕ) (link : Shown Event) (s : Status) → HostCause (begun called source link) link s → Behind (host_aim ranges text begun) called source link s
   behind called source link LinkFault c =
       let well = begins called source link c.1 in
-      (well, (c.0, well, c.1), λ told none_. absurd none_, λ told early last. absurd last)
+      (well, (c.0, well, c.1, tt), λ told none_. absurd none_, λ told early last. absurd last)
   behind called source link other c = absurd c
 
   pub hosting_lawful : Lawful (reading (host_aim ranges text begun))

@@ -5,7 +5,7 @@ use Rattle.node_top.specs.declared.status.Status.{Status}
 use Rattle.node_top.specs.declared.status.Status.TheVariants.{Usage, BadLine, LinkFault, SourceFault, Strays, NoSeeds, NoMemory, Unminted, TooLong}
 use Rattle.node_top.specs.Endings.{number_of, EndsUnasked, MayEnd, OrNoMemory}
 use Rattle.node_top.specs.Input.{ReadsTooMuch, IsBadLine}
-use Rattle.node_top.specs.Looked.{GivesSeeds, GivesNoSeeds, MeetsLastStray, ShowsLastStray}
+use Rattle.node_top.specs.Looked.{GivesSeeds, GivesNoSeeds, MeetsLastStray, MeetsNoLastStray, ShowsLastStray}
 use Rattle.node_top.specs.Promise.{Promise}
 use Rattle.node_top.specs.Shown.{Shown, IsTold, HasFailed}
 use Rattle.node_top.specs.Called.{Called}
@@ -31,7 +31,7 @@ IsJudged source link other = Unit {0}
 abbrev pub Means : Promise → Called → Shown ℕ → Shown Event → Status → Type 0
 Means p called source link Usage = ⊥
 Means p called source link (BadLine line) = IsTrue p.reads × IsBadLine source line
-Means p called source link LinkFault = HasFailed link × p.started called source × p.begun called source link
+Means p called source link LinkFault = HasFailed link × p.started called source × p.begun called source link × MeetsNoLastStray p.sought called source link
 Means p called source link SourceFault = IsTrue p.reads × HasFailed source
 Means p called source link Strays = MeetsLastStray p.sought called source link × GivesSeeds p.sought called.random source × p.begun called source link
 Means p called source link NoSeeds = GivesNoSeeds p.sought called.random source

@@ -46,7 +46,7 @@ module _ (sought : Sought) (text : Called → Shown ℕ → Shown Event → List
   behind called source link LinkFault c =
       let seeds = start_seeds sought called source link c.1.start in (
         reads_good (own_of sought.look.own called.random) sought.look.policy source seeds.contacts seeds.reads,
-        (c.0, seeds, begins called source link c.1),
+        (c.0, seeds, begins called source link c.1, c.2),
         λ told none_. absurd (some_not_none (own_of sought.look.own called.random) sought.look.policy source told seeds none_),
         λ told early last. absurd (few_not_last sought called link told c.2.never last),
       )

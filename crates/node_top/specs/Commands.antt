@@ -22,7 +22,7 @@ use Rattle.node_top.specs.declared.status.Status.TheVariants.{Usage, NoMemory}
 use Rattle.node_top.specs.Asked.{AsksPlain}
 use Rattle.node_top.specs.Commands.Checked.{check_promise}
 use Rattle.node_top.specs.Commands.Served.{serve_promise}
-use Rattle.node_top.specs.Looked.{lookup_promise, GivesSeeds, GivesNoSeeds, MeetsLastStray, ShowsLastStray}
+use Rattle.node_top.specs.Looked.{lookup_promise, GivesSeeds, GivesNoSeeds, MeetsLastStray, MeetsNoLastStray, ShowsLastStray}
 use Rattle.node_top.specs.Commands.Minted.{seed_of, mint_promise}
 use Rattle.node_top.specs.Commands.Peered.{peers_promise}
 use Rattle.node_top.specs.Promise.{Promise}
@@ -109,6 +109,12 @@ pub record HasStrays (words : List Word) (called : Called) (source : Shown ℕ) 
   pub command : Command
   pub asked : CommandOf words command
   pub strays : MeetsLastStray (promise_of command).sought called source link
+
+-- the words ask for a command, and the link's events have fewer strays than a lookup takes, where it is one
+pub record HasNoLastStray (words : List Word) (called : Called) (source : Shown ℕ) (link : Shown Event) : Type 0 where
+  pub command : Command
+  pub asked : CommandOf words command
+  pub few : MeetsNoLastStray (promise_of command).sought called source link
 
 -- the words ask for a lookup that isn't sealed, and the link's events end with that stray, by whatever journal
 pub record EndsInStrays (words : List Word) (called : Called) (link : Shown Event) : Type 0 where

@@ -112,6 +112,11 @@ abbrev pub MeetsLastStray : Option Sought → Called → Shown ℕ → Shown Eve
 MeetsLastStray None called source link = ⊥
 MeetsLastStray (Some sought) called source link = EndsByLastStray sought.kind sought.look called source link
 
+-- what is looked up, if something is, has met fewer strays than that
+abbrev pub MeetsNoLastStray : Option Sought → Called → Shown ℕ → Shown Event → Type 0
+MeetsNoLastStray None called source link = Unit {0}
+MeetsNoLastStray (Some sought) called source link = MeetsFew sought.kind sought.look called source link
+
 -- the lookup isn't sealed, and they do by whatever journal
 abbrev pub ShowsLastStray : Option Sought → Called → Shown Event → Type 0
 ShowsLastStray None called link = ⊥

@@ -5,7 +5,7 @@ ghost use Rattle.node_top.specs.Called.{called_plainly, called_with};
 ghost use Rattle.node_top.specs.Shown.{shown, nowhere, IsTold, HasFailed};
 ghost use Rattle.node_top.specs.Input.{HasBadLine, ReadsTooMuch};
 ghost use Rattle.node_top.specs.Commands.{GoesPlainlyWell, GoesWell, HasBegun};
-ghost use Rattle.node_top.specs.Commands.{HasNoSeeds, HasNothing, HasSeeds, HasStart, HasStrays, EndsInStrays};
+ghost use Rattle.node_top.specs.Commands.{HasNoLastStray, HasNoSeeds, HasNothing, HasSeeds, HasStart, HasStrays, EndsInStrays};
 ghost use Rattle.node_top.specs.Commands.{IsDone, ReadsInput};
 ghost use Rattle.node_top.specs.Endings.{last_status, CutShort, EndsByCommand};
 ghost use Rattle.node_top.specs.Endings.{EndsUnasked, OrNoMemory, WritesLine};
@@ -65,6 +65,10 @@ pub fn run<
     ensures bad_line { result ≡ 3 → ReadsInput (bytes_of words.now)
         × HasBadLine (shown S.left S.faults source.old source.new) }
     ensures link_fault { result ≡ 4 → HasFailed (shown L.told L.recv_faults link.old link.new) }
+    ensures few_strays { result ≡ 4 → HasNoLastStray (bytes_of words.now)
+        (called_with random.now (G.accepted seal.now) (G.tag_of seal.now))
+        (shown S.left S.faults source.old source.new)
+        (shown L.told L.recv_faults link.old link.new) }
     ensures sink_fault { result ≡ 5 → HasFailed (shown K.written K.faults sink.old sink.new) }
     ensures source_fault { result ≡ 6 → ReadsInput (bytes_of words.now)
         × HasFailed (shown S.left S.faults source.old source.new) }

@@ -57,6 +57,9 @@ returns-in-Err-clause-source_fault g c = λ is. source_fault _ _ _ _ _ c.in-Err.
 pub returns-in-Err-clause-strays : goal.returns-in-Err-clause-strays
 returns-in-Err-clause-strays g c = λ is. (strays _ _ _ _ _ c.in-Err.status c.in-Err.ensures.cause (sym c.write_line.ensures.number ∙ is)).0
 
+pub returns-in-Err-clause-few_strays : goal.returns-in-Err-clause-few_strays
+returns-in-Err-clause-few_strays g c = λ is. (link_fault _ _ _ _ _ c.in-Err.status c.in-Err.ensures.cause (sym c.write_line.ensures.number ∙ is)).3
+
 pub returns-in-Err-clause-begun : goal.returns-in-Err-clause-begun
 returns-in-Err-clause-begun g c = λ is. (link_fault _ _ _ _ _ c.in-Err.status c.in-Err.ensures.cause (sym c.write_line.ensures.number ∙ is)).1
 
