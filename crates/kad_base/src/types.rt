@@ -1,6 +1,6 @@
 //! Plain data: identifiers, addresses, contacts, and what a link did.
 ghost use Rattle.std.specs.Prelude.{◌≡◌, ◌↔◌, IsTrue};
-ghost use Rattle.kad_base.specs.Contacts.{IsUsable, same};
+ghost use Rattle.kad_base.specs.Contacts.{IsUsable, family, of_family, same};
 
 use crate::list::Bytes;
 use std::alloc::{AllocError, AllocFailed};
@@ -14,6 +14,13 @@ pub struct Id(pub [u8; 20]);
 pub enum Ip {
     V4([u8; 4]),
     V6([u8; 16]),
+}
+
+/// Which of the two networks: that of IPv4 or that of IPv6, which BEP 32 keeps apart.
+#[derive(Clone, Copy, Debug, PartialEq, Eq, Hash)]
+pub enum Family {
+    Four,
+    Six,
 }
 
 /// A UDP address.
@@ -106,6 +113,23 @@ pub enum Event {
         until: u64,
         at: u64,
     },
+}
+
+/// The network of an address. An IPv6 address that maps one of IPv4 is an IPv6 address like any other.
+pub fn family_of(addr: &Addr) -> Family
+    ensures { result ≡ family addr.now.ip }
+{
+    match addr.ip {
+        Ip::V4(_) => Family::Four,
+        Ip::V6(_) => Family::Six,
+    }
+}
+
+/// Whether the address is of the network.
+pub fn is_of(family: Family, addr: &Addr) -> bool
+    ensures { result ≡ of_family family addr.now.ip }
+{
+    family_of(addr) == family
 }
 
 /// Whether a node with the identifier `own` may ask the contact: it isn't the node itself, and its port isn't 0.
