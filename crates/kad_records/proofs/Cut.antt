@@ -8,11 +8,13 @@ use Rattle.std.proofs.Math.Seq.{take-append_seam, get_or-append_seam}
 use Rattle.kad_base.specs.declared.types.Id.{Id}
 use Rattle.kad_base.specs.declared.types.Ip.{Ip}
 use Rattle.kad_base.specs.declared.types.Ip.TheVariants.{V4, V6}
+use Rattle.kad_base.specs.declared.types.Family.{Family}
+use Rattle.kad_base.specs.declared.types.Family.TheVariants.{Four, Six}
 use Rattle.kad_base.specs.declared.types.Addr.{Addr}
 use Rattle.kad_base.specs.declared.types.Contact.{Contact}
 use Rattle.kad_base.specs.declared.types.Proof.{Proof}
 use Rattle.kad_base.specs.declared.types.Report.{Report}
-use Rattle.kad_records.specs.Records.{port_bytes, ip_bytes, addr_bytes, node_bytes, proof_bytes, proved_bytes, part, port_at, addr_at, node_in, proved_in, records_in, IsV4, IsNode, HasProof, IsProved, IsWellIp, IsWellProof, IsWellContact, IsWellReport, IsWellAddr}
+use Rattle.kad_records.specs.Records.{port_bytes, ip_bytes, addr_bytes, node_bytes, proof_bytes, proved_bytes, part, port_at, ip_size, ip_in, addr_at, node_in, proved_in, records_in, IsOf, IsNodeOf, HasProof, IsProvedOf, IsWellIp, IsWellProof, IsWellContact, IsWellReport, IsWellAddr}
 
 -- ---- parts
 
@@ -83,29 +85,41 @@ port_read front p at e =
     let lo = second_at front [] (p / 256) (p % 256) at e in
     (λ i. hi i * 256 + lo i) ∙ div-add-mod' p 256
 
-addr_read : (front b : List ℕ) (p at : ℕ) → length front ≡ at → length b ≡ 4 → addr_at at (front ++ (b ++ port_bytes p)) ≡ record { ip = V4 b; port = p }
-addr_read front b p at e f =
-    let ip = part_at front b (port_bytes p) at 4 e f in
-    let long : length (front ++ b) ≡ at + 4 = length-append front b ∙ (λ i. e i + f i) in
-    let port = ap (port_at (at + 4)) (sym (append_assoc front b (port_bytes p))) ∙ port_read (front ++ b) p (at + 4) long in
-    (λ i. record { ip = V4 (ip i); port = port i })
+addr_read : (f : Family) (front b : List ℕ) (p at : ℕ) → length front ≡ at → length b ≡ ip_size f → addr_at f at (front ++ (b ++ port_bytes p)) ≡ record { ip = ip_in f b; port = p }
+addr_read f front b p at e l =
+    let ip = part_at front b (port_bytes p) at (ip_size f) e l in
+    let long : length (front ++ b) ≡ at + ip_size f = length-append front b ∙ (λ i. e i + l i) in
+    let port = ap (port_at (at + ip_size f)) (sym (append_assoc front b (port_bytes p))) ∙ port_read (front ++ b) p (at + ip_size f) long in
+    (λ i. record { ip = ip_in f (ip i); port = port i })
 
-addr_long : (b : List ℕ) (p : ℕ) → length b ≡ 4 → length (b ++ port_bytes p) ≡ 6
-addr_long b p f = length-append b (port_bytes p) ∙ (λ i. f i + 2)
+addr_long : (b : List ℕ) (p n : ℕ) → length b ≡ n → length (b ++ port_bytes p) ≡ n + 2
+addr_long b p n l = length-append b (port_bytes p) ∙ (λ i. l i + 2)
 
-one_node : (id : Id) (ip : Ip) (p : ℕ) → length id.0 ≡ 20 → IsWellIp ip → IsV4 ip → (length (id.0 ++ (ip_bytes ip ++ port_bytes p)) ≡ 26) × (node_in (id.0 ++ (ip_bytes ip ++ port_bytes p)) ≡ record { id = id; addr = record { ip = ip; port = p } })
-one_node id (V4 b) p w f n =
+-- how many bytes a node takes, and one with its proof
+abbrev pub node_size : Family → ℕ
+node_size f = 20 + (ip_size f + 2)
+
+abbrev pub proved_size : Family → ℕ
+proved_size f = 72 + (ip_size f + 2)
+
+node_of : (f : Family) (id : Id) (b : List ℕ) (p : ℕ) → length id.0 ≡ 20 → length b ≡ ip_size f → (length (id.0 ++ (b ++ port_bytes p)) ≡ node_size f) × (node_in f (id.0 ++ (b ++ port_bytes p)) ≡ record { id = id; addr = record { ip = ip_in f b; port = p } })
+node_of f id b p w l =
     let id_is = take_front id.0 (b ++ port_bytes p) 20 w in
-    let addr_is = addr_read id.0 b p 20 w f in
-    let long = addr_long b p f in
+    let addr_is = addr_read f id.0 b p 20 w l in
+    let long = addr_long b p (ip_size f) l in
     (length-append id.0 (b ++ port_bytes p) ∙ (λ i. w i + long i), (λ i. record { id = record { 0 = id_is i }; addr = addr_is i }))
-one_node id (V6 b) p w f n = absurd n
 
-pub node_one : (c : Contact) → IsWellContact c → IsNode c → (length (node_bytes c) ≡ 26) × (node_in (node_bytes c) ≡ c)
-node_one c w n = one_node c.id c.addr.ip c.addr.port w.0 w.1.0 n
+one_node : (f : Family) (id : Id) (ip : Ip) (p : ℕ) → length id.0 ≡ 20 → IsWellIp ip → IsOf f ip → (length (id.0 ++ (ip_bytes ip ++ port_bytes p)) ≡ node_size f) × (node_in f (id.0 ++ (ip_bytes ip ++ port_bytes p)) ≡ record { id = id; addr = record { ip = ip; port = p } })
+one_node Four id (V4 b) p w l n = node_of Four id b p w l
+one_node Four id (V6 b) p w l n = absurd n
+one_node Six id (V4 b) p w l n = absurd n
+one_node Six id (V6 b) p w l n = node_of Six id b p w l
 
-one_proved : (id : Id) (ip : Ip) (p : ℕ) (proof : Option Proof) → length id.0 ≡ 20 → IsWellIp ip → IsWellProof proof → IsV4 ip → HasProof proof → (length (id.0 ++ proof_bytes proof ++ (ip_bytes ip ++ port_bytes p)) ≡ 78) × (proved_in (id.0 ++ proof_bytes proof ++ (ip_bytes ip ++ port_bytes p)) ≡ record { contact = record { id = id; addr = record { ip = ip; port = p } }; proof = proof })
-one_proved id (V4 b) p (Some proof) w f k n h =
+pub node_one : (f : Family) (c : Contact) → IsWellContact c → IsNodeOf f c → (length (node_bytes c) ≡ node_size f) × (node_in f (node_bytes c) ≡ c)
+node_one f c w n = one_node f c.id c.addr.ip c.addr.port w.0 w.1.0 n
+
+proved_of : (f : Family) (id : Id) (b : List ℕ) (p : ℕ) (proof : Proof) → length id.0 ≡ 20 → length b ≡ ip_size f → IsWellProof (Some proof) → (length (id.0 ++ (proof.key ++ proof.x) ++ (b ++ port_bytes p)) ≡ proved_size f) × (proved_in f (id.0 ++ (proof.key ++ proof.x) ++ (b ++ port_bytes p)) ≡ record { contact = record { id = id; addr = record { ip = ip_in f b; port = p } }; proof = Some proof })
+proved_of f id b p proof w l k =
     let ends = b ++ port_bytes p in
     let kx : length (proof.key ++ proof.x) ≡ 52 = length-append proof.key proof.x ∙ (λ i. k.0 i + k.1 i) in
     let front : length (id.0 ++ (proof.key ++ proof.x)) ≡ 72 = length-append id.0 (proof.key ++ proof.x) ∙ (λ i. w i + kx i) in
@@ -113,20 +127,28 @@ one_proved id (V4 b) p (Some proof) w f k n h =
     let key_is : part 20 32 (id.0 ++ (proof.key ++ proof.x) ++ ends) ≡ proof.key = ap (part 20 32) (append_assoc id.0 (proof.key ++ proof.x) ends ∙ ap (λ l. id.0 ++ l) (append_assoc proof.key proof.x ends)) ∙ part_at id.0 proof.key (proof.x ++ ends) 20 32 w k.0 in
     let idk : length (id.0 ++ proof.key) ≡ 52 = length-append id.0 proof.key ∙ (λ i. w i + k.0 i) in
     let x_is : part 52 20 (id.0 ++ (proof.key ++ proof.x) ++ ends) ≡ proof.x = ap (part 52 20) (append_assoc id.0 (proof.key ++ proof.x) ends ∙ ap (λ l. id.0 ++ l) (append_assoc proof.key proof.x ends) ∙ sym (append_assoc id.0 proof.key (proof.x ++ ends))) ∙ part_at (id.0 ++ proof.key) proof.x ends 52 20 idk k.1 in
-    let addr_is = addr_read (id.0 ++ (proof.key ++ proof.x)) b p 72 front f in
-    let long = addr_long b p f in (
+    let addr_is = addr_read f (id.0 ++ (proof.key ++ proof.x)) b p 72 front l in
+    let long = addr_long b p (ip_size f) l in (
       length-append (id.0 ++ (proof.key ++ proof.x)) ends ∙ (λ i. front i + long i),
       (λ i. record { contact = record { id = record { 0 = id_is i }; addr = addr_is i }; proof = Some (record { key = key_is i; x = x_is i }) }),
     )
-one_proved id (V4 b) p None w f k n h = absurd h
-one_proved id (V6 b) p proof w f k n h = absurd n
 
-pub proved_one : (r : Report) → IsWellReport r → IsProved r → (length (proved_bytes r) ≡ 78) × (proved_in (proved_bytes r) ≡ r)
-proved_one r w n = one_proved r.contact.id r.contact.addr.ip r.contact.addr.port r.proof w.0.0 w.0.1.0 w.1 n.0 n.1
+one_proved : (f : Family) (id : Id) (ip : Ip) (p : ℕ) (proof : Option Proof) → length id.0 ≡ 20 → IsWellIp ip → IsWellProof proof → IsOf f ip → HasProof proof → (length (id.0 ++ proof_bytes proof ++ (ip_bytes ip ++ port_bytes p)) ≡ proved_size f) × (proved_in f (id.0 ++ proof_bytes proof ++ (ip_bytes ip ++ port_bytes p)) ≡ record { contact = record { id = id; addr = record { ip = ip; port = p } }; proof = proof })
+one_proved Four id (V4 b) p (Some proof) w l k n h = proved_of Four id b p proof w l k
+one_proved Six id (V6 b) p (Some proof) w l k n h = proved_of Six id b p proof w l k
+one_proved f id ip p None w l k n h = absurd h
+one_proved Four id (V6 b) p (Some proof) w l k n h = absurd n
+one_proved Six id (V4 b) p (Some proof) w l k n h = absurd n
 
-one_addr : (ip : Ip) (p : ℕ) → IsWellIp ip → IsV4 ip → (length (ip_bytes ip ++ port_bytes p) ≡ 6) × (addr_at 0 (ip_bytes ip ++ port_bytes p) ≡ record { ip = ip; port = p })
-one_addr (V4 b) p f n = (addr_long b p f, addr_read [] b p 0 refl f)
-one_addr (V6 b) p f n = absurd n
+pub proved_one : (f : Family) (r : Report) → IsWellReport r → IsProvedOf f r → (length (proved_bytes r) ≡ proved_size f) × (proved_in f (proved_bytes r) ≡ r)
+proved_one f r w n = one_proved f r.contact.id r.contact.addr.ip r.contact.addr.port r.proof w.0.0 w.0.1.0 w.1 n.0 n.1
 
-pub addr_one : (a : Addr) → IsWellAddr a → IsV4 a.ip → (length (addr_bytes a) ≡ 6) × (addr_at 0 (addr_bytes a) ≡ a)
-addr_one a w n = one_addr a.ip a.port w.0 n
+-- a peer, of 6 bytes or of 18
+pub addr_one : (f : Family) (a : Addr) → IsWellAddr a → IsOf f a.ip → (length (addr_bytes a) ≡ ip_size f + 2) × (addr_at f 0 (addr_bytes a) ≡ a)
+addr_one f a w n = one_addr f a.ip a.port w.0 n
+  where
+    one_addr : (f : Family) (ip : Ip) (p : ℕ) → IsWellIp ip → IsOf f ip → (length (ip_bytes ip ++ port_bytes p) ≡ ip_size f + 2) × (addr_at f 0 (ip_bytes ip ++ port_bytes p) ≡ record { ip = ip; port = p })
+    one_addr Four (V4 b) p l n = (addr_long b p 4 l, addr_read Four [] b p 0 refl l)
+    one_addr Four (V6 b) p l n = absurd n
+    one_addr Six (V4 b) p l n = absurd n
+    one_addr Six (V6 b) p l n = (addr_long b p 16 l, addr_read Six [] b p 0 refl l)

@@ -1,10 +1,12 @@
--- Compact records: nodes and peers as BEP 5 packs them into strings, and nodes with their proofs, which are this
--- project's own.
+-- Compact records: nodes and peers as BEP 5 packs them into strings, with addresses of IPv4, and BEP 32 with those of IPv6;
+-- and nodes with their proofs, which are this project's own.
 use Rattle.std.specs.Prelude.{◌≡◌, ◌<◌, ℕ, ◌+◌, ◌*◌, ◌/◌, ◌%◌, List, [], ◌∷◌, ◌++◌, map, flat_map, take, drop, get_or, length, Option, Some, None}
 use Rattle.std.specs.List.{range_with_len}
 use Rattle.kad_base.specs.declared.types.Id.{Id}
 use Rattle.kad_base.specs.declared.types.Ip.{Ip}
 use Rattle.kad_base.specs.declared.types.Ip.TheVariants.{V4, V6}
+use Rattle.kad_base.specs.declared.types.Family.{Family}
+use Rattle.kad_base.specs.declared.types.Family.TheVariants.{Four, Six}
 use Rattle.kad_base.specs.declared.types.Addr.{Addr}
 use Rattle.kad_base.specs.declared.types.Contact.{Contact}
 use Rattle.kad_base.specs.declared.types.Proof.{Proof}
@@ -23,11 +25,11 @@ abbrev pub ip_bytes : Ip → List ℕ
 ip_bytes (V4 bytes) = bytes
 ip_bytes (V6 bytes) = bytes
 
--- an address and a port: a peer of 6 bytes, where the address is of IPv4
+-- an address and a port: a peer of 6 bytes, or of 18 where the address is of IPv6
 abbrev pub addr_bytes : Addr → List ℕ
 addr_bytes addr = ip_bytes addr.ip ++ port_bytes addr.port
 
--- a node of 26 bytes: identifier, address, port
+-- a node of 26 bytes, or of 38: identifier, address, port
 abbrev pub node_bytes : Contact → List ℕ
 node_bytes c = c.id.0 ++ addr_bytes c.addr
 
@@ -36,7 +38,7 @@ abbrev pub proof_bytes : Option Proof → List ℕ
 proof_bytes None = []
 proof_bytes (Some proof) = proof.key ++ proof.x
 
--- a node with its proof, of 78 bytes: identifier, public key, X, address, port (this project's own)
+-- a node with its proof, of 78 bytes, or of 90: identifier, public key, X, address, port (this project's own)
 abbrev pub proved_bytes : Report → List ℕ
 proved_bytes r = r.contact.id.0 ++ proof_bytes r.proof ++ addr_bytes r.contact.addr
 
@@ -62,25 +64,35 @@ part at size bytes = take size (drop at bytes)
 abbrev pub port_at : ℕ → List ℕ → ℕ
 port_at at bytes = get_or bytes at 0 * 256 + get_or bytes (at + 1) 0
 
--- the IPv4 address with its port that stands there
-abbrev pub addr_at : ℕ → List ℕ → Addr
-addr_at at bytes = record { ip = V4 (part at 4 bytes); port = port_at (at + 4) bytes }
+-- how many bytes an address of the family takes
+abbrev pub ip_size : Family → ℕ
+ip_size Four = 4
+ip_size Six = 16
+
+-- the address of the family that so many bytes are
+abbrev pub ip_in : Family → List ℕ → Ip
+ip_in Four bytes = V4 bytes
+ip_in Six bytes = V6 bytes
+
+-- the address of the family with its port that stands there
+abbrev pub addr_at : Family → ℕ → List ℕ → Addr
+addr_at family at bytes = record { ip = ip_in family (part at (ip_size family) bytes); port = port_at (at + ip_size family) bytes }
 
 -- the 20 bytes of an identifier that stand at a place
 abbrev pub id_at : ℕ → List ℕ → Id
 id_at at bytes = record { 0 = part at 20 bytes }
 
--- the node that 26 bytes are
-abbrev pub node_in : List ℕ → Contact
-node_in bytes = record { id = id_at 0 bytes; addr = addr_at 20 bytes }
+-- the node that the bytes of a record are: 26, or 38 of IPv6
+abbrev pub node_in : Family → List ℕ → Contact
+node_in family bytes = record { id = id_at 0 bytes; addr = addr_at family 20 bytes }
 
--- the proof within the 78 bytes of a node: 32 bytes of public key and 20 of X, behind the identifier
+-- the proof within the bytes of a node: 32 bytes of public key and 20 of X, behind the identifier
 abbrev pub proof_in : List ℕ → Proof
 proof_in bytes = record { key = part 20 32 bytes; x = part 52 20 bytes }
 
--- the node with its proof that 78 bytes are
-abbrev pub proved_in : List ℕ → Report
-proved_in bytes = record { contact = record { id = id_at 0 bytes; addr = addr_at 72 bytes }; proof = Some (proof_in bytes) }
+-- the node with its proof that the bytes of a record are: 78, or 90 of IPv6
+abbrev pub proved_in : Family → List ℕ → Report
+proved_in family bytes = record { contact = record { id = id_at 0 bytes; addr = addr_at family 72 bytes }; proof = Some (proof_in bytes) }
 
 -- the records of this many bytes that a string is made of, in order
 abbrev pub records_in : {A : Type 0} → ℕ → (List ℕ → A) → List ℕ → List A
@@ -118,20 +130,34 @@ IsWellProof (Some proof) = (length proof.key ≡ 32) × (length proof.x ≡ 20)
 abbrev pub IsWellReport : Report → Type 0
 IsWellReport r = IsWellContact r.contact × IsWellProof r.proof
 
--- an address of IPv4: the compact records of BEP 5 have no place for another
-abbrev pub IsV4 : Ip → Type 0
-IsV4 (V4 bytes) = Unit {0}
-IsV4 (V6 bytes) = ⊥
+-- an address of the family: its compact records have no place for another
+abbrev pub IsOf : Family → Ip → Type 0
+IsOf Four (V4 bytes) = Unit {0}
+IsOf Four (V6 bytes) = ⊥
+IsOf Six (V4 bytes) = ⊥
+IsOf Six (V6 bytes) = Unit {0}
 
--- a record has a place for addresses of IPv4 alone
+-- an address of IPv4
+abbrev pub IsV4 : Ip → Type 0
+IsV4 ip = IsOf Four ip
+
+-- a record of the family has a place for its addresses alone
+abbrev pub IsNodeOf : Family → Contact → Type 0
+IsNodeOf family c = IsOf family c.addr.ip
+
+-- the records of `nodes` are of IPv4
 abbrev pub IsNode : Contact → Type 0
-IsNode c = IsV4 c.addr.ip
+IsNode c = IsNodeOf Four c
 
 -- there is a proof
 abbrev pub HasProof : Option Proof → Type 0
 HasProof None = ⊥
 HasProof (Some proof) = Unit {0}
 
--- a record of `snodes` has a place for an address of IPv4, and needs a proof
+-- a record with a proof has a place for an address of its family, and needs the proof
+abbrev pub IsProvedOf : Family → Report → Type 0
+IsProvedOf family r = IsOf family r.contact.addr.ip × HasProof r.proof
+
+-- the records of `snodes` are of IPv4
 abbrev pub IsProved : Report → Type 0
-IsProved r = IsV4 r.contact.addr.ip × HasProof r.proof
+IsProved r = IsProvedOf Four r

@@ -9,7 +9,7 @@ mod records;
 mod well_typed;
 
 pub use into::{put_peers, put_records};
-pub use kinds::{Node, Proved, Record};
-pub use record::{read_addr, split_record};
+pub use kinds::{Node, Node6, Proved, Proved6, Record};
+pub use record::{read_addr, read_addr6, split_record};
 pub use records::{Records, with_room};
 pub use well_typed::{tell_addrs, tell_contacts, tell_id, tell_reports};

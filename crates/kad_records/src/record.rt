@@ -1,5 +1,6 @@
 //! Addresses and records at a place of a string.
 ghost use Rattle.std.specs.Prelude.{◌≡◌, ◌+◌, ◌<◌, ◌≤◌, ◌↔◌, length, IfSome, IsNone};
+ghost use Rattle.kad_base.specs.declared.types.Family.TheVariants.{Four, Six};
 ghost use Rattle.kad_records.specs.Records.{part, port_at, addr_at, record_at};
 
 use kad_base::{Addr, Ip};
@@ -25,11 +26,22 @@ fn read_port(bytes: &[u8], at: usize) -> u16
 /// The IPv4 address and the port in network order that stand at a place: a peer of 6 bytes (BEP 5). Takes no memory.
 pub fn read_addr(bytes: &[u8], at: usize) -> Addr
     requires { at + 6 ≤ length bytes.now }
-    ensures { result ≡ addr_at at bytes.now }
+    ensures { result ≡ addr_at Four at bytes.now }
 {
     Addr {
         ip: Ip::V4(array_at(bytes, at)),
         port: read_port(bytes, at + 4),
+    }
+}
+
+/// The IPv6 address and the port in network order that stand at a place: a peer of 18 bytes (BEP 32). Takes no memory.
+pub fn read_addr6(bytes: &[u8], at: usize) -> Addr
+    requires { at + 18 ≤ length bytes.now }
+    ensures { result ≡ addr_at Six at bytes.now }
+{
+    Addr {
+        ip: Ip::V6(array_at(bytes, at)),
+        port: read_port(bytes, at + 16),
     }
 }
 

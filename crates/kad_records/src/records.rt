@@ -2,8 +2,8 @@
 ghost use Rattle.std.specs.Prelude.{◌≡◌, ◌≢◌, ◌%◌, [], length, slice_get, IfOk, MatchOption};
 ghost use Rattle.kad_records.specs.Records.{records_in};
 
-use crate::kinds::{Node, Proved, Record};
-use kad_base::{Contact, List, NoMemory, Report};
+use crate::kinds::Record;
+use kad_base::{List, NoMemory};
 use std::alloc::Global;
 use std::marker::{Model, PhantomData};
 
@@ -67,24 +67,6 @@ impl<'a, R: Record> Records<'a, R> {
             }
         }
         Ok(items)
-    }
-}
-
-impl<'a> Records<'a, Node> {
-    /// The contact at a place. Takes no memory.
-    pub fn contact_at(&self, i: usize) -> Option<Contact>
-        ensures { result ≡ slice_get self.now i }
-    {
-        self.at(i)
-    }
-}
-
-impl<'a> Records<'a, Proved> {
-    /// The report at a place. Takes no memory.
-    pub fn report_at(&self, i: usize) -> Option<Report>
-        ensures { result ≡ slice_get self.now i }
-    {
-        self.at(i)
     }
 }
 
