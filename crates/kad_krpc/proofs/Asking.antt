@@ -1,24 +1,29 @@
 -- What a query asks, by each law of a message: a method more is a line in each.
-use Rattle.std.proofs.Common.{◌≡◌, ◌≢◌, ℕ, ◌<◌, ◌≤◌, true, false, cond, ◌&&◌, List, [], nat_le, nat_lt, ℤ, pos, negsuc, Option, Some, None, Ok, refl, sym, ap, ◌∙◌, arith}
-use Rattle.std.specs.Prelude.{codes}
+use Rattle.std.proofs.Common.{◌≡◌, ◌≢◌, ℕ, ◌<◌, ◌≤◌, Bool, true, false, cond, ◌&&◌, ◌||◌, List, [], ◌∷◌, ◌++◌, map, nat_le, nat_lt, ℤ, pos, negsuc, Option, Some, None, Ok, refl, sym, ap, ◌∙◌, arith}
+use Rattle.std.specs.Prelude.{codes, bytes_eq, option_map}
+use Rattle.std.specs.List.{AllByRecursion, list_any}
 use Rattle.std.proofs.lemmas.Bool.{lt-ltb, le-leb}
 use Rattle.std.proofs.lemmas.Bool.Decides.{nat_tests}
 use Rattle.kad_base.specs.declared.types.Id.{Id}
-use Rattle.kad_bencode.specs.Keys.{value_of}
+use Rattle.kad_bencode.specs.Keys.{keys_of, value_of}
+use Rattle.kad_bencode.specs.Spelling.{depth_of, greatest, each_once, put_all}
+use Rattle.kad_bencode.specs.declared.entries.Pair.{Pair}
+use Rattle.kad_bencode.proofs.Folds.{depth_of-list}
 use Rattle.kad_bencode.specs.Parts.{bytes_of, integer_of}
 use Rattle.kad_bencode.specs.declared.value.Value.{Value}
-use Rattle.kad_bencode.specs.declared.value.Value.TheVariants.{Int, Dict}
+use Rattle.kad_bencode.specs.declared.value.Value.TheVariants.{Int, Text, Dict}
 use Rattle.kad_krpc.specs.declared.message.Ask.{Ask}
 use Rattle.kad_krpc.specs.declared.message.Ask.TheVariants.{Ping, FindNode, GetPeers, AnnouncePeer, Other}
 use Rattle.kad_krpc.specs.declared.message.Port.TheVariants.{Given, Implied}
+use Rattle.kad_krpc.specs.declared.message.Want.{Want}
 use Rattle.kad_krpc.specs.declared.message.Method.{Method}
 use Rattle.kad_krpc.specs.declared.message.Method.TheVariants as method
 use Rattle.kad_krpc.specs.declared.message.Key.{Key}
 use Rattle.kad_krpc.specs.declared.message.Key.TheVariants as key
 use Rattle.kad_krpc.specs.Fields.{Step, Look, then, of_kind, needed, optional, look_of, id_of}
-use Rattle.kad_krpc.specs.Asking.{port_in, port_of, is_implied, port_by, rest_at, arguments_at, ask_by, ask_of, method_in, arguments_of, name_of, IsGivenPort, IsUnknown, IsWritableAsk, IsWellAsk}
-use Rattle.kad_krpc.proofs.Stepping.{NotBad, both, either, needs, options, Gets, Any, any, after, gets_either, none_some, bytes_text, integer_int, look_dict, id_text, stepped, had, had_some, differs}
-use Rattle.kad_krpc.proofs.Pairing.{Good, good_text, good_int, good_dict, small, Within, text_within, int_within}
+use Rattle.kad_krpc.specs.Asking.{is_text, is_word, is_named, names, want_of, word_if, want_value, some_want, want_pair, two_ids, port_in, port_of, is_implied, port_by, rest_at, arguments_at, ask_by, ask_of, method_in, arguments_of, name_of, IsGivenPort, IsUnknown, IsWritableAsk, IsWellAsk}
+use Rattle.kad_krpc.proofs.Stepping.{NotBad, both, either, needs, options, Gets, Any, any, after, gets_either, none_some, bytes_text, integer_int, list_list, look_dict, id_text, stepped, had, had_some, differs}
+use Rattle.kad_krpc.proofs.Pairing.{Below, Good, good_text, good_int, good_list, good_dict, GoodPairs, good_more, good_maybe, once_maybe, next_filed, small, Within, more, text_within, int_within, maybe_within, hit}
 
 -- ---- no step of it fails as bencode does
 
@@ -87,18 +92,52 @@ asks_get (Some m) name a e = arguments_get m a
 
 -- ---- what is written is a value that bencode reads back, and is shallow
 
+good_word : (said : Bool) (word : List ℕ) → AllByRecursion Good (word_if said word)
+good_word true word = (good_text word, tt)
+good_word false word = tt
+
+good_words : (xs ys : List Value) → AllByRecursion Good xs → AllByRecursion Good ys → AllByRecursion Good (xs ++ ys)
+good_words [] ys p q = q
+good_words (x ∷ xs) ys p q = (p.0, good_words xs ys p.1 q)
+
+good_want : (want : Want) → Good (want_value want)
+good_want want =
+    let four = word_if want.four (codes "n4") in
+    let six = word_if want.six (codes "n6") in
+    good_list (four ++ six) (good_words four six (good_word want.four (codes "n4")) (good_word want.six (codes "n6")))
+
+-- arguments, and whose contacts are wanted
+wanting : (ps : List (Pair Value)) (want : Want) → GoodPairs ps → each_once (keys_of ps) ≡ true → put_all [] ps ≡ ps → Below (codes "want") ps → Good (Dict (ps ++ want_pair want))
+wanting ps want good once filed below =
+    good_dict (ps ++ want_pair want)
+    (good_more ps (want_pair want) good (good_maybe (codes "want") want_value (some_want want) good_want))
+    (once_maybe ps (codes "want") want_value (some_want want) once below)
+    (next_filed ps (codes "want") want_value (some_want want) filed below)
+
 pub good_ask : (ask : Ask) → IsWellAsk ask → Good (Dict (arguments_of ask))
 good_ask (Ping id) w = good_dict (arguments_of (Ping id)) (good_text id.0, tt) refl refl
-good_ask (FindNode id target) w = good_dict (arguments_of (FindNode id target)) (good_text id.0, (good_text target.0, tt)) refl refl
-good_ask (GetPeers id info_hash) w = good_dict (arguments_of (GetPeers id info_hash)) (good_text id.0, (good_text info_hash.0, tt)) refl refl
+good_ask (FindNode id target want) w = wanting (two_ids id (codes "target") target) want (good_text id.0, (good_text target.0, tt)) refl refl (refl, (refl, tt))
+good_ask (GetPeers id info_hash want) w = wanting (two_ids id (codes "info_hash") info_hash) want (good_text id.0, (good_text info_hash.0, tt)) refl refl (refl, (refl, tt))
 good_ask (AnnouncePeer id info_hash (Given port) token) w = good_dict (arguments_of (AnnouncePeer id info_hash (Given port) token)) (good_text id.0, (good_text info_hash.0, (good_int (pos port) (small port w.1.1), (good_text token, tt)))) refl refl
 good_ask (AnnouncePeer id info_hash Implied token) w = good_dict (arguments_of (AnnouncePeer id info_hash Implied token)) (good_text id.0, (good_int (pos 1) refl, (good_text info_hash.0, (good_int (pos 1) refl, (good_text token, tt))))) refl refl
 good_ask (Other method) w = good_dict [] tt refl refl
 
+words_flat : (four six : Bool) → greatest (map depth_of (word_if four (codes "n4") ++ word_if six (codes "n6"))) ≤ 0
+words_flat true true = let a = text_within 0 (codes "n4") in let b = text_within 0 (codes "n6") in omega arith
+words_flat true false = let a = text_within 0 (codes "n4") in omega arith
+words_flat false true = let b = text_within 0 (codes "n6") in omega arith
+words_flat false false = grind arith
+
+want_shallow : (want : Want) → depth_of (want_value want) ≤ 1
+want_shallow want = let a = words_flat want.four want.six in let e = depth_of-list (word_if want.four (codes "n4") ++ word_if want.six (codes "n6")) in omega arith
+
+want_within : (want : Want) → Within 1 (want_pair want)
+want_within want = maybe_within 1 (codes "want") want_value (some_want want) want_shallow
+
 pub ask_within : (ask : Ask) → Within 1 (arguments_of ask)
 ask_within (Ping id) = (text_within 1 id.0, tt)
-ask_within (FindNode id target) = (text_within 1 id.0, (text_within 1 target.0, tt))
-ask_within (GetPeers id info_hash) = (text_within 1 id.0, (text_within 1 info_hash.0, tt))
+ask_within (FindNode id target want) = more 1 (two_ids id (codes "target") target) (want_pair want) (text_within 1 id.0, (text_within 1 target.0, tt)) (want_within want)
+ask_within (GetPeers id info_hash want) = more 1 (two_ids id (codes "info_hash") info_hash) (want_pair want) (text_within 1 id.0, (text_within 1 info_hash.0, tt)) (want_within want)
 ask_within (AnnouncePeer id info_hash (Given port) token) = (text_within 1 id.0, (text_within 1 info_hash.0, (int_within 1 (pos port), (text_within 1 token, tt))))
 ask_within (AnnouncePeer id info_hash Implied token) = (text_within 1 id.0, (int_within 1 (pos 1), (text_within 1 info_hash.0, (int_within 1 (pos 1), (text_within 1 token, tt)))))
 ask_within (Other method) = tt
@@ -116,25 +155,48 @@ given_back p n h = ap (λ s. then s (λ given. Ok (Given given))) (had port_of k
 implied_back : (v : Option Value) → port_by (Some (Int (pos 1))) v ≡ Ok Implied
 implied_back v = ap (λ (s : Step (Option ℤ)). then s (λ implied. cond (is_implied implied) (Ok Implied) (then (needed port_of key.Port v) (λ given. Ok (Given given))))) (had_some integer_of key.ImpliedPort (Int (pos 1)) (pos 1) (integer_int (pos 1)))
 
-names : (name : List ℕ) → IsUnknown name → method_in name ≡ None
-names name u =
+no_method : (name : List ℕ) → IsUnknown name → method_in name ≡ None
+no_method name u =
     (λ i. cond (differs name (codes "ping") u.ping i) (Some method.Ping)
     (cond (differs name (codes "find_node") u.find_node i) (Some method.FindNode)
     (cond (differs name (codes "get_peers") u.get_peers i) (Some method.GetPeers)
     (cond (differs name (codes "announce_peer") u.announce_peer i) (Some method.AnnouncePeer) None))))
 
+-- the words of a list that is written
+named_back : (word : List ℕ) (four six : Bool) (r : Bool) → list_any (is_word word) (word_if four (codes "n4") ++ word_if six (codes "n6")) ≡ r → names word (want_value (record { four = four; six = six })) ≡ r
+named_back word four six r e = ap (is_named word) (list_list (word_if four (codes "n4") ++ word_if six (codes "n6"))) ∙ e
+
+word_is : (word s : List ℕ) → is_word word (Text s) ≡ bytes_eq s word
+word_is word s = ap (is_text word) (bytes_text s)
+
+-- whose contacts are wanted is read back
+want_back : (four six : Bool) → want_of (option_map want_value (some_want (record { four = four; six = six }))) ≡ record { four = four; six = six }
+want_back true true = (λ i. record {
+  four = named_back (codes "n4") true true true (λ j. word_is (codes "n4") (codes "n4") j || list_any (is_word (codes "n4")) (Text (codes "n6") ∷ [])) i;
+  six = named_back (codes "n6") true true true (λ j. word_is (codes "n6") (codes "n4") j || (word_is (codes "n6") (codes "n6") j || false)) i;
+})
+want_back true false = (λ i. record {
+  four = named_back (codes "n4") true false true (λ j. word_is (codes "n4") (codes "n4") j || false) i;
+  six = named_back (codes "n6") true false false (λ j. word_is (codes "n6") (codes "n4") j || false) i;
+})
+want_back false true = (λ i. record {
+  four = named_back (codes "n4") false true false (λ j. word_is (codes "n4") (codes "n6") j || false) i;
+  six = named_back (codes "n6") false true true (λ j. word_is (codes "n6") (codes "n6") j || false) i;
+})
+want_back false false = refl
+
 pub ask_back : (ask : Ask) → IsWellAsk ask → IsWritableAsk ask → ask_of (name_of ask) (Some (Dict (arguments_of ask))) ≡ Ok ask
 ask_back (Ping id) w n =
     stepped _ (value_of (arguments_of (Ping id))) _ _ (had look_of key.A _ _ (look_dict (arguments_of (Ping id))))
     (stepped _ id _ _ (had id_of key.Id _ _ (id_text id w)) refl)
-ask_back (FindNode id target) w n =
-    stepped _ (value_of (arguments_of (FindNode id target))) _ _ (had look_of key.A _ _ (look_dict (arguments_of (FindNode id target))))
+ask_back (FindNode id target want) w n =
+    stepped _ (value_of (arguments_of (FindNode id target want))) _ _ (had look_of key.A _ _ (look_dict (arguments_of (FindNode id target want))))
     (stepped _ id _ _ (had id_of key.Id _ _ (id_text id w.0))
-    (stepped _ target _ _ (had id_of key.Target _ _ (id_text target w.1)) refl))
-ask_back (GetPeers id info_hash) w n =
-    stepped _ (value_of (arguments_of (GetPeers id info_hash))) _ _ (had look_of key.A _ _ (look_dict (arguments_of (GetPeers id info_hash))))
+    (stepped _ target _ _ (had id_of key.Target _ _ (id_text target w.1)) (ap (λ o. Ok (FindNode id target (want_of o))) (hit want_value (some_want want) (codes "want") refl) ∙ ap (λ x. Ok (FindNode id target x)) (want_back want.four want.six))))
+ask_back (GetPeers id info_hash want) w n =
+    stepped _ (value_of (arguments_of (GetPeers id info_hash want))) _ _ (had look_of key.A _ _ (look_dict (arguments_of (GetPeers id info_hash want))))
     (stepped _ id _ _ (had id_of key.Id _ _ (id_text id w.0))
-    (stepped _ info_hash _ _ (had id_of key.InfoHash _ _ (id_text info_hash w.1)) refl))
+    (stepped _ info_hash _ _ (had id_of key.InfoHash _ _ (id_text info_hash w.1)) (ap (λ o. Ok (GetPeers id info_hash (want_of o))) (hit want_value (some_want want) (codes "want") refl) ∙ ap (λ x. Ok (GetPeers id info_hash x)) (want_back want.four want.six))))
 ask_back (AnnouncePeer id info_hash (Given port) token) w n =
     stepped _ (value_of (arguments_of (AnnouncePeer id info_hash (Given port) token))) _ _ (had look_of key.A _ _ (look_dict (arguments_of (AnnouncePeer id info_hash (Given port) token))))
     (stepped _ id _ _ (had id_of key.Id _ _ (id_text id w.0))
@@ -147,4 +209,4 @@ ask_back (AnnouncePeer id info_hash Implied token) w n =
     (stepped _ info_hash _ _ (had id_of key.InfoHash _ _ (id_text info_hash w.1.0))
     (stepped _ token _ _ (had bytes_of key.Token _ _ (bytes_text token))
     (stepped _ Implied (λ p. Ok (AnnouncePeer id info_hash p token)) _ (implied_back (value_of (arguments_of (AnnouncePeer id info_hash Implied token)) (codes "port"))) refl))))
-ask_back (Other name) w n = ap (λ m. ask_by m name (Some (Dict []))) (names name n)
+ask_back (Other name) w n = ap (λ m. ask_by m name (Some (Dict []))) (no_method name n)

@@ -1,6 +1,8 @@
 -- Texts of messages that are put one behind another.
-use Rattle.std.proofs.Common.{◌≡◌, ℕ, ◌<◌, ◌≤◌, List, [], ◌∷◌, ◌++◌, take, length, ℤ, pos, sym, ap, ◌∙◌, arith, append-nil}
+use Rattle.std.proofs.Common.{◌≡◌, ℕ, ◌<◌, ◌≤◌, true, false, List, [], ◌∷◌, ◌++◌, map, take, length, ℤ, pos, sym, ap, ◌∙◌, arith, append-nil}
 use Rattle.std.specs.Prelude.{codes}
+use Rattle.std.specs.List.{concat}
+use Rattle.kad_bencode.specs.declared.value.Value.{Value}
 use Rattle.kad_bencode.specs.Spelling.{integer_text, string_text, pairs_text, text_of}
 use Rattle.std.proofs.lemmas.List.{take_all}
 use Rattle.std.proofs.Math.Seq.{take-append_seam}
@@ -8,7 +10,7 @@ use Rattle.kad_bencode.specs.Faults.{pairs_of}
 use Rattle.kad_bencode.specs.Written.{Puts, last_place}
 use Rattle.kad_bencode.specs.declared.value.Value.TheVariants.{Int, Text, List as Values}
 use Rattle.kad_bencode.proofs.Folds.{text_of-int, text_of-text, text_of-list}
-use Rattle.kad_krpc.specs.Form.{pair}
+use Rattle.kad_krpc.specs.Form.{pair, want_pair}
 use Rattle.kad_krpc.proofs.Queries.{text_long}
 
 -- a pair whose value is 1, and one whose value is a string
@@ -27,6 +29,22 @@ pub error_text : (code : ℤ) (said : List ℕ) → text_of (Values (Int code �
 error_text code said =
     text_of-list (Int code ∷ Text said ∷ [])
     ∙ (λ i. 108 ∷ (text_of-int code i ++ append-nil (text_of-text said i) i) ++ 101 ∷ [])
+
+-- whose contacts are wanted
+list_pair : (key : List ℕ) (vs : List Value) → pairs_text (pairs_of (pair key (Values vs))) ≡ string_text key ++ (108 ∷ concat (map text_of vs) ++ 101 ∷ [])
+list_pair key vs = append-nil (string_text key ++ text_of (Values vs)) ∙ ap (λ l. string_text key ++ l) (text_of-list vs)
+
+word_text : (word : List ℕ) → text_of (Text word) ++ [] ≡ string_text word
+word_text word = append-nil (text_of (Text word)) ∙ text_of-text word
+
+pub four_text : pairs_text (pairs_of (want_pair (record { four = true; six = false }))) ≡ codes "4:wantl2:n4e"
+four_text = list_pair (codes "want") (Text (codes "n4") ∷ []) ∙ (λ i. codes "4:want" ++ (108 ∷ word_text (codes "n4") i ++ 101 ∷ []))
+
+pub six_text : pairs_text (pairs_of (want_pair (record { four = false; six = true }))) ≡ codes "4:wantl2:n6e"
+six_text = list_pair (codes "want") (Text (codes "n6") ∷ []) ∙ (λ i. codes "4:want" ++ (108 ∷ word_text (codes "n6") i ++ 101 ∷ []))
+
+pub both_text : pairs_text (pairs_of (want_pair (record { four = true; six = true }))) ≡ codes "4:wantl2:n42:n6e"
+both_text = list_pair (codes "want") (Text (codes "n4") ∷ Text (codes "n6") ∷ []) ∙ (λ i. codes "4:want" ++ (108 ∷ (text_of-text (codes "n4") i ++ word_text (codes "n6") i) ++ 101 ∷ []))
 
 -- ---- a message that is measured first
 

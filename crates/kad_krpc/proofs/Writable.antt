@@ -1,4 +1,5 @@
--- What is said has a written form: its addresses are of IPv4, its ports aren't 0, and its unknown methods are unknown.
+-- What is said has a written form: the addresses of its records are of the family of their key, its ports aren't 0, and its
+-- unknown methods are unknown.
 use Rattle.std.proofs.Common.{ℕ, List, refl, subst}
 use Rattle.std.specs.Prelude.{codes}
 use Rattle.kad_bencode.specs.Parts.{bytes_of}

@@ -1,13 +1,15 @@
--- The dictionary `a` of a query, by its method (BEP 5; the order of the steps is this project's own; `ro` is BEP 43's): how
+-- The dictionary `a` of a query, by its method (BEP 5; the order of the steps is this project's own; `ro` is BEP 43's, `want` BEP 32's): how
 -- it is read, how it is written, and which queries have a written form. A method more is a line in each part.
-use Rattle.std.specs.Prelude.{◌≢◌, ◌<◌, ℕ, Bool, true, false, cond, ◌&&◌, List, [], ◌++◌, codes, bytes_eq, nat_eq, nat_le, nat_lt, ℤ, pos, negsuc, Option, Some, None, Result, Ok, Err}
+use Rattle.std.specs.Prelude.{◌≢◌, ◌<◌, ℕ, Bool, true, false, cond, ◌&&◌, ◌||◌, List, [], ◌∷◌, ◌++◌, codes, bytes_eq, nat_eq, nat_le, nat_lt, ℤ, pos, negsuc, Option, Some, None, Result, Ok, Err}
+use Rattle.std.specs.List.{list_any}
 use Rattle.kad_base.specs.declared.types.Id.{Id}
-use Rattle.kad_bencode.specs.Parts.{bytes_of, integer_of}
+use Rattle.kad_bencode.specs.Parts.{bytes_of, integer_of, list_of}
 use Rattle.kad_bencode.specs.declared.entries.Pair.{Pair}
 use Rattle.kad_bencode.specs.declared.value.Value.{Value}
-use Rattle.kad_bencode.specs.declared.value.Value.TheVariants.{Int, Text}
+use Rattle.kad_bencode.specs.declared.value.Value.TheVariants.{Int, Text, List as Values}
 use Rattle.kad_krpc.specs.declared.message.Ask.{Ask}
 use Rattle.kad_krpc.specs.declared.message.Ask.TheVariants.{Ping, FindNode, GetPeers, AnnouncePeer, Other}
+use Rattle.kad_krpc.specs.declared.message.Want.{Want}
 use Rattle.kad_krpc.specs.declared.message.Port.{Port}
 use Rattle.kad_krpc.specs.declared.message.Port.TheVariants.{Given, Implied}
 use Rattle.kad_krpc.specs.declared.message.Key.TheVariants as key
@@ -17,7 +19,7 @@ use Rattle.kad_krpc.specs.declared.message.Method.TheVariants.{Ping as Method_pi
 use Rattle.kad_krpc.specs.declared.ask.AskView.{AskView}
 use Rattle.kad_krpc.specs.declared.ask.AskView.TheVariants as seen
 use Rattle.kad_records.specs.Records.{IsWellId}
-use Rattle.kad_krpc.specs.Fields.{Step, Look, then, needed, optional, look_of, id_of, pair}
+use Rattle.kad_krpc.specs.Fields.{Step, Look, then, needed, optional, look_of, id_of, pair, maybe}
 
 -- ---- read
 
@@ -44,13 +46,36 @@ port_by implied_port port =
     cond (is_implied implied) (Ok Implied)
     (then (needed port_of key.Port port) (λ given. Ok (Given given))))
 
--- the rest of a find_node query: its target
-abbrev pub find_node_at : Look → Id → Step Ask
-find_node_at a id = then (needed id_of key.Target (a (codes "target"))) (λ target. Ok (FindNode id target))
+-- the string is this word
+abbrev pub is_text : List ℕ → Option (List ℕ) → Bool
+is_text word None = false
+is_text word (Some text) = bytes_eq text word
 
--- the rest of a get_peers query: its info hash
+-- the value is this word
+abbrev pub is_word : List ℕ → Value → Bool
+is_word word v = is_text word (bytes_of v)
+
+-- the values of a list that the word is among
+abbrev pub is_named : List ℕ → Option (List Value) → Bool
+is_named word None = false
+is_named word (Some values) = list_any (is_word word) values
+
+-- the value is a list that the word is among
+abbrev pub names : List ℕ → Value → Bool
+names word v = is_named word (list_of v)
+
+-- whose contacts are wanted (BEP 32): those that the words of the list name. Another value counts as missing
+abbrev pub want_of : Option Value → Want
+want_of None = record { four = false; six = false }
+want_of (Some v) = record { four = names (codes "n4") v; six = names (codes "n6") v }
+
+-- the rest of a find_node query: its target, and whose contacts it wants
+abbrev pub find_node_at : Look → Id → Step Ask
+find_node_at a id = then (needed id_of key.Target (a (codes "target"))) (λ target. Ok (FindNode id target (want_of (a (codes "want")))))
+
+-- the rest of a get_peers query: its info hash, and whose contacts it wants
 abbrev pub get_peers_at : Look → Id → Step Ask
-get_peers_at a id = then (needed id_of key.InfoHash (a (codes "info_hash"))) (λ info_hash. Ok (GetPeers id info_hash))
+get_peers_at a id = then (needed id_of key.InfoHash (a (codes "info_hash"))) (λ info_hash. Ok (GetPeers id info_hash (want_of (a (codes "want")))))
 
 -- what an announce_peer query says, by the values of its keys: info hash, token, then port
 abbrev pub announced_by : Id → Option Value → Option Value → Option Value → Option Value → Step Ask
@@ -125,19 +150,36 @@ announced id info_hash Implied token =
 abbrev pub two_ids : Id → List ℕ → Id → List (Pair Value)
 two_ids id key other = pair (codes "id") (Text id.0) ++ pair key (Text other.0)
 
+-- a word of `want`, where it is said
+abbrev pub word_if : Bool → List ℕ → List Value
+word_if true word = Text word ∷ []
+word_if false word = []
+
+-- the list of `want`, `n4` before `n6` (BEP 32)
+abbrev pub want_value : Want → Value
+want_value want = Values (word_if want.four (codes "n4") ++ word_if want.six (codes "n6"))
+
+-- what is wanted, where anything is
+abbrev pub some_want : Want → Option Want
+some_want want = cond (want.four || want.six) (Some want) None
+
+-- whose contacts are wanted, where it is said
+abbrev pub want_pair : Want → List (Pair Value)
+want_pair want = maybe (codes "want") want_value (some_want want)
+
 -- the arguments of a query; those of a method that isn't known are none
 abbrev pub arguments_of : Ask → List (Pair Value)
 arguments_of (Ping id) = pair (codes "id") (Text id.0)
-arguments_of (FindNode id target) = two_ids id (codes "target") target
-arguments_of (GetPeers id info_hash) = two_ids id (codes "info_hash") info_hash
+arguments_of (FindNode id target want) = two_ids id (codes "target") target ++ want_pair want
+arguments_of (GetPeers id info_hash want) = two_ids id (codes "info_hash") info_hash ++ want_pair want
 arguments_of (AnnouncePeer id info_hash port token) = announced id info_hash port token
 arguments_of (Other method) = []
 
 -- the `q` of a query: the name of its method
 abbrev pub name_of : Ask → List ℕ
 name_of (Ping id) = codes "ping"
-name_of (FindNode id target) = codes "find_node"
-name_of (GetPeers id info_hash) = codes "get_peers"
+name_of (FindNode id target want) = codes "find_node"
+name_of (GetPeers id info_hash want) = codes "get_peers"
 name_of (AnnouncePeer id info_hash port token) = codes "announce_peer"
 name_of (Other method) = method
 
@@ -163,8 +205,8 @@ pub record IsUnknown (method : List ℕ) : Type 0 where
 -- the query has a written form that is read back
 abbrev pub IsWritableAsk : Ask → Type 0
 IsWritableAsk (Ping id) = Unit {0}
-IsWritableAsk (FindNode id target) = Unit {0}
-IsWritableAsk (GetPeers id info_hash) = Unit {0}
+IsWritableAsk (FindNode id target want) = Unit {0}
+IsWritableAsk (GetPeers id info_hash want) = Unit {0}
 IsWritableAsk (AnnouncePeer id info_hash port token) = IsGivenPort port
 IsWritableAsk (Other method) = IsUnknown method
 
@@ -176,8 +218,8 @@ IsWellPort Implied = Unit {0}
 -- what a query asks has arrays and numbers as its types have them
 abbrev pub IsWellAsk : Ask → Type 0
 IsWellAsk (Ping id) = IsWellId id
-IsWellAsk (FindNode id target) = IsWellId id × IsWellId target
-IsWellAsk (GetPeers id info_hash) = IsWellId id × IsWellId info_hash
+IsWellAsk (FindNode id target want) = IsWellId id × IsWellId target
+IsWellAsk (GetPeers id info_hash want) = IsWellId id × IsWellId info_hash
 IsWellAsk (AnnouncePeer id info_hash port token) = IsWellId id × (IsWellId info_hash × IsWellPort port)
 IsWellAsk (Other method) = Unit {0}
 
@@ -186,8 +228,8 @@ IsWellAsk (Other method) = Unit {0}
 -- what a view asks
 abbrev pub ask_seen : AskView → Ask
 ask_seen (seen.Ping id) = Ping id
-ask_seen (seen.FindNode id target) = FindNode id target
-ask_seen (seen.GetPeers id info_hash) = GetPeers id info_hash
+ask_seen (seen.FindNode id target want) = FindNode id target want
+ask_seen (seen.GetPeers id info_hash want) = GetPeers id info_hash want
 ask_seen (seen.AnnouncePeer id info_hash port token) = AnnouncePeer id info_hash port token.now
 ask_seen (seen.Other method) = Other method.now
 

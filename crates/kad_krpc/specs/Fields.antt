@@ -4,6 +4,7 @@ use Rattle.std.specs.Prelude.{ℕ, ◌%◌, cond, List, [], ◌∷◌, length, f
 use Rattle.std.specs.List.{AllByRecursion}
 use Rattle.kad_base.specs.declared.types.Id.{Id}
 use Rattle.kad_base.specs.declared.types.Addr.{Addr}
+use Rattle.kad_base.specs.declared.types.Family.TheVariants.{Four, Six}
 use Rattle.kad_bencode.specs.Keys.{value_of}
 use Rattle.kad_bencode.specs.Parts.{bytes_of, dict_of}
 use Rattle.kad_bencode.specs.declared.entries.Pair.{Pair}
@@ -72,10 +73,14 @@ records size read key (Some bytes) = cond (nat_eq (length bytes % size) 0) (Ok (
 abbrev pub records_by : {A : Type 0} → ℕ → (List ℕ → A) → Key → Option Value → Step (Option (List A))
 records_by size read key v = then (optional bytes_of key v) (λ bytes. records size read key bytes)
 
--- the peer of a string of 6 bytes; other values are passed over
+-- the peer that a string is: of IPv4 with 6 bytes (BEP 5), of IPv6 with 18 (BEP 32)
+abbrev pub peer_of : List ℕ → Option Addr
+peer_of bytes = cond (nat_eq (length bytes) 6) (Some (addr_at Four 0 bytes)) (cond (nat_eq (length bytes) 18) (Some (addr_at Six 0 bytes)) None)
+
+-- the peer of a value that may be a string; other values are passed over
 abbrev pub peer_in : Option (List ℕ) → Option Addr
 peer_in None = None
-peer_in (Some bytes) = cond (nat_eq (length bytes) 6) (Some (addr_at 0 bytes)) None
+peer_in (Some bytes) = peer_of bytes
 
 -- the peers of a list of values, in order
 abbrev pub peers_in : Option (List Value) → Option (List Addr)

@@ -1,5 +1,5 @@
 -- The one written form of a KRPC message (BEP 5): a dictionary with its keys in ascending order.
-use Rattle.std.specs.Prelude.{ℕ, true, List, [], ◌∷◌, ◌++◌, codes}
+use Rattle.std.specs.Prelude.{ℕ, Bool, true, false, List, [], ◌∷◌, ◌++◌, codes}
 use Rattle.kad_base.specs.declared.types.Id.{Id}
 use Rattle.kad_base.specs.Words.{word_bytes}
 use Rattle.kad_bencode.specs.Spelling.{text_of}
@@ -9,10 +9,11 @@ use Rattle.kad_bencode.specs.declared.value.Value.TheVariants.{Int, Text, List a
 use Rattle.kad_krpc.specs.declared.message.Message.{Message}
 use Rattle.kad_krpc.specs.declared.message.Message.TheVariants as message
 use Rattle.kad_krpc.specs.declared.message.Ask.TheVariants.{FindNode, GetPeers}
-pub use Rattle.kad_records.specs.Records.{peers_value, IsV4, IsNode, HasProof, IsProved}
+use Rattle.kad_krpc.specs.declared.message.Want.{Want}
+pub use Rattle.kad_records.specs.Records.{peers_value, IsV4, IsNode, IsNodeOf, HasProof, IsProved, IsProvedOf}
 pub use Rattle.kad_krpc.specs.Fields.{pair, maybe, Each}
 pub use Rattle.kad_krpc.specs.Answering.{nodes_value, snodes_value, answer_pairs, IsWritableAnswer}
-pub use Rattle.kad_krpc.specs.Asking.{announced, arguments_of, two_ids, name_of, read_only_pair, IsGivenPort, IsUnknown, IsWritableAsk}
+pub use Rattle.kad_krpc.specs.Asking.{announced, arguments_of, two_ids, want_pair, name_of, read_only_pair, IsGivenPort, IsUnknown, IsWritableAsk}
 
 -- the pairs of the message's dictionary
 abbrev pub message_pairs : Message → List (Pair Value)
@@ -43,10 +44,14 @@ IsWritable (message.Fault tx code text) = Unit {0}
 
 -- ---- the queries of a lookup
 
--- the read-only find_node query (`ro` is BEP 43's), whose transaction id is the bytes of a word
-abbrev pub find_node_query : Id → Id → ℕ → Message
-find_node_query own target tx = message.Query (word_bytes tx) true (FindNode own target)
+-- contacts of IPv6 alone are wanted, or nothing is said (BEP 32)
+abbrev pub only : Bool → Want
+only six = record { four = false; six = six }
 
--- the read-only get_peers query, whose transaction id is the bytes of a word
-abbrev pub get_peers_query : Id → Id → ℕ → Message
-get_peers_query own info_hash tx = message.Query (word_bytes tx) true (GetPeers own info_hash)
+-- the read-only find_node query (`ro` is BEP 43's), whose transaction id is the bytes of a word, in the network of IPv6 or not
+abbrev pub find_node_query : Id → Id → Bool → ℕ → Message
+find_node_query own target six tx = message.Query (word_bytes tx) true (FindNode own target (only six))
+
+-- the read-only get_peers query, whose transaction id is the bytes of a word, in the network of IPv6 or not
+abbrev pub get_peers_query : Id → Id → Bool → ℕ → Message
+get_peers_query own info_hash six tx = message.Query (word_bytes tx) true (GetPeers own info_hash (only six))

@@ -16,15 +16,17 @@ use crate::owned::{maybe_peers, maybe_records, maybe_text};
 use crate::well_typed::{tell_nodes, tell_snodes, tell_values};
 use kad_base::{Id, NoMemory};
 use kad_bencode::{Items, Piece, put_part};
-use kad_records::{Node, Proved, Records, tell_id};
+use kad_records::{Node, Node6, Proved, Proved6, Records, tell_id};
 use std::alloc::Global;
 
-/// What an answer gives, as `Answer` does. Of `values` those that are no strings of 6 bytes are still among them.
+/// What an answer gives, as `Answer` does. Of `values` those that are no strings of 6 or 18 bytes are still among them.
 #[derive(Drop)]
 pub struct AnswerView<'a> {
     pub id: Id,
     pub nodes: Option<Records<'a, Node>>,
     pub snodes: Option<Records<'a, Proved>>,
+    pub nodes6: Option<Records<'a, Node6>>,
+    pub snodes6: Option<Records<'a, Proved6>>,
     pub token: Option<&'a [u8]>,
     pub values: Option<Items<'a>>,
 }
@@ -34,21 +36,27 @@ fn read_parts<'a>(
     id: Option<Piece<'a>>,
     nodes: Option<Piece<'a>>,
     snodes: Option<Piece<'a>>,
+    nodes6: Option<Piece<'a>>,
+    snodes6: Option<Piece<'a>>,
     token: Option<Piece<'a>>,
     values: Option<Piece<'a>>,
 ) -> Result<AnswerView<'a>, KrpcFault>
-    ensures { answered result ≡ answer_by id.entry nodes.entry snodes.entry token.entry
-        values.entry }
+    ensures { answered result ≡ answer_by id.entry nodes.entry snodes.entry nodes6.entry
+        snodes6.entry token.entry values.entry }
 {
     let id = needed_id(id, Key::Id)?;
     let nodes = optional_records(nodes, Key::Nodes)?;
     let snodes = optional_records(snodes, Key::Snodes)?;
+    let nodes6 = optional_records(nodes6, Key::Nodes6)?;
+    let snodes6 = optional_records(snodes6, Key::Snodes6)?;
     let token = optional_text(token, Key::Token)?;
     let values = optional_list(values, Key::Values)?;
     Ok(AnswerView {
         id,
         nodes,
         snodes,
+        nodes6,
+        snodes6,
         token,
         values,
     })
@@ -58,13 +66,17 @@ fn read_parts<'a>(
 pub(crate) fn read_answer<'a>(r: &Piece<'a>) -> Result<AnswerView<'a>, KrpcFault>
     ensures { answered result ≡ answer_at (member_of r.now) }
 {
-    let slots = keys!(b"id", b"nodes", b"snodes", b"token", b"values");
+    let slots = keys!(
+        b"id", b"nodes", b"snodes", b"nodes6", b"snodes6", b"token", b"values"
+    );
     let (id, slots) = members(r, slots).take();
     let (nodes, slots) = slots.take();
     let (snodes, slots) = slots.take();
+    let (nodes6, slots) = slots.take();
+    let (snodes6, slots) = slots.take();
     let (token, slots) = slots.take();
     let (values, _) = slots.take();
-    read_parts(id, nodes, snodes, token, values)
+    read_parts(id, nodes, snodes, nodes6, snodes6, token, values)
 }
 
 /// Puts the dictionary `r` of an answer. Takes no memory.
@@ -74,7 +86,9 @@ pub(crate) fn put_answer(buf: &mut [u8], at: usize, answer: &Answer) -> usize
 {
     let at = put_id(buf, at, &answer.id);
     let at = put_maybe_records::<Node>(buf, at, b"nodes", &answer.nodes);
+    let at = put_maybe_records::<Node6>(buf, at, b"nodes6", &answer.nodes6);
     let at = put_maybe_records::<Proved>(buf, at, b"snodes", &answer.snodes);
+    let at = put_maybe_records::<Proved6>(buf, at, b"snodes6", &answer.snodes6);
     let at = put_maybe_text(buf, at, b"token", &answer.token);
     let at = put_maybe_peers(buf, at, b"values", &answer.values);
     put_part(buf, at, b"e")
@@ -86,12 +100,16 @@ pub fn own_answer(alloc: Global, answer: AnswerView) -> Result<Answer, NoMemory>
 {
     let nodes = maybe_records(alloc, answer.nodes)?;
     let snodes = maybe_records(alloc, answer.snodes)?;
+    let nodes6 = maybe_records(alloc, answer.nodes6)?;
+    let snodes6 = maybe_records(alloc, answer.snodes6)?;
     let token = maybe_text(alloc, answer.token)?;
     let values = maybe_peers(alloc, answer.values)?;
     Ok(Answer {
         id: answer.id,
         nodes,
         snodes,
+        nodes6,
+        snodes6,
         token,
         values,
     })
@@ -104,5 +122,7 @@ pub(crate) fn tell_answer(answer: &Answer)
     tell_id(&answer.id);
     tell_nodes(&answer.nodes);
     tell_snodes(&answer.snodes);
+    tell_nodes(&answer.nodes6);
+    tell_snodes(&answer.snodes6);
     tell_values(&answer.values);
 }

@@ -5,13 +5,13 @@ ghost use Rattle.kad_bencode.specs.Spelling.{text_of};
 ghost use Rattle.kad_bencode.specs.Written.{Puts, PutsPairs};
 ghost use Rattle.kad_bencode.specs.declared.value.Value.TheVariants as value;
 ghost use Rattle.kad_krpc.specs.Fields.{pair};
-ghost use Rattle.kad_krpc.specs.Asking.{port_by, announced_by, find_node_at, get_peers_at, announce_peer_at, rest_at, arguments_at, ask_of, method_in, is_read_only, is_implied, announced, arguments_of, name_of, read_only_pair, ask_seen, ask_outcome, IsWellPort, IsWellAsk};
+ghost use Rattle.kad_krpc.specs.Asking.{is_word, names, want_of, want_pair, two_ids, port_by, announced_by, find_node_at, get_peers_at, announce_peer_at, rest_at, arguments_at, ask_of, method_in, is_read_only, is_implied, announced, arguments_of, name_of, read_only_pair, ask_seen, ask_outcome, IsWellPort, IsWellAsk};
 ghost use Rattle.kad_records.specs.Records.{IsWellId};
 
 use crate::fields::{
     needed_dict, needed_id, needed_port, needed_text, optional_int, put_id, put_number, put_text,
 };
-use crate::message::{Ask, Key, KrpcFault, Method, Port};
+use crate::message::{Ask, Key, KrpcFault, Method, Port, Want};
 use kad_base::{Id, List, NoMemory};
 use kad_bencode::{Piece, put_part};
 use kad_records::tell_id;
@@ -26,10 +26,12 @@ pub enum AskView<'a> {
     FindNode {
         id: Id,
         target: Id,
+        want: Want,
     },
     GetPeers {
         id: Id,
         info_hash: Id,
+        want: Want,
     },
     AnnouncePeer {
         id: Id,
@@ -73,18 +75,65 @@ fn read_port(implied_port: Option<Piece>, port: Option<Piece>) -> Result<Port, K
     Ok(Port::Given(number))
 }
 
+/// Whether a value is this word.
+fn is_word(value: &Piece, word: &[u8]) -> bool
+    ensures { result ≡ is_word word.now value.now }
+{
+    match value.as_bytes() {
+        Some(bytes) => bytes == word,
+        None => false,
+    }
+}
+
+/// Whether a value is a list that this word is among.
+fn names(value: &Piece, word: &[u8]) -> bool
+    ensures { result ≡ names word.now value.now }
+{
+    let Some(mut items) = value.items() else {
+        return false;
+    };
+    while let Some(item) = items.next() {
+        if is_word(&item, word) {
+            return true;
+        }
+    }
+    false
+}
+
+/// Whose contacts are wanted; another kind of value says nothing.
+fn read_want(value: Option<Piece>) -> Want
+    ensures { result ≡ want_of value.entry }
+{
+    match value {
+        None => Want {
+            four: false,
+            six: false,
+        },
+        Some(value) => Want {
+            four: names(&value, b"n4"),
+            six: names(&value, b"n6"),
+        },
+    }
+}
+
 fn read_find_node<'a>(a: &Piece<'a>, id: Id) -> Result<AskView<'a>, KrpcFault>
     ensures { ask_outcome result ≡ find_node_at (member_of a.now) id }
 {
     let target = needed_id(a.get(b"target"), Key::Target)?;
-    Ok(AskView::FindNode { id, target })
+    let want = read_want(a.get(b"want"));
+    Ok(AskView::FindNode { id, target, want })
 }
 
 fn read_get_peers<'a>(a: &Piece<'a>, id: Id) -> Result<AskView<'a>, KrpcFault>
     ensures { ask_outcome result ≡ get_peers_at (member_of a.now) id }
 {
     let info_hash = needed_id(a.get(b"info_hash"), Key::InfoHash)?;
-    Ok(AskView::GetPeers { id, info_hash })
+    let want = read_want(a.get(b"want"));
+    Ok(AskView::GetPeers {
+        id,
+        info_hash,
+        want,
+    })
 }
 
 fn read_announced<'a>(
@@ -218,15 +267,28 @@ fn put_one_id(buf: &mut [u8], at: usize, id: &Id) -> usize
     put_part(buf, at, b"e")
 }
 
-/// Puts the arguments that are two identifiers, under `id` and a key after it.
+/// Puts whose contacts are wanted, where it is said.
 #[inline(always)]
-fn put_two_ids(buf: &mut [u8], at: usize, id: &Id, key: &[u8], other: &Id) -> usize
+fn put_want(buf: &mut [u8], at: usize, want: Want) -> usize
+    ensures { PutsPairs buf.old buf.new at (want_pair want) result }
+{
+    match (want.four, want.six) {
+        (false, false) => at,
+        (true, false) => put_part(buf, at, b"4:wantl2:n4e"),
+        (false, true) => put_part(buf, at, b"4:wantl2:n6e"),
+        (true, true) => put_part(buf, at, b"4:wantl2:n42:n6e"),
+    }
+}
+
+/// Puts the arguments that are two identifiers, under `id` and a key after it, and whose contacts are wanted.
+#[inline(always)]
+fn put_two_ids(buf: &mut [u8], at: usize, id: &Id, key: &[u8], other: &Id, want: Want) -> usize
     ensures { Puts buf.old buf.new at (text_of
-        (value.Dict (pair (codes "id") (value.Text id.now.0) ++ pair key.now
-        (value.Text other.now.0)))) result }
+        (value.Dict (two_ids id.now key.now other.now ++ want_pair want))) result }
 {
     let at = put_id(buf, at, id);
     let at = put_text(buf, at, key, &other.0);
+    let at = put_want(buf, at, want);
     put_part(buf, at, b"e")
 }
 
@@ -237,8 +299,12 @@ pub(crate) fn put_arguments(buf: &mut [u8], at: usize, ask: &Ask) -> usize
 {
     match ask {
         Ask::Ping { id } => put_one_id(buf, at, id),
-        Ask::FindNode { id, target } => put_two_ids(buf, at, id, b"target", target),
-        Ask::GetPeers { id, info_hash } => put_two_ids(buf, at, id, b"info_hash", info_hash),
+        Ask::FindNode { id, target, want } => { put_two_ids(buf, at, id, b"target", target, *want) }
+        Ask::GetPeers {
+            id,
+            info_hash,
+            want,
+        } => put_two_ids(buf, at, id, b"info_hash", info_hash, *want),
         Ask::AnnouncePeer {
             id,
             info_hash,
@@ -279,8 +345,16 @@ pub(crate) fn own_ask(alloc: Global, ask: AskView) -> Result<Ask, NoMemory>
 {
     match ask {
         AskView::Ping { id } => Ok(Ask::Ping { id }),
-        AskView::FindNode { id, target } => Ok(Ask::FindNode { id, target }),
-        AskView::GetPeers { id, info_hash } => Ok(Ask::GetPeers { id, info_hash }),
+        AskView::FindNode { id, target, want } => Ok(Ask::FindNode { id, target, want }),
+        AskView::GetPeers {
+            id,
+            info_hash,
+            want,
+        } => Ok(Ask::GetPeers {
+            id,
+            info_hash,
+            want,
+        }),
         AskView::AnnouncePeer {
             id,
             info_hash,
@@ -327,8 +401,8 @@ pub(crate) fn tell_ask(ask: &Ask)
 {
     match ask {
         Ask::Ping { id } => tell_id(id),
-        Ask::FindNode { id, target } => tell_two(id, target),
-        Ask::GetPeers { id, info_hash } => tell_two(id, info_hash),
+        Ask::FindNode { id, target, .. } => tell_two(id, target),
+        Ask::GetPeers { id, info_hash, .. } => tell_two(id, info_hash),
         Ask::AnnouncePeer {
             id,
             info_hash,

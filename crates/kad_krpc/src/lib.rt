@@ -21,7 +21,7 @@ pub use ask::AskView;
 pub use borrowed::View;
 pub use kad_records::split_record;
 pub use laws::{form_says, one_message, said_is_writable};
-pub use message::{Answer, Ask, Key, KrpcFault, Message, Port};
+pub use message::{Answer, Ask, Key, KrpcFault, Message, Port, Want};
 pub use query::{find_node_into, get_peers_into};
 pub use reader::{decode, decode_view};
 pub use seal::{SealParts, form_is_untagged, seal_parts, tag_comes_off, tag_into, with_tag};
@@ -33,3 +33,9 @@ pub type Nodes<'a> = kad_records::Records<'a, kad_records::Node>;
 
 /// The `snodes` of an answer where they stand.
 pub type ProvedNodes<'a> = kad_records::Records<'a, kad_records::Proved>;
+
+/// The `nodes6` of an answer where they stand.
+pub type Nodes6<'a> = kad_records::Records<'a, kad_records::Node6>;
+
+/// The `snodes6` of an answer where they stand.
+pub type ProvedNodes6<'a> = kad_records::Records<'a, kad_records::Proved6>;

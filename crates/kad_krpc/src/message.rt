@@ -34,10 +34,12 @@ pub enum Ask {
     FindNode {
         id: Id,
         target: Id,
+        want: Want,
     },
     GetPeers {
         id: Id,
         info_hash: Id,
+        want: Want,
     },
     AnnouncePeer {
         id: Id,
@@ -49,6 +51,14 @@ pub enum Ask {
     Other {
         method: Bytes,
     },
+}
+
+/// Whose contacts a query asks for (BEP 32): `want` is a list of words, `n4` for those of IPv4 and `n6` for those of IPv6. A
+/// query without the key wants those of the network that it came by.
+#[derive(Clone, Copy, Debug, PartialEq, Eq)]
+pub struct Want {
+    pub four: bool,
+    pub six: bool,
 }
 
 /// The port that a peer announces.
@@ -69,9 +79,13 @@ pub struct Answer {
     pub nodes: Option<Contacts>,
     /// `snodes`, this project's own key: records of 78 bytes, identifier, public key, X, IPv4 address and port.
     pub snodes: Option<Reports>,
+    /// `nodes6` (BEP 32): records of 38 bytes, identifier, IPv6 address and port.
+    pub nodes6: Option<Contacts>,
+    /// `snodes6`, this project's own key: records of 90 bytes, identifier, public key, X, IPv6 address and port.
+    pub snodes6: Option<Reports>,
     /// `token`: what a later `announce_peer` has to bring along.
     pub token: Option<Bytes>,
-    /// `values`: peers of the info hash, each a string of 6 bytes, IPv4 address and port.
+    /// `values`: peers of the info hash, each a string of 6 bytes, IPv4 address and port, or of 18, IPv6 address and port.
     pub values: Option<Addrs>,
 }
 
@@ -93,6 +107,8 @@ pub enum Key {
     Port,
     Nodes,
     Snodes,
+    Nodes6,
+    Snodes6,
     Values,
 }
 

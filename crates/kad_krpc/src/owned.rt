@@ -1,32 +1,41 @@
 //! A message in memory of its own, made of a view.
 ghost use Rattle.std.specs.Prelude.{◌≡◌, ◌++◌, flat_map, option_copied, option_to_list, IfOk, OnOk, Some};
 ghost use Rattle.kad_bencode.specs.Parts.{bytes_of};
-ghost use Rattle.kad_krpc.specs.Fields.{peer_in, peers_in};
+ghost use Rattle.kad_krpc.specs.Fields.{peer_of, peer_in, peers_in};
 ghost use Rattle.kad_krpc.specs.Views.{message_seen};
 
 use crate::answer::own_answer;
 use crate::ask::own_ask;
 use crate::borrowed::View;
 use crate::message::Message;
-use kad_base::{Addrs, Bytes, List, NoMemory};
+use kad_base::{Addr, Addrs, Bytes, List, NoMemory};
 use kad_bencode::{Items, Piece};
-use kad_records::{Record, Records, read_addr, with_room};
+use kad_records::{Record, Records, read_addr, read_addr6, with_room};
 use std::alloc::Global;
 
-/// How long the text of a peer is: `6:` and six bytes.
+/// How long the text of a peer is at least: `6:` and six bytes.
 const PEER: usize = 8;
 
-/// Appends the peer of a value, where it is a string of 6 bytes.
+/// The peer of a string of 6 bytes (BEP 5), or of 18 (BEP 32).
+fn peer(bytes: &[u8]) -> Option<Addr>
+    ensures { result ≡ peer_of bytes.now }
+{
+    match bytes.len() {
+        6 => Some(read_addr(bytes, 0)),
+        18 => Some(read_addr6(bytes, 0)),
+        _ => None,
+    }
+}
+
+/// Appends the peer of a value, where it is a string of one.
 fn push_peer(peers: &mut Addrs, value: &Piece) -> Result<(), NoMemory>
     ensures { OnOk result (peers.new ≡ peers.old ++ option_to_list (peer_in (bytes_of value.now))) }
 {
     match value.as_bytes() {
-        Some(bytes) => {
-            if bytes.len() == 6 {
-                return peers.push(read_addr(bytes, 0));
-            }
-            Ok(())
-        }
+        Some(bytes) => match peer(bytes) {
+            Some(peer) => peers.push(peer),
+            None => Ok(()),
+        },
         None => Ok(()),
     }
 }

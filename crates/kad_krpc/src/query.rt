@@ -1,8 +1,8 @@
 //! The queries of a lookup, written without memory.
-ghost use Rattle.std.specs.Prelude.{◌≡◌, ◌+◌, ◌≤◌, ◌++◌, true, codes, length, take};
+ghost use Rattle.std.specs.Prelude.{◌≡◌, ◌+◌, ◌≤◌, ◌++◌, true, cond, codes, length, take};
 ghost use Rattle.kad_base.specs.Words.{word_bytes};
 ghost use Rattle.kad_bencode.specs.Spelling.{string_text};
-ghost use Rattle.kad_krpc.specs.Form.{form, arguments_of, name_of, two_ids, find_node_query, get_peers_query};
+ghost use Rattle.kad_krpc.specs.Form.{form, arguments_of, name_of, two_ids, only, want_pair, find_node_query, get_peers_query};
 ghost use Rattle.kad_krpc.specs.declared.message.Ask.{Ask};
 ghost use Rattle.kad_krpc.specs.declared.message.Message.TheVariants as Message;
 
@@ -21,23 +21,25 @@ fn put_name(buf: &mut [u8; 160], at: usize, name: &[u8]) -> usize
     put_bytes(buf, at, name)
 }
 
-/// Writes the text of a read-only query of two identifiers in front of `buf`.
+/// Writes the text of a read-only query of two identifiers in front of `buf`, with what stands behind these.
 #[inline(always)]
 fn text_into(
     buf: &mut [u8; 160],
     own: &Id,
     key: &[u8],
     sought: &Id,
+    behind: &[u8],
     method: &[u8],
     tx: u32,
 ) -> usize
     requires key { length key.now ≤ 9 }
+    requires behind { length behind.now ≤ 12 }
     requires method { length method.now ≤ 9 }
     ensures own { length own.now.0 ≡ 20 }
     ensures sought { length sought.now.0 ≡ 20 }
-    ensures length { result ≡ 86 + length key.now + length method.now }
+    ensures length { result ≡ 86 + length key.now + length behind.now + length method.now }
     ensures text { take result buf.new ≡ codes "d1:ad2:id20:" ++ own.now.0
-        ++ string_text key.now ++ codes "20:" ++ sought.now.0 ++ codes "e1:q"
+        ++ string_text key.now ++ codes "20:" ++ sought.now.0 ++ behind.now ++ codes "e1:q"
         ++ string_text method.now ++ codes "2:roi1e1:t4:" ++ word_bytes tx ++ codes "1:y1:qe" }
 {
     let at = put_bytes(buf, 0, b"d1:ad2:id20:");
@@ -45,6 +47,7 @@ fn text_into(
     let at = put_name(buf, at, key);
     let at = put_bytes(buf, at, b"20:");
     let at = put_bytes(buf, at, &sought.0);
+    let at = put_bytes(buf, at, behind);
     let at = put_bytes(buf, at, b"e1:q");
     let at = put_name(buf, at, method);
     let at = put_bytes(buf, at, b"2:roi1e1:t4:");
@@ -52,41 +55,46 @@ fn text_into(
     put_bytes(buf, at, b"1:y1:qe")
 }
 
-/// Writes a read-only query (BEP 5, BEP 43) whose arguments are two identifiers, the second under `key`, in front of `buf`.
-/// The calls are inlined, since the names are known there.
+/// Writes a read-only query (BEP 5, BEP 43) whose arguments are two identifiers, the second under `key`, and where the
+/// contacts of IPv6 are wanted the word that says so (BEP 32), in front of `buf`. The calls are inlined, since the names are
+/// known there.
 #[inline(always)]
 fn query_into(
     buf: &mut [u8; 160],
     own: &Id,
     key: &[u8],
     sought: &Id,
+    six: bool,
     method: &[u8],
     tx: u32,
 ) -> usize
     requires key { length key.now ≤ 9 }
     requires method { length method.now ≤ 9 }
-    ensures length { result ≡ 86 + length key.now + length method.now }
-    ensures form { (ask : Ask) → arguments_of ask ≡ two_ids own.now key.now sought.now
+    ensures length { result ≡ 86 + length key.now + cond six 12 0 + length method.now }
+    ensures form { (ask : Ask) → arguments_of ask ≡ two_ids own.now key.now sought.now ++ want_pair (only six)
         → name_of ask ≡ method.now
         → take result buf.new ≡ form (Message.Query (word_bytes tx) true ask) }
 {
-    text_into(buf, own, key, sought, method, tx)
+    if six {
+        return text_into(buf, own, key, sought, b"4:wantl2:n6e", method, tx);
+    }
+    text_into(buf, own, key, sought, b"", method, tx)
 }
 
-/// Writes the read-only `find_node` query (BEP 5, BEP 43) in front of `buf`, and answers its length, which is 101
-/// bytes. The transaction id is the four bytes of `tx`, the lowest first.
-pub fn find_node_into(buf: &mut [u8; 160], own: &Id, target: &Id, tx: u32) -> usize
-    ensures length { result ≡ 101 }
-    ensures form { take result buf.new ≡ form (find_node_query own.now target.now tx) }
+/// Writes the read-only `find_node` query (BEP 5, BEP 43) in front of `buf`, and answers its length: 101 bytes, or 113 where
+/// it asks for contacts of IPv6 by `want` (BEP 32). The transaction id is the four bytes of `tx`, the lowest first.
+pub fn find_node_into(buf: &mut [u8; 160], own: &Id, target: &Id, six: bool, tx: u32) -> usize
+    ensures length { result ≡ cond six 113 101 }
+    ensures form { take result buf.new ≡ form (find_node_query own.now target.now six tx) }
 {
-    query_into(buf, own, b"target", target, b"find_node", tx)
+    query_into(buf, own, b"target", target, six, b"find_node", tx)
 }
 
-/// Writes the read-only `get_peers` query (BEP 5, BEP 43) in front of `buf`, and answers its length, which is 104
-/// bytes. The transaction id is the four bytes of `tx`, the lowest first.
-pub fn get_peers_into(buf: &mut [u8; 160], own: &Id, info_hash: &Id, tx: u32) -> usize
-    ensures length { result ≡ 104 }
-    ensures form { take result buf.new ≡ form (get_peers_query own.now info_hash.now tx) }
+/// Writes the read-only `get_peers` query (BEP 5, BEP 43) in front of `buf`, and answers its length: 104 bytes, or 116 where
+/// it asks for contacts of IPv6 by `want` (BEP 32). The transaction id is the four bytes of `tx`, the lowest first.
+pub fn get_peers_into(buf: &mut [u8; 160], own: &Id, info_hash: &Id, six: bool, tx: u32) -> usize
+    ensures length { result ≡ cond six 116 104 }
+    ensures form { take result buf.new ≡ form (get_peers_query own.now info_hash.now six tx) }
 {
-    query_into(buf, own, b"info_hash", info_hash, b"get_peers", tx)
+    query_into(buf, own, b"info_hash", info_hash, six, b"get_peers", tx)
 }
