@@ -1,8 +1,10 @@
 -- What the book is told of a reply.
-use Rattle.std.proofs.Common.{◌≡◌, ◌≢◌, ◌≤◌, List, length, take, inl, inr, refl, ap, ◌∙◌, arith}
+use Rattle.std.proofs.Common.{◌≡◌, ◌≢◌, ◌≤◌, List, map, length, take, Option, inl, inr, refl, ap, ◌∙◌, arith}
 use Rattle.std.proofs.lemmas.List.{length-map, length-take}
 use Rattle.kad_base.specs.declared.types.Contact.{Contact}
 use Rattle.kad_base.specs.declared.types.Report.{Report}
+use Rattle.kad_base.specs.declared.types.Family.{Family}
+use Rattle.kad_base.specs.declared.types.Family.TheVariants.{Four, Six}
 use Rattle.kad_base.specs.declared.types.Policy.{Policy}
 use Rattle.kad_base.specs.declared.types.Policy.TheVariants.{Plain, Puzzled}
 use Rattle.kad_base.specs.Limits.{max_reports}
@@ -17,13 +19,21 @@ use Rattle.lookup_core.specs.declared.reply.Reply.TheVariants as reply
 use Rattle.lookup_core.specs.Quest.{bare, part_of, reports_by, reports_of}
 use Rattle.lookup_core.specs.LookupSteps.{HearsReply}
 
-few_by : (policy : Policy) (answer : Answer) → length (reports_by policy answer) ≤ max_reports
-few_by Plain answer = (let a = length-map (take max_reports (part_of answer.nodes)) bare in let b = length-take max_reports (part_of answer.nodes) in omega (arith, a, b))
-few_by (Puzzled c1 c2) answer = (let b = length-take max_reports (part_of answer.snodes) in omega (arith, b))
+few_contacts : (part : Option (List Contact)) → length (map bare (take max_reports (part_of part))) ≤ max_reports
+few_contacts part = (let a = length-map (take max_reports (part_of part)) bare in let b = length-take max_reports (part_of part) in omega (arith, a, b))
+
+few_proved : (part : Option (List Report)) → length (take max_reports (part_of part)) ≤ max_reports
+few_proved part = (let b = length-take max_reports (part_of part) in omega (arith, b))
+
+few_by : (family : Family) (policy : Policy) (answer : Answer) → length (reports_by family policy answer) ≤ max_reports
+few_by Four Plain answer = few_contacts answer.nodes
+few_by Four (Puzzled c1 c2) answer = few_proved answer.snodes
+few_by Six Plain answer = few_contacts answer.nodes6
+few_by Six (Puzzled c1 c2) answer = few_proved answer.snodes6
 
 -- an answer gives few reports
 pub few_reports : (quest : Quest) (answer : Answer) → length (reports_of quest answer) ≤ max_reports
-few_reports quest answer = few_by quest.policy answer
+few_reports quest answer = few_by quest.family quest.policy answer
 
 -- an answer in the contact's own name
 pub own_heard : (quest : Quest) (c : Contact) (answer : Answer) (reports : List Report) (old new : BookState) → answer.id ≡ c.id → reports ≡ reports_of quest answer → new ≡ added old (Heard (asker c old.journal) c reports)

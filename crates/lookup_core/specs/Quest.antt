@@ -2,6 +2,8 @@
 use Rattle.std.specs.Prelude.{ℕ, ◌≤◌, List, [], length, take, map, Option, Some, None, Bool, true, false}
 use Rattle.kad_base.specs.declared.types.Id.{Id}
 use Rattle.kad_base.specs.declared.types.Contact.{Contact}
+use Rattle.kad_base.specs.declared.types.Family.{Family}
+use Rattle.kad_base.specs.declared.types.Family.TheVariants.{Four, Six}
 use Rattle.kad_base.specs.declared.types.Report.{Report}
 use Rattle.kad_base.specs.declared.types.Policy.{Policy}
 use Rattle.kad_base.specs.declared.types.Policy.TheVariants.{Plain, Puzzled}
@@ -13,10 +15,15 @@ use Rattle.lookup_core.specs.declared.quest.AskKind.{AskKind}
 use Rattle.lookup_core.specs.declared.quest.AskKind.TheVariants.{FindNode, GetPeers}
 use Rattle.lookup_core.specs.declared.quest.Quest.{Quest}
 
--- the query of each kind (BEP 5), read-only (BEP 43)
-abbrev pub message_of : AskKind → Id → Id → ℕ → Message
-message_of FindNode own target tx = find_node_query own target tx
-message_of GetPeers own target tx = get_peers_query own target tx
+-- whether it is the network of IPv6
+abbrev pub is_six : Family → Bool
+is_six Four = false
+is_six Six = true
+
+-- the query of each kind (BEP 5), read-only (BEP 43), which asks for contacts of IPv6 or says nothing of whose (BEP 32)
+abbrev pub message_of : AskKind → Id → Id → Bool → ℕ → Message
+message_of FindNode own target six tx = find_node_query own target six tx
+message_of GetPeers own target six tx = get_peers_query own target six tx
 
 -- whether a lookup gathers the peers and the tokens that answers give (BEP 5)
 abbrev pub wants_peers : AskKind → Bool
@@ -25,7 +32,7 @@ wants_peers GetPeers = true
 
 -- the query that a lookup sends
 abbrev pub query_message : Quest → ℕ → Message
-query_message quest tx = message_of quest.kind quest.own quest.target tx
+query_message quest tx = message_of quest.kind quest.own quest.target (is_six quest.family) tx
 
 -- a contact as a report without a proof
 abbrev pub bare : Contact → Report
@@ -37,14 +44,17 @@ part_of None = []
 part_of (Some items) = items
 
 -- the reports that an answer gives: the first 16 contacts of `nodes` (BEP 5), without proofs; where the lookup wants
--- proofs the first 16 of `snodes` alone (this project's own key); none where that part is missing
-abbrev pub reports_by : Policy → Answer → List Report
-reports_by Plain answer = map bare (take max_reports (part_of answer.nodes))
-reports_by (Puzzled c1 c2) answer = take max_reports (part_of answer.snodes)
+-- proofs the first 16 of `snodes` alone (this project's own key). In the network of IPv6 those of `nodes6` (BEP 32), or of
+-- `snodes6` alone (this project's own key). None where that part is missing
+abbrev pub reports_by : Family → Policy → Answer → List Report
+reports_by Four Plain answer = map bare (take max_reports (part_of answer.nodes))
+reports_by Four (Puzzled c1 c2) answer = take max_reports (part_of answer.snodes)
+reports_by Six Plain answer = map bare (take max_reports (part_of answer.nodes6))
+reports_by Six (Puzzled c1 c2) answer = take max_reports (part_of answer.snodes6)
 
 -- the reports that a lookup believes
 abbrev pub reports_of : Quest → Answer → List Report
-reports_of quest answer = reports_by quest.policy answer
+reports_of quest answer = reports_by quest.family quest.policy answer
 
 -- what a datagram must meet for a lookup to believe it, whatever it says and to which query: it is short enough to be read
 -- (this project's own limit)

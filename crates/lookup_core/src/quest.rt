@@ -2,10 +2,10 @@
 ghost use Rattle.std.specs.Prelude.{◌≡◌, ◌≤◌, ◌↔◌, take, map, IsTrue, IfOk};
 ghost use Rattle.kad_base.specs.Limits.{max_reports};
 ghost use Rattle.kad_krpc.specs.Form.{form};
-ghost use Rattle.lookup_core.specs.Quest.{wants_peers, query_message, bare, reports_of, IsBelievable};
+ghost use Rattle.lookup_core.specs.Quest.{wants_peers, query_message, bare, is_six, part_of, reports_of, IsBelievable};
 
 use kad_base::limits::{MAX_DATAGRAM, MAX_REPORTS};
-use kad_base::{Contact, Id, List, NoMemory, Policy, Report, Reports};
+use kad_base::{Contact, Contacts, Family, Id, List, NoMemory, Policy, Report, Reports};
 use kad_krpc::{Answer, find_node_into, get_peers_into};
 use std::alloc::Global;
 
@@ -30,17 +30,28 @@ impl AskKind {
     }
 }
 
-/// What a lookup asks, and what it believes: `own` asks for `target`, `policy` says which reports may be believed,
-/// `timeout` how long to wait for an answer, in milliseconds, and `sealed` whether a reply has to carry a tag that is
-/// accepted.
+/// What a lookup asks, and what it believes: `own` asks for `target` in the network of `family`, `policy` says which reports
+/// may be believed, `timeout` how long to wait for an answer, in milliseconds, and `sealed` whether a reply has to carry a
+/// tag that is accepted.
 #[derive(Clone, Copy, Debug, PartialEq, Eq)]
 pub struct Quest {
     pub own: Id,
     pub target: Id,
     pub policy: Policy,
     pub kind: AskKind,
+    pub family: Family,
     pub timeout: u32,
     pub sealed: bool,
+}
+
+/// Whether it is the network of IPv6.
+fn is_six(family: Family) -> bool
+    ensures { result ≡ is_six family }
+{
+    match family {
+        Family::Four => false,
+        Family::Six => true,
+    }
 }
 
 /// The contacts as reports without a proof.
@@ -57,12 +68,30 @@ fn bare_reports(alloc: Global, contacts: &[Contact]) -> Result<Reports, NoMemory
     Ok(reports)
 }
 
-/// The first reports of a list, as they are.
-fn first_reports(alloc: Global, reports: &[Report]) -> Result<Reports, NoMemory>
-    ensures { IfOk result (λ first. first ≡ take max_reports reports.now) }
+/// The first contacts of a part of an answer, as reports without a proof.
+fn first_contacts(alloc: Global, part: &Option<Contacts>) -> Result<Reports, NoMemory>
+    ensures { IfOk result (λ reports. reports ≡ map bare (take max_reports (part_of part.now))) }
 {
-    let few = reports.len().min(MAX_REPORTS);
-    List::from_slice(alloc, &reports[..few])
+    match part {
+        Some(contacts) => {
+            let few = contacts.len().min(MAX_REPORTS);
+            bare_reports(alloc, &contacts.as_slice()[..few])
+        }
+        None => Ok(List::new(alloc)),
+    }
+}
+
+/// The first reports of a part of an answer, as they are.
+fn first_reports(alloc: Global, part: &Option<Reports>) -> Result<Reports, NoMemory>
+    ensures { IfOk result (λ reports. reports ≡ take max_reports (part_of part.now)) }
+{
+    match part {
+        Some(reports) => {
+            let few = reports.len().min(MAX_REPORTS);
+            List::from_slice(alloc, &reports.as_slice()[..few])
+        }
+        None => Ok(List::new(alloc)),
+    }
 }
 
 impl Quest {
@@ -79,24 +108,23 @@ impl Quest {
         ensures within { result ≤ 160 }
         ensures form { take result buf.new ≡ form (query_message self.now tx) }
     {
+        let six = is_six(self.family);
         match self.kind {
-            AskKind::FindNode => find_node_into(buf, &self.own, &self.target, tx),
-            AskKind::GetPeers => get_peers_into(buf, &self.own, &self.target, tx),
+            AskKind::FindNode => find_node_into(buf, &self.own, &self.target, six, tx),
+            AskKind::GetPeers => get_peers_into(buf, &self.own, &self.target, six, tx),
         }
     }
 
     /// The reports that the answer gives: the first 16 contacts of `nodes`, where no proof is wanted, and else of
-    /// `snodes`.
+    /// `snodes`; in the network of IPv6 of `nodes6` and `snodes6`.
     pub(crate) fn reports_in(&self, alloc: Global, answer: &Answer) -> Result<Reports, NoMemory>
         ensures { IfOk result (λ reports. reports ≡ reports_of self.now answer.now) }
     {
-        match (self.policy, &answer.nodes, &answer.snodes) {
-            (Policy::Plain, Some(nodes), _) => {
-                let few = nodes.len().min(MAX_REPORTS);
-                bare_reports(alloc, &nodes.as_slice()[..few])
-            }
-            (Policy::Puzzled { .. }, _, Some(snodes)) => first_reports(alloc, snodes.as_slice()),
-            _ => Ok(List::new(alloc)),
+        match (self.family, self.policy) {
+            (Family::Four, Policy::Plain) => first_contacts(alloc, &answer.nodes),
+            (Family::Four, Policy::Puzzled { .. }) => first_reports(alloc, &answer.snodes),
+            (Family::Six, Policy::Plain) => first_contacts(alloc, &answer.nodes6),
+            (Family::Six, Policy::Puzzled { .. }) => first_reports(alloc, &answer.snodes6),
         }
     }
 }

@@ -46,7 +46,7 @@ setting_of look = record { own = look.own; target = look.target; k = look.k; pat
 
 -- what it asks, and what it believes
 abbrev pub quest_of : LookSetting → Quest
-quest_of look = record { own = look.own; target = look.target; policy = look.policy; kind = look.kind; timeout = look.timeout; sealed = look.sealed }
+quest_of look = record { own = look.own; target = look.target; policy = look.policy; kind = look.kind; family = look.family; timeout = look.timeout; sealed = look.sealed }
 
 -- the setting is within the limits
 pub record IsWithinLimits (look : LookSetting) : Type 0 where

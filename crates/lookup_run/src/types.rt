@@ -4,14 +4,15 @@ ghost use Rattle.lookup_run.specs.Lookup.{setting_of, quest_of};
 
 use claim_book::{Counts, Journal, Setting};
 use contact_table::Table;
-use kad_base::{Addrs, Bytes, Contact, Contacts, Id, List, NoMemory, Policy};
+use kad_base::{Addrs, Bytes, Contact, Contacts, Family, Id, List, NoMemory, Policy};
 use lookup_core::{AskKind, Lookup, Quest};
 use thiserror::Error;
 
 /// What a lookup is given. `own` is the node that asks; each of `paths` disjoint paths (S/Kademlia, section 4.4) has at
 /// most `alpha` queries open and ends when its `k` closest contacts have answered (Kademlia, section 2.3). `policy`
 /// says which reports may be believed, `timeout` how long to wait for an answer, in milliseconds, and `sealed` whether a
-/// reply has to carry a tag that the seal accepts.
+/// reply has to carry a tag that the seal accepts. `family` is the network, of which there are two apart (BEP 32): in that of
+/// IPv6 queries ask for contacts of IPv6, and of answers the parts with these are read.
 #[derive(Clone, Copy, Debug, PartialEq, Eq)]
 pub struct LookSetting {
     pub own: Id,
@@ -22,6 +23,7 @@ pub struct LookSetting {
     pub policy: Policy,
     pub timeout: u32,
     pub kind: AskKind,
+    pub family: Family,
     pub sealed: bool,
 }
 
@@ -49,6 +51,7 @@ impl LookSetting {
             target: self.target,
             policy: self.policy,
             kind: self.kind,
+            family: self.family,
             timeout: self.timeout,
             sealed: self.sealed,
         }

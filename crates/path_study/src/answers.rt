@@ -54,6 +54,8 @@ pub fn write_answer(
         id,
         nodes: Some(nodes),
         snodes: None,
+        nodes6: None,
+        snodes6: None,
         token: None,
         values: None,
     };

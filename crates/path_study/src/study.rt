@@ -13,7 +13,7 @@ use crate::words::StudySetting;
 use contact_table::{Table, TableCall, holds_what_it_was_told};
 use id_puzzles::{Sha1Check, Words};
 use kad_base::limits::{DEFAULT_TIMEOUT, MAX_ALPHA, MAX_K, MAX_PATHS};
-use kad_base::{Contact, Id, NoMemory, Policy, Serial, is_usable};
+use kad_base::{Contact, Family, Id, NoMemory, Policy, Serial, is_usable};
 use kad_distance::k_least;
 use lookup_run::{AskKind, LookSetting, Outcome, look_up_alone};
 use seal_tags::GroupSeal;
@@ -140,6 +140,7 @@ fn look_setting(setting: &StudySetting, own: Id, target: Id) -> Option<LookSetti
         policy: Policy::Plain,
         timeout: DEFAULT_TIMEOUT,
         kind: AskKind::FindNode,
+        family: Family::Four,
         sealed: false,
     })
 }
