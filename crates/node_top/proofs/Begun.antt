@@ -3,6 +3,7 @@ use Rattle.std.proofs.Common.{◌≡◌, ◌≢◌, ℕ, List, [], ◌∷◌, le
 use Rattle.std.specs.Prelude.{false, map, IfOk, IfErr}
 use Rattle.std.specs.List.{All}
 use Rattle.std.proofs.lemmas.List.Elements.{All-cons, All-nil}
+use Rattle.kad_base.specs.declared.types.Family.{Family}
 use Rattle.kad_base.specs.declared.types.Id.{Id}
 use Rattle.kad_base.specs.declared.types.Contact.{Contact}
 use Rattle.kad_base.specs.declared.types.Report.{Report}
@@ -37,12 +38,12 @@ use Rattle.node_top.specs.Looked.{printed_of, LookupBegun, EndsByLastStray, Meet
 use Rattle.node_top.proofs.Starting.{usable_told}
 use Rattle.node_top.specs.Called.{Called}
 
-pub admits_usable : (own : Id) (policy : Policy) (rs : List Report) (cs : List Contact) → Admits own policy rs cs → All (IsUsable own) cs
-admits_usable own policy [] cs h = subst (All (IsUsable own)) (sym h) (All-nil (IsUsable own))
-admits_usable own policy (r ∷ rs) cs h =
+pub admits_usable : (own : Id) (family : Family) (policy : Policy) (rs : List Report) (cs : List Contact) → Admits own family policy rs cs → All (IsUsable own) cs
+admits_usable own family policy [] cs h = subst (All (IsUsable own)) (sym h) (All-nil (IsUsable own))
+admits_usable own family policy (r ∷ rs) cs h =
     elim h [
-      | inl a ↦ subst (All (IsUsable own)) (sym a.1) (All-cons (IsUsable own) r.contact a.0 a.2.0 (admits_usable own policy rs a.0 a.3))
-      | inr b ↦ admits_usable own policy rs cs b.1
+      | inl a ↦ subst (All (IsUsable own)) (sym a.1) (All-cons (IsUsable own) r.contact a.0 a.2.0 (admits_usable own family policy rs a.0 a.3))
+      | inr b ↦ admits_usable own family policy rs cs b.1
     ]
 
 pub within_limits : (kind : AskKind) (look : LookWords) (random : List ℕ) → IsInRange look → IsWithinLimits (look_of kind look random)
@@ -76,12 +77,12 @@ pub record Has (kind : AskKind) (look : LookWords) (random : List ℕ) (source :
   pub words_are : words ≡ drawn_of random
   pub range : IsInRange look
   pub contacts : List Contact
-  pub reads : Reads setting.own setting.policy source contacts
+  pub reads : Reads setting.own setting.family setting.policy source contacts
   pub some_one : contacts ≢ []
   pub told : TableTold (map seen_call contacts) (new_table setting.own look.k look.bits) table
 
 pub has : (kind : AskKind) (look : LookWords) (random : List ℕ) (source : Shown ℕ) (setting : LookSetting) (words : WordsState) (table : TableState) (contacts xs : List Contact) → setting ≡ look_of kind look random → words ≡ drawn_of random → IsInRange look
-    → Reads setting.own setting.policy source contacts → contacts ≢ [] → xs ≡ contacts → TableTold (map seen_call xs) (new_table setting.own look.k look.bits) table → Has kind look random source setting words table
+    → Reads setting.own setting.family setting.policy source contacts → contacts ≢ [] → xs ≡ contacts → TableTold (map seen_call xs) (new_table setting.own look.k look.bits) table → Has kind look random source setting words table
 has kind look random source setting words table contacts xs e f range reads some_one same told = record {
   setting_is = e;
   words_are = f;
@@ -95,7 +96,7 @@ has kind look random source setting words table contacts xs e f range reads some
 abbrev pub start_of : (kind : AskKind) (look : LookWords) (random : List ℕ) (source : Shown ℕ) (setting : LookSetting) (words : WordsState) (table : TableState) → Has kind look random source setting words table → Start look random source
 start_of kind look random source setting words table h = record {
   contacts = h.contacts;
-  reads = subst (λ (s : LookSetting). Reads s.own s.policy source h.contacts) h.setting_is h.reads;
+  reads = subst (λ (s : LookSetting). Reads s.own s.family s.policy source h.contacts) h.setting_is h.reads;
   some_one = h.some_one;
   table = table;
   told = subst (λ (s : LookSetting). TableTold (map seen_call h.contacts) (new_table s.own look.k look.bits) table) h.setting_is h.told;

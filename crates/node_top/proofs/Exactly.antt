@@ -1,6 +1,7 @@
 -- What may be seen of an input and a link has one reading, so that causes keep each other out.
 use Rattle.std.proofs.Common.{◌≡◌, ◌≢◌, ℕ, ◌+◌, ◌≤◌, List, [], ◌∷◌, ◌++◌, length, Option, Some, None, inl, inr, refl, sym, ap, subst, ◌∙◌, arith}
 use Rattle.std.proofs.lemmas.List.{append-nil, append_cancel_left, length-append}
+use Rattle.kad_base.specs.declared.types.Family.{Family}
 use Rattle.kad_base.specs.declared.types.Id.{Id}
 use Rattle.kad_base.specs.declared.types.Contact.{Contact}
 use Rattle.kad_base.specs.declared.types.Report.{Report}
@@ -72,25 +73,25 @@ unread_not_bad source told same bad =
 
 -- ---- what it gives
 
-admits_once : (own : Id) (policy : Policy) (rs : List Report) (xs ys : List Contact) → Admits own policy rs xs → Admits own policy rs ys → xs ≡ ys
-admits_once own policy [] xs ys s t = s ∙ sym t
-admits_once own policy (r ∷ rs) xs ys s t =
+admits_once : (own : Id) (family : Family) (policy : Policy) (rs : List Report) (xs ys : List Contact) → Admits own family policy rs xs → Admits own family policy rs ys → xs ≡ ys
+admits_once own family policy [] xs ys s t = s ∙ sym t
+admits_once own family policy (r ∷ rs) xs ys s t =
     elim s [
       | inl a ↦ elim t [
-        | inl b ↦ a.1 ∙ ap (λ l. r.contact ∷ l) (admits_once own policy rs a.0 b.0 a.3 b.3) ∙ sym b.1
+        | inl b ↦ a.1 ∙ ap (λ l. r.contact ∷ l) (admits_once own family policy rs a.0 b.0 a.3 b.3) ∙ sym b.1
         | inr b ↦ absurd (b.0 a.2)
       ]
       | inr a ↦ elim t [
         | inl b ↦ absurd (a.0 b.2)
-        | inr b ↦ admits_once own policy rs xs ys a.1 b.1
+        | inr b ↦ admits_once own family policy rs xs ys a.1 b.1
       ]
     ]
 
-reads_once : (own : Id) (policy : Policy) (source : Shown ℕ) (xs ys : List Contact) → source.after ≢ None → Reads own policy source xs → Reads own policy source ys → xs ≡ ys
-reads_once own policy source xs ys told s t =
+reads_once : (own : Id) (family : Family) (policy : Policy) (source : Shown ℕ) (xs ys : List Contact) → source.after ≢ None → Reads own family policy source xs → Reads own family policy source ys → xs ≡ ys
+reads_once own family policy source xs ys told s t =
     let same = input_once source.before source.after s.input t.input told s.read t.read in
     let one = reading_once (lines t.input) s.reports t.reports (subst (λ l. Reporting (lines l) s.reports) same s.good_lines) t.good_lines in
-    admits_once own policy t.reports xs ys (subst (λ rs. Admits own policy rs xs) one s.admits) t.admits
+    admits_once own family policy t.reports xs ys (subst (λ rs. Admits own family policy rs xs) one s.admits) t.admits
 
 pub lists_not_bad : (source : Shown ℕ) (reports : List Report) → source.after ≢ None → Lists source reports → HasBadLine source → ⊥
 lists_not_bad source reports told s bad =
@@ -98,8 +99,8 @@ lists_not_bad source reports told s bad =
     read_or_bad (lines bad.1.input) reports bad.0 (subst (λ l. Reporting (lines l) reports) same s.good_lines) bad.1.first_bad
 
 -- whatever contacts it gives, its lines are good
-pub reads_good : (own : Id) (policy : Policy) (source : Shown ℕ) (contacts : List Contact) → Reads own policy source contacts → IsGood source
-reads_good own policy source contacts r = record { reports = r.reports; lists = record { input = r.input; read = r.read; good_lines = r.good_lines } }
+pub reads_good : (own : Id) (family : Family) (policy : Policy) (source : Shown ℕ) (contacts : List Contact) → Reads own family policy source contacts → IsGood source
+reads_good own family policy source contacts r = record { reports = r.reports; lists = record { input = r.input; read = r.read; good_lines = r.good_lines } }
 
 pub good_not_bad : (source : Shown ℕ) → source.after ≢ None → IsGood source → HasBadLine source → ⊥
 good_not_bad source told good bad = lists_not_bad source good.reports told good.lists bad
@@ -108,12 +109,12 @@ pub good_few : (source : Shown ℕ) → IsGood source → ReadsFew source.before
 good_few source good = all_few source.before source.after good.lists.input good.lists.read
 
 -- it gives a contact or none
-pub some_not_none : (own : Id) (policy : Policy) (source : Shown ℕ) → source.after ≢ None → ReadsSome own policy source → Reads own policy source [] → ⊥
-some_not_none own policy source told some_ none_ = some_.some_one (reads_once own policy source some_.contacts [] told some_.reads none_)
+pub some_not_none : (own : Id) (family : Family) (policy : Policy) (source : Shown ℕ) → source.after ≢ None → ReadsSome own family policy source → Reads own family policy source [] → ⊥
+some_not_none own family policy source told some_ none_ = some_.some_one (reads_once own family policy source some_.contacts [] told some_.reads none_)
 
 pub none_good : (sought : Option Sought) (random : List ℕ) (source : Shown ℕ) → GivesNoSeeds sought random source → IsGood source
 none_good None random source n = absurd n
-none_good (Some sought) random source n = reads_good (own_of sought.look.own random) sought.look.policy source [] n
+none_good (Some sought) random source n = reads_good (own_of sought.look.own random) sought.look.family sought.look.policy source [] n
 
 -- ---- whether the last stray came
 

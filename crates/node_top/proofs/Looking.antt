@@ -15,7 +15,7 @@ use Rattle.node_top.proofs.Staged.{Behind, reading_lawful}
 use Rattle.node_top.specs.Called.{Called}
 
 module _ (sought : Sought) (called : Called) (source : Shown ℕ) (link : Shown Event) where
-  start_seeds : Start sought.look called.random source → ReadsSome (own_of sought.look.own called.random) sought.look.policy source
+  start_seeds : Start sought.look called.random source → ReadsSome (own_of sought.look.own called.random) sought.look.family sought.look.policy source
   start_seeds s = record { contacts = s.contacts; reads = s.reads; some_one = s.some_one }
 
   well : SeeksWell sought called source link → ReadsWell source
@@ -29,7 +29,7 @@ module _ (sought : Sought) (called : Called) (source : Shown ℕ) (link : Shown 
   needed : (s : Status) → SeeksWell sought called source link → ¬ SeekCause sought.kind sought.look called source link s
   needed LinkFault n c = n.hears c.0
   needed Strays n c = n.few_strays c.0
-  needed NoSeeds n c = some_not_none (own_of sought.look.own called.random) sought.look.policy source n.told n.seeds c
+  needed NoSeeds n c = some_not_none (own_of sought.look.own called.random) sought.look.family sought.look.policy source n.told n.seeds c
   needed other n c = c
 
   in_ends : (s : Status) → SeekCause sought.kind sought.look called source link s → IsOneOf (4 ∷ 7 ∷ 8 ∷ []) (number_of s)
@@ -45,20 +45,20 @@ module _ (sought : Sought) (text : Called → Shown ℕ → Shown Event → List
   behind : (called : Called) (source : Shown ℕ) (link : Shown Event) (s : Status) → SeekCause sought.kind sought.look called source link s → Behind (seek_aim sought text begun) called source link s
   behind called source link LinkFault c =
       let seeds = start_seeds sought called source link c.1.start in (
-        reads_good (own_of sought.look.own called.random) sought.look.policy source seeds.contacts seeds.reads,
+        reads_good (own_of sought.look.own called.random) sought.look.family sought.look.policy source seeds.contacts seeds.reads,
         (c.0, seeds, begins called source link c.1, c.2),
-        λ told none_. absurd (some_not_none (own_of sought.look.own called.random) sought.look.policy source told seeds none_),
+        λ told none_. absurd (some_not_none (own_of sought.look.own called.random) sought.look.family sought.look.policy source told seeds none_),
         λ told early last. absurd (few_not_last sought called link told c.2.never last),
       )
   behind called source link Strays c =
       let seeds = start_seeds sought called source link c.1.start in (
-        reads_good (own_of sought.look.own called.random) sought.look.policy source seeds.contacts seeds.reads,
+        reads_good (own_of sought.look.own called.random) sought.look.family sought.look.policy source seeds.contacts seeds.reads,
         (c.0, seeds, begins called source link c.1),
-        λ told none_. absurd (some_not_none (own_of sought.look.own called.random) sought.look.policy source told seeds none_),
+        λ told none_. absurd (some_not_none (own_of sought.look.own called.random) sought.look.family sought.look.policy source told seeds none_),
         λ told early last. inl refl,
       )
   behind called source link NoSeeds c = (
-    reads_good (own_of sought.look.own called.random) sought.look.policy source [] c,
+    reads_good (own_of sought.look.own called.random) sought.look.family sought.look.policy source [] c,
     c,
     λ told none_. inl refl,
     λ told early last. absurd (uncalled_not_last (Some sought) called link told (early (inr (inr (inr (inl refl))))) last),
@@ -67,8 +67,8 @@ module _ (sought : Sought) (text : Called → Shown ℕ → Shown Event → List
 
   pub seeking_lawful : Lawful (reading (seek_aim sought text begun))
   seeking_lawful = reading_lawful (seek_aim sought text begun) (record {
-    good = λ called source link written x. let s = starts called source link written x in reads_good (own_of sought.look.own called.random) sought.look.policy source s.contacts s.reads;
-    seeded = λ called source link written told x none_. some_not_none (own_of sought.look.own called.random) sought.look.policy source told (start_seeds sought called source link (starts called source link written x)) none_;
+    good = λ called source link written x. let s = starts called source link written x in reads_good (own_of sought.look.own called.random) sought.look.family sought.look.policy source s.contacts s.reads;
+    seeded = λ called source link written told x none_. some_not_none (own_of sought.look.own called.random) sought.look.family sought.look.policy source told (start_seeds sought called source link (starts called source link written x)) none_;
     few = λ called source link written told x last. few_not_last sought called link told (few called source link written x) last;
     behind = λ called source link s c. behind called source link s c;
     well = λ called source link n. well sought called source link n;

@@ -2,6 +2,7 @@
 use Rattle.std.proofs.Common.{◌≡◌, ℕ, ◌+◌, ◌-◌, ◌<◌, List, [], ◌∷◌, ◌++◌, length, take, drop, get_or, Option, Some, None, inl, inr, refl, sym, ap, subst, ◌∙◌}
 use Rattle.std.proofs.lemmas.List.{take-append-drop, append-nil, length-drop, take_more}
 use Rattle.std.proofs.Math.Seq.{take-length}
+use Rattle.kad_base.specs.declared.types.Family.{Family}
 use Rattle.kad_base.specs.Limits.{max_input}
 use Rattle.kad_base.specs.declared.types.Id.{Id}
 use Rattle.kad_base.specs.declared.types.Contact.{Contact}
@@ -24,51 +25,51 @@ too_much a None front h long = tt
 too_much a (Some rest) front h long = (front, long, h)
 
 -- one report more
-pub admits_more : (own : Id) (policy : Policy) (rs : List Report) (cs : List Contact) (r : Report) → Admits own policy rs cs → IsAdmitted own policy r → Admits own policy (rs ++ r ∷ []) (cs ++ r.contact ∷ [])
-admits_more own policy [] cs r h ok = inl ([], ap (λ l. l ++ r.contact ∷ []) h, ok, refl)
-admits_more own policy (x ∷ rs) cs r h ok =
+pub admits_more : (own : Id) (family : Family) (policy : Policy) (rs : List Report) (cs : List Contact) (r : Report) → Admits own family policy rs cs → IsAdmitted own family policy r → Admits own family policy (rs ++ r ∷ []) (cs ++ r.contact ∷ [])
+admits_more own family policy [] cs r h ok = inl ([], ap (λ l. l ++ r.contact ∷ []) h, ok, refl)
+admits_more own family policy (x ∷ rs) cs r h ok =
     elim h [
-      | inl a ↦ inl (a.0 ++ r.contact ∷ [], ap (λ l. l ++ r.contact ∷ []) a.1, a.2, admits_more own policy rs a.0 r a.3 ok)
-      | inr b ↦ inr (b.0, admits_more own policy rs cs r b.1 ok)
+      | inl a ↦ inl (a.0 ++ r.contact ∷ [], ap (λ l. l ++ r.contact ∷ []) a.1, a.2, admits_more own family policy rs a.0 r a.3 ok)
+      | inr b ↦ inr (b.0, admits_more own family policy rs cs r b.1 ok)
     ]
 
-pub admits_not : (own : Id) (policy : Policy) (rs : List Report) (cs : List Contact) (r : Report) → Admits own policy rs cs → ¬ IsAdmitted own policy r → Admits own policy (rs ++ r ∷ []) cs
-admits_not own policy [] cs r h n = inr (n, h)
-admits_not own policy (x ∷ rs) cs r h n =
+pub admits_not : (own : Id) (family : Family) (policy : Policy) (rs : List Report) (cs : List Contact) (r : Report) → Admits own family policy rs cs → ¬ IsAdmitted own family policy r → Admits own family policy (rs ++ r ∷ []) cs
+admits_not own family policy [] cs r h n = inr (n, h)
+admits_not own family policy (x ∷ rs) cs r h n =
     elim h [
-      | inl a ↦ inl (a.0, a.1, a.2, admits_not own policy rs a.0 r a.3 n)
-      | inr b ↦ inr (b.0, admits_not own policy rs cs r b.1 n)
+      | inl a ↦ inl (a.0, a.1, a.2, admits_not own family policy rs a.0 r a.3 n)
+      | inr b ↦ inr (b.0, admits_not own family policy rs cs r b.1 n)
     ]
 
-pub admits_one : (own : Id) (policy : Policy) (rs : List Report) (i : ℕ) (d : Report) (old new : List Contact) → i < length rs → Admits own policy (take i rs) old → AdmitsOne own policy (get_or rs i d) old new → Admits own policy (take (i + 1) rs) new
-admits_one own policy rs i d old new lt h one =
-    subst (λ l. Admits own policy l new) (sym (take_more rs i d lt))
+pub admits_one : (own : Id) (family : Family) (policy : Policy) (rs : List Report) (i : ℕ) (d : Report) (old new : List Contact) → i < length rs → Admits own family policy (take i rs) old → AdmitsOne own family policy (get_or rs i d) old new → Admits own family policy (take (i + 1) rs) new
+admits_one own family policy rs i d old new lt h one =
+    subst (λ l. Admits own family policy l new) (sym (take_more rs i d lt))
     (elim one [
-      | inl a ↦ subst (λ l. Admits own policy (take i rs ++ get_or rs i d ∷ []) l) (sym a.1) (admits_more own policy (take i rs) old (get_or rs i d) h a.0)
-      | inr b ↦ subst (λ l. Admits own policy (take i rs ++ get_or rs i d ∷ []) l) (sym b.1) (admits_not own policy (take i rs) old (get_or rs i d) h b.0)
+      | inl a ↦ subst (λ l. Admits own family policy (take i rs ++ get_or rs i d ∷ []) l) (sym a.1) (admits_more own family policy (take i rs) old (get_or rs i d) h a.0)
+      | inr b ↦ subst (λ l. Admits own family policy (take i rs ++ get_or rs i d ∷ []) l) (sym b.1) (admits_not own family policy (take i rs) old (get_or rs i d) h b.0)
     ])
 
 -- the same of the reports that are kept
-keeps_more : (own : Id) (policy : Policy) (rs kept : List Report) (r : Report) → Keeps own policy rs kept → IsKept own policy r → Keeps own policy (rs ++ r ∷ []) (kept ++ r ∷ [])
-keeps_more own policy [] kept r h ok = inl ([], ap (λ (l : List Report). l ++ r ∷ []) h, ok, refl)
-keeps_more own policy (x ∷ rs) kept r h ok =
+keeps_more : (own : Id) (family : Family) (policy : Policy) (rs kept : List Report) (r : Report) → Keeps own family policy rs kept → IsKept own family policy r → Keeps own family policy (rs ++ r ∷ []) (kept ++ r ∷ [])
+keeps_more own family policy [] kept r h ok = inl ([], ap (λ (l : List Report). l ++ r ∷ []) h, ok, refl)
+keeps_more own family policy (x ∷ rs) kept r h ok =
     elim h [
-      | inl a ↦ inl (a.0 ++ r ∷ [], ap (λ (l : List Report). l ++ r ∷ []) a.1, a.2, keeps_more own policy rs a.0 r a.3 ok)
-      | inr b ↦ inr (b.0, keeps_more own policy rs kept r b.1 ok)
+      | inl a ↦ inl (a.0 ++ r ∷ [], ap (λ (l : List Report). l ++ r ∷ []) a.1, a.2, keeps_more own family policy rs a.0 r a.3 ok)
+      | inr b ↦ inr (b.0, keeps_more own family policy rs kept r b.1 ok)
     ]
 
-keeps_not : (own : Id) (policy : Policy) (rs kept : List Report) (r : Report) → Keeps own policy rs kept → ¬ IsKept own policy r → Keeps own policy (rs ++ r ∷ []) kept
-keeps_not own policy [] kept r h n = inr (n, h)
-keeps_not own policy (x ∷ rs) kept r h n =
+keeps_not : (own : Id) (family : Family) (policy : Policy) (rs kept : List Report) (r : Report) → Keeps own family policy rs kept → ¬ IsKept own family policy r → Keeps own family policy (rs ++ r ∷ []) kept
+keeps_not own family policy [] kept r h n = inr (n, h)
+keeps_not own family policy (x ∷ rs) kept r h n =
     elim h [
-      | inl a ↦ inl (a.0, a.1, a.2, keeps_not own policy rs a.0 r a.3 n)
-      | inr b ↦ inr (b.0, keeps_not own policy rs kept r b.1 n)
+      | inl a ↦ inl (a.0, a.1, a.2, keeps_not own family policy rs a.0 r a.3 n)
+      | inr b ↦ inr (b.0, keeps_not own family policy rs kept r b.1 n)
     ]
 
-pub keeps_one : (own : Id) (policy : Policy) (rs : List Report) (i : ℕ) (d : Report) (old new : List Report) → i < length rs → Keeps own policy (take i rs) old → KeepsOne own policy (get_or rs i d) old new → Keeps own policy (take (i + 1) rs) new
-keeps_one own policy rs i d old new lt h one =
-    subst (λ l. Keeps own policy l new) (sym (take_more rs i d lt))
+pub keeps_one : (own : Id) (family : Family) (policy : Policy) (rs : List Report) (i : ℕ) (d : Report) (old new : List Report) → i < length rs → Keeps own family policy (take i rs) old → KeepsOne own family policy (get_or rs i d) old new → Keeps own family policy (take (i + 1) rs) new
+keeps_one own family policy rs i d old new lt h one =
+    subst (λ l. Keeps own family policy l new) (sym (take_more rs i d lt))
     (elim one [
-      | inl a ↦ subst (λ l. Keeps own policy (take i rs ++ get_or rs i d ∷ []) l) (sym a.1) (keeps_more own policy (take i rs) old (get_or rs i d) h a.0)
-      | inr b ↦ subst (λ l. Keeps own policy (take i rs ++ get_or rs i d ∷ []) l) (sym b.1) (keeps_not own policy (take i rs) old (get_or rs i d) h b.0)
+      | inl a ↦ subst (λ l. Keeps own family policy (take i rs ++ get_or rs i d ∷ []) l) (sym a.1) (keeps_more own family policy (take i rs) old (get_or rs i d) h a.0)
+      | inr b ↦ subst (λ l. Keeps own family policy (take i rs ++ get_or rs i d ∷ []) l) (sym b.1) (keeps_not own family policy (take i rs) old (get_or rs i d) h b.0)
     ])

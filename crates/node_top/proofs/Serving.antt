@@ -4,6 +4,8 @@ use Rattle.std.specs.Prelude.{map, codes, decimal, Result, Err}
 use Rattle.std.specs.List.{All}
 use Rattle.std.proofs.lemmas.List.{append_assoc}
 use Rattle.std.proofs.lemmas.List.Elements.{All-cons, All-nil}
+use Rattle.kad_base.specs.declared.types.Family.TheVariants.{Four}
+use Rattle.kad_base.specs.declared.types.Family.{Family}
 use Rattle.kad_base.specs.declared.types.Contact.{Contact}
 use Rattle.kad_base.specs.declared.types.Event.{Event}
 use Rattle.kad_base.specs.declared.types.Event.TheVariants.{Now}
@@ -63,14 +65,14 @@ served_some service called table proofs node began a b c begins g h =
 
 -- what it begins with, as the code has it
 pub hosted : (service : Service) (random : List ℕ) (source : Shown ℕ) (own : Id) (reports read : List Report) (contacts cs : List Contact) (proofs : List Report) (table : TableState) → own ≡ own_of service.own random → Lists source reports → read ≡ reports
-    → Admits own service.policy read contacts → Keeps own service.policy read proofs → cs ≡ contacts → TableTold (map seen_call cs) (new_table own service.k service.bits) table → Hosts service random source table proofs
+    → Admits own Four service.policy read contacts → Keeps own Four service.policy read proofs → cs ≡ contacts → TableTold (map seen_call cs) (new_table own service.k service.bits) table → Hosts service random source table proofs
 hosted service random source own reports read contacts cs proofs table mine lists is admits keeps same told = record {
   reports = reports;
   lists = lists;
   contacts = contacts;
-  admits = subst (λ (id : Id). Admits id service.policy reports contacts) mine (subst (λ (l : List Report). Admits own service.policy l contacts) is admits);
+  admits = subst (λ (id : Id). Admits id Four service.policy reports contacts) mine (subst (λ (l : List Report). Admits own Four service.policy l contacts) is admits);
   told = subst (λ (id : Id). TableTold (map seen_call contacts) (new_table id service.k service.bits) table) mine (subst (λ (l : List Contact). TableTold (map seen_call l) (new_table own service.k service.bits) table) same told);
-  keeps = subst (λ (id : Id). Keeps id service.policy reports proofs) mine (subst (λ (l : List Report). Keeps own service.policy l proofs) is keeps);
+  keeps = subst (λ (id : Id). Keeps id Four service.policy reports proofs) mine (subst (λ (l : List Report). Keeps own Four service.policy l proofs) is keeps);
 }
 
 -- how it ends where its receive calls stop
@@ -96,12 +98,12 @@ unread_cause begun source link LinkFault h = absurd h
 unread_cause begun source link other h = h
 
 -- the kept reports pass
-pub kept_pass : (own : Id) (policy : Policy) (rs kept : List Report) → Keeps own policy rs kept → All (Passes policy) kept
-kept_pass own policy [] kept h = subst (All (Passes policy)) (sym h) (All-nil (Passes policy))
-kept_pass own policy (r ∷ rs) kept h =
+pub kept_pass : (own : Id) (family : Family) (policy : Policy) (rs kept : List Report) → Keeps own family policy rs kept → All (Passes policy) kept
+kept_pass own family policy [] kept h = subst (All (Passes policy)) (sym h) (All-nil (Passes policy))
+kept_pass own family policy (r ∷ rs) kept h =
     elim h [
-      | inl a ↦ subst (All (Passes policy)) (sym a.1) (All-cons (Passes policy) r a.0 a.2.1.1 (kept_pass own policy rs a.0 a.3))
-      | inr b ↦ kept_pass own policy rs kept b.1
+      | inl a ↦ subst (All (Passes policy)) (sym a.1) (All-cons (Passes policy) r a.0 a.2.1.1 (kept_pass own family policy rs a.0 a.3))
+      | inr b ↦ kept_pass own family policy rs kept b.1
     ]
 
 pub served_pieces : (received replied : ℕ) → codes "received " ++ (decimal received ++ (codes " replied " ++ decimal replied)) ≡ served_text received replied

@@ -3,6 +3,7 @@ use Rattle.std.proofs.Common.{◌≡◌, ℕ, List, [], ◌++◌, length, Option
 use Rattle.std.specs.Prelude.{min, map, codes, decimal, IfSome}
 use Rattle.std.specs.List.{All}
 use Rattle.std.proofs.lemmas.List.{append_assoc}
+use Rattle.kad_base.specs.declared.types.Family.TheVariants.{Four}
 use Rattle.kad_base.specs.declared.types.Id.{Id}
 use Rattle.kad_base.specs.declared.types.Contact.{Contact}
 use Rattle.kad_base.specs.declared.types.Report.{Report}
@@ -64,7 +65,7 @@ look_range s net target look h e = subst IsInRange (sym e) (record {
 pub begins : (s : Simulation) (net : Network) (target : Id) (look : LookWords) (setting : LookSetting) (near : List Contact) (count : ℕ) (reports : List Report) (contacts xs : List Contact) (table : TableState)
     → net ≡ network_of s → target ≡ target_of net.seed → look ≡ look_to target s → setting ≡ look_of FindNode look s.seed
     → near ≡ k_closest setting.target look.k (honest net) → count ≡ min s.nodes s.k → reports ≡ map (report_of net.seed) (numbers count)
-    → Admits setting.own setting.policy reports contacts → xs ≡ contacts → TableTold (map seen_call xs) (new_table setting.own look.k look.bits) table
+    → Admits setting.own setting.family setting.policy reports contacts → xs ≡ contacts → TableTold (map seen_call xs) (new_table setting.own look.k look.bits) table
     → Begins s (record { setting = setting; table = table; near = near })
 begins s net target look setting near count reports contacts xs table e_net e_target e_look e_setting e_near e_count e_reports admits same told =
     let look_is : look ≡ sim_look s = e_look ∙ ap (λ (t : Id). look_to t s) (e_target ∙ ap (λ (n : Network). target_of n.seed) e_net) in
@@ -78,7 +79,7 @@ begins s net target look setting near count reports contacts xs table e_net e_ta
           ∙ ap (λ (l : LookWords). k_closest (target_of s.seed) l.k (honest net)) look_is
           ∙ ap (λ (n : Network). k_closest (target_of s.seed) s.k (honest n)) e_net;
       contacts = contacts;
-      admits = subst (λ (st : LookSetting). Admits st.own st.policy (first_nodes s) contacts) setting_is (subst (λ (l : List Report). Admits setting.own setting.policy l contacts) reports_are admits);
+      admits = subst (λ (st : LookSetting). Admits st.own st.family st.policy (first_nodes s) contacts) setting_is (subst (λ (l : List Report). Admits setting.own setting.family setting.policy l contacts) reports_are admits);
       told =
           subst (λ (l : List Contact). StartsWith (sim_look s) s.seed l table) same
           (subst (λ (st : LookSetting). TableTold (map seen_call xs) (new_table st.own s.k 1) table) setting_is
@@ -95,7 +96,7 @@ sim_usable s start b =
     (usable_told own s.k 1 b.contacts start.table (admits_usable own Plain (first_nodes s) b.contacts b.admits) b.told)
 
 simulates_at : (s : Simulation) (left : WordsState) (contacts : List Contact) (table : TableState) (near : List Contact) (o : Outcome) (events : List Event) (text : List ℕ)
-    → Admits (own_of None s.seed) Plain (first_nodes s) contacts → StartsWith (sim_look s) s.seed contacts table → near ≡ sought_in s → Plays (network_of s) events
+    → Admits (own_of None s.seed) Four Plain (first_nodes s) contacts → StartsWith (sim_look s) s.seed contacts table → near ≡ sought_in s → Plays (network_of s) events
     → Finished (look_of FindNode (sim_look s) s.seed) (sim_called s).accepts table (drawn_of s.seed) left (Some []) (Some events) o
     → Grows (Some []) (Some events) (λ events. Rounds sequential (lookup_of FindNode (sim_look s) (sim_called s)) o.journal events)
     → text ≡ line_of (sim_text (length o.found) o.counts.asked o.counts.failed o.counts.turned (count_among near o.found)) → SimText s text

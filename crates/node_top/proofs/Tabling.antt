@@ -2,6 +2,7 @@
 use Rattle.std.proofs.Common.{◌≡◌, ℕ, ◌≤◌, List, [], ◌∷◌, Option, sym, subst}
 use Rattle.std.specs.Prelude.{All, map}
 use Rattle.std.proofs.lemmas.List.Elements.{All-cons, All-head, All-nil, All-tail}
+use Rattle.kad_base.specs.declared.types.Family.TheVariants.{Four}
 use Rattle.kad_base.specs.declared.types.Contact.{Contact}
 use Rattle.kad_base.specs.declared.types.Id.{Id}
 use Rattle.kad_base.specs.declared.types.Policy.{Policy}
@@ -35,13 +36,13 @@ can_be_written saved s sound e =
 
 -- what it prints, as the code has it
 pub tabled : (own : Option Id) (k bits : ℕ) (policy : Policy) (random : List ℕ) (source : Shown ℕ) (id : Id) (reports read : List Report) (contacts cs : List Contact) (table : TableState) (text : List ℕ)
-    → id ≡ own_of own random → Lists source reports → read ≡ reports → Admits id policy read contacts → cs ≡ contacts → TableTold (map seen_call cs) (new_table id k bits) table → IsTextOf table text
+    → id ≡ own_of own random → Lists source reports → read ≡ reports → Admits id Four policy read contacts → cs ≡ contacts → TableTold (map seen_call cs) (new_table id k bits) table → IsTextOf table text
     → TableText own k bits policy random source text
 tabled own k bits policy random source id reports read contacts cs table text mine lists is admits same told printed = record {
   reports = reports;
   lists = lists;
   contacts = contacts;
-  admits = subst (λ (i : Id). Admits i policy reports contacts) mine (subst (λ (l : List Report). Admits id policy l contacts) is admits);
+  admits = subst (λ (i : Id). Admits i Four policy reports contacts) mine (subst (λ (l : List Report). Admits id Four policy l contacts) is admits);
   table = table;
   told = subst (λ (i : Id). TableTold (map seen_call contacts) (new_table i k bits) table) mine (subst (λ (l : List Contact). TableTold (map seen_call l) (new_table id k bits) table) same told);
   printed = printed;

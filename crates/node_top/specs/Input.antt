@@ -1,10 +1,11 @@
 -- What was read of an input, and the contacts that it gives.
-use Rattle.std.specs.Prelude.{◌≡◌, ◌≢◌, ◌⊎◌, ℕ, ◌+◌, ◌≤◌, List, [], ◌∷◌, ◌++◌, length, Option, Some, None, IfSome}
+use Rattle.std.specs.Prelude.{◌≡◌, ◌≢◌, ◌⊎◌, ℕ, ◌+◌, ◌≤◌, List, [], ◌∷◌, ◌++◌, length, true, Option, Some, None, IfSome}
 use Rattle.kad_base.specs.declared.types.Id.{Id}
 use Rattle.kad_base.specs.declared.types.Contact.{Contact}
 use Rattle.kad_base.specs.declared.types.Report.{Report}
 use Rattle.kad_base.specs.declared.types.Policy.{Policy}
-use Rattle.kad_base.specs.Contacts.{IsUsable}
+use Rattle.kad_base.specs.declared.types.Family.{Family}
+use Rattle.kad_base.specs.Contacts.{IsUsable, of_family}
 use Rattle.kad_base.specs.Limits.{max_input}
 use Rattle.kad_base.specs.Puzzles.{Passes}
 use Rattle.node_top.specs.Lines.{lines, Reporting, IsFirstBad}
@@ -22,35 +23,35 @@ ReadsFew old new = IfSome new (λ rest. (front : List ℕ) × (length front ≤ 
 abbrev pub ReadsTooMuch : Option (List ℕ) → Option (List ℕ) → Type 0
 ReadsTooMuch old new = IfSome new (λ rest. (front : List ℕ) × (length front ≡ max_input + 1) × (old ≡ Some (front ++ rest)))
 
--- the report's contact may begin a lookup: it is usable, and passes
-abbrev pub IsAdmitted : Id → Policy → Report → Type 0
-IsAdmitted own policy report = IsUsable own report.contact × Passes policy report
+-- the report's contact may begin a lookup in this network: it is usable, of the network, and passes
+abbrev pub IsAdmitted : Id → Family → Policy → Report → Type 0
+IsAdmitted own family policy report = IsUsable own report.contact × (of_family family report.contact.addr.ip ≡ true) × Passes policy report
 
 -- these are the contacts of the reports that are admitted, in order
-abbrev pub Admits : Id → Policy → List Report → List Contact → Type 0
-Admits own policy [] contacts = contacts ≡ []
-Admits own policy (r ∷ reports) contacts =
-    ((rest : List Contact) × (contacts ≡ r.contact ∷ rest) × IsAdmitted own policy r × Admits own policy reports rest)
-    ⊎ (¬ IsAdmitted own policy r × Admits own policy reports contacts)
+abbrev pub Admits : Id → Family → Policy → List Report → List Contact → Type 0
+Admits own family policy [] contacts = contacts ≡ []
+Admits own family policy (r ∷ reports) contacts =
+    ((rest : List Contact) × (contacts ≡ r.contact ∷ rest) × IsAdmitted own family policy r × Admits own family policy reports rest)
+    ⊎ (¬ IsAdmitted own family policy r × Admits own family policy reports contacts)
 
 -- one report more: its contact is taken, where it is admitted
-abbrev pub AdmitsOne : Id → Policy → Report → List Contact → List Contact → Type 0
-AdmitsOne own policy r old new = (IsAdmitted own policy r × (new ≡ old ++ r.contact ∷ [])) ⊎ (¬ IsAdmitted own policy r × (new ≡ old))
+abbrev pub AdmitsOne : Id → Family → Policy → Report → List Contact → List Contact → Type 0
+AdmitsOne own family policy r old new = (IsAdmitted own family policy r × (new ≡ old ++ r.contact ∷ [])) ⊎ (¬ IsAdmitted own family policy r × (new ≡ old))
 
 -- the report's contact may be told to a table, and the report has a proof
-abbrev pub IsKept : Id → Policy → Report → Type 0
-IsKept own policy report = (report.proof ≢ None) × IsAdmitted own policy report
+abbrev pub IsKept : Id → Family → Policy → Report → Type 0
+IsKept own family policy report = (report.proof ≢ None) × IsAdmitted own family policy report
 
 -- these are the reports that have a proof and whose contacts are admitted, in order
-abbrev pub Keeps : Id → Policy → List Report → List Report → Type 0
-Keeps own policy [] kept = kept ≡ []
-Keeps own policy (r ∷ reports) kept =
-    ((rest : List Report) × (kept ≡ r ∷ rest) × IsKept own policy r × Keeps own policy reports rest)
-    ⊎ (¬ IsKept own policy r × Keeps own policy reports kept)
+abbrev pub Keeps : Id → Family → Policy → List Report → List Report → Type 0
+Keeps own family policy [] kept = kept ≡ []
+Keeps own family policy (r ∷ reports) kept =
+    ((rest : List Report) × (kept ≡ r ∷ rest) × IsKept own family policy r × Keeps own family policy reports rest)
+    ⊎ (¬ IsKept own family policy r × Keeps own family policy reports kept)
 
 -- one report more: it is kept, or it is none of them
-abbrev pub KeepsOne : Id → Policy → Report → List Report → List Report → Type 0
-KeepsOne own policy r old new = (IsKept own policy r × (new ≡ old ++ r ∷ [])) ⊎ (¬ IsKept own policy r × (new ≡ old))
+abbrev pub KeepsOne : Id → Family → Policy → Report → List Report → List Report → Type 0
+KeepsOne own family policy r old new = (IsKept own family policy r × (new ≡ old ++ r ∷ [])) ⊎ (¬ IsKept own family policy r × (new ≡ old))
 
 -- the input was read to its end, each of its lines is good, and these are the reports of its contact lines, in order
 pub record Lists (source : Shown ℕ) (reports : List Report) : Type 0 where
@@ -62,19 +63,19 @@ pub record IsGood (source : Shown ℕ) : Type 0 where
   pub reports : List Report
   pub lists : Lists source reports
 
--- the input was read to its end, each of its lines is good, and a node with this identifier and policy admits these
--- contacts of it
-pub record Reads (own : Id) (policy : Policy) (source : Shown ℕ) (contacts : List Contact) : Type 0 where
+-- the input was read to its end, each of its lines is good, and a node with this identifier, network and policy admits
+-- these contacts of it
+pub record Reads (own : Id) (family : Family) (policy : Policy) (source : Shown ℕ) (contacts : List Contact) : Type 0 where
   pub input : List ℕ
   pub read : ReadsAll source.before source.after input
   pub reports : List Report
   pub good_lines : Reporting (lines input) reports
-  pub admits : Admits own policy reports contacts
+  pub admits : Admits own family policy reports contacts
 
 -- the same, and some contact is among them
-pub record ReadsSome (own : Id) (policy : Policy) (source : Shown ℕ) : Type 0 where
+pub record ReadsSome (own : Id) (family : Family) (policy : Policy) (source : Shown ℕ) : Type 0 where
   pub contacts : List Contact
-  pub reads : Reads own policy source contacts
+  pub reads : Reads own family policy source contacts
   pub some_one : contacts ≢ []
 
 -- the input was read to its end, and the line of this number is the first that is bad

@@ -4,6 +4,7 @@ use Rattle.std.specs.Prelude.{◌≡◌, ℕ, List, [], ◌∷◌, length, true,
 use Rattle.std.specs.List.{IsDistinct}
 use Rattle.kad_base.specs.declared.types.Id.{Id}
 use Rattle.kad_base.specs.declared.types.Policy.{Policy}
+use Rattle.kad_base.specs.declared.types.Family.{Family}
 use Rattle.kad_base.specs.declared.types.Event.{Event}
 use Rattle.kad_base.specs.Contacts.{same}
 use Rattle.kad_base.specs.Limits.{max_strays}
@@ -79,7 +80,7 @@ pub record MeetsFew (kind : AskKind) (look : LookWords) (called : Called) (sourc
 abbrev pub SeekCause : AskKind → LookWords → Called → Shown ℕ → Shown Event → Status → Type 0
 SeekCause kind look called source link LinkFault = HasFailed link × LookupBegun kind look called source link × MeetsFew kind look called source link
 SeekCause kind look called source link Strays = EndsByLastStray kind look called source link × LookupBegun kind look called source link
-SeekCause kind look called source link NoSeeds = Reads (own_of look.own called.random) look.policy source []
+SeekCause kind look called source link NoSeeds = Reads (own_of look.own called.random) look.family look.policy source []
 SeekCause kind look called source link other = ⊥
 
 -- why a lookup ended with no output
@@ -91,21 +92,21 @@ abbrev pub ReportsCause : Shown ℕ → Status → Type 0
 ReportsCause source status = ReadingCause (λ other. ⊥) source status
 
 -- why an input gave no contacts to begin with
-abbrev pub InputCause : Id → Policy → Shown ℕ → Status → Type 0
-InputCause own policy source NoSeeds = Reads own policy source []
-InputCause own policy source other = ReportsCause source other
+abbrev pub InputCause : Id → Family → Policy → Shown ℕ → Status → Type 0
+InputCause own family policy source NoSeeds = Reads own family policy source []
+InputCause own family policy source other = ReportsCause source other
 
 -- ---- what is looked up, if something is
 
--- the input was read to its end, its lines are good, and some give a contact that is usable and passes
+-- the input was read to its end, its lines are good, and some give a contact of the network that is usable and passes
 abbrev pub GivesSeeds : Option Sought → List ℕ → Shown ℕ → Type 0
 GivesSeeds None random source = ⊥
-GivesSeeds (Some sought) random source = ReadsSome (own_of sought.look.own random) sought.look.policy source
+GivesSeeds (Some sought) random source = ReadsSome (own_of sought.look.own random) sought.look.family sought.look.policy source
 
 -- the same, and none does
 abbrev pub GivesNoSeeds : Option Sought → List ℕ → Shown ℕ → Type 0
 GivesNoSeeds None random source = ⊥
-GivesNoSeeds (Some sought) random source = Reads (own_of sought.look.own random) sought.look.policy source []
+GivesNoSeeds (Some sought) random source = Reads (own_of sought.look.own random) sought.look.family sought.look.policy source []
 
 -- the link's events end with the last stray that the lookup takes, by a journal of its own
 abbrev pub MeetsLastStray : Option Sought → Called → Shown ℕ → Shown Event → Type 0
@@ -130,7 +131,7 @@ pub record SeeksWell (sought : Sought) (called : Called) (source : Shown ℕ) (l
   pub reads : ¬ HasFailed source
   pub hears : ¬ HasFailed link
   pub few_strays : ¬ EndsByLastStray sought.kind sought.look called source link
-  pub seeds : ReadsSome (own_of sought.look.own called.random) sought.look.policy source
+  pub seeds : ReadsSome (own_of sought.look.own called.random) sought.look.family sought.look.policy source
 
 -- what a command does that looks this up, by its text and by what it had done when it ended early
 abbrev pub seek_aim : Sought → (Called → Shown ℕ → Shown Event → List ℕ → Type 0) → (Called → Shown ℕ → Shown Event → Type 0) → Aim
@@ -140,7 +141,7 @@ seek_aim sought text begun = record {
   ends = 4 ∷ 7 ∷ 8 ∷ [];
   ranges = IsInRange sought.look;
   text = text;
-  started = λ called source. ReadsSome (own_of sought.look.own called.random) sought.look.policy source;
+  started = λ called source. ReadsSome (own_of sought.look.own called.random) sought.look.family sought.look.policy source;
   begun = begun;
   cause = λ called source link status. SeekCause sought.kind sought.look called source link status;
   needs = λ called source link. SeeksWell sought called source link;

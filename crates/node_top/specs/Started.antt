@@ -35,6 +35,7 @@ look_of kind look random = record {
   policy = look.policy;
   timeout = look.timeout;
   kind = kind;
+  family = look.family;
   sealed = look.sealed;
 }
 
@@ -80,7 +81,7 @@ StartsWith look random contacts table = TableTold (map seen_call contacts) (new_
 -- a lookup that the input gives a start: some contacts, and the table that was told of them
 pub record Start (look : LookWords) (random : List ℕ) (source : Shown ℕ) : Type 0 where
   pub contacts : List Contact
-  pub reads : Reads (own_of look.own random) look.policy source contacts
+  pub reads : Reads (own_of look.own random) look.family look.policy source contacts
   pub some_one : contacts ≢ []
   pub table : TableState
   pub told : StartsWith look random contacts table

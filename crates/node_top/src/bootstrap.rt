@@ -46,6 +46,7 @@ pub(crate) fn setting_for(kind: AskKind, look: &LookWords, random: &[u8; 32]) ->
         policy: look.policy,
         timeout: look.timeout,
         kind,
+        family: look.family,
         sealed: look.sealed,
     }
 }

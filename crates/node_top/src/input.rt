@@ -8,7 +8,8 @@ use crate::lines::{LinesFault, read_lines};
 use crate::status::Status;
 use kad_base::limits::MAX_INPUT;
 use kad_base::{
-    Bytes, Check, Contacts, Id, List, NoMemory, Policy, Report, Reports, Source, is_usable,
+    Bytes, Check, Contacts, Family, Id, List, NoMemory, Policy, Report, Reports, Source, is_of,
+    is_usable,
 };
 use std::alloc::Global;
 
@@ -48,82 +49,94 @@ pub(crate) fn read_reports<S: Source>(alloc: Global, source: &mut S) -> Result<R
     }
 }
 
-/// Whether the report's contact may begin a lookup.
-fn is_admitted<C: Check>(own: &Id, policy: Policy, check: &C, report: &Report) -> bool
-    ensures { IsTrue result ↔ IsAdmitted own.now policy report.now }
+/// Whether the report's contact may begin a lookup in this network.
+fn is_admitted<C: Check>(
+    own: &Id,
+    family: Family,
+    policy: Policy,
+    check: &C,
+    report: &Report,
+) -> bool
+    ensures { IsTrue result ↔ IsAdmitted own.now family policy report.now }
 {
-    is_usable(own, &report.contact) && check.check(policy, report)
+    is_usable(own, &report.contact)
+        && is_of(family, &report.contact.addr)
+        && check.check(policy, report)
 }
 
 /// Takes the report's contact, if it may begin a lookup.
 fn admit<C: Check>(
     contacts: &mut Contacts,
     own: &Id,
+    family: Family,
     policy: Policy,
     check: &C,
     report: &Report,
 ) -> Result<(), NoMemory>
-    ensures { OnOk result (AdmitsOne own.now policy report.now contacts.old contacts.new) }
+    ensures { OnOk result (AdmitsOne own.now family policy report.now contacts.old contacts.new) }
 {
-    if is_admitted(own, policy, check, report) {
+    if is_admitted(own, family, policy, check, report) {
         return contacts.push(report.contact);
     }
     Ok(())
 }
 
-/// The contacts of the reports that are usable and pass, in order.
+/// The contacts of the reports that are usable, of the network, and pass, in order.
 pub(crate) fn admitted<C: Check>(
     alloc: Global,
     own: &Id,
+    family: Family,
     policy: Policy,
     check: &C,
     reports: &[Report],
 ) -> Result<Contacts, NoMemory>
-    ensures { IfOk result (Admits own.now policy reports.now) }
+    ensures { IfOk result (Admits own.now family policy reports.now) }
 {
     let mut contacts = List::new(alloc);
     for report in reports {
-        admit(&mut contacts, own, policy, check, report)?;
+        admit(&mut contacts, own, family, policy, check, report)?;
     }
     Ok(contacts)
 }
 
 /// Whether the report has a proof, and its contact may be told to a table.
-fn is_kept<C: Check>(own: &Id, policy: Policy, check: &C, report: &Report) -> bool
-    ensures { IsTrue result ↔ IsKept own.now policy report.now }
+fn is_kept<C: Check>(own: &Id, family: Family, policy: Policy, check: &C, report: &Report) -> bool
+    ensures { IsTrue result ↔ IsKept own.now family policy report.now }
 {
-    report.proof.is_some() && is_admitted(own, policy, check, report)
+    report.proof.is_some() && is_admitted(own, family, policy, check, report)
 }
 
 /// Keeps the report, if it has a proof and its contact may be told to a table.
 fn keep<C: Check>(
     kept: &mut Reports,
     own: &Id,
+    family: Family,
     policy: Policy,
     check: &C,
     report: &Report,
 ) -> Result<(), NoMemory>
-    ensures { OnOk result (KeepsOne own.now policy report.now kept.old kept.new) }
+    ensures { OnOk result (KeepsOne own.now family policy report.now kept.old kept.new) }
 {
-    if is_kept(own, policy, check, report) {
+    if is_kept(own, family, policy, check, report) {
         return kept.push(*report);
     }
     Ok(())
 }
 
-/// The reports that have a proof and whose contacts are usable and pass, in order.
+/// The reports that have a proof and whose contacts are usable, of the network, and pass, in order.
 pub(crate) fn kept<C: Check>(
     alloc: Global,
     own: &Id,
+    family: Family,
     policy: Policy,
     check: &C,
     reports: &[Report],
 ) -> Result<Reports, NoMemory>
-    ensures { IfOk result (Keeps own.now policy reports.now) }
+    ensures { IfOk result (Keeps own.now family policy reports.now) }
 {
     let mut kept = List::new(alloc);
     for report in reports {
-        keep(&mut kept, own, policy, check, report)?;
+        keep(&mut kept, own, family, policy, check, report)?;
     }
     Ok(kept)
 }

@@ -14,7 +14,7 @@ use crate::call::Call;
 use crate::input::{admitted, read_reports};
 use crate::status::Status;
 use id_puzzles::Words;
-use kad_base::{Check, Contacts, Id, Link, Policy, Source};
+use kad_base::{Check, Contacts, Family, Id, Link, Policy, Source};
 use kad_words::LookWords;
 use lookup_run::{AskKind, LookFault, Outcome, look_up};
 use seal_tags::{Seal, SealCheck};
@@ -35,16 +35,17 @@ pub(crate) fn read_contacts<S: Source, C: Check>(
     alloc: Global,
     source: &mut S,
     own: &Id,
+    family: Family,
     policy: Policy,
     check: &C,
 ) -> Result<Contacts, Status>
-    ensures ok { IfOk result (Reads own.now policy (shown S.left S.faults source.old source.new)) }
+    ensures ok { IfOk result (Reads own.now family policy (shown S.left S.faults source.old source.new)) }
     ensures some_one { IfOk result (λ contacts. contacts ≢ []) }
-    ensures cause { IfErr result (InputCause own.now policy
+    ensures cause { IfErr result (InputCause own.now family policy
         (shown S.left S.faults source.old source.new)) }
 {
     let reports = read_reports(alloc, source)?;
-    let contacts = admitted(alloc, own, policy, check, reports.as_slice())?;
+    let contacts = admitted(alloc, own, family, policy, check, reports.as_slice())?;
     if contacts.as_slice().is_empty() {
         return Err(Status::NoSeeds);
     }
@@ -84,7 +85,14 @@ pub(crate) fn run_lookup<
     ensures early { IfErr result (λ status. EndsUnasked (number_of status) → link.new ≡ link.old) }
 {
     let setting = setting_for(kind, look, &call.random);
-    let contacts = read_contacts(alloc, source, &setting.own, setting.policy, call.check)?;
+    let contacts = read_contacts(
+        alloc,
+        source,
+        &setting.own,
+        setting.family,
+        setting.policy,
+        call.check,
+    )?;
     let table = table_of(alloc, setting.own, look.k, look.bits, contacts.as_slice())?;
     let mut words = Words::new(&call.random, FIRST_TX);
     let (_, ended) = look_up(

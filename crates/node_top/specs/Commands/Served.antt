@@ -2,6 +2,7 @@
 -- answered by the reply that a node owes it (BEP 5), as the datagrams before had left the node, and that nothing else was
 -- sent.
 use Rattle.std.specs.Prelude.{◌≡◌, ℕ, List, ◌∷◌, map}
+use Rattle.kad_base.specs.declared.types.Family.TheVariants.{Four}
 use Rattle.kad_base.specs.declared.types.Contact.{Contact}
 use Rattle.kad_base.specs.declared.types.Event.{Event}
 use Rattle.kad_base.specs.declared.types.Event.TheVariants.{Now}
@@ -28,9 +29,9 @@ pub record Hosts (service : Service) (random : List ℕ) (source : Shown ℕ) (t
   pub reports : List Report
   pub lists : Lists source reports
   pub contacts : List Contact
-  pub admits : Admits (own_of service.own random) service.policy reports contacts
+  pub admits : Admits (own_of service.own random) Four service.policy reports contacts
   pub told : TableTold (map seen_call contacts) (new_table (own_of service.own random) service.k service.bits) table
-  pub keeps : Keeps (own_of service.own random) service.policy reports proofs
+  pub keeps : Keeps (own_of service.own random) Four service.policy reports proofs
 
 -- the node as it begins at a moment
 abbrev pub begun_at : Service → List ℕ → TableState → List Report → ℕ → ServeState

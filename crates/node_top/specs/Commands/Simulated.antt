@@ -1,6 +1,7 @@
 -- What `sim` makes: the line of a lookup in a network that follows from a seed, which begins with the network's first
 -- nodes. The network and the line are this project's own.
 use Rattle.std.specs.Prelude.{◌≡◌, ℕ, ◌<◌, ◌≤◌, List, [], ◌++◌, min, map, filter, length, codes, decimal, replicate, false, Some, None}
+use Rattle.kad_base.specs.declared.types.Family.TheVariants.{Four}
 use Rattle.kad_base.specs.declared.types.Id.{Id}
 use Rattle.kad_base.specs.declared.types.Contact.{Contact}
 use Rattle.kad_base.specs.declared.types.Report.{Report}
@@ -49,6 +50,7 @@ look_to target s = record {
   timeout = s.timeout;
   bits = 1;
   policy = Plain;
+  family = Four;
   sealed = false;
 }
 
@@ -104,7 +106,7 @@ pub record Begins (s : Simulation) (start : Start) : Type 0 where
   pub setting_is : start.setting ≡ look_of FindNode (sim_look s) s.seed
   pub near_is : start.near ≡ sought_in s
   pub contacts : List Contact
-  pub admits : Admits (own_of None s.seed) Plain (first_nodes s) contacts
+  pub admits : Admits (own_of None s.seed) Four Plain (first_nodes s) contacts
   pub told : StartsWith (sim_look s) s.seed contacts start.table
 
 -- A lookup in the network. The table is told of its first nodes, in order, but for one with the identifier of the node that
@@ -113,7 +115,7 @@ pub record Begins (s : Simulation) (start : Start) : Type 0 where
 -- its own seeds and answers; and the line is the journal's.
 pub record SimText (s : Simulation) (text : List ℕ) : Type 0 where
   pub contacts : List Contact
-  pub admits : Admits (own_of None s.seed) Plain (first_nodes s) contacts
+  pub admits : Admits (own_of None s.seed) Four Plain (first_nodes s) contacts
   pub table : TableState
   pub told : StartsWith (sim_look s) s.seed contacts table
   pub events : List Event

@@ -1,6 +1,7 @@
 -- What `table` makes: the saved text of the routing table from which a lookup with the same words and input takes the nodes
 -- that it begins with. The text is this project's own.
 use Rattle.std.specs.Prelude.{◌≡◌, ℕ, List, map, Option}
+use Rattle.kad_base.specs.declared.types.Family.TheVariants.{Four}
 use Rattle.kad_base.specs.declared.types.Id.{Id}
 use Rattle.kad_base.specs.declared.types.Contact.{Contact}
 use Rattle.kad_base.specs.declared.types.Policy.{Policy}
@@ -27,7 +28,7 @@ pub record TableText (own : Option Id) (k bits : ℕ) (policy : Policy) (random 
   pub reports : List Report
   pub lists : Lists source reports
   pub contacts : List Contact
-  pub admits : Admits (own_of own random) policy reports contacts
+  pub admits : Admits (own_of own random) Four policy reports contacts
   pub table : TableState
   pub told : TableTold (map seen_call contacts) (new_table (own_of own random) k bits) table
   pub printed : IsTextOf table text

@@ -15,7 +15,7 @@ use crate::input::{admitted, kept, read_reports};
 use crate::printed::add_line;
 use crate::status::Status;
 use contact_table::Table;
-use kad_base::{Bytes, Check, Id, Link, List, NoMemory, Policy, Reports, Source};
+use kad_base::{Bytes, Check, Family, Id, Link, List, NoMemory, Policy, Reports, Source};
 use node_serve::{Node, ServeFault, serve_loop};
 use seal_tags::{Seal, SealCheck};
 use std::alloc::{AllocError, Global};
@@ -39,7 +39,7 @@ struct Host {
     proofs: Reports,
 }
 
-/// Reads the contacts of the input, tells a new routing table of them, and keeps the reports that have a proof.
+/// Reads the contacts of the input, tells a new routing table of those of IPv4, and keeps the reports that have a proof.
 fn read_host<S: Source, C: Check, G: Seal + SealCheck>(
     alloc: Global,
     service: &Service,
@@ -55,8 +55,8 @@ fn read_host<S: Source, C: Check, G: Seal + SealCheck>(
 {
     let reports = read_reports(alloc, source)?;
     let read = reports.as_slice();
-    let contacts = admitted(alloc, &own, service.policy, call.check, read)?;
-    let proofs = kept(alloc, &own, service.policy, call.check, read)?;
+    let contacts = admitted(alloc, &own, Family::Four, service.policy, call.check, read)?;
+    let proofs = kept(alloc, &own, Family::Four, service.policy, call.check, read)?;
     let table = table_of(alloc, own, service.k, service.bits, contacts.as_slice())?;
     Ok(Host { table, proofs })
 }

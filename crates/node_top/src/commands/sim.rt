@@ -15,7 +15,7 @@ use contact_table::Table;
 use fake_net::SimNet;
 use id_puzzles::Words;
 use kad_base::{
-    Bytes, Check, Contact, Contacts, Id, List, NoMemory, Policy, Report, Reports, is_same,
+    Bytes, Check, Contact, Contacts, Family, Id, List, NoMemory, Policy, Report, Reports, is_same,
 };
 use kad_words::LookWords;
 use lookup_run::{AskKind, LookFault, LookSetting, Outcome, look_up_alone};
@@ -47,6 +47,7 @@ fn look_to(target: Id, simulation: &Simulation) -> LookWords
         timeout: simulation.timeout,
         bits: 1,
         policy: Policy::Plain,
+        family: Family::Four,
         sealed: false,
     }
 }
@@ -150,6 +151,7 @@ fn begin<C: Check>(
     let contacts = admitted(
         alloc,
         &setting.own,
+        setting.family,
         setting.policy,
         check,
         reports.as_slice(),

@@ -11,7 +11,7 @@ use crate::call::Call;
 use crate::input::{admitted, read_reports};
 use crate::status::Status;
 use contact_table::Table;
-use kad_base::{Bytes, Check, Id, NoMemory, Policy, Source};
+use kad_base::{Bytes, Check, Family, Id, NoMemory, Policy, Source};
 use seal_tags::{Seal, SealCheck};
 use std::alloc::Global;
 use table_file::write;
@@ -25,7 +25,7 @@ fn text_of(alloc: Global, table: &Table) -> Result<Bytes, NoMemory>
     write(alloc, &saved)
 }
 
-/// Reads the contacts of the input, tells a new routing table of them, and makes its saved text, or says why there is
+/// Reads the contacts of the input, tells a new routing table of those of IPv4, and makes its saved text, or says why there is
 /// none. Nothing is written yet.
 pub(crate) fn table<S: Source, C: Check, G: Seal + SealCheck>(
     alloc: Global,
@@ -45,7 +45,14 @@ pub(crate) fn table<S: Source, C: Check, G: Seal + SealCheck>(
 {
     let id = own_id(own, &call.random);
     let reports = read_reports(alloc, source)?;
-    let contacts = admitted(alloc, &id, policy, call.check, reports.as_slice())?;
+    let contacts = admitted(
+        alloc,
+        &id,
+        Family::Four,
+        policy,
+        call.check,
+        reports.as_slice(),
+    )?;
     let table = table_of(alloc, id, k, bits, contacts.as_slice())?;
     Ok(text_of(alloc, &table)?)
 }

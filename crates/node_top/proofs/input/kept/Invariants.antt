@@ -3,4 +3,4 @@ use Rattle.node_top.specs.Input.{Keeps}
 use Rattle.node_top.proofs.input.kept.Given as goal
 
 abbrev pub invariant-loop-report : goal.invariant-loop-report
-invariant-loop-report g l = Keeps l.own l.policy (take l.report-index l.reports) l.kept
+invariant-loop-report g l = Keeps l.own l.family l.policy (take l.report-index l.reports) l.kept
