@@ -14,7 +14,7 @@ use bucket_tree::Gone;
 use contact_table::{Table, TableCall, TableReply, holds_what_it_was_told};
 use fake_net::ScriptLink;
 use id_puzzles::{Sha1Check, Words};
-use kad_base::{Id, Policy, Serial, is_usable};
+use kad_base::{Family, Id, Policy, Serial, is_usable};
 use lookup_run::{AskKind, LookSetting, Outcome, look_up_alone};
 use script::peers_link;
 use seal_tags::GroupSeal;
@@ -41,6 +41,7 @@ fn setting(own: Id, paths: u8, kind: AskKind) -> LookSetting
         policy: Policy::Plain,
         timeout: 2000,
         kind,
+        family: Family::Four,
         sealed: false,
     }
 }

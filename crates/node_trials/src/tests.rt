@@ -3,6 +3,7 @@ mod crowd;
 mod drawn;
 mod grouped;
 mod hostile;
+mod ipv6;
 mod paths;
 mod peering;
 mod puzzled;
@@ -32,6 +33,17 @@ const ANSWER_1: &[u8] =
 const ONE_PATH: &[&str] = &[
     "lookup",
     "--target",
+    "0000000000000000000000000000000000000000",
+    "--own",
+    "ffffffffffffffffffffffffffffffffffffffff",
+    "--paths",
+    "1",
+];
+
+/// A search for peers of the key of zeros by the node of ones, on one path.
+const PEERS: &[&str] = &[
+    "peers",
+    "--key",
     "0000000000000000000000000000000000000000",
     "--own",
     "ffffffffffffffffffffffffffffffffffffffff",

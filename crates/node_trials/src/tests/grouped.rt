@@ -1,6 +1,6 @@
 //! Lookups of a group, whose members share a key: the tags are HMAC-SHA-1 under keys of 32 bytes 00 and 01, as Python's
 //! `hmac` makes them.
-use crate::tests::{ANSWER_1, FOUND_1, ONE_PATH};
+use crate::tests::{ANSWER_1, FOUND_1, ONE_PATH, PEERS};
 use run_kit::shows;
 use std::random::RandomSource;
 use std::sync::Wait;
@@ -10,17 +10,6 @@ use trial_kit::{LINE_1, link_with};
 
 /// The key of 32 zero bytes.
 const ZEROS: &str = "0000000000000000000000000000000000000000000000000000000000000000";
-
-/// A search for peers of the key of zeros by the node of ones, on one path.
-const PEERS: &[&str] = &[
-    "peers",
-    "--key",
-    "0000000000000000000000000000000000000000",
-    "--own",
-    "ffffffffffffffffffffffffffffffffffffffff",
-    "--paths",
-    "1",
-];
 
 /// The answer of contact 1 with the tag of the group.
 const TAGGED: &[u8] =

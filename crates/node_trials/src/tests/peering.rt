@@ -1,5 +1,6 @@
 //! Searches for peers over a scripted link: which peers are printed, and who is told of this node.
 //! The bytes of the answers and of the announcements were written by hand from BEP 5.
+use crate::tests::PEERS;
 use fake_net::ScriptLink;
 use run_kit::{play, shows};
 use std::alloc::Global;
@@ -8,17 +9,6 @@ use std::sync::Wait;
 use std::test::Fail;
 use std::thread::Threads;
 use trial_kit::{LINE_1, lines, link_from, sent};
-
-/// A search for peers of the key of zeros by the node of ones, on one path.
-const PEERS: &[&str] = &[
-    "peers",
-    "--key",
-    "0000000000000000000000000000000000000000",
-    "--own",
-    "ffffffffffffffffffffffffffffffffffffffff",
-    "--paths",
-    "1",
-];
 
 /// Further words: the port 6882 is announced.
 const ANNOUNCE: &[&str] = &["--announce", "6882"];
