@@ -2,7 +2,8 @@
 //! socket where the command needs one.
 #![tactic(auto)]
 
-ghost use Rattle.std.specs.Prelude.{◌≡◌, ◌≢◌, [], ◌∷◌, ◌++◌, OnOk, codes, map, string_bytes};
+ghost use Rattle.std.specs.Prelude.{◌≡◌, ◌≢◌, ◌⊎◌, ℕ, List, [], ◌∷◌, ◌++◌, OnOk, codes, map, string_bytes};
+ghost use Rattle.kad_words.specs.Grouped.{IsGroup};
 ghost use Rattle.std.specs.IoError.{error_kind};
 ghost use Rattle.node_main.specs.declared.Refusal.{Refusal};
 
@@ -115,6 +116,17 @@ fn put_group(alloc: Global, words: &mut Vec<String>, key: String) -> Result<(), 
     Ok(())
 }
 
+/// The seal of the group that the words name. Where they name none nothing is sealed, and this seal is asked for nothing.
+fn seal_of(words: &[String]) -> GroupSeal
+    ensures { let texts = map (λ w. string_bytes w) words.now in
+        IsGroup texts result ⊎ ((key : List ℕ) → ¬ IsGroup texts key) }
+{
+    match group_of(words) {
+        Some(key) => GroupSeal::new(key),
+        None => GroupSeal::new([0; 32]),
+    }
+}
+
 /// Takes the words, then draws, then binds where the command takes a link, and runs the node; its status.
 fn started<R>(rt: &R) -> Result<u8, Refusal>
 where
@@ -139,7 +151,7 @@ where
         ));
     }
     let mut link = UdpLink::bind(rt, bind_of(words)).map_err(|_| Refusal::Socket)?;
-    let seal = GroupSeal::new(group_of(words).unwrap_or([0; 32]));
+    let seal = seal_of(words);
     Ok(run(
         rt,
         rt.alloc(),
