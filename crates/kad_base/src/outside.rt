@@ -1,8 +1,10 @@
 //! The outside as traits. A source, a sink and a link may tell what they hold, as an optional content that contracts
 //! alone see: where it is told when a call returns it was told before, so who stops telling never tells again. Each
-//! counts its failures, and a call fails only where its count rose, or stands at its last value, 2^64 - 1.
+//! counts its failures: a call fails only where its count rose, or stands at its last value, 2^64 - 1, and one that goes well
+//! leaves the counts as they were.
 ghost use Rattle.std.specs.Prelude.{◌≡◌, ◌<◌, ◌≤◌, [], ◌∷◌, List, ℕ, length, take, Option, IfOk, OnOk, OnErr, IfSome, ◌↔◌, IsTrue};
 ghost use Rattle.kad_base.specs.declared.types.Event.{Event};
+ghost use Rattle.kad_base.specs.Limits.{max_datagram};
 ghost use Rattle.kad_base.specs.Puzzles.{Passes};
 ghost use Rattle.kad_base.specs.Outside.{Grows, Shrinks, Rose, EventOf, Arrives, came_at};
 
@@ -23,6 +25,7 @@ pub trait Source {
         ensures end { IfOk result (λ n. n ≡ 0 → IfSome (left self.new) (λ rest. rest ≡ [])) }
         ensures err { OnErr result (Shrinks (left self.old) (left self.new) []) }
         ensures faults { faults self.old ≤ faults self.new }
+        ensures well { IfOk result (λ n. faults self.new ≡ faults self.old) }
         ensures failed { OnErr result (Rose (faults self.old) (faults self.new)) };
 }
 
@@ -42,12 +45,15 @@ pub trait Sink {
             (λ t. t ≡ take n bytes.now)) }
         ensures err { OnErr result (Grows (written self.old) (written self.new) (λ t. t ≡ [])) }
         ensures faults { faults self.old ≤ faults self.new }
+        ensures well { IfOk result (λ n. faults self.new ≡ faults self.old) }
         ensures failed { OnErr result (Rose (faults self.old) (faults self.new)) };
 }
 
 /// A datagram socket with a clock.
 pub trait Link {
-    /// What of a link no call changes: of a whole network in memory which one it is, and of others nothing.
+    /// What of a link no call changes that gives a receive room for every datagram that is believed and one byte more: of a
+    /// whole network in memory which one it is, and of others nothing. So who says that it is as it was says of each receive
+    /// how much room it had.
     ghost Kept: { Type 0 } = { Unit {0} };
 
     ghost kept: { Self → Self.Kept };
@@ -68,7 +74,9 @@ pub trait Link {
         ensures moment { moment self.new ≡ result }
         ensures kept { kept self.new ≡ kept self.old }
         ensures send_faults { send_faults self.old ≤ send_faults self.new }
-        ensures recv_faults { recv_faults self.old ≤ recv_faults self.new };
+        ensures recv_faults { recv_faults self.old ≤ recv_faults self.new }
+        ensures no_send_fault { send_faults self.new ≡ send_faults self.old }
+        ensures no_recv_fault { recv_faults self.new ≡ recv_faults self.old };
 
     fn send(&mut self, to: Addr, bytes: &[u8]) -> Result<(), Failed>
         ensures ok { OnOk result (Grows (told self.old) (told self.new)
@@ -79,6 +87,8 @@ pub trait Link {
         ensures kept { kept self.new ≡ kept self.old }
         ensures send_faults { send_faults self.old ≤ send_faults self.new }
         ensures recv_faults { recv_faults self.old ≤ recv_faults self.new }
+        ensures well { OnOk result (send_faults self.new ≡ send_faults self.old) }
+        ensures no_recv_fault { recv_faults self.new ≡ recv_faults self.old }
         ensures failed { OnErr result (Rose (send_faults self.old) (send_faults self.new)) };
 
     fn recv(&mut self, buf: &mut [u8], until: u64) -> Result<Came, Failed>
@@ -89,9 +99,11 @@ pub trait Link {
         ensures told_moment { IfOk result (λ came. moment self.new ≡ came_at came) }
         ensures err { OnErr result (Grows (told self.old) (told self.new) (λ t. t ≡ [])) }
         ensures err_moment { OnErr result (moment self.new ≡ moment self.old) }
-        ensures kept { kept self.new ≡ kept self.old }
+        ensures kept { max_datagram < length buf.old → kept self.new ≡ kept self.old }
         ensures send_faults { send_faults self.old ≤ send_faults self.new }
         ensures recv_faults { recv_faults self.old ≤ recv_faults self.new }
+        ensures well { IfOk result (λ came. recv_faults self.new ≡ recv_faults self.old) }
+        ensures no_send_fault { send_faults self.new ≡ send_faults self.old }
         ensures failed { OnErr result (Rose (recv_faults self.old) (recv_faults self.new)) };
 }
 
