@@ -1,7 +1,10 @@
 pub mod HexSpelling
 pub mod NumberSpelling
 pub mod AddrSpelling
+pub mod AddrText
 pub mod OneSpelling
+pub mod GroupSpelling
+pub mod AddrReading
 pub mod WordForm
 pub mod Listing
 pub mod ClapWalk

@@ -6,13 +6,15 @@ use Rattle.std.proofs.lemmas.Bool.{and_parts}
 use Rattle.std.proofs.lemmas.Bool.Decides.{nat_tests}
 use Rattle.kad_base.specs.declared.types.Policy.{Policy}
 use Rattle.kad_base.specs.declared.types.Policy.TheVariants as policy
-use Rattle.kad_words.specs.Text.{SpellsHex, SpellsId, SpellsNumber}
+use Rattle.kad_base.specs.declared.types.Family.{Family}
+use Rattle.kad_base.specs.declared.types.Family.TheVariants.{Four, Six}
+use Rattle.kad_words.specs.Text.{SpellsHex, SpellsId, SpellsNumber, version}
 use Rattle.kad_words.specs.Table.{AreSaid, Choice, Entry, IsLook, IsSaid, MayIdOf, MayNumberOf, MaySeedOf, NumberOf, Part, PolicyBy, Says, StandsOf, Values, Word, kind_of, kind_word, parts_of, word_of}
 use Rattle.kad_words.specs.Table.Part.{gives_id, gives_seed, gives_number, may_give_number, says_whether, gives_policy, gives_look}
 use Rattle.kad_words.specs.Plain.{CommandOf, IsPlain, pairs_of, values_of}
 use Rattle.kad_words.specs.Fitting.{ends_below}
 use Rattle.kad_words.specs.declared.choice.Kind.{Kind}
-use Rattle.kad_words.specs.declared.choice.Kind.TheVariants.{Number}
+use Rattle.kad_words.specs.declared.choice.Kind.TheVariants.{IpVersion, Number}
 use Rattle.kad_words.specs.declared.choice.Need.{Need}
 use Rattle.kad_words.specs.declared.choice.Need.TheVariants.{OrElse}
 use Rattle.kad_words.specs.declared.command.Command.{Command}
@@ -20,10 +22,10 @@ use Rattle.kad_words.specs.declared.command.Command.TheVariants.{Lookup}
 use Rattle.kad_words.specs.declared.command.CommandKind.{CommandKind}
 use Rattle.kad_words.specs.declared.command.CommandKind.TheVariants as kind
 use Rattle.kad_words.specs.declared.command.LookWords.{LookWords}
-use Rattle.kad_words.specs.Values.{IsGiven, IsGivenOr, MayBeGiven, MayNumberBy, NumberBy}
+use Rattle.kad_words.specs.Values.{FamilyBy, IsGiven, IsGivenOr, MayBeGiven, MayNumberBy, NumberBy}
 use Rattle.kad_words.proofs.Checks.{pairs_are}
 use Rattle.kad_words.proofs.Listing.{one_word}
-use Rattle.kad_words.proofs.OneSpelling.{hex_once, id_once, number_once}
+use Rattle.kad_words.proofs.OneSpelling.{family_once, hex_once, id_once, number_once}
 
 -- ---- a word is that of one command
 
@@ -74,6 +76,17 @@ policy_once None (Some w) policy.Plain q s t = absurd s
 policy_once None (Some w) (policy.Puzzled a b) policy.Plain s t = absurd t
 policy_once None (Some w) (policy.Puzzled a b) (policy.Puzzled c d) s t = both (or_once 0 0 32 (lit< tt) None a c s.0 t.0) (or_once 0 0 32 (lit< tt) (Some w) b d s.1 t.1)
 
+version_once : (a b : Family) → version a ≡ version b → a ≡ b
+version_once Four Four e = refl
+version_once Four Six e = absurd (omega (arith, e))
+version_once Six Four e = absurd (omega (arith, e))
+version_once Six Six e = refl
+
+family_by_once : (kind : Kind) (need : Need) (o : Option Word) (x y : Family) → FamilyBy kind need o x → FamilyBy kind need o y → x ≡ y
+family_by_once IpVersion (OrElse d) None x y s t = version_once x y (s ∙ sym t)
+family_by_once IpVersion (OrElse d) (Some value) x y s t = family_once value x y s t
+family_by_once kind need o x y s t = absurd s
+
 -- ---- what the words of a command ask for is one
 
 look_once : (goal : Entry) (value : Values) (a b : LookWords) → IsLook goal value a → IsLook goal value b → a ≡ b
@@ -86,8 +99,9 @@ look_once goal value a b s t =
     let timeout = or_once 2000 1 60000 (lit< tt) _ a.timeout b.timeout s.timeout t.timeout in
     let bits = or_once 1 1 5 (lit< tt) _ a.bits b.bits s.bits t.bits in
     let passes = policy_once _ _ a.policy b.policy s.policy t.policy in
+    let family = family_by_once IpVersion (OrElse 4) _ a.family b.family s.family t.family in
     let sealed = s.sealed ∙ sym t.sealed in
-    λ i. record { target = target i; own = own i; k = k i; paths = paths i; alpha = alpha i; timeout = timeout i; bits = bits i; policy = passes i; sealed = sealed i }
+    λ i. record { target = target i; own = own i; k = k i; paths = paths i; alpha = alpha i; timeout = timeout i; bits = bits i; policy = passes i; family = family i; sealed = sealed i }
 
 number_by_once : (kind : Kind) (need : Need) → ends_below bound kind ≡ true → (o : Option Word) (x y : ℕ) → NumberBy kind need o x → NumberBy kind need o y → x ≡ y
 number_by_once (Number least most) (OrElse d) small o x y s t = or_once d least most (below most small) o x y s t

@@ -1,16 +1,20 @@
 -- What a text spells is one value.
-use Rattle.std.proofs.Common.{◌≡◌, ◌≢◌, ℕ, ◌^◌, ◌<◌, ◌⊎◌, inl, List, [], ◌∷◌, ◌++◌, refl, sym, ap, ◌∙◌, arith, lit<}
+use Rattle.std.proofs.Common.{◌≡◌, ◌≢◌, ℕ, zero, suc, ◌*◌, ◌^◌, ◌<◌, ◌⊎◌, inl, List, [], ◌∷◌, ◌++◌, length, drop, refl, sym, ap, ◌∙◌, subst, arith, lit<}
 use Rattle.std.specs.Prelude.{decimal, codes, All}
 use Rattle.std.specs.Net.Text.{ipv4_text, dotted_text}
 use Rattle.std.proofs.lemmas.Fmt.{decimal_injective}
 use Rattle.std.proofs.lemmas.List.{append_assoc}
-use Rattle.std.proofs.lemmas.List.Elements.{All-head, All-tail}
+use Rattle.std.proofs.lemmas.List.Elements.{All-append, All-cons, All-head, All-nil, All-tail}
+use Rattle.hex.specs.Hex.{IsBytes, encode_lower, encode_with}
 use Rattle.kad_base.specs.declared.types.Id.{Id}
 use Rattle.kad_base.specs.declared.types.Ip.{Ip}
 use Rattle.kad_base.specs.declared.types.Ip.TheVariants.{V4, V6}
 use Rattle.kad_base.specs.declared.types.Addr.{Addr}
-use Rattle.kad_words.specs.Text.{IsV4, SpellsAddr, SpellsHex, SpellsId, SpellsNumber, ip_text}
-use Rattle.kad_words.proofs.AddrSpelling.{decimal_digits, four, v4_bytes}
+use Rattle.kad_base.specs.declared.types.Family.{Family}
+use Rattle.kad_base.specs.declared.types.Family.TheVariants.{Four, Six}
+use Rattle.kad_words.specs.Text.{FitsAddr, FitsIp, SpellsAddr, SpellsFamily, SpellsHex, SpellsId, SpellsNumber, addr_text, groups_after, ip_text}
+use Rattle.kad_words.proofs.AddrSpelling.{bytes_two, decimal_digits, four, v4_bytes}
+use Rattle.kad_words.proofs.AddrText.{groups_plain}
 use Rattle.kad_words.proofs.HexSpelling.{encode_lower-same}
 
 -- ---- where a text is cut
@@ -64,25 +68,115 @@ dotted_once a b c d e f g h ha hb hc hd he hf hg hh same =
       decimal_injective d h (fits d hd) (fits h hh) three.1,
     )
 
-v4_once : (x y : List ℕ) → IsV4 (V4 x) → IsV4 (V4 y) → ipv4_text x ≡ ipv4_text y → x ≡ y
+v4_once : (x y : List ℕ) → FitsIp (V4 x) → FitsIp (V4 y) → ipv4_text x ≡ ipv4_text y → x ≡ y
 v4_once x y hx hy e =
     let p = dotted_once _ _ _ _ _ _ _ _ (hx.1 0) (hx.1 1) (hx.1 2) (hx.1 3) (hy.1 0) (hy.1 1) (hy.1 2) (hy.1 3) e in
     four x hx.0 ∙ rw (p.0, p.1, p.2, p.3) refl ∙ sym (four y hy.0)
 
-ip_once : (a b : Ip) → IsV4 a → IsV4 b → ip_text a ≡ ip_text b → a ≡ b
-ip_once (V4 x) (V4 y) ha hb e = ap V4 (v4_once x y ha hb e)
-ip_once (V4 x) (V6 y) ha hb e = absurd hb
-ip_once (V6 x) b ha hb e = absurd ha
+no_colon : (bytes : List ℕ) → FitsIp (V4 bytes) → All (λ d. d ≢ 58) (ip_text (V4 bytes))
+no_colon bytes h k d lt e = let r = v4_bytes bytes h k d lt in omega arith
 
-no_colon : (ip : Ip) → IsV4 ip → All (λ d. d ≢ 58) (ip_text ip)
-no_colon ip h k d lt e = let r = v4_bytes ip h k d lt in omega arith
+v4_port_once : (x y : List ℕ) (p q : ℕ) → FitsIp (V4 x) → FitsIp (V4 y) → p < 2 ^ 16 → q < 2 ^ 16 → addr_text (record { ip = V4 x; port = p }) ≡ addr_text (record { ip = V4 y; port = q }) → (x ≡ y) × (p ≡ q)
+v4_port_once x y p q fx fy hp hq e =
+    let joined : ipv4_text x ++ (58 ∷ decimal p) ≡ ipv4_text y ++ (58 ∷ decimal q) = sym (append_assoc (ipv4_text x) (codes ":") (decimal p)) ∙ e ∙ append_assoc (ipv4_text y) (codes ":") (decimal q) in
+    let cut = cut_once 58 (ipv4_text x) (ipv4_text y) (decimal p) (decimal q) (no_colon x fx) (no_colon y fy) joined in
+    (v4_once x y fx fy cut.0, decimal_injective p q (omega arith) (omega arith) cut.1)
+
+-- ---- addresses of IPv6
+
+pub take_pair : (n : ℕ) (x y p q : List ℕ) → length x ≡ length y → x ++ p ≡ y ++ q → (x ≡ y) × (p ≡ q)
+take_pair n [] [] p q len e = (refl, e)
+take_pair n [] (d ∷ y) p q len e = absurd (omega arith)
+take_pair n (c ∷ x) [] p q len e = absurd (omega arith)
+take_pair n (c ∷ x) (d ∷ y) p q len e =
+    let same : c ≡ d = cc in
+    let rest : x ++ p ≡ y ++ q = cc in
+    let lens : length x ≡ length y = omega arith in
+    let r = take_pair n x y p q lens rest in
+    (ap (λ (k : ℕ). k ∷ x) same ∙ ap (λ (l : List ℕ). d ∷ l) r.0, r.1)
+
+pub pair_length : (a b : ℕ) → length (encode_lower (a ∷ b ∷ [])) ≡ 4
+unfolding encode_with
+pair_length a b = refl
+
+pub groups_once : (n lead : ℕ) (x y : List ℕ) → length x ≡ 2 * n → length y ≡ 2 * n → IsBytes x → IsBytes y → groups_after (lead ∷ []) x ≡ groups_after (lead ∷ []) y → x ≡ y
+groups_once n lead [] [] hx hy fx fy e = refl
+groups_once n lead [] (c ∷ y) hx hy fx fy e = absurd (omega arith)
+groups_once n lead (a ∷ []) y hx hy fx fy e = absurd (omega arith)
+groups_once n lead (a ∷ b ∷ x) [] hx hy fx fy e = absurd (omega arith)
+groups_once n lead (a ∷ b ∷ x) (c ∷ []) hx hy fx fy e = absurd (omega arith)
+groups_once zero lead (a ∷ b ∷ x) (c ∷ d ∷ y) hx hy fx fy e = absurd (omega arith)
+groups_once (suc n) lead (a ∷ b ∷ x) (c ∷ d ∷ y) hx hy fx fy e =
+    let front : List ℕ = encode_lower (a ∷ b ∷ []) ++ groups_after (58 ∷ []) x in
+    let other : List ℕ = encode_lower (c ∷ d ∷ []) ++ groups_after (58 ∷ []) y in
+    let whole : lead ∷ front ≡ lead ∷ other = e in
+    let tails : front ≡ other = cc in
+    let r = take_pair 0 (encode_lower (a ∷ b ∷ [])) (encode_lower (c ∷ d ∷ [])) _ _ (pair_length a b ∙ sym (pair_length c d)) tails in
+    let pair : a ∷ b ∷ [] ≡ c ∷ d ∷ [] = encode_lower-same _ _ (bytes_two a b (fx 0) (fx 1)) (bytes_two c d (fy 0) (fy 1)) r.0 in
+    let one : a ≡ c = cc in
+    let two : b ≡ d = cc in
+    let more : x ≡ y = groups_once n 58 x y (omega arith) (omega arith) (λ k. fx (suc (suc k))) (λ k. fy (suc (suc k))) r.1 in
+    rw (one, two, more) refl
+
+-- addresses of IPv6 are cut at their bracket
+v6_once : (x y : List ℕ) (p q : ℕ) → FitsIp (V6 x) → FitsIp (V6 y) → p < 2 ^ 16 → q < 2 ^ 16 → addr_text (record { ip = V6 x; port = p }) ≡ addr_text (record { ip = V6 y; port = q }) → (x ≡ y) × (p ≡ q)
+v6_once x y p q fx fy hp hq e =
+    let shape : (g d : List ℕ) → ((g ++ codes "]") ++ codes ":") ++ d ≡ g ++ (93 ∷ (58 ∷ d)) = λ g d. append_assoc (g ++ codes "]") (codes ":") d ∙ append_assoc g (codes "]") (codes ":" ++ d) in
+    let lacks : (z : List ℕ) → FitsIp (V6 z) → All (λ d. d ≢ 93) (groups_after (91 ∷ []) z) = λ z f k d lt s. (groups_plain 91 z (lit< tt, lit< tt, λ i. omega (arith, i)) f.1 k d lt).2 s in
+    let cut = cut_once 93 (groups_after (91 ∷ []) x) (groups_after (91 ∷ []) y) (58 ∷ decimal p) (58 ∷ decimal q) (lacks x fx) (lacks y fy) (sym (shape _ (decimal p)) ∙ e ∙ shape _ (decimal q)) in
+    let ports : decimal p ≡ decimal q = cc (cut.1) in
+    (groups_once 8 91 x y (fx.0) (fy.0) fx.1 fy.1 cut.0, decimal_injective p q (omega arith) (omega arith) ports)
+
+-- the two families differ in their first byte
+v4_low : (x : List ℕ) (p : ℕ) → FitsIp (V4 x) → p < 2 ^ 16 → All (λ c. c < 59) (addr_text (record { ip = V4 x; port = p }))
+v4_low x p f lt =
+    let P : ℕ → Type 0 = λ c. c < 59 in
+    let ip : All P (ip_text (V4 x)) = (λ k d l. let b = v4_bytes x f k d l in omega arith) in
+    let port : All P (decimal p) = (λ k d l. let b = decimal_digits p (omega arith) k d l in omega arith) in
+    let colon : All P (codes ":") = All-cons P 58 [] (lit< tt) (All-nil P) in
+    All-append P (ip_text (V4 x) ++ codes ":") (decimal p) (All-append P (ip_text (V4 x)) (codes ":") ip colon) port
+
+mixed : (x y : List ℕ) (p q : ℕ) → FitsIp (V4 x) → p < 2 ^ 16 → length y ≡ 16 → addr_text (record { ip = V4 x; port = p }) ≡ addr_text (record { ip = V6 y; port = q }) → ⊥
+mixed x [] p q f lt len e = absurd (omega arith)
+mixed x (a ∷ []) p q f lt len e = absurd (omega arith)
+mixed x (a ∷ b ∷ y) p q f lt len e =
+    let P : ℕ → Type 0 = λ c. c < 59 in
+    let text : List ℕ = addr_text (record { ip = V6 (a ∷ b ∷ y); port = q }) in
+    let shape : text ≡ 91 ∷ drop 1 text = refl in
+    let low : All P (91 ∷ drop 1 text) = subst (All P) (e ∙ shape) (v4_low x p f lt) in
+    let here : 91 < 59 = All-head P 91 (drop 1 text) low in
+    omega (arith, here)
+
+-- ---- addresses of both
+
+made_addr : Ip → ℕ → Addr
+made_addr ip port = record { ip = ip; port = port }
+
+same_parts : (x y : Ip) (p q : ℕ) → FitsIp x → FitsIp y → p < 2 ^ 16 → q < 2 ^ 16 → addr_text (made_addr x p) ≡ addr_text (made_addr y q) → made_addr x p ≡ made_addr y q
+unfolding made_addr
+same_parts (V4 x) (V4 y) p q fx fy hp hq e =
+    let r = v4_port_once x y p q fx fy hp hq e in
+    rw (r.0, r.1) refl
+same_parts (V4 x) (V6 y) p q fx fy hp hq e = absurd (mixed x y p q fx hp fy.0 e)
+same_parts (V6 x) (V4 y) p q fx fy hp hq e = absurd (mixed y x q p fy hq fx.0 (sym e))
+same_parts (V6 x) (V6 y) p q fx fy hp hq e =
+    let r = v6_once x y p q fx fy hp hq e in
+    rw (r.0, r.1) refl
+
+pub addr_same : (a b : Addr) → FitsAddr a → FitsAddr b → addr_text a ≡ addr_text b → a ≡ b
+unfolding made_addr
+addr_same a b ha hb e = same_parts a.ip b.ip a.port b.port ha.0 hb.0 ha.1 hb.1 e
 
 pub addr_once : (text : List ℕ) (a b : Addr) → SpellsAddr text a → SpellsAddr text b → a ≡ b
-addr_once text a b s t =
-    let p = s.port in
-    let q = t.port in
-    let joined : ip_text a.ip ++ (58 ∷ decimal a.port) ≡ ip_text b.ip ++ (58 ∷ decimal b.port) =
-    sym (append_assoc (ip_text a.ip) (codes ":") (decimal a.port)) ∙ sym s.printed ∙ t.printed ∙ append_assoc (ip_text b.ip) (codes ":") (decimal b.port) in
-    let cut = cut_once 58 (ip_text a.ip) (ip_text b.ip) (decimal a.port) (decimal b.port) (no_colon a.ip s.v4) (no_colon b.ip t.v4) joined in
-    let made : Ip → ℕ → Addr = λ ip port. record { ip = ip; port = port } in
-    ap (λ (ip : Ip). made ip a.port) (ip_once a.ip b.ip s.v4 t.v4 cut.0) ∙ ap (made b.ip) (decimal_injective a.port b.port (omega arith) (omega arith) cut.1)
+addr_once text a b s t = addr_same a b s.fits t.fits (sym s.printed ∙ t.printed)
+
+-- ---- families
+
+apart : codes "4" ≡ codes "6" → ⊥
+apart e = (let same : ◌≡◌ {A = ℕ} 52 54 = cc in omega (arith, same))
+
+pub family_once : (text : List ℕ) (a b : Family) → SpellsFamily text a → SpellsFamily text b → a ≡ b
+family_once text Four Four s t = refl
+family_once text Six Six s t = refl
+family_once text Four Six s t = absurd (apart (sym s ∙ t))
+family_once text Six Four s t = absurd (apart (sym t ∙ s))

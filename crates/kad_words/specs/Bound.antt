@@ -1,15 +1,18 @@
 -- What is known of the words before a command is read: where to bind, and whether there is anything to bind.
-use Rattle.std.specs.Prelude.{◌≡◌, List, [], ◌∷◌, ◌⊎◌, Option, Some, None, IsTrue}
+use Rattle.std.specs.Prelude.{◌≡◌, List, [], ◌∷◌, ◌⊎◌, Option, Some, None, IsTrue, bytes_eq, codes, cond, replicate}
 use Rattle.kad_base.specs.declared.types.Addr.{Addr}
-use Rattle.kad_base.specs.declared.types.Ip.TheVariants.{V4}
+use Rattle.kad_base.specs.declared.types.Ip.TheVariants.{V4, V6}
+use Rattle.kad_base.specs.declared.types.Family.{Family}
+use Rattle.kad_base.specs.declared.types.Family.TheVariants.{Four, Six}
 use Rattle.kad_words.specs.Text.{SpellsAddr}
-use Rattle.kad_words.specs.Table.{Choice, Word, bind_option, kind_word, links, option_word}
+use Rattle.kad_words.specs.Table.{Choice, Word, bind_option, family_option, kind_word, links, option_word}
 use Rattle.kad_words.specs.declared.command.CommandKind.{CommandKind}
 use Rattle.kad_words.specs.Plain.{pairs_of, value_of}
 
--- the address 0.0.0.0:0, by which the system chooses
-abbrev pub any_address : Addr
-any_address = record { ip = V4 (0 ∷ 0 ∷ 0 ∷ 0 ∷ []); port = 0 }
+-- the address by which the system chooses, in the network of a family: zeros, with port 0
+abbrev pub any_address : Family → Addr
+any_address Four = record { ip = V4 (replicate 4 0); port = 0 }
+any_address Six = record { ip = V6 (replicate 16 0); port = 0 }
 
 -- the value of the first such option among the words two by two after the first, whatever else these are
 abbrev pub first_given : Choice → List Word → Option Word
@@ -20,10 +23,19 @@ first_given c (command ∷ rest) = value_of (option_word c.entry.name) (pairs_of
 abbrev pub bound_by : List Word → Option Word
 bound_by words = first_given bind_option words
 
--- the value spells this address; or there is no value, or one that spells none, and this is the default
-abbrev pub IsBind : Option Word → Addr → Type 0
-IsBind None addr = addr ≡ any_address
-IsBind (Some text) addr = SpellsAddr text addr ⊎ (((a : Addr) → SpellsAddr text a → ⊥) × (addr ≡ any_address))
+-- the family that a value of `--family` names: that of IPv6 where it is 6, and else that of IPv4
+abbrev pub family_named : Option Word → Family
+family_named None = Four
+family_named (Some text) = cond (bytes_eq text (codes "6")) Six Four
+
+-- that of the first `--family`
+abbrev pub family_by : List Word → Family
+family_by words = family_named (first_given family_option words)
+
+-- the value spells this address; or there is no value, or one that spells none, and this is the default of the family
+abbrev pub IsBind : Family → Option Word → Addr → Type 0
+IsBind family None addr = addr ≡ any_address family
+IsBind family (Some text) addr = SpellsAddr text addr ⊎ (((a : Addr) → SpellsAddr text a → ⊥) × (addr ≡ any_address family))
 
 -- the word of a command that asks over a link
 pub record IsOverLink (command : Word) : Type 0 where

@@ -1,4 +1,5 @@
 pub mod Text
+pub mod Groups
 pub mod Values
 pub mod Table
 pub mod Plain

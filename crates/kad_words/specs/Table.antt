@@ -2,18 +2,19 @@
 -- has to stand or what stands for it, and the commands that have it; and what the words of each command ask for.
 use Rattle.std.specs.Prelude.{◌≡◌, Bool, true, false, ℕ, List, [], ◌∷◌, ◌++◌, map, filter, codes, bytes_eq, find, option_map, is_some, Option, Some, None}
 use Rattle.std.specs.List.{list_any}
+use Rattle.kad_base.specs.declared.types.Family.{Family}
 use Rattle.kad_base.specs.declared.types.Id.{Id}
 use Rattle.kad_base.specs.declared.types.Policy.{Policy}
 use Rattle.kad_base.specs.declared.types.Policy.TheVariants as policy
 use Rattle.kad_words.specs.Text.{SpellsHex, SpellsId}
-use Rattle.kad_words.specs.Values.{IsGiven, MayBeGiven, MayNumberBy, NumberBy}
+use Rattle.kad_words.specs.Values.{FamilyBy, IsGiven, MayBeGiven, MayNumberBy, NumberBy}
 use Rattle.kad_words.specs.declared.command.Command.{Command}
 use Rattle.kad_words.specs.declared.command.Command.TheVariants.{Lookup, Peers, Serve, Table, Check, Mint, Sim}
 use Rattle.kad_words.specs.declared.command.CommandKind.{CommandKind}
 use Rattle.kad_words.specs.declared.command.CommandKind.TheVariants as kind
 use Rattle.kad_words.specs.declared.command.LookWords.{LookWords}
 use Rattle.kad_words.specs.declared.choice.Kind.{Kind}
-use Rattle.kad_words.specs.declared.choice.Kind.TheVariants.{Identifier, Bytes32, Number, Address}
+use Rattle.kad_words.specs.declared.choice.Kind.TheVariants.{Identifier, Bytes32, Number, IpVersion, Address}
 use Rattle.kad_words.specs.declared.choice.Need.{Need}
 use Rattle.kad_words.specs.declared.choice.Need.TheVariants.{Required, Optional, OrElse}
 
@@ -109,6 +110,9 @@ c1_option = choice (codes "c1") (Number 0 32) (OrElse 0) (lookup ∷ peers ∷ s
 abbrev pub c2_option : Choice
 c2_option = choice (codes "c2") (Number 0 32) (OrElse 0) (lookup ∷ peers ∷ serve ∷ table ∷ check ∷ mint ∷ [])
 
+abbrev pub family_option : Choice
+family_option = choice (codes "family") IpVersion (OrElse 4) (lookup ∷ peers ∷ [])
+
 abbrev pub bind_option : Choice
 bind_option = choice (codes "bind") Address Optional (lookup ∷ peers ∷ serve ∷ [])
 
@@ -135,7 +139,7 @@ hostile_option = choice (codes "hostile") (Number 0 100) (OrElse 0) (sim ∷ [])
 
 -- all of them
 abbrev pub every_option : List Choice
-every_option = target_option ∷ key_option ∷ own_option ∷ k_option ∷ paths_option ∷ alpha_option ∷ timeout_option ∷ bits_option ∷ c1_option ∷ c2_option ∷ bind_option ∷ group_option ∷ announce_option ∷ receives_option
+every_option = target_option ∷ key_option ∷ own_option ∷ k_option ∷ paths_option ∷ alpha_option ∷ timeout_option ∷ bits_option ∷ c1_option ∷ c2_option ∷ family_option ∷ bind_option ∷ group_option ∷ announce_option ∷ receives_option
     ∷ seed_option ∷ tries_option ∷ nodes_option ∷ hostile_option ∷ []
 
 -- the options of a command
@@ -156,7 +160,7 @@ kind_named entries word = option_map (λ (e : Entry). e.kind) (find (λ (e : Ent
 abbrev pub Values : Type 0
 Values = Word → Option Word
 
--- what the values give for an option of each kind: an identifier, a seed, a number, or whether it stands
+-- what the values give for an option of each kind: an identifier, a seed, a number, a family, or whether it stands
 abbrev pub MayIdOf : Choice → Values → Option Id → Type 0
 MayIdOf c value id = MayBeGiven SpellsId (value c.entry.name) id
 
@@ -168,6 +172,9 @@ NumberOf c value n = NumberBy c.entry.kind c.entry.need (value c.entry.name) n
 
 abbrev pub MayNumberOf : Choice → Values → Option ℕ → Type 0
 MayNumberOf c value n = MayNumberBy c.entry.kind (value c.entry.name) n
+
+abbrev pub FamilyOf : Choice → Values → Family → Type 0
+FamilyOf c value family = FamilyBy c.entry.kind c.entry.need (value c.entry.name) family
 
 abbrev pub StandsOf : Choice → Values → Bool → Type 0
 StandsOf c value stands = stands ≡ is_some (value c.entry.name)
@@ -196,6 +203,7 @@ pub record IsLook (goal : Entry) (value : Values) (look : LookWords) : Type 0 wh
   pub timeout : NumberOf timeout_option value look.timeout
   pub bits : NumberOf bits_option value look.bits
   pub policy : PolicyOf value look.policy
+  pub family : FamilyOf family_option value look.family
   pub sealed : StandsOf group_option value look.sealed
 
 -- a part of a command, and the option that gives it: an identifier, a seed, a number, a number that may be left out, whether

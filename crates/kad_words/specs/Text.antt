@@ -7,6 +7,8 @@ use Rattle.kad_base.specs.declared.types.Id.{Id}
 use Rattle.kad_base.specs.declared.types.Ip.{Ip}
 use Rattle.kad_base.specs.declared.types.Ip.TheVariants.{V4, V6}
 use Rattle.kad_base.specs.declared.types.Addr.{Addr}
+use Rattle.kad_base.specs.declared.types.Family.{Family}
+use Rattle.kad_base.specs.declared.types.Family.TheVariants.{Four, Six}
 
 -- the text is that many bytes in hex (base 16 of RFC 4648, section 8): two digits a byte, each of either case
 pub record SpellsHex (size : ℕ) (text bytes : List ℕ) : Type 0 where
@@ -40,13 +42,26 @@ ip_text (V6 bytes) = groups_after (codes "[") bytes ++ codes "]"
 abbrev pub addr_text : Addr → List ℕ
 addr_text addr = ip_text addr.ip ++ codes ":" ++ decimal addr.port
 
--- an address of IPv4
-abbrev pub IsV4 : Ip → Type 0
-IsV4 (V4 bytes) = (length bytes ≡ 4) × IsBytes bytes
-IsV4 (V6 bytes) = ⊥
+-- what an address can hold: 4 bytes or 16, and a port of 16 bits
+abbrev pub FitsIp : Ip → Type 0
+FitsIp (V4 bytes) = (length bytes ≡ 4) × IsBytes bytes
+FitsIp (V6 bytes) = (length bytes ≡ 16) × IsBytes bytes
 
--- the text is the address as it is printed, a.b.c.d:port, and the address is one of IPv4
+abbrev pub FitsAddr : Addr → Type 0
+FitsAddr addr = FitsIp addr.ip × (addr.port < 2 ^ 16)
+
+-- the text is the address as it is printed, a.b.c.d:port or [h:h:h:h:h:h:h:h]:port, but its hex digits have either case. So
+-- each group has four digits, and none is left out
 pub record SpellsAddr (text : List ℕ) (addr : Addr) : Type 0 where
-  pub printed : text ≡ addr_text addr
-  pub v4 : IsV4 addr.ip
-  pub port : addr.port < 2 ^ 16
+  pub fits : FitsAddr addr
+  pub printed : str_to_ascii_lowercase text ≡ addr_text addr
+
+-- the version of the Internet Protocol, by which a family is named
+abbrev pub version : Family → ℕ
+version Four = 4
+version Six = 6
+
+-- the text is the family's version
+abbrev pub SpellsFamily : List ℕ → Family → Type 0
+SpellsFamily text Four = text ≡ codes "4"
+SpellsFamily text Six = text ≡ codes "6"

@@ -1,8 +1,9 @@
 -- What the value of an option gives, where it stands and where it doesn't.
 use Rattle.std.specs.Prelude.{◌≡◌, ℕ, List, Option, Some, None}
-use Rattle.kad_words.specs.Text.{SpellsNumber}
+use Rattle.kad_base.specs.declared.types.Family.{Family}
+use Rattle.kad_words.specs.Text.{SpellsFamily, SpellsNumber, version}
 use Rattle.kad_words.specs.declared.choice.Kind.{Kind}
-use Rattle.kad_words.specs.declared.choice.Kind.TheVariants.{Number}
+use Rattle.kad_words.specs.declared.choice.Kind.TheVariants.{IpVersion, Number}
 use Rattle.kad_words.specs.declared.choice.Need.{Need}
 use Rattle.kad_words.specs.declared.choice.Need.TheVariants.{OrElse}
 
@@ -32,3 +33,9 @@ NumberBy _ _ value n = ⊥
 abbrev pub MayNumberBy : Kind → Option (List ℕ) → Option ℕ → Type 0
 MayNumberBy (Number least most) value n = MayBeGiven (SpellsNumber least most) value n
 MayNumberBy _ value n = ⊥
+
+-- the family of an option with a default, which is a version
+abbrev pub FamilyBy : Kind → Need → Option (List ℕ) → Family → Type 0
+FamilyBy IpVersion (OrElse default) None family = version family ≡ default
+FamilyBy IpVersion (OrElse default) (Some value) family = SpellsFamily value family
+FamilyBy _ _ value family = ⊥

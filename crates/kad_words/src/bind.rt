@@ -1,34 +1,51 @@
 //! What is known of the words before a command is read. It takes no memory.
 ghost use Rattle.std.specs.Prelude.{◌≡◌, ◌↔◌, IsTrue, map, string_bytes};
-ghost use Rattle.kad_words.specs.Bound.{IsBind, IsOverLink, TakesLink, any_address, bound_by};
+ghost use Rattle.kad_words.specs.Bound.{IsBind, IsOverLink, TakesLink, any_address, bound_by, family_by, family_named};
+ghost use Rattle.kad_words.specs.Plain.{pairs_of, value_of};
+ghost use Rattle.kad_words.specs.Table.{family_option, option_word};
 
 use crate::command::{kind_named, links};
 use crate::grammar::value_of;
 use crate::text::read_addr;
-use kad_base::{Addr, Ip};
+use kad_base::{Addr, Family, Ip};
 
 /// The address to bind: the value of the first word pair `--bind`, pairs counted after the command. Where there is none,
-/// or its value is no address, 0.0.0.0:0, by which the system chooses.
+/// or its value is no address, zeros with port 0, by which the system chooses: those of IPv6 where the first word pair
+/// `--family` has the value 6, and else those of IPv4.
 pub fn bind_of(words: &[String]) -> Addr
-    ensures { IsBind (bound_by (map (λ w. string_bytes w) words.now)) result }
+    ensures { let texts = map (λ w. string_bytes w) words.now in
+        IsBind (family_by texts) (bound_by texts) result }
 {
     let [_, rest @ ..] = words else {
-        return any_address();
+        return any_address(Family::Four);
     };
+    let any = any_address(family_in(rest));
     match value_of(rest, "--bind") {
-        Some(text) => read_addr(text).unwrap_or(any_address()),
-        None => any_address(),
+        Some(text) => read_addr(text).unwrap_or(any),
+        None => any,
     }
 }
 
-/// The address by which the system chooses.
-fn any_address() -> Addr
-    ensures { result ≡ any_address }
+/// The family that the words after the command name, whatever else they are.
+fn family_in(words: &[String]) -> Family
+    ensures { result ≡ family_named (value_of (option_word family_option.entry.name)
+        (pairs_of (map (λ w. string_bytes w) words.now))) }
 {
-    Addr {
-        ip: Ip::V4([0; 4]),
-        port: 0,
+    match value_of(words, "--family") {
+        Some("6") => Family::Six,
+        _ => Family::Four,
     }
+}
+
+/// The address by which the system chooses, in the network of a family.
+fn any_address(family: Family) -> Addr
+    ensures { result ≡ any_address family }
+{
+    let ip = match family {
+        Family::Four => Ip::V4([0; 4]),
+        Family::Six => Ip::V6([0; 16]),
+    };
+    Addr { ip, port: 0 }
 }
 
 /// Whether the command asks over a link, as `lookup` does.

@@ -3,7 +3,7 @@ ghost use Rattle.std.specs.Prelude.{◌≡◌, ◌↔◌, IsTrue, option_map};
 ghost use Rattle.kad_words.specs.Table.{option_word};
 ghost use Rattle.kad_words.specs.Plain.{IsOfKind, IsThere, IsValue};
 
-use crate::text::{read_addr, read_hex, read_id, read_number};
+use crate::text::{read_addr, read_family, read_hex, read_id, read_number};
 
 /// What the value of an option is.
 #[derive(Clone, Copy, Debug, PartialEq, Eq)]
@@ -14,7 +14,9 @@ pub(crate) enum Kind {
     Bytes32,
     /// A decimal number without leading zeros, within these bounds.
     Number { least: u32, most: u32 },
-    /// An IPv4 address with its port.
+    /// A version of the Internet Protocol, 4 or 6.
+    IpVersion,
+    /// An address of IPv4 or IPv6 with its port.
     Address,
 }
 
@@ -72,6 +74,7 @@ pub(crate) fn is_of_kind(kind: Kind, text: &str) -> bool
         Kind::Identifier => read_id(text).is_some(),
         Kind::Bytes32 => read_hex::<32>(text).is_some(),
         Kind::Number { least, most } => read_number(text, least, most).is_some(),
+        Kind::IpVersion => read_family(text).is_some(),
         Kind::Address => read_addr(text).is_some(),
     }
 }

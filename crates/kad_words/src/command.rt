@@ -8,12 +8,12 @@ ghost use Rattle.kad_words.specs.declared.command.CommandKind.{CommandKind};
 
 use crate::choice::{Choice, Kind, Need};
 use crate::options::{
-    ALPHA, ANNOUNCE, BIND, BITS, C1, C2, GROUP, HOSTILE, K, KEY, NODES, OWN, PATHS, RECEIVES, SEED,
-    TARGET, TIMEOUT, TRIES,
+    ALPHA, ANNOUNCE, BIND, BITS, C1, C2, FAMILY, GROUP, HOSTILE, K, KEY, NODES, OWN, PATHS,
+    RECEIVES, SEED, TARGET, TIMEOUT, TRIES,
 };
-use crate::values::{id, needed_id, number, policy, port, seed, small, stands};
+use crate::values::{family, id, needed_id, number, policy, port, seed, small, stands};
 use clap::ArgMatches;
-use kad_base::{Id, Policy};
+use kad_base::{Family, Id, Policy};
 use thiserror::Error;
 
 /// A command, with a value for each of its options. `--bind` is in none (see `bind_of`), and of `--group` only that it
@@ -70,8 +70,8 @@ pub enum Command {
 }
 
 /// The options that every lookup has: the target, the node's own identifier where it is named, Kademlia's k, the
-/// disjoint paths, alpha on each, how long to wait for an answer, in milliseconds, Kademlia's b, which contacts pass, and
-/// whether an answer has to carry a group's tag.
+/// disjoint paths, alpha on each, how long to wait for an answer, in milliseconds, Kademlia's b, which contacts pass, the
+/// network it is in, which BEP 32 keeps apart by family, and whether an answer has to carry a group's tag.
 #[derive(Clone, Copy, Debug, PartialEq, Eq)]
 pub struct LookWords {
     pub target: Id,
@@ -82,6 +82,7 @@ pub struct LookWords {
     pub timeout: u32,
     pub bits: u8,
     pub policy: Policy,
+    pub family: Family,
     pub sealed: bool,
 }
 
@@ -96,12 +97,12 @@ pub enum WordsFault {
     NoMemory,
 }
 
-static LOOKUP: [Choice; 11] = [
-    TARGET, OWN, K, PATHS, ALPHA, TIMEOUT, BITS, C1, C2, BIND, GROUP,
+static LOOKUP: [Choice; 12] = [
+    TARGET, OWN, K, PATHS, ALPHA, TIMEOUT, BITS, C1, C2, FAMILY, BIND, GROUP,
 ];
 
-static PEERS: [Choice; 12] = [
-    KEY, OWN, K, PATHS, ALPHA, TIMEOUT, BITS, C1, C2, BIND, GROUP, ANNOUNCE,
+static PEERS: [Choice; 13] = [
+    KEY, OWN, K, PATHS, ALPHA, TIMEOUT, BITS, C1, C2, FAMILY, BIND, GROUP, ANNOUNCE,
 ];
 
 static SERVE: [Choice; 8] = [OWN, K, BITS, C1, C2, BIND, GROUP, RECEIVES];
@@ -201,6 +202,7 @@ fn look(matches: &ArgMatches, goal: &Choice) -> LookWords
         timeout: number(matches, &TIMEOUT),
         bits: small(matches, &BITS),
         policy: policy(matches),
+        family: family(matches, &FAMILY),
         sealed: stands(matches, &GROUP),
     }
 }

@@ -7,6 +7,7 @@ mod choice;
 pub mod command;
 mod grammar;
 mod group;
+mod ipv6;
 mod matched;
 mod options;
 mod reading;

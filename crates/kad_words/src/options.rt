@@ -56,6 +56,12 @@ pub(crate) const C1: Choice = choice!("c1", 0, 32, 0);
 
 pub(crate) const C2: Choice = choice!("c2", 0, 32, 0);
 
+pub(crate) const FAMILY: Choice = Choice {
+    name: "family",
+    kind: Kind::IpVersion,
+    need: Need::OrElse(4),
+};
+
 pub(crate) const BIND: Choice = choice!("bind", Address, Optional);
 
 pub(crate) const GROUP: Choice = choice!("group", Bytes32, Optional);

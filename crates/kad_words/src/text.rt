@@ -1,12 +1,16 @@
-//! How identifiers, numbers and addresses are read from text and printed.
-ghost use Rattle.std.specs.Prelude.{◌≡◌, ◌<◌, ◌^◌, ℕ, List, MatchOption};
+//! How identifiers, numbers, addresses and families are read from text.
+ghost use Rattle.std.specs.Prelude.{◌≡◌, ◌<◌, ◌^◌, ℕ, List, IsTrue, MatchOption};
+ghost use Rattle.kad_base.specs.Contacts.{of_family};
 ghost use Rattle.kad_base.specs.declared.types.Id.{Id};
 ghost use Rattle.kad_base.specs.declared.types.Addr.{Addr};
-ghost use Rattle.kad_words.specs.Text.{SpellsHex, SpellsId, SpellsNumber, SpellsAddr};
+ghost use Rattle.kad_base.specs.declared.types.Family.{Family};
+ghost use Rattle.kad_base.specs.declared.types.Family.TheVariants.{Four};
+ghost use Rattle.kad_words.specs.Text.{SpellsAddr, SpellsFamily, SpellsHex, SpellsId, SpellsNumber};
 
+use crate::ipv6::read_v6;
 use hex::FromHex;
 use itoa::Buffer;
-use kad_base::{Addr, Id, Ip};
+use kad_base::{Addr, Family, Id, Ip};
 use std::net::Ipv4Addr;
 
 /// Reads bytes in hex, two digits a byte, of either case.
@@ -37,9 +41,22 @@ pub fn read_number(text: &str, least: u32, most: u32) -> Option<u32>
     (buffer.format(number) == text).then_some(number)
 }
 
-/// Reads an IPv4 address with its port, `a.b.c.d:port`.
+/// Reads an address with its port: `a.b.c.d:port`, or `[h:h:h:h:h:h:h:h]:port` where each h is four hex digits, of either
+/// case. Shortened forms of IPv6 are refused.
 pub fn read_addr(text: &str) -> Option<Addr>
     ensures { MatchOption result ((addr : Addr) → ¬ SpellsAddr text.now addr)
+        (λ addr. SpellsAddr text.now addr) }
+{
+    match read_v6(text.as_bytes()) {
+        Some(addr) => Some(addr),
+        None => read_v4(text),
+    }
+}
+
+/// Reads an IPv4 address with its port.
+fn read_v4(text: &str) -> Option<Addr>
+    ensures { MatchOption result
+        ((addr : Addr) → IsTrue (of_family Four addr.ip) → ¬ SpellsAddr text.now addr)
         (λ addr. SpellsAddr text.now addr) }
 {
     let (ip, port) = text.split_once(':')?;
@@ -49,4 +66,16 @@ pub fn read_addr(text: &str) -> Option<Addr>
         ip: Ip::V4(ip.octets()),
         port: port as u16,
     })
+}
+
+/// Reads a family by its version of the Internet Protocol, `4` or `6`.
+pub fn read_family(text: &str) -> Option<Family>
+    ensures { MatchOption result ((family : Family) → ¬ SpellsFamily text.now family)
+        (λ family. SpellsFamily text.now family) }
+{
+    match text {
+        "4" => Some(Family::Four),
+        "6" => Some(Family::Six),
+        _ => None,
+    }
 }

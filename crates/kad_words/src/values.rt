@@ -5,13 +5,13 @@ ghost use Rattle.kad_words.specs.Listed.{entry_of};
 ghost use Rattle.kad_words.specs.Table.{c1_option, c2_option, PolicyOf};
 ghost use Rattle.kad_words.specs.Taken.{taken_of};
 ghost use Rattle.kad_words.specs.Fitting.{Fits, ends_below, has_default, is_below};
-ghost use Rattle.kad_words.specs.Values.{IsGiven, MayBeGiven, MayNumberBy, NumberBy};
+ghost use Rattle.kad_words.specs.Values.{FamilyBy, IsGiven, MayBeGiven, MayNumberBy, NumberBy};
 
 use crate::choice::{Choice, Kind, Need};
 use crate::options::{C1, C2};
-use crate::text::{read_hex, read_id, read_number};
+use crate::text::{read_family, read_hex, read_id, read_number};
 use clap::ArgMatches;
-use kad_base::{Id, Policy};
+use kad_base::{Family, Id, Policy};
 
 /// The identifier of an option that has to stand.
 pub(crate) fn needed_id(matches: &ArgMatches, choice: &Choice) -> Id
@@ -68,6 +68,20 @@ pub(crate) fn small(matches: &ArgMatches, choice: &Choice) -> u8
         (taken_of matches.now choice.now.name.now) result }
 {
     number(matches, choice) as u8
+}
+
+/// The family of an option, or that of IPv4.
+pub(crate) fn family(matches: &ArgMatches, choice: &Choice) -> Family
+    requires fits { Fits (entry_of choice.now) (taken_of matches.now choice.now.name.now) }
+    requires kind { choice.now.kind ≡ Kind.IpVersion }
+    requires need { choice.now.need ≡ Need.OrElse 4 }
+    ensures { FamilyBy choice.now.kind choice.now.need
+        (taken_of matches.now choice.now.name.now) result }
+{
+    match matches.get_str(choice.name) {
+        Some(text) => read_family(text).unwrap(),
+        None => Family::Four,
+    }
 }
 
 /// The port of an option that may be left out.
