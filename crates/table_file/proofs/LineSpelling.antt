@@ -17,7 +17,7 @@ use Rattle.table_file.specs.Reading.{IsCut, Lacks, Spells, SpellsAddr, SpellsCon
 use Rattle.table_file.specs.SavedText.{FitsContact, FitsId, prefix_text, text_of}
 use Rattle.table_file.proofs.Once.{kind, kind_told, mark, same_rest}
 use Rattle.table_file.proofs.PartSpelling.{lacking, spaced}
-use Rattle.table_file.proofs.Visible.{addr_visible, decimal_visible, id_visible}
+use Rattle.kad_words.proofs.AddrText.{addr_visible, decimal_visible, hex_visible}
 
 -- ---- each kind, from its word
 
@@ -200,7 +200,7 @@ pub table_cut : (text a b c d : List ℕ) (l : Line) → IsCut 32 text a b → I
 table_cut text a b c d l u v t =
     let fits = t.fits in
     let small = fits.1 in
-    let one = spaced text (encode_lower t.own.0) (decimal t.k ++ (32 ∷ decimal t.b)) a b u (id_visible t.own.0 t.fits.0.1) t.printed in
+    let one = spaced text (encode_lower t.own.0) (decimal t.k ++ (32 ∷ decimal t.b)) a b u (hex_visible t.own.0 t.fits.0.1) t.printed in
     let two = spaced b (decimal t.k) (decimal t.b) c d v (decimal_visible t.k (omega arith)) one.1 in
     (record { long = t.fits.0.0; fit = t.fits.0.1; digits = one.0 }, two.0, two.1)
 
@@ -209,7 +209,7 @@ table_uncut text l w t = lacking 32 text (encode_lower t.own.0) _ w t.printed
 
 pub table_uncut_behind : (text a b : List ℕ) (l : Line) → IsCut 32 text a b → Lacks 32 b → IsTable text l → ⊥
 table_uncut_behind text a b l u w t =
-    let one = spaced text (encode_lower t.own.0) (decimal t.k ++ (32 ∷ decimal t.b)) a b u (id_visible t.own.0 t.fits.0.1) t.printed in
+    let one = spaced text (encode_lower t.own.0) (decimal t.k ++ (32 ∷ decimal t.b)) a b u (hex_visible t.own.0 t.fits.0.1) t.printed in
     lacking 32 b (decimal t.k) (decimal t.b) w one.1
 
 pub table_read : (text a b c d : List ℕ) (own : Id) (k m : ℕ) → IsCut 32 text a b → IsCut 32 b c d → SpellsLower 20 a own.0 → (k ≤ 255) × (c ≡ decimal k) → (m ≤ 255) × (d ≡ decimal m)
@@ -219,7 +219,7 @@ table_read text a b c d own k m u v s ck dm = table_line text own k m (s.long, s
 pub live_cut : (text a b c d : List ℕ) (l : Line) → IsCut 32 text a b → IsCut 32 b c d → (t : IsLive text l) → SpellsLower 20 a t.entry.contact.id.0 × SpellsAddr c t.entry.contact.addr × (d ≡ decimal t.entry.failures)
 live_cut text a b c d l u v t =
     let x = t.entry.contact in
-    let one = spaced text (encode_lower x.id.0) (addr_text x.addr ++ (32 ∷ decimal t.entry.failures)) a b u (id_visible x.id.0 t.fits.0.1) t.printed in
+    let one = spaced text (encode_lower x.id.0) (addr_text x.addr ++ (32 ∷ decimal t.entry.failures)) a b u (hex_visible x.id.0 t.fits.0.1) t.printed in
     let two = spaced b (addr_text x.addr) (decimal t.entry.failures) c d v (addr_visible x.addr t.fits.1) one.1 in
     (record { long = t.fits.0.0; fit = t.fits.0.1; digits = one.0 }, record { fits = t.fits.1; printed = two.0 }, two.1)
 
@@ -229,7 +229,7 @@ live_uncut text l w t = lacking 32 text (encode_lower t.entry.contact.id.0) _ w 
 pub live_uncut_behind : (text a b : List ℕ) (l : Line) → IsCut 32 text a b → Lacks 32 b → IsLive text l → ⊥
 live_uncut_behind text a b l u w t =
     let x = t.entry.contact in
-    let one = spaced text (encode_lower x.id.0) (addr_text x.addr ++ (32 ∷ decimal t.entry.failures)) a b u (id_visible x.id.0 t.fits.0.1) t.printed in
+    let one = spaced text (encode_lower x.id.0) (addr_text x.addr ++ (32 ∷ decimal t.entry.failures)) a b u (hex_visible x.id.0 t.fits.0.1) t.printed in
     lacking 32 b (addr_text x.addr) (decimal t.entry.failures) w one.1
 
 pub live_read : (text a b c d : List ℕ) (id : Id) (addr : Addr) (n : ℕ) → IsCut 32 text a b → IsCut 32 b c d → SpellsLower 20 a id.0 → SpellsAddr c addr → (n ≤ 1) × (d ≡ decimal n)

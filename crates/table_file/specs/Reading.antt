@@ -5,12 +5,10 @@ use Rattle.std.specs.Str.{byte}
 use Rattle.hex.specs.Hex.{encode_lower, IsBytes}
 use Rattle.kad_base.specs.declared.types.Addr.{Addr}
 use Rattle.kad_base.specs.declared.types.Contact.{Contact}
-use Rattle.kad_base.specs.declared.types.Ip.{Ip}
-use Rattle.kad_base.specs.declared.types.Ip.TheVariants.{V4, V6}
-use Rattle.kad_words.specs.Text.{addr_text, groups_after}
+use Rattle.kad_words.specs.Text.{FitsAddr, addr_text}
 use Rattle.contact_table.specs.declared.saved.Saved.{Saved}
 use Rattle.table_file.specs.declared.line.Line.{Line}
-use Rattle.table_file.specs.SavedText.{FitsAddr, FitsContact, FitsLine, IsSavedText, contact_text, text_of}
+use Rattle.table_file.specs.SavedText.{FitsContact, FitsLine, IsSavedText, contact_text, text_of}
 
 -- ---- which line is bad
 
@@ -51,29 +49,9 @@ pub record SpellsLower (size : ℕ) (text bytes : List ℕ) : Type 0 where
   pub fit : IsBytes bytes
   pub digits : text ≡ encode_lower bytes
 
--- a group of IPv6 and what stands in front of it, and then a rest
-pub record SpellsGroup (lead : ℕ) (text bytes rest : List ℕ) : Type 0 where
-  pub long : length bytes ≡ 2
-  pub fit : IsBytes bytes
-  pub digits : text ≡ lead ∷ (encode_lower bytes ++ rest)
-
--- the eight groups of an address of IPv6, and then a rest
-pub record SpellsGroups (text bytes rest : List ℕ) : Type 0 where
-  pub long : length bytes ≡ 16
-  pub fit : IsBytes bytes
-  pub digits : text ≡ groups_after (codes "[") bytes ++ rest
-
 pub record SpellsAddr (text : List ℕ) (addr : Addr) : Type 0 where
   pub fits : FitsAddr addr
   pub printed : text ≡ addr_text addr
-
-abbrev pub IsV4 : Ip → Type 0
-IsV4 (V4 bytes) = Unit {0}
-IsV4 (V6 bytes) = ⊥
-
-abbrev pub IsV6 : Ip → Type 0
-IsV6 (V4 bytes) = ⊥
-IsV6 (V6 bytes) = Unit {0}
 
 pub record SpellsContact (text : List ℕ) (contact : Contact) : Type 0 where
   pub fits : FitsContact contact

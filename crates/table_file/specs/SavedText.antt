@@ -1,14 +1,11 @@
 -- How a saved table is spelled: one line for each thing that it holds, so that a person can read it. The format is this
 -- project's own.
-use Rattle.std.specs.Prelude.{◌≡◌, ℕ, ◌^◌, ◌<◌, ◌≤◌, Bool, true, false, List, [], ◌∷◌, ◌++◌, length, map, flat_map, codes, decimal}
+use Rattle.std.specs.Prelude.{◌≡◌, ℕ, ◌<◌, ◌≤◌, Bool, true, false, List, [], ◌∷◌, ◌++◌, length, map, flat_map, codes, decimal}
 use Rattle.std.specs.List.{All}
 use Rattle.hex.specs.Hex.{encode_lower, IsBytes}
 use Rattle.kad_base.specs.declared.types.Id.{Id}
-use Rattle.kad_base.specs.declared.types.Ip.{Ip}
-use Rattle.kad_base.specs.declared.types.Ip.TheVariants.{V4, V6}
-use Rattle.kad_base.specs.declared.types.Addr.{Addr}
 use Rattle.kad_base.specs.declared.types.Contact.{Contact}
-use Rattle.kad_words.specs.Text.{addr_text}
+use Rattle.kad_words.specs.Text.{FitsAddr, addr_text}
 use Rattle.bucket_tree.specs.declared.rows.Row.{Row}
 use Rattle.contact_table.specs.declared.saved.Saved.{Saved}
 use Rattle.table_file.specs.declared.line.Line.{Line}
@@ -62,13 +59,6 @@ saved_text saved = joined (lines_of saved)
 
 abbrev pub FitsId : Id → Type 0
 FitsId id = (length id.0 ≡ 20) × IsBytes id.0
-
-abbrev pub FitsIp : Ip → Type 0
-FitsIp (V4 bytes) = (length bytes ≡ 4) × IsBytes bytes
-FitsIp (V6 bytes) = (length bytes ≡ 16) × IsBytes bytes
-
-abbrev pub FitsAddr : Addr → Type 0
-FitsAddr addr = FitsIp addr.ip × (addr.port < 2 ^ 16)
 
 abbrev pub FitsContact : Contact → Type 0
 FitsContact c = FitsId c.id × FitsAddr c.addr
