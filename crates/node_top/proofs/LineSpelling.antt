@@ -1,6 +1,6 @@
 -- A contact line is cut at its spaces.
 use Rattle.std.proofs.Common.{◌≡◌, ℕ, ◌<◌, true, false, List, [], ◌∷◌, ◌++◌, length, get_or, Option, Some, None, MatchOption, refl, sym, ap, ◌∙◌, arith, Bor, lit<}
-use Rattle.std.specs.Prelude.{decimal, codes, All, IsAscii, IsUtf8, ◌==◌}
+use Rattle.std.specs.Prelude.{codes, All, IsAscii, IsUtf8, ◌==◌}
 use Rattle.std.specs.Str.Lines.{strip_carriage_return}
 use Rattle.std.proofs.lemmas.Str.{IsUtf8-from_ascii}
 use Rattle.std.proofs.Math.Seq.{get_or-append_seam}
@@ -13,28 +13,16 @@ use Rattle.kad_base.specs.declared.types.Proof.{Proof}
 use Rattle.kad_base.specs.declared.types.Report.{Report}
 use Rattle.kad_base.specs.declared.types.Addr.{Addr}
 use Rattle.kad_base.specs.declared.types.Id.{Id}
-use Rattle.kad_words.specs.Text.{SpellsAddr, SpellsHex, SpellsId, ip_text}
+use Rattle.kad_words.specs.Text.{SpellsAddr, SpellsHex, SpellsId}
 use Rattle.node_top.specs.Lines.{EndsWithProof, IsBad, IsContactLine, IsPassedOver, SpellsProof}
-use Rattle.kad_words.proofs.AddrSpelling.{decimal_digits, v4_bytes}
+use Rattle.kad_words.proofs.AddrText.{IsVisible, spelled_visible}
 use Rattle.kad_words.proofs.HexSpelling.{spells_digits}
-
--- a visible ASCII character
-abbrev pub IsVisible : ℕ → Type 0
-IsVisible c = (32 < c) × (c < 128)
 
 digit_visible : (c : ℕ) → is_hex_digit c ≡ true → IsVisible c
 digit_visible c h = (grind (arith), grind (arith))
 
 pub hex_visible : (n : ℕ) (text bytes : List ℕ) → SpellsHex n text bytes → All IsVisible text
 hex_visible n text bytes s k d lt = digit_visible (get_or text k d) ((spells_digits n text bytes s).1 k d lt)
-
-pub addr_visible : (text : List ℕ) (addr : Addr) → SpellsAddr text addr → All IsVisible text
-addr_visible text addr s =
-    let below = s.port in
-    let ip : All IsVisible (ip_text addr.ip) = (λ k d lt. let b = v4_bytes addr.ip s.v4 k d lt in (omega arith, omega arith)) in
-    let port : All IsVisible (decimal addr.port) = (λ k d lt. let b = decimal_digits addr.port (omega arith) k d lt in (omega arith, omega arith)) in
-    let colon : All IsVisible (codes ":") = All-cons IsVisible 58 [] (lit< tt, lit< tt) (All-nil IsVisible) in
-    rw s.printed (All-append IsVisible _ _ (All-append IsVisible _ _ ip colon) port)
 
 -- ---- where a text is cut at its first space
 
@@ -92,11 +80,11 @@ rest_cut : (text address rest : List ℕ) (addr : Addr) (proof : Option Proof) (
     → MatchOption r (SpellsAddr text addr × (proof ≡ None)) (λ x. SpellsAddr x.0.now addr × HasProof x.1.now proof)
 rest_cut text address rest addr None None h e s p = (bare text address rest addr e s p, refl)
 rest_cut text address rest addr None (Some x) h e s p =
-    absurd (uncut text x.0.now x.1.now (addr_visible text addr (bare text address rest addr e s p)) (split_parts 32 text (Some x) h (lit< tt)).0)
+    absurd (uncut text x.0.now x.1.now (spelled_visible text addr (bare text address rest addr e s p)) (split_parts 32 text (Some x) h (lit< tt)).0)
 rest_cut text address rest addr (Some proof) None h e s p =
-    absurd (cut_after text address p.0 None h (e ∙ ap (λ (l : List ℕ). address ++ l) p.1) (addr_visible address addr s))
+    absurd (cut_after text address p.0 None h (e ∙ ap (λ (l : List ℕ). address ++ l) p.1) (spelled_visible address addr s))
 rest_cut text address rest addr (Some proof) (Some x) h e s p =
-    let cut = cut_after text address p.0 (Some x) h (e ∙ ap (λ (l : List ℕ). address ++ l) p.1) (addr_visible address addr s) in
+    let cut = cut_after text address p.0 (Some x) h (e ∙ ap (λ (l : List ℕ). address ++ l) p.1) (spelled_visible address addr s) in
     (rw cut.0 s, record { it = proof; is = refl; spells = rw cut.1 p.2 })
 
 pub follows_cut : (text : List ℕ) (report : Report) (r : Option (Bor (List ℕ) × Bor (List ℕ))) → IsSplitOnceResult 32 text r → FollowsId text report
@@ -155,7 +143,7 @@ line_ascii line report s =
     let P : ℕ → Type 0 = λ c. c < 128 in
     let space = All-cons P 32 [] (lit< tt) (All-nil P) in
     let id = ascii_of s.id (hex_visible 20 s.id report.contact.id.0 s.spells_id) in
-    let addr = ascii_of s.address (addr_visible s.address report.contact.addr s.spells_addr) in
+    let addr = ascii_of s.address (spelled_visible s.address report.contact.addr s.spells_addr) in
     let end = end_ascii s.rest report.proof s.ends in
     IsAscii-from_all line (rw s.spelled (All-append P _ _ (All-append P _ _ (All-append P _ _ id space) addr) end))
 

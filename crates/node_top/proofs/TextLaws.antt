@@ -1,24 +1,22 @@
 -- A text has one reading.
-use Rattle.std.proofs.Common.{◌≡◌, ◌≢◌, ℕ, suc, ◌+◌, ◌/◌, ◌%◌, ◌^◌, ◌<◌, true, List, [], ◌∷◌, ◌++◌, length, slice_index, Option, Some, None, refl, sym, ap, ◌∙◌, subst, arith}
+use Rattle.std.proofs.Common.{◌≡◌, ◌≢◌, ℕ, suc, ◌+◌, true, List, [], ◌∷◌, ◌++◌, length, Option, Some, None, refl, sym, ap, ◌∙◌, subst, arith}
 use Rattle.std.specs.Prelude.{codes, All, flat_map, option_to_list}
-use Rattle.std.specs.Char.{to_ascii_lowercase}
-use Rattle.std.specs.Str.{str_to_ascii_lowercase}
 use Rattle.std.specs.List.{AllZip, AllPass}
 use Rattle.std.proofs.lemmas.List.{append_assoc, append-nil}
 use Rattle.std.proofs.lemmas.List.Elements.{All-head}
-use Rattle.hex.specs.Hex.{IsBytes, encode_lower, encode_with, is_hex_digit, lower_digits}
+use Rattle.hex.specs.Hex.{IsBytes, encode_lower, is_hex_digit}
 use Rattle.kad_base.specs.declared.types.Id.{Id}
 use Rattle.kad_base.specs.declared.types.Addr.{Addr}
 use Rattle.kad_base.specs.declared.types.Contact.{Contact}
 use Rattle.kad_base.specs.declared.types.Proof.{Proof}
 use Rattle.kad_base.specs.declared.types.Report.{Report}
-use Rattle.kad_words.specs.Text.{IsV4, SpellsAddr, SpellsHex, SpellsId, addr_text}
+use Rattle.kad_words.specs.Text.{FitsAddr, SpellsAddr, SpellsHex, SpellsId, addr_text}
 use Rattle.node_top.specs.Lines.{EndsWithProof, IsBad, IsContactLine, IsFirstBad, IsPassedOver, Reporting, SpellsProof, Tells}
 use Rattle.node_top.specs.Printed.{contact_text}
-use Rattle.kad_words.proofs.HexSpelling.{lower_digit, spells_digits}
+use Rattle.kad_words.proofs.AddrText.{IsVisible, addr_itself, lower_hex, spelled_visible}
+use Rattle.kad_words.proofs.HexSpelling.{spells_digits}
 use Rattle.kad_words.proofs.OneSpelling.{addr_once, cut_once, hex_once, id_once}
-use Rattle.hex.proofs.HexLemmas.{IsDigits-lower_digits}
-use Rattle.node_top.proofs.LineSpelling.{IsVisible, addr_visible, hex_visible, plain_line, uncut}
+use Rattle.node_top.proofs.LineSpelling.{hex_visible, plain_line, uncut}
 
 no_space : (xs : List ℕ) → All IsVisible xs → All (λ d. d ≢ 32) xs
 no_space xs h k d lt e = let v = h k d lt in omega arith
@@ -39,12 +37,12 @@ ends_once x y p q a b None None e s t hp hq =
     let same : x ≡ y = sym (append-nil x) ∙ ap (λ (l : List ℕ). x ++ l) (sym hp) ∙ e ∙ ap (λ (l : List ℕ). y ++ l) hq ∙ append-nil y in
     (addr_once y a b (subst (λ (l : List ℕ). SpellsAddr l a) same s) t, refl)
 ends_once x y p q a b None (Some d) e s t hp hq =
-    absurd (uncut x y hq.0 (addr_visible x a s) (sym (append-nil x) ∙ ap (λ (l : List ℕ). x ++ l) (sym hp) ∙ e ∙ ap (λ (l : List ℕ). y ++ l) hq.1))
+    absurd (uncut x y hq.0 (spelled_visible x a s) (sym (append-nil x) ∙ ap (λ (l : List ℕ). x ++ l) (sym hp) ∙ e ∙ ap (λ (l : List ℕ). y ++ l) hq.1))
 ends_once x y p q a b (Some c) None e s t hp hq =
-    absurd (uncut y x hp.0 (addr_visible y b t) (sym (append-nil y) ∙ ap (λ (l : List ℕ). y ++ l) (sym hq) ∙ sym e ∙ ap (λ (l : List ℕ). x ++ l) hp.1))
+    absurd (uncut y x hp.0 (spelled_visible y b t) (sym (append-nil y) ∙ ap (λ (l : List ℕ). y ++ l) (sym hq) ∙ sym e ∙ ap (λ (l : List ℕ). x ++ l) hp.1))
 ends_once x y p q a b (Some c) (Some d) e s t hp hq =
     let joined : x ++ (32 ∷ hp.0) ≡ y ++ (32 ∷ hq.0) = ap (λ (l : List ℕ). x ++ l) (sym hp.1) ∙ e ∙ ap (λ (l : List ℕ). y ++ l) hq.1 in
-    let cut = cut_once 32 x y hp.0 hq.0 (no_space x (addr_visible x a s)) (no_space y (addr_visible y b t)) joined in
+    let cut = cut_once 32 x y hp.0 hq.0 (no_space x (spelled_visible x a s)) (no_space y (spelled_visible y b t)) joined in
     (addr_once y a b (subst (λ (l : List ℕ). SpellsAddr l a) cut.0 s) t, ap (λ (z : Proof). Some z) (proof_once hq.0 c d (subst (λ (l : List ℕ). SpellsProof l c) cut.1 hp.2) hq.2))
 
 whole : (line id address rest : List ℕ) → line ≡ id ++ codes " " ++ address ++ rest → line ≡ id ++ (32 ∷ (address ++ rest))
@@ -124,23 +122,10 @@ bad_once input m n f g =
 
 -- ---- what is printed reads back
 
-lower_stays : (v : ℕ) → v < 16 → to_ascii_lowercase (slice_index lower_digits v) ≡ slice_index lower_digits v
-lower_stays v lt = sym (lower_digit (slice_index lower_digits v) v (IsDigits-lower_digits v lt))
-
-lower_hex : (bytes : List ℕ) → IsBytes bytes → str_to_ascii_lowercase (encode_lower bytes) ≡ encode_lower bytes
-unfolding encode_with
-lower_hex [] h = refl
-lower_hex (b ∷ bytes) h =
-    let fits : b < 256 = h 0 in
-    let high = lower_stays (b / 16) (omega arith) in
-    let low = lower_stays (b % 16) (omega arith) in
-    let rest = lower_hex bytes (λ k. h (suc k)) in
-    rw (high, low, rest) refl
-
-pub reads_back : (contact : Contact) → length contact.id.0 ≡ 20 → IsBytes contact.id.0 → IsV4 contact.addr.ip → contact.addr.port < 2 ^ 16
+pub reads_back : (contact : Contact) → length contact.id.0 ≡ 20 → IsBytes contact.id.0 → FitsAddr contact.addr
     → IsContactLine (contact_text contact) (record { contact = contact; proof = None })
-reads_back contact len fit v4 port =
+reads_back contact len fit fits =
     plain_line (contact_text contact) (encode_lower contact.id.0) (addr_text contact.addr) contact.id contact.addr
     (append_assoc (encode_lower contact.id.0) (codes " ") (addr_text contact.addr))
     (record { long = len; fit = fit; digits = lower_hex contact.id.0 fit })
-    (record { printed = refl; v4 = v4; port = port })
+    (addr_itself contact.addr fits)

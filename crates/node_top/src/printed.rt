@@ -1,9 +1,9 @@
 //! What is printed.
-ghost use Rattle.std.specs.Prelude.{◌≡◌, ◌++◌, ◌^◌, ◌<◌, IfOk, OnOk, length, string_bytes};
+ghost use Rattle.std.specs.Prelude.{◌≡◌, ◌++◌, IfOk, OnOk, length, string_bytes};
 ghost use Rattle.hex.specs.Hex.{IsBytes};
 ghost use Rattle.kad_base.specs.declared.types.Contact.{Contact};
 ghost use Rattle.kad_base.specs.declared.types.Ip.TheVariants.{V6};
-ghost use Rattle.kad_words.specs.Text.{IsV4, addr_text, ip_text};
+ghost use Rattle.kad_words.specs.Text.{FitsAddr, addr_text, ip_text};
 ghost use Rattle.node_top.specs.Lines.{IsContactLine};
 ghost use Rattle.node_top.specs.Printed.{printed, contact_text, counts_text, line_of, peers_text, printed_peers};
 
@@ -145,9 +145,9 @@ fn print_groups(alloc: Global, bytes: [u8; 16]) -> Result<String, AllocError>
     Ok(text)
 }
 
-/// A contact of IPv4 as it is printed is a contact line that names it.
+/// A contact as it is printed is a contact line that names it.
 pub(crate) fn reads_back()
     ensures { (contact : Contact) → length contact.id.0 ≡ 20 → IsBytes contact.id.0
-        → IsV4 contact.addr.ip → contact.addr.port < 2 ^ 16
+        → FitsAddr contact.addr
         → IsContactLine (contact_text contact) (record { contact = contact; proof = None }) }
 {}

@@ -1,6 +1,7 @@
 //! Lists of words and what each gives. Words are parted by one space; `ID` stands for an identifier of 40 digits, `SEED`
 //! for 64 and `ZEROS` for 64 zeros.
-use kad_base::{Addr, Id, Ip, Policy};
+use kad_base::{Addr, Family, Id, Ip, Policy};
+use kad_words::text::read_addr;
 use kad_words::{Command, LookWords, WordsFault, bind_of, group_of, lacks_group, read, takes_link};
 use std::alloc::{AllocError, Global};
 
@@ -57,6 +58,7 @@ fn look() -> LookWords {
         timeout: 2000,
         bits: 1,
         policy: Policy::Plain,
+        family: Family::Four,
         sealed: false,
     }
 }
@@ -125,6 +127,18 @@ fn words_of_a_lookup(rt: HostRuntime) {
             },
         ),
         ("lookup --target ID --bind 127.0.0.1:7000", look),
+        ("lookup --target ID --family 4", look),
+        (
+            "lookup --family 6 --target ID --bind 127.0.0.1:7000",
+            LookWords {
+                family: Family::Six,
+                ..look
+            },
+        ),
+        (
+            "lookup --target ID --bind [2001:0Db8:0000:0000:0000:0000:0000:00fF]:65535",
+            look,
+        ),
         (
             "lookup --group SEED --target ID",
             LookWords {
@@ -189,7 +203,7 @@ fn words_of_the_other_commands(rt: HostRuntime) {
             },
         ),
         (
-            "peers --key ID --own ID --k 20 --paths 8 --alpha 4 --timeout 60000 --bits 5 --c1 32 --c2 32 --bind 1.2.3.4:5 --group SEED --announce 1",
+            "peers --key ID --own ID --k 20 --paths 8 --alpha 4 --timeout 60000 --bits 5 --c1 32 --c2 32 --family 6 --bind 1.2.3.4:5 --group SEED --announce 1",
             Command::Peers {
                 look: LookWords {
                     target: id(),
@@ -200,6 +214,7 @@ fn words_of_the_other_commands(rt: HostRuntime) {
                     timeout: 60000,
                     bits: 5,
                     policy: Policy::Puzzled { c1: 32, c2: 32 },
+                    family: Family::Six,
                     sealed: true,
                 },
                 announce: Some(1),
@@ -347,7 +362,13 @@ fn words_that_are_refused(rt: HostRuntime) {
         "lookup --target ID --bind 127.0.0.1",
         "lookup --target ID --bind 127.0.0.1:65536",
         "lookup --target ID --bind 127.0.0.01:1",
+        "lookup --target ID --bind [::1]:1",
         "lookup --target ID --announce 1",
+        "lookup --target ID --family 5",
+        "lookup --target ID --family 06",
+        "lookup --target ID --family 46",
+        "lookup --target ID --family",
+        "lookup --target ID --family 4 --family 4",
         "lookup --target ID --group",
         "lookup --target ID --group ID",
         "lookup --target ID --group 010000000000000000000000000000000000000000000000000000000000000",
@@ -361,10 +382,12 @@ fn words_that_are_refused(rt: HostRuntime) {
         "serve --receives 0",
         "serve --receives 1000000001",
         "serve --paths 1",
+        "serve --family 4",
         "table --target ID",
         "table --group SEED",
         "table --bind 127.0.0.1:1",
         "table --k 0",
+        "table --family 4",
         "check --c2 33",
         "check --k 1",
         "check --group SEED",
@@ -376,6 +399,7 @@ fn words_that_are_refused(rt: HostRuntime) {
         "sim --nodes 20001",
         "sim --hostile 101",
         "sim --c1 1",
+        "sim --family 4",
         "sim --group SEED",
         "sim --h 1",
     ] {
@@ -387,20 +411,101 @@ fn words_that_are_refused(rt: HostRuntime) {
     }
 }
 
+/// An address of IPv6 that begins and ends with these bytes, between which are zeros.
+fn six(first: u8, last: u8, port: u16) -> Addr {
+    let mut bytes = [0; 16];
+    bytes[0] = first;
+    bytes[15] = last;
+    Addr {
+        ip: Ip::V6(bytes),
+        port,
+    }
+}
+
+/// An address of IPv4.
+fn four(ip: [u8; 4], port: u16) -> Addr {
+    Addr {
+        ip: Ip::V4(ip),
+        port,
+    }
+}
+
+#[test]
+fn addresses_as_they_are_written(rt: HostRuntime) {
+    let all = Addr {
+        ip: Ip::V6([
+            0x01, 0x23, 0x45, 0x67, 0x89, 0xab, 0xcd, 0xef, 0xfe, 0xdc, 0xba, 0x98, 0x76, 0x54,
+            0x32, 0x10,
+        ]),
+        port: 65535,
+    };
+    for (text, addr) in [
+        ("127.0.0.1:0", four([127, 0, 0, 1], 0)),
+        ("255.255.255.255:65535", four([255; 4], 65535)),
+        ("[0000:0000:0000:0000:0000:0000:0000:0000]:0", six(0, 0, 0)),
+        (
+            "[ff00:0000:0000:0000:0000:0000:0000:0001]:6001",
+            six(255, 1, 6001),
+        ),
+        ("[0123:4567:89ab:cdef:fedc:ba98:7654:3210]:65535", all),
+        ("[0123:4567:89AB:CDEF:FEDC:BA98:7654:3210]:65535", all),
+        ("[0123:4567:89aB:CdEf:fEdC:Ba98:7654:3210]:65535", all),
+    ] {
+        assert_eq!(rt; read_addr(text), Some(addr), "at {text}");
+    }
+}
+
+#[test]
+fn texts_that_are_no_address(rt: HostRuntime) {
+    for text in [
+        "",
+        "127.0.0.1",
+        "127.0.0.1:",
+        "127.0.0.1:65536",
+        "127.0.0.1:00",
+        "127.0.0:1",
+        "256.0.0.1:1",
+        "[127.0.0.1]:1",
+        "[::1]:6001",
+        "[::]:0",
+        "[0:0:0:0:0:0:0:1]:6001",
+        "[0000:0000:0000:0000:0000:0000:0000:001]:6001",
+        "[0000:0000:0000:0000:0000:0000:0000:00001]:6001",
+        "[00000:000:0000:0000:0000:0000:0000:0001]:6001",
+        "[0000:0000:0000:0000:0000:0000:0001]:6001",
+        "[0000:0000:0000:0000:0000:0000:0000:0000:0001]:6001",
+        "[0000:0000:0000:0000:0000:0000:127.0.0.1]:6001",
+        "[0000:0000:0000:0000:0000:0000:0000:000g]:6001",
+        "[0000:0000:0000:0000:0000:0000:0000:0001]:65536",
+        "[0000:0000:0000:0000:0000:0000:0000:0001]:06001",
+        "[0000:0000:0000:0000:0000:0000:0000:0001]:",
+        "[0000:0000:0000:0000:0000:0000:0000:0001]",
+        "[0000:0000:0000:0000:0000:0000:0000:0001]6001",
+        "[0000:0000:0000:0000:0000:0000:0000:0001%1]:6001",
+        "[0000:0000:0000:0000:0000:0000:0000:0001]:6001 ",
+        " [0000:0000:0000:0000:0000:0000:0000:0001]:6001",
+        "[ 000:0000:0000:0000:0000:0000:0000:0001]:6001",
+        "[+000:0000:0000:0000:0000:0000:0000:0001]:6001",
+        "{0000:0000:0000:0000:0000:0000:0000:0001}:6001",
+        "0000:0000:0000:0000:0000:0000:0000:0001:6001",
+    ] {
+        assert_eq!(rt; read_addr(text), None, "at {text}");
+    }
+}
+
 #[test]
 fn the_address_to_bind(rt: HostRuntime) {
-    let four = Addr {
-        ip: Ip::V4([127, 0, 0, 1]),
-        port: 7000,
-    };
-    let chosen = Addr {
-        ip: Ip::V4([0, 0, 0, 0]),
-        port: 0,
-    };
+    let local = four([127, 0, 0, 1], 7000);
+    let chosen = four([0, 0, 0, 0], 0);
+    let chosen_six = six(0, 0, 0);
     for (line, addr, over_link) in [
-        ("lookup --target ID --bind 127.0.0.1:7000", four, true),
-        ("serve --bind 127.0.0.1:7000 --bind 127.0.0.1:1", four, true),
-        ("find --bind 127.0.0.1:7000", four, false),
+        ("lookup --target ID --bind 127.0.0.1:7000", local, true),
+        (
+            "serve --bind 127.0.0.1:7000 --bind 127.0.0.1:1",
+            local,
+            true,
+        ),
+        ("find --bind 127.0.0.1:7000", local, false),
         (
             "peers --bind 127.0.0.1:07000 --bind 127.0.0.1:1",
             chosen,
@@ -408,9 +513,22 @@ fn the_address_to_bind(rt: HostRuntime) {
         ),
         ("check --k --bind 127.0.0.1:7000", chosen, false),
         ("lookup --bind", chosen, true),
-        ("table --bind 127.0.0.1:7000", four, false),
+        ("table --bind 127.0.0.1:7000", local, false),
         ("mint", chosen, false),
         ("", chosen, false),
+        ("lookup --target ID --family 6", chosen_six, true),
+        ("lookup --target ID --family 4", chosen, true),
+        ("peers --family 5 --family 6", chosen, true),
+        ("peers --family 6 --family 4", chosen_six, true),
+        ("sim --family 6", chosen_six, false),
+        ("lookup --k --family 6", chosen, true),
+        ("lookup --family 6 --bind [::1]:7000", chosen_six, true),
+        ("lookup --family 6 --bind 127.0.0.1:7000", local, true),
+        (
+            "serve --bind [ff00:0000:0000:0000:0000:0000:0000:00Fe]:7000",
+            six(255, 254, 7000),
+            true,
+        ),
     ] {
         let words = words_of(rt.alloc(), line).expect(&rt, "memory");
         assert_eq!(rt; bind_of(words.as_slice()), addr, "at {line}");
