@@ -48,6 +48,7 @@ fn send<L: Link>(link: &mut L, to: Addr, reply: &[u8]) -> bool
     ensures sent { Grows (L.told link.old) (L.told link.new)
         (λ es. es ≡ tried result to reply.now ∷ []) }
     ensures recv_faults { L.recv_faults link.old ≤ L.recv_faults link.new }
+    ensures kept { L.kept link.new ≡ L.kept link.old }
 {
     match link.send(to, reply) {
         Ok(()) => true,
@@ -71,6 +72,7 @@ fn answer_one<L: Link, G: Seal>(
     ensures err { OnErr result (EndsEarly node.old from bytes.now at node.new) }
     ensures still { OnErr result (link.new ≡ link.old) }
     ensures recv_faults { L.recv_faults link.old ≤ L.recv_faults link.new }
+    ensures kept { L.kept link.new ≡ L.kept link.old }
 {
     match node.answer(from, bytes, at, seal, out) {
         Answered::Reply(length) => Ok(u32::from(send(link, from, &out[..length]))),
@@ -100,6 +102,7 @@ fn receive<L: Link, G: Seal>(
     ensures link_fault { result ≡ Err ServeFault.LinkFault
         → Rose (L.recv_faults link.old) (L.recv_faults link.new) }
     ensures recv_faults { L.recv_faults link.old ≤ L.recv_faults link.new }
+    ensures kept { L.kept link.new ≡ L.kept link.old }
 {
     let until = server.moment.saturating_add(PATIENCE);
     match link.recv(room, until) {
@@ -140,6 +143,7 @@ pub fn serve_loop<L: Link, G: Seal>(
     ensures link_fault { result ≡ Err ServeFault.LinkFault
         → Rose (L.recv_faults link.old) (L.recv_faults link.new) }
     ensures recv_faults { L.recv_faults link.old ≤ L.recv_faults link.new }
+    ensures kept { L.kept link.new ≡ L.kept link.old }
 {
     let mut server = Server {
         node,

@@ -60,6 +60,7 @@ fn send_one<L: Link>(
         (λ es. es ≡ tried sent a.to (asking tx a.ask) ∷ [])) }
     ensures err { OnErr result (link.new ≡ link.old) }
     ensures recv_faults { L.recv_faults link.old ≤ L.recv_faults link.new }
+    ensures kept { L.kept link.new ≡ L.kept link.old }
 {
     let bytes = datagram(alloc, announced, tx, token)?;
     match link.send(token.contact.addr, bytes.as_slice()) {
@@ -95,6 +96,7 @@ fn announce_to<L: Link>(
         { place = words.old.place + length (first_from tokens.now contact.now) }) }
     ensures err { OnErr result (link.new ≡ link.old) }
     ensures recv_faults { L.recv_faults link.old ≤ L.recv_faults link.new }
+    ensures kept { L.kept link.new ≡ L.kept link.old }
 {
     for token in tokens {
         if is_from(token, contact) {
@@ -125,6 +127,7 @@ pub(crate) fn announce<L: Link>(
         OnErr result (Grows (L.told link.old) (L.told link.new)
         (AnnouncesSome words.old.seed words.old.place all)) }
     ensures recv_faults { L.recv_faults link.old ≤ L.recv_faults link.new }
+    ensures kept { L.kept link.new ≡ L.kept link.old }
 {
     let mut sent = 0;
     for contact in found {

@@ -46,6 +46,7 @@ fn output_of<R: Threads + Wait + Sync, S: Source, L: Link, C: Check + Sync, G: S
         (shown S.left S.faults source.old source.new)
         (shown L.told L.recv_faults link.old link.new)) }
     ensures early { IfErr result (λ status. EndsUnasked (number_of status) → link.new ≡ link.old) }
+    ensures kept { L.kept link.new ≡ L.kept link.old }
     ensures no_memory { IfErr result (λ status. status ≡ Status.NoMemory →
         (promise_of command).begun (called_with call.now.random (G.accepted call.now.seal.now)
         (G.tag_of call.now.seal.now))
@@ -163,6 +164,7 @@ pub(crate) fn asked_output<
         (shown L.told L.recv_faults link.old link.new)) }
     ensures unread { IfErr result (λ status. number_of status ≡ 2 → source.new ≡ source.old) }
     ensures early { IfErr result (λ status. EndsUnasked (number_of status) → link.new ≡ link.old) }
+    ensures kept { L.kept link.new ≡ L.kept link.old }
     ensures no_memory { IfErr result (λ status. status ≡ Status.NoMemory →
         HasBegun (bytes_of words.now) (called_with call.now.random (G.accepted call.now.seal.now)
         (G.tag_of call.now.seal.now))

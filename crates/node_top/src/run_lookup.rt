@@ -83,6 +83,7 @@ pub(crate) fn run_lookup<
         (shown S.left S.faults source.old source.new)
         (shown L.told L.recv_faults link.old link.new) ⊎ (link.new ≡ link.old)) }
     ensures early { IfErr result (λ status. EndsUnasked (number_of status) → link.new ≡ link.old) }
+    ensures kept { L.kept link.new ≡ L.kept link.old }
 {
     let setting = setting_for(kind, look, &call.random);
     let contacts = read_contacts(

@@ -137,6 +137,9 @@ pub fn run<
     ensures no_input { ¬ ReadsInput (bytes_of words.now) → source.new ≡ source.old }
     ensures unasked { EndsUnasked result → link.new ≡ link.old }
     ensures no_link { AsksPlain (bytes_of words.now) → link.new ≡ link.old }
+
+    // What a link keeps whose receives have room for 4,097 bytes: so each of them has.
+    ensures kept { L.kept link.new ≡ L.kept link.old }
     ensures by_command { EndsByCommand (bytes_of words.now) result }
     ensures statuses { (result ≤ last_status) × (result ≢ 1) }
 {

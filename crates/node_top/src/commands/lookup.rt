@@ -65,6 +65,7 @@ pub(crate) fn lookup<
         (shown S.left S.faults source.old source.new)
         (shown L.told L.recv_faults link.old link.new) ⊎ (link.new ≡ link.old)) }
     ensures early { IfErr result (λ status. EndsUnasked (number_of status) → link.new ≡ link.old) }
+    ensures kept { L.kept link.new ≡ L.kept link.old }
 {
     let kind = AskKind::FindNode;
     let reached = run_lookup(rt, alloc, kind, look, source, link, call)?;

@@ -41,6 +41,7 @@ fn announce_told<L: Link>(
     ensures err { let all = owed port own key outcome.now.found outcome.now.tokens in
         OnErr result (Grows (L.told link.old) (L.told link.new)
         (AnnouncesSome words.old.seed words.old.place all)) }
+    ensures kept { L.kept link.new ≡ L.kept link.old }
 {
     let Some(port) = port else {
         return Ok(0);
@@ -88,6 +89,7 @@ pub(crate) fn peers<
         (shown S.left S.faults source.old source.new)
         (shown L.told L.recv_faults link.old link.new) ⊎ (link.new ≡ link.old)) }
     ensures early { IfErr result (λ status. EndsUnasked (number_of status) → link.new ≡ link.old) }
+    ensures kept { L.kept link.new ≡ L.kept link.old }
 {
     let kind = AskKind::GetPeers;
     let reached = run_lookup(rt, alloc, kind, look, source, link, call)?;

@@ -103,6 +103,7 @@ pub(crate) fn serve<S: Source, L: Link, C: Check, G: Seal + SealCheck>(
         (shown S.left S.faults source.old source.new)
         (shown L.told L.recv_faults link.old link.new) ⊎ (link.new ≡ link.old)) }
     ensures early { IfErr result (λ status. EndsUnasked (number_of status) → link.new ≡ link.old) }
+    ensures kept { L.kept link.new ≡ L.kept link.old }
 {
     let own = own_id(service.own, &call.random);
     let host = read_host(alloc, service, own, source, call)?;

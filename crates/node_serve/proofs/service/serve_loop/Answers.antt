@@ -1,4 +1,4 @@
-use Rattle.std.proofs.Common.{◌≡◌, ℕ, subst, rules, arith}
+use Rattle.std.proofs.Common.{◌≡◌, ◌∙◌, ℕ, subst, rules, arith}
 use Rattle.kad_base.specs.Outside.{Grows}
 use Rattle.node_serve.specs.Responded.{ReceivesAll, server_at}
 use Rattle.node_serve.proofs.Receiving.{received_more, all_made}
@@ -12,6 +12,7 @@ loop-i-preserved g c =
       few = (let a = i.few in let b = c.in-Ok.ensures.few in omega (arith, a, b));
       fewer = c.in-Ok.ensures.fewer;
       faults = (let a = i.faults in let b = c.receive.ensures.recv_faults in omega (arith, a, b));
+      kept = c.receive.ensures.kept ∙ i.kept;
     }
 
 pub returns-clause-ok : goal.returns-clause-ok

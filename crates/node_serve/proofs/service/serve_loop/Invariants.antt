@@ -1,4 +1,4 @@
-use Rattle.std.proofs.Common.{◌≤◌}
+use Rattle.std.proofs.Common.{◌≡◌, ◌≤◌}
 use Rattle.kad_base.specs.Outside.{Grows}
 use Rattle.node_serve.specs.Responded.{ReceivesAll, server_at}
 use Rattle.node_serve.proofs.service.serve_loop.Given as goal
@@ -9,4 +9,5 @@ invariant-loop-i g l = record {
   few : l.server.received ≤ l.i;
   fewer : l.server.replied ≤ l.server.received;
   faults : g.L.Link.recv_faults l.fn.link ≤ g.L.Link.recv_faults l.link;
+  kept : g.L.Link.kept l.link ≡ g.L.Link.kept l.fn.link;
 }

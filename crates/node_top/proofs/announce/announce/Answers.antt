@@ -1,4 +1,4 @@
-use Rattle.std.proofs.Common.{ap, arith}
+use Rattle.std.proofs.Common.{ap, ◌∙◌, arith}
 use Rattle.id_puzzles.specs.Drawn.{WordsState}
 use Rattle.node_top.proofs.Announcing.{sends_more, words_more, some_made, few_taken, told_still, any_err}
 use Rattle.node_top.proofs.announce.announce.Goals as goal
@@ -27,4 +27,5 @@ loop-contact-preserved g c =
       words = words_more c.args.words.now c.loop-contact.words c.announce_to.new.words c.args.tokens.now c.args.found.now c.loop-contact.contact-index _ c.loop-contact-test.true i.words c.in_ok-sent.ensures.drawn;
       few = (let b = i.few in let d = c.in_ok-sent.ensures.most in omega (arith, b, d));
       faults = (let b = i.faults in let d = c.announce_to.ensures.recv_faults in omega (arith, b, d));
+      kept = c.announce_to.ensures.kept ∙ i.kept;
     }

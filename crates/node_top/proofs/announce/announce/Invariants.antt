@@ -10,4 +10,5 @@ invariant-loop-contact g l = record {
   words : l.words ≡ words_at l.fn.words l.tokens l.found l.contact-index;
   few : l.sent ≤ l.contact-index;
   faults : g.L.Link.recv_faults l.fn.link ≤ g.L.Link.recv_faults l.link;
+  kept : g.L.Link.kept l.link ≡ g.L.Link.kept l.fn.link;
 }
