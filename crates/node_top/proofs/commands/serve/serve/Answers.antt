@@ -12,7 +12,7 @@ pub new-node-requires-clause-own : goal.new-node-requires-clause-own
 new-node-requires-clause-own g c = own_told _ _ _ c.in_ok-host.ensures.ok.told ∙ sym c.own_id-own.ensures
 
 pub new-node-requires-clause-proofs : goal.new-node-requires-clause-proofs
-new-node-requires-clause-proofs g c = kept_pass _ _ _ _ c.in_ok-host.ensures.ok.keeps
+new-node-requires-clause-proofs g c = kept_pass _ _ _ _ _ c.in_ok-host.ensures.ok.keeps
 
 pub returns-clause-ok : goal.returns-clause-ok
 returns-clause-ok g c =
