@@ -1,0 +1,7 @@
+pub mod Pinging
+pub mod Replying
+pub mod Happening
+pub mod Walking
+pub mod Receiving
+pub mod Trying
+pub mod Wholly

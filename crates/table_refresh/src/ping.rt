@@ -1,5 +1,5 @@
 //! Pings, and sending them.
-ghost use Rattle.std.specs.Prelude.{◌≡◌, ◌≤◌, ◌<◌, ◌+◌, ◌^◌, ◌∷◌, [], true, false};
+ghost use Rattle.std.specs.Prelude.{◌≡◌, ◌≤◌, ◌<◌, ◌+◌, ◌^◌, ◌∷◌, [], length, take, true, false};
 ghost use Rattle.kad_base.specs.declared.types.Event.TheVariants.{Sent, Unsent};
 ghost use Rattle.kad_base.specs.Outside.{Grows};
 ghost use Rattle.kad_base.specs.Words.{word};
@@ -14,17 +14,18 @@ use query_book::Query;
 /// The length of a ping, in bytes.
 const PING: usize = 65;
 
-/// The read-only ping of a node (BEP 5, BEP 43). The transaction id is the four bytes of `tx`, the lowest first.
-fn ping_bytes(own: &Id, tx: u32) -> [u8; 65]
-    ensures { result ≡ form (ping own.now tx) }
+/// Writes the read-only ping of a node (BEP 5, BEP 43), and answers its length. The transaction id is the four bytes of `tx`,
+/// the lowest first.
+fn ping_into(buf: &mut [u8; 65], own: &Id, tx: u32) -> usize
+    ensures own { length own.now.0 ≡ 20 }
+    ensures length { result ≡ 65 }
+    ensures form { take result buf.new ≡ form (ping own.now tx) }
 {
-    let mut buf = [0u8; PING];
-    let at = put_bytes(&mut buf, 0, b"d1:ad2:id20:");
-    let at = put_bytes(&mut buf, at, &own.0);
-    let at = put_bytes(&mut buf, at, b"e1:q4:ping2:roi1e1:t4:");
-    let at = put_bytes(&mut buf, at, &tx.to_le_bytes());
-    let _end = put_bytes(&mut buf, at, b"1:y1:qe");
-    buf
+    let at = put_bytes(buf, 0, b"d1:ad2:id20:");
+    let at = put_bytes(buf, at, &own.0);
+    let at = put_bytes(buf, at, b"e1:q4:ping2:roi1e1:t4:");
+    let at = put_bytes(buf, at, &tx.to_le_bytes());
+    put_bytes(buf, at, b"1:y1:qe")
 }
 
 /// A ping of the contact under the next word, which waits from that moment on.
@@ -54,7 +55,9 @@ pub(crate) fn send_ping<L: Link>(link: &mut L, own: &Id, query: &Query) -> bool
     ensures recv_faults { L.recv_faults link.old ≤ L.recv_faults link.new }
     ensures kept { L.kept link.new ≡ L.kept link.old }
 {
-    match link.send(query.contact.addr, &ping_bytes(own, query.tx)) {
+    let mut buf = [0u8; PING];
+    let len = ping_into(&mut buf, own, query.tx);
+    match link.send(query.contact.addr, &buf[..len]) {
         Ok(()) => true,
         Err(_) => false,
     }

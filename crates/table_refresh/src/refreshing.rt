@@ -6,7 +6,7 @@ ghost use Rattle.table_refresh.specs.Refreshed.{Happens, Refreshed, Unfinished};
 ghost use Rattle.table_refresh.specs.inner.Steps.{PingsThese, TheseEnd};
 
 use crate::head::ping_head;
-use crate::heads::plan;
+use crate::heads::plan_of;
 use crate::types::{Progress, RefreshFault, Setting};
 use contact_table::Table;
 use id_puzzles::Words;
@@ -86,7 +86,7 @@ pub fn refresh<L: Link, G: SealCheck>(
     ensures recv_faults { L.recv_faults link.old ≤ L.recv_faults link.new }
     ensures kept { L.kept link.new ≡ L.kept link.old }
 {
-    let plan = match plan(alloc, &table) {
+    let plan = match plan_of(alloc, &table) {
         Ok(plan) => plan,
         Err(_) => return (table, Err(RefreshFault::NoMemory)),
     };
