@@ -49,25 +49,28 @@ got_gives g q from bytes at place heads again old new t Stray is h = inr (record
 got_gives g q from bytes at place heads again old new t Answer is h = inl (record {
   said = is.said;
   matched = is.matched;
-  gives = inl (is.what, record {
-    table = new.table;
-    seen = h.seen;
-    after = subst (λ x. after new place heads again q x ≡ over (record (waiting old place heads again q) { moment = at }) false new.table) (sym h.is)
-        (over_at place old.strays at heads again false false new refl h.moment h.strays);
-  });
+  gives = inl (
+    is.what,
+    record {
+      table = new.table;
+      seen = h.seen;
+      after = subst (λ x. after new place heads again q x ≡ over (record (waiting old place heads again q) { moment = at }) false new.table) (sym h.is)
+          (over_at place old.strays at heads again false false new refl h.moment h.strays);
+    },
+  );
 })
 got_gives g q from bytes at place heads again old new t Refusal is h = inl (record { said = is.said; matched = is.matched; gives = inr (is.what, fails_at q at place heads again old new t h) })
 
 pub takes_got : (setting : Setting) (accepts : Accepts) (q : Query) (from : Addr) (bytes : List ℕ) (at : ℕ) (old new : Progress) (t : Tried) → TakesDatagram setting.sealed accepts q from bytes at old new t → Takes setting accepts q old new t (Got from bytes q.deadline at ∷ [])
 takes_got setting accepts q from bytes at old new t h = λ seed place heads again.
     let gives : Gives (given_of setting accepts seed) (waiting old place heads again q) (Got from bytes q.deadline at) (after new place heads again q t) =
-        (q, record { waits = refl; until_is = refl }, got_gives (given_of setting accepts seed) q from bytes at place heads again old new t h.pong h.is h.takes) in
+    (q, record { waits = refl; until_is = refl }, got_gives (given_of setting accepts seed) q from bytes at place heads again old new t h.pong h.is h.takes) in
     tells_one (given_of setting accepts seed) (waiting old place heads again q) (Got from bytes q.deadline at) (after new place heads again q t) gives
 
 pub takes_quiet : (setting : Setting) (accepts : Accepts) (q : Query) (at : ℕ) (old new : Progress) (t : Tried) → TakesNone q at old new t → Takes setting accepts q old new t (Quiet q.deadline at ∷ [])
 takes_quiet setting accepts q at old new t h = λ seed place heads again.
     let gives : Gives (given_of setting accepts seed) (waiting old place heads again q) (Quiet q.deadline at) (after new place heads again q t) =
-        (q, record { waits = refl; until_is = refl }, no_reply q at place heads again old new t h) in
+    (q, record { waits = refl; until_is = refl }, no_reply q at place heads again old new t h) in
     tells_one (given_of setting accepts seed) (waiting old place heads again q) (Quiet q.deadline at) (after new place heads again q t) gives
 
 stops_at : (sealed : Bool) (accepts : Accepts) (q : Query) (from : Addr) (bytes : List ℕ) (at : ℕ) (old : Progress) (fault : RefreshFault) → StopsGot sealed accepts q from bytes old fault → Stops sealed accepts q old.strays fault (Got from bytes q.deadline at ∷ [])

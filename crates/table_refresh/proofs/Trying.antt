@@ -78,9 +78,9 @@ unsent setting accepts head words words' old new kept q is fails moment strays =
     let s : Standing = stands old words.place (head ∷ rest) again None in
     let place = next_place words words' is.drawn in
     let after : tried new words'.place (head ∷ rest) again kept ≡ over (record s { place = words.place + 1 }) (is_kept fails.gone) new.table =
-        (λ i. record { moment = moment i; place = place i; strays = strays i; heads = left_after (fails.is i && not again) (head ∷ rest); again = fails.is i && not again; waits = None; table = new.table }) in
+    (λ i. record { moment = moment i; place = place i; strays = strays i; heads = left_after (fails.is i && not again) (head ∷ rest); again = fails.is i && not again; waits = None; table = new.table }) in
     let gives : UnsentGives g s q.contact.addr (form (ping setting.own q.tx)) (tried new words'.place (head ∷ rest) again kept) =
-        record { head = head; pings = pings_of setting accepts head words words' old q rest again is; fails = record { table = new.table; gone = fails.gone; failed = fails.failed; after = after } } in
+    record { head = head; pings = pings_of setting accepts head words words' old q rest again is; fails = record { table = new.table; gone = fails.gone; failed = fails.failed; after = after } } in
     tells_one g s (Unsent q.contact.addr (form (ping setting.own q.tx))) (tried new words'.place (head ∷ rest) again kept) gives
 
 pub unsent_tries : (setting : Setting) (accepts : Accepts) (head : Contact) (words words' : WordsState) (old new : Progress) (kept : Bool) (q : Query) (a b : Option (List Event)) → IsPing setting head words words' old q → FailsKept head kept old.table new.table → new.moment ≡ old.moment → new.strays ≡ old.strays
@@ -94,9 +94,9 @@ sent setting accepts head words words' old q rest again is =
     let s : Standing = stands old words.place (head ∷ rest) again None in
     let place = next_place words words' is.drawn in
     let after : waiting old words'.place (head ∷ rest) again q ≡ record s { place = words.place + 1; waits = Some (record { tx = word words.seed words.place; contact = head; deadline = deadline_of old.moment setting.timeout }) } =
-        (λ i. waiting old (place i) (head ∷ rest) again (is.query i)) in
+    (λ i. waiting old (place i) (head ∷ rest) again (is.query i)) in
     let gives : SentGives g s q.contact.addr (form (ping setting.own q.tx)) (waiting old words'.place (head ∷ rest) again q) =
-        record { head = head; pings = pings_of setting accepts head words words' old q rest again is; after = after } in
+    record { head = head; pings = pings_of setting accepts head words words' old q rest again is; after = after } in
     tells_one g s (Sent q.contact.addr (form (ping setting.own q.tx))) (waiting old words'.place (head ∷ rest) again q) gives
 
 pub sent_tries : (setting : Setting) (accepts : Accepts) (head : Contact) (words words' : WordsState) (old new : Progress) (kept : Bool) (q : Query) (a b c : Option (List Event)) → IsPing setting head words words' old q

@@ -66,20 +66,20 @@ pub fn refresh<L: Link, G: SealCheck>(
     requires { words.old.place < 2 ^ 59 }
     ensures refreshed { OnOk result.1 (Happens (L.told link.old) (L.told link.new)
         (Refreshed (record {
-      own = table.own;
-      timeout = timeout;
-      sealed = sealed;
-      accepts = G.accepted seal.now;
-      seed = words.old.seed;
-    }) table words.old.place result.0 words.new.place)) }
+          own = table.own;
+          timeout = timeout;
+          sealed = sealed;
+          accepts = G.accepted seal.now;
+          seed = words.old.seed;
+        }) table words.old.place result.0 words.new.place)) }
     ensures unfinished { IfErr result.1 (λ fault. Happens (L.told link.old) (L.told link.new)
         (Unfinished (record {
-      own = table.own;
-      timeout = timeout;
-      sealed = sealed;
-      accepts = G.accepted seal.now;
-      seed = words.old.seed;
-    }) table words.old.place fault result.0 words.new.place)) }
+          own = table.own;
+          timeout = timeout;
+          sealed = sealed;
+          accepts = G.accepted seal.now;
+          seed = words.old.seed;
+        }) table words.old.place fault result.0 words.new.place)) }
     ensures seed { words.new.seed ≡ words.old.seed }
     ensures link { IsErrOf result.1 RefreshFault.LinkFault
         → Rose (L.recv_faults link.old) (L.recv_faults link.new) }
