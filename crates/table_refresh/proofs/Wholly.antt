@@ -14,7 +14,7 @@ use Rattle.lookup_core.specs.Sealed.{Accepts}
 use Rattle.table_refresh.specs.declared.types.Progress.{Progress}
 use Rattle.table_refresh.specs.declared.types.RefreshFault.{RefreshFault}
 use Rattle.table_refresh.specs.declared.types.Setting.{Setting}
-use Rattle.table_refresh.specs.Refreshed.{Given, heads_of, TellsFrom, EndsBy, begun, EndsEarly, Refreshed, Unfinished, Happens}
+use Rattle.table_refresh.specs.Refreshed.{goes_by, heads_of, TellsFrom, EndsBy, begun, EndsEarly, Refreshed, Unfinished, Happens}
 use Rattle.table_refresh.specs.inner.Steps.{given_of, stands, PingsThese, TheseEnd}
 use Rattle.table_refresh.proofs.Happening.{happens_then, happens_these}
 use Rattle.table_refresh.proofs.Walking.{tells_then, ends_then}
@@ -53,10 +53,7 @@ ends_next setting accepts xs i d words between words' old mid table' fault a b c
 
 -- ---- a refresh
 
--- what it goes by, with the words of this seed
-abbrev pub goes_by : TableState → ℕ → Bool → Accepts → WordsState → Given
-goes_by table timeout sealed accepts words = record { own = table.own; timeout = timeout; sealed = sealed; accepts = accepts; seed = words.seed }
-
+-- what the code keeps of it
 abbrev pub setting_by : Id → ℕ → Bool → Setting
 setting_by own timeout sealed = record { own = own; timeout = timeout; sealed = sealed }
 
@@ -65,7 +62,7 @@ abbrev pub work_by : TableState → ℕ → Progress
 work_by table moment = record { table = table; moment = moment; strays = 0 }
 
 all_pinged : (own : Id) (timeout : ℕ) (sealed : Bool) (accepts : Accepts) (table : TableState) (heads : List Contact) (words words' : WordsState) (moment : ℕ) (new : Progress) (es : List Event) → own ≡ table.own → heads ≡ heads_of table.rows → new.strays < max_strays
-    → PingsThese (setting_by own timeout sealed) accepts heads words words' (work_by table moment) new es → Refreshed (goes_by table timeout sealed accepts words) table words.place new.table words'.place (Now moment ∷ es)
+    → PingsThese (setting_by own timeout sealed) accepts heads words words' (work_by table moment) new es → Refreshed (goes_by table timeout sealed accepts words.seed) table words.place new.table words'.place (Now moment ∷ es)
 all_pinged own timeout sealed accepts table heads words words' moment new es is heads_are few h = record {
   end = stands new words'.place [] false None;
   tells = subst (λ id. TellsFrom (given_of (setting_by id timeout sealed) accepts words.seed) (begun table words.place moment) es (stands new words'.place [] false None)) is
@@ -78,7 +75,7 @@ all_pinged own timeout sealed accepts table heads words words' moment new es is 
 }
 
 ended_early : (own : Id) (timeout : ℕ) (sealed : Bool) (accepts : Accepts) (table : TableState) (heads : List Contact) (words words' : WordsState) (moment : ℕ) (table' : TableState) (fault : RefreshFault) (es : List Event) → own ≡ table.own → heads ≡ heads_of table.rows
-    → TheseEnd (setting_by own timeout sealed) accepts heads words words' (work_by table moment) table' fault es → EndsEarly (goes_by table timeout sealed accepts words) table words.place fault table' words'.place (Now moment ∷ es)
+    → TheseEnd (setting_by own timeout sealed) accepts heads words words' (work_by table moment) table' fault es → EndsEarly (goes_by table timeout sealed accepts words.seed) table words.place fault table' words'.place (Now moment ∷ es)
 ended_early own timeout sealed accepts table heads words words' moment table' fault es is heads_are h =
     subst (λ id. EndsBy (given_of (setting_by id timeout sealed) accepts words.seed) (begun table words.place moment) fault table' words'.place es) is
     (subst (λ l. EndsBy (given_of (setting_by own timeout sealed) accepts words.seed) (stands (work_by table moment) words.place l false None) fault table' words'.place es) (append-nil heads ∙ heads_are) (h []))
@@ -88,11 +85,11 @@ behind_now : (a b c : Option (List Event)) (moment : ℕ) (P Q : List Event → 
 behind_now a b c moment P Q grows h f = happens_then a b c (λ es. es ≡ Now moment ∷ []) P Q (happens_these a b (Now moment ∷ []) (λ es. es ≡ Now moment ∷ []) grows refl) h (λ t u x y. subst (λ l. Q (l ++ u)) (sym x) (f u y))
 
 pub refreshed_ok : (own : Id) (timeout : ℕ) (sealed : Bool) (accepts : Accepts) (table : TableState) (heads : List Contact) (words words' : WordsState) (moment : ℕ) (new : Progress) (a b c : Option (List Event)) (r : Result (Unit {0}) RefreshFault) → own ≡ table.own → heads ≡ heads_of table.rows → Grows a b (λ es. es ≡ Now moment ∷ [])
-    → OnOk r (new.strays < max_strays) → OnOk r (Happens b c (PingsThese (setting_by own timeout sealed) accepts heads words words' (work_by table moment) new)) → OnOk r (Happens a c (Refreshed (goes_by table timeout sealed accepts words) table words.place new.table words'.place))
+    → OnOk r (new.strays < max_strays) → OnOk r (Happens b c (PingsThese (setting_by own timeout sealed) accepts heads words words' (work_by table moment) new)) → OnOk r (Happens a c (Refreshed (goes_by table timeout sealed accepts words.seed) table words.place new.table words'.place))
 refreshed_ok own timeout sealed accepts table heads words words' moment new a b c (Ok x) is heads_are grows few h = behind_now a b c moment _ _ grows h (λ es y. all_pinged own timeout sealed accepts table heads words words' moment new es is heads_are few y)
 refreshed_ok own timeout sealed accepts table heads words words' moment new a b c (Err fault) is heads_are grows few h = tt
 
 pub refreshed_err : (own : Id) (timeout : ℕ) (sealed : Bool) (accepts : Accepts) (table : TableState) (heads : List Contact) (words words' : WordsState) (moment : ℕ) (table' : TableState) (a b c : Option (List Event)) (r : Result (Unit {0}) RefreshFault) → own ≡ table.own → heads ≡ heads_of table.rows → Grows a b (λ es. es ≡ Now moment ∷ [])
-    → IfErr r (λ fault. Happens b c (TheseEnd (setting_by own timeout sealed) accepts heads words words' (work_by table moment) table' fault)) → IfErr r (λ fault. Happens a c (Unfinished (goes_by table timeout sealed accepts words) table words.place fault table' words'.place))
+    → IfErr r (λ fault. Happens b c (TheseEnd (setting_by own timeout sealed) accepts heads words words' (work_by table moment) table' fault)) → IfErr r (λ fault. Happens a c (Unfinished (goes_by table timeout sealed accepts words.seed) table words.place fault table' words'.place))
 refreshed_err own timeout sealed accepts table heads words words' moment table' a b c (Ok x) is heads_are grows h = tt
 refreshed_err own timeout sealed accepts table heads words words' moment table' a b c (Err fault) is heads_are grows h = behind_now a b c moment _ _ grows h (λ es y. inr (ended_early own timeout sealed accepts table heads words words' moment table' fault es is heads_are y))

@@ -38,6 +38,9 @@ pub record Given : Type 0 where
   pub accepts : Accepts
   pub seed : List ℕ
 
+abbrev pub goes_by : TableState → ℕ → Bool → Accepts → List ℕ → Given
+goes_by table timeout sealed accepts seed = record { own = table.own; timeout = timeout; sealed = sealed; accepts = accepts; seed = seed }
+
 -- ---- whom it pings
 
 -- the head of a row: its least recently seen live contact, where it has one

@@ -2,7 +2,7 @@
 ghost use Rattle.std.specs.Prelude.{◌≡◌, ◌≤◌, ◌<◌, ◌+◌, ◌*◌, ◌^◌, length, IfErr, OnOk, IsErrOf};
 ghost use Rattle.kad_base.specs.Limits.{max_strays};
 ghost use Rattle.kad_base.specs.Outside.{Rose};
-ghost use Rattle.table_refresh.specs.Refreshed.{Happens, Refreshed, Unfinished};
+ghost use Rattle.table_refresh.specs.Refreshed.{Happens, Refreshed, Unfinished, goes_by};
 ghost use Rattle.table_refresh.specs.inner.Steps.{PingsThese, TheseEnd};
 
 use crate::head::ping_head;
@@ -33,6 +33,7 @@ fn ping_all<L: Link, G: SealCheck>(
     ensures ends { IfErr result (λ fault. Happens (L.told link.old) (L.told link.new)
         (TheseEnd setting.now (G.accepted seal.now) heads.now words.old words.new work.old work.new.table fault)) }
     ensures seed { words.new.seed ≡ words.old.seed }
+    ensures place { words.new.place ≤ words.old.place + 2 * length heads.now }
     ensures link { IsErrOf result RefreshFault.LinkFault
         → Rose (L.recv_faults link.old) (L.recv_faults link.new) }
     ensures recv_faults { L.recv_faults link.old ≤ L.recv_faults link.new }
@@ -51,9 +52,9 @@ fn ping_all<L: Link, G: SealCheck>(
 /// Pings the least recently seen contact of each bucket of the table, in the order of the buckets, and tells the table what
 /// came (Kademlia, 2002, section 2.2). Who answers is seen, and so is the most recently seen of its bucket. Who doesn't has
 /// failed, and is pinged once more where the table keeps it; who fails twice makes room for the newest spare. A try waits for
-/// `timeout` milliseconds, 1 to 60,000; a ping that can't be sent, an error message and an answer in another name are failures
-/// too. Where `sealed`, a reply without a tag that the seal accepts of who says it is none; else the seal is never asked. The
-/// table comes back on every answer. It waits for nobody but the link, and returns for every link.
+/// `timeout` milliseconds; a ping that can't be sent, an error message and an answer in another name are failures too. Where
+/// `sealed`, a reply without a tag that the seal accepts of who says it is none; else the seal is never asked. The table comes
+/// back on every answer. It waits for nobody but the link, and returns for every link.
 pub fn refresh<L: Link, G: SealCheck>(
     alloc: Global,
     link: &mut L,
@@ -65,22 +66,11 @@ pub fn refresh<L: Link, G: SealCheck>(
 ) -> (Table, Result<(), RefreshFault>)
     requires { words.old.place < 2 ^ 59 }
     ensures refreshed { OnOk result.1 (Happens (L.told link.old) (L.told link.new)
-        (Refreshed (record {
-          own = table.own;
-          timeout = timeout;
-          sealed = sealed;
-          accepts = G.accepted seal.now;
-          seed = words.old.seed;
-        }) table words.old.place result.0 words.new.place)) }
+        (Refreshed (goes_by table timeout sealed (G.accepted seal.now) words.old.seed) table words.old.place result.0 words.new.place)) }
     ensures unfinished { IfErr result.1 (λ fault. Happens (L.told link.old) (L.told link.new)
-        (Unfinished (record {
-          own = table.own;
-          timeout = timeout;
-          sealed = sealed;
-          accepts = G.accepted seal.now;
-          seed = words.old.seed;
-        }) table words.old.place fault result.0 words.new.place)) }
+        (Unfinished (goes_by table timeout sealed (G.accepted seal.now) words.old.seed) table words.old.place fault result.0 words.new.place)) }
     ensures seed { words.new.seed ≡ words.old.seed }
+    ensures place { words.new.place < 2 ^ 60 }
     ensures link { IsErrOf result.1 RefreshFault.LinkFault
         → Rose (L.recv_faults link.old) (L.recv_faults link.new) }
     ensures recv_faults { L.recv_faults link.old ≤ L.recv_faults link.new }
