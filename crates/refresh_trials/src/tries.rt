@@ -1,8 +1,6 @@
 //! The one or two tries of a head.
 
-use crate::play::{
-    ANSWER_1, ANSWER_2, NOBODY, ONE, PING_1, PING_2, Told, leaves, play, tells,
-};
+use crate::play::{ANSWER_1, ANSWER_2, NOBODY, ONE, PING_1, PING_2, Told, leaves, play, tells};
 use std::test::Fail;
 use trial_kit::{Reply, failing_link, link, link_from, link_with};
 

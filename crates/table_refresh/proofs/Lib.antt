@@ -5,3 +5,4 @@ pub mod Walking
 pub mod Receiving
 pub mod Trying
 pub mod Wholly
+pub mod Determined

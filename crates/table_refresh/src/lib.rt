@@ -5,6 +5,7 @@
 
 mod head;
 mod heads;
+mod laws;
 mod ping;
 mod pong;
 mod receive;
@@ -12,5 +13,6 @@ mod refreshing;
 mod tell;
 mod types;
 
+pub use laws::one_refresh;
 pub use refreshing::refresh;
 pub use types::RefreshFault;
