@@ -1,0 +1,8 @@
+pub mod Pinging
+pub mod Replying
+pub mod Happening
+pub mod Walking
+pub mod Receiving
+pub mod Trying
+pub mod Wholly
+pub mod Determined

@@ -1,0 +1,26 @@
+use Rattle.std.proofs.Common.{rules, arith}
+use Rattle.table_refresh.specs.declared.types.Tried.TheVariants.{Waits, Over}
+use Rattle.table_refresh.proofs.Trying.{waits_more, waits_end}
+use Rattle.table_refresh.proofs.head.await_reply.Goals as goal
+
+pub waiting-preserved : goal.waiting-preserved
+waiting-preserved g c =
+    let p = c.in-Ok-Waits in
+    let ok = rw p.field-0-is at p.ensures.ok in
+    record {
+      so_far = waits_more c.args.setting.now (g.G.SealCheck.accepted c.args.seal.now) c.args.query.now c.args.work.now c.waiting.work c.receive.new.work Waits _ _ _ c.waiting.invariant.so_far ok;
+      room = search rules;
+      few = p.ensures.few;
+      faults = (let a = c.waiting.invariant.faults in let b = c.receive.ensures.recv_faults in omega (arith, a, b));
+      kept = search rules;
+    }
+
+pub returns-in-Ok-Over-clause-ok : goal.returns-in-Ok-Over-clause-ok
+returns-in-Ok-Over-clause-ok g c =
+    let p = c.in-Ok-Over in
+    let ok = rw p.field-0-is at p.ensures.ok in
+    waits_more c.args.setting.now (g.G.SealCheck.accepted c.args.seal.now) c.args.query.now c.args.work.now c.waiting.work c.receive.new.work (Over p.kept) _ _ _ c.waiting.invariant.so_far ok
+
+pub returns-in-Err-clause-ends : goal.returns-in-Err-clause-ends
+returns-in-Err-clause-ends g c =
+    waits_end c.args.setting.now (g.G.SealCheck.accepted c.args.seal.now) c.args.query.now c.args.work.now c.waiting.work c.receive.new.work.table c.in-Err.fault _ _ _ c.waiting.invariant.so_far c.waiting.invariant.few c.in-Err.ensures.table c.in-Err.ensures.stops
