@@ -8,6 +8,7 @@ ghost use Rattle.lookup_run.specs.Lookup.{IsWithinLimits};
 mod hostile;
 mod script;
 mod sealed;
+mod six;
 mod together;
 
 use bucket_tree::Gone;
@@ -21,7 +22,7 @@ use seal_tags::GroupSeal;
 use std::alloc::Global;
 use std::hash::RandomState;
 use std::test::Fail;
-use trial_kit::{Reply, contact, link, local};
+use trial_kit::{Reply, at_in, contact, link, local, port};
 
 const OWN: Id = Id([255; 20]);
 
@@ -46,13 +47,20 @@ fn setting(own: Id, paths: u8, kind: AskKind) -> LookSetting
     }
 }
 
-/// A table that was told these contacts, each of which the node may ask.
+/// A table that was told these contacts of IPv4, each of which the node may ask.
 fn table_of(alloc: Global, own: Id, contacts: &[u8]) -> Result<Table, Fail>
+    ensures { IfOk result (λ table. All (IsUsable own) (contacts_of table)) }
+{
+    table_in(alloc, own, Family::Four, contacts)
+}
+
+/// A table that was told these contacts of the network, each of which the node may ask.
+fn table_in(alloc: Global, own: Id, family: Family, contacts: &[u8]) -> Result<Table, Fail>
     ensures { IfOk result (λ table. All (IsUsable own) (contacts_of table)) }
 {
     let mut table = Table::new(alloc, own, 8, 1)?;
     for n in contacts {
-        let contact = contact(*n);
+        let contact = at_in(family, *n, port(*n));
         if !is_usable(&own, &contact) {
             return Err(Fail::new("not usable"));
         }

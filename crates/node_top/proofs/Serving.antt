@@ -102,7 +102,7 @@ pub kept_pass : (own : Id) (family : Family) (policy : Policy) (rs kept : List R
 kept_pass own family policy [] kept h = subst (All (Passes policy)) (sym h) (All-nil (Passes policy))
 kept_pass own family policy (r ∷ rs) kept h =
     elim h [
-      | inl a ↦ subst (All (Passes policy)) (sym a.1) (All-cons (Passes policy) r a.0 a.2.1.1.1 (kept_pass own family policy rs a.0 a.3))
+      | inl a ↦ subst (All (Passes policy)) (sym a.1) (All-cons (Passes policy) r a.0 a.2.1.2 (kept_pass own family policy rs a.0 a.3))
       | inr b ↦ kept_pass own family policy rs kept b.1
     ]
 

@@ -1,4 +1,5 @@
 use Rattle.std.proofs.Common.{inl, sym, ◌∙◌}
+use Rattle.kad_base.specs.declared.types.Family.TheVariants.{Four}
 use Rattle.node_top.specs.Called.{called_with}
 use Rattle.node_top.specs.Shown.{shown}
 use Rattle.node_top.proofs.Begun.{err_began}
@@ -12,7 +13,7 @@ pub new-node-requires-clause-own : goal.new-node-requires-clause-own
 new-node-requires-clause-own g c = own_told _ _ _ c.in_ok-host.ensures.ok.told ∙ sym c.own_id-own.ensures
 
 pub new-node-requires-clause-proofs : goal.new-node-requires-clause-proofs
-new-node-requires-clause-proofs g c = kept_pass _ _ _ _ _ c.in_ok-host.ensures.ok.keeps
+new-node-requires-clause-proofs g c = kept_pass _ Four _ _ _ c.in_ok-host.ensures.ok.keeps
 
 pub returns-clause-ok : goal.returns-clause-ok
 returns-clause-ok g c =
