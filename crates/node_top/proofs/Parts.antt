@@ -1,5 +1,5 @@
 -- Fronts of a text that is written, and of an input that is read.
-use Rattle.std.proofs.Common.{◌≡◌, ℕ, ◌+◌, ◌-◌, ◌<◌, List, [], ◌∷◌, ◌++◌, length, take, drop, get_or, Option, Some, None, inl, inr, refl, sym, ap, subst, ◌∙◌}
+use Rattle.std.proofs.Common.{◌≡◌, ℕ, ◌+◌, ◌-◌, ◌<◌, ◌≤◌, List, [], ◌∷◌, ◌++◌, length, take, drop, get_or, Option, Some, None, inl, inr, refl, sym, ap, subst, ◌∙◌, arith}
 use Rattle.std.proofs.lemmas.List.{take-append-drop, append-nil, length-drop, take_more}
 use Rattle.std.proofs.Math.Seq.{take-length}
 use Rattle.kad_base.specs.declared.types.Family.{Family}
@@ -10,7 +10,7 @@ use Rattle.kad_base.specs.declared.types.Report.{Report}
 use Rattle.kad_base.specs.declared.types.Policy.{Policy}
 use Rattle.kad_base.specs.Outside.{Shrinks}
 use Rattle.node_top.specs.Written.{IsFront}
-use Rattle.node_top.specs.Input.{ReadsTooMuch, IsAdmitted, Admits, AdmitsOne, IsKept, Keeps, KeepsOne}
+use Rattle.node_top.specs.Input.{ReadsAtMost, ReadsTooMuch, IsAdmitted, Admits, AdmitsOne, IsKept, Keeps, KeepsOne}
 
 pub front : (all : List ℕ) (n : ℕ) (t u : List ℕ) → t ≡ take n all → u ≡ [] → IsFront (t ++ u) all
 front all n t u p q = (drop n all, ap (λ l. (t ++ l) ++ drop n all) q ∙ ap (λ l. l ++ drop n all) (append-nil t ∙ p) ∙ take-append-drop n all)
@@ -23,6 +23,16 @@ rest_whole all at = ap (λ n. take n (drop at all)) (sym (length-drop at all)) �
 pub too_much : (a c : Option (List ℕ)) (front : List ℕ) → Shrinks a c front → length front ≡ max_input + 1 → ReadsTooMuch a c
 too_much a None front h long = tt
 too_much a (Some rest) front h long = (front, long, h)
+
+-- no more was read than one byte more than may be
+pub at_most : (a c : Option (List ℕ)) (front : List ℕ) → Shrinks a c front → length front ≤ max_input + 1 → ReadsAtMost a c
+at_most a None front h few = tt
+at_most a (Some rest) front h few = (front, few, h)
+
+-- and where nothing was read neither
+pub unread_at_most : (old new : Option (List ℕ)) → new ≡ old → ReadsAtMost old new
+unread_at_most old None same = tt
+unread_at_most old (Some rest) same = ([], grind arith, sym same)
 
 -- one report more
 pub admits_more : (own : Id) (family : Family) (policy : Policy) (rs : List Report) (cs : List Contact) (r : Report) → Admits own family policy rs cs → IsAdmitted own family policy r → Admits own family policy (rs ++ r ∷ []) (cs ++ r.contact ∷ [])

@@ -23,6 +23,10 @@ ReadsFew old new = IfSome new (λ rest. (front : List ℕ) × (length front ≤ 
 abbrev pub ReadsTooMuch : Option (List ℕ) → Option (List ℕ) → Type 0
 ReadsTooMuch old new = IfSome new (λ rest. (front : List ℕ) × (length front ≡ max_input + 1) × (old ≡ Some (front ++ rest)))
 
+-- where the rest is told, no more was read than that
+abbrev pub ReadsAtMost : Option (List ℕ) → Option (List ℕ) → Type 0
+ReadsAtMost old new = IfSome new (λ rest. (front : List ℕ) × (length front ≤ max_input + 1) × (old ≡ Some (front ++ rest)))
+
 -- the report's contact may begin a lookup in this network: it is usable, of the network, and passes
 abbrev pub IsAdmitted : Id → Family → Policy → Report → Type 0
 IsAdmitted own family policy report = IsUsable own report.contact × (of_family family report.contact.addr.ip ≡ true) × Passes policy report

@@ -7,6 +7,7 @@ ghost use Rattle.node_top.specs.Called.{called_plainly, called_with};
 ghost use Rattle.node_top.specs.Asked.{Asks, AsksPlain, bytes_of};
 ghost use Rattle.node_top.specs.Commands.{promise_of, HasBegun, HasCause, HasText, ReadsInput};
 ghost use Rattle.node_top.specs.Endings.{EndsUnasked, number_of};
+ghost use Rattle.node_top.specs.Input.{ReadsAtMost};
 ghost use Rattle.node_top.specs.Shown.{Shown, shown, nowhere};
 
 pub(crate) mod check;
@@ -47,6 +48,7 @@ fn output_of<R: Threads + Wait + Sync, S: Source, L: Link, C: Check + Sync, G: S
         (shown L.told L.recv_faults link.old link.new)) }
     ensures early { IfErr result (λ status. EndsUnasked (number_of status) → link.new ≡ link.old) }
     ensures kept { L.kept link.new ≡ L.kept link.old }
+    ensures at_most { ReadsAtMost (S.left source.old) (S.left source.new) }
     ensures no_memory { IfErr result (λ status. status ≡ Status.NoMemory →
         (promise_of command).begun (called_with call.now.random (G.accepted call.now.seal.now)
         (G.tag_of call.now.seal.now))
@@ -98,6 +100,7 @@ fn plain_output_of<S: Source, C: Check, G: Seal + SealCheck>(
         ((promise_of command).cause (called_with call.now.random accepts tags)
         (shown S.left S.faults source.old source.new) link) }
     ensures no_input { ¬ IsTrue (promise_of command).reads → source.new ≡ source.old }
+    ensures at_most { ReadsAtMost (S.left source.old) (S.left source.new) }
 {
     match command {
         Command::Table {
@@ -165,6 +168,7 @@ pub(crate) fn asked_output<
     ensures unread { IfErr result (λ status. number_of status ≡ 2 → source.new ≡ source.old) }
     ensures early { IfErr result (λ status. EndsUnasked (number_of status) → link.new ≡ link.old) }
     ensures kept { L.kept link.new ≡ L.kept link.old }
+    ensures at_most { ReadsAtMost (S.left source.old) (S.left source.new) }
     ensures no_memory { IfErr result (λ status. status ≡ Status.NoMemory →
         HasBegun (bytes_of words.now) (called_with call.now.random (G.accepted call.now.seal.now)
         (G.tag_of call.now.seal.now))
@@ -196,6 +200,7 @@ pub(crate) fn asked_plainly<S: Source, C: Check, G: Seal + SealCheck>(
     ensures no_input { ¬ ReadsInput (bytes_of words.now) → source.new ≡ source.old }
     ensures no_link { IfErr result (λ status. (number_of status ≢ 4)
         × (number_of status ≢ 7) × (number_of status ≢ 8)) }
+    ensures at_most { ReadsAtMost (S.left source.old) (S.left source.new) }
 {
     if takes_link(words) {
         return Err(Status::Usage);

@@ -1,6 +1,6 @@
 //! The input of a command: its bytes, and the reports and contacts that its lines give.
 ghost use Rattle.std.specs.Prelude.{OnOk, IfOk, IfErr, IsTrue, ◌↔◌};
-ghost use Rattle.node_top.specs.Input.{ReadsAll, Lists, IsAdmitted, Admits, AdmitsOne, IsKept, Keeps, KeepsOne};
+ghost use Rattle.node_top.specs.Input.{ReadsAll, ReadsAtMost, Lists, IsAdmitted, Admits, AdmitsOne, IsKept, Keeps, KeepsOne};
 ghost use Rattle.node_top.specs.Looked.{ReportsCause};
 ghost use Rattle.node_top.specs.Shown.{shown};
 
@@ -17,6 +17,7 @@ use std::alloc::Global;
 fn read_whole<S: Source>(alloc: Global, source: &mut S) -> Result<Bytes, Status>
     ensures ok { IfOk result (ReadsAll (S.left source.old) (S.left source.new)) }
     ensures cause { IfErr result (ReportsCause (shown S.left S.faults source.old source.new)) }
+    ensures at_most { ReadsAtMost (S.left source.old) (S.left source.new) }
 {
     let mut bytes = List::new(alloc);
     let mut buf = [0u8; 4096];
@@ -40,6 +41,7 @@ fn read_whole<S: Source>(alloc: Global, source: &mut S) -> Result<Bytes, Status>
 pub(crate) fn read_reports<S: Source>(alloc: Global, source: &mut S) -> Result<Reports, Status>
     ensures ok { IfOk result (Lists (shown S.left S.faults source.old source.new)) }
     ensures cause { IfErr result (ReportsCause (shown S.left S.faults source.old source.new)) }
+    ensures at_most { ReadsAtMost (S.left source.old) (S.left source.new) }
 {
     let input = read_whole(alloc, source)?;
     match read_lines(alloc, input.as_slice()) {

@@ -3,7 +3,7 @@
 ghost use Rattle.std.specs.Prelude.{◌≡◌, ◌≢◌, ◌⊎◌, [], IfOk, IfErr};
 ghost use Rattle.node_top.specs.Called.{called_with};
 ghost use Rattle.node_top.specs.Endings.{EndsUnasked, number_of};
-ghost use Rattle.node_top.specs.Input.{Reads};
+ghost use Rattle.node_top.specs.Input.{Reads, ReadsAtMost};
 ghost use Rattle.node_top.specs.Looked.{LookupCause, InputCause, LookupBegun};
 ghost use Rattle.node_top.specs.Reached.{Reaches};
 ghost use Rattle.node_top.specs.Started.{IsInRange};
@@ -43,6 +43,7 @@ pub(crate) fn read_contacts<S: Source, C: Check>(
     ensures some_one { IfOk result (λ contacts. contacts ≢ []) }
     ensures cause { IfErr result (InputCause own.now family policy
         (shown S.left S.faults source.old source.new)) }
+    ensures at_most { ReadsAtMost (S.left source.old) (S.left source.new) }
 {
     let reports = read_reports(alloc, source)?;
     let contacts = admitted(alloc, own, family, policy, check, reports.as_slice())?;
@@ -84,6 +85,7 @@ pub(crate) fn run_lookup<
         (shown L.told L.recv_faults link.old link.new) ⊎ (link.new ≡ link.old)) }
     ensures early { IfErr result (λ status. EndsUnasked (number_of status) → link.new ≡ link.old) }
     ensures kept { L.kept link.new ≡ L.kept link.old }
+    ensures at_most { ReadsAtMost (S.left source.old) (S.left source.new) }
 {
     let setting = setting_for(kind, look, &call.random);
     let contacts = read_contacts(

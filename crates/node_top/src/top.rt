@@ -3,7 +3,7 @@ ghost use Rattle.std.specs.Prelude.{◌≡◌, ◌≢◌, ◌≤◌, ◌⊎◌, 
 ghost use Rattle.node_top.specs.Asked.{Asks, AsksPlain, bytes_of};
 ghost use Rattle.node_top.specs.Called.{called_plainly, called_with};
 ghost use Rattle.node_top.specs.Shown.{shown, nowhere, IsTold, HasFailed};
-ghost use Rattle.node_top.specs.Input.{HasBadLine, ReadsTooMuch};
+ghost use Rattle.node_top.specs.Input.{HasBadLine, ReadsAtMost, ReadsTooMuch};
 ghost use Rattle.node_top.specs.Commands.{GoesPlainlyWell, GoesWell, HasBegun};
 ghost use Rattle.node_top.specs.Commands.{HasNoLastStray, HasNoSeeds, HasNothing, HasSeeds, HasStart, HasStrays, EndsInStrays};
 ghost use Rattle.node_top.specs.Commands.{IsDone, ReadsInput};
@@ -135,6 +135,7 @@ pub fn run<
     // before it is first called, and for a command that takes none.
     ensures unread { result ≡ 2 → source.new ≡ source.old }
     ensures no_input { ¬ ReadsInput (bytes_of words.now) → source.new ≡ source.old }
+    ensures at_most { ReadsAtMost (S.left source.old) (S.left source.new) }
     ensures unasked { EndsUnasked result → link.new ≡ link.old }
     ensures no_link { AsksPlain (bytes_of words.now) → link.new ≡ link.old }
 
@@ -222,6 +223,7 @@ pub fn run_plain<S: Source, K: Sink, C: Check>(
     // The source was not called at 2, nor for a command that reads no input.
     ensures unread { result ≡ 2 → source.new ≡ source.old }
     ensures no_input { ¬ ReadsInput (bytes_of words.now) → source.new ≡ source.old }
+    ensures at_most { ReadsAtMost (S.left source.old) (S.left source.new) }
     ensures by_command { AsksPlain (bytes_of words.now)
         → EndsByCommand (bytes_of words.now) result }
     ensures statuses { (result ≤ last_status) × (result ≢ 1) × (result ≢ 4) × (result ≢ 7) × (result ≢ 8) }

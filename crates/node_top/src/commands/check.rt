@@ -2,6 +2,7 @@
 ghost use Rattle.std.specs.Prelude.{◌≡◌, IfOk, IfErr, string_bytes};
 ghost use Rattle.std.specs.List.{AllZip};
 ghost use Rattle.node_top.specs.Called.{Called};
+ghost use Rattle.node_top.specs.Input.{ReadsAtMost};
 ghost use Rattle.node_top.specs.Commands.Checked.{CheckText, Judges, check_promise, passed_of, passed_text, verdict_text, verdicts_printed};
 ghost use Rattle.kad_base.specs.declared.types.Event.{Event};
 ghost use Rattle.node_top.specs.Shown.{Shown, shown};
@@ -76,6 +77,7 @@ pub(crate) fn check<S: Source, C: Check, G: Seal + SealCheck>(
     ensures ok { IfOk result (CheckText policy (shown S.left S.faults source.old source.new)) }
     ensures cause { (called : Called) (link : Shown Event) → IfErr result ((check_promise policy).cause
         called (shown S.left S.faults source.old source.new) link) }
+    ensures at_most { ReadsAtMost (S.left source.old) (S.left source.new) }
 {
     let reports = read_reports(alloc, source)?;
     let verdicts = judged(alloc, policy, call.check, reports.as_slice())?;

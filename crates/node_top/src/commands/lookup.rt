@@ -1,6 +1,7 @@
 //! The command `lookup`: looks the target up, and makes the text of what it found.
 ghost use Rattle.std.specs.Prelude.{◌≡◌, ◌⊎◌, IfOk, IfErr};
 ghost use Rattle.node_top.specs.Called.{called_with};
+ghost use Rattle.node_top.specs.Input.{ReadsAtMost};
 ghost use Rattle.node_top.specs.Endings.{EndsUnasked, number_of};
 ghost use Rattle.node_top.specs.Looked.{LookupText, LookupBegun, lookup_promise};
 ghost use Rattle.node_top.specs.Printed.{printed};
@@ -66,6 +67,7 @@ pub(crate) fn lookup<
         (shown L.told L.recv_faults link.old link.new) ⊎ (link.new ≡ link.old)) }
     ensures early { IfErr result (λ status. EndsUnasked (number_of status) → link.new ≡ link.old) }
     ensures kept { L.kept link.new ≡ L.kept link.old }
+    ensures at_most { ReadsAtMost (S.left source.old) (S.left source.new) }
 {
     let kind = AskKind::FindNode;
     let reached = run_lookup(rt, alloc, kind, look, source, link, call)?;

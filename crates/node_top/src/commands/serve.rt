@@ -2,6 +2,7 @@
 //! replies it sent.
 ghost use Rattle.std.specs.Prelude.{◌≡◌, ◌⊎◌, IfOk, IfErr, string_bytes};
 ghost use Rattle.node_top.specs.Called.{called_with};
+ghost use Rattle.node_top.specs.Input.{ReadsAtMost};
 ghost use Rattle.node_top.specs.Endings.{EndsUnasked, number_of};
 ghost use Rattle.node_top.specs.Looked.{ReportsCause};
 ghost use Rattle.node_top.specs.Printed.{printed_served, served_text};
@@ -52,6 +53,7 @@ fn read_host<S: Source, C: Check, G: Seal + SealCheck>(
     ensures ok { IfOk result (λ host. Hosts service.now call.now.random
         (shown S.left S.faults source.old source.new) host.table host.proofs) }
     ensures cause { IfErr result (ReportsCause (shown S.left S.faults source.old source.new)) }
+    ensures at_most { ReadsAtMost (S.left source.old) (S.left source.new) }
 {
     let reports = read_reports(alloc, source)?;
     let read = reports.as_slice();
@@ -104,6 +106,7 @@ pub(crate) fn serve<S: Source, L: Link, C: Check, G: Seal + SealCheck>(
         (shown L.told L.recv_faults link.old link.new) ⊎ (link.new ≡ link.old)) }
     ensures early { IfErr result (λ status. EndsUnasked (number_of status) → link.new ≡ link.old) }
     ensures kept { L.kept link.new ≡ L.kept link.old }
+    ensures at_most { ReadsAtMost (S.left source.old) (S.left source.new) }
 {
     let own = own_id(service.own, &call.random);
     let host = read_host(alloc, service, own, source, call)?;

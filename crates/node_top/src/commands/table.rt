@@ -2,6 +2,7 @@
 ghost use Rattle.std.specs.Prelude.{IfOk, IfErr};
 ghost use Rattle.kad_base.specs.declared.types.Event.{Event};
 ghost use Rattle.node_top.specs.Called.{Called};
+ghost use Rattle.node_top.specs.Input.{ReadsAtMost};
 ghost use Rattle.node_top.specs.Commands.Tabled.{IsTextOf, TableText, table_promise};
 ghost use Rattle.node_top.specs.Started.{AreTableBounds};
 ghost use Rattle.node_top.specs.Shown.{Shown, shown};
@@ -42,6 +43,7 @@ pub(crate) fn table<S: Source, C: Check, G: Seal + SealCheck>(
     ensures cause { (called : Called) (link : Shown Event) → IfErr result
         ((table_promise own k bits policy).cause called
         (shown S.left S.faults source.old source.new) link) }
+    ensures at_most { ReadsAtMost (S.left source.old) (S.left source.new) }
 {
     let id = own_id(own, &call.random);
     let reports = read_reports(alloc, source)?;

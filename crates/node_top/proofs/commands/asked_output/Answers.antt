@@ -1,8 +1,10 @@
-use Rattle.std.proofs.Common.{inl, inr}
+use Rattle.std.proofs.Common.{inl, inr, refl}
 use Rattle.kad_words.proofs.OneCommand.{command_plain}
 use Rattle.node_top.proofs.Asking.{takes_by}
 use Rattle.node_top.proofs.Causes.{caused, unasked}
 use Rattle.node_top.proofs.Begun.{ok_then, err_then}
+use Rattle.node_top.proofs.Lawfully.{ranged}
+use Rattle.node_top.proofs.Parts.{unread_at_most}
 use Rattle.node_top.proofs.commands.asked_output.Goals as goal
 
 pub returns-clause-ok : goal.returns-clause-ok
@@ -27,3 +29,9 @@ returns-clause-no_input g c = λ none_. c.output_of.ensures.no_input (λ reads. 
 
 pub returns-clause-no_link : goal.returns-clause-no_link
 returns-clause-no_link g c = λ plain. c.output_of.ensures.no_link (λ links. plain.no_link (takes_by _ c.in_ok-command.command c.in_ok-command.ensures.command links))
+
+pub returns-in_err-command-clause-at_most : goal.returns-in_err-command-clause-at_most
+returns-in_err-command-clause-at_most g c = unread_at_most _ _ refl
+
+pub output_of-requires-clause-ranges : goal.output_of-requires-clause-ranges
+output_of-requires-clause-ranges g c _ _ = ranged _ c.in_ok-command.command c.in_ok-command.ensures.command

@@ -8,6 +8,7 @@ use Rattle.node_top.specs.Shown.{nowhere}
 use Rattle.node_top.proofs.Asking.{takes_by}
 use Rattle.node_top.proofs.Causes.{caused, linkless, refused, unasked}
 use Rattle.node_top.proofs.Begun.{ok_then, err_then}
+use Rattle.node_top.proofs.Parts.{unread_at_most}
 use Rattle.node_top.proofs.Lawfully.{ranged}
 use Rattle.node_top.proofs.commands.asked_plainly.Goals as goal
 
@@ -51,3 +52,6 @@ returns-clause-no_link g c =
     let none_ : TakesLink (bytes_of c.args.words.now) → ⊥ = search rules in
     err_then c.plain_output_of.result _ _ (c.plain_output_of.ensures.cause (called_plainly c.args.call.now.random).accepts (called_plainly c.args.call.now.random).tags nowhere)
     (λ status h. linkless c.in_ok-command.command (λ links. none_ (takes_by _ c.in_ok-command.command c.in_ok-command.ensures.command links)) _ _ status h)
+
+pub returns-in_err-command-clause-at_most : goal.returns-in_err-command-clause-at_most
+returns-in_err-command-clause-at_most g c = unread_at_most _ _ refl
