@@ -10,3 +10,4 @@ pub mod Filing
 pub mod Naming
 pub mod Placing
 pub mod formers
+pub mod Built

@@ -2,6 +2,7 @@
 //! form. It reads no message, and opens no file and no socket.
 #![tactic(auto)]
 
+mod built;
 pub mod entries;
 mod filed;
 mod find;
@@ -17,6 +18,7 @@ pub mod value;
 pub mod verify;
 pub mod writer;
 
+pub use built::built_is_spelled;
 pub use entries::{Dictionary, Pair};
 pub use into::{put_integer, put_length, put_part, put_string};
 pub use pairs::Pairs;
