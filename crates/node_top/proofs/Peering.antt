@@ -105,6 +105,7 @@ peers_at look port called source before middle after f f' f'' r n text h sends i
       journal = J;
       ran = h.ran;
       peers = o.peers;
+      in_order = h.in_order;
       announced = n;
       tells = tells;
       no_last_stray = λ plain. grows_weaker before after _ _ tells (λ events t.

@@ -16,7 +16,8 @@ use Rattle.lookup_run.specs.declared.types.Outcome.{Outcome}
 use Rattle.lookup_core.specs.Sealed.{Accepts}
 use Rattle.lookup_run.specs.Tells.{Given, Tells, HasFewStrays, NeverEnds}
 use Rattle.lookup_run.specs.Rounds.{Rounds, concurrent}
-use Rattle.lookup_run.specs.Gathered.{Gathers}
+use Rattle.std.specs.List.Sorted.{IsStrictlySortedBy}
+use Rattle.lookup_run.specs.Gathered.{Gathers, addr_cmp}
 use Rattle.lookup_run.specs.Lookup.{given_of, Finished, TellsEarly}
 use Rattle.kad_words.specs.declared.command.LookWords.{LookWords}
 use Rattle.node_top.specs.declared.run_lookup.Reached.{Reached}
@@ -72,8 +73,9 @@ pub reaches : (kind : AskKind) (look : LookWords) (called : Called) (source : Sh
     → Finished setting called.accepts table words left link.before link.after o → Grows link.before link.after (λ events. Rounds concurrent (given_of setting called.accepts words) o.journal events)
     → Grows link.before link.after (λ events. Gathers (given_of setting called.accepts words) o.journal events o.peers o.tokens)
     → Grows link.before link.after (λ events. HasFewStrays (given_of setting called.accepts words) o.journal events max_strays) → (setting.sealed ≡ false → Grows link.before link.after (NeverEnds (given_of setting called.accepts words) max_strays))
+    → IsStrictlySortedBy addr_cmp o.peers
     → Reaches kind look called source link (record { own = setting.own; outcome = o; words = left })
-reaches kind look called source link setting words left table o h up rounds gathers few never =
+reaches kind look called source link setting words left table o h up rounds gathers few never sorted =
     let up' : Finished (look_of kind look called.random) called.accepts table (drawn_of called.random) left link.before link.after o = moved kind look called.random source setting words table (λ s w. Finished s called.accepts table w left link.before link.after o) h up in
     let rounds' = moved kind look called.random source setting words table (λ s w. Grows link.before link.after (λ events. Rounds concurrent (given_of s called.accepts w) o.journal events)) h rounds in
     let gathers' = moved kind look called.random source setting words table (λ s w. Grows link.before link.after (λ events. Gathers (given_of s called.accepts w) o.journal events o.peers o.tokens)) h gathers in
@@ -86,6 +88,7 @@ reaches kind look called source link setting words left table o h up rounds gath
       found = up'.found;
       counted = up'.counted;
       drawn = up'.drawn;
+      in_order = sorted;
     }
 
 -- ---- and what follows

@@ -2,6 +2,7 @@
 -- events tell it, and all its paths have run out (S/Kademlia, 2007, section 4.4, over Kademlia, 2002, section 2.3).
 use Rattle.std.specs.Prelude.{◌≡◌, ℕ, ◌<◌, List, true, false}
 use Rattle.std.specs.List.{IsDistinct}
+use Rattle.std.specs.List.Sorted.{IsStrictlySortedBy}
 use Rattle.kad_base.specs.declared.types.Addr.{Addr}
 use Rattle.kad_base.specs.declared.types.Contact.{Contact}
 use Rattle.kad_base.specs.declared.types.Event.{Event}
@@ -19,7 +20,7 @@ use Rattle.lookup_core.specs.declared.quest.AskKind.{AskKind}
 use Rattle.lookup_run.specs.declared.types.Token.{Token}
 use Rattle.lookup_run.specs.Tells.{Given, Tells, HasFewStrays, NeverEnds}
 use Rattle.lookup_run.specs.Rounds.{Rounds, concurrent}
-use Rattle.lookup_run.specs.Gathered.{Gathers}
+use Rattle.lookup_run.specs.Gathered.{Gathers, addr_cmp}
 use Rattle.lookup_run.specs.Lookup.{seeds_in, drawn_for}
 use Rattle.kad_words.specs.declared.command.LookWords.{LookWords}
 use Rattle.node_top.specs.declared.run_lookup.Reached.{Reached}
@@ -57,3 +58,4 @@ pub record Reaches (kind : AskKind) (look : LookWords) (called : Called) (source
   pub found : reached.outcome.found ≡ result_of (book_of kind look called.random) reached.outcome.journal
   pub counted : Counted reached.outcome.journal reached.outcome.counts
   pub drawn : reached.words ≡ drawn_for (drawn_of called.random) reached.outcome.journal
+  pub in_order : IsStrictlySortedBy addr_cmp reached.outcome.peers

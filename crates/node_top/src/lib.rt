@@ -15,4 +15,5 @@ mod run_lookup;
 mod status;
 mod top;
 
+pub use lines::{one_bad_line, one_reading};
 pub use top::{run, run_plain};

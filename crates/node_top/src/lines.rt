@@ -118,13 +118,13 @@ fn read_proof(text: &str) -> Option<Proof>
 }
 
 /// An input tells one list of reports.
-pub(crate) fn one_reading()
+pub fn one_reading()
     ensures { (input : List ℕ) (a b : List Report) → Reporting (lines input) a
         → Reporting (lines input) b → a ≡ b }
 {}
 
 /// An input that has a first bad line has one, and tells no list of reports.
-pub(crate) fn one_bad_line()
+pub fn one_bad_line()
     ensures one { (input : List ℕ) (m n : ℕ) → IsFirstBad (lines input) m
         → IsFirstBad (lines input) n → m ≡ n }
     ensures alone { (input : List ℕ) (m : ℕ) (reports : List Report) → IsFirstBad (lines input) m

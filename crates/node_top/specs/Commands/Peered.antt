@@ -1,6 +1,7 @@
 -- What the command `peers` promises: that its text names the peers which the answers of a lookup gave (BEP 5, `get_peers`),
 -- and that then, where it is told a port, it announces it to each contact of the result that gave a token.
 use Rattle.std.specs.Prelude.{◌≡◌, ◌⊎◌, ℕ, ◌+◌, List, ◌++◌, length, Option}
+use Rattle.std.specs.List.Sorted.{IsStrictlySortedBy}
 use Rattle.kad_base.specs.declared.types.Addr.{Addr}
 use Rattle.kad_base.specs.declared.types.Event.{Event}
 use Rattle.kad_base.specs.Outside.{Grows}
@@ -9,6 +10,7 @@ use Rattle.claim_book.specs.Journal.{asked, failed, turned}
 use Rattle.claim_book.specs.Result.{result_of}
 use Rattle.lookup_core.specs.declared.quest.AskKind.TheVariants.{GetPeers}
 use Rattle.lookup_run.specs.declared.types.Token.{Token}
+use Rattle.lookup_run.specs.Gathered.{addr_cmp}
 use Rattle.kad_words.specs.declared.command.LookWords.{LookWords}
 use Rattle.node_top.specs.Announced.{Announcement, owed, Announces, AnnouncesSome, sent_in}
 use Rattle.node_top.specs.Looked.{LookupBegun, NeverInStrays, seek_aim}
@@ -53,6 +55,8 @@ pub record PeersText (look : LookWords) (announce : Option ℕ) (called : Called
   pub journal : List Entry
   pub ran : HasRunOut GetPeers look called.random source journal
   pub peers : List Addr
+  -- over a link that tells nothing too
+  pub in_order : IsStrictlySortedBy addr_cmp peers
   pub announced : ℕ
   pub tells : Grows link.before link.after (TellsPeers look announce called journal peers announced)
   pub no_last_stray : NeverInStrays GetPeers look called link

@@ -19,7 +19,7 @@ returns-in-Ok-clause-ok g c =
     let e = c.look_up-ended.ensures in
     reaches c.args.kind c.args.look.now (called_with c.args.call.now.random (g.G.SealCheck.accepted c.args.call.now.seal.now) (g.G.Seal.tag_of c.args.call.now.seal.now)) _ (shown g.L.Link.told g.L.Link.recv_faults c.args.link.now c.look_up-ended.new.link) c.setting_for-setting.result c.new-words.result c.look_up-ended.new.words c.in_ok-table.table o
     (has c.args.kind c.args.look.now c.args.call.now.random _ c.setting_for-setting.result c.new-words.result c.in_ok-table.table c.in_ok-contacts.contacts c.as_slice.result.now c.setting_for-setting.ensures c.new-words.ensures c.requires c.in_ok-contacts.ensures.ok c.in_ok-contacts.ensures.some_one c.as_slice.ensures c.in_ok-table.ensures)
-    (ok_at r o _ c.in-Ok.is e.lookup) (ok_at r o _ c.in-Ok.is e.rounds) (ok_at r o _ c.in-Ok.is e.gathered) (ok_at r o _ c.in-Ok.is e.few_strays) (ok_at r o _ c.in-Ok.is e.no_last_stray)
+    (ok_at r o _ c.in-Ok.is e.lookup) (ok_at r o _ c.in-Ok.is e.rounds) (ok_at r o _ c.in-Ok.is e.gathered) (ok_at r o _ c.in-Ok.is e.few_strays) (ok_at r o _ c.in-Ok.is e.no_last_stray) (ok_at r o _ c.in-Ok.is e.peers_in_order)
 
 pub returns-in-Err-LinkFault-clause-cause : goal.returns-in-Err-LinkFault-clause-cause
 returns-in-Err-LinkFault-clause-cause g c =
