@@ -21,3 +21,4 @@ pub mod Paired
 pub mod Filing
 pub mod Parting
 pub mod Added
+pub mod Formed

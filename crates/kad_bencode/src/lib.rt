@@ -16,6 +16,7 @@ mod scan;
 pub mod value;
 pub mod verify;
 pub mod writer;
+mod written;
 
 pub use entries::{Dictionary, Pair};
 pub use into::{put_integer, put_length, put_part, put_string};
