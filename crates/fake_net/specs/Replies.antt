@@ -11,6 +11,7 @@ use Rattle.kad_krpc.specs.declared.message.Message.{Message}
 use Rattle.kad_krpc.specs.declared.message.Message.TheVariants as message
 use Rattle.kad_krpc.specs.declared.message.Ask.{Ask}
 use Rattle.kad_krpc.specs.declared.message.Ask.TheVariants.{Ping, FindNode, GetPeers, AnnouncePeer, Other}
+use Rattle.kad_krpc.specs.declared.message.Want.{Want}
 use Rattle.kad_krpc.specs.Reading.{Says}
 use Rattle.kad_krpc.specs.Form.{form}
 use Rattle.fake_net.specs.declared.replies.Conduct.{Conduct}
@@ -18,17 +19,18 @@ use Rattle.fake_net.specs.declared.replies.Conduct.TheVariants.{Honest, Inventin
 use Rattle.fake_net.specs.declared.waiting.Waiting.{Waiting}
 use Rattle.fake_net.specs.Network.{Network, numbers, id_of, address_of, is_hostile, known}
 
--- the bytes say a find_node query under the transaction id, for the target
+-- the bytes say a find_node query under the transaction id, for the target, whatever else it wants
 pub record SaysFindNode (bytes tx : List ℕ) (target : Id) : Type 0 where
   pub read_only : Bool
   pub asker : Id
-  pub says : Says bytes (message.Query tx read_only (FindNode asker target))
+  pub want : Want
+  pub says : Says bytes (message.Query tx read_only (FindNode asker target want))
 
 -- the transaction id and the target of a find_node query
 abbrev pub asked_for : List ℕ → Ask → Option (List ℕ × Id)
 asked_for tx (Ping id) = None
-asked_for tx (FindNode id target) = Some (tx, target)
-asked_for tx (GetPeers id info_hash) = None
+asked_for tx (FindNode id target want) = Some (tx, target)
+asked_for tx (GetPeers id info_hash want) = None
 asked_for tx (AnnouncePeer id info_hash port token) = None
 asked_for tx (Other method) = None
 
@@ -69,7 +71,7 @@ near net i target = k_closest target 8 (known net i)
 
 -- an answer that names contacts
 abbrev pub naming : List ℕ → Id → List Contact → Message
-naming tx id nodes = message.Answer tx (record { id = id; nodes = Some nodes; snodes = None; token = None; values = None })
+naming tx id nodes = message.Answer tx (record { id = id; nodes = Some nodes; snodes = None; nodes6 = None; snodes6 = None; token = None; values = None })
 
 -- what node i says to a query, by what it does
 abbrev pub said : Conduct → Network → ℕ → List ℕ → Id → Option Message

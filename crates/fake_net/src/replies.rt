@@ -91,6 +91,8 @@ fn naming(tx: Bytes, id: Id, nodes: Contacts) -> Message
             id,
             nodes: Some(nodes),
             snodes: None,
+            nodes6: None,
+            snodes6: None,
             token: None,
             values: None,
         },

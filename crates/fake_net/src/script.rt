@@ -138,6 +138,8 @@ fn copied_answer(alloc: Global, answer: &Answer) -> Result<Answer, NoMemory>
         id: answer.id,
         nodes: copied(alloc, &answer.nodes)?,
         snodes: copied(alloc, &answer.snodes)?,
+        nodes6: copied(alloc, &answer.nodes6)?,
+        snodes6: copied(alloc, &answer.snodes6)?,
         token: copied(alloc, &answer.token)?,
         values: copied(alloc, &answer.values)?,
     })
@@ -148,13 +150,19 @@ fn copied_ask(alloc: Global, ask: &Ask) -> Result<Ask, NoMemory>
 {
     match ask {
         Ask::Ping { id } => Ok(Ask::Ping { id: *id }),
-        Ask::FindNode { id, target } => Ok(Ask::FindNode {
+        Ask::FindNode { id, target, want } => Ok(Ask::FindNode {
             id: *id,
             target: *target,
+            want: *want,
         }),
-        Ask::GetPeers { id, info_hash } => Ok(Ask::GetPeers {
+        Ask::GetPeers {
+            id,
+            info_hash,
+            want,
+        } => Ok(Ask::GetPeers {
             id: *id,
             info_hash: *info_hash,
+            want: *want,
         }),
         Ask::AnnouncePeer {
             id,

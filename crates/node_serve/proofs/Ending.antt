@@ -44,8 +44,8 @@ module _ (s : NodeState) (from : Addr) (at : ℕ) where
 
   placing : (ask : Ask) → IsPlace (wants_of (setting_of s) from at ask) → IsTokenAccepted s from at ask
   placing (Ping id) h = absurd h
-  placing (FindNode id target) h = absurd h
-  placing (GetPeers id key) h = absurd h
+  placing (FindNode id target want) h = absurd h
+  placing (GetPeers id key want) h = absurd h
   placing (AnnouncePeer id key port token) h = takes_place key (peer_for from port) token (is_accepted s.tokens (ip_bytes from.ip) at token) refl h
   placing (Other method) h = absurd h
 

@@ -44,8 +44,8 @@ announced_once s from at tx key peer token o p (added h m e) (added k n f) = e �
 
 replies_once : (s : NodeState) (from : Addr) (at : ℕ) (tx : List ℕ) (ask : Ask) (o p : Outcome) → RepliesWith s from at tx ask o → RepliesWith s from at tx ask p → o ≡ p
 replies_once s from at tx (Ping id) o p h k = h ∙ sym k
-replies_once s from at tx (FindNode id target) o p h k = h ∙ sym k
-replies_once s from at tx (GetPeers id key) o p h k = h ∙ sym k
+replies_once s from at tx (FindNode id target want) o p h k = h ∙ sym k
+replies_once s from at tx (GetPeers id key want) o p h k = h ∙ sym k
 replies_once s from at tx (AnnouncePeer id key port token) o p h k = announced_once s from at tx key _ token o p h k
 replies_once s from at tx (Other method) o p h k = h ∙ sym k
 

@@ -13,6 +13,7 @@ use Rattle.kad_distance.specs.KClosest.{k_closest}
 use Rattle.kad_krpc.specs.declared.message.Ask.{Ask}
 use Rattle.kad_krpc.specs.declared.message.Ask.TheVariants.{Ping, FindNode, GetPeers, AnnouncePeer, Other}
 use Rattle.kad_krpc.specs.declared.message.Port.{Port}
+use Rattle.kad_krpc.specs.declared.message.Want.{Want}
 use Rattle.kad_krpc.specs.declared.message.Message.{Message}
 use Rattle.kad_krpc.specs.Records.{ip_bytes}
 use Rattle.contact_table.specs.TableState.{TableState}
@@ -105,10 +106,10 @@ module _ (s : NodeState) (from : Addr) (at : ℕ) (tx : List ℕ) where
 
   part : (ask : Ask) (o : Outcome) → RepliesWith s from at tx ask o → Part s from at tx ask o
   part (Ping id) o e = record { did = []; calls = refl; memory = All-nil HadMemory; steps = (refl, ap (λ (x : Outcome). x.peers) e); reply = λ more. ap (λ (x : Outcome). x.message) e }
-  part (FindNode id target) o e =
+  part (FindNode id target want) o e =
       let d : Did = on_table (Closest target s.k) (List_reply (k_closest target s.k (contacts_of s.table))) in
       record { did = d ∷ []; calls = refl; memory = All-cons HadMemory d [] tt (All-nil HadMemory); steps = (refl, (refl, ap (λ (x : Outcome). x.peers) e)); reply = λ more. ap (λ (x : Outcome). x.message) e }
-  part (GetPeers id key) o e =
+  part (GetPeers id key want) o e =
       let d : Did = on_peers (List_call key at) (Listed (listed s.peers key at)) in
       let f : Did = on_table (Closest key s.k) (List_reply (k_closest key s.k (contacts_of s.table))) in
       record {
@@ -190,16 +191,16 @@ module _ (s : NodeState) (from : Addr) (at : ℕ) (tx : List ℕ) (u : TableStat
   abbrev pub Shows : Ask → List Did → Type 0
   Shows ask did = All HadMemory did → Steps s.table s.peers did u q → Replied ask did
 
-  found_shows : (id target : Id) (reply : TableReply) → Shows (FindNode id target) (on_table (Closest target s.k) reply ∷ [])
-  found_shows id target reply memory st =
+  found_shows : (id target : Id) (want : Want) (reply : TableReply) → Shows (FindNode id target want) (on_table (Closest target s.k) reply ∷ [])
+  found_shows id target want reply memory st =
       let is = closest_is s.table target s.k reply st.0 (All-head HadMemory (on_table (Closest target s.k) reply) [] memory) in
       record {
         table = st.1.0 ∙ closest_after s.table target s.k reply;
         replies = λ more. outcome_is _ _ q s.peers (ap (λ x. found_from tx (setting_of s) (listed_by x)) is) st.1.1;
       }
 
-  peers_shows : (id key : Id) (peers : PeerReply) (nodes : TableReply) → Shows (GetPeers id key) (on_peers (List_call key at) peers ∷ on_table (Closest key s.k) nodes ∷ [])
-  peers_shows id key peers nodes memory st =
+  peers_shows : (id key : Id) (want : Want) (peers : PeerReply) (nodes : TableReply) → Shows (GetPeers id key want) (on_peers (List_call key at) peers ∷ on_table (Closest key s.k) nodes ∷ [])
+  peers_shows id key want peers nodes memory st =
       let d : Did = on_peers (List_call key at) peers in
       let f : Did = on_table (Closest key s.k) nodes in
       let first = listed_is s.peers key at peers st.0 (All-head HadMemory d (f ∷ []) memory) in
@@ -239,12 +240,12 @@ module _ (s : NodeState) (from : Addr) (at : ℕ) (tx : List ℕ) (u : TableStat
 
   pub shows : (ask : Ask) (did : List Did) → map call_of did ≡ calls_for (setting_of s) from at ask → Shows ask did
   shows (Ping id) did calls = subst (Shows (Ping id)) (sym (made_none did calls)) (λ memory st. record { table = st.0; replies = λ more. outcome_is _ _ q s.peers refl st.1 })
-  shows (FindNode id target) did calls =
+  shows (FindNode id target want) did calls =
       let one = one_table (Closest target s.k) did calls in
-      subst (Shows (FindNode id target)) (sym one.is) (found_shows id target one.reply)
-  shows (GetPeers id key) did calls =
+      subst (Shows (FindNode id target want)) (sym one.is) (found_shows id target want one.reply)
+  shows (GetPeers id key want) did calls =
       let two = peer_and_table (List_call key at) (Closest key s.k) did calls in
-      subst (Shows (GetPeers id key)) (sym two.is) (peers_shows id key two.peers two.nodes)
+      subst (Shows (GetPeers id key want)) (sym two.is) (peers_shows id key want two.peers two.nodes)
   shows (AnnouncePeer id key port token) did calls = announced_shows id key port token did (is_accepted s.tokens (ip_bytes from.ip) at token) refl calls
   shows (Other method) did calls = subst (Shows (Other method)) (sym (made_none did calls)) (λ memory st. record { table = st.0; replies = λ more. outcome_is _ _ q s.peers refl st.1 })
 

@@ -1,5 +1,5 @@
 -- A reply with few parts is short, and with its tag too.
-use Rattle.std.proofs.Common.{◌≡◌, ℕ, suc, zero, ◌+◌, ◌*◌, ◌<◌, ◌≤◌, List, [], ◌∷◌, ◌++◌, length, map, ℤ, ap, ◌∙◌, arith, length-append, Option, Some, None}
+use Rattle.std.proofs.Common.{◌≡◌, ℕ, suc, zero, ◌+◌, ◌*◌, ◌<◌, ◌≤◌, List, [], ◌∷◌, ◌++◌, length, map, ℤ, refl, ap, ◌∙◌, arith, length-append, Option, Some, None}
 use Rattle.std.specs.Prelude.{codes}
 use Rattle.std.specs.List.{concat}
 use Rattle.std.specs.Int.Digits.{digits_of}
@@ -80,6 +80,11 @@ size_snodes : (o : Option (List Report)) → snodes_size o ≤ 1800 → size (ma
 size_snodes None h = omega arith
 size_snodes (Some snodes) h = size_pair (codes "snodes") (snodes_value snodes) 1806 (omega arith) (text_short (snodes_bytes snodes) 1800 h (omega arith))
 
+-- a part that is missing takes nothing
+size_none : {A : Type 0} (key : List ℕ) (value_of : A → Value) (o : Option A) → o ≡ None → size (maybe key value_of o) ≡ 0
+size_none key value_of None e = refl
+size_none key value_of (Some x) e = absurd cc
+
 size_token : (o : Option (List ℕ)) → count o ≤ 8 → size (maybe (codes "token") value.Text o) ≤ 25
 size_token None h = omega arith
 size_token (Some token) h = size_pair (codes "token") (value.Text token) 14 (omega arith) (text_short token 8 h (omega arith))
@@ -105,21 +110,27 @@ size_answer : (a : Answer) → HasFew a → IsCompact a → length (text_of (val
 size_answer a f c =
     let ids = pair (codes "id") (value.Text a.id.0) in
     let nodes = maybe (codes "nodes") nodes_value a.nodes in
+    let nodes6 = maybe (codes "nodes6") nodes_value a.nodes6 in
     let snodes = maybe (codes "snodes") snodes_value a.snodes in
+    let snodes6 = maybe (codes "snodes6") snodes_value a.snodes6 in
     let token = maybe (codes "token") value.Text a.token in
     let values = maybe (codes "values") peers_value a.values in
     let fn = f.nodes in let fs = f.snodes in let fv = f.values in
     let cn = c.nodes in let cs = c.snodes in let cv = c.values in
     let i : size ids ≤ 34 = size_pair (codes "id") (value.Text a.id.0) 26 (omega arith) (text_short a.id.0 20 c.id (omega arith)) in
     let n = size_nodes a.nodes (omega (arith, fn, cn)) in
+    let n6 = size_none (codes "nodes6") nodes_value a.nodes6 f.nodes6 in
     let s = size_snodes a.snodes (omega (arith, fs, cs)) in
+    let s6 = size_none (codes "snodes6") snodes_value a.snodes6 f.snodes6 in
     let t = size_token a.token f.token in
     let v = size_values a.values fv (omega (arith, fv, cv)) in
-    let e1 = size_append (ids ++ nodes ++ snodes ++ token) values in
-    let e2 = size_append (ids ++ nodes ++ snodes) token in
-    let e3 = size_append (ids ++ nodes) snodes in
-    let e4 = size_append ids nodes in
-    size_dict (answer_pairs a) 3868 (omega (arith, i, n, s, t, v, e1, e2, e3, e4))
+    let e1 = size_append (ids ++ nodes ++ nodes6 ++ snodes ++ snodes6 ++ token) values in
+    let e2 = size_append (ids ++ nodes ++ nodes6 ++ snodes ++ snodes6) token in
+    let e3 = size_append (ids ++ nodes ++ nodes6 ++ snodes) snodes6 in
+    let e4 = size_append (ids ++ nodes ++ nodes6) snodes in
+    let e5 = size_append (ids ++ nodes) nodes6 in
+    let e6 = size_append ids nodes in
+    size_dict (answer_pairs a) 3868 (omega (arith, i, n, n6, s, s6, t, v, e1, e2, e3, e4, e5, e6))
 
 -- ---- messages
 

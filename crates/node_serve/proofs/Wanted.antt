@@ -21,8 +21,8 @@ put_calls s at key peer false = refl
 
 pub wanted_calls : (s : ServeSetting) (from : Addr) (at : ℕ) (ask : Ask) → calls_wanted s.k at (wants_of s from at ask) ≡ calls_for s from at ask
 wanted_calls s from at (Ping id) = refl
-wanted_calls s from at (FindNode id target) = refl
-wanted_calls s from at (GetPeers id key) = refl
+wanted_calls s from at (FindNode id target want) = refl
+wanted_calls s from at (GetPeers id key want) = refl
 wanted_calls s from at (AnnouncePeer id key port token) = put_calls s at key (peer_for from port) (is_accepted s.tokens (ip_bytes from.ip) at token)
 wanted_calls s from at (Other method) = refl
 
@@ -32,8 +32,8 @@ put_reply s from at tx key peer rs false = refl
 
 pub wanted_reply : (s : ServeSetting) (from : Addr) (at : ℕ) (tx : List ℕ) (ask : Ask) (rs : List Reply) → reply_wanted s from at tx (wants_of s from at ask) rs ≡ answer_with s from at tx ask rs
 wanted_reply s from at tx (Ping id) rs = refl
-wanted_reply s from at tx (FindNode id target) rs = refl
-wanted_reply s from at tx (GetPeers id key) rs = refl
+wanted_reply s from at tx (FindNode id target want) rs = refl
+wanted_reply s from at tx (GetPeers id key want) rs = refl
 wanted_reply s from at tx (AnnouncePeer id key port token) rs = put_reply s from at tx key (peer_for from port) rs (is_accepted s.tokens (ip_bytes from.ip) at token)
 wanted_reply s from at tx (Other method) rs = refl
 

@@ -28,8 +28,8 @@ use Rattle.node_serve.specs.Sealing.{Tags, sent_form}
 
 abbrev pub asker_of : Ask → Option Id
 asker_of (Ping id) = Some id
-asker_of (FindNode id target) = Some id
-asker_of (GetPeers id key) = Some id
+asker_of (FindNode id target want) = Some id
+asker_of (GetPeers id key want) = Some id
 asker_of (AnnouncePeer id key port token) = Some id
 asker_of (Other method) = None
 

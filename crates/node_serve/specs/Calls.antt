@@ -76,8 +76,8 @@ is_accepted t ip at token =
 -- what a query asks
 abbrev pub calls_for : ServeSetting → Addr → ℕ → Ask → List Call
 calls_for s from at (Ping id) = []
-calls_for s from at (FindNode id target) = of_table (Closest target s.k) ∷ []
-calls_for s from at (GetPeers id key) = of_peers (List_call key at) ∷ of_table (Closest key s.k) ∷ []
+calls_for s from at (FindNode id target want) = of_table (Closest target s.k) ∷ []
+calls_for s from at (GetPeers id key want) = of_peers (List_call key at) ∷ of_table (Closest key s.k) ∷ []
 calls_for s from at (AnnouncePeer id key port token) =
     cond (is_accepted s.tokens (ip_bytes from.ip) at token) (of_peers (Put key (peer_for from port) at) ∷ []) []
 calls_for s from at (Other method) = []
@@ -129,6 +129,8 @@ found_from tx s closest = message.Answer tx (record {
   id = s.own;
   nodes = Some (of_ipv4 closest);
   snodes = snodes_by s.policy s.proofs (of_ipv4 closest);
+  nodes6 = None;
+  snodes6 = None;
   token = None;
   values = None;
 })
@@ -139,6 +141,8 @@ peers_from tx s from at listed closest = message.Answer tx (record {
   id = s.own;
   nodes = Some (of_ipv4 closest);
   snodes = snodes_by s.policy s.proofs (of_ipv4 closest);
+  nodes6 = None;
+  snodes6 = None;
   token = Some (token_of s.tokens.seed (epoch_at s.tokens at) (ip_bytes from.ip));
   values = where_some listed;
 })
@@ -146,8 +150,8 @@ peers_from tx s from at listed closest = message.Answer tx (record {
 -- the reply to a query, from the replies to its calls
 abbrev pub answer_with : ServeSetting → Addr → ℕ → List ℕ → Ask → List Reply → Message
 answer_with s from at tx (Ping id) replies = named tx s.own
-answer_with s from at tx (FindNode id target) replies = found_from tx s (closest_in replies)
-answer_with s from at tx (GetPeers id key) replies = peers_from tx s from at (peers_in replies) (closest_in (drop 1 replies))
+answer_with s from at tx (FindNode id target want) replies = found_from tx s (closest_in replies)
+answer_with s from at tx (GetPeers id key want) replies = peers_from tx s from at (peers_in replies) (closest_in (drop 1 replies))
 answer_with s from at tx (AnnouncePeer id key port token) replies =
     cond (is_accepted s.tokens (ip_bytes from.ip) at token) (put_in tx s.own replies) (bad_token tx)
 answer_with s from at tx (Other method) replies = method_unknown tx

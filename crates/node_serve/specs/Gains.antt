@@ -21,8 +21,8 @@ use Rattle.node_serve.specs.Calls.{Call, of_table, of_peers, Reply, by_table, by
 -- what a query wants
 abbrev pub wants_of : ServeSetting → Addr → ℕ → Ask → Wants
 wants_of s from at (Ping id) = Name
-wants_of s from at (FindNode id target) = Nodes target
-wants_of s from at (GetPeers id key) = Peers key
+wants_of s from at (FindNode id target want) = Nodes target
+wants_of s from at (GetPeers id key want) = Peers key
 wants_of s from at (AnnouncePeer id key port token) =
     cond (is_accepted s.tokens (ip_bytes from.ip) at token) (Place key (peer_for from port)) RefuseToken
 wants_of s from at (Other method) = RefuseMethod

@@ -1,5 +1,6 @@
 -- What a node replies to a query, and the peers that it holds then, by the first rule that fits (BEP 5). The nodes that it
--- names are Kademlia's (2002, section 2.3). `snodes`, the limit of peers and the text of a refusal are this project's own.
+-- names are Kademlia's (2002, section 2.3). `snodes`, the limit of peers and the text of a refusal are this project's own, and
+-- so is that a node serves in the network of IPv4 alone: it answers `nodes` whatever `want` says (BEP 32), and never `nodes6`.
 use Rattle.std.specs.Prelude.{◌≡◌, ℕ, Bool, true, false, List, [], ◌∷◌, filter, find, flat_map, codes, pos, Option, Some, None, option_to_list}
 use Rattle.kad_base.specs.declared.types.Id.{Id}
 use Rattle.kad_base.specs.declared.types.Ip.{Ip}
@@ -68,13 +69,15 @@ values_for s key at = where_some (listed s.peers key at)
 
 -- the node's identifier alone
 abbrev pub named : List ℕ → Id → Message
-named tx own = message.Answer tx (record { id = own; nodes = None; snodes = None; token = None; values = None })
+named tx own = message.Answer tx (record { id = own; nodes = None; snodes = None; nodes6 = None; snodes6 = None; token = None; values = None })
 
 abbrev pub found : List ℕ → NodeState → Id → Message
 found tx s target = message.Answer tx (record {
   id = s.own;
   nodes = Some (nodes_for s target);
   snodes = snodes_for s target;
+  nodes6 = None;
+  snodes6 = None;
   token = None;
   values = None;
 })
@@ -84,6 +87,8 @@ peers_found tx s from at key = message.Answer tx (record {
   id = s.own;
   nodes = Some (nodes_for s key);
   snodes = snodes_for s key;
+  nodes6 = None;
+  snodes6 = None;
   token = Some (token_for s from at);
   values = values_for s key at;
 })
@@ -125,7 +130,7 @@ pub data Announces (s : NodeState) (from : Addr) (at : ℕ) (tx : List ℕ) (key
 
 abbrev pub RepliesWith : NodeState → Addr → ℕ → List ℕ → Ask → Outcome → Type 0
 RepliesWith s from at tx (Ping id) o = o ≡ record { message = named tx s.own; peers = s.peers }
-RepliesWith s from at tx (FindNode id target) o = o ≡ record { message = found tx s target; peers = s.peers }
-RepliesWith s from at tx (GetPeers id key) o = o ≡ record { message = peers_found tx s from at key; peers = s.peers }
+RepliesWith s from at tx (FindNode id target want) o = o ≡ record { message = found tx s target; peers = s.peers }
+RepliesWith s from at tx (GetPeers id key want) o = o ≡ record { message = peers_found tx s from at key; peers = s.peers }
 RepliesWith s from at tx (AnnouncePeer id key port token) o = Announces s from at tx key (peer_for from port) token o
 RepliesWith s from at tx (Other method) o = o ≡ record { message = method_unknown tx; peers = s.peers }

@@ -1,5 +1,5 @@
 -- How long a reply is at most.
-use Rattle.std.specs.Prelude.{ℕ, ◌*◌, ◌≤◌, List, length, flat_map, Option, Some, None}
+use Rattle.std.specs.Prelude.{◌≡◌, ℕ, ◌*◌, ◌≤◌, List, length, flat_map, Option, Some, None}
 use Rattle.kad_bencode.specs.Spelling.{integer_text}
 use Rattle.kad_base.specs.declared.types.Addr.{Addr}
 use Rattle.kad_base.specs.declared.types.Contact.{Contact}
@@ -18,10 +18,12 @@ abbrev pub count : {A : Type 0} → Option (List A) → ℕ
 count None = 0
 count (Some items) = length items
 
--- an answer with few parts
+-- an answer with few parts, and none of IPv6
 pub record HasFew (a : Answer) : Type 0 where
   pub nodes : count a.nodes ≤ 20
   pub snodes : count a.snodes ≤ 20
+  pub nodes6 : a.nodes6 ≡ None
+  pub snodes6 : a.snodes6 ≡ None
   pub token : count a.token ≤ 8
   pub values : count a.values ≤ 50
 

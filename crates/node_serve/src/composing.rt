@@ -48,6 +48,8 @@ fn found(
         id: setting.own,
         nodes: Some(nodes),
         snodes,
+        nodes6: None,
+        snodes6: None,
         token: None,
         values: None,
     };
@@ -75,6 +77,8 @@ fn peers_found(
         id: setting.own,
         nodes: Some(nodes),
         snodes,
+        nodes6: None,
+        snodes6: None,
         token: Some(token),
         values: some_peers(list),
     };

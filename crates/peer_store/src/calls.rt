@@ -14,7 +14,7 @@ pub enum PeerCall {
 /// The reply to a call.
 #[derive(Debug, Drop, PartialEq, Eq)]
 pub enum PeerReply {
-    /// The peers of the key, in the order of addresses.
+    /// The peers of the key, in the order of addresses: those of IPv4 before those of IPv6.
     Listed { list: Addrs },
     /// What became of the peer that was added.
     Stored { stored: Stored },

@@ -88,8 +88,9 @@ impl Peers {
     }
 
     /// The peers of the key whose last add is less than 30 minutes before the moment, the first 50 in the order of
-    /// addresses. A last add after the moment counts as 0 before it. Costs a search and a step for each peer of the key
-    /// until 50 are fresh: so a key costs more only while old peers of it wait for a purge, at most 65,536.
+    /// addresses, those of IPv4 before those of IPv6. A last add after the moment counts as 0 before it. Costs a search and
+    /// a step for each peer of the key until 50 are fresh: so a key costs more only while old peers of it wait for a purge,
+    /// at most 65,536.
     pub fn list(&self, key: Id, at: u64) -> Result<Addrs, NoMemory>
         ensures listed { IfOk result (λ peers. peers ≡ listed self.now key at) }
         ensures in_order { IfOk result (IsStrictlySortedBy address_cmp) }

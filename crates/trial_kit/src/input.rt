@@ -22,3 +22,16 @@ pub fn lines(alloc: Global, from: u8, to: u8) -> Result<String, AllocError> {
     }
     Ok(text)
 }
+
+/// The lines of the contacts of the network of IPv6 from one number to another.
+pub fn lines6(alloc: Global, from: u8, to: u8) -> Result<String, AllocError> {
+    let mut text = String::new(alloc);
+    for n in from..=to {
+        let port = port(n);
+        let line = format!(in alloc;
+            "00000000000000000000000000000000000000{n:02x} [0000:0000:0000:0000:0000:0000:0000:00{n:02x}]:{port}\n"
+        )?;
+        text.push_str(line.as_str())?;
+    }
+    Ok(text)
+}

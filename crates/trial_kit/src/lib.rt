@@ -8,10 +8,10 @@ mod meeting;
 mod script;
 mod told;
 
-pub use contacts::{at, contact, local, number, port};
-pub use input::{LINE_1, PROVED_LINES, lines};
+pub use contacts::{at, at_in, at6, contact, contact6, local, number, port};
+pub use input::{LINE_1, PROVED_LINES, lines, lines6};
 pub use meeting::Meeting;
 pub use script::{
-    Reply, answer, failing_link, link, link_from, link_over, link_with, with_replies,
+    Reply, answer, answer6, failing_link, link, link_from, link_over, link_with, with_replies,
 };
 pub use told::{sent, tells};

@@ -1,18 +1,20 @@
 //! Links that play a script.
 ghost use Rattle.std.specs.Prelude.{All, IfOk};
-ghost use Rattle.kad_krpc.specs.Form.{Each, IsNode, IsProved};
+ghost use Rattle.kad_base.specs.declared.types.Family.TheVariants.{Six};
+ghost use Rattle.kad_krpc.specs.Form.{Each, IsNode, IsNodeOf, IsProved, IsProvedOf, IsWritableAnswer};
 ghost use Rattle.fake_net.specs.Scripts.{IsWritableEvent};
 
-use crate::contacts::{at, contact, local, port};
+use crate::contacts::{at_in, local, number, port};
 use fake_net::{Script, ScriptEvent, ScriptLink};
-use kad_base::{Addr, Contacts, Id, List, NoMemory, Reports};
+use kad_base::{Addr, Contacts, Family, Id, List, NoMemory, Reports};
 use kad_krpc::{Answer, Message};
 use std::alloc::Global;
 
-/// The query to contact `to` is answered at this moment from this port, in the name of contact
-/// `id`, with this node of 127.0.0.1, its number and its port, or without nodes.
+/// The query to contact `to` of this network is answered at this moment from this port, in the name
+/// of contact `id`, with this node of the network, its number and its port, or without nodes.
 #[derive(Clone, Copy, Debug)]
 pub struct Reply {
+    pub family: Family,
     pub to: u8,
     pub at: u64,
     pub port: u16,
@@ -24,6 +26,7 @@ impl Reply {
     /// Contact n answers as it should, without nodes.
     pub fn of(n: u8, at: u64) -> Reply {
         Reply {
+            family: Family::Four,
             to: n,
             at,
             port: port(n),
@@ -39,17 +42,45 @@ impl Reply {
             ..Reply::of(n, at)
         }
     }
+
+    /// The same in the network of IPv6.
+    pub fn in_six(self) -> Reply {
+        Reply {
+            family: Family::Six,
+            ..self
+        }
+    }
 }
 
-fn nodes(alloc: Global, named: Option<(u8, u16)>) -> Result<Option<Contacts>, NoMemory>
-    ensures { IfOk result (Each IsNode) }
+fn nodes(
+    alloc: Global,
+    family: Family,
+    named: Option<(u8, u16)>,
+) -> Result<Option<Contacts>, NoMemory>
+    ensures { IfOk result (Each (IsNodeOf family)) }
 {
     let Some((n, port)) = named else {
         return Ok(None);
     };
     let mut nodes = List::new(alloc);
-    nodes.push(at(n, port))?;
+    nodes.push(at_in(family, n, port))?;
     Ok(Some(nodes))
+}
+
+/// The query to `to` is answered at this moment from this address with this answer.
+fn to_query(alloc: Global, to: Addr, at: u64, from: Addr, answer: Answer) -> ScriptEvent
+    requires { IsWritableAnswer answer }
+    ensures { IsWritableEvent result }
+{
+    ScriptEvent::ToQuery {
+        to,
+        at,
+        from,
+        message: Message::Answer {
+            tx: List::new(alloc),
+            answer,
+        },
+    }
 }
 
 /// The query to `to` is answered at this moment from this address, in this name and with these
@@ -67,34 +98,58 @@ pub fn answer(
     requires snodes { Each IsProved snodes }
     ensures { IsWritableEvent result }
 {
-    ScriptEvent::ToQuery {
-        to,
-        at,
-        from,
-        message: Message::Answer {
-            tx: List::new(alloc),
-            answer: Answer {
-                id,
-                nodes,
-                snodes,
-                token: None,
-                values: None,
-            },
-        },
-    }
+    let answer = Answer {
+        id,
+        nodes,
+        snodes,
+        nodes6: None,
+        snodes6: None,
+        token: None,
+        values: None,
+    };
+    to_query(alloc, to, at, from, answer)
+}
+
+/// The same with these nodes of IPv6.
+pub fn answer6(
+    alloc: Global,
+    to: Addr,
+    at: u64,
+    from: Addr,
+    id: Id,
+    nodes6: Option<Contacts>,
+    snodes6: Option<Reports>,
+) -> ScriptEvent
+    requires nodes6 { Each (IsNodeOf Six) nodes6 }
+    requires snodes6 { Each (IsProvedOf Six) snodes6 }
+    ensures { IsWritableEvent result }
+{
+    let answer = Answer {
+        id,
+        nodes: None,
+        snodes: None,
+        nodes6,
+        snodes6,
+        token: None,
+        values: None,
+    };
+    to_query(alloc, to, at, from, answer)
 }
 
 fn event(alloc: Global, reply: &Reply) -> Result<ScriptEvent, NoMemory>
     ensures { IfOk result IsWritableEvent }
 {
-    let to = contact(reply.to).addr;
+    let to = at_in(reply.family, reply.to, port(reply.to)).addr;
     let from = Addr {
         port: reply.port,
         ..to
     };
-    let nodes = nodes(alloc, reply.node)?;
-    let id = contact(reply.id).id;
-    Ok(answer(alloc, to, reply.at, from, id, nodes, None))
+    let nodes = nodes(alloc, reply.family, reply.node)?;
+    let id = number(reply.id);
+    match reply.family {
+        Family::Four => Ok(answer(alloc, to, reply.at, from, id, nodes, None)),
+        Family::Six => Ok(answer6(alloc, to, reply.at, from, id, nodes, None)),
+    }
 }
 
 /// The script with these replies behind it.

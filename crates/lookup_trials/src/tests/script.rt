@@ -34,6 +34,8 @@ fn peers_event(
                 id: contact(n).id,
                 nodes: None,
                 snodes: None,
+                nodes6: None,
+                snodes6: None,
                 token: Some(bytes),
                 values: Some(values),
             },

@@ -158,6 +158,8 @@ fn answering(
                 id: contact.id,
                 nodes,
                 snodes: None,
+                nodes6: None,
+                snodes6: None,
                 token,
                 values: None,
             },
