@@ -7,7 +7,7 @@ use Rattle.kad_base.specs.declared.types.Contact.{Contact}
 use Rattle.kad_krpc.specs.Records.{ip_bytes}
 use Rattle.kad_krpc.specs.Views.{ask_seen}
 use Rattle.kad_krpc.specs.declared.message.Ask.{Ask}
-use Rattle.kad_krpc.specs.declared.message.Ask.TheVariants.{Ping, FindNode, GetPeers, AnnouncePeer, Other}
+use Rattle.kad_krpc.specs.declared.message.Ask.TheVariants.{Ping, FindNode, GetPeers, AnnouncePeer, Get as GetItem, Put as PutItem, Other}
 use Rattle.kad_krpc.specs.declared.message.Message.{Message}
 use Rattle.peer_store.specs.Peers.{Held}
 use Rattle.peer_store.specs.Tokens.{IsAccepted}
@@ -47,6 +47,8 @@ module _ (s : NodeState) (from : Addr) (at : ℕ) where
   placing (FindNode id target want) h = absurd h
   placing (GetPeers id key want) h = absurd h
   placing (AnnouncePeer id key port token) h = takes_place key (peer_for from port) token (is_accepted s.tokens (ip_bytes from.ip) at token) refl h
+  placing (GetItem id target want) h = absurd h
+  placing (PutItem id token v mutable) h = absurd h
   placing (Other method) h = absurd h
 
   module _ (tx : List ℕ) (ask : Ask) (told : Option Contact) (peers : List Held) where

@@ -60,17 +60,17 @@ code_short n h =
 
 module _ (s : ServeSetting) (from : Addr) (at : ℕ) (tx : List ℕ) (t : length tx ≤ max_answered_tx) where
   named_small : IsSmall (named tx s.own)
-  named_small = (t, record { nodes = omega arith; snodes = omega arith; nodes6 = refl; snodes6 = refl; token = omega arith; values = omega arith })
+  named_small = (t, record { nodes = omega arith; snodes = omega arith; nodes6 = refl; snodes6 = refl; token = omega arith; v = refl; values = omega arith })
 
   found_small : (closest : List Contact) → length closest ≤ 20 → IsSmall (found_from tx s closest)
   found_small closest h =
       let n = nodes_few closest h in
-      (t, record { nodes = n; snodes = snodes_few s.policy s.proofs (of_ipv4 closest) n; nodes6 = refl; snodes6 = refl; token = omega arith; values = omega arith })
+      (t, record { nodes = n; snodes = snodes_few s.policy s.proofs (of_ipv4 closest) n; nodes6 = refl; snodes6 = refl; token = omega arith; v = refl; values = omega arith })
 
   peers_small : (list : List Addr) (closest : List Contact) → length list ≤ 50 → length closest ≤ 20 → IsSmall (peers_from tx s from at list closest)
   peers_small list closest l h =
       let n = nodes_few closest h in
-      (t, record { nodes = n; snodes = snodes_few s.policy s.proofs (of_ipv4 closest) n; nodes6 = refl; snodes6 = refl; token = token_few s from at; values = some_few list l })
+      (t, record { nodes = n; snodes = snodes_few s.policy s.proofs (of_ipv4 closest) n; nodes6 = refl; snodes6 = refl; token = token_few s from at; v = refl; values = some_few list l })
 
   pub gained_small : (g : Gained) → IsFew g → IsSmall (reply_gained s from at tx g)
   gained_small gained.Name f = named_small

@@ -4,7 +4,7 @@ use Rattle.kad_base.specs.declared.types.Id.{Id}
 use Rattle.kad_base.specs.declared.types.Addr.{Addr}
 use Rattle.kad_base.specs.declared.types.Contact.{Contact}
 use Rattle.kad_krpc.specs.declared.message.Ask.{Ask}
-use Rattle.kad_krpc.specs.declared.message.Ask.TheVariants.{Ping, FindNode, GetPeers, AnnouncePeer, Other}
+use Rattle.kad_krpc.specs.declared.message.Ask.TheVariants.{Ping, FindNode, GetPeers, AnnouncePeer, Get as GetItem, Put as PutItem, Other}
 use Rattle.kad_krpc.specs.declared.message.Message.{Message}
 use Rattle.kad_krpc.specs.declared.message.Message.TheVariants as message
 use Rattle.contact_table.specs.declared.calls.TableCall.TheVariants.{Seen}
@@ -47,6 +47,8 @@ replies_once s from at tx (Ping id) o p h k = h ∙ sym k
 replies_once s from at tx (FindNode id target want) o p h k = h ∙ sym k
 replies_once s from at tx (GetPeers id key want) o p h k = h ∙ sym k
 replies_once s from at tx (AnnouncePeer id key port token) o p h k = announced_once s from at tx key _ token o p h k
+replies_once s from at tx (GetItem id target want) o p h k = h ∙ sym k
+replies_once s from at tx (PutItem id token v mutable) o p h k = h ∙ sym k
 replies_once s from at tx (Other method) o p h k = h ∙ sym k
 
 -- ---- the table

@@ -11,7 +11,7 @@ use Rattle.kad_base.specs.declared.types.Addr.{Addr}
 use Rattle.kad_base.specs.declared.types.Contact.{Contact}
 use Rattle.kad_distance.specs.KClosest.{k_closest}
 use Rattle.kad_krpc.specs.declared.message.Ask.{Ask}
-use Rattle.kad_krpc.specs.declared.message.Ask.TheVariants.{Ping, FindNode, GetPeers, AnnouncePeer, Other}
+use Rattle.kad_krpc.specs.declared.message.Ask.TheVariants.{Ping, FindNode, GetPeers, AnnouncePeer, Get as GetItem, Put as PutItem, Other}
 use Rattle.kad_krpc.specs.declared.message.Port.{Port}
 use Rattle.kad_krpc.specs.declared.message.Want.{Want}
 use Rattle.kad_krpc.specs.declared.message.Message.{Message}
@@ -120,6 +120,8 @@ module _ (s : NodeState) (from : Addr) (at : ℕ) (tx : List ℕ) where
         reply = λ more. ap (λ (x : Outcome). x.message) e;
       }
   part (AnnouncePeer id key port token) o e = announced_part id key port token o e
+  part (GetItem id target want) o e = record { did = []; calls = refl; memory = All-nil HadMemory; steps = (refl, ap (λ (x : Outcome). x.peers) e); reply = λ more. ap (λ (x : Outcome). x.message) e }
+  part (PutItem id token v mutable) o e = record { did = []; calls = refl; memory = All-nil HadMemory; steps = (refl, ap (λ (x : Outcome). x.peers) e); reply = λ more. ap (λ (x : Outcome). x.message) e }
   part (Other method) o e = record { did = []; calls = refl; memory = All-nil HadMemory; steps = (refl, ap (λ (x : Outcome). x.peers) e); reply = λ more. ap (λ (x : Outcome). x.message) e }
 
 -- the table is told of the asker
@@ -247,6 +249,8 @@ module _ (s : NodeState) (from : Addr) (at : ℕ) (tx : List ℕ) (u : TableStat
       let two = peer_and_table (List_call key at) (Closest key s.k) did calls in
       subst (Shows (GetPeers id key want)) (sym two.is) (peers_shows id key want two.peers two.nodes)
   shows (AnnouncePeer id key port token) did calls = announced_shows id key port token did (is_accepted s.tokens (ip_bytes from.ip) at token) refl calls
+  shows (GetItem id target want) did calls = subst (Shows (GetItem id target want)) (sym (made_none did calls)) (λ memory st. record { table = st.0; replies = λ more. outcome_is _ _ q s.peers refl st.1 })
+  shows (PutItem id token v mutable) did calls = subst (Shows (PutItem id token v mutable)) (sym (made_none did calls)) (λ memory st. record { table = st.0; replies = λ more. outcome_is _ _ q s.peers refl st.1 })
   shows (Other method) did calls = subst (Shows (Other method)) (sym (made_none did calls)) (λ memory st. record { table = st.0; replies = λ more. outcome_is _ _ q s.peers refl st.1 })
 
 pub record WasTold (o : Option Contact) (t v : TableState) (q r : List Held) : Type 0 where

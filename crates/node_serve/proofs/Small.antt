@@ -13,6 +13,7 @@ use Rattle.kad_base.specs.declared.types.Addr.{Addr}
 use Rattle.kad_base.specs.declared.types.Contact.{Contact}
 use Rattle.kad_base.specs.declared.types.Report.{Report}
 use Rattle.kad_bencode.specs.Keys.{key_cmp, put}
+use Rattle.kad_bencode.specs.Naming.{named}
 use Rattle.kad_bencode.specs.Spelling.{numeral, integer_text, string_text, pairs_text, text_of}
 use Rattle.kad_bencode.specs.Faults.{pairs_of}
 use Rattle.kad_bencode.specs.declared.entries.Pair.{Pair}
@@ -114,6 +115,7 @@ size_answer a f c =
     let snodes = maybe (codes "snodes") snodes_value a.snodes in
     let snodes6 = maybe (codes "snodes6") snodes_value a.snodes6 in
     let token = maybe (codes "token") value.Text a.token in
+    let carried = maybe (codes "v") named a.v in
     let values = maybe (codes "values") peers_value a.values in
     let fn = f.nodes in let fs = f.snodes in let fv = f.values in
     let cn = c.nodes in let cs = c.snodes in let cv = c.values in
@@ -123,14 +125,16 @@ size_answer a f c =
     let s = size_snodes a.snodes (omega (arith, fs, cs)) in
     let s6 = size_none (codes "snodes6") snodes_value a.snodes6 f.snodes6 in
     let t = size_token a.token f.token in
+    let x = size_none (codes "v") named a.v f.v in
     let v = size_values a.values fv (omega (arith, fv, cv)) in
-    let e1 = size_append (ids ++ nodes ++ nodes6 ++ snodes ++ snodes6 ++ token) values in
+    let e0 = size_append (ids ++ nodes ++ nodes6 ++ snodes ++ snodes6 ++ token ++ carried) values in
+    let e1 = size_append (ids ++ nodes ++ nodes6 ++ snodes ++ snodes6 ++ token) carried in
     let e2 = size_append (ids ++ nodes ++ nodes6 ++ snodes ++ snodes6) token in
     let e3 = size_append (ids ++ nodes ++ nodes6 ++ snodes) snodes6 in
     let e4 = size_append (ids ++ nodes ++ nodes6) snodes in
     let e5 = size_append (ids ++ nodes) nodes6 in
     let e6 = size_append ids nodes in
-    size_dict (answer_pairs a) 3868 (omega (arith, i, n, n6, s, s6, t, v, e1, e2, e3, e4, e5, e6))
+    size_dict (answer_pairs a) 3868 (omega (arith, i, n, n6, s, s6, t, x, v, e0, e1, e2, e3, e4, e5, e6))
 
 -- ---- messages
 

@@ -3,7 +3,7 @@ use Rattle.std.proofs.Common.{◌≡◌, ℕ, List, [], ◌∷◌, ◌++◌, Boo
 use Rattle.kad_base.specs.declared.types.Id.{Id}
 use Rattle.kad_base.specs.declared.types.Addr.{Addr}
 use Rattle.kad_krpc.specs.declared.message.Ask.{Ask}
-use Rattle.kad_krpc.specs.declared.message.Ask.TheVariants.{Ping, FindNode, GetPeers, AnnouncePeer, Other}
+use Rattle.kad_krpc.specs.declared.message.Ask.TheVariants.{Ping, FindNode, GetPeers, AnnouncePeer, Get as GetItem, Put as PutItem, Other}
 use Rattle.kad_krpc.specs.Records.{ip_bytes}
 use Rattle.node_serve.specs.Replies.{peer_for, bad_token}
 use Rattle.peer_store.specs.declared.calls.PeerCall.TheVariants.{Put}
@@ -24,6 +24,8 @@ wanted_calls s from at (Ping id) = refl
 wanted_calls s from at (FindNode id target want) = refl
 wanted_calls s from at (GetPeers id key want) = refl
 wanted_calls s from at (AnnouncePeer id key port token) = put_calls s at key (peer_for from port) (is_accepted s.tokens (ip_bytes from.ip) at token)
+wanted_calls s from at (GetItem id target want) = refl
+wanted_calls s from at (PutItem id token v mutable) = refl
 wanted_calls s from at (Other method) = refl
 
 put_reply : (s : ServeSetting) (from : Addr) (at : ℕ) (tx : List ℕ) (key : Id) (peer : Addr) (rs : List Reply) (b : Bool) → reply_wanted s from at tx (cond b (Place key peer) RefuseToken) rs ≡ cond b (put_in tx s.own rs) (bad_token tx)
@@ -35,6 +37,8 @@ wanted_reply s from at tx (Ping id) rs = refl
 wanted_reply s from at tx (FindNode id target want) rs = refl
 wanted_reply s from at tx (GetPeers id key want) rs = refl
 wanted_reply s from at tx (AnnouncePeer id key port token) rs = put_reply s from at tx key (peer_for from port) rs (is_accepted s.tokens (ip_bytes from.ip) at token)
+wanted_reply s from at tx (GetItem id target want) rs = refl
+wanted_reply s from at tx (PutItem id token v mutable) rs = refl
 wanted_reply s from at tx (Other method) rs = refl
 
 -- the reply to what was gained is that to what was wanted, whatever is replied to later calls

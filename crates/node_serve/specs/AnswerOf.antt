@@ -7,7 +7,7 @@ use Rattle.kad_base.specs.declared.types.Contact.{Contact}
 use Rattle.kad_base.specs.declared.types.Policy.{Policy}
 use Rattle.kad_base.specs.declared.types.Policy.TheVariants.{Plain, Puzzled}
 use Rattle.kad_krpc.specs.declared.message.Ask.{Ask}
-use Rattle.kad_krpc.specs.declared.message.Ask.TheVariants.{Ping, FindNode, GetPeers, AnnouncePeer, Other}
+use Rattle.kad_krpc.specs.declared.message.Ask.TheVariants.{Ping, FindNode, GetPeers, AnnouncePeer, Get as GetItem, Put as PutItem, Other}
 use Rattle.kad_krpc.specs.declared.message.Message.{Message}
 use Rattle.kad_krpc.specs.Records.{ip_bytes}
 use Rattle.contact_table.specs.declared.calls.TableCall.TheVariants.{Seen}
@@ -31,6 +31,8 @@ asker_of (Ping id) = Some id
 asker_of (FindNode id target want) = Some id
 asker_of (GetPeers id key want) = Some id
 asker_of (AnnouncePeer id key port token) = Some id
+asker_of (GetItem id target want) = None
+asker_of (PutItem id token v mutable) = None
 asker_of (Other method) = None
 
 abbrev pub contact_at : Addr → Option Id → Option Contact

@@ -9,7 +9,7 @@ use Rattle.kad_base.specs.declared.types.Contact.{Contact}
 use Rattle.kad_base.specs.Limits.{max_k}
 use Rattle.kad_base.specs.Puzzles.{Passes}
 use Rattle.kad_krpc.specs.declared.message.Ask.{Ask}
-use Rattle.kad_krpc.specs.declared.message.Ask.TheVariants.{Ping, FindNode, GetPeers, AnnouncePeer, Other}
+use Rattle.kad_krpc.specs.declared.message.Ask.TheVariants.{Ping, FindNode, GetPeers, AnnouncePeer, Get as GetItem, Put as PutItem, Other}
 use Rattle.kad_krpc.specs.declared.message.Message.{Message}
 use Rattle.kad_krpc.specs.declared.message.Message.TheVariants as message
 use Rattle.kad_krpc.specs.Records.{ip_bytes}
@@ -80,6 +80,8 @@ calls_for s from at (FindNode id target want) = of_table (Closest target s.k) �
 calls_for s from at (GetPeers id key want) = of_peers (List_call key at) ∷ of_table (Closest key s.k) ∷ []
 calls_for s from at (AnnouncePeer id key port token) =
     cond (is_accepted s.tokens (ip_bytes from.ip) at token) (of_peers (Put key (peer_for from port) at) ∷ []) []
+calls_for s from at (GetItem id target want) = []
+calls_for s from at (PutItem id token v mutable) = []
 calls_for s from at (Other method) = []
 
 -- whom the table is told of
@@ -132,6 +134,7 @@ found_from tx s closest = message.Answer tx (record {
   nodes6 = None;
   snodes6 = None;
   token = None;
+  v = None;
   values = None;
 })
 
@@ -144,6 +147,7 @@ peers_from tx s from at listed closest = message.Answer tx (record {
   nodes6 = None;
   snodes6 = None;
   token = Some (token_of s.tokens.seed (epoch_at s.tokens at) (ip_bytes from.ip));
+  v = None;
   values = where_some listed;
 })
 
@@ -154,4 +158,6 @@ answer_with s from at tx (FindNode id target want) replies = found_from tx s (cl
 answer_with s from at tx (GetPeers id key want) replies = peers_from tx s from at (peers_in replies) (closest_in (drop 1 replies))
 answer_with s from at tx (AnnouncePeer id key port token) replies =
     cond (is_accepted s.tokens (ip_bytes from.ip) at token) (put_in tx s.own replies) (bad_token tx)
+answer_with s from at tx (GetItem id target want) replies = method_unknown tx
+answer_with s from at tx (PutItem id token v mutable) replies = method_unknown tx
 answer_with s from at tx (Other method) replies = method_unknown tx

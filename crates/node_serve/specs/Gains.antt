@@ -3,7 +3,7 @@
 use Rattle.std.specs.Prelude.{ℕ, ◌≤◌, cond, List, [], ◌∷◌, drop, length}
 use Rattle.kad_base.specs.declared.types.Addr.{Addr}
 use Rattle.kad_krpc.specs.declared.message.Ask.{Ask}
-use Rattle.kad_krpc.specs.declared.message.Ask.TheVariants.{Ping, FindNode, GetPeers, AnnouncePeer, Other}
+use Rattle.kad_krpc.specs.declared.message.Ask.TheVariants.{Ping, FindNode, GetPeers, AnnouncePeer, Get as GetItem, Put as PutItem, Other}
 use Rattle.kad_krpc.specs.declared.message.Message.{Message}
 use Rattle.kad_krpc.specs.Records.{ip_bytes}
 use Rattle.contact_table.specs.declared.calls.TableCall.TheVariants.{Closest}
@@ -25,6 +25,8 @@ wants_of s from at (FindNode id target want) = Nodes target
 wants_of s from at (GetPeers id key want) = Peers key
 wants_of s from at (AnnouncePeer id key port token) =
     cond (is_accepted s.tokens (ip_bytes from.ip) at token) (Place key (peer_for from port)) RefuseToken
+wants_of s from at (GetItem id target want) = RefuseMethod
+wants_of s from at (PutItem id token v mutable) = RefuseMethod
 wants_of s from at (Other method) = RefuseMethod
 
 -- the calls for it, by a node whose replies name k contacts

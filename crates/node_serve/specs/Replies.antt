@@ -13,7 +13,7 @@ use Rattle.kad_base.specs.declared.types.Policy.TheVariants.{Plain, Puzzled}
 use Rattle.kad_base.specs.Contacts.{same}
 use Rattle.kad_distance.specs.KClosest.{k_closest}
 use Rattle.kad_krpc.specs.declared.message.Ask.{Ask}
-use Rattle.kad_krpc.specs.declared.message.Ask.TheVariants.{Ping, FindNode, GetPeers, AnnouncePeer, Other}
+use Rattle.kad_krpc.specs.declared.message.Ask.TheVariants.{Ping, FindNode, GetPeers, AnnouncePeer, Get as GetItem, Put as PutItem, Other}
 use Rattle.kad_krpc.specs.declared.message.Port.{Port}
 use Rattle.kad_krpc.specs.declared.message.Port.TheVariants.{Given, Implied}
 use Rattle.kad_krpc.specs.declared.message.Message.{Message}
@@ -69,7 +69,7 @@ values_for s key at = where_some (listed s.peers key at)
 
 -- the node's identifier alone
 abbrev pub named : List ℕ → Id → Message
-named tx own = message.Answer tx (record { id = own; nodes = None; snodes = None; nodes6 = None; snodes6 = None; token = None; values = None })
+named tx own = message.Answer tx (record { id = own; nodes = None; snodes = None; nodes6 = None; snodes6 = None; token = None; v = None; values = None })
 
 abbrev pub found : List ℕ → NodeState → Id → Message
 found tx s target = message.Answer tx (record {
@@ -79,6 +79,7 @@ found tx s target = message.Answer tx (record {
   nodes6 = None;
   snodes6 = None;
   token = None;
+  v = None;
   values = None;
 })
 
@@ -90,6 +91,7 @@ peers_found tx s from at key = message.Answer tx (record {
   nodes6 = None;
   snodes6 = None;
   token = Some (token_for s from at);
+  v = None;
   values = values_for s key at;
 })
 
@@ -133,4 +135,6 @@ RepliesWith s from at tx (Ping id) o = o ≡ record { message = named tx s.own; 
 RepliesWith s from at tx (FindNode id target want) o = o ≡ record { message = found tx s target; peers = s.peers }
 RepliesWith s from at tx (GetPeers id key want) o = o ≡ record { message = peers_found tx s from at key; peers = s.peers }
 RepliesWith s from at tx (AnnouncePeer id key port token) o = Announces s from at tx key (peer_for from port) token o
+RepliesWith s from at tx (GetItem id target want) o = o ≡ record { message = method_unknown tx; peers = s.peers }
+RepliesWith s from at tx (PutItem id token v mutable) o = o ≡ record { message = method_unknown tx; peers = s.peers }
 RepliesWith s from at tx (Other method) o = o ≡ record { message = method_unknown tx; peers = s.peers }

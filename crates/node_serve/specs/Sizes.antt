@@ -18,13 +18,14 @@ abbrev pub count : {A : Type 0} → Option (List A) → ℕ
 count None = 0
 count (Some items) = length items
 
--- an answer with few parts, and none of IPv6
+-- an answer with few parts, none of IPv6, and no value
 pub record HasFew (a : Answer) : Type 0 where
   pub nodes : count a.nodes ≤ 20
   pub snodes : count a.snodes ≤ 20
   pub nodes6 : a.nodes6 ≡ None
   pub snodes6 : a.snodes6 ≡ None
   pub token : count a.token ≤ 8
+  pub v : a.v ≡ None
   pub values : count a.values ≤ 50
 
 -- a reply with few parts

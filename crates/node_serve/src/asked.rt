@@ -73,6 +73,8 @@ fn asker(ask: &AskView) -> Option<Id>
         AskView::FindNode { id, .. } => Some(*id),
         AskView::GetPeers { id, .. } => Some(*id),
         AskView::AnnouncePeer { id, .. } => Some(*id),
+        AskView::Get { .. } => None,
+        AskView::Put { .. } => None,
         AskView::Other { .. } => None,
     }
 }

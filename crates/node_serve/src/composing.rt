@@ -51,6 +51,7 @@ fn found(
         nodes6: None,
         snodes6: None,
         token: None,
+        v: None,
         values: None,
     };
     Ok(Message::Answer { tx, answer })
@@ -80,6 +81,7 @@ fn peers_found(
         nodes6: None,
         snodes6: None,
         token: Some(token),
+        v: None,
         values: some_peers(list),
     };
     Ok(Message::Answer { tx, answer })

@@ -82,6 +82,8 @@ pub fn plan(setting: &ServeSetting, asked: &Asked, at: u64) -> Wants
             token,
             ..
         } => plan_announced(&setting.tokens, asked, at, *info_hash, *port, token),
+        AskView::Get { .. } => Wants::RefuseMethod,
+        AskView::Put { .. } => Wants::RefuseMethod,
         AskView::Other { .. } => Wants::RefuseMethod,
     }
 }
