@@ -1,5 +1,5 @@
 -- What an answer's dictionary is, by each law of a message: a key more is a line in each.
-use Rattle.std.proofs.Common.{◌≡◌, ℕ, ◌<◌, ◌≤◌, Bool, true, false, cond, List, [], ◌∷◌, ◌++◌, map, length, is_eq, Option, Some, None, Ok, refl, ap, ◌∙◌, nat_eq, eq-eqb, arith}
+use Rattle.std.proofs.Common.{◌≡◌, ℕ, ◌<◌, ◌≤◌, true, false, cond, List, [], ◌∷◌, ◌++◌, map, length, is_eq, Option, Some, None, Ok, refl, ap, ◌∙◌, nat_eq, eq-eqb, arith}
 use Rattle.std.specs.Prelude.{codes, flat_map, option_to_list, option_map, IfSome}
 use Rattle.std.specs.List.{AllByRecursion}
 use Rattle.kad_base.specs.declared.types.Addr.{Addr}
@@ -24,7 +24,7 @@ use Rattle.kad_krpc.specs.declared.message.Key.{Key}
 use Rattle.kad_krpc.specs.declared.message.Key.TheVariants as key
 use Rattle.kad_records.specs.Records.{addr_bytes, ip_bytes, port_bytes, node_bytes, proved_bytes, nodes_bytes, snodes_bytes, peers_value, node_in, proved_in, addr_at, IsNodeOf, IsProvedOf, IsWellContact, IsWellReport, IsWellAddr}
 use Rattle.kad_records.proofs.Cut.{node_size, proved_size, node_one, proved_one, addr_one, cut_apart, whole_records}
-use Rattle.kad_krpc.specs.Fields.{Look, needed, optional, id_of, records_by, peer_of, peer_in, peers_in, IsCarried, pair, maybe, Each}
+use Rattle.kad_krpc.specs.Fields.{Look, needed, optional, id_of, records_by, peer_of, peer_in, IsCarried, pair, maybe, Each}
 use Rattle.kad_krpc.specs.Answering.{nodes_by, snodes_by, nodes6_by, snodes6_by, values_by, answer_by, answer_at, nodes_value, snodes_value, answer_pairs, BearsForm, IsWritableAnswer, IsWellAnswer}
 use Rattle.kad_krpc.proofs.Stepping.{NotBad, both, needs, options, strings, Gets, Any, any, after, gets_strings, bytes_text, list_list, id_text, stepped, had, had_some, strings_back}
 use Rattle.kad_krpc.proofs.Carried.{SoundLook, SoundOption}

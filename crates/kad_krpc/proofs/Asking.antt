@@ -7,8 +7,7 @@ use Rattle.std.proofs.lemmas.Bool.Decides.{nat_tests}
 use Rattle.kad_base.specs.declared.types.Id.{Id}
 use Rattle.kad_bencode.specs.Faults.{InList}
 use Rattle.kad_bencode.specs.Keys.{keys_of, value_of}
-use Rattle.kad_bencode.specs.Naming.{named}
-use Rattle.kad_bencode.specs.Spelling.{depth_of, greatest, each_once, put_all, text_of}
+use Rattle.kad_bencode.specs.Spelling.{depth_of, greatest, each_once, put_all}
 use Rattle.kad_bencode.specs.declared.entries.Pair.{Pair}
 use Rattle.kad_bencode.proofs.Folds.{depth_of-list}
 use Rattle.kad_bencode.proofs.Formed.{IsSound, sound_form, named_text}
@@ -23,7 +22,7 @@ use Rattle.kad_krpc.specs.declared.message.Method.{Method}
 use Rattle.kad_krpc.specs.declared.message.Method.TheVariants as method
 use Rattle.kad_krpc.specs.declared.message.Key.{Key}
 use Rattle.kad_krpc.specs.declared.message.Key.TheVariants as key
-use Rattle.kad_krpc.specs.Fields.{Step, Look, then, of_kind, needed, optional, look_of, id_of, IsCarried}
+use Rattle.kad_krpc.specs.Fields.{Step, Look, then, of_kind, needed, optional, look_of, id_of}
 use Rattle.kad_krpc.specs.Asking.{is_text, is_word, is_named, names, want_of, word_if, want_value, some_want, want_pair, two_ids, port_in, port_of, is_implied, port_by, rest_at, arguments_at, ask_by, ask_of, method_in, put_pairs, arguments_of, name_of, IsGivenPort, IsUnknown, is_mutable_ask, CarriesForm, IsWritableAsk, IsWellAsk}
 use Rattle.kad_krpc.proofs.Stepping.{NotBad, both, either, needs, options, Gets, Any, any, after, gets_either, none_some, bytes_text, integer_int, list_list, look_dict, id_text, stepped, had, had_some, differs}
 use Rattle.kad_krpc.proofs.Pairing.{Below, Good, good_text, good_int, good_list, good_dict, GoodPairs, good_more, good_maybe, once_maybe, next_filed, small, Within, more, text_within, int_within, maybe_within, hit, good_carried, carried_within}

@@ -1,12 +1,11 @@
 -- What the dictionaries of a datagram have under their keys is within the limits and in order, so that it has a written form.
-use Rattle.std.proofs.Common.{◌≡◌, ℕ, suc, List, length, Option, Some, None, refl, subst, sym, ap}
+use Rattle.std.proofs.Common.{◌≡◌, ℕ, suc, List, length, Option, Some, None, refl, subst}
 use Rattle.std.specs.Prelude.{option_map}
 use Rattle.kad_bencode.specs.Faults.{Open}
 use Rattle.kad_bencode.specs.Keys.{value_of}
 use Rattle.kad_bencode.specs.Parts.{dict_of}
 use Rattle.kad_bencode.specs.declared.entries.Pair.{Pair}
 use Rattle.kad_bencode.specs.declared.value.Value.{Value}
-use Rattle.kad_bencode.specs.declared.value.Value.TheVariants.{Dict}
 use Rattle.kad_bencode.proofs.Formed.{IsSound, its_dict, member_sound}
 use Rattle.kad_krpc.specs.declared.message.Key.{Key}
 use Rattle.kad_krpc.specs.Fields.{Look, of_kind, needed, look_of}

@@ -1,4 +1,4 @@
-use Rattle.std.proofs.Common.{IfOk, ap, subst}
+use Rattle.std.proofs.Common.{IfOk, subst}
 use Rattle.std.specs.Prelude.{◌≡◌}
 use Rattle.kad_bencode.specs.Spelling.{text_of}
 use Rattle.kad_bencode.proofs.Faults.{one_value}
