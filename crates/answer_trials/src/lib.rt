@@ -17,4 +17,6 @@ mod store;
 #[cfg(test)]
 mod table;
 #[cfg(test)]
+mod two_networks;
+#[cfg(test)]
 mod whole;

@@ -9,31 +9,31 @@ use crate::peers::add_ports;
 use crate::replies::{OWN, ends, joined, pong, random, replies, tagged_pong};
 use contact_table::{Table, TableCall};
 use id_puzzles::{Minted, mint};
-use kad_base::{Contact, List, NoMemory, Policy, Report, Reports, Serial};
+use kad_base::{Addr, Contact, List, NoMemory, Policy, Report, Reports, Serial};
 use node_serve::Node;
 use std::alloc::Global;
 use std::test::Fail;
 use trial_kit::{contact, local};
 
 /// Tells the table that the contact was seen.
-fn tell(table: &mut Table, contact: Contact)
+pub fn tell(table: &mut Table, contact: Contact)
     ensures { table.new.own ≡ table.old.own }
 {
     let _reply = table.apply(0, TableCall::Seen { contact });
 }
 
 /// The contact of a minted identifier.
-fn known(minted: &Minted, n: u8) -> Contact
+fn known(minted: &Minted, addr: Addr) -> Contact
     ensures { result.id ≡ minted.now.id }
 {
     Contact {
         id: minted.id,
-        addr: local(7000 + u16::from(n)),
+        addr,
     }
 }
 
-/// Tells the table of a contact that was minted from 32 bytes n, and keeps its proof.
-fn keep(table: &mut Table, proofs: &mut Reports, n: u8) -> Result<(), NoMemory>
+/// Tells the table of a contact at this address that was minted from 32 bytes n, and keeps its proof.
+pub fn keep(table: &mut Table, proofs: &mut Reports, n: u8, addr: Addr) -> Result<(), NoMemory>
     requires { All (Passes (Puzzled 0 0)) proofs.old }
     ensures own { table.new.own ≡ table.old.own }
     ensures passes { All (Passes (Puzzled 0 0)) proofs.new }
@@ -41,7 +41,7 @@ fn keep(table: &mut Table, proofs: &mut Reports, n: u8) -> Result<(), NoMemory>
     let Ok(minted) = mint(&[n; 32], 0, 0, 1) else {
         return Ok(());
     };
-    let contact = known(&minted, n);
+    let contact = known(&minted, addr);
     tell(table, contact);
     proofs.push(Report {
         contact,
@@ -57,7 +57,7 @@ fn proved_node(alloc: Global, bare: u8, n: u8, sealed: bool) -> Result<Node, NoM
         tell(&mut table, contact(i));
     }
     for i in 0..n {
-        keep(&mut table, &mut proofs, i)?;
+        keep(&mut table, &mut proofs, i, local(7000 + u16::from(i)))?;
     }
     let policy = Policy::Puzzled { c1: 0, c2: 0 };
     Ok(Node::new(alloc, OWN, 20, policy, table, proofs, &random(), 0, sealed))

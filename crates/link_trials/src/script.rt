@@ -97,6 +97,8 @@ fn answer(alloc: Global, at: u64) -> ScriptEvent
                 id: Id(*b"mnopqrstuvwxyz123456"),
                 nodes: None,
                 snodes: None,
+                nodes6: None,
+                snodes6: None,
                 token: None,
                 values: None,
             },

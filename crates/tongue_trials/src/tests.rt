@@ -2,3 +2,4 @@ mod bencode;
 mod messages;
 mod seals;
 mod tagging;
+mod two_networks;

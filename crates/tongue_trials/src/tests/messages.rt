@@ -1,28 +1,34 @@
 //! The examples of BEP 5 both ways, this project's own keys, and refusals with their keys.
 ghost use Rattle.std.specs.Prelude.{◌≡◌, ◌∷◌, [], None, IfOk};
 ghost use Rattle.std.specs.List.{AllByRecursion};
-ghost use Rattle.kad_krpc.specs.Form.{IsV4, IsProved, IsWritable};
+ghost use Rattle.kad_krpc.specs.Form.{IsProved, IsWritable};
 
 use kad_base::{Addr, Addrs, Bytes, Contact, Id, Ip, List, Proof, Report, Reports};
 use kad_bencode::Bad;
 use kad_krpc::{
-    Answer, Ask, Key, KrpcFault, Message, Port, decode, decode_view, encode, encode_into,
+    Answer, Ask, Key, KrpcFault, Message, Port, Want, decode, decode_view, encode, encode_into,
     find_node_into, get_peers_into, said_is_writable, split_record,
 };
 use std::alloc::Global;
 use std::process::Abort;
 use std::test::Fail;
 
-const ABC: Id = Id(*b"abcdefghij0123456789");
+pub(crate) const ABC: Id = Id(*b"abcdefghij0123456789");
 
-const MNO: Id = Id(*b"mnopqrstuvwxyz123456");
+pub(crate) const MNO: Id = Id(*b"mnopqrstuvwxyz123456");
 
-fn bytes(alloc: Global, text: &[u8]) -> Result<Bytes, Fail> {
+/// Nothing is said of whose contacts are wanted.
+pub(crate) const NOTHING: Want = Want {
+    four: false,
+    six: false,
+};
+
+pub(crate) fn bytes(alloc: Global, text: &[u8]) -> Result<Bytes, Fail> {
     Ok(List::from_slice(alloc, text)?)
 }
 
 /// 127.0.0.1:6881.
-fn here() -> Addr
+pub(crate) fn here() -> Addr
     ensures { result ≡ record { ip = Ip.V4 (127 ∷ 0 ∷ 0 ∷ 1 ∷ []); port = 6881 } }
 {
     Addr {
@@ -31,7 +37,7 @@ fn here() -> Addr
     }
 }
 
-fn reads(rt: &impl Abort, alloc: Global, text: &[u8], message: &Message) {
+pub(crate) fn reads(rt: &impl Abort, alloc: Global, text: &[u8], message: &Message) {
     assert!(rt; decode_view(text).is_ok());
     match decode(alloc, text) {
         Ok(read) => assert!(rt; read == *message),
@@ -55,7 +61,7 @@ fn puts(rt: &impl Abort, message: &Message, text: &[u8]) {
     }
 }
 
-fn writes(rt: &impl Abort, alloc: Global, message: &Message, text: &[u8])
+pub(crate) fn writes(rt: &impl Abort, alloc: Global, message: &Message, text: &[u8])
     requires { IsWritable message.now }
 {
     puts(rt, message, text);
@@ -65,7 +71,7 @@ fn writes(rt: &impl Abort, alloc: Global, message: &Message, text: &[u8])
     }
 }
 
-fn refuses(rt: &impl Abort, alloc: Global, text: &[u8], fault: KrpcFault) {
+pub(crate) fn refuses(rt: &impl Abort, alloc: Global, text: &[u8], fault: KrpcFault) {
     match decode(alloc, text) {
         Ok(_) => assert!(rt; false, "read"),
         Err(found) => assert_eq!(rt; found, fault),
@@ -77,11 +83,13 @@ fn refuses(rt: &impl Abort, alloc: Global, text: &[u8], fault: KrpcFault) {
 }
 
 /// An answer with the identifier alone.
-fn bare(id: Id) -> Answer
+pub(crate) fn bare(id: Id) -> Answer
     ensures { result ≡ record {
       id = id;
       nodes = None;
       snodes = None;
+      nodes6 = None;
+      snodes6 = None;
       token = None;
       values = None;
     } }
@@ -90,6 +98,8 @@ fn bare(id: Id) -> Answer
         id,
         nodes: None,
         snodes: None,
+        nodes6: None,
+        snodes6: None,
         token: None,
         values: None,
     }
@@ -122,6 +132,7 @@ fn a_find_node_is_read_and_written(rt: HostRuntime) -> Result<(), Fail> {
         ask: Ask::FindNode {
             id: ABC,
             target: MNO,
+            want: NOTHING,
         },
     };
     reads(&rt, alloc, text, &message);
@@ -141,6 +152,7 @@ fn a_get_peers_is_read_and_written(rt: HostRuntime) -> Result<(), Fail> {
         ask: Ask::GetPeers {
             id: ABC,
             info_hash: MNO,
+            want: NOTHING,
         },
     };
     reads(&rt, alloc, text, &message);
@@ -310,7 +322,7 @@ fn peers_are_read(rt: HostRuntime) -> Result<(), Fail> {
 }
 
 /// A node with its proof.
-fn proved_node(alloc: Global) -> Result<Reports, Fail>
+pub(crate) fn proved_node(alloc: Global) -> Result<Reports, Fail>
     ensures { IfOk result (AllByRecursion IsProved) }
 {
     let mut snodes = List::new(alloc);
@@ -327,9 +339,7 @@ fn proved_node(alloc: Global) -> Result<Reports, Fail>
     Ok(snodes)
 }
 
-fn one_peer(alloc: Global) -> Result<Addrs, Fail>
-    ensures { IfOk result (AllByRecursion (λ peer. IsV4 peer.ip)) }
-{
+fn one_peer(alloc: Global) -> Result<Addrs, Fail> {
     let mut values = List::new(alloc);
     values.push(here())?;
     Ok(values)
@@ -349,6 +359,8 @@ fn each_part_of_an_answer_is_read_and_written(rt: HostRuntime) -> Result<(), Fai
             id: ABC,
             nodes: None,
             snodes: Some(snodes),
+            nodes6: None,
+            snodes6: None,
             token: Some(token),
             values: Some(values),
         },
@@ -415,12 +427,12 @@ fn a_record_of_either_length_is_split(rt: HostRuntime) {
 #[test]
 fn queries_are_written(rt: HostRuntime) {
     let mut buf = [0u8; 160];
-    let len = find_node_into(&mut buf, &ABC, &MNO, 0x1aed8da0);
+    let len = find_node_into(&mut buf, &ABC, &MNO, false, 0x1aed8da0);
     assert_eq!(&rt;
         &buf[..len],
         b"d1:ad2:id20:abcdefghij01234567896:target20:mnopqrstuvwxyz123456e1:q9:find_node2:roi1e1:t4:\xa0\x8d\xed\x1a1:y1:qe".as_slice()
     );
-    let len = get_peers_into(&mut buf, &ABC, &MNO, 0x1aed8da0);
+    let len = get_peers_into(&mut buf, &ABC, &MNO, false, 0x1aed8da0);
     assert_eq!(&rt;
         &buf[..len],
         b"d1:ad2:id20:abcdefghij01234567899:info_hash20:mnopqrstuvwxyz123456e1:q9:get_peers2:roi1e1:t4:\xa0\x8d\xed\x1a1:y1:qe".as_slice()

@@ -31,6 +31,8 @@ fn reply(alloc: Global) -> Result<Message, Fail>
         id: Id([0xff; 20]),
         nodes: None,
         snodes: None,
+        nodes6: None,
+        snodes6: None,
         token: None,
         values: None,
     };
