@@ -110,7 +110,8 @@ fn plan_put(
         (text_of v.now)) }
     ensures item { IfOk result KeepsItem }
 {
-    if !is_token_of(tokens, asked.ip, at, token) {
+    let accepted = is_token_of(tokens, asked.ip, at, token);
+    if !accepted {
         return Ok(Wants::RefuseToken);
     }
     if mutable {
