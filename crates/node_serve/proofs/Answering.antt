@@ -1,6 +1,6 @@
 -- The answer of a node, from what it gathered.
 use Rattle.std.proofs.Common.{◌≡◌, ℕ, List, ◌++◌, map, refl, sym, ap, ◌∙◌}
-use Rattle.std.specs.Prelude.{Option}
+use Rattle.std.specs.Prelude.{Option, Some, None}
 use Rattle.std.proofs.lemmas.List.{map-append}
 use Rattle.std.proofs.lemmas.List.Elements.{All-append}
 use Rattle.kad_base.specs.declared.types.Addr.{Addr}
@@ -8,6 +8,10 @@ use Rattle.kad_base.specs.declared.types.Contact.{Contact}
 use Rattle.kad_krpc.specs.Views.{ask_seen}
 use Rattle.kad_krpc.specs.declared.message.Message.{Message}
 use Rattle.contact_table.specs.TableState.{TableState}
+use Rattle.contact_table.specs.TableStep.{table_after}
+use Rattle.contact_table.specs.declared.calls.TableCall.TheVariants.{Seen}
+use Rattle.contact_table.specs.declared.calls.TableReply.{TableReply}
+use Rattle.contact_table.specs.declared.calls.TableReply.TheVariants.{Seen as Seen_reply, Gone as Gone_reply, List as List_reply, NoMemory}
 use Rattle.peer_store.specs.Peers.{Held}
 use Rattle.node_serve.specs.declared.asked.Asked.{Asked}
 use Rattle.node_serve.specs.declared.composing.Gained.{Gained}
@@ -37,6 +41,18 @@ module _ (s : NodeState) (asked : Asked) (at : ℕ) (wants : Wants) (g : Gained)
       ∙ ap (λ l. reply_wanted S asked.from at tx wants (l ++ more)) (sym h.replies)
       ∙ ap (λ w. reply_wanted S asked.from at tx w (map reply_of h.did ++ more)) planned
       ∙ wanted_reply S asked.from at tx (ask_seen asked.ask) (map reply_of h.did ++ more)
+
+-- ---- the table stays the node's own
+
+seen_own : (t : TableState) (c : Contact) (reply : TableReply) → (table_after t 0 (Seen c) reply).own ≡ t.own
+seen_own t c (Seen_reply seen) = refl
+seen_own t c NoMemory = refl
+seen_own t c (Gone_reply gone) = refl
+seen_own t c (List_reply list) = refl
+
+pub told_own : (told : Option Contact) (t u : TableState) → IsTold told t u → u.own ≡ t.own
+told_own None t u h = ap (λ (x : TableState). x.own) h
+told_own (Some c) t u h = ap (λ (x : TableState). x.own) h.leaves ∙ seen_own t c h.reply
 
 -- ---- the answer
 

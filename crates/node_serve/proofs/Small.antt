@@ -1,6 +1,6 @@
 -- A reply with few parts is short, and with its tag too.
 use Rattle.std.proofs.Common.{◌≡◌, ℕ, suc, zero, ◌+◌, ◌*◌, ◌<◌, ◌≤◌, List, [], ◌∷◌, ◌++◌, length, map, ℤ, refl, ap, ◌∙◌, arith, length-append, Option, Some, None}
-use Rattle.std.specs.Prelude.{codes}
+use Rattle.std.specs.Prelude.{codes, IfSome}
 use Rattle.std.specs.List.{concat}
 use Rattle.std.specs.Int.Digits.{digits_of}
 use Rattle.std.specs.Ordering.{match_ordering}
@@ -22,11 +22,12 @@ use Rattle.kad_bencode.specs.declared.value.Value.TheVariants as value
 use Rattle.kad_bencode.proofs.Numerals.{numeral_positive}
 use Rattle.kad_bencode.proofs.Folds.{text_of-int, text_of-text, text_of-list, text_of-dict}
 use Rattle.kad_krpc.specs.declared.message.Answer.{Answer}
+use Rattle.kad_krpc.specs.declared.message.Message.{Message}
 use Rattle.kad_krpc.specs.declared.message.Message.TheVariants as message
-use Rattle.kad_krpc.specs.Form.{pair, maybe, nodes_value, snodes_value, peers_value, answer_pairs, message_pairs, form}
+use Rattle.kad_krpc.specs.Form.{IsCarried, HasForms, pair, maybe, nodes_value, snodes_value, peers_value, answer_pairs, message_pairs, form}
 use Rattle.kad_krpc.specs.Records.{addr_bytes, nodes_bytes, snodes_bytes}
 use Rattle.kad_krpc.specs.Seal.{tagged}
-use Rattle.node_serve.specs.Sizes.{HasFew, IsCompact, count, max_reply, nodes_size, peers_bytes, snodes_size, values_size}
+use Rattle.node_serve.specs.Sizes.{HasFew, IsSmall, IsCompact, count, max_reply, nodes_size, peers_bytes, snodes_size, values_size}
 
 -- ---- strings
 
@@ -145,6 +146,16 @@ size_ends first tx kind h k =
     let e1 = size_append (first ++ pair (codes "t") (value.Text tx)) (pair (codes "y") (value.Text kind)) in
     let e2 = size_append first (pair (codes "t") (value.Text tx)) in
     omega (arith, t, y, e1, e2)
+
+-- a reply with few parts has no value
+no_form : (o : Option (List ℕ)) → o ≡ None → IfSome o IsCarried
+no_form None e = tt
+no_form (Some v) e = absurd cc
+
+pub small_forms : (m : Message) → IsSmall m → HasForms m
+small_forms (message.Query tx read_only ask) h = absurd h
+small_forms (message.Answer tx answer) h = no_form answer.v h.1.v
+small_forms (message.Fault tx code text) h = tt
 
 pub answer_short : (tx : List ℕ) (a : Answer) → length tx ≤ max_answered_tx → HasFew a → IsCompact a → length (form (message.Answer tx a)) ≤ max_reply
 unfolding form

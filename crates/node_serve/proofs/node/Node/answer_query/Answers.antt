@@ -6,10 +6,20 @@ use Rattle.node_serve.specs.Gains.{reply_gained}
 use Rattle.node_serve.specs.Gathered.{AnswersAsked, EndsAsked}
 use Rattle.node_serve.specs.NodeState.{NodeState, with_parts}
 use Rattle.node_serve.specs.Sizes.{IsSmall}
-use Rattle.node_serve.proofs.Answering.{answered}
+use Rattle.node_serve.proofs.Answering.{answered, told_own}
 use Rattle.node_serve.proofs.Ending.{ends_composing, ends_telling}
 use Rattle.node_serve.proofs.Few.{gained_small}
 use Rattle.node_serve.proofs.node.Node.answer_query.Goals as goal
+
+pub invariant_of-self-in-Ok-tell : goal.invariant_of-self-in-Ok-tell
+invariant_of-self-in-Ok-tell g c =
+    let i = c.self.invariant in
+    record {
+      own = told_own c.told_for-told.result c.gather.new.table c.tell.new.table c.in-Ok-tell.ensures.ok ∙ ap (λ (t : TableState). t.own) c.in-Ok-gather.ensures.table ∙ i.own;
+      some_nodes = i.some_nodes;
+      few_nodes = i.few_nodes;
+      proofs = i.proofs;
+    }
 
 pub write-length-requires : goal.write-length-requires
 write-length-requires g c =
