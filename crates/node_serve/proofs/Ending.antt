@@ -62,7 +62,7 @@ module _ (s : NodeState) (from : Addr) (at : ℕ) where
   puts_place v true false h = fits_place v (nat_le (length v) max_length) h
 
   fits_keep : (token v : List ℕ) (mutable b : Bool) → IsAccepted s.tokens (ip_bytes from.ip) at token → mutable ≡ false → nat_le (length v) max_length ≡ b → IsKeep (cond b (Keep v) RefuseBig) → IsTaken s from at token v mutable
-  fits_keep token v mutable true a m fits h = record { token = a; immutable = m; short = leb-true (length v) max_length fits }
+  fits_keep token v mutable true a m fits h = record { own_token = a; immutable = m; short = leb-true (length v) max_length fits }
   fits_keep token v mutable false a m fits h = absurd h
 
   takes_keep : (token v : List ℕ) (mutable b m : Bool) → is_accepted s.tokens (ip_bytes from.ip) at token ≡ b → mutable ≡ m → IsKeep (put_wants b m v) → IsTaken s from at token v mutable

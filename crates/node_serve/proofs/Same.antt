@@ -183,7 +183,7 @@ module _ (s : NodeState) (from : Addr) (at : ℕ) (tx : List ℕ) where
         reply = λ more. ap (λ (x : Outcome). x.message) e ∙ sym ((λ i. put_reply (on i) (m i) tx s.own v more) ∙ ap (λ b. cond b (kept_in tx s.own more) (too_big tx)) big);
       }
   put_part id token v mutable o (crowded t n e) =
-      let on : takes token ≡ true = (accepted s.tokens (ip_bytes from.ip) at token).1 t.token in
+      let on : takes token ≡ true = (accepted s.tokens (ip_bytes from.ip) at token).1 t.own_token in
       let m = t.immutable in
       let fits : nat_le (length v) max_length ≡ true = le-leb (length v) max_length t.short in
       record {
@@ -194,7 +194,7 @@ module _ (s : NodeState) (from : Addr) (at : ℕ) (tx : List ℕ) where
         reply = λ more. ap (λ (x : Outcome). x.message) e ∙ sym ((λ i. put_reply (on i) (m i) tx s.own v (by_items Crowded ∷ more)) ∙ ap (λ b. cond b (kept_in tx s.own (by_items Crowded ∷ more)) (too_big tx)) fits);
       }
   put_part id token v mutable o (kept t n e) =
-      let on : takes token ≡ true = (accepted s.tokens (ip_bytes from.ip) at token).1 t.token in
+      let on : takes token ≡ true = (accepted s.tokens (ip_bytes from.ip) at token).1 t.own_token in
       let m = t.immutable in
       let fits : nat_le (length v) max_length ≡ true = le-leb (length v) max_length t.short in
       let held = purged_items s.items at in
@@ -336,7 +336,7 @@ module _ (s : NodeState) (from : Addr) (at : ℕ) (tx : List ℕ) (u : TableStat
   keep_shows : (id : Id) (token v : List ℕ) (mutable : Bool) (reply : ItemReply) → is_accepted s.tokens (ip_bytes from.ip) at token ≡ true → mutable ≡ false → nat_le (length v) max_length ≡ true
       → Shows (PutItem id token v mutable) (on_items (Keep_call v at) reply ∷ [])
   keep_shows id token v mutable (Kept_reply stored) on m fits memory st =
-      let taken : IsTaken s from at token v mutable = record { token = (accepted s.tokens (ip_bytes from.ip) at token).0 on; immutable = m; short = leb-true (length v) max_length fits } in
+      let taken : IsTaken s from at token v mutable = record { own_token = (accepted s.tokens (ip_bytes from.ip) at token).0 on; immutable = m; short = leb-true (length v) max_length fits } in
       record {
         table = st.1.0;
         replies = λ more. kept taken (has_room (purged_items s.items at) (key_of v) stored st.0)
@@ -344,7 +344,7 @@ module _ (s : NodeState) (from : Addr) (at : ℕ) (tx : List ℕ) (u : TableStat
             ((λ i. put_reply (on i) (m i) tx s.own v (by_items (Kept_reply stored) ∷ more)) ∙ ap (λ b. cond b (named tx s.own) (too_big tx)) fits) st.1.1);
       }
   keep_shows id token v mutable Crowded on m fits memory st =
-      let taken : IsTaken s from at token v mutable = record { token = (accepted s.tokens (ip_bytes from.ip) at token).0 on; immutable = m; short = leb-true (length v) max_length fits } in
+      let taken : IsTaken s from at token v mutable = record { own_token = (accepted s.tokens (ip_bytes from.ip) at token).0 on; immutable = m; short = leb-true (length v) max_length fits } in
       record {
         table = st.1.0;
         replies = λ more. crowded taken st.0

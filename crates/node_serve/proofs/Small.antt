@@ -107,7 +107,8 @@ size_values (Some peers) h k =
     let e = ap length (text_of-list (map (λ peer. value.Text (addr_bytes peer)) peers)) in
     let a = length-append (concat (map text_of (map (λ peer. value.Text (addr_bytes peer)) peers))) (101 ∷ []) in
     let p = peers_short peers (omega (arith, h, k)) in
-    size_pair (codes "values") (peers_value peers) (2 + 24 * length peers) (omega arith) (omega (arith, e, a, p, h, k))
+    let whole : size (maybe (codes "values") peers_value (Some peers)) ≤ 12 + (2 + 24 * length peers) = size_pair (codes "values") (peers_value peers) (2 + 24 * length peers) (omega arith) (omega (arith, e, a, p, h, k)) in
+    omega (arith, whole)
 
 -- a value stands as it is
 size_form : (o : Option (List ℕ)) → IfSome o IsCarried → size (maybe (codes "v") named o) ≤ 7 + count o

@@ -162,7 +162,7 @@ pub data Announces (s : NodeState) (from : Addr) (at : ℕ) (tx : List ℕ) (key
 
 -- what is put isn't refused: its token is accepted, it is immutable, and its written form isn't too long
 pub record IsTaken (s : NodeState) (from : Addr) (at : ℕ) (token v : List ℕ) (mutable : Bool) : Type 0 where
-  pub token : IsAccepted s.tokens (ip_bytes from.ip) at token
+  pub own_token : IsAccepted s.tokens (ip_bytes from.ip) at token
   pub immutable : mutable ≡ false
   pub short : length v ≤ max_length
 

@@ -131,8 +131,14 @@ impl Node {
             Ok(wants) => wants,
             Err(NoMemory) => return Err(NoMemory),
         };
-        let (table, peers, items) = (&mut self.table, &mut self.peers, &mut self.items);
-        let gained = match gather(table, peers, items, self.setting.k, at, wants) {
+        let gained = match gather(
+            &mut self.table,
+            &mut self.peers,
+            &mut self.items,
+            self.setting.k,
+            at,
+            wants,
+        ) {
             Ok(gained) => gained,
             Err(NoMemory) => return Err(NoMemory),
         };

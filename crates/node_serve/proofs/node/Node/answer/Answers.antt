@@ -8,8 +8,8 @@ use Rattle.node_serve.proofs.Ending.{ends_of}
 use Rattle.node_serve.proofs.Answering.{answers}
 use Rattle.node_serve.proofs.node.Node.answer.Goals as goal
 
-pub answer_query-requires-said : goal.answer_query-requires-said
-answer_query-requires-said g c =
+pub answer_query-requires-clause-said : goal.answer_query-requires-clause-said
+answer_query-requires-clause-said g c =
     let query = c.in-Some.ensures.query.query in
     writable c.args.bytes.now (Query c.in-Some.asked.tx.now c.in-Some.asked.read_only (ask_seen c.in-Some.asked.ask)) query.says
 
