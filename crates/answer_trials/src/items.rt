@@ -128,20 +128,20 @@ fn sent<T: Send>(value: T) -> T {
     value
 }
 
-/// Adds the item of the number 1 at the moment 0 by a call of role 1.
-fn call_add(items: &mut Items, alloc: Global) -> ItemReply {
-    match item(alloc, 0, 1) {
-        Ok(v) => items.apply(1, ItemCall::Add { v, at: 0 }),
+/// Puts the item of a number at a moment by a call of role 1.
+fn call_put(items: &mut Items, alloc: Global, number: u8, at: u64) -> ItemReply {
+    match item(alloc, 0, number) {
+        Ok(v) => items.apply(1, ItemCall::Put { v, at }),
         Err(NoMemory) => ItemReply::NoMemory,
     }
 }
 
-/// Asks for that item by a call of role 2, and says whether it came.
+/// Asks for the item of the number 1 by a call of role 2, and says whether it came.
 fn call_get(items: &mut Items, at: u64) -> bool {
     let text = text(1);
     let key = item_key(&text);
     match items.apply(2, ItemCall::Get { key, at }) {
-        ItemReply::Found { v: Some(v) } => v.as_slice() == text.as_slice(),
+        ItemReply::Held { v } => v.as_slice() == text.as_slice(),
         _ => false,
     }
 }
@@ -151,9 +151,10 @@ fn calls_have_their_replies(rt: HostRuntime) {
     let alloc = rt.alloc();
     let mut items = sent(Items::new(alloc));
     let stored = Stored::New;
-    assert!(&rt; call_add(&mut items, alloc) == ItemReply::Stored { stored });
+    assert!(&rt; call_put(&mut items, alloc, 1, 0) == ItemReply::Stored { stored });
     assert!(&rt; call_get(&mut items, TWO_HOURS - 1));
     assert!(&rt; !call_get(&mut items, TWO_HOURS));
-    assert!(&rt; items.apply(0, ItemCall::Purge { at: TWO_HOURS }) == ItemReply::Purged);
+    // What is old is dropped where an item is put.
+    assert!(&rt; call_put(&mut items, alloc, 2, TWO_HOURS) == ItemReply::Stored { stored });
     assert!(&rt; !call_get(&mut items, 0));
 }

@@ -5,6 +5,8 @@
 #[cfg(test)]
 mod items;
 #[cfg(test)]
+mod kept;
+#[cfg(test)]
 mod peers;
 #[cfg(test)]
 mod replies;

@@ -6,7 +6,7 @@ ghost use Rattle.kad_base.specs.declared.types.Policy.TheVariants.{Puzzled};
 ghost use Rattle.answer_trials.specs.declared.replies.TheConstants.{OWN};
 
 use crate::peers::add_ports;
-use crate::replies::{OWN, ends, joined, pong, random, replies, tagged_pong};
+use crate::replies::{OWN, TOKEN, ends, joined, pong, random, replies, tagged_pong};
 use contact_table::{Table, TableCall};
 use id_puzzles::{Minted, mint};
 use kad_base::{Addr, Contact, List, NoMemory, Policy, Report, Reports, Serial};
@@ -124,5 +124,39 @@ fn tags_the_greatest_reply(rt: HostRuntime) -> Result<(), Fail> {
         b"6:\x7f\0\0\x01\0\x32ee2:sg20:\xa6\x1a\xea\xac\xf9\xd1\x4b\x4e\x4e\xc0\x71\xed\xbd\x3f\x32\xb4\x32\x2f\x5c\xf31:t32:012345678901234567890123456789011:y1:re";
     assert!(&rt; add_ports(&mut node, 51, tagged_pong().as_slice()));
     assert!(&rt; ends(&mut node, local(9), WANTED, 0, 2636, last));
+    Ok(())
+}
+
+/// A query for the item of a string of 996 bytes `x`, whose key is another program's, with such a transaction id.
+const SOUGHT: &[u8] =
+    b"d1:ad2:id20:abcdefghij01234567896:target20:\x36\x05\x92\x53\x5a\x3b\x3a\xa6\x74\xdd\x44\xd3\x35\x9b\x19\xf5\xfd\xab\xa9\xe8e1:q3:get1:t32:012345678901234567890123456789011:y1:qe";
+
+/// Whether that item is held then.
+fn keeps_a_long_item(node: &mut Node, wanted: &[u8]) -> bool {
+    let put = joined(&[
+        b"d1:ad2:id20:abcdefghij01234567895:token8:",
+        &TOKEN,
+        b"1:v996:",
+        &[b'x'; 996],
+        b"e1:q3:put1:t2:aa1:y1:qe",
+    ]);
+    replies(node, local(9), put.as_slice(), 0, wanted)
+}
+
+#[test]
+fn writes_the_greatest_reply_with_an_item(rt: HostRuntime) -> Result<(), Fail> {
+    let mut node = proved_node(rt.alloc(), 0, 20, false)?;
+    let last = b"xxxe1:t32:012345678901234567890123456789011:y1:re";
+    assert!(&rt; keeps_a_long_item(&mut node, pong().as_slice()));
+    assert!(&rt; ends(&mut node, local(9), SOUGHT, 0, 3202, last));
+    Ok(())
+}
+
+#[test]
+fn tags_the_greatest_reply_with_an_item(rt: HostRuntime) -> Result<(), Fail> {
+    let mut node = proved_node(rt.alloc(), 0, 20, true)?;
+    let last = b"1:t32:012345678901234567890123456789011:y1:re";
+    assert!(&rt; keeps_a_long_item(&mut node, tagged_pong().as_slice()));
+    assert!(&rt; ends(&mut node, local(9), SOUGHT, 0, 3229, last));
     Ok(())
 }

@@ -52,10 +52,10 @@ near_v4 target seed xs =
     recursion_from_All IsNode (k_closest target 8 (map (node seed) xs)) (closest_all target 8 S IsNode (All-from_recursion IsNode S (nodes_v4 seed xs)))
 
 said_writable : (c : Conduct) (net : Network) (i : ℕ) (tx : List ℕ) (target : Id) → IfSome (said c net i tx target) IsWritable
-said_writable Honest net i tx target = record { nodes = near_v4 target net.seed (filter (knows net.seed i) (numbers net.count)); snodes = tt; nodes6 = tt; snodes6 = tt }
-said_writable Inventing net i tx target = record { nodes = invented_v4 target i (numbers 16); snodes = tt; nodes6 = tt; snodes6 = tt }
+said_writable Honest net i tx target = record { nodes = near_v4 target net.seed (filter (knows net.seed i) (numbers net.count)); snodes = tt; nodes6 = tt; snodes6 = tt; v = tt }
+said_writable Inventing net i tx target = record { nodes = invented_v4 target i (numbers 16); snodes = tt; nodes6 = tt; snodes6 = tt; v = tt }
 said_writable Silent net i tx target = tt
-said_writable Posing net i tx target = record { nodes = near_v4 target net.seed (filter (knows net.seed i) (numbers net.count)); snodes = tt; nodes6 = tt; snodes6 = tt }
+said_writable Posing net i tx target = record { nodes = near_v4 target net.seed (filter (knows net.seed i) (numbers net.count)); snodes = tt; nodes6 = tt; snodes6 = tt; v = tt }
 said_writable Failing net i tx target = tt
 
 pub reply_writable : (net : Network) (i : ℕ) (tx : List ℕ) (target : Id) (m : Message) → Some m ≡ reply_of net i tx target → IsWritable m

@@ -10,7 +10,7 @@ use Rattle.kad_distance.specs.KClosest.{k_closest}
 use Rattle.kad_krpc.specs.declared.message.Message.{Message}
 use Rattle.kad_krpc.specs.declared.message.Message.TheVariants as message
 use Rattle.kad_krpc.specs.declared.message.Ask.{Ask}
-use Rattle.kad_krpc.specs.declared.message.Ask.TheVariants.{Ping, FindNode, GetPeers, AnnouncePeer, Other}
+use Rattle.kad_krpc.specs.declared.message.Ask.TheVariants.{Ping, FindNode, GetPeers, AnnouncePeer, Get as GetItem, Put as PutItem, Other}
 use Rattle.kad_krpc.specs.declared.message.Want.{Want}
 use Rattle.kad_krpc.specs.Reading.{Says}
 use Rattle.kad_krpc.specs.Form.{form}
@@ -32,6 +32,8 @@ asked_for tx (Ping id) = None
 asked_for tx (FindNode id target want) = Some (tx, target)
 asked_for tx (GetPeers id info_hash want) = None
 asked_for tx (AnnouncePeer id info_hash port token) = None
+asked_for tx (GetItem id target want) = None
+asked_for tx (PutItem id token v mutable) = None
 asked_for tx (Other method) = None
 
 abbrev pub find_node_of : Message → Option (List ℕ × Id)
@@ -71,7 +73,7 @@ near net i target = k_closest target 8 (known net i)
 
 -- an answer that names contacts
 abbrev pub naming : List ℕ → Id → List Contact → Message
-naming tx id nodes = message.Answer tx (record { id = id; nodes = Some nodes; snodes = None; nodes6 = None; snodes6 = None; token = None; values = None })
+naming tx id nodes = message.Answer tx (record { id = id; nodes = Some nodes; snodes = None; nodes6 = None; snodes6 = None; token = None; v = None; values = None })
 
 -- what node i says to a query, by what it does
 abbrev pub said : Conduct → Network → ℕ → List ℕ → Id → Option Message

@@ -94,6 +94,7 @@ fn naming(tx: Bytes, id: Id, nodes: Contacts) -> Message
             nodes6: None,
             snodes6: None,
             token: None,
+            v: None,
             values: None,
         },
     }
@@ -178,6 +179,8 @@ fn asked_for<'a>(tx: &'a [u8], ask: AskView<'a>) -> Option<(&'a [u8], Id)>
         AskView::FindNode { target, .. } => Some((tx, target)),
         AskView::GetPeers { .. } => None,
         AskView::AnnouncePeer { .. } => None,
+        AskView::Get { .. } => None,
+        AskView::Put { .. } => None,
         AskView::Other { .. } => None,
     }
 }

@@ -141,6 +141,7 @@ fn copied_answer(alloc: Global, answer: &Answer) -> Result<Answer, NoMemory>
         nodes6: copied(alloc, &answer.nodes6)?,
         snodes6: copied(alloc, &answer.snodes6)?,
         token: copied(alloc, &answer.token)?,
+        v: copied(alloc, &answer.v)?,
         values: copied(alloc, &answer.values)?,
     })
 }
@@ -174,6 +175,22 @@ fn copied_ask(alloc: Global, ask: &Ask) -> Result<Ask, NoMemory>
             info_hash: *info_hash,
             port: *port,
             token: List::from_slice(alloc, token.as_slice())?,
+        }),
+        Ask::Get { id, target, want } => Ok(Ask::Get {
+            id: *id,
+            target: *target,
+            want: *want,
+        }),
+        Ask::Put {
+            id,
+            token,
+            v,
+            mutable,
+        } => Ok(Ask::Put {
+            id: *id,
+            token: List::from_slice(alloc, token.as_slice())?,
+            v: List::from_slice(alloc, v.as_slice())?,
+            mutable: *mutable,
         }),
         Ask::Other { method } => Ok(Ask::Other {
             method: List::from_slice(alloc, method.as_slice())?,

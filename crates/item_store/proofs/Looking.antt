@@ -14,7 +14,8 @@ use Rattle.kad_base.specs.declared.types.NoMemory.{NoMemory}
 use Rattle.peer_store.specs.declared.peers.Stored.{Stored}
 use Rattle.peer_store.specs.declared.peers.Stored.TheVariants.{New, Renewed}
 use Rattle.item_store.specs.declared.held.Item.{Item}
-use Rattle.item_store.specs.Items.{Held, IsItem, IsSound, Holds, key_cmp, found}
+use Rattle.std.specs.Prelude.{if◌then◌else◌}
+use Rattle.item_store.specs.Items.{Held, IsItem, IsSound, Holds, key_cmp, is_fresh, found, if_fresh, handed_out}
 
 -- what a look-up found says whether the key is held
 pub holds_where : (held : List Held) (key : Id) (o : Option Item) → o ≡ found held key → is_some o ≡ list_any (λ k. is_eq (key_cmp key k)) (keys_of held)
@@ -59,3 +60,21 @@ pub stands_at : (held : List Held) (key : Id) (i : Item) (v : List ℕ) → All 
 stands_at held key i v all is same =
     let stands : Stands key i.v = subst (λ o. IfSome o (λ j. Stands key j.v)) (sym is) (found_sound held key all) in
     subst (Stands key) (sym same) stands
+
+none_some : {A : Type 0} {x : A} → ◌≡◌ {A = Option A} None (Some x) → ⊥
+none_some e = cc
+
+some_same : {A : Type 0} {x y : A} → ◌≡◌ {A = Option A} (Some x) (Some y) → x ≡ y
+some_same e = cc
+
+-- what is handed out is an item
+pub handed_item : (held : List Held) (key : Id) (at : ℕ) (v : List ℕ) → All IsSound held → handed_out held key at ≡ Some v → IsItem v
+handed_item held key at v all is = by (found held key) refl is
+  where
+    by_test : (i : Item) (b : Bool) → Some i ≡ found held key → (if b then Some i.v else None) ≡ Some v → IsItem v
+    by_test i true e f = (stands_at held key i v all e (sym (some_same f))).item
+    by_test i false e f = absurd (none_some f)
+
+    by : (o : Option Item) → o ≡ found held key → if_fresh at o ≡ Some v → IsItem v
+    by None e f = absurd (none_some f)
+    by (Some i) e f = by_test i (is_fresh at i) e f

@@ -1,19 +1,18 @@
 -- A store of items as an object whose calls are steps: when each reply comes, and what it leaves.
-use Rattle.std.specs.Prelude.{◌≡◌, ℕ, List, length}
+use Rattle.std.specs.Prelude.{◌≡◌, ℕ, List, length, Some, None}
 use Rattle.kad_base.specs.declared.types.Id.{Id}
 use Rattle.peer_store.specs.declared.peers.Stored.{Stored}
 use Rattle.peer_store.specs.declared.peers.Stored.TheVariants.{New, Renewed}
 use Rattle.item_store.specs.declared.calls.ItemCall.{ItemCall}
-use Rattle.item_store.specs.declared.calls.ItemCall.TheVariants.{Add, Get, Purge}
+use Rattle.item_store.specs.declared.calls.ItemCall.TheVariants.{Get, Put}
 use Rattle.item_store.specs.declared.calls.ItemReply.{ItemReply}
-use Rattle.item_store.specs.declared.calls.ItemReply.TheVariants.{Stored as Stored_reply, Full, Found, Purged, NoMemory}
+use Rattle.item_store.specs.declared.calls.ItemReply.TheVariants.{Held as Held_reply, Absent, Stored as Stored_reply, Full, NoMemory}
 use Rattle.item_store.specs.Items.{Held, IsItem, Holds, HasNoPlace, key_of, max_items, with_item, purged, handed_out}
 
--- each role may make each call; an item that is added has to be one
+-- each role may make each call; what is put has to be an item
 abbrev pub ItemMay : ℕ → ItemCall → Type 0
-ItemMay role (Add v at) = IsItem v
 ItemMay role (Get key at) = Unit {0}
-ItemMay role (Purge at) = Unit {0}
+ItemMay role (Put v at) = IsItem v
 
 -- no item of the key is held, and there is a place for one
 pub record HasPlace (held : List Held) (key : Id) : Type 0 where
@@ -25,20 +24,20 @@ abbrev pub StoredStep : List Held → Id → Stored → Type 0
 StoredStep held key New = HasPlace held key
 StoredStep held key Renewed = Holds held key
 
--- when each reply comes; adding what isn't held needs memory, and so does a copy of what is found
+-- when each reply comes: an item is put among those that a purge leaves. Putting what isn't held needs memory, and so does a
+-- copy of what is handed out
 abbrev pub ItemStep : List Held → ℕ → ItemCall → ItemReply → Type 0
-ItemStep held role (Add v at) (Stored_reply stored) = StoredStep held (key_of v) stored
-ItemStep held role (Add v at) Full = HasNoPlace held (key_of v)
-ItemStep held role (Add v at) NoMemory = HasPlace held (key_of v)
-ItemStep held role (Add v at) other = ⊥
-ItemStep held role (Get key at) (Found v) = v ≡ handed_out held key at
+ItemStep held role (Get key at) (Held_reply v) = (handed_out held key at ≡ Some v) × IsItem v
+ItemStep held role (Get key at) Absent = handed_out held key at ≡ None
 ItemStep held role (Get key at) NoMemory = Unit {0}
 ItemStep held role (Get key at) other = ⊥
-ItemStep held role (Purge at) Purged = Unit {0}
-ItemStep held role (Purge at) other = ⊥
+ItemStep held role (Put v at) (Stored_reply stored) = StoredStep (purged held at) (key_of v) stored
+ItemStep held role (Put v at) Full = HasNoPlace (purged held at) (key_of v)
+ItemStep held role (Put v at) NoMemory = HasPlace (purged held at) (key_of v)
+ItemStep held role (Put v at) other = ⊥
 
--- what is held after a reply; as before after Get and where an item wasn't added
+-- what is held after a reply; where an item has no place or there is no memory the purge stands
 abbrev pub item_after : List Held → ℕ → ItemCall → ItemReply → List Held
-item_after held role (Add v at) (Stored_reply stored) = with_item held v at
-item_after held role (Purge at) Purged = purged held at
-item_after held role call reply = held
+item_after held role (Get key at) reply = held
+item_after held role (Put v at) (Stored_reply stored) = with_item (purged held at) v at
+item_after held role (Put v at) other = purged held at

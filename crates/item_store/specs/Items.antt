@@ -9,8 +9,7 @@ use Rattle.std.specs.Cmp.Lexicographic.{slice_cmp}
 use Rattle.std.specs.declared.cmp.Ordering.{Ordering}
 use Rattle.kad_base.specs.Puzzles.{hash}
 use Rattle.kad_base.specs.declared.types.Id.{Id}
-use Rattle.kad_bencode.specs.Spelling.{Fits, text_of, in_order}
-use Rattle.kad_bencode.specs.declared.value.Value.{Value}
+use Rattle.kad_bencode.specs.WrittenForm.{IsWrittenForm}
 use Rattle.item_store.specs.declared.held.Item.{Item}
 
 -- the most items that are kept
@@ -27,11 +26,8 @@ max_length = 1000
 
 -- the bytes are the written form of a value that may stand where two lists or dictionaries are open around it, as they are
 -- in a message: of 16 at most 14 are its own
-pub record IsWritten (bytes : List ℕ) : Type 0 where
-  pub value : Value
-  pub text : bytes ≡ text_of value
-  pub fits : Fits 2 value
-  pub ordered : in_order value ≡ value
+abbrev pub IsWritten : List ℕ → Type 0
+IsWritten bytes = IsWrittenForm 2 bytes
 
 -- the bytes may be an item: the written form of a value, and not too long
 pub record IsItem (bytes : List ℕ) : Type 0 where

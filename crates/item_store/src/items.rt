@@ -12,6 +12,9 @@ use std::collections::BTreeMap;
 use std::marker::Model;
 use thiserror::Error;
 
+/// The most bytes of an item's written form (this project's limit).
+pub const MAX_ITEM: usize = 1_000;
+
 /// Why an item wasn't added.
 #[derive(Clone, Copy, Debug, PartialEq, Eq, Error)]
 pub enum ItemFault {
@@ -106,7 +109,8 @@ impl Items {
 
     /// A copy of what `get` answers.
     pub(crate) fn copied(&self, key: &Id, at: u64) -> Result<Option<Bytes>, NoMemory>
-        ensures { IfOk result (λ v. v ≡ handed_out self.now key.now at) }
+        ensures copy { IfOk result (λ v. v ≡ handed_out self.now key.now at) }
+        ensures item { IfOk result (λ v. IfSome v IsItem) }
     {
         match self.get(key, at) {
             Some(v) => {

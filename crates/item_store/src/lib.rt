@@ -8,4 +8,4 @@ mod items;
 mod serial;
 
 pub use calls::{ItemCall, ItemReply};
-pub use items::{ItemFault, Items, item_key};
+pub use items::{ItemFault, Items, MAX_ITEM, item_key};

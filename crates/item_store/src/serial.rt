@@ -9,26 +9,28 @@ use crate::items::{ItemFault, Items};
 use kad_base::{Bytes, Id, NoMemory, Serial};
 
 impl Items {
-    /// Answers what became of an item.
-    fn add_one(&mut self, v: Bytes, at: u64) -> ItemReply
-        requires { IsItem v }
-        ensures step { ItemStep self.old 0 (ItemCall.Add v at) result }
-        ensures after { self.new ≡ item_after self.old 0 (ItemCall.Add v at) result }
+    /// Answers with a copy of the written form of an item.
+    fn get_one(&self, key: &Id, at: u64) -> ItemReply
+        ensures { ItemStep self.now 0 (ItemCall.Get key.now at) result }
     {
+        match self.copied(key, at) {
+            Ok(Some(v)) => ItemReply::Held { v },
+            Ok(None) => ItemReply::Absent,
+            Err(NoMemory) => ItemReply::NoMemory,
+        }
+    }
+
+    /// Drops what is old, and answers what became of an item.
+    fn put_one(&mut self, v: Bytes, at: u64) -> ItemReply
+        requires { IsItem v }
+        ensures step { ItemStep self.old 0 (ItemCall.Put v at) result }
+        ensures after { self.new ≡ item_after self.old 0 (ItemCall.Put v at) result }
+    {
+        self.purge(at);
         match self.add(v, at) {
             Ok(stored) => ItemReply::Stored { stored },
             Err(ItemFault::Full) => ItemReply::Full,
             Err(ItemFault::NoMemory) => ItemReply::NoMemory,
-        }
-    }
-
-    /// Answers with a copy of the written form of an item.
-    fn find_one(&self, key: &Id, at: u64) -> ItemReply
-        ensures { ItemStep self.now 0 (ItemCall.Get key.now at) result }
-    {
-        match self.copied(key, at) {
-            Ok(v) => ItemReply::Found { v },
-            Err(NoMemory) => ItemReply::NoMemory,
         }
     }
 }
@@ -46,12 +48,8 @@ impl Serial for Items {
 
     fn apply(&mut self, role: u8, call: ItemCall) -> ItemReply {
         match call {
-            ItemCall::Add { v, at } => self.add_one(v, at),
-            ItemCall::Get { key, at } => self.find_one(&key, at),
-            ItemCall::Purge { at } => {
-                self.purge(at);
-                ItemReply::Purged
-            }
+            ItemCall::Get { key, at } => self.get_one(&key, at),
+            ItemCall::Put { v, at } => self.put_one(v, at),
         }
     }
 }

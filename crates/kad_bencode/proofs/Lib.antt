@@ -22,3 +22,4 @@ pub mod Filing
 pub mod Parting
 pub mod Added
 pub mod Kept
+pub mod Formed

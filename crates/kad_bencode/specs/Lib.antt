@@ -1,5 +1,6 @@
 pub mod Keys
 pub mod Spelling
+pub mod WrittenForm
 pub mod Faults
 pub mod Machine
 pub mod Written

@@ -17,6 +17,7 @@ mod scan;
 pub mod value;
 pub mod verify;
 pub mod writer;
+mod written;
 
 pub use built::built_is_spelled;
 pub use entries::{Dictionary, Pair};

@@ -5,15 +5,17 @@ use Rattle.std.specs.List.{AllByRecursion, list_any}
 use Rattle.std.proofs.lemmas.Bool.{lt-ltb, le-leb}
 use Rattle.std.proofs.lemmas.Bool.Decides.{nat_tests}
 use Rattle.kad_base.specs.declared.types.Id.{Id}
+use Rattle.kad_bencode.specs.Faults.{InList}
 use Rattle.kad_bencode.specs.Keys.{keys_of, value_of}
 use Rattle.kad_bencode.specs.Spelling.{depth_of, greatest, each_once, put_all}
 use Rattle.kad_bencode.specs.declared.entries.Pair.{Pair}
 use Rattle.kad_bencode.proofs.Folds.{depth_of-list}
+use Rattle.kad_bencode.proofs.Formed.{IsSound, sound_form, named_text}
 use Rattle.kad_bencode.specs.Parts.{bytes_of, integer_of}
 use Rattle.kad_bencode.specs.declared.value.Value.{Value}
 use Rattle.kad_bencode.specs.declared.value.Value.TheVariants.{Int, Text, Dict}
 use Rattle.kad_krpc.specs.declared.message.Ask.{Ask}
-use Rattle.kad_krpc.specs.declared.message.Ask.TheVariants.{Ping, FindNode, GetPeers, AnnouncePeer, Other}
+use Rattle.kad_krpc.specs.declared.message.Ask.TheVariants.{Ping, FindNode, GetPeers, AnnouncePeer, Get, Put, Other}
 use Rattle.kad_krpc.specs.declared.message.Port.TheVariants.{Given, Implied}
 use Rattle.kad_krpc.specs.declared.message.Want.{Want}
 use Rattle.kad_krpc.specs.declared.message.Method.{Method}
@@ -21,9 +23,10 @@ use Rattle.kad_krpc.specs.declared.message.Method.TheVariants as method
 use Rattle.kad_krpc.specs.declared.message.Key.{Key}
 use Rattle.kad_krpc.specs.declared.message.Key.TheVariants as key
 use Rattle.kad_krpc.specs.Fields.{Step, Look, then, of_kind, needed, optional, look_of, id_of}
-use Rattle.kad_krpc.specs.Asking.{is_text, is_word, is_named, names, want_of, word_if, want_value, some_want, want_pair, two_ids, port_in, port_of, is_implied, port_by, rest_at, arguments_at, ask_by, ask_of, method_in, arguments_of, name_of, IsGivenPort, IsUnknown, IsWritableAsk, IsWellAsk}
+use Rattle.kad_krpc.specs.Asking.{is_text, is_word, is_named, names, want_of, word_if, want_value, some_want, want_pair, two_ids, port_in, port_of, is_implied, port_by, rest_at, arguments_at, ask_by, ask_of, method_in, put_pairs, arguments_of, name_of, IsGivenPort, IsUnknown, is_mutable_ask, CarriesForm, IsWritableAsk, IsWellAsk}
 use Rattle.kad_krpc.proofs.Stepping.{NotBad, both, either, needs, options, Gets, Any, any, after, gets_either, none_some, bytes_text, integer_int, list_list, look_dict, id_text, stepped, had, had_some, differs}
-use Rattle.kad_krpc.proofs.Pairing.{Below, Good, good_text, good_int, good_list, good_dict, GoodPairs, good_more, good_maybe, once_maybe, next_filed, small, Within, more, text_within, int_within, maybe_within, hit}
+use Rattle.kad_krpc.proofs.Pairing.{Below, Good, good_text, good_int, good_list, good_dict, GoodPairs, good_more, good_maybe, once_maybe, next_filed, small, Within, more, text_within, int_within, maybe_within, hit, good_carried, carried_within}
+use Rattle.kad_krpc.proofs.Carried.{SoundLook, SoundOption, needs_look, needs_any}
 
 -- ---- no step of it fails as bencode does
 
@@ -38,6 +41,10 @@ rests_not_bad method.AnnouncePeer a id =
     both (needed id_of key.InfoHash (a (codes "info_hash"))) _ (needs id_of key.InfoHash (a (codes "info_hash"))) (λ h.
     both (needed bytes_of key.Token (a (codes "token"))) _ (needs bytes_of key.Token (a (codes "token"))) (λ t.
     both (port_by (a (codes "implied_port")) (a (codes "port"))) _ (ports (a (codes "implied_port")) (a (codes "port"))) (λ p. tt)))
+rests_not_bad method.Get a id = both (needed id_of key.Target (a (codes "target"))) _ (needs id_of key.Target (a (codes "target"))) (λ x. tt)
+rests_not_bad method.Put a id =
+    both (needed bytes_of key.Token (a (codes "token"))) _ (needs bytes_of key.Token (a (codes "token"))) (λ t.
+    both (needed Some key.V (a (codes "v"))) _ (needs Some key.V (a (codes "v"))) (λ v. tt))
 
 pub asks_not_bad : (m : Option Method) (name : List ℕ) (a : Option Value) → NotBad (ask_by m name a)
 asks_not_bad None name a = tt
@@ -64,19 +71,27 @@ given_port i p =
     gets_either IsGivenPort (is_implied n) (Ok Implied) (then (needed port_of key.Port p) (λ given. Ok (Given given))) tt
     (after (λ n. n ≢ 0) IsGivenPort (needed port_of key.Port p) (λ given. Ok (Given given)) (needs_port key.Port p) (λ given h. h)))
 
-rests_get : (m : Method) (a : Look) (id : Id) → Gets IsWritableAsk (rest_at m a id)
-rests_get method.Ping a id = tt
-rests_get method.FindNode a id = after Any IsWritableAsk (needed id_of key.Target (a (codes "target"))) _ (any (needed id_of key.Target (a (codes "target")))) (λ x u. tt)
-rests_get method.GetPeers a id = after Any IsWritableAsk (needed id_of key.InfoHash (a (codes "info_hash"))) _ (any (needed id_of key.InfoHash (a (codes "info_hash")))) (λ x u. tt)
-rests_get method.AnnouncePeer a id =
-    after Any IsWritableAsk (needed id_of key.InfoHash (a (codes "info_hash"))) _ (any (needed id_of key.InfoHash (a (codes "info_hash")))) (λ h u.
-    after Any IsWritableAsk (needed bytes_of key.Token (a (codes "token"))) _ (any (needed bytes_of key.Token (a (codes "token")))) (λ t w.
-    after IsGivenPort IsWritableAsk (port_by (a (codes "implied_port")) (a (codes "port"))) _ (given_port (a (codes "implied_port")) (a (codes "port"))) (λ p g. g)))
+-- a query that puts no mutable item has a written form
+abbrev IsSaid : Ask → Type 0
+IsSaid ask = is_mutable_ask ask ≡ false → IsWritableAsk ask
 
-arguments_get : (m : Method) (a : Option Value) → Gets IsWritableAsk (arguments_at m a)
-arguments_get m a =
-    after Any IsWritableAsk (needed look_of key.A a) _ (any (needed look_of key.A a)) (λ ps u.
-    after Any IsWritableAsk (needed id_of key.Id (ps (codes "id"))) _ (any (needed id_of key.Id (ps (codes "id")))) (λ id w. rests_get m ps id))
+rests_get : (m : Method) (a : Look) (id : Id) → SoundLook 2 a → Gets IsSaid (rest_at m a id)
+rests_get method.Ping a id s = λ e. tt
+rests_get method.FindNode a id s = after Any IsSaid (needed id_of key.Target (a (codes "target"))) _ (any (needed id_of key.Target (a (codes "target")))) (λ x u e. tt)
+rests_get method.GetPeers a id s = after Any IsSaid (needed id_of key.InfoHash (a (codes "info_hash"))) _ (any (needed id_of key.InfoHash (a (codes "info_hash")))) (λ x u e. tt)
+rests_get method.AnnouncePeer a id s =
+    after Any IsSaid (needed id_of key.InfoHash (a (codes "info_hash"))) _ (any (needed id_of key.InfoHash (a (codes "info_hash")))) (λ h u.
+    after Any IsSaid (needed bytes_of key.Token (a (codes "token"))) _ (any (needed bytes_of key.Token (a (codes "token")))) (λ t w.
+    after IsGivenPort IsSaid (port_by (a (codes "implied_port")) (a (codes "port"))) _ (given_port (a (codes "implied_port")) (a (codes "port"))) (λ p g e. g)))
+rests_get method.Get a id s = after Any IsSaid (needed id_of key.Target (a (codes "target"))) _ (any (needed id_of key.Target (a (codes "target")))) (λ x u e. tt)
+rests_get method.Put a id s =
+    after Any IsSaid (needed bytes_of key.Token (a (codes "token"))) _ (any (needed bytes_of key.Token (a (codes "token")))) (λ t u.
+    after (IsSound 2) IsSaid (needed Some key.V (a (codes "v"))) _ (needs_any 2 key.V (a (codes "v")) (s (codes "v"))) (λ v h e. record { form = sound_form 2 v h; immutable = e }))
+
+arguments_get : (m : Method) (a : Option Value) → SoundOption 1 a → Gets IsSaid (arguments_at m a)
+arguments_get m a s =
+    after (SoundLook 2) IsSaid (needed look_of key.A a) _ (needs_look (InList [] ∷ []) key.A a s) (λ ps h.
+    after Any IsSaid (needed id_of key.Id (ps (codes "id"))) _ (any (needed id_of key.Id (ps (codes "id")))) (λ id w. rests_get m ps id h))
 
 unknown : (name : List ℕ) → method_in name ≡ None → IsUnknown name
 unknown name e = record {
@@ -84,11 +99,13 @@ unknown name e = record {
   find_node = λ h. none_some (sym e ∙ ap method_in h);
   get_peers = λ h. none_some (sym e ∙ ap method_in h);
   announce_peer = λ h. none_some (sym e ∙ ap method_in h);
+  get = λ h. none_some (sym e ∙ ap method_in h);
+  put = λ h. none_some (sym e ∙ ap method_in h);
 }
 
-pub asks_get : (m : Option Method) (name : List ℕ) (a : Option Value) → method_in name ≡ m → Gets IsWritableAsk (ask_by m name a)
-asks_get None name a e = unknown name e
-asks_get (Some m) name a e = arguments_get m a
+pub asks_get : (m : Option Method) (name : List ℕ) (a : Option Value) → method_in name ≡ m → SoundOption 1 a → Gets (λ ask. is_mutable_ask ask ≡ false → IsWritableAsk ask) (ask_by m name a)
+asks_get None name a e s = λ n. unknown name e
+asks_get (Some m) name a e s = arguments_get m a s
 
 -- ---- what is written is a value that bencode reads back, and is shallow
 
@@ -114,13 +131,15 @@ wanting ps want good once filed below =
     (once_maybe ps (codes "want") want_value (some_want want) once below)
     (next_filed ps (codes "want") want_value (some_want want) filed below)
 
-pub good_ask : (ask : Ask) → IsWellAsk ask → Good (Dict (arguments_of ask))
-good_ask (Ping id) w = good_dict (arguments_of (Ping id)) (good_text id.0, tt) refl refl
-good_ask (FindNode id target want) w = wanting (two_ids id (codes "target") target) want (good_text id.0, (good_text target.0, tt)) refl refl (refl, (refl, tt))
-good_ask (GetPeers id info_hash want) w = wanting (two_ids id (codes "info_hash") info_hash) want (good_text id.0, (good_text info_hash.0, tt)) refl refl (refl, (refl, tt))
-good_ask (AnnouncePeer id info_hash (Given port) token) w = good_dict (arguments_of (AnnouncePeer id info_hash (Given port) token)) (good_text id.0, (good_text info_hash.0, (good_int (pos port) (small port w.1.1), (good_text token, tt)))) refl refl
-good_ask (AnnouncePeer id info_hash Implied token) w = good_dict (arguments_of (AnnouncePeer id info_hash Implied token)) (good_text id.0, (good_int (pos 1) refl, (good_text info_hash.0, (good_int (pos 1) refl, (good_text token, tt))))) refl refl
-good_ask (Other method) w = good_dict [] tt refl refl
+pub good_ask : (ask : Ask) → IsWellAsk ask → CarriesForm ask → Good (Dict (arguments_of ask))
+good_ask (Ping id) w f = good_dict (arguments_of (Ping id)) (good_text id.0, tt) refl refl
+good_ask (FindNode id target want) w f = wanting (two_ids id (codes "target") target) want (good_text id.0, (good_text target.0, tt)) refl refl (refl, (refl, tt))
+good_ask (GetPeers id info_hash want) w f = wanting (two_ids id (codes "info_hash") info_hash) want (good_text id.0, (good_text info_hash.0, tt)) refl refl (refl, (refl, tt))
+good_ask (AnnouncePeer id info_hash (Given port) token) w f = good_dict (arguments_of (AnnouncePeer id info_hash (Given port) token)) (good_text id.0, (good_text info_hash.0, (good_int (pos port) (small port w.1.1), (good_text token, tt)))) refl refl
+good_ask (AnnouncePeer id info_hash Implied token) w f = good_dict (arguments_of (AnnouncePeer id info_hash Implied token)) (good_text id.0, (good_int (pos 1) refl, (good_text info_hash.0, (good_int (pos 1) refl, (good_text token, tt))))) refl refl
+good_ask (Get id target want) w f = wanting (two_ids id (codes "target") target) want (good_text id.0, (good_text target.0, tt)) refl refl (refl, (refl, tt))
+good_ask (Put id token v mutable) w f = good_dict (put_pairs id token v) (good_text id.0, (good_text token, (good_carried v f, tt))) refl refl
+good_ask (Other method) w f = good_dict [] tt refl refl
 
 words_flat : (four six : Bool) → greatest (map depth_of (word_if four (codes "n4") ++ word_if six (codes "n6"))) ≤ 0
 words_flat true true = let a = text_within 0 (codes "n4") in let b = text_within 0 (codes "n6") in omega arith
@@ -131,16 +150,18 @@ words_flat false false = grind arith
 want_shallow : (want : Want) → depth_of (want_value want) ≤ 1
 want_shallow want = let a = words_flat want.four want.six in let e = depth_of-list (word_if want.four (codes "n4") ++ word_if want.six (codes "n6")) in omega arith
 
-want_within : (want : Want) → Within 1 (want_pair want)
-want_within want = maybe_within 1 (codes "want") want_value (some_want want) want_shallow
+want_within : (want : Want) → Within 14 (want_pair want)
+want_within want = maybe_within 14 (codes "want") want_value (some_want want) (λ w. let a = want_shallow w in omega arith)
 
-pub ask_within : (ask : Ask) → Within 1 (arguments_of ask)
-ask_within (Ping id) = (text_within 1 id.0, tt)
-ask_within (FindNode id target want) = more 1 (two_ids id (codes "target") target) (want_pair want) (text_within 1 id.0, (text_within 1 target.0, tt)) (want_within want)
-ask_within (GetPeers id info_hash want) = more 1 (two_ids id (codes "info_hash") info_hash) (want_pair want) (text_within 1 id.0, (text_within 1 info_hash.0, tt)) (want_within want)
-ask_within (AnnouncePeer id info_hash (Given port) token) = (text_within 1 id.0, (text_within 1 info_hash.0, (int_within 1 (pos port), (text_within 1 token, tt))))
-ask_within (AnnouncePeer id info_hash Implied token) = (text_within 1 id.0, (int_within 1 (pos 1), (text_within 1 info_hash.0, (int_within 1 (pos 1), (text_within 1 token, tt)))))
-ask_within (Other method) = tt
+pub ask_within : (ask : Ask) → CarriesForm ask → Within 14 (arguments_of ask)
+ask_within (Ping id) f = (text_within 14 id.0, tt)
+ask_within (FindNode id target want) f = more 14 (two_ids id (codes "target") target) (want_pair want) (text_within 14 id.0, (text_within 14 target.0, tt)) (want_within want)
+ask_within (GetPeers id info_hash want) f = more 14 (two_ids id (codes "info_hash") info_hash) (want_pair want) (text_within 14 id.0, (text_within 14 info_hash.0, tt)) (want_within want)
+ask_within (AnnouncePeer id info_hash (Given port) token) f = (text_within 14 id.0, (text_within 14 info_hash.0, (int_within 14 (pos port), (text_within 14 token, tt))))
+ask_within (AnnouncePeer id info_hash Implied token) f = (text_within 14 id.0, (int_within 14 (pos 1), (text_within 14 info_hash.0, (int_within 14 (pos 1), (text_within 14 token, tt)))))
+ask_within (Get id target want) f = more 14 (two_ids id (codes "target") target) (want_pair want) (text_within 14 id.0, (text_within 14 target.0, tt)) (want_within want)
+ask_within (Put id token v mutable) f = (text_within 14 id.0, (text_within 14 token, (carried_within v f, tt)))
+ask_within (Other method) f = tt
 
 -- ---- what is written is read back
 
@@ -160,7 +181,9 @@ no_method name u =
     (λ i. cond (differs name (codes "ping") u.ping i) (Some method.Ping)
     (cond (differs name (codes "find_node") u.find_node i) (Some method.FindNode)
     (cond (differs name (codes "get_peers") u.get_peers i) (Some method.GetPeers)
-    (cond (differs name (codes "announce_peer") u.announce_peer i) (Some method.AnnouncePeer) None))))
+    (cond (differs name (codes "announce_peer") u.announce_peer i) (Some method.AnnouncePeer)
+    (cond (differs name (codes "get") u.get i) (Some method.Get)
+    (cond (differs name (codes "put") u.put i) (Some method.Put) None))))))
 
 -- the words of a list that is written
 named_back : (word : List ℕ) (four six : Bool) (r : Bool) → list_any (is_word word) (word_if four (codes "n4") ++ word_if six (codes "n6")) ≡ r → names word (want_value (record { four = four; six = six })) ≡ r
@@ -209,4 +232,13 @@ ask_back (AnnouncePeer id info_hash Implied token) w n =
     (stepped _ info_hash _ _ (had id_of key.InfoHash _ _ (id_text info_hash w.1.0))
     (stepped _ token _ _ (had bytes_of key.Token _ _ (bytes_text token))
     (stepped _ Implied (λ p. Ok (AnnouncePeer id info_hash p token)) _ (implied_back (value_of (arguments_of (AnnouncePeer id info_hash Implied token)) (codes "port"))) refl))))
+ask_back (Get id target want) w n =
+    stepped _ (value_of (arguments_of (Get id target want))) _ _ (had look_of key.A _ _ (look_dict (arguments_of (Get id target want))))
+    (stepped _ id _ _ (had id_of key.Id _ _ (id_text id w.0))
+    (stepped _ target _ _ (had id_of key.Target _ _ (id_text target w.1)) (ap (λ o. Ok (Get id target (want_of o))) (hit want_value (some_want want) (codes "want") refl) ∙ ap (λ x. Ok (Get id target x)) (want_back want.four want.six))))
+ask_back (Put id token v mutable) w n =
+    stepped _ (value_of (put_pairs id token v)) _ _ (had look_of key.A _ _ (look_dict (put_pairs id token v)))
+    (stepped _ id _ _ (had id_of key.Id _ _ (id_text id w))
+    (stepped _ token _ _ (had bytes_of key.Token _ _ (bytes_text token))
+    (λ i. Ok (Put id token (named_text 2 v n.form i) (sym n.immutable i)))))
 ask_back (Other name) w n = ap (λ m. ask_by m name (Some (Dict []))) (no_method name n)

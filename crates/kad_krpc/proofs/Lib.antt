@@ -1,5 +1,6 @@
 pub mod Stepping
 pub mod Pairing
+pub mod Carried
 pub mod Answering
 pub mod Asking
 pub mod Decoding

@@ -1,19 +1,21 @@
 -- Pairs that are written one behind another with ascending keys: their dictionary is a value that bencode reads back, it is
 -- shallow, and each key is found.
 use Rattle.std.proofs.Common.{◌≡◌, ℕ, suc, ◌<◌, ◌≤◌, ◌^◌, Bool, true, false, cond, not, ◌&&◌, ◌||◌, List, [], ◌∷◌, ◌++◌, map, ℤ, pos, Option, Some, None, refl, sym, ap, ◌∙◌, append-nil, arith}
-use Rattle.std.specs.Prelude.{option_map}
+use Rattle.std.specs.Prelude.{option_map, IfSome}
 use Rattle.std.specs.List.{AllByRecursion}
 use Rattle.std.specs.Ordering.{is_eq, match_ordering}
 use Rattle.std.specs.declared.cmp.Ordering.TheVariants.{Greater}
 use Rattle.std.proofs.lemmas.Bool.{lt-ltb}
 use Rattle.kad_bencode.specs.Keys.{key_cmp, keys_of, put, value_of}
+use Rattle.kad_bencode.specs.Naming.{named}
 use Rattle.kad_bencode.specs.Spelling.{is_plain, is_i64, all_true, has_key, each_once, put_all, in_order, depth_of, greatest}
 use Rattle.kad_bencode.specs.declared.entries.Pair.{Pair}
 use Rattle.kad_bencode.specs.declared.value.Value.{Value}
 use Rattle.kad_bencode.specs.declared.value.Value.TheVariants.{Int, Text, List as Values, Dict}
 use Rattle.kad_bencode.proofs.Folds.{is_plain-int, is_plain-text, is_plain-list, is_plain-dict, ordered_pairs, in_order-int, in_order-text, in_order-list, in_order-dict, depth_of-int, depth_of-text, depth_of-dict}
+use Rattle.kad_bencode.proofs.Formed.{named_deep, named_plain, named_ordered}
 use Rattle.kad_bencode.proofs.Limits.{and_both, once_push, keys_push}
-use Rattle.kad_krpc.specs.Fields.{pair, maybe}
+use Rattle.kad_krpc.specs.Fields.{IsCarried, pair, maybe}
 
 -- ---- ascending keys
 
@@ -59,6 +61,9 @@ all_ordered (v ∷ vs) h = (λ i. h.0.ordered i ∷ all_ordered vs h.1 i)
 pub good_list : (vs : List Value) → AllByRecursion Good vs → Good (Values vs)
 good_list vs h = record { plain = is_plain-list vs ∙ all_plain vs h; ordered = in_order-list vs ∙ ap Values (all_ordered vs h) }
 
+pub good_carried : (v : List ℕ) → IsCarried v → Good (named v)
+good_carried v f = record { plain = named_plain 2 v f; ordered = named_ordered 2 v f }
+
 -- the values of pairs
 abbrev pub GoodPairs : List (Pair Value) → Type 0
 GoodPairs ps = AllByRecursion (λ p. Good p.value) ps
@@ -76,6 +81,11 @@ good_dict ps h once filed = record {
   plain = is_plain-dict ps ∙ and_both (each_once (keys_of ps)) (all_true (map (λ p. is_plain p.value) ps)) once (pairs_plain ps h);
   ordered = in_order-dict ps ∙ ap (λ l. Dict (put_all [] l)) (pairs_ordered ps h) ∙ ap Dict filed;
 }
+
+-- a value that may be missing, by its written form
+pub good_form : (key : List ℕ) (v : Option (List ℕ)) → IfSome v IsCarried → GoodPairs (maybe key named v)
+good_form key None f = tt
+good_form key (Some v) f = (good_carried v f, tt)
 
 pub good_more : (ps qs : List (Pair Value)) → GoodPairs ps → GoodPairs qs → GoodPairs (ps ++ qs)
 good_more [] qs p q = q
@@ -129,12 +139,19 @@ more n (x ∷ ps) qs p q = (p.0, more n ps qs p.1 q)
 pub text_within : (n : ℕ) (s : List ℕ) → depth_of (Text s) ≤ n
 text_within n s = let e = depth_of-text s in omega arith
 
+pub carried_within : (v : List ℕ) → IsCarried v → depth_of (named v) ≤ 14
+carried_within v f = let d = named_deep 2 v f in omega (arith, d)
+
 pub maybe_within : {A : Type 0} (n : ℕ) (key : List ℕ) (form : A → Value) (o : Option A) → ((x : A) → depth_of (form x) ≤ n) → Within n (maybe key form o)
 maybe_within n key form None f = tt
 maybe_within n key form (Some x) f = (f x, tt)
 
 pub int_within : (n : ℕ) (z : ℤ) → depth_of (Int z) ≤ n
 int_within n z = let e = depth_of-int z in omega arith
+
+pub form_within : (key : List ℕ) (v : Option (List ℕ)) → IfSome v IsCarried → Within 14 (maybe key named v)
+form_within key None f = tt
+form_within key (Some v) f = (carried_within v f, tt)
 
 -- ---- the value of a key
 

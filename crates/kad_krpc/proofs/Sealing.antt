@@ -27,7 +27,7 @@ use Rattle.kad_krpc.specs.Fields.{pair}
 use Rattle.kad_krpc.specs.declared.message.Message.{Message}
 use Rattle.kad_krpc.specs.declared.message.Message.TheVariants as message
 use Rattle.kad_krpc.specs.declared.seal.SealParts.{SealParts}
-use Rattle.kad_krpc.specs.Form.{form, message_pairs}
+use Rattle.kad_krpc.specs.Form.{HasForms, form, message_pairs}
 use Rattle.kad_krpc.specs.Seal.{HasNoTag, IsTagged, IsUntagged, body_of, tagged}
 use Rattle.kad_krpc.specs.WellTyped.{IsWell}
 use Rattle.kad_krpc.proofs.Spelled.{spelled}
@@ -91,9 +91,9 @@ no_tag (message.Query tx false ask) = refl
 no_tag (message.Answer tx answer) = refl
 no_tag (message.Fault tx code said) = refl
 
-pub untagged : (m : Message) → IsWell m → IsUntagged (form m) (message_pairs m)
+pub untagged : (m : Message) → IsWell m → HasForms m → IsUntagged (form m) (message_pairs m)
 unfolding form
-untagged m w = record { written = refl; spelled = spelled m w; no_tag = no_tag m }
+untagged m w f = record { written = refl; spelled = spelled m w f; no_tag = no_tag m }
 
 pub taken_off : (bytes tag : List ℕ) (pairs : List (Pair Value)) → IsUntagged bytes pairs → IsTagged (tagged pairs tag) bytes tag
 taken_off bytes tag pairs u = record {

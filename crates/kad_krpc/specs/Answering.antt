@@ -1,11 +1,13 @@
--- The dictionary `r` of an answer (BEP 5, BEP 32; `snodes`, `snodes6` and the order of the steps are this project's own): how it is read,
+-- The dictionary `r` of an answer (BEP 5, BEP 32, BEP 44; `snodes`, `snodes6` and the order of the steps are this project's own): how it is read,
 -- how it is written, and which answers have a written form. A key more is a line in each part.
-use Rattle.std.specs.Prelude.{List, ◌++◌, codes, Option, option_copied, Result, Ok, Err}
+use Rattle.std.specs.Prelude.{List, ◌++◌, codes, Option, option_copied, option_map, IfSome, Result, Ok, Err}
 use Rattle.kad_base.specs.declared.types.Addr.{Addr}
 use Rattle.kad_base.specs.declared.types.Contact.{Contact}
 use Rattle.kad_base.specs.declared.types.Family.TheVariants.{Four, Six}
 use Rattle.kad_base.specs.declared.types.Report.{Report}
+use Rattle.kad_bencode.specs.Naming.{named}
 use Rattle.kad_bencode.specs.Parts.{bytes_of, list_of}
+use Rattle.kad_bencode.specs.Spelling.{text_of}
 use Rattle.kad_bencode.specs.declared.entries.Pair.{Pair}
 use Rattle.kad_bencode.specs.declared.value.Value.{Value}
 use Rattle.kad_bencode.specs.declared.value.Value.TheVariants.{Text}
@@ -14,7 +16,7 @@ use Rattle.kad_krpc.specs.declared.message.Key.TheVariants as key
 use Rattle.kad_krpc.specs.declared.message.KrpcFault.{KrpcFault}
 use Rattle.kad_krpc.specs.declared.answer.AnswerView.{AnswerView}
 use Rattle.kad_records.specs.Records.{nodes_bytes, snodes_bytes, peers_value, node_in, proved_in, IsNodeOf, IsProvedOf, IsWellId, IsWellAddr, IsWellContact, IsWellReport}
-use Rattle.kad_krpc.specs.Fields.{Step, Look, then, needed, optional, id_of, records_by, peers_in, pair, maybe, Each}
+use Rattle.kad_krpc.specs.Fields.{Step, Look, then, needed, optional, id_of, records_by, peers_in, IsCarried, pair, maybe, Each}
 
 -- ---- read
 
@@ -38,9 +40,9 @@ snodes6_by snodes6 = records_by 90 (proved_in Six) key.Snodes6 snodes6
 abbrev pub values_by : Option Value → Step (Option (List Addr))
 values_by values = then (optional list_of key.Values values) (λ values. Ok (peers_in values))
 
--- an answer, by the values of its seven keys; who answered comes first
-abbrev pub answer_by : Option Value → Option Value → Option Value → Option Value → Option Value → Option Value → Option Value → Step Answer
-answer_by id nodes snodes nodes6 snodes6 token values =
+-- an answer, by the values of its eight keys; who answered comes first. The value of `v` is of any kind, so its step never fails
+abbrev pub answer_by : Option Value → Option Value → Option Value → Option Value → Option Value → Option Value → Option Value → Option Value → Step Answer
+answer_by id nodes snodes nodes6 snodes6 token v values =
     then (needed id_of key.Id id) (λ id.
     then (nodes_by nodes) (λ nodes.
     then (snodes_by snodes) (λ snodes.
@@ -48,11 +50,11 @@ answer_by id nodes snodes nodes6 snodes6 token values =
     then (snodes6_by snodes6) (λ snodes6.
     then (optional bytes_of key.Token token) (λ token.
     then (values_by values) (λ values.
-    Ok (record { id = id; nodes = nodes; snodes = snodes; nodes6 = nodes6; snodes6 = snodes6; token = token; values = values }))))))))
+    Ok (record { id = id; nodes = nodes; snodes = snodes; nodes6 = nodes6; snodes6 = snodes6; token = token; v = option_map text_of v; values = values }))))))))
 
 -- the answer that a dictionary says
 abbrev pub answer_at : Look → Step Answer
-answer_at r = answer_by (r (codes "id")) (r (codes "nodes")) (r (codes "snodes")) (r (codes "nodes6")) (r (codes "snodes6")) (r (codes "token")) (r (codes "values"))
+answer_at r = answer_by (r (codes "id")) (r (codes "nodes")) (r (codes "snodes")) (r (codes "nodes6")) (r (codes "snodes6")) (r (codes "token")) (r (codes "v")) (r (codes "values"))
 
 -- ---- written
 
@@ -73,9 +75,14 @@ answer_pairs answer =
     ++ maybe (codes "snodes") snodes_value answer.snodes
     ++ maybe (codes "snodes6") snodes_value answer.snodes6
     ++ maybe (codes "token") Text answer.token
+    ++ maybe (codes "v") named answer.v
     ++ maybe (codes "values") peers_value answer.values
 
 -- ---- which answers there are
+
+-- what an answer carries is the written form of a value
+abbrev pub BearsForm : Answer → Type 0
+BearsForm answer = IfSome answer.v IsCarried
 
 -- each part of the answer has a written form: the records of a key have a place for the addresses of one family
 pub record IsWritableAnswer (answer : Answer) : Type 0 where
@@ -83,6 +90,7 @@ pub record IsWritableAnswer (answer : Answer) : Type 0 where
   pub snodes : Each (IsProvedOf Four) answer.snodes
   pub nodes6 : Each (IsNodeOf Six) answer.nodes6
   pub snodes6 : Each (IsProvedOf Six) answer.snodes6
+  pub v : BearsForm answer
 
 -- each part of an answer has arrays and numbers as its types have them
 pub record IsWellAnswer (answer : Answer) : Type 0 where
@@ -97,7 +105,7 @@ pub record IsWellAnswer (answer : Answer) : Type 0 where
 
 -- what a view gives
 abbrev pub answer_seen : AnswerView → Answer
-answer_seen a = record { id = a.id; nodes = a.nodes; snodes = a.snodes; nodes6 = a.nodes6; snodes6 = a.snodes6; token = option_copied a.token; values = peers_in a.values }
+answer_seen a = record { id = a.id; nodes = a.nodes; snodes = a.snodes; nodes6 = a.nodes6; snodes6 = a.snodes6; token = option_copied a.token; v = option_map text_of a.v; values = peers_in a.values }
 
 -- what was answered, by a view of it, or the refusal
 abbrev pub answered : Result AnswerView KrpcFault → Step Answer

@@ -1,25 +1,27 @@
--- The dictionary `a` of a query, by its method (BEP 5; the order of the steps is this project's own; `ro` is BEP 43's, `want` BEP 32's): how
--- it is read, how it is written, and which queries have a written form. A method more is a line in each part.
-use Rattle.std.specs.Prelude.{◌≢◌, ◌<◌, ℕ, Bool, true, false, cond, ◌&&◌, ◌||◌, List, [], ◌∷◌, ◌++◌, codes, bytes_eq, nat_eq, nat_le, nat_lt, ℤ, pos, negsuc, Option, Some, None, Result, Ok, Err}
+-- The dictionary `a` of a query, by its method (BEP 5; `get` and `put` are BEP 44's; the order of the steps is this project's own; `ro` is
+-- BEP 43's, `want` BEP 32's): how it is read, how it is written, and which queries have a written form. A method more is a line in each part.
+use Rattle.std.specs.Prelude.{◌≡◌, ◌≢◌, ◌<◌, ℕ, Bool, true, false, cond, is_some, ◌&&◌, ◌||◌, List, [], ◌∷◌, ◌++◌, codes, bytes_eq, nat_eq, nat_le, nat_lt, ℤ, pos, negsuc, Option, Some, None, Result, Ok, Err}
 use Rattle.std.specs.List.{list_any}
 use Rattle.kad_base.specs.declared.types.Id.{Id}
+use Rattle.kad_bencode.specs.Naming.{named}
 use Rattle.kad_bencode.specs.Parts.{bytes_of, integer_of, list_of}
+use Rattle.kad_bencode.specs.Spelling.{text_of}
 use Rattle.kad_bencode.specs.declared.entries.Pair.{Pair}
 use Rattle.kad_bencode.specs.declared.value.Value.{Value}
 use Rattle.kad_bencode.specs.declared.value.Value.TheVariants.{Int, Text, List as Values}
 use Rattle.kad_krpc.specs.declared.message.Ask.{Ask}
-use Rattle.kad_krpc.specs.declared.message.Ask.TheVariants.{Ping, FindNode, GetPeers, AnnouncePeer, Other}
+use Rattle.kad_krpc.specs.declared.message.Ask.TheVariants.{Ping, FindNode, GetPeers, AnnouncePeer, Get, Put, Other}
 use Rattle.kad_krpc.specs.declared.message.Want.{Want}
 use Rattle.kad_krpc.specs.declared.message.Port.{Port}
 use Rattle.kad_krpc.specs.declared.message.Port.TheVariants.{Given, Implied}
 use Rattle.kad_krpc.specs.declared.message.Key.TheVariants as key
 use Rattle.kad_krpc.specs.declared.message.KrpcFault.{KrpcFault}
 use Rattle.kad_krpc.specs.declared.message.Method.{Method}
-use Rattle.kad_krpc.specs.declared.message.Method.TheVariants.{Ping as Method_ping, FindNode as Method_find_node, GetPeers as Method_get_peers, AnnouncePeer as Method_announce_peer}
+use Rattle.kad_krpc.specs.declared.message.Method.TheVariants.{Ping as Method_ping, FindNode as Method_find_node, GetPeers as Method_get_peers, AnnouncePeer as Method_announce_peer, Get as Method_get, Put as Method_put}
 use Rattle.kad_krpc.specs.declared.ask.AskView.{AskView}
 use Rattle.kad_krpc.specs.declared.ask.AskView.TheVariants as seen
 use Rattle.kad_records.specs.Records.{IsWellId}
-use Rattle.kad_krpc.specs.Fields.{Step, Look, then, needed, optional, look_of, id_of, pair, maybe}
+use Rattle.kad_krpc.specs.Fields.{Step, Look, then, needed, optional, look_of, id_of, IsCarried, pair, maybe}
 
 -- ---- read
 
@@ -89,12 +91,30 @@ announced_by id info_hash token implied_port port =
 abbrev pub announce_peer_at : Look → Id → Step Ask
 announce_peer_at a id = announced_by id (a (codes "info_hash")) (a (codes "token")) (a (codes "implied_port")) (a (codes "port"))
 
+-- the rest of a get query: its target, and whose contacts it wants
+abbrev pub get_at : Look → Id → Step Ask
+get_at a id = then (needed id_of key.Target (a (codes "target"))) (λ target. Ok (Get id target (want_of (a (codes "want")))))
+
+-- What a put query says, by the values of its keys: token, then the value, of any kind, as its written form. One with a key `k` puts a
+-- mutable item.
+abbrev pub put_by : Id → Option Value → Option Value → Option Value → Step Ask
+put_by id token v k =
+    then (needed bytes_of key.Token token) (λ token.
+    then (needed Some key.V v) (λ v.
+    Ok (Put id token (text_of v) (is_some k))))
+
+-- the rest of a put query
+abbrev pub put_at : Look → Id → Step Ask
+put_at a id = put_by id (a (codes "token")) (a (codes "v")) (a (codes "k"))
+
 -- what a query says beside who asks, by its method
 abbrev pub rest_at : Method → Look → Id → Step Ask
 rest_at Method_ping a id = Ok (Ping id)
 rest_at Method_find_node a id = find_node_at a id
 rest_at Method_get_peers a id = get_peers_at a id
 rest_at Method_announce_peer a id = announce_peer_at a id
+rest_at Method_get a id = get_at a id
+rest_at Method_put a id = put_at a id
 
 -- who asks comes before what the method names
 abbrev pub arguments_at : Method → Option Value → Step Ask
@@ -102,13 +122,15 @@ arguments_at method a =
     then (needed look_of key.A a) (λ a.
     then (needed id_of key.Id (a (codes "id"))) (λ id. rest_at method a id))
 
--- the methods of BEP 5
+-- the methods of BEP 5 and BEP 44
 abbrev pub method_in : List ℕ → Option Method
 method_in name =
     cond (bytes_eq name (codes "ping")) (Some Method_ping)
     (cond (bytes_eq name (codes "find_node")) (Some Method_find_node)
     (cond (bytes_eq name (codes "get_peers")) (Some Method_get_peers)
-    (cond (bytes_eq name (codes "announce_peer")) (Some Method_announce_peer) None)))
+    (cond (bytes_eq name (codes "announce_peer")) (Some Method_announce_peer)
+    (cond (bytes_eq name (codes "get")) (Some Method_get)
+    (cond (bytes_eq name (codes "put")) (Some Method_put) None)))))
 
 -- what a method asks; the arguments of one that isn't known are not read
 abbrev pub ask_by : Option Method → List ℕ → Option Value → Step Ask
@@ -167,12 +189,18 @@ some_want want = cond (want.four || want.six) (Some want) None
 abbrev pub want_pair : Want → List (Pair Value)
 want_pair want = maybe (codes "want") want_value (some_want want)
 
+-- a token, and a value by its written form
+abbrev pub put_pairs : Id → List ℕ → List ℕ → List (Pair Value)
+put_pairs id token v = pair (codes "id") (Text id.0) ++ pair (codes "token") (Text token) ++ pair (codes "v") (named v)
+
 -- the arguments of a query; those of a method that isn't known are none
 abbrev pub arguments_of : Ask → List (Pair Value)
 arguments_of (Ping id) = pair (codes "id") (Text id.0)
 arguments_of (FindNode id target want) = two_ids id (codes "target") target ++ want_pair want
 arguments_of (GetPeers id info_hash want) = two_ids id (codes "info_hash") info_hash ++ want_pair want
 arguments_of (AnnouncePeer id info_hash port token) = announced id info_hash port token
+arguments_of (Get id target want) = two_ids id (codes "target") target ++ want_pair want
+arguments_of (Put id token v mutable) = put_pairs id token v
 arguments_of (Other method) = []
 
 -- the `q` of a query: the name of its method
@@ -181,6 +209,8 @@ name_of (Ping id) = codes "ping"
 name_of (FindNode id target want) = codes "find_node"
 name_of (GetPeers id info_hash want) = codes "get_peers"
 name_of (AnnouncePeer id info_hash port token) = codes "announce_peer"
+name_of (Get id target want) = codes "get"
+name_of (Put id token v mutable) = codes "put"
 name_of (Other method) = method
 
 -- a read-only query says `ro` 1; another says nothing of it (BEP 43)
@@ -195,12 +225,29 @@ abbrev pub IsGivenPort : Port → Type 0
 IsGivenPort (Given port) = port ≢ 0
 IsGivenPort Implied = Unit {0}
 
--- a method that isn't known isn't named as one of the four
+-- a method that isn't known isn't named as one of the six
 pub record IsUnknown (method : List ℕ) : Type 0 where
   pub ping : method ≢ codes "ping"
   pub find_node : method ≢ codes "find_node"
   pub get_peers : method ≢ codes "get_peers"
   pub announce_peer : method ≢ codes "announce_peer"
+  pub get : method ≢ codes "get"
+  pub put : method ≢ codes "put"
+
+-- whether a query puts a mutable item
+abbrev pub is_mutable_ask : Ask → Bool
+is_mutable_ask (Put id token v mutable) = mutable
+is_mutable_ask other = false
+
+-- what a query puts is the written form of a value
+abbrev pub CarriesForm : Ask → Type 0
+CarriesForm (Put id token v mutable) = IsCarried v
+CarriesForm other = Unit {0}
+
+-- a value that is put, and what is put is immutable
+pub record IsPutting (v : List ℕ) (mutable : Bool) : Type 0 where
+  pub form : IsCarried v
+  pub immutable : mutable ≡ false
 
 -- the query has a written form that is read back
 abbrev pub IsWritableAsk : Ask → Type 0
@@ -208,6 +255,8 @@ IsWritableAsk (Ping id) = Unit {0}
 IsWritableAsk (FindNode id target want) = Unit {0}
 IsWritableAsk (GetPeers id info_hash want) = Unit {0}
 IsWritableAsk (AnnouncePeer id info_hash port token) = IsGivenPort port
+IsWritableAsk (Get id target want) = Unit {0}
+IsWritableAsk (Put id token v mutable) = IsPutting v mutable
 IsWritableAsk (Other method) = IsUnknown method
 
 -- the port that is announced has 16 bits
@@ -221,6 +270,8 @@ IsWellAsk (Ping id) = IsWellId id
 IsWellAsk (FindNode id target want) = IsWellId id × IsWellId target
 IsWellAsk (GetPeers id info_hash want) = IsWellId id × IsWellId info_hash
 IsWellAsk (AnnouncePeer id info_hash port token) = IsWellId id × (IsWellId info_hash × IsWellPort port)
+IsWellAsk (Get id target want) = IsWellId id × IsWellId target
+IsWellAsk (Put id token v mutable) = IsWellId id
 IsWellAsk (Other method) = Unit {0}
 
 -- ---- where it stands in its datagram
@@ -231,6 +282,8 @@ ask_seen (seen.Ping id) = Ping id
 ask_seen (seen.FindNode id target want) = FindNode id target want
 ask_seen (seen.GetPeers id info_hash want) = GetPeers id info_hash want
 ask_seen (seen.AnnouncePeer id info_hash port token) = AnnouncePeer id info_hash port token.now
+ask_seen (seen.Get id target want) = Get id target want
+ask_seen (seen.Put id token v mutable) = Put id token.now (text_of v) mutable
 ask_seen (seen.Other method) = Other method.now
 
 -- what was asked, by a view of it, or the refusal

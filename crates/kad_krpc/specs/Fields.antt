@@ -8,6 +8,7 @@ use Rattle.kad_base.specs.declared.types.Family.TheVariants.{Four, Six}
 use Rattle.kad_bencode.specs.Keys.{value_of}
 use Rattle.kad_bencode.specs.Parts.{bytes_of, dict_of}
 use Rattle.kad_bencode.specs.declared.entries.Pair.{Pair}
+use Rattle.kad_bencode.specs.WrittenForm.{IsWrittenForm}
 use Rattle.kad_bencode.specs.declared.value.Value.{Value}
 use Rattle.kad_krpc.specs.declared.message.Key.{Key}
 use Rattle.kad_krpc.specs.declared.message.KrpcFault.{KrpcFault}
@@ -86,6 +87,13 @@ peer_in (Some bytes) = peer_of bytes
 abbrev pub peers_in : Option (List Value) → Option (List Addr)
 peers_in None = None
 peers_in (Some values) = Some (flat_map (λ v. option_to_list (peer_in (bytes_of v))) values)
+
+-- ---- values that are carried as they are
+
+-- The bytes are the written form of a value that may stand in a message's inner dictionary: of the 16 lists and dictionaries
+-- that may be open at once, at most 14 are its own.
+abbrev pub IsCarried : List ℕ → Type 0
+IsCarried bytes = IsWrittenForm 2 bytes
 
 -- ---- pairs
 

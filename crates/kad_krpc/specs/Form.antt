@@ -8,12 +8,12 @@ use Rattle.kad_bencode.specs.declared.value.Value.{Value}
 use Rattle.kad_bencode.specs.declared.value.Value.TheVariants.{Int, Text, List as Values, Dict}
 use Rattle.kad_krpc.specs.declared.message.Message.{Message}
 use Rattle.kad_krpc.specs.declared.message.Message.TheVariants as message
-use Rattle.kad_krpc.specs.declared.message.Ask.TheVariants.{FindNode, GetPeers}
+use Rattle.kad_krpc.specs.declared.message.Ask.TheVariants.{FindNode, GetPeers, Get}
 use Rattle.kad_krpc.specs.declared.message.Want.{Want}
 pub use Rattle.kad_records.specs.Records.{peers_value, IsV4, IsNode, IsNodeOf, HasProof, IsProved, IsProvedOf}
-pub use Rattle.kad_krpc.specs.Fields.{pair, maybe, Each}
-pub use Rattle.kad_krpc.specs.Answering.{nodes_value, snodes_value, answer_pairs, IsWritableAnswer}
-pub use Rattle.kad_krpc.specs.Asking.{announced, arguments_of, two_ids, want_pair, name_of, read_only_pair, IsGivenPort, IsUnknown, IsWritableAsk}
+pub use Rattle.kad_krpc.specs.Fields.{IsCarried, pair, maybe, Each}
+pub use Rattle.kad_krpc.specs.Answering.{nodes_value, snodes_value, answer_pairs, BearsForm, IsWritableAnswer}
+pub use Rattle.kad_krpc.specs.Asking.{announced, arguments_of, two_ids, want_pair, name_of, read_only_pair, IsGivenPort, IsUnknown, is_mutable_ask, CarriesForm, IsPutting, IsWritableAsk}
 
 -- the pairs of the message's dictionary
 abbrev pub message_pairs : Message → List (Pair Value)
@@ -36,6 +36,18 @@ message_pairs (message.Fault tx code said) =
 unfoldable pub form : Message → List ℕ
 form m = text_of (Dict (message_pairs m))
 
+-- the value that a message carries, where it carries one, is given by its written form
+abbrev pub HasForms : Message → Type 0
+HasForms (message.Query tx read_only ask) = CarriesForm ask
+HasForms (message.Answer tx answer) = BearsForm answer
+HasForms (message.Fault tx code text) = Unit {0}
+
+-- whether a message puts a mutable item (BEP 44), which no message is written of
+abbrev pub is_mutable : Message → Bool
+is_mutable (message.Query tx read_only ask) = is_mutable_ask ask
+is_mutable (message.Answer tx answer) = false
+is_mutable (message.Fault tx code text) = false
+
 -- the message has a written form that is read back; an error message always has one
 abbrev pub IsWritable : Message → Type 0
 IsWritable (message.Query tx read_only ask) = IsWritableAsk ask
@@ -55,3 +67,7 @@ find_node_query own target six tx = message.Query (word_bytes tx) true (FindNode
 -- the read-only get_peers query, whose transaction id is the bytes of a word, in the network of IPv6 or not
 abbrev pub get_peers_query : Id → Id → Bool → ℕ → Message
 get_peers_query own info_hash six tx = message.Query (word_bytes tx) true (GetPeers own info_hash (only six))
+
+-- the read-only get query (BEP 44), whose transaction id is the bytes of a word, in the network of IPv6 or not
+abbrev pub get_query : Id → Id → Bool → ℕ → Message
+get_query own target six tx = message.Query (word_bytes tx) true (Get own target (only six))

@@ -4,15 +4,15 @@ ghost use Rattle.kad_bencode.specs.Parts.{member_of};
 ghost use Rattle.kad_bencode.specs.Spelling.{text_of};
 ghost use Rattle.kad_bencode.specs.Written.{Puts};
 ghost use Rattle.kad_bencode.specs.declared.value.Value.TheVariants as value;
-ghost use Rattle.kad_krpc.specs.Answering.{answer_by, answer_at, answer_pairs, answer_seen, answered, IsWellAnswer};
+ghost use Rattle.kad_krpc.specs.Answering.{answer_by, answer_at, answer_pairs, answer_seen, answered, BearsForm, IsWellAnswer};
 
 use crate::fields::{
-    needed_id, optional_list, optional_records, optional_text, put_id, put_maybe_peers,
-    put_maybe_records, put_maybe_text,
+    needed_id, optional_list, optional_records, optional_text, put_id, put_maybe_form,
+    put_maybe_peers, put_maybe_records, put_maybe_text,
 };
 use crate::members::{keys, members};
 use crate::message::{Answer, Key, KrpcFault};
-use crate::owned::{maybe_peers, maybe_records, maybe_text};
+use crate::owned::{maybe_form, maybe_peers, maybe_records, maybe_text};
 use crate::well_typed::{tell_nodes, tell_snodes, tell_values};
 use kad_base::{Id, NoMemory};
 use kad_bencode::{Items, Piece, put_part};
@@ -28,6 +28,7 @@ pub struct AnswerView<'a> {
     pub nodes6: Option<Records<'a, Node6>>,
     pub snodes6: Option<Records<'a, Proved6>>,
     pub token: Option<&'a [u8]>,
+    pub v: Option<Piece<'a>>,
     pub values: Option<Items<'a>>,
 }
 
@@ -39,10 +40,11 @@ fn read_parts<'a>(
     nodes6: Option<Piece<'a>>,
     snodes6: Option<Piece<'a>>,
     token: Option<Piece<'a>>,
+    v: Option<Piece<'a>>,
     values: Option<Piece<'a>>,
 ) -> Result<AnswerView<'a>, KrpcFault>
     ensures { answered result ≡ answer_by id.entry nodes.entry snodes.entry nodes6.entry
-        snodes6.entry token.entry values.entry }
+        snodes6.entry token.entry v.entry values.entry }
 {
     let id = needed_id(id, Key::Id)?;
     let nodes = optional_records(nodes, Key::Nodes)?;
@@ -58,6 +60,7 @@ fn read_parts<'a>(
         nodes6,
         snodes6,
         token,
+        v,
         values,
     })
 }
@@ -67,7 +70,7 @@ pub(crate) fn read_answer<'a>(r: &Piece<'a>) -> Result<AnswerView<'a>, KrpcFault
     ensures { answered result ≡ answer_at (member_of r.now) }
 {
     let slots = keys!(
-        b"id", b"nodes", b"snodes", b"nodes6", b"snodes6", b"token", b"values"
+        b"id", b"nodes", b"snodes", b"nodes6", b"snodes6", b"token", b"v", b"values"
     );
     let (id, slots) = members(r, slots).take();
     let (nodes, slots) = slots.take();
@@ -75,13 +78,15 @@ pub(crate) fn read_answer<'a>(r: &Piece<'a>) -> Result<AnswerView<'a>, KrpcFault
     let (nodes6, slots) = slots.take();
     let (snodes6, slots) = slots.take();
     let (token, slots) = slots.take();
+    let (v, slots) = slots.take();
     let (values, _) = slots.take();
-    read_parts(id, nodes, snodes, nodes6, snodes6, token, values)
+    read_parts(id, nodes, snodes, nodes6, snodes6, token, v, values)
 }
 
 /// Puts the dictionary `r` of an answer. Takes no memory.
 #[inline(always)]
 pub(crate) fn put_answer(buf: &mut [u8], at: usize, answer: &Answer) -> usize
+    requires { BearsForm answer.now }
     ensures { Puts buf.old buf.new at (text_of (value.Dict (answer_pairs answer.now))) result }
 {
     let at = put_id(buf, at, &answer.id);
@@ -90,6 +95,7 @@ pub(crate) fn put_answer(buf: &mut [u8], at: usize, answer: &Answer) -> usize
     let at = put_maybe_records::<Proved>(buf, at, b"snodes", &answer.snodes);
     let at = put_maybe_records::<Proved6>(buf, at, b"snodes6", &answer.snodes6);
     let at = put_maybe_text(buf, at, b"token", &answer.token);
+    let at = put_maybe_form(buf, at, b"v", &answer.v);
     let at = put_maybe_peers(buf, at, b"values", &answer.values);
     put_part(buf, at, b"e")
 }
@@ -103,6 +109,7 @@ pub fn own_answer(alloc: Global, answer: AnswerView) -> Result<Answer, NoMemory>
     let nodes6 = maybe_records(alloc, answer.nodes6)?;
     let snodes6 = maybe_records(alloc, answer.snodes6)?;
     let token = maybe_text(alloc, answer.token)?;
+    let v = maybe_form(alloc, answer.v)?;
     let values = maybe_peers(alloc, answer.values)?;
     Ok(Answer {
         id: answer.id,
@@ -111,6 +118,7 @@ pub fn own_answer(alloc: Global, answer: AnswerView) -> Result<Answer, NoMemory>
         nodes6,
         snodes6,
         token,
+        v,
         values,
     })
 }

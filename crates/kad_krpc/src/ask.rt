@@ -4,12 +4,13 @@ ghost use Rattle.kad_bencode.specs.Parts.{member_of};
 ghost use Rattle.kad_bencode.specs.Spelling.{text_of};
 ghost use Rattle.kad_bencode.specs.Written.{Puts, PutsPairs};
 ghost use Rattle.kad_bencode.specs.declared.value.Value.TheVariants as value;
-ghost use Rattle.kad_krpc.specs.Fields.{pair};
-ghost use Rattle.kad_krpc.specs.Asking.{is_word, names, want_of, want_pair, two_ids, port_by, announced_by, find_node_at, get_peers_at, announce_peer_at, rest_at, arguments_at, ask_of, method_in, is_read_only, is_implied, announced, arguments_of, name_of, read_only_pair, ask_seen, ask_outcome, IsWellPort, IsWellAsk};
+ghost use Rattle.kad_krpc.specs.Fields.{pair, IsCarried};
+ghost use Rattle.kad_krpc.specs.Asking.{is_word, names, want_of, want_pair, two_ids, port_by, announced_by, find_node_at, get_peers_at, announce_peer_at, get_at, put_by, put_at, rest_at, arguments_at, ask_of, method_in, is_read_only, is_implied, announced, put_pairs, arguments_of, name_of, CarriesForm, read_only_pair, ask_seen, ask_outcome, IsWellPort, IsWellAsk};
 ghost use Rattle.kad_records.specs.Records.{IsWellId};
 
 use crate::fields::{
-    needed_dict, needed_id, needed_port, needed_text, optional_int, put_id, put_number, put_text,
+    needed_dict, needed_id, needed_port, needed_text, needed_value, optional_int, put_form, put_id,
+    put_number, put_text,
 };
 use crate::message::{Ask, Key, KrpcFault, Method, Port, Want};
 use kad_base::{Id, List, NoMemory};
@@ -38,6 +39,17 @@ pub enum AskView<'a> {
         info_hash: Id,
         port: Port,
         token: &'a [u8],
+    },
+    Get {
+        id: Id,
+        target: Id,
+        want: Want,
+    },
+    Put {
+        id: Id,
+        token: &'a [u8],
+        v: Piece<'a>,
+        mutable: bool,
     },
     Other {
         method: &'a [u8],
@@ -169,6 +181,40 @@ fn read_announce_peer<'a>(a: &Piece<'a>, id: Id) -> Result<AskView<'a>, KrpcFaul
     )
 }
 
+fn read_get<'a>(a: &Piece<'a>, id: Id) -> Result<AskView<'a>, KrpcFault>
+    ensures { ask_outcome result ≡ get_at (member_of a.now) id }
+{
+    let target = needed_id(a.get(b"target"), Key::Target)?;
+    let want = read_want(a.get(b"want"));
+    Ok(AskView::Get { id, target, want })
+}
+
+/// What is put. It is mutable where there is a `k`, of any kind.
+fn read_putting<'a>(
+    id: Id,
+    token: Option<Piece<'a>>,
+    v: Option<Piece<'a>>,
+    k: Option<Piece<'a>>,
+) -> Result<AskView<'a>, KrpcFault>
+    ensures { ask_outcome result ≡ put_by id token.entry v.entry k.entry }
+{
+    let token = needed_text(token, Key::Token)?;
+    let v = needed_value(v, Key::V)?;
+    let mutable = k.is_some();
+    Ok(AskView::Put {
+        id,
+        token,
+        v,
+        mutable,
+    })
+}
+
+fn read_put<'a>(a: &Piece<'a>, id: Id) -> Result<AskView<'a>, KrpcFault>
+    ensures { ask_outcome result ≡ put_at (member_of a.now) id }
+{
+    read_putting(id, a.get(b"token"), a.get(b"v"), a.get(b"k"))
+}
+
 /// The method of that name.
 fn method_of(name: &[u8]) -> Option<Method>
     ensures { result ≡ method_in name.now }
@@ -185,6 +231,12 @@ fn method_of(name: &[u8]) -> Option<Method>
     if name == b"announce_peer".as_slice() {
         return Some(Method::AnnouncePeer);
     }
+    if name == b"get".as_slice() {
+        return Some(Method::Get);
+    }
+    if name == b"put".as_slice() {
+        return Some(Method::Put);
+    }
     None
 }
 
@@ -197,6 +249,8 @@ fn read_rest<'a>(method: Method, a: &Piece<'a>, id: Id) -> Result<AskView<'a>, K
         Method::FindNode => read_find_node(a, id),
         Method::GetPeers => read_get_peers(a, id),
         Method::AnnouncePeer => read_announce_peer(a, id),
+        Method::Get => read_get(a, id),
+        Method::Put => read_put(a, id),
     }
 }
 
@@ -292,9 +346,22 @@ fn put_two_ids(buf: &mut [u8], at: usize, id: &Id, key: &[u8], other: &Id, want:
     put_part(buf, at, b"e")
 }
 
+/// Puts the arguments that are a token and a value.
+fn put_putting(buf: &mut [u8], at: usize, id: &Id, token: &[u8], v: &[u8]) -> usize
+    requires { IsCarried v.now }
+    ensures { Puts buf.old buf.new at (text_of
+        (value.Dict (put_pairs id.now token.now v.now))) result }
+{
+    let at = put_id(buf, at, id);
+    let at = put_text(buf, at, b"token", token);
+    let at = put_form(buf, at, b"v", v);
+    put_part(buf, at, b"e")
+}
+
 /// Puts the arguments of a query; those of a method that isn't known are none.
 #[inline(always)]
 pub(crate) fn put_arguments(buf: &mut [u8], at: usize, ask: &Ask) -> usize
+    requires { CarriesForm ask.now }
     ensures { Puts buf.old buf.new at (text_of (value.Dict (arguments_of ask.now))) result }
 {
     match ask {
@@ -311,6 +378,8 @@ pub(crate) fn put_arguments(buf: &mut [u8], at: usize, ask: &Ask) -> usize
             port,
             token,
         } => put_announced(buf, at, id, info_hash, *port, token.as_slice()),
+        Ask::Get { id, target, want } => { put_two_ids(buf, at, id, b"target", target, *want) }
+        Ask::Put { id, token, v, .. } => put_putting(buf, at, id, token.as_slice(), v.as_slice()),
         Ask::Other { .. } => put_part(buf, at, b"de"),
     }
 }
@@ -324,6 +393,8 @@ pub(crate) fn name(ask: &Ask) -> &[u8]
         Ask::FindNode { .. } => b"find_node",
         Ask::GetPeers { .. } => b"get_peers",
         Ask::AnnouncePeer { .. } => b"announce_peer",
+        Ask::Get { .. } => b"get",
+        Ask::Put { .. } => b"put",
         Ask::Other { method } => method.as_slice(),
     }
 }
@@ -369,6 +440,22 @@ pub(crate) fn own_ask(alloc: Global, ask: AskView) -> Result<Ask, NoMemory>
                 token,
             })
         }
+        AskView::Get { id, target, want } => Ok(Ask::Get { id, target, want }),
+        AskView::Put {
+            id,
+            token,
+            v,
+            mutable,
+        } => {
+            let token = List::from_slice(alloc, token)?;
+            let v = v.written(alloc)?;
+            Ok(Ask::Put {
+                id,
+                token,
+                v,
+                mutable,
+            })
+        }
         AskView::Other { method } => {
             let method = List::from_slice(alloc, method)?;
             Ok(Ask::Other { method })
@@ -412,6 +499,8 @@ pub(crate) fn tell_ask(ask: &Ask)
             tell_two(id, info_hash);
             tell_port(port);
         }
+        Ask::Get { id, target, .. } => tell_two(id, target),
+        Ask::Put { id, .. } => tell_id(id),
         Ask::Other { .. } => {}
     }
 }

@@ -1,9 +1,10 @@
 //! The values of a message's keys by their kind: read where they stand, and put with their keys. No call takes memory.
-ghost use Rattle.std.specs.Prelude.{◌≡◌, codes, flat_map, option_copied};
+ghost use Rattle.std.specs.Prelude.{◌≡◌, codes, flat_map, option_copied, IfSome, Some};
+ghost use Rattle.kad_bencode.specs.Naming.{named};
 ghost use Rattle.kad_bencode.specs.Parts.{bytes_of, integer_of, list_of};
 ghost use Rattle.kad_bencode.specs.Written.{PutsPairs, PutsOpen};
 ghost use Rattle.kad_bencode.specs.declared.value.Value.TheVariants as value;
-ghost use Rattle.kad_krpc.specs.Fields.{needed, optional, look_of, id_in, id_of, records, records_by, pair, maybe};
+ghost use Rattle.kad_krpc.specs.Fields.{needed, optional, look_of, id_in, id_of, records, records_by, IsCarried, pair, maybe};
 ghost use Rattle.kad_krpc.specs.Asking.{port_in, port_of};
 ghost use Rattle.kad_krpc.specs.Views.{looks, lent, lent_some};
 ghost use Rattle.kad_records.specs.Records.{peers_value};
@@ -46,6 +47,16 @@ pub(crate) fn needed_text<'a>(value: Option<Piece<'a>>, key: Key) -> Result<&'a 
             None => Err(KrpcFault::Shape { key }),
             Some(bytes) => Ok(bytes),
         },
+    }
+}
+
+/// A value of any kind.
+pub(crate) fn needed_value<'a>(value: Option<Piece<'a>>, key: Key) -> Result<Piece<'a>, KrpcFault>
+    ensures { result ≡ needed Some key value.entry }
+{
+    match value {
+        None => Err(KrpcFault::Missing { key }),
+        Some(value) => Ok(value),
     }
 }
 
@@ -168,6 +179,16 @@ pub(crate) fn put_text(buf: &mut [u8], at: usize, key: &[u8], text: &[u8]) -> us
     put_string(buf, at, text)
 }
 
+/// Puts a key with a value, by its written form.
+#[inline(always)]
+pub(crate) fn put_form(buf: &mut [u8], at: usize, key: &[u8], form: &[u8]) -> usize
+    requires { IsCarried form.now }
+    ensures { PutsPairs buf.old buf.new at (pair key.now (named form.now)) result }
+{
+    let at = put_string(buf, at, key);
+    put_part(buf, at, form)
+}
+
 /// Puts a key with an integer.
 #[inline(always)]
 pub(crate) fn put_number(buf: &mut [u8], at: usize, key: &[u8], number: i64) -> usize
@@ -193,6 +214,18 @@ pub(crate) fn put_maybe_text(buf: &mut [u8], at: usize, key: &[u8], text: &Optio
 {
     match text {
         Some(text) => put_text(buf, at, key, text.as_slice()),
+        None => at,
+    }
+}
+
+/// Puts a key with a value, by its written form, where there is one.
+#[inline(always)]
+pub(crate) fn put_maybe_form(buf: &mut [u8], at: usize, key: &[u8], form: &Option<Bytes>) -> usize
+    requires { IfSome form.now IsCarried }
+    ensures { PutsPairs buf.old buf.new at (maybe key.now named form.now) result }
+{
+    match form {
+        Some(form) => put_form(buf, at, key, form.as_slice()),
         None => at,
     }
 }

@@ -1,7 +1,7 @@
 //! Laws of the written form. Each is the clause of a function that does nothing.
-ghost use Rattle.std.specs.Prelude.{◌≡◌, List, ℕ};
+ghost use Rattle.std.specs.Prelude.{◌≡◌, List, ℕ, false};
 ghost use Rattle.kad_krpc.specs.declared.message.Message.{Message};
-ghost use Rattle.kad_krpc.specs.Form.{IsWritable, form};
+ghost use Rattle.kad_krpc.specs.Form.{IsWritable, form, is_mutable};
 ghost use Rattle.kad_krpc.specs.WellTyped.{IsWell};
 ghost use Rattle.kad_krpc.specs.Reading.{Says};
 
@@ -15,7 +15,7 @@ pub fn one_message()
     ensures { (bytes : List ℕ) (m n : Message) → Says bytes m → Says bytes n → m ≡ n }
 {}
 
-/// A message that was said has a written form, so `encode` takes what `decode` gives.
+/// A message that was said has a written form, so `encode` takes what `decode` gives, unless it puts a mutable item.
 pub fn said_is_writable()
-    ensures { (bytes : List ℕ) (m : Message) → Says bytes m → IsWritable m }
+    ensures { (bytes : List ℕ) (m : Message) → Says bytes m → is_mutable m ≡ false → IsWritable m }
 {}

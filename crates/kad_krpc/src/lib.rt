@@ -1,5 +1,5 @@
-//! KRPC messages (BEP 5) over bencode, both ways: what a datagram says, and the one written form of a message. It knows
-//! no lookup and no socket.
+//! KRPC messages (BEP 5, BEP 44) over bencode, both ways: what a datagram says, and the one written form of a message. It
+//! knows no lookup and no socket.
 #![tactic(auto)]
 
 mod answer;
@@ -22,7 +22,7 @@ pub use borrowed::View;
 pub use kad_records::split_record;
 pub use laws::{form_says, one_message, said_is_writable};
 pub use message::{Answer, Ask, Key, KrpcFault, Message, Port, Want};
-pub use query::{find_node_into, get_peers_into};
+pub use query::{find_node_into, get_into, get_peers_into};
 pub use reader::{decode, decode_view};
 pub use seal::{SealParts, form_is_untagged, seal_parts, tag_comes_off, tag_into, with_tag};
 pub use well_typed::message_is_well_typed;

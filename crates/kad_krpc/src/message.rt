@@ -47,6 +47,20 @@ pub enum Ask {
         port: Port,
         token: Bytes,
     },
+    /// Asks for an item of BEP 44 by its key, which is `target`.
+    Get {
+        id: Id,
+        target: Id,
+        want: Want,
+    },
+    /// Gives an item of BEP 44. `v` is the written form of its value, of any kind. It is mutable where the arguments have the
+    /// key `k`; nothing else of a mutable item is read, and none is written.
+    Put {
+        id: Id,
+        token: Bytes,
+        v: Bytes,
+        mutable: bool,
+    },
     /// A query by another name. Its arguments are not read.
     Other {
         method: Bytes,
@@ -83,8 +97,10 @@ pub struct Answer {
     pub nodes6: Option<Contacts>,
     /// `snodes6`, this project's own key: records of 90 bytes, identifier, public key, X, IPv6 address and port.
     pub snodes6: Option<Reports>,
-    /// `token`: what a later `announce_peer` has to bring along.
+    /// `token`: what a later `announce_peer` or `put` has to bring along.
     pub token: Option<Bytes>,
+    /// `v` (BEP 44): the written form of an item's value, of any kind.
+    pub v: Option<Bytes>,
     /// `values`: peers of the info hash, each a string of 6 bytes, IPv4 address and port, or of 18, IPv6 address and port.
     pub values: Option<Addrs>,
 }
@@ -109,6 +125,7 @@ pub enum Key {
     Snodes,
     Nodes6,
     Snodes6,
+    V,
     Values,
 }
 
@@ -120,13 +137,15 @@ pub(crate) enum Kind {
     Fault,
 }
 
-/// The methods of BEP 5.
+/// The methods of BEP 5 and BEP 44.
 #[derive(Clone, Copy, Debug, PartialEq, Eq)]
 pub(crate) enum Method {
     Ping,
     FindNode,
     GetPeers,
     AnnouncePeer,
+    Get,
+    Put,
 }
 
 /// Why a datagram was not read.

@@ -1,6 +1,7 @@
 //! A message in memory of its own, made of a view.
-ghost use Rattle.std.specs.Prelude.{◌≡◌, ◌++◌, flat_map, option_copied, option_to_list, IfOk, OnOk, Some};
+ghost use Rattle.std.specs.Prelude.{◌≡◌, ◌++◌, flat_map, option_copied, option_map, option_to_list, IfOk, OnOk, Some};
 ghost use Rattle.kad_bencode.specs.Parts.{bytes_of};
+ghost use Rattle.kad_bencode.specs.Spelling.{text_of};
 ghost use Rattle.kad_krpc.specs.Fields.{peer_of, peer_in, peers_in};
 ghost use Rattle.kad_krpc.specs.Views.{message_seen};
 
@@ -69,6 +70,16 @@ pub(crate) fn maybe_text(alloc: Global, text: Option<&[u8]>) -> Result<Option<By
 {
     match text {
         Some(text) => Ok(Some(List::from_slice(alloc, text)?)),
+        None => Ok(None),
+    }
+}
+
+/// The written form of a value, where there is one.
+pub(crate) fn maybe_form(alloc: Global, value: Option<Piece>) -> Result<Option<Bytes>, NoMemory>
+    ensures { IfOk result (λ o. o ≡ option_map text_of value.entry) }
+{
+    match value {
+        Some(value) => Ok(Some(value.written(alloc)?)),
         None => Ok(None),
     }
 }

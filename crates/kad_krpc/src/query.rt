@@ -2,7 +2,7 @@
 ghost use Rattle.std.specs.Prelude.{◌≡◌, ◌+◌, ◌≤◌, ◌++◌, true, cond, codes, length, take};
 ghost use Rattle.kad_base.specs.Words.{word_bytes};
 ghost use Rattle.kad_bencode.specs.Spelling.{string_text};
-ghost use Rattle.kad_krpc.specs.Form.{form, arguments_of, name_of, two_ids, only, want_pair, find_node_query, get_peers_query};
+ghost use Rattle.kad_krpc.specs.Form.{form, arguments_of, name_of, two_ids, only, want_pair, find_node_query, get_peers_query, get_query};
 ghost use Rattle.kad_krpc.specs.declared.message.Ask.{Ask};
 ghost use Rattle.kad_krpc.specs.declared.message.Message.TheVariants as Message;
 
@@ -97,4 +97,13 @@ pub fn get_peers_into(buf: &mut [u8; 160], own: &Id, info_hash: &Id, six: bool, 
     ensures form { take result buf.new ≡ form (get_peers_query own.now info_hash.now six tx) }
 {
     query_into(buf, own, b"info_hash", info_hash, six, b"get_peers", tx)
+}
+
+/// Writes the read-only `get` query (BEP 44, BEP 43) in front of `buf`, and answers its length: 95 bytes, or 107 where it asks
+/// for contacts of IPv6 by `want` (BEP 32). The transaction id is the four bytes of `tx`, the lowest first.
+pub fn get_into(buf: &mut [u8; 160], own: &Id, target: &Id, six: bool, tx: u32) -> usize
+    ensures length { result ≡ cond six 107 95 }
+    ensures form { take result buf.new ≡ form (get_query own.now target.now six tx) }
+{
+    query_into(buf, own, b"target", target, six, b"get", tx)
 }

@@ -9,7 +9,7 @@ ghost use Rattle.kad_bencode.specs.declared.entries.Pair.{Pair};
 ghost use Rattle.kad_bencode.specs.declared.value.Value.{Value};
 ghost use Rattle.kad_bencode.specs.declared.value.Value.TheVariants as value;
 ghost use Rattle.kad_krpc.specs.declared.message.Message.{Message};
-ghost use Rattle.kad_krpc.specs.Form.{form, message_pairs};
+ghost use Rattle.kad_krpc.specs.Form.{HasForms, form, message_pairs};
 ghost use Rattle.kad_krpc.specs.WellTyped.{IsWell};
 ghost use Rattle.kad_krpc.specs.Seal.{HasNoTag, IsTagged, IsUntagged, body_of, tagged};
 
@@ -138,7 +138,7 @@ pub fn tag_into(buf: &mut [u8; 4096], len: usize, tag: &[u8]) -> Option<usize>
 
 /// The written form of a message has no tag. The call does nothing.
 pub fn form_is_untagged()
-    ensures { (m : Message) → IsWell m → IsUntagged (form m) (message_pairs m) }
+    ensures { (m : Message) → IsWell m → HasForms m → IsUntagged (form m) (message_pairs m) }
 {}
 
 /// What was tagged is taken apart again, into itself and its tag. The call does nothing.

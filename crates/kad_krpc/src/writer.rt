@@ -3,7 +3,7 @@ ghost use Rattle.std.specs.Prelude.{◌≡◌, ◌<◌, ◌∷◌, [], ◌↔◌
 ghost use Rattle.kad_bencode.specs.declared.value.Value.TheVariants as value;
 ghost use Rattle.kad_bencode.specs.Spelling.{text_of};
 ghost use Rattle.kad_bencode.specs.Written.{Puts};
-ghost use Rattle.kad_krpc.specs.Form.{IsWritable, message_pairs, form};
+ghost use Rattle.kad_krpc.specs.Form.{BearsForm, CarriesForm, HasForms, IsWritable, message_pairs, form};
 ghost use Rattle.kad_krpc.specs.Reading.{Says};
 ghost use Rattle.kad_krpc.specs.declared.message.Message.TheVariants as Message;
 
@@ -18,6 +18,7 @@ use std::alloc::Global;
 
 #[inline(always)]
 fn put_query(buf: &mut [u8], at: usize, tx: &[u8], read_only: bool, ask: &Ask) -> usize
+    requires { CarriesForm ask.now }
     ensures { Puts buf.old buf.new at (text_of
         (value.Dict (message_pairs (Message.Query tx.now read_only ask.now)))) result }
 {
@@ -31,6 +32,7 @@ fn put_query(buf: &mut [u8], at: usize, tx: &[u8], read_only: bool, ask: &Ask) -
 
 #[inline(always)]
 fn put_answer_message(buf: &mut [u8], at: usize, tx: &[u8], answer: &Answer) -> usize
+    requires { BearsForm answer.now }
     ensures { Puts buf.old buf.new at (text_of
         (value.Dict (message_pairs (Message.Answer tx.now answer.now)))) result }
 {
@@ -63,6 +65,7 @@ fn put_fault(buf: &mut [u8], at: usize, tx: &[u8], code: i64, said: &[u8]) -> us
 
 #[inline(always)]
 fn put_message(buf: &mut [u8], message: &Message) -> usize
+    requires { HasForms message.now }
     ensures { Puts buf.old buf.new 0 (form message.now) result }
 {
     match message {
@@ -79,6 +82,7 @@ fn put_message(buf: &mut [u8], message: &Message) -> usize
 /// Writes the written form of a message in front of `buf`, and answers its length; `None` where it is longer than `buf`,
 /// whose bytes are then any. Takes no memory.
 pub fn encode_into(message: &Message, buf: &mut [u8; 4096]) -> Option<usize>
+    requires { HasForms message.now }
     ensures none { IsNone result ↔ 4096 < length (form message.now) }
     ensures length { IfSome result (λ n. n ≡ length (form message.now)) }
     ensures form { IfSome result (λ n. take n buf.new ≡ form message.now) }

@@ -100,6 +100,7 @@ fn answer(alloc: Global, at: u64) -> ScriptEvent
                 nodes6: None,
                 snodes6: None,
                 token: None,
+                v: None,
                 values: None,
             },
         },

@@ -1,6 +1,6 @@
 -- A reply has few parts.
-use Rattle.std.proofs.Common.{ℕ, ◌<◌, ◌≤◌, Bool, not, List, [], ◌∷◌, ◌++◌, length, filter, pos, Option, Some, None, refl, arith, length-append}
-use Rattle.std.specs.Prelude.{option_to_list}
+use Rattle.std.proofs.Common.{ℕ, ◌+◌, ◌*◌, ◌<◌, ◌≤◌, Bool, not, List, [], ◌∷◌, ◌++◌, length, filter, pos, Option, Some, None, refl, arith, length-append}
+use Rattle.std.specs.Prelude.{option_to_list, IfSome}
 use Rattle.std.proofs.lemmas.List.{length-take}
 use Rattle.std.proofs.lemmas.List.Filters.{length-filter_both}
 use Rattle.kad_base.specs.Limits.{max_answered_tx}
@@ -19,7 +19,10 @@ use Rattle.node_serve.proofs.Small.{numeral_short}
 use Rattle.node_serve.specs.declared.setting.ServeSetting.{ServeSetting}
 use Rattle.node_serve.specs.declared.composing.Gained.{Gained}
 use Rattle.node_serve.specs.declared.composing.Gained.TheVariants as gained
-use Rattle.node_serve.specs.Calls.{found_from, peers_from}
+use Rattle.kad_krpc.specs.Form.{IsCarried}
+use Rattle.kad_krpc.specs.declared.message.Message.TheVariants as message
+use Rattle.item_store.specs.Items.{IsItem}
+use Rattle.node_serve.specs.Calls.{found_from, tokened_from, peers_from, item_from}
 use Rattle.node_serve.specs.Gains.{IsFew, reply_gained}
 
 fewer : {X : Type 0} (p : X → Bool) (xs : List X) (n : ℕ) → length xs ≤ n → length (filter p xs) ≤ n
@@ -60,17 +63,24 @@ code_short n h =
 
 module _ (s : ServeSetting) (from : Addr) (at : ℕ) (tx : List ℕ) (t : length tx ≤ max_answered_tx) where
   named_small : IsSmall (named tx s.own)
-  named_small = (t, record { nodes = omega arith; snodes = omega arith; nodes6 = refl; snodes6 = refl; token = omega arith; values = omega arith })
+  named_small = (t, record { nodes = omega arith; snodes = omega arith; nodes6 = refl; snodes6 = refl; token = omega arith; v = tt; values = omega arith })
 
   found_small : (closest : List Contact) → length closest ≤ 20 → IsSmall (found_from tx s closest)
   found_small closest h =
       let n = nodes_few closest h in
-      (t, record { nodes = n; snodes = snodes_few s.policy s.proofs (of_ipv4 closest) n; nodes6 = refl; snodes6 = refl; token = omega arith; values = omega arith })
+      (t, record { nodes = n; snodes = snodes_few s.policy s.proofs (of_ipv4 closest) n; nodes6 = refl; snodes6 = refl; token = omega arith; v = tt; values = omega arith })
+
+  tokened_small : (closest : List Contact) (v : Option (List ℕ)) (values : Option (List Addr)) → length closest ≤ 20 → IfSome v IsCarried → count v + 20 * count values ≤ 1000 → IsSmall (message.Answer tx (tokened_from s from at closest v values))
+  tokened_small closest v values h f few =
+      let n = nodes_few closest h in
+      (t, record { nodes = n; snodes = snodes_few s.policy s.proofs (of_ipv4 closest) n; nodes6 = refl; snodes6 = refl; token = token_few s from at; v = f; values = few })
 
   peers_small : (list : List Addr) (closest : List Contact) → length list ≤ 50 → length closest ≤ 20 → IsSmall (peers_from tx s from at list closest)
-  peers_small list closest l h =
-      let n = nodes_few closest h in
-      (t, record { nodes = n; snodes = snodes_few s.policy s.proofs (of_ipv4 closest) n; nodes6 = refl; snodes6 = refl; token = token_few s from at; values = some_few list l })
+  peers_small list closest l h = (let few = some_few list l in tokened_small closest None (where_some list) h tt (omega (arith, few)))
+
+  item_small : (v : Option (List ℕ)) (closest : List Contact) → IfSome v IsItem → length closest ≤ 20 → IsSmall (item_from tx s from at v closest)
+  item_small None closest i h = tokened_small closest None None h tt (omega arith)
+  item_small (Some v) closest i h = tokened_small closest (Some v) None h i.written (let short = i.short in omega (arith, short))
 
   pub gained_small : (g : Gained) → IsFew g → IsSmall (reply_gained s from at tx g)
   gained_small gained.Name f = named_small
@@ -78,5 +88,10 @@ module _ (s : ServeSetting) (from : Addr) (at : ℕ) (tx : List ℕ) (t : length
   gained_small (gained.Peers list nodes) f = peers_small list nodes f.0 f.1
   gained_small (gained.Placed stored) f = named_small
   gained_small gained.Full f = (t, (code_short 202 (omega arith), omega arith))
+  gained_small (gained.Item v nodes) f = item_small v nodes f.0 f.1
+  gained_small (gained.Kept stored) f = named_small
+  gained_small gained.Crowded f = (t, (code_short 202 (omega arith), omega arith))
   gained_small gained.RefuseToken f = (t, (code_short 203 (omega arith), omega arith))
+  gained_small gained.RefuseMutable f = (t, (code_short 203 (omega arith), omega arith))
+  gained_small gained.RefuseBig f = (t, (code_short 205 (omega arith), omega arith))
   gained_small gained.RefuseMethod f = (t, (code_short 204 (omega arith), omega arith))

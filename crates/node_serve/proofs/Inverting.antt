@@ -1,5 +1,5 @@
 -- What was done, from the calls that were made.
-use Rattle.std.proofs.Common.{◌≡◌, ◌≢◌, ℕ, List, [], ◌∷◌, ◌++◌, map, refl, ap, subst, ◌∙◌}
+use Rattle.std.proofs.Common.{◌≡◌, ◌≢◌, ℕ, List, [], ◌∷◌, ◌++◌, map, refl, sym, ap, subst, ◌∙◌}
 use Rattle.kad_base.specs.declared.types.Id.{Id}
 use Rattle.kad_distance.specs.KClosest.{k_closest}
 use Rattle.contact_table.specs.TableState.{TableState}
@@ -14,7 +14,13 @@ use Rattle.peer_store.specs.declared.calls.PeerCall.{PeerCall}
 use Rattle.peer_store.specs.declared.calls.PeerCall.TheVariants.{List as List_call}
 use Rattle.peer_store.specs.declared.calls.PeerReply.{PeerReply}
 use Rattle.peer_store.specs.declared.calls.PeerReply.TheVariants.{Listed, Stored, Full, NoMemory as No_room}
-use Rattle.node_serve.specs.Calls.{Call, of_table, of_peers, Did, on_table, on_peers, call_of, HasRoom}
+use Rattle.item_store.specs.Items.{Held as HeldItem, handed_out}
+use Rattle.item_store.specs.ItemSteps.{ItemStep}
+use Rattle.item_store.specs.declared.calls.ItemCall.{ItemCall}
+use Rattle.item_store.specs.declared.calls.ItemCall.TheVariants.{Get as Get_call}
+use Rattle.item_store.specs.declared.calls.ItemReply.{ItemReply}
+use Rattle.item_store.specs.declared.calls.ItemReply.TheVariants.{Held as Held_reply, Absent, Stored as Kept_reply, Full as Crowded, NoMemory as No_item_memory}
+use Rattle.node_serve.specs.Calls.{Call, of_table, of_peers, of_items, Did, on_table, on_peers, on_items, call_of, HasRoom, HasItemRoom, item_by}
 use Rattle.peer_store.specs.PeersStep.{PeersStep}
 
 -- in two parts
@@ -52,6 +58,7 @@ pub record IsTable (call : TableCall) (d : Did) : Type 0 where
 pub is_table : (call : TableCall) (d : Did) → call_of d ≡ of_table call → IsTable call d
 is_table call (on_table other reply) e = (let same : other ≡ call = cc in record { reply = reply; is = ap (λ c. on_table c reply) same })
 is_table call (on_peers other reply) e = absurd cc
+is_table call (on_items other reply) e = absurd cc
 
 -- one call of the peers
 pub record IsPeer (call : PeerCall) (d : Did) : Type 0 where
@@ -61,6 +68,17 @@ pub record IsPeer (call : PeerCall) (d : Did) : Type 0 where
 pub is_peer : (call : PeerCall) (d : Did) → call_of d ≡ of_peers call → IsPeer call d
 is_peer call (on_table other reply) e = absurd cc
 is_peer call (on_peers other reply) e = (let same : other ≡ call = cc in record { reply = reply; is = ap (λ c. on_peers c reply) same })
+is_peer call (on_items other reply) e = absurd cc
+
+-- one call of the items
+pub record IsItemCall (call : ItemCall) (d : Did) : Type 0 where
+  pub reply : ItemReply
+  pub is : d ≡ on_items call reply
+
+pub is_item : (call : ItemCall) (d : Did) → call_of d ≡ of_items call → IsItemCall call d
+is_item call (on_table other reply) e = absurd cc
+is_item call (on_peers other reply) e = absurd cc
+is_item call (on_items other reply) e = (let same : other ≡ call = cc in record { reply = reply; is = ap (λ c. on_items c reply) same })
 
 pub record OneTable (call : TableCall) (did : List Did) : Type 0 where
   pub reply : TableReply
@@ -101,6 +119,33 @@ peer_and_table peer table (d ∷ did) e =
     let t = one_table table did others in
     record { peers = p.reply; nodes = t.reply; is = ap (λ l. d ∷ l) t.is ∙ ap (λ x. x ∷ on_table table t.reply ∷ []) p.is }
 
+pub record OneItem (call : ItemCall) (did : List Did) : Type 0 where
+  pub reply : ItemReply
+  pub is : did ≡ on_items call reply ∷ []
+
+pub one_item : (call : ItemCall) (did : List Did) → map call_of did ≡ of_items call ∷ [] → OneItem call did
+one_item call [] e = absurd cc
+one_item call (d ∷ did) e =
+    let same : call_of d ≡ of_items call = cc in
+    let none_left : map call_of did ≡ [] = cc in
+    let t = is_item call d same in
+    record { reply = t.reply; is = ap (λ l. d ∷ l) (made_none did none_left) ∙ ap (λ x. x ∷ []) t.is }
+
+-- one of the items, and then one of the table
+pub record ItemAndTable (item : ItemCall) (table : TableCall) (did : List Did) : Type 0 where
+  pub items : ItemReply
+  pub nodes : TableReply
+  pub is : did ≡ on_items item items ∷ on_table table nodes ∷ []
+
+pub item_and_table : (item : ItemCall) (table : TableCall) (did : List Did) → map call_of did ≡ of_items item ∷ of_table table ∷ [] → ItemAndTable item table did
+item_and_table item table [] e = absurd cc
+item_and_table item table (d ∷ did) e =
+    let same : call_of d ≡ of_items item = cc in
+    let others : map call_of did ≡ of_table table ∷ [] = cc in
+    let p = is_item item d same in
+    let t = one_table table did others in
+    record { items = p.reply; nodes = t.reply; is = ap (λ l. d ∷ l) t.is ∙ ap (λ x. x ∷ on_table table t.reply ∷ []) p.is }
+
 -- ---- what was replied, where there was memory
 
 pub closest_is : (t : TableState) (target : Id) (n : ℕ) (reply : TableReply) → TableStep t 0 (Closest target n) reply → HasMemory reply → reply ≡ List_reply (k_closest target n (contacts_of t))
@@ -114,6 +159,13 @@ listed_is held key at (Listed list) step memory = ap Listed step
 listed_is held key at No_room step memory = absurd memory
 listed_is held key at (Stored stored) step memory = absurd step
 listed_is held key at Full step memory = absurd step
+
+pub item_is : (held : List HeldItem) (key : Id) (at : ℕ) (reply : ItemReply) → ItemStep held 0 (Get_call key at) reply → HasItemRoom reply → item_by reply ≡ handed_out held key at
+item_is held key at (Held_reply v) step memory = sym step.0
+item_is held key at Absent step memory = sym step
+item_is held key at No_item_memory step memory = absurd memory
+item_is held key at (Kept_reply stored) step memory = absurd step
+item_is held key at Crowded step memory = absurd step
 
 pub had_memory : (x : TableReply) → x ≢ NoMemory → HasMemory x
 had_memory (Seen seen) h = tt

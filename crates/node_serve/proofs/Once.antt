@@ -1,10 +1,10 @@
 -- A datagram has one answer.
-use Rattle.std.proofs.Common.{◌≡◌, ◌≢◌, ℕ, Bool, List, Option, Some, None, refl, sym, ap, subst, ◌∙◌}
+use Rattle.std.proofs.Common.{◌≡◌, ◌≢◌, ℕ, ◌<◌, ◌≤◌, length, arith, Bool, true, false, List, Option, Some, None, refl, sym, ap, subst, ◌∙◌}
 use Rattle.kad_base.specs.declared.types.Id.{Id}
 use Rattle.kad_base.specs.declared.types.Addr.{Addr}
 use Rattle.kad_base.specs.declared.types.Contact.{Contact}
 use Rattle.kad_krpc.specs.declared.message.Ask.{Ask}
-use Rattle.kad_krpc.specs.declared.message.Ask.TheVariants.{Ping, FindNode, GetPeers, AnnouncePeer, Other}
+use Rattle.kad_krpc.specs.declared.message.Ask.TheVariants.{Ping, FindNode, GetPeers, AnnouncePeer, Get as GetItem, Put as PutItem, Other}
 use Rattle.kad_krpc.specs.declared.message.Message.{Message}
 use Rattle.kad_krpc.specs.declared.message.Message.TheVariants as message
 use Rattle.contact_table.specs.declared.calls.TableCall.TheVariants.{Seen}
@@ -13,8 +13,8 @@ use Rattle.contact_table.specs.declared.calls.TableReply.TheVariants as reply
 use Rattle.contact_table.specs.TableState.{TableState, SoundTable}
 use Rattle.contact_table.specs.Told.{HasMemory}
 use Rattle.node_serve.specs.AnswerOf.{AnswerOf, IsTold, told_by}
-use Rattle.node_serve.specs.NodeState.{NodeState, with_parts}
-use Rattle.node_serve.specs.Replies.{Announces, Outcome, RepliesWith, refused, full, added}
+use Rattle.node_serve.specs.NodeState.{NodeState, Stores, stores_of, with_parts}
+use Rattle.node_serve.specs.Replies.{Announces, Puts, IsTaken, Outcome, RepliesWith, refused, full, added, strange, changing, long, crowded, kept}
 use Rattle.kad_krpc.proofs.ReadBack.{one_said}
 use Rattle.contact_table.proofs.Outcome.{one-state}
 
@@ -42,11 +42,46 @@ announced_once s from at tx key peer token o p (added h m e) (refused k f) = abs
 announced_once s from at tx key peer token o p (added h m e) (full k n f) = absurd (m n)
 announced_once s from at tx key peer token o p (added h m e) (added k n f) = e ∙ sym f
 
+true_false : (b : Bool) → b ≡ true → b ≡ false → ⊥
+true_false b e f = cc
+
+not_both : (n : ℕ) → 1000 < n → n ≤ 1000 → ⊥
+not_both n a b = omega (arith, a, b)
+
+puts_once : (s : NodeState) (from : Addr) (at : ℕ) (tx token v : List ℕ) (mutable : Bool) (o p : Outcome) → Puts s from at tx token v mutable o → Puts s from at tx token v mutable p → o ≡ p
+puts_once s from at tx token v mutable o p (strange h e) (strange k f) = e ∙ sym f
+puts_once s from at tx token v mutable o p (strange h e) (changing k m f) = absurd (h k)
+puts_once s from at tx token v mutable o p (strange h e) (long k m l f) = absurd (h k)
+puts_once s from at tx token v mutable o p (strange h e) (crowded t n f) = absurd (h t.own_token)
+puts_once s from at tx token v mutable o p (strange h e) (kept t n f) = absurd (h t.own_token)
+puts_once s from at tx token v mutable o p (changing h m e) (strange k f) = absurd (k h)
+puts_once s from at tx token v mutable o p (changing h m e) (changing k n f) = e ∙ sym f
+puts_once s from at tx token v mutable o p (changing h m e) (long k n l f) = absurd (true_false mutable m n)
+puts_once s from at tx token v mutable o p (changing h m e) (crowded t n f) = absurd (true_false mutable m t.immutable)
+puts_once s from at tx token v mutable o p (changing h m e) (kept t n f) = absurd (true_false mutable m t.immutable)
+puts_once s from at tx token v mutable o p (long h m l e) (strange k f) = absurd (k h)
+puts_once s from at tx token v mutable o p (long h m l e) (changing k n f) = absurd (true_false mutable n m)
+puts_once s from at tx token v mutable o p (long h m l e) (long k n i f) = e ∙ sym f
+puts_once s from at tx token v mutable o p (long h m l e) (crowded t n f) = absurd (not_both (length v) l t.short)
+puts_once s from at tx token v mutable o p (long h m l e) (kept t n f) = absurd (not_both (length v) l t.short)
+puts_once s from at tx token v mutable o p (crowded t n e) (strange k f) = absurd (k t.own_token)
+puts_once s from at tx token v mutable o p (crowded t n e) (changing k m f) = absurd (true_false mutable m t.immutable)
+puts_once s from at tx token v mutable o p (crowded t n e) (long k m l f) = absurd (not_both (length v) l t.short)
+puts_once s from at tx token v mutable o p (crowded t n e) (crowded u m f) = e ∙ sym f
+puts_once s from at tx token v mutable o p (crowded t n e) (kept u m f) = absurd (m n)
+puts_once s from at tx token v mutable o p (kept t n e) (strange k f) = absurd (k t.own_token)
+puts_once s from at tx token v mutable o p (kept t n e) (changing k m f) = absurd (true_false mutable m t.immutable)
+puts_once s from at tx token v mutable o p (kept t n e) (long k m l f) = absurd (not_both (length v) l t.short)
+puts_once s from at tx token v mutable o p (kept t n e) (crowded u m f) = absurd (n m)
+puts_once s from at tx token v mutable o p (kept t n e) (kept u m f) = e ∙ sym f
+
 replies_once : (s : NodeState) (from : Addr) (at : ℕ) (tx : List ℕ) (ask : Ask) (o p : Outcome) → RepliesWith s from at tx ask o → RepliesWith s from at tx ask p → o ≡ p
 replies_once s from at tx (Ping id) o p h k = h ∙ sym k
 replies_once s from at tx (FindNode id target want) o p h k = h ∙ sym k
 replies_once s from at tx (GetPeers id key want) o p h k = h ∙ sym k
 replies_once s from at tx (AnnouncePeer id key port token) o p h k = announced_once s from at tx key _ token o p h k
+replies_once s from at tx (GetItem id key want) o p h k = h ∙ sym k
+replies_once s from at tx (PutItem id token v mutable) o p h k = puts_once s from at tx token v mutable o p h k
 replies_once s from at tx (Other method) o p h k = h ∙ sym k
 
 -- ---- the table
@@ -68,13 +103,13 @@ module _ (s : NodeState) (from : Addr) (bytes : List ℕ) (at : ℕ) (m n : Mess
   query_same : message.Query a.tx a.read_only a.ask ≡ message.Query b.tx b.read_only b.ask
   query_same = one_said bytes (message.Query a.tx a.read_only a.ask) (message.Query b.tx b.read_only b.ask) a.query.says b.query.says
 
-  outcome_same : ◌≡◌ {A = Outcome} (record { message = m; peers = x.peers }) (record { message = n; peers = y.peers })
+  outcome_same : ◌≡◌ {A = Outcome} (record { message = m; stores = stores_of x }) (record { message = n; stores = stores_of y })
   outcome_same =
       let t = same_tx a.tx b.tx a.read_only b.read_only a.ask b.ask query_same in
       let q = same_ask a.tx b.tx a.read_only b.read_only a.ask b.ask query_same in
-      replies_once s from at b.tx b.ask (record { message = m; peers = x.peers }) (record { message = n; peers = y.peers })
-      (subst (λ ask. RepliesWith s from at b.tx ask (record { message = m; peers = x.peers })) q
-      (subst (λ tx. RepliesWith s from at tx a.ask (record { message = m; peers = x.peers })) t a.replies))
+      replies_once s from at b.tx b.ask (record { message = m; stores = stores_of x }) (record { message = n; stores = stores_of y })
+      (subst (λ ask. RepliesWith s from at b.tx ask (record { message = m; stores = stores_of x })) q
+      (subst (λ tx. RepliesWith s from at tx a.ask (record { message = m; stores = stores_of x })) t a.replies))
       b.replies
 
   pub one_reply : m ≡ n
@@ -88,8 +123,8 @@ module _ (s : NodeState) (from : Addr) (bytes : List ℕ) (at : ℕ) (m n : Mess
       subst (λ mark. IsTold (told_by s.policy mark b.ask from) s.table x.table) r
       (subst (λ ask. IsTold (told_by s.policy a.read_only ask from) s.table x.table) q a.told) in
       let table = told_once (told_by s.policy b.read_only b.ask from) s.table x.table y.table sound told b.told in
-      let peers = ap (λ (o : Outcome). o.peers) outcome_same in
+      let stores = ap (λ (o : Outcome). o.stores) outcome_same in
       a.rest
-      ∙ ap (λ t. with_parts s t x.peers) table
-      ∙ ap (λ p. with_parts s y.table p) peers
+      ∙ ap (λ t. with_parts s t (stores_of x)) table
+      ∙ ap (λ (p : Stores). with_parts s y.table p) stores
       ∙ sym b.rest

@@ -1,9 +1,10 @@
 -- Both ways to say what a node answers are one.
-use Rattle.std.proofs.Common.{◌≡◌, ◌↔◌, ℕ, List, [], ◌∷◌, ◌++◌, map, Bool, true, false, cond, refl, sym, ap, subst, ◌∙◌, All}
+use Rattle.std.proofs.Common.{◌≡◌, ◌↔◌, ℕ, List, [], ◌∷◌, ◌++◌, map, length, ◌<◌, ◌≤◌, Bool, true, false, cond, nat_le, refl, sym, ap, subst, ◌∙◌, All}
 use Rattle.std.specs.Prelude.{Option, Some, None}
 use Rattle.std.specs.List.{list_any}
 use Rattle.std.specs.Map.{keys_of}
 use Rattle.std.specs.Ordering.{is_eq}
+use Rattle.std.proofs.lemmas.Bool.{le-leb, lt-leb, leb-true, leb-false}
 use Rattle.std.proofs.lemmas.List.{map-append}
 use Rattle.std.proofs.lemmas.List.Elements.{All-nil, All-cons, All-head, All-tail, All-append}
 use Rattle.kad_base.specs.declared.types.Id.{Id}
@@ -11,7 +12,7 @@ use Rattle.kad_base.specs.declared.types.Addr.{Addr}
 use Rattle.kad_base.specs.declared.types.Contact.{Contact}
 use Rattle.kad_distance.specs.KClosest.{k_closest}
 use Rattle.kad_krpc.specs.declared.message.Ask.{Ask}
-use Rattle.kad_krpc.specs.declared.message.Ask.TheVariants.{Ping, FindNode, GetPeers, AnnouncePeer, Other}
+use Rattle.kad_krpc.specs.declared.message.Ask.TheVariants.{Ping, FindNode, GetPeers, AnnouncePeer, Get as GetItem, Put as PutItem, Other}
 use Rattle.kad_krpc.specs.declared.message.Port.{Port}
 use Rattle.kad_krpc.specs.declared.message.Want.{Want}
 use Rattle.kad_krpc.specs.declared.message.Message.{Message}
@@ -25,24 +26,32 @@ use Rattle.peer_store.specs.declared.peers.Stored.{Stored}
 use Rattle.peer_store.specs.declared.peers.Stored.TheVariants.{New, Renewed}
 use Rattle.peer_store.specs.Peers.{Held, Pair, pair_cmp, purged, with_add, listed}
 use Rattle.node_serve.specs.AnswerOf.{AnswerOf, IsTold, told_by}
-use Rattle.node_serve.specs.NodeState.{NodeState}
-use Rattle.node_serve.specs.Replies.{Announces, Outcome, RepliesWith, refused, full, added, named, bad_token, server_error, peer_for}
+use Rattle.item_store.specs.Items.{Held as HeldItem, IsItems, Holds, HasNoPlace as HasNoRoom, max_items, max_length, key_cmp, key_of, handed_out, purged as purged_items, with_item}
+use Rattle.item_store.specs.ItemSteps.{ItemStep, HasPlace, StoredStep, item_after}
+use Rattle.item_store.specs.declared.calls.ItemCall.TheVariants.{Get as Get_call, Put as Keep_call}
+use Rattle.item_store.specs.declared.calls.ItemReply.{ItemReply}
+use Rattle.item_store.specs.declared.calls.ItemReply.TheVariants.{Held as Held_reply, Absent, Stored as Kept_reply, Full as Crowded, NoMemory as No_item_memory}
+use Rattle.item_store.proofs.Looking.{handed_item}
+use Rattle.node_serve.specs.NodeState.{NodeState, Stores, stores_of}
+use Rattle.node_serve.specs.Replies.{Announces, Puts, IsTaken, Outcome, RepliesWith, refused, full, added, strange, changing, long, crowded, kept, named, bad_token, no_mutable, too_big, server_error, peer_for, with_peers, with_items}
 use Rattle.peer_store.specs.declared.calls.PeerCall.TheVariants.{List as List_call, Put}
 use Rattle.peer_store.specs.declared.calls.PeerReply.{PeerReply}
 use Rattle.peer_store.specs.declared.calls.PeerReply.TheVariants.{Listed, Stored as Stored_reply, Full, NoMemory}
 use Rattle.node_serve.specs.declared.setting.ServeSetting.{ServeSetting}
-use Rattle.node_serve.specs.Calls.{of_peers, Reply, by_peers, Did, on_table, on_peers, call_of, reply_of, HadMemory, is_accepted, calls_for, calls_told, listed_by, peers_by, found_from, peers_from, put_in, answer_with}
+use Rattle.node_serve.specs.Calls.{of_peers, of_items, Reply, by_peers, by_items, Did, on_table, on_peers, on_items, call_of, reply_of, HadMemory, HasItemRoom, is_accepted, put_calls, calls_for, calls_told, listed_by, peers_by, item_by, found_from, peers_from, item_from, put_in, kept_in, put_reply, answer_with}
+use Rattle.node_serve.specs.Gains.{item_reply}
 use Rattle.node_serve.specs.AnswerBy.{setting_of, Steps, AnswerBy}
 use Rattle.peer_store.specs.PeersStep.{peers_after}
 use Rattle.node_serve.proofs.Accepting.{accepted, fails}
-use Rattle.node_serve.proofs.Inverting.{cut, made_none, one_table, one_peer, peer_and_table, closest_is, listed_is, had_memory, not_wanting}
+use Rattle.node_serve.proofs.Inverting.{cut, made_none, one_table, one_peer, one_item, peer_and_table, item_and_table, closest_is, listed_is, item_is, had_memory, not_wanting}
 
 -- ---- steps in two parts
 
-pub steps_both : (t u v : TableState) (p q r : List Held) (xs ys : List Did) → Steps t p xs u q → Steps u q ys v r → Steps t p (xs ++ ys) v r
+pub steps_both : (t u v : TableState) (p q r : Stores) (xs ys : List Did) → Steps t p xs u q → Steps u q ys v r → Steps t p (xs ++ ys) v r
 steps_both t u v p q r [] ys s e = subst (λ x. Steps x p ys v r) s.0 (subst (λ x. Steps u x ys v r) s.1 e)
 steps_both t u v p q r (on_table call reply ∷ xs) ys s e = (s.0, steps_both (table_after t 0 call reply) u v p q r xs ys s.1 e)
-steps_both t u v p q r (on_peers call reply ∷ xs) ys s e = (s.0, steps_both t u v (peers_after p 0 call reply) q r xs ys s.1 e)
+steps_both t u v p q r (on_peers call reply ∷ xs) ys s e = (s.0, steps_both t u v (record { peers = peers_after p.peers 0 call reply; items = p.items }) q r xs ys s.1 e)
+steps_both t u v p q r (on_items call reply ∷ xs) ys s e = (s.0, steps_both t u v (record { peers = p.peers; items = item_after p.items 0 call reply }) q r xs ys s.1 e)
 
 -- ---- from the rules to the calls
 
@@ -51,7 +60,7 @@ pub record Part (s : NodeState) (from : Addr) (at : ℕ) (tx : List ℕ) (ask : 
   did : List Did
   calls : map call_of did ≡ calls_for (setting_of s) from at ask
   memory : All HadMemory did
-  steps : Steps s.table s.peers did s.table o.peers
+  steps : Steps s.table (stores_of s) did s.table o.stores
   reply : (more : List Reply) → o.message ≡ answer_with (setting_of s) from at tx ask (map reply_of did ++ more)
 
 -- whether a pair is held
@@ -62,8 +71,35 @@ stored_is : (b : Bool) → (cond b Renewed New ≡ Renewed) ↔ (b ≡ true)
 stored_is true = (λ e. refl, λ e. refl)
 stored_is false = (λ e. absurd cc, λ e. absurd cc)
 
-outcome_is : (m n : Message) (p q : List Held) → m ≡ n → p ≡ q → ◌≡◌ {A = Outcome} (record { message = m; peers = p }) (record { message = n; peers = q })
-outcome_is m n p q e f = ap (λ x. record { message = x; peers = p }) e ∙ ap (λ y. record { message = n; peers = y }) f
+outcome_is : (m n : Message) (p q : Stores) → m ≡ n → p ≡ q → ◌≡◌ {A = Outcome} (record { message = m; stores = p }) (record { message = n; stores = q })
+outcome_is m n p q e f = ap (λ x. record { message = x; stores = p }) e ∙ ap (λ y. record { message = n; stores = y }) f
+
+-- whether an item of the key is held
+abbrev kept_as : List HeldItem → Id → Stored
+kept_as held key = cond (list_any (λ k. is_eq (key_cmp key k)) (keys_of held)) Renewed New
+
+kept_step : (held : List HeldItem) (key : Id) (b : Bool) → list_any (λ k. is_eq (key_cmp key k)) (keys_of held) ≡ b → ¬ HasNoRoom held key → StoredStep held key (cond b Renewed New)
+kept_step held key true e n = e
+kept_step held key false e n = (let absent : ¬ Holds held key = λ h. not_true (sym e ∙ h) in record { absent = absent; room = λ f. n (absent, f) })
+  where
+    not_true : false ≡ true → ⊥
+    not_true e = cc
+
+has_room : (held : List HeldItem) (key : Id) (stored : Stored) → StoredStep held key stored → ¬ HasNoRoom held key
+has_room held key New h = λ n. h.room n.1
+has_room held key Renewed h = λ n. n.0 h
+
+get_step : (held : List HeldItem) (key : Id) (at : ℕ) → IsItems held → (o : Option (List ℕ)) → handed_out held key at ≡ o → ItemStep held 0 (Get_call key at) (item_reply o)
+get_step held key at sound None e = e
+get_step held key at sound (Some v) e = (e, handed_item held key at v sound.sound e)
+
+got_memory : (call : Did) (o : Option (List ℕ)) → HasItemRoom (item_reply o)
+got_memory call None = tt
+got_memory call (Some v) = tt
+
+got_same : (o : Option (List ℕ)) → o ≡ item_by (item_reply o)
+got_same None = refl
+got_same (Some v) = refl
 
 module _ (s : NodeState) (from : Addr) (at : ℕ) (tx : List ℕ) where
   abbrev S : ServeSetting
@@ -79,7 +115,7 @@ module _ (s : NodeState) (from : Addr) (at : ℕ) (tx : List ℕ) where
         did = [];
         calls = sym (ap (λ b. cond b (of_peers (Put key (peer_for from port) at) ∷ []) []) off);
         memory = All-nil HadMemory;
-        steps = (refl, ap (λ (x : Outcome). x.peers) e);
+        steps = (refl, ap (λ (x : Outcome). x.stores) e);
         reply = λ more. ap (λ (x : Outcome). x.message) e ∙ sym (ap (λ b. cond b (put_in tx s.own more) (bad_token tx)) off);
       }
   announced_part id key port token o (full h n e) =
@@ -88,7 +124,7 @@ module _ (s : NodeState) (from : Addr) (at : ℕ) (tx : List ℕ) where
         did = on_peers (Put key (peer_for from port) at) Full ∷ [];
         calls = sym (ap (λ b. cond b (of_peers (Put key (peer_for from port) at) ∷ []) []) on);
         memory = All-cons HadMemory (on_peers (Put key (peer_for from port) at) Full) [] tt (All-nil HadMemory);
-        steps = (n, (refl, ap (λ (x : Outcome). x.peers) e));
+        steps = (n, (refl, ap (λ (x : Outcome). x.stores) e));
         reply = λ more. ap (λ (x : Outcome). x.message) e ∙ sym (ap (λ b. cond b (put_in tx s.own (by_peers Full ∷ more)) (bad_token tx)) on);
       }
   announced_part id key port token o (added h n e) =
@@ -100,46 +136,115 @@ module _ (s : NodeState) (from : Addr) (at : ℕ) (tx : List ℕ) where
         did = on_peers (Put key peer at) (Stored_reply stored) ∷ [];
         calls = sym (ap (λ b. cond b (of_peers (Put key peer at) ∷ []) []) on);
         memory = All-cons HadMemory (on_peers (Put key peer at) (Stored_reply stored)) [] tt (All-nil HadMemory);
-        steps = ((stored_is (list_any (λ p. is_eq (pair_cmp pair p)) (keys_of (purged s.peers at))), n), (refl, ap (λ (x : Outcome). x.peers) e));
+        steps = ((stored_is (list_any (λ p. is_eq (pair_cmp pair p)) (keys_of (purged s.peers at))), n), (refl, ap (λ (x : Outcome). x.stores) e));
         reply = λ more. ap (λ (x : Outcome). x.message) e ∙ sym (ap (λ b. cond b (put_in tx s.own (by_peers (Stored_reply stored) ∷ more)) (bad_token tx)) on);
       }
 
-  part : (ask : Ask) (o : Outcome) → RepliesWith s from at tx ask o → Part s from at tx ask o
-  part (Ping id) o e = record { did = []; calls = refl; memory = All-nil HadMemory; steps = (refl, ap (λ (x : Outcome). x.peers) e); reply = λ more. ap (λ (x : Outcome). x.message) e }
-  part (FindNode id target want) o e =
+  item_part : (id key : Id) (want : Want) (o : Outcome) → IsItems s.items → RepliesWith s from at tx (GetItem id key want) o → Part s from at tx (GetItem id key want) o
+  item_part id key want o sound e =
+      let found = handed_out s.items key at in
+      let d : Did = on_items (Get_call key at) (item_reply found) in
+      let f : Did = on_table (Closest key s.k) (List_reply (k_closest key s.k (contacts_of s.table))) in
+      record {
+        did = d ∷ f ∷ [];
+        calls = refl;
+        memory = All-cons HadMemory d (f ∷ []) (got_memory d found) (All-cons HadMemory f [] tt (All-nil HadMemory));
+        steps = (get_step s.items key at sound found refl, (refl, (refl, ap (λ (x : Outcome). x.stores) e)));
+        reply = λ more. ap (λ (x : Outcome). x.message) e ∙ ap (λ v. item_from tx S from at v (k_closest key s.k (contacts_of s.table))) (got_same found);
+      }
+
+  put_part : (id : Id) (token v : List ℕ) (mutable : Bool) (o : Outcome) → Puts s from at tx token v mutable o → Part s from at tx (PutItem id token v mutable) o
+  put_part id token v mutable o (strange h e) =
+      let off : takes token ≡ false = fails (takes token) (accepted s.tokens (ip_bytes from.ip) at token) h in
+      record {
+        did = [];
+        calls = sym (λ i. put_calls (off i) mutable at v);
+        memory = All-nil HadMemory;
+        steps = (refl, ap (λ (x : Outcome). x.stores) e);
+        reply = λ more. ap (λ (x : Outcome). x.message) e ∙ sym (λ i. put_reply (off i) mutable tx s.own v more);
+      }
+  put_part id token v mutable o (changing h m e) =
+      let on : takes token ≡ true = (accepted s.tokens (ip_bytes from.ip) at token).1 h in
+      record {
+        did = [];
+        calls = sym (λ i. put_calls (on i) (m i) at v);
+        memory = All-nil HadMemory;
+        steps = (refl, ap (λ (x : Outcome). x.stores) e);
+        reply = λ more. ap (λ (x : Outcome). x.message) e ∙ sym (λ i. put_reply (on i) (m i) tx s.own v more);
+      }
+  put_part id token v mutable o (long h m l e) =
+      let on : takes token ≡ true = (accepted s.tokens (ip_bytes from.ip) at token).1 h in
+      let big : nat_le (length v) max_length ≡ false = lt-leb (length v) max_length l in
+      record {
+        did = [];
+        calls = sym ((λ i. put_calls (on i) (m i) at v) ∙ ap (λ b. cond b (of_items (Keep_call v at) ∷ []) []) big);
+        memory = All-nil HadMemory;
+        steps = (refl, ap (λ (x : Outcome). x.stores) e);
+        reply = λ more. ap (λ (x : Outcome). x.message) e ∙ sym ((λ i. put_reply (on i) (m i) tx s.own v more) ∙ ap (λ b. cond b (kept_in tx s.own more) (too_big tx)) big);
+      }
+  put_part id token v mutable o (crowded t n e) =
+      let on : takes token ≡ true = (accepted s.tokens (ip_bytes from.ip) at token).1 t.own_token in
+      let m = t.immutable in
+      let fits : nat_le (length v) max_length ≡ true = le-leb (length v) max_length t.short in
+      record {
+        did = on_items (Keep_call v at) Crowded ∷ [];
+        calls = sym ((λ i. put_calls (on i) (m i) at v) ∙ ap (λ b. cond b (of_items (Keep_call v at) ∷ []) []) fits);
+        memory = All-cons HadMemory (on_items (Keep_call v at) Crowded) [] tt (All-nil HadMemory);
+        steps = (n, (refl, ap (λ (x : Outcome). x.stores) e));
+        reply = λ more. ap (λ (x : Outcome). x.message) e ∙ sym ((λ i. put_reply (on i) (m i) tx s.own v (by_items Crowded ∷ more)) ∙ ap (λ b. cond b (kept_in tx s.own (by_items Crowded ∷ more)) (too_big tx)) fits);
+      }
+  put_part id token v mutable o (kept t n e) =
+      let on : takes token ≡ true = (accepted s.tokens (ip_bytes from.ip) at token).1 t.own_token in
+      let m = t.immutable in
+      let fits : nat_le (length v) max_length ≡ true = le-leb (length v) max_length t.short in
+      let held = purged_items s.items at in
+      let stored : Stored = kept_as held (key_of v) in
+      record {
+        did = on_items (Keep_call v at) (Kept_reply stored) ∷ [];
+        calls = sym ((λ i. put_calls (on i) (m i) at v) ∙ ap (λ b. cond b (of_items (Keep_call v at) ∷ []) []) fits);
+        memory = All-cons HadMemory (on_items (Keep_call v at) (Kept_reply stored)) [] tt (All-nil HadMemory);
+        steps = (kept_step held (key_of v) (list_any (λ k. is_eq (key_cmp (key_of v) k)) (keys_of held)) refl n, (refl, ap (λ (x : Outcome). x.stores) e));
+        reply = λ more. ap (λ (x : Outcome). x.message) e ∙ sym ((λ i. put_reply (on i) (m i) tx s.own v (by_items (Kept_reply stored) ∷ more)) ∙ ap (λ b. cond b (kept_in tx s.own (by_items (Kept_reply stored) ∷ more)) (too_big tx)) fits);
+      }
+
+  part : (ask : Ask) (o : Outcome) → IsItems s.items → RepliesWith s from at tx ask o → Part s from at tx ask o
+  part (Ping id) o sound e = record { did = []; calls = refl; memory = All-nil HadMemory; steps = (refl, ap (λ (x : Outcome). x.stores) e); reply = λ more. ap (λ (x : Outcome). x.message) e }
+  part (FindNode id target want) o sound e =
       let d : Did = on_table (Closest target s.k) (List_reply (k_closest target s.k (contacts_of s.table))) in
-      record { did = d ∷ []; calls = refl; memory = All-cons HadMemory d [] tt (All-nil HadMemory); steps = (refl, (refl, ap (λ (x : Outcome). x.peers) e)); reply = λ more. ap (λ (x : Outcome). x.message) e }
-  part (GetPeers id key want) o e =
+      record { did = d ∷ []; calls = refl; memory = All-cons HadMemory d [] tt (All-nil HadMemory); steps = (refl, (refl, ap (λ (x : Outcome). x.stores) e)); reply = λ more. ap (λ (x : Outcome). x.message) e }
+  part (GetPeers id key want) o sound e =
       let d : Did = on_peers (List_call key at) (Listed (listed s.peers key at)) in
       let f : Did = on_table (Closest key s.k) (List_reply (k_closest key s.k (contacts_of s.table))) in
       record {
         did = d ∷ f ∷ [];
         calls = refl;
         memory = All-cons HadMemory d (f ∷ []) tt (All-cons HadMemory f [] tt (All-nil HadMemory));
-        steps = (refl, (refl, (refl, ap (λ (x : Outcome). x.peers) e)));
+        steps = (refl, (refl, (refl, ap (λ (x : Outcome). x.stores) e)));
         reply = λ more. ap (λ (x : Outcome). x.message) e;
       }
-  part (AnnouncePeer id key port token) o e = announced_part id key port token o e
-  part (Other method) o e = record { did = []; calls = refl; memory = All-nil HadMemory; steps = (refl, ap (λ (x : Outcome). x.peers) e); reply = λ more. ap (λ (x : Outcome). x.message) e }
+  part (AnnouncePeer id key port token) o sound e = announced_part id key port token o e
+  part (GetItem id key want) o sound e = item_part id key want o sound e
+  part (PutItem id token v mutable) o sound e = put_part id token v mutable o e
+  part (Other method) o sound e = record { did = []; calls = refl; memory = All-nil HadMemory; steps = (refl, ap (λ (x : Outcome). x.stores) e); reply = λ more. ap (λ (x : Outcome). x.message) e }
 
 -- the table is told of the asker
-pub record ToldPart (o : Option Contact) (t u : TableState) (p : List Held) : Type 0 where
+pub record ToldPart (o : Option Contact) (t u : TableState) (p : Stores) : Type 0 where
   pub did : List Did
   pub calls : map call_of did ≡ calls_told o
   pub memory : All HadMemory did
   pub steps : Steps t p did u p
 
-pub told_part : (o : Option Contact) (t u : TableState) (p : List Held) → IsTold o t u → ToldPart o t u p
+pub told_part : (o : Option Contact) (t u : TableState) (p : Stores) → IsTold o t u → ToldPart o t u p
 told_part None t u p h = record { did = []; calls = refl; memory = All-nil HadMemory; steps = (h, refl) }
 told_part (Some c) t u p h =
     let d : Did = on_table (Seen c) h.reply in
     record { did = d ∷ []; calls = refl; memory = All-cons HadMemory d [] (had_memory h.reply h.kept) (All-nil HadMemory); steps = (h.step, (h.leaves, refl)) }
 
-pub by_calls : (s : NodeState) (from : Addr) (bytes : List ℕ) (at : ℕ) (m : Message) (x : NodeState) → AnswerOf s from bytes at m x → AnswerBy s from bytes at m x
-by_calls s from bytes at m x a =
+pub by_calls : (s : NodeState) (from : Addr) (bytes : List ℕ) (at : ℕ) (m : Message) (x : NodeState) → AnswerOf s from bytes at m x → IsItems s.items → AnswerBy s from bytes at m x
+by_calls s from bytes at m x a sound =
     let S = setting_of s in
-    let main = part s from at a.tx a.ask (record { message = m; peers = x.peers }) a.replies in
-    let told = told_part (told_by s.policy a.read_only a.ask from) s.table x.table x.peers a.told in
+    let main = part s from at a.tx a.ask (record { message = m; stores = stores_of x }) sound a.replies in
+    let told = told_part (told_by s.policy a.read_only a.ask from) s.table x.table (stores_of x) a.told in
     record {
       tx = a.tx;
       read_only = a.read_only;
@@ -148,27 +253,30 @@ by_calls s from bytes at m x a =
       did = main.did ++ told.did;
       calls = map-append call_of main.did told.did ∙ ap (λ l. l ++ map call_of told.did) main.calls ∙ ap (λ l. calls_for S from at a.ask ++ l) told.calls;
       memory = All-append HadMemory main.did told.did main.memory told.memory;
-      steps = steps_both s.table s.table x.table s.peers x.peers x.peers main.did told.did main.steps told.steps;
+      steps = steps_both s.table s.table x.table (stores_of s) (stores_of x) (stores_of x) main.did told.did main.steps told.steps;
       reply_is = main.reply (map reply_of told.did) ∙ ap (answer_with S from at a.tx a.ask) (sym (map-append reply_of main.did told.did));
       rest = a.rest;
     }
 
 -- ---- from the calls to the rules
 
-pub record Mid (t v : TableState) (p r : List Held) (xs ys : List Did) : Type 0 where
+pub record Mid (t v : TableState) (p r : Stores) (xs ys : List Did) : Type 0 where
   pub table : TableState
-  pub peers : List Held
-  pub first : Steps t p xs table peers
-  pub rest : Steps table peers ys v r
+  pub stores : Stores
+  pub first : Steps t p xs table stores
+  pub rest : Steps table stores ys v r
 
-pub steps_cut : (t v : TableState) (p r : List Held) (xs ys : List Did) → Steps t p (xs ++ ys) v r → Mid t v p r xs ys
-steps_cut t v p r [] ys st = record { table = t; peers = p; first = (refl, refl); rest = st }
+pub steps_cut : (t v : TableState) (p r : Stores) (xs ys : List Did) → Steps t p (xs ++ ys) v r → Mid t v p r xs ys
+steps_cut t v p r [] ys st = record { table = t; stores = p; first = (refl, refl); rest = st }
 steps_cut t v p r (on_table call reply ∷ xs) ys st =
     let m = steps_cut (table_after t 0 call reply) v p r xs ys st.1 in
-    record { table = m.table; peers = m.peers; first = (st.0, m.first); rest = m.rest }
+    record { table = m.table; stores = m.stores; first = (st.0, m.first); rest = m.rest }
 steps_cut t v p r (on_peers call reply ∷ xs) ys st =
-    let m = steps_cut t v (peers_after p 0 call reply) r xs ys st.1 in
-    record { table = m.table; peers = m.peers; first = (st.0, m.first); rest = m.rest }
+    let m = steps_cut t v (record { peers = peers_after p.peers 0 call reply; items = p.items }) r xs ys st.1 in
+    record { table = m.table; stores = m.stores; first = (st.0, m.first); rest = m.rest }
+steps_cut t v p r (on_items call reply ∷ xs) ys st =
+    let m = steps_cut t v (record { peers = p.peers; items = item_after p.items 0 call reply }) r xs ys st.1 in
+    record { table = m.table; stores = m.stores; first = (st.0, m.first); rest = m.rest }
 
 closest_after : (t : TableState) (target : Id) (n : ℕ) (reply : TableReply) → table_after t 0 (Closest target n) reply ≡ t
 closest_after t target n (List_reply list) = refl
@@ -182,21 +290,21 @@ all_back : (xs ys : List Did) → All HadMemory (xs ++ ys) → All HadMemory ys
 all_back [] ys a = a
 all_back (x ∷ xs) ys a = all_back xs ys (All-tail HadMemory x (xs ++ ys) a)
 
-module _ (s : NodeState) (from : Addr) (at : ℕ) (tx : List ℕ) (u : TableState) (q : List Held) where
+module _ (s : NodeState) (from : Addr) (at : ℕ) (tx : List ℕ) (u : TableState) (q : Stores) where
   -- the calls of the query itself left the table, and their replies give the one of the rules
   pub record Replied (ask : Ask) (did : List Did) : Type 0 where
     pub table : u ≡ s.table
-    pub replies : (more : List Reply) → RepliesWith s from at tx ask (record { message = answer_with (setting_of s) from at tx ask (map reply_of did ++ more); peers = q })
+    pub replies : (more : List Reply) → RepliesWith s from at tx ask (record { message = answer_with (setting_of s) from at tx ask (map reply_of did ++ more); stores = q })
 
   abbrev pub Shows : Ask → List Did → Type 0
-  Shows ask did = All HadMemory did → Steps s.table s.peers did u q → Replied ask did
+  Shows ask did = All HadMemory did → Steps s.table (stores_of s) did u q → Replied ask did
 
   found_shows : (id target : Id) (want : Want) (reply : TableReply) → Shows (FindNode id target want) (on_table (Closest target s.k) reply ∷ [])
   found_shows id target want reply memory st =
       let is = closest_is s.table target s.k reply st.0 (All-head HadMemory (on_table (Closest target s.k) reply) [] memory) in
       record {
         table = st.1.0 ∙ closest_after s.table target s.k reply;
-        replies = λ more. outcome_is _ _ q s.peers (ap (λ x. found_from tx (setting_of s) (listed_by x)) is) st.1.1;
+        replies = λ more. outcome_is _ _ q (stores_of s) (ap (λ x. found_from tx (setting_of s) (listed_by x)) is) st.1.1;
       }
 
   peers_shows : (id key : Id) (want : Want) (peers : PeerReply) (nodes : TableReply) → Shows (GetPeers id key want) (on_peers (List_call key at) peers ∷ on_table (Closest key s.k) nodes ∷ [])
@@ -207,21 +315,84 @@ module _ (s : NodeState) (from : Addr) (at : ℕ) (tx : List ℕ) (u : TableStat
       let second = closest_is s.table key s.k nodes st.1.0 (All-head HadMemory f [] (All-tail HadMemory d (f ∷ []) memory)) in
       record {
         table = st.1.1.0 ∙ closest_after s.table key s.k nodes;
-        replies = λ more. outcome_is _ _ q s.peers
+        replies = λ more. outcome_is _ _ q (stores_of s)
             (ap (λ x. peers_from tx (setting_of s) from at (peers_by x) (listed_by nodes)) first ∙ ap (λ x. peers_from tx (setting_of s) from at (listed s.peers key at) (listed_by x)) second)
             st.1.1.1;
       }
+
+  item_shows : (id key : Id) (want : Want) (item : ItemReply) (nodes : TableReply) → Shows (GetItem id key want) (on_items (Get_call key at) item ∷ on_table (Closest key s.k) nodes ∷ [])
+  item_shows id key want item nodes memory st =
+      let d : Did = on_items (Get_call key at) item in
+      let f : Did = on_table (Closest key s.k) nodes in
+      let first = item_is s.items key at item st.0 (All-head HadMemory d (f ∷ []) memory) in
+      let second = closest_is s.table key s.k nodes st.1.0 (All-head HadMemory f [] (All-tail HadMemory d (f ∷ []) memory)) in
+      record {
+        table = st.1.1.0 ∙ closest_after s.table key s.k nodes;
+        replies = λ more. outcome_is _ _ q (stores_of s)
+            (ap (λ x. item_from tx (setting_of s) from at x (listed_by nodes)) first ∙ ap (λ x. item_from tx (setting_of s) from at (handed_out s.items key at) (listed_by x)) second)
+            st.1.1.1;
+      }
+
+  keep_shows : (id : Id) (token v : List ℕ) (mutable : Bool) (reply : ItemReply) → is_accepted s.tokens (ip_bytes from.ip) at token ≡ true → mutable ≡ false → nat_le (length v) max_length ≡ true
+      → Shows (PutItem id token v mutable) (on_items (Keep_call v at) reply ∷ [])
+  keep_shows id token v mutable (Kept_reply stored) on m fits memory st =
+      let taken : IsTaken s from at token v mutable = record { own_token = (accepted s.tokens (ip_bytes from.ip) at token).0 on; immutable = m; short = leb-true (length v) max_length fits } in
+      record {
+        table = st.1.0;
+        replies = λ more. kept taken (has_room (purged_items s.items at) (key_of v) stored st.0)
+            (outcome_is _ _ q (with_items s (with_item (purged_items s.items at) v at))
+            ((λ i. put_reply (on i) (m i) tx s.own v (by_items (Kept_reply stored) ∷ more)) ∙ ap (λ b. cond b (named tx s.own) (too_big tx)) fits) st.1.1);
+      }
+  keep_shows id token v mutable Crowded on m fits memory st =
+      let taken : IsTaken s from at token v mutable = record { own_token = (accepted s.tokens (ip_bytes from.ip) at token).0 on; immutable = m; short = leb-true (length v) max_length fits } in
+      record {
+        table = st.1.0;
+        replies = λ more. crowded taken st.0
+            (outcome_is _ _ q (with_items s (purged_items s.items at))
+            ((λ i. put_reply (on i) (m i) tx s.own v (by_items Crowded ∷ more)) ∙ ap (λ b. cond b (server_error tx) (too_big tx)) fits) st.1.1);
+      }
+  keep_shows id token v mutable No_item_memory on m fits memory st = absurd (All-head HadMemory (on_items (Keep_call v at) No_item_memory) [] memory)
+  keep_shows id token v mutable (Held_reply w) on m fits memory st = absurd st.0
+  keep_shows id token v mutable Absent on m fits memory st = absurd st.0
+
+  fits_shows : (id : Id) (token v : List ℕ) (mutable : Bool) (did : List Did) (b : Bool) → is_accepted s.tokens (ip_bytes from.ip) at token ≡ true → mutable ≡ false → nat_le (length v) max_length ≡ b
+      → map call_of did ≡ cond b (of_items (Keep_call v at) ∷ []) [] → Shows (PutItem id token v mutable) did
+  fits_shows id token v mutable did true on m fits calls =
+      let one = one_item (Keep_call v at) did calls in
+      subst (Shows (PutItem id token v mutable)) (sym one.is) (keep_shows id token v mutable one.reply on m fits)
+  fits_shows id token v mutable did false on m big calls =
+      subst (Shows (PutItem id token v mutable)) (sym (made_none did calls)) (λ memory st. record {
+        table = st.0;
+        replies = λ more. long ((accepted s.tokens (ip_bytes from.ip) at token).0 on) m (leb-false (length v) max_length big)
+            (outcome_is _ _ q (stores_of s) ((λ i. put_reply (on i) (m i) tx s.own v more) ∙ ap (λ b. cond b (kept_in tx s.own more) (too_big tx)) big) st.1);
+      })
+
+  puts_shows : (id : Id) (token v : List ℕ) (mutable : Bool) (did : List Did) (b m : Bool) → is_accepted s.tokens (ip_bytes from.ip) at token ≡ b → mutable ≡ m
+      → map call_of did ≡ put_calls b m at v → Shows (PutItem id token v mutable) did
+  puts_shows id token v mutable did false m off is calls =
+      subst (Shows (PutItem id token v mutable)) (sym (made_none did calls)) (λ memory st. record {
+        table = st.0;
+        replies = λ more. strange (λ h. (let on = (accepted s.tokens (ip_bytes from.ip) at token).1 h in absurd cc))
+            (outcome_is _ _ q (stores_of s) (λ i. put_reply (off i) mutable tx s.own v more) st.1);
+      })
+  puts_shows id token v mutable did true true on is calls =
+      subst (Shows (PutItem id token v mutable)) (sym (made_none did calls)) (λ memory st. record {
+        table = st.0;
+        replies = λ more. changing ((accepted s.tokens (ip_bytes from.ip) at token).0 on) is
+            (outcome_is _ _ q (stores_of s) (λ i. put_reply (on i) (is i) tx s.own v more) st.1);
+      })
+  puts_shows id token v mutable did true false on is calls = fits_shows id token v mutable did (nat_le (length v) max_length) on is refl calls
 
   put_shows : (id key : Id) (port : Port) (token : List ℕ) (reply : PeerReply) → is_accepted s.tokens (ip_bytes from.ip) at token ≡ true → Shows (AnnouncePeer id key port token) (on_peers (Put key (peer_for from port) at) reply ∷ [])
   put_shows id key port token (Stored_reply stored) on memory st = record {
     table = st.1.0;
     replies = λ more. added ((accepted s.tokens (ip_bytes from.ip) at token).0 on) st.0.1
-        (outcome_is _ _ q (with_add (purged s.peers at) (key, peer_for from port) at) (ap (λ b. cond b (named tx s.own) (bad_token tx)) on) st.1.1);
+        (outcome_is _ _ q (with_peers s (with_add (purged s.peers at) (key, peer_for from port) at)) (ap (λ b. cond b (named tx s.own) (bad_token tx)) on) st.1.1);
   }
   put_shows id key port token Full on memory st = record {
     table = st.1.0;
     replies = λ more. full ((accepted s.tokens (ip_bytes from.ip) at token).0 on) st.0
-        (outcome_is _ _ q (purged s.peers at) (ap (λ b. cond b (server_error tx) (bad_token tx)) on) st.1.1);
+        (outcome_is _ _ q (with_peers s (purged s.peers at)) (ap (λ b. cond b (server_error tx) (bad_token tx)) on) st.1.1);
   }
   put_shows id key port token NoMemory on memory st = absurd (All-head HadMemory (on_peers (Put key (peer_for from port) at) NoMemory) [] memory)
   put_shows id key port token (Listed list) on memory st = absurd st.0
@@ -235,11 +406,11 @@ module _ (s : NodeState) (from : Addr) (at : ℕ) (tx : List ℕ) (u : TableStat
       subst (Shows (AnnouncePeer id key port token)) (sym (made_none did calls)) (λ memory st. record {
         table = st.0;
         replies = λ more. refused (λ h. (let on = (accepted s.tokens (ip_bytes from.ip) at token).1 h in absurd cc))
-            (outcome_is _ _ q s.peers (ap (λ b. cond b (put_in tx s.own more) (bad_token tx)) off) st.1);
+            (outcome_is _ _ q (stores_of s) (ap (λ b. cond b (put_in tx s.own more) (bad_token tx)) off) st.1);
       })
 
   pub shows : (ask : Ask) (did : List Did) → map call_of did ≡ calls_for (setting_of s) from at ask → Shows ask did
-  shows (Ping id) did calls = subst (Shows (Ping id)) (sym (made_none did calls)) (λ memory st. record { table = st.0; replies = λ more. outcome_is _ _ q s.peers refl st.1 })
+  shows (Ping id) did calls = subst (Shows (Ping id)) (sym (made_none did calls)) (λ memory st. record { table = st.0; replies = λ more. outcome_is _ _ q (stores_of s) refl st.1 })
   shows (FindNode id target want) did calls =
       let one = one_table (Closest target s.k) did calls in
       subst (Shows (FindNode id target want)) (sym one.is) (found_shows id target want one.reply)
@@ -247,22 +418,26 @@ module _ (s : NodeState) (from : Addr) (at : ℕ) (tx : List ℕ) (u : TableStat
       let two = peer_and_table (List_call key at) (Closest key s.k) did calls in
       subst (Shows (GetPeers id key want)) (sym two.is) (peers_shows id key want two.peers two.nodes)
   shows (AnnouncePeer id key port token) did calls = announced_shows id key port token did (is_accepted s.tokens (ip_bytes from.ip) at token) refl calls
-  shows (Other method) did calls = subst (Shows (Other method)) (sym (made_none did calls)) (λ memory st. record { table = st.0; replies = λ more. outcome_is _ _ q s.peers refl st.1 })
+  shows (GetItem id key want) did calls =
+      let two = item_and_table (Get_call key at) (Closest key s.k) did calls in
+      subst (Shows (GetItem id key want)) (sym two.is) (item_shows id key want two.items two.nodes)
+  shows (PutItem id token v mutable) did calls = puts_shows id token v mutable did (is_accepted s.tokens (ip_bytes from.ip) at token) mutable refl refl calls
+  shows (Other method) did calls = subst (Shows (Other method)) (sym (made_none did calls)) (λ memory st. record { table = st.0; replies = λ more. outcome_is _ _ q (stores_of s) refl st.1 })
 
-pub record WasTold (o : Option Contact) (t v : TableState) (q r : List Held) : Type 0 where
+pub record WasTold (o : Option Contact) (t v : TableState) (q r : Stores) : Type 0 where
   pub told : IsTold o t v
-  pub peers : r ≡ q
+  pub stores : r ≡ q
 
-seen_shows : (c : Contact) (t v : TableState) (q r : List Held) (reply : TableReply) → All HadMemory (on_table (Seen c) reply ∷ []) → Steps t q (on_table (Seen c) reply ∷ []) v r → WasTold (Some c) t v q r
+seen_shows : (c : Contact) (t v : TableState) (q r : Stores) (reply : TableReply) → All HadMemory (on_table (Seen c) reply ∷ []) → Steps t q (on_table (Seen c) reply ∷ []) v r → WasTold (Some c) t v q r
 seen_shows c t v q r reply memory st = record {
   told = record { reply = reply; step = st.0; kept = not_wanting reply (All-head HadMemory (on_table (Seen c) reply) [] memory); leaves = st.1.0 };
-  peers = st.1.1;
+  stores = st.1.1;
 }
 
-told_shows : (o : Option Contact) (t v : TableState) (q r : List Held) (did : List Did) → map call_of did ≡ calls_told o → All HadMemory did → Steps t q did v r → WasTold o t v q r
+told_shows : (o : Option Contact) (t v : TableState) (q r : Stores) (did : List Did) → map call_of did ≡ calls_told o → All HadMemory did → Steps t q did v r → WasTold o t v q r
 told_shows None t v q r did calls memory st =
     let none : Steps t q [] v r = subst (λ l. Steps t q l v r) (made_none did calls) st in
-    record { told = none.0; peers = none.1 }
+    record { told = none.0; stores = none.1 }
 told_shows (Some c) t v q r did calls memory st =
     let one = one_table (Seen c) did calls in
     seen_shows c t v q r one.reply (subst (All HadMemory) one.is memory) (subst (λ l. Steps t q l v r) one.is st)
@@ -273,9 +448,9 @@ by_rules s from bytes at m x b =
     let o = told_by s.policy b.read_only b.ask from in
     let c = cut (calls_for S from at b.ask) (calls_told o) b.did b.calls in
     let memory : All HadMemory (c.front ++ c.back) = subst (All HadMemory) c.whole b.memory in
-    let mid = steps_cut s.table x.table s.peers x.peers c.front c.back (subst (λ l. Steps s.table s.peers l x.table x.peers) c.whole b.steps) in
-    let main = shows s from at b.tx mid.table mid.peers b.ask c.front c.first (all_front c.front c.back memory) mid.first in
-    let told = told_shows o mid.table x.table mid.peers x.peers c.back c.rest (all_back c.front c.back memory) mid.rest in
+    let mid = steps_cut s.table x.table (stores_of s) (stores_of x) c.front c.back (subst (λ l. Steps s.table (stores_of s) l x.table (stores_of x)) c.whole b.steps) in
+    let main = shows s from at b.tx mid.table mid.stores b.ask c.front c.first (all_front c.front c.back memory) mid.first in
+    let told = told_shows o mid.table x.table mid.stores (stores_of x) c.back c.rest (all_back c.front c.back memory) mid.rest in
     let message : answer_with S from at b.tx b.ask (map reply_of c.front ++ map reply_of c.back) ≡ m =
     sym (b.reply_is ∙ ap (λ l. answer_with S from at b.tx b.ask (map reply_of l)) c.whole ∙ ap (answer_with S from at b.tx b.ask) (map-append reply_of c.front c.back)) in
     record {
@@ -283,7 +458,7 @@ by_rules s from bytes at m x b =
       read_only = b.read_only;
       ask = b.ask;
       query = b.query;
-      replies = subst (λ (z : Outcome). RepliesWith s from at b.tx b.ask z) (outcome_is _ m mid.peers x.peers message (sym told.peers)) (main.replies (map reply_of c.back));
+      replies = subst (λ (z : Outcome). RepliesWith s from at b.tx b.ask z) (outcome_is _ m mid.stores (stores_of x) message (sym told.stores)) (main.replies (map reply_of c.back));
       told = subst (λ t. IsTold o t x.table) main.table told.told;
       rest = b.rest;
     }

@@ -1,6 +1,6 @@
 -- A reply with few parts is short, and with its tag too.
 use Rattle.std.proofs.Common.{◌≡◌, ℕ, suc, zero, ◌+◌, ◌*◌, ◌<◌, ◌≤◌, List, [], ◌∷◌, ◌++◌, length, map, ℤ, refl, ap, ◌∙◌, arith, length-append, Option, Some, None}
-use Rattle.std.specs.Prelude.{codes}
+use Rattle.std.specs.Prelude.{codes, IfSome}
 use Rattle.std.specs.List.{concat}
 use Rattle.std.specs.Int.Digits.{digits_of}
 use Rattle.std.specs.Ordering.{match_ordering}
@@ -13,6 +13,7 @@ use Rattle.kad_base.specs.declared.types.Addr.{Addr}
 use Rattle.kad_base.specs.declared.types.Contact.{Contact}
 use Rattle.kad_base.specs.declared.types.Report.{Report}
 use Rattle.kad_bencode.specs.Keys.{key_cmp, put}
+use Rattle.kad_bencode.specs.Naming.{named}
 use Rattle.kad_bencode.specs.Spelling.{numeral, integer_text, string_text, pairs_text, text_of}
 use Rattle.kad_bencode.specs.Faults.{pairs_of}
 use Rattle.kad_bencode.specs.declared.entries.Pair.{Pair}
@@ -21,11 +22,13 @@ use Rattle.kad_bencode.specs.declared.value.Value.TheVariants as value
 use Rattle.kad_bencode.proofs.Numerals.{numeral_positive}
 use Rattle.kad_bencode.proofs.Folds.{text_of-int, text_of-text, text_of-list, text_of-dict}
 use Rattle.kad_krpc.specs.declared.message.Answer.{Answer}
+use Rattle.kad_krpc.specs.declared.message.Message.{Message}
 use Rattle.kad_krpc.specs.declared.message.Message.TheVariants as message
-use Rattle.kad_krpc.specs.Form.{pair, maybe, nodes_value, snodes_value, peers_value, answer_pairs, message_pairs, form}
+use Rattle.kad_bencode.proofs.Formed.{named_text}
+use Rattle.kad_krpc.specs.Form.{IsCarried, HasForms, pair, maybe, nodes_value, snodes_value, peers_value, answer_pairs, message_pairs, form}
 use Rattle.kad_krpc.specs.Records.{addr_bytes, nodes_bytes, snodes_bytes}
 use Rattle.kad_krpc.specs.Seal.{tagged}
-use Rattle.node_serve.specs.Sizes.{HasFew, IsCompact, count, max_reply, nodes_size, peers_bytes, snodes_size, values_size}
+use Rattle.node_serve.specs.Sizes.{HasFew, IsSmall, IsCompact, count, max_reply, nodes_size, peers_bytes, snodes_size, values_size}
 
 -- ---- strings
 
@@ -98,15 +101,21 @@ peers_short (peer ∷ peers) h =
     let r = peers_short peers (omega (arith, a, h)) in
     omega (arith, a, b, t, r)
 
-size_values : (o : Option (List Addr)) → count o ≤ 50 → values_size o ≤ 900 → size (maybe (codes "values") peers_value o) ≤ 1214
+size_values : (o : Option (List Addr)) → count o ≤ 50 → values_size o ≤ 18 * count o → size (maybe (codes "values") peers_value o) ≤ 14 + 24 * count o
 size_values None h k = omega arith
 size_values (Some peers) h k =
     let e = ap length (text_of-list (map (λ peer. value.Text (addr_bytes peer)) peers)) in
     let a = length-append (concat (map text_of (map (λ peer. value.Text (addr_bytes peer)) peers))) (101 ∷ []) in
-    let p = peers_short peers (omega (arith, k)) in
-    size_pair (codes "values") (peers_value peers) 1202 (omega arith) (omega (arith, e, a, p, h, k))
+    let p = peers_short peers (omega (arith, h, k)) in
+    let whole : size (maybe (codes "values") peers_value (Some peers)) ≤ 12 + (2 + 24 * length peers) = size_pair (codes "values") (peers_value peers) (2 + 24 * length peers) (omega arith) (omega (arith, e, a, p, h, k)) in
+    omega (arith, whole)
 
-size_answer : (a : Answer) → HasFew a → IsCompact a → length (text_of (value.Dict (answer_pairs a))) ≤ 3870
+-- a value stands as it is
+size_form : (o : Option (List ℕ)) → IfSome o IsCarried → size (maybe (codes "v") named o) ≤ 7 + count o
+size_form None f = omega arith
+size_form (Some v) f = (let e = ap length (named_text 2 v f) in size_pair (codes "v") (named v) (length v) (omega arith) (omega (arith, e)))
+
+size_answer : (a : Answer) → HasFew a → IsCompact a → length (text_of (value.Dict (answer_pairs a))) ≤ 3877
 size_answer a f c =
     let ids = pair (codes "id") (value.Text a.id.0) in
     let nodes = maybe (codes "nodes") nodes_value a.nodes in
@@ -114,6 +123,7 @@ size_answer a f c =
     let snodes = maybe (codes "snodes") snodes_value a.snodes in
     let snodes6 = maybe (codes "snodes6") snodes_value a.snodes6 in
     let token = maybe (codes "token") value.Text a.token in
+    let carried = maybe (codes "v") named a.v in
     let values = maybe (codes "values") peers_value a.values in
     let fn = f.nodes in let fs = f.snodes in let fv = f.values in
     let cn = c.nodes in let cs = c.snodes in let cv = c.values in
@@ -123,14 +133,16 @@ size_answer a f c =
     let s = size_snodes a.snodes (omega (arith, fs, cs)) in
     let s6 = size_none (codes "snodes6") snodes_value a.snodes6 f.snodes6 in
     let t = size_token a.token f.token in
-    let v = size_values a.values fv (omega (arith, fv, cv)) in
-    let e1 = size_append (ids ++ nodes ++ nodes6 ++ snodes ++ snodes6 ++ token) values in
+    let x = size_form a.v f.v in
+    let v = size_values a.values (omega (arith, fv)) cv in
+    let e0 = size_append (ids ++ nodes ++ nodes6 ++ snodes ++ snodes6 ++ token ++ carried) values in
+    let e1 = size_append (ids ++ nodes ++ nodes6 ++ snodes ++ snodes6 ++ token) carried in
     let e2 = size_append (ids ++ nodes ++ nodes6 ++ snodes ++ snodes6) token in
     let e3 = size_append (ids ++ nodes ++ nodes6 ++ snodes) snodes6 in
     let e4 = size_append (ids ++ nodes ++ nodes6) snodes in
     let e5 = size_append (ids ++ nodes) nodes6 in
     let e6 = size_append ids nodes in
-    size_dict (answer_pairs a) 3868 (omega (arith, i, n, n6, s, s6, t, v, e1, e2, e3, e4, e5, e6))
+    size_dict (answer_pairs a) 3875 (omega (arith, fv, i, n, n6, s, s6, t, x, v, e0, e1, e2, e3, e4, e5, e6))
 
 -- ---- messages
 
@@ -142,16 +154,22 @@ size_ends first tx kind h k =
     let e2 = size_append first (pair (codes "t") (value.Text tx)) in
     omega (arith, t, y, e1, e2)
 
+-- a reply with few parts gives its value by its written form
+pub small_forms : (m : Message) → IsSmall m → HasForms m
+small_forms (message.Query tx read_only ask) h = absurd h
+small_forms (message.Answer tx answer) h = h.1.v
+small_forms (message.Fault tx code text) h = tt
+
 pub answer_short : (tx : List ℕ) (a : Answer) → length tx ≤ max_answered_tx → HasFew a → IsCompact a → length (form (message.Answer tx a)) ≤ max_reply
 unfolding form
 answer_short tx a h f c =
     let first = pair (codes "r") (value.Dict (answer_pairs a)) in
-    let r : size first ≤ 3877 = size_pair (codes "r") (value.Dict (answer_pairs a)) 3870 (omega arith) (size_answer a f c) in
+    let r : size first ≤ 3884 = size_pair (codes "r") (value.Dict (answer_pairs a)) 3877 (omega arith) (size_answer a f c) in
     let e = size_ends first tx (codes "r") h (omega arith) in
-    let d = size_dict (message_pairs (message.Answer tx a)) 3936 (omega (arith, r, e)) in
+    let d = size_dict (message_pairs (message.Answer tx a)) 3943 (omega (arith, r, e)) in
     omega (arith, d)
 
-pub fault_short : (tx text : List ℕ) (code : ℤ) → length tx ≤ max_answered_tx → length (integer_text code) ≤ 7 → length text ≤ 14 → length (form (message.Fault tx code text)) ≤ max_reply
+pub fault_short : (tx text : List ℕ) (code : ℤ) → length tx ≤ max_answered_tx → length (integer_text code) ≤ 7 → length text ≤ 25 → length (form (message.Fault tx code text)) ≤ max_reply
 unfolding form
 fault_short tx text code h i k =
     let listed = value.List (value.Int code ∷ value.Text text ∷ []) in
@@ -161,11 +179,11 @@ fault_short tx text code h i k =
     let b = length-append (text_of (value.Int code)) (text_of (value.Text text) ++ []) in
     let b2 = length-append (text_of (value.Text text)) [] in
     let n = ap length (text_of-int code) in
-    let t = text_short text 14 k (omega arith) in
-    let l : length (text_of listed) ≤ 29 = omega (arith, e, a, b, b2, n, t, i) in
-    let r : size first ≤ 36 = size_pair (codes "e") listed 29 (omega arith) l in
+    let t = text_short text 25 k (omega arith) in
+    let l : length (text_of listed) ≤ 40 = omega (arith, e, a, b, b2, n, t, i) in
+    let r : size first ≤ 47 = size_pair (codes "e") listed 40 (omega arith) l in
     let m = size_ends first tx (codes "e") h (omega arith) in
-    let d = size_dict (message_pairs (message.Fault tx code text)) 95 (omega (arith, r, m)) in
+    let d = size_dict (message_pairs (message.Fault tx code text)) 106 (omega (arith, r, m)) in
     omega (arith, d)
 
 -- ---- the tag

@@ -7,7 +7,7 @@ use Rattle.kad_base.specs.declared.types.Contact.{Contact}
 use Rattle.kad_base.specs.declared.types.Policy.{Policy}
 use Rattle.kad_base.specs.declared.types.Policy.TheVariants.{Plain, Puzzled}
 use Rattle.kad_krpc.specs.declared.message.Ask.{Ask}
-use Rattle.kad_krpc.specs.declared.message.Ask.TheVariants.{Ping, FindNode, GetPeers, AnnouncePeer, Other}
+use Rattle.kad_krpc.specs.declared.message.Ask.TheVariants.{Ping, FindNode, GetPeers, AnnouncePeer, Get as GetItem, Put as PutItem, Other}
 use Rattle.kad_krpc.specs.declared.message.Message.{Message}
 use Rattle.kad_krpc.specs.Records.{ip_bytes}
 use Rattle.contact_table.specs.declared.calls.TableCall.TheVariants.{Seen}
@@ -15,13 +15,14 @@ use Rattle.contact_table.specs.declared.calls.TableReply.{TableReply}
 use Rattle.contact_table.specs.declared.calls.TableReply.TheVariants.{NoMemory}
 use Rattle.contact_table.specs.TableState.{TableState}
 use Rattle.contact_table.specs.TableStep.{TableStep, table_after}
-use Rattle.peer_store.specs.Peers.{Held, purged}
+use Rattle.peer_store.specs.Peers.{purged}
+use Rattle.item_store.specs.Items.{purged as purged_items}
 use Rattle.peer_store.specs.Tokens.{IsAccepted}
 use Rattle.node_serve.specs.declared.node.Answered.{Answered}
 use Rattle.node_serve.specs.declared.node.Answered.TheVariants as answered
-use Rattle.node_serve.specs.NodeState.{NodeState, with_parts}
+use Rattle.node_serve.specs.NodeState.{NodeState, Stores, stores_of, with_parts}
 use Rattle.node_serve.specs.Queries.{IsQuery}
-use Rattle.node_serve.specs.Replies.{RepliesWith}
+use Rattle.node_serve.specs.Replies.{IsTaken, RepliesWith, with_peers, with_items}
 use Rattle.node_serve.specs.Sealing.{Tags, sent_form}
 
 -- ---- who is told to the table
@@ -31,6 +32,8 @@ asker_of (Ping id) = Some id
 asker_of (FindNode id target want) = Some id
 asker_of (GetPeers id key want) = Some id
 asker_of (AnnouncePeer id key port token) = Some id
+asker_of (GetItem id target want) = None
+asker_of (PutItem id token v mutable) = None
 asker_of (Other method) = None
 
 abbrev pub contact_at : Addr → Option Id → Option Contact
@@ -62,9 +65,9 @@ pub record AnswerOf (s : NodeState) (from : Addr) (bytes : List ℕ) (at : ℕ) 
   pub read_only : Bool
   pub ask : Ask
   pub query : IsQuery from bytes tx read_only ask
-  pub replies : RepliesWith s from at tx ask (record { message = reply; peers = next.peers })
+  pub replies : RepliesWith s from at tx ask (record { message = reply; stores = stores_of next })
   pub told : IsTold (told_by s.policy read_only ask from) s.table next.table
-  pub rest : next ≡ with_parts s next.table next.peers
+  pub rest : next ≡ with_parts s next.table (stores_of next)
 
 -- the text is what the node sends for the reply, with its tag where it is sealed
 pub record Answers (tag_of : Tags) (s : NodeState) (from : Addr) (bytes : List ℕ) (at : ℕ) (text : List ℕ) (next : NodeState) : Type 0 where
@@ -79,12 +82,18 @@ abbrev pub IsTokenAccepted : NodeState → Addr → ℕ → Ask → Type 0
 IsTokenAccepted s from at (AnnouncePeer id key port token) = IsAccepted s.tokens (ip_bytes from.ip) at token
 IsTokenAccepted s from at other = ⊥
 
--- what it may leave of the peers: all; those that a purge leaves, where a peer was to be added; or those of the whole
--- answer, where only the table had no memory for the asker
-pub data LeavesPeers (s : NodeState) (from : Addr) (at : ℕ) (tx : List ℕ) (ask : Ask) (told : Option Contact) (peers : List Held) : Type 0 where
-  all : peers ≡ s.peers → LeavesPeers s from at tx ask told peers
-  purged_only : IsTokenAccepted s from at ask → peers ≡ purged s.peers at → LeavesPeers s from at tx ask told peers
-  whole : (reply : Message) → told ≢ None → RepliesWith s from at tx ask (record { message = reply; peers = peers }) → LeavesPeers s from at tx ask told peers
+-- a put that isn't refused
+abbrev pub IsPutTaken : NodeState → Addr → ℕ → Ask → Type 0
+IsPutTaken s from at (PutItem id token v mutable) = IsTaken s from at token v mutable
+IsPutTaken s from at other = ⊥
+
+-- what it may leave of what is kept: all; what a purge leaves of the peers, where a peer was to be added, or of the items, where
+-- an item was; or that of the whole answer, where only the table had no memory for the asker
+pub data LeavesStores (s : NodeState) (from : Addr) (at : ℕ) (tx : List ℕ) (ask : Ask) (told : Option Contact) (stores : Stores) : Type 0 where
+  all : stores ≡ stores_of s → LeavesStores s from at tx ask told stores
+  peers_purged : IsTokenAccepted s from at ask → stores ≡ with_peers s (purged s.peers at) → LeavesStores s from at tx ask told stores
+  items_purged : IsPutTaken s from at ask → stores ≡ with_items s (purged_items s.items at) → LeavesStores s from at tx ask told stores
+  whole : (reply : Message) → told ≢ None → RepliesWith s from at tx ask (record { message = reply; stores = stores }) → LeavesStores s from at tx ask told stores
 
 -- the datagram is a query whose answer found no memory: the table is as it was
 pub record EndsEarly (s : NodeState) (from : Addr) (bytes : List ℕ) (at : ℕ) (next : NodeState) : Type 0 where
@@ -92,8 +101,8 @@ pub record EndsEarly (s : NodeState) (from : Addr) (bytes : List ℕ) (at : ℕ)
   pub read_only : Bool
   pub ask : Ask
   pub query : IsQuery from bytes tx read_only ask
-  pub peers : LeavesPeers s from at tx ask (told_by s.policy read_only ask from) next.peers
-  pub rest : next ≡ with_parts s s.table next.peers
+  pub stores : LeavesStores s from at tx ask (told_by s.policy read_only ask from) (stores_of next)
+  pub rest : next ≡ with_parts s s.table (stores_of next)
 
 -- ---- by what was answered
 

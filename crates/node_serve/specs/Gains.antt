@@ -1,22 +1,32 @@
 -- What a query wants, and what its calls gave, as whoever makes the calls has them: the code between the calls of a datagram
 -- and its reply.
-use Rattle.std.specs.Prelude.{ℕ, ◌≤◌, cond, List, [], ◌∷◌, drop, length}
+use Rattle.std.specs.Prelude.{ℕ, ◌≤◌, Bool, true, false, cond, nat_le, List, [], ◌∷◌, drop, length, Option, Some, None, IfSome}
 use Rattle.kad_base.specs.declared.types.Addr.{Addr}
 use Rattle.kad_krpc.specs.declared.message.Ask.{Ask}
-use Rattle.kad_krpc.specs.declared.message.Ask.TheVariants.{Ping, FindNode, GetPeers, AnnouncePeer, Other}
+use Rattle.kad_krpc.specs.declared.message.Ask.TheVariants.{Ping, FindNode, GetPeers, AnnouncePeer, Get as GetItem, Put as PutItem, Other}
 use Rattle.kad_krpc.specs.declared.message.Message.{Message}
 use Rattle.kad_krpc.specs.Records.{ip_bytes}
 use Rattle.contact_table.specs.declared.calls.TableCall.TheVariants.{Closest}
 use Rattle.contact_table.specs.declared.calls.TableReply.TheVariants.{List as List_reply}
-use Rattle.node_serve.specs.Replies.{peer_for, named, server_error, bad_token, method_unknown}
+use Rattle.node_serve.specs.Replies.{peer_for, named, server_error, bad_token, no_mutable, too_big, method_unknown}
 use Rattle.peer_store.specs.declared.calls.PeerCall.TheVariants.{List as List_call, Put}
 use Rattle.peer_store.specs.declared.calls.PeerReply.TheVariants.{Listed, Stored as Stored_reply, Full as Full_reply}
+use Rattle.item_store.specs.Items.{IsItem, max_length}
+use Rattle.item_store.specs.declared.calls.ItemCall.TheVariants.{Get as Get_call, Put as Keep_call}
+use Rattle.item_store.specs.declared.calls.ItemReply.{ItemReply}
+use Rattle.item_store.specs.declared.calls.ItemReply.TheVariants.{Held as Held_reply, Absent, Stored as Kept_reply, Full as No_room}
 use Rattle.node_serve.specs.declared.setting.ServeSetting.{ServeSetting}
 use Rattle.node_serve.specs.declared.planning.Wants.{Wants}
-use Rattle.node_serve.specs.declared.planning.Wants.TheVariants.{Name, Nodes, Peers, Place, RefuseToken, RefuseMethod}
+use Rattle.node_serve.specs.declared.planning.Wants.TheVariants.{Name, Nodes, Peers, Place, Item, Keep, RefuseToken, RefuseMutable, RefuseBig, RefuseMethod}
 use Rattle.node_serve.specs.declared.composing.Gained.{Gained}
 use Rattle.node_serve.specs.declared.composing.Gained.TheVariants as gained
-use Rattle.node_serve.specs.Calls.{Call, of_table, of_peers, Reply, by_table, by_peers, is_accepted, found_from, peers_from, closest_in, peers_in, put_in}
+use Rattle.node_serve.specs.Calls.{Call, of_table, of_peers, of_items, Reply, by_table, by_peers, by_items, is_accepted, found_from, peers_from, item_from, closest_in, peers_in, item_in, put_in, kept_in}
+
+-- what a put wants, by whether its token is accepted and whether it is mutable
+abbrev pub put_wants : Bool → Bool → List ℕ → Wants
+put_wants false mutable v = RefuseToken
+put_wants true true v = RefuseMutable
+put_wants true false v = cond (nat_le (length v) max_length) (Keep v) RefuseBig
 
 -- what a query wants
 abbrev pub wants_of : ServeSetting → Addr → ℕ → Ask → Wants
@@ -25,7 +35,14 @@ wants_of s from at (FindNode id target want) = Nodes target
 wants_of s from at (GetPeers id key want) = Peers key
 wants_of s from at (AnnouncePeer id key port token) =
     cond (is_accepted s.tokens (ip_bytes from.ip) at token) (Place key (peer_for from port)) RefuseToken
+wants_of s from at (GetItem id key want) = Item key
+wants_of s from at (PutItem id token v mutable) = put_wants (is_accepted s.tokens (ip_bytes from.ip) at token) mutable v
 wants_of s from at (Other method) = RefuseMethod
+
+-- what is to be kept is an item
+abbrev pub KeepsItem : Wants → Type 0
+KeepsItem (Keep v) = IsItem v
+KeepsItem other = Unit {0}
 
 -- the calls for it, by a node whose replies name k contacts
 abbrev pub calls_wanted : ℕ → ℕ → Wants → List Call
@@ -33,7 +50,11 @@ calls_wanted k at Name = []
 calls_wanted k at (Nodes target) = of_table (Closest target k) ∷ []
 calls_wanted k at (Peers key) = of_peers (List_call key at) ∷ of_table (Closest key k) ∷ []
 calls_wanted k at (Place key peer) = of_peers (Put key peer at) ∷ []
+calls_wanted k at (Item key) = of_items (Get_call key at) ∷ of_table (Closest key k) ∷ []
+calls_wanted k at (Keep v) = of_items (Keep_call v at) ∷ []
 calls_wanted k at RefuseToken = []
+calls_wanted k at RefuseMutable = []
+calls_wanted k at RefuseBig = []
 calls_wanted k at RefuseMethod = []
 
 -- the reply to it, from the replies to these
@@ -42,8 +63,17 @@ reply_wanted s from at tx Name replies = named tx s.own
 reply_wanted s from at tx (Nodes target) replies = found_from tx s (closest_in replies)
 reply_wanted s from at tx (Peers key) replies = peers_from tx s from at (peers_in replies) (closest_in (drop 1 replies))
 reply_wanted s from at tx (Place key peer) replies = put_in tx s.own replies
+reply_wanted s from at tx (Item key) replies = item_from tx s from at (item_in replies) (closest_in (drop 1 replies))
+reply_wanted s from at tx (Keep v) replies = kept_in tx s.own replies
 reply_wanted s from at tx RefuseToken replies = bad_token tx
+reply_wanted s from at tx RefuseMutable replies = no_mutable tx
+reply_wanted s from at tx RefuseBig replies = too_big tx
 reply_wanted s from at tx RefuseMethod replies = method_unknown tx
+
+-- the reply that has an item, or none
+abbrev pub item_reply : Option (List ℕ) → ItemReply
+item_reply None = Absent
+item_reply (Some v) = Held_reply v
 
 -- what was gained, as replies
 abbrev pub replies_of : Gained → List Reply
@@ -52,7 +82,12 @@ replies_of (gained.Nodes nodes) = by_table (List_reply nodes) ∷ []
 replies_of (gained.Peers list nodes) = by_peers (Listed list) ∷ by_table (List_reply nodes) ∷ []
 replies_of (gained.Placed stored) = by_peers (Stored_reply stored) ∷ []
 replies_of gained.Full = by_peers Full_reply ∷ []
+replies_of (gained.Item v nodes) = by_items (item_reply v) ∷ by_table (List_reply nodes) ∷ []
+replies_of (gained.Kept stored) = by_items (Kept_reply stored) ∷ []
+replies_of gained.Crowded = by_items No_room ∷ []
 replies_of gained.RefuseToken = []
+replies_of gained.RefuseMutable = []
+replies_of gained.RefuseBig = []
 replies_of gained.RefuseMethod = []
 
 -- it is what the calls for this gain
@@ -62,7 +97,12 @@ IsFor (Nodes target) (gained.Nodes nodes) = Unit {0}
 IsFor (Peers key) (gained.Peers list nodes) = Unit {0}
 IsFor (Place key peer) (gained.Placed stored) = Unit {0}
 IsFor (Place key peer) gained.Full = Unit {0}
+IsFor (Item key) (gained.Item v nodes) = Unit {0}
+IsFor (Keep v) (gained.Kept stored) = Unit {0}
+IsFor (Keep v) gained.Crowded = Unit {0}
 IsFor RefuseToken gained.RefuseToken = Unit {0}
+IsFor RefuseMutable gained.RefuseMutable = Unit {0}
+IsFor RefuseBig gained.RefuseBig = Unit {0}
 IsFor RefuseMethod gained.RefuseMethod = Unit {0}
 IsFor other g = ⊥
 
@@ -70,6 +110,7 @@ IsFor other g = ⊥
 abbrev pub IsFew : Gained → Type 0
 IsFew (gained.Nodes nodes) = length nodes ≤ 20
 IsFew (gained.Peers list nodes) = (length list ≤ 50) × (length nodes ≤ 20)
+IsFew (gained.Item v nodes) = IfSome v IsItem × (length nodes ≤ 20)
 IsFew other = Unit {0}
 
 -- the reply to what was gained
@@ -79,10 +120,16 @@ reply_gained s from at tx (gained.Nodes nodes) = found_from tx s nodes
 reply_gained s from at tx (gained.Peers list nodes) = peers_from tx s from at list nodes
 reply_gained s from at tx (gained.Placed stored) = named tx s.own
 reply_gained s from at tx gained.Full = server_error tx
+reply_gained s from at tx (gained.Item v nodes) = item_from tx s from at v nodes
+reply_gained s from at tx (gained.Kept stored) = named tx s.own
+reply_gained s from at tx gained.Crowded = server_error tx
 reply_gained s from at tx gained.RefuseToken = bad_token tx
+reply_gained s from at tx gained.RefuseMutable = no_mutable tx
+reply_gained s from at tx gained.RefuseBig = too_big tx
 reply_gained s from at tx gained.RefuseMethod = method_unknown tx
 
--- there may be no memory for it: for all but the reply that says that a peer is held
+-- there may be no memory for it: for all but the reply that says that a peer or an item is held
 abbrev pub MayFail : Gained → Type 0
 MayFail (gained.Placed stored) = ⊥
+MayFail (gained.Kept stored) = ⊥
 MayFail other = Unit {0}

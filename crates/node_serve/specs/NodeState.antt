@@ -9,15 +9,22 @@ use Rattle.kad_base.specs.Puzzles.{Passes}
 use Rattle.contact_table.specs.TableState.{TableState}
 use Rattle.peer_store.specs.Peers.{Held}
 use Rattle.peer_store.specs.Tokens.{TokensState}
+use Rattle.item_store.specs.Items.{Held as HeldItem}
 
--- its identifier, how many contacts a reply names, under which policy it answers, its routing table, the peers that were
--- announced to it, the proofs that it keeps, its tokens, and whether it tags what it says
+-- what a node keeps for others: the peers that were announced to it, and the items that were put to it
+pub record Stores : Type 0 where
+  pub peers : List Held
+  pub items : List HeldItem
+
+-- its identifier, how many contacts a reply names, under which policy it answers, its routing table, the peers and the items
+-- that it keeps for others, the proofs that it keeps, its tokens, and whether it tags what it says
 pub record NodeState : Type 0 where
   pub own : Id
   pub k : ℕ
   pub policy : Policy
   pub table : TableState
   pub peers : List Held
+  pub items : List HeldItem
   pub proofs : List Report
   pub tokens : TokensState
   pub sealed : Bool
@@ -29,7 +36,12 @@ pub record IsNode (s : NodeState) : Type 0 where
   pub few_nodes : s.k ≤ max_k
   pub proofs : All (Passes s.policy) s.proofs
 
--- a node that begins at the moment: nobody has announced a peer to it, and its tokens are drawn from the random bytes
+-- what it keeps for others
+abbrev pub stores_of : NodeState → Stores
+stores_of s = record { peers = s.peers; items = s.items }
+
+-- a node that begins at the moment: nobody has announced a peer or put an item to it, and its tokens are drawn from the random
+-- bytes
 abbrev pub new_node : Id → ℕ → Policy → TableState → List Report → List ℕ → ℕ → Bool → NodeState
 new_node own k policy table proofs random began sealed = record {
   own = own;
@@ -37,19 +49,21 @@ new_node own k policy table proofs random began sealed = record {
   policy = policy;
   table = table;
   peers = [];
+  items = [];
   proofs = proofs;
   tokens = record { seed = random; began = began };
   sealed = sealed;
 }
 
--- the node with another table and other peers
-abbrev pub with_parts : NodeState → TableState → List Held → NodeState
-with_parts s table peers = record {
+-- the node with another table, and keeping this for others
+abbrev pub with_parts : NodeState → TableState → Stores → NodeState
+with_parts s table stores = record {
   own = s.own;
   k = s.k;
   policy = s.policy;
   table = table;
-  peers = peers;
+  peers = stores.peers;
+  items = stores.items;
   proofs = s.proofs;
   tokens = s.tokens;
   sealed = s.sealed;

@@ -1,7 +1,7 @@
--- What a node replies to a query, and the peers that it holds then, by the first rule that fits (BEP 5). The nodes that it
--- names are Kademlia's (2002, section 2.3). `snodes`, the limit of peers and the text of a refusal are this project's own, and
--- so is that a node serves in the network of IPv4 alone: it answers `nodes` whatever `want` says (BEP 32), and never `nodes6`.
-use Rattle.std.specs.Prelude.{◌≡◌, ℕ, Bool, true, false, List, [], ◌∷◌, filter, find, flat_map, codes, pos, Option, Some, None, option_to_list}
+-- What a node replies to a query, and what it keeps for others then, by the first rule that fits (BEP 5, BEP 44). The nodes that
+-- it names are Kademlia's (2002, section 2.3). `snodes`, the limits of peers and items, that no mutable item is kept, and the text
+-- of a refusal are this project's own, and so is that a node serves in the network of IPv4 alone: it answers `nodes` whatever `want` says (BEP 32), and never `nodes6`.
+use Rattle.std.specs.Prelude.{◌≡◌, ℕ, ◌<◌, ◌≤◌, length, Bool, true, false, List, [], ◌∷◌, filter, find, flat_map, codes, pos, Option, Some, None, option_to_list}
 use Rattle.kad_base.specs.declared.types.Id.{Id}
 use Rattle.kad_base.specs.declared.types.Ip.{Ip}
 use Rattle.kad_base.specs.declared.types.Ip.TheVariants.{V4, V6}
@@ -13,16 +13,18 @@ use Rattle.kad_base.specs.declared.types.Policy.TheVariants.{Plain, Puzzled}
 use Rattle.kad_base.specs.Contacts.{same}
 use Rattle.kad_distance.specs.KClosest.{k_closest}
 use Rattle.kad_krpc.specs.declared.message.Ask.{Ask}
-use Rattle.kad_krpc.specs.declared.message.Ask.TheVariants.{Ping, FindNode, GetPeers, AnnouncePeer, Other}
+use Rattle.kad_krpc.specs.declared.message.Ask.TheVariants.{Ping, FindNode, GetPeers, AnnouncePeer, Get as GetItem, Put as PutItem, Other}
 use Rattle.kad_krpc.specs.declared.message.Port.{Port}
 use Rattle.kad_krpc.specs.declared.message.Port.TheVariants.{Given, Implied}
+use Rattle.kad_krpc.specs.declared.message.Answer.{Answer}
 use Rattle.kad_krpc.specs.declared.message.Message.{Message}
 use Rattle.kad_krpc.specs.declared.message.Message.TheVariants as message
 use Rattle.kad_krpc.specs.Records.{ip_bytes}
 use Rattle.contact_table.specs.TableStep.{contacts_of}
 use Rattle.peer_store.specs.Peers.{Held, HasNoPlace, with_add, purged, listed}
 use Rattle.peer_store.specs.Tokens.{IsAccepted, epoch_at, token_of}
-use Rattle.node_serve.specs.NodeState.{NodeState}
+use Rattle.item_store.specs.Items.{Held as HeldItem, max_length, key_of, handed_out, with_item, HasNoPlace as HasNoRoom, purged as purged_items}
+use Rattle.node_serve.specs.NodeState.{NodeState, Stores, stores_of}
 
 -- ---- the parts of a reply
 
@@ -69,7 +71,7 @@ values_for s key at = where_some (listed s.peers key at)
 
 -- the node's identifier alone
 abbrev pub named : List ℕ → Id → Message
-named tx own = message.Answer tx (record { id = own; nodes = None; snodes = None; nodes6 = None; snodes6 = None; token = None; values = None })
+named tx own = message.Answer tx (record { id = own; nodes = None; snodes = None; nodes6 = None; snodes6 = None; token = None; v = None; values = None })
 
 abbrev pub found : List ℕ → NodeState → Id → Message
 found tx s target = message.Answer tx (record {
@@ -79,26 +81,44 @@ found tx s target = message.Answer tx (record {
   nodes6 = None;
   snodes6 = None;
   token = None;
+  v = None;
   values = None;
 })
 
-abbrev pub peers_found : List ℕ → NodeState → Addr → ℕ → Id → Message
-peers_found tx s from at key = message.Answer tx (record {
+-- with a token for whoever asks, and a value or peers
+abbrev pub tokened : NodeState → Addr → ℕ → Id → Option (List ℕ) → Option (List Addr) → Answer
+tokened s from at key v values = record {
   id = s.own;
   nodes = Some (nodes_for s key);
   snodes = snodes_for s key;
   nodes6 = None;
   snodes6 = None;
   token = Some (token_for s from at);
-  values = values_for s key at;
-})
+  v = v;
+  values = values;
+}
 
--- the error messages of BEP 5: a server error, a protocol error and a method that isn't known
+-- with the peers of the key
+abbrev pub peers_found : List ℕ → NodeState → Addr → ℕ → Id → Message
+peers_found tx s from at key = message.Answer tx (tokened s from at key None (values_for s key at))
+
+-- with the item of the key, where one is handed out
+abbrev pub item_found : List ℕ → NodeState → Addr → ℕ → Id → Message
+item_found tx s from at key = message.Answer tx (tokened s from at key (handed_out s.items key at) None)
+
+-- the error messages of BEP 5: a server error, protocol errors and a method that isn't known; and the one of BEP 44 for a
+-- value that is too big
 abbrev pub server_error : List ℕ → Message
 server_error tx = message.Fault tx (pos 202) (codes "Server Error")
 
 abbrev pub bad_token : List ℕ → Message
 bad_token tx = message.Fault tx (pos 203) (codes "Bad Token")
+
+abbrev pub no_mutable : List ℕ → Message
+no_mutable tx = message.Fault tx (pos 203) (codes "Mutable Items Unsupported")
+
+abbrev pub too_big : List ℕ → Message
+too_big tx = message.Fault tx (pos 205) (codes "Value Too Big")
 
 abbrev pub method_unknown : List ℕ → Message
 method_unknown tx = message.Fault tx (pos 204) (codes "Method Unknown")
@@ -113,24 +133,58 @@ port_for from Implied = from.port
 abbrev pub peer_for : Addr → Port → Addr
 peer_for from port = record { ip = from.ip; port = port_for from port }
 
--- a reply, and the peers that the node holds when it is given
+-- a reply, and what the node keeps for others when it is given
 pub record Outcome : Type 0 where
   pub message : Message
-  pub peers : List Held
+  pub stores : Stores
+
+-- a reply that leaves what is kept
+abbrev pub leaving : NodeState → Message → Outcome
+leaving s message = record { message = message; stores = stores_of s }
+
+-- other peers, and the same items
+abbrev pub with_peers : NodeState → List Held → Stores
+with_peers s peers = record { peers = peers; items = s.items }
+
+-- other items, and the same peers
+abbrev pub with_items : NodeState → List HeldItem → Stores
+with_items s items = record { peers = s.peers; items = items }
 
 -- An announced peer is held where its token is accepted and, after what is old was purged, it has a place. Where it has
 -- none the purge stands.
 pub data Announces (s : NodeState) (from : Addr) (at : ℕ) (tx : List ℕ) (key : Id) (peer : Addr) (token : List ℕ) (o : Outcome) : Type 0 where
   refused : ¬ IsAccepted s.tokens (ip_bytes from.ip) at token
-      → o ≡ record { message = bad_token tx; peers = s.peers } → Announces s from at tx key peer token o
+      → o ≡ leaving s (bad_token tx) → Announces s from at tx key peer token o
   full : IsAccepted s.tokens (ip_bytes from.ip) at token → HasNoPlace (purged s.peers at) (key, peer)
-      → o ≡ record { message = server_error tx; peers = purged s.peers at } → Announces s from at tx key peer token o
+      → o ≡ record { message = server_error tx; stores = with_peers s (purged s.peers at) } → Announces s from at tx key peer token o
   added : IsAccepted s.tokens (ip_bytes from.ip) at token → ¬ HasNoPlace (purged s.peers at) (key, peer)
-      → o ≡ record { message = named tx s.own; peers = with_add (purged s.peers at) (key, peer) at } → Announces s from at tx key peer token o
+      → o ≡ record { message = named tx s.own; stores = with_peers s (with_add (purged s.peers at) (key, peer) at) } → Announces s from at tx key peer token o
+
+-- what is put isn't refused: its token is accepted, it is immutable, and its written form isn't too long
+pub record IsTaken (s : NodeState) (from : Addr) (at : ℕ) (token v : List ℕ) (mutable : Bool) : Type 0 where
+  pub own_token : IsAccepted s.tokens (ip_bytes from.ip) at token
+  pub immutable : mutable ≡ false
+  pub short : length v ≤ max_length
+
+-- An item that is put and isn't refused is held where, after what is old was purged, it has a place. Where it has none the
+-- purge stands.
+pub data Puts (s : NodeState) (from : Addr) (at : ℕ) (tx token v : List ℕ) (mutable : Bool) (o : Outcome) : Type 0 where
+  strange : ¬ IsAccepted s.tokens (ip_bytes from.ip) at token
+      → o ≡ leaving s (bad_token tx) → Puts s from at tx token v mutable o
+  changing : IsAccepted s.tokens (ip_bytes from.ip) at token → mutable ≡ true
+      → o ≡ leaving s (no_mutable tx) → Puts s from at tx token v mutable o
+  long : IsAccepted s.tokens (ip_bytes from.ip) at token → mutable ≡ false → max_length < length v
+      → o ≡ leaving s (too_big tx) → Puts s from at tx token v mutable o
+  crowded : IsTaken s from at token v mutable → HasNoRoom (purged_items s.items at) (key_of v)
+      → o ≡ record { message = server_error tx; stores = with_items s (purged_items s.items at) } → Puts s from at tx token v mutable o
+  kept : IsTaken s from at token v mutable → ¬ HasNoRoom (purged_items s.items at) (key_of v)
+      → o ≡ record { message = named tx s.own; stores = with_items s (with_item (purged_items s.items at) v at) } → Puts s from at tx token v mutable o
 
 abbrev pub RepliesWith : NodeState → Addr → ℕ → List ℕ → Ask → Outcome → Type 0
-RepliesWith s from at tx (Ping id) o = o ≡ record { message = named tx s.own; peers = s.peers }
-RepliesWith s from at tx (FindNode id target want) o = o ≡ record { message = found tx s target; peers = s.peers }
-RepliesWith s from at tx (GetPeers id key want) o = o ≡ record { message = peers_found tx s from at key; peers = s.peers }
+RepliesWith s from at tx (Ping id) o = o ≡ leaving s (named tx s.own)
+RepliesWith s from at tx (FindNode id target want) o = o ≡ leaving s (found tx s target)
+RepliesWith s from at tx (GetPeers id key want) o = o ≡ leaving s (peers_found tx s from at key)
 RepliesWith s from at tx (AnnouncePeer id key port token) o = Announces s from at tx key (peer_for from port) token o
-RepliesWith s from at tx (Other method) o = o ≡ record { message = method_unknown tx; peers = s.peers }
+RepliesWith s from at tx (GetItem id key want) o = o ≡ leaving s (item_found tx s from at key)
+RepliesWith s from at tx (PutItem id token v mutable) o = Puts s from at tx token v mutable o
+RepliesWith s from at tx (Other method) o = o ≡ leaving s (method_unknown tx)

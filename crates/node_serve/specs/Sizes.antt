@@ -1,5 +1,5 @@
 -- How long a reply is at most.
-use Rattle.std.specs.Prelude.{◌≡◌, ℕ, ◌*◌, ◌≤◌, List, length, flat_map, Option, Some, None}
+use Rattle.std.specs.Prelude.{◌≡◌, ℕ, ◌+◌, ◌*◌, ◌≤◌, List, length, flat_map, Option, Some, None}
 use Rattle.kad_bencode.specs.Spelling.{integer_text}
 use Rattle.kad_base.specs.declared.types.Addr.{Addr}
 use Rattle.kad_base.specs.declared.types.Contact.{Contact}
@@ -7,6 +7,7 @@ use Rattle.kad_base.specs.declared.types.Report.{Report}
 use Rattle.kad_krpc.specs.declared.message.Answer.{Answer}
 use Rattle.kad_krpc.specs.declared.message.Message.{Message}
 use Rattle.kad_krpc.specs.declared.message.Message.TheVariants as message
+use Rattle.kad_krpc.specs.Form.{BearsForm}
 use Rattle.kad_krpc.specs.Records.{addr_bytes, nodes_bytes, snodes_bytes}
 
 -- how long a reply is at most, so that in 4,096 bytes there is room for the pair of a tag, which has at most 78
@@ -18,20 +19,21 @@ abbrev pub count : {A : Type 0} → Option (List A) → ℕ
 count None = 0
 count (Some items) = length items
 
--- an answer with few parts, and none of IPv6
+-- an answer with few parts, and none of IPv6; a value takes the room of peers
 pub record HasFew (a : Answer) : Type 0 where
   pub nodes : count a.nodes ≤ 20
   pub snodes : count a.snodes ≤ 20
   pub nodes6 : a.nodes6 ≡ None
   pub snodes6 : a.snodes6 ≡ None
   pub token : count a.token ≤ 8
-  pub values : count a.values ≤ 50
+  pub v : BearsForm a
+  pub values : count a.v + 20 * count a.values ≤ 1000
 
 -- a reply with few parts
 abbrev pub IsSmall : Message → Type 0
 IsSmall (message.Query tx read_only ask) = ⊥
 IsSmall (message.Answer tx answer) = (length tx ≤ 32) × HasFew answer
-IsSmall (message.Fault tx code text) = (length tx ≤ 32) × ((length (integer_text code) ≤ 7) × (length text ≤ 14))
+IsSmall (message.Fault tx code text) = (length tx ≤ 32) × ((length (integer_text code) ≤ 7) × (length text ≤ 25))
 
 -- the records of the parts take no more bytes than their numbers allow
 abbrev pub nodes_size : Option (List Contact) → ℕ

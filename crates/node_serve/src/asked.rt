@@ -64,7 +64,7 @@ pub fn read_query<'a>(from: Addr, bytes: &'a [u8]) -> Option<Asked<'a>>
     }
 }
 
-/// Who asks, by one of the four methods of BEP 5.
+/// Who asks, by one of the four methods of BEP 5. Whoever gets or puts items is not told.
 fn asker(ask: &AskView) -> Option<Id>
     ensures { result ≡ asker_of (ask_seen ask.now) }
 {
@@ -73,6 +73,8 @@ fn asker(ask: &AskView) -> Option<Id>
         AskView::FindNode { id, .. } => Some(*id),
         AskView::GetPeers { id, .. } => Some(*id),
         AskView::AnnouncePeer { id, .. } => Some(*id),
+        AskView::Get { .. } => None,
+        AskView::Put { .. } => None,
         AskView::Other { .. } => None,
     }
 }

@@ -1,12 +1,14 @@
 //! The reply to a query, from what its calls gave.
 ghost use Rattle.std.specs.Prelude.{◌≡◌, IfOk, OnErr};
 ghost use Rattle.kad_krpc.specs.Records.{ip_bytes};
-ghost use Rattle.node_serve.specs.Calls.{found_from, peers_from};
+ghost use Rattle.node_serve.specs.Calls.{found_from, item_from, peers_from, tokened_from};
 ghost use Rattle.node_serve.specs.Gains.{MayFail, reply_gained};
 
 use crate::asked::Asked;
 use crate::nodes::{snodes_under, with_ipv4};
-use crate::reply::{name, refuse_full, refuse_method, refuse_token, some_peers};
+use crate::reply::{
+    name, refuse_big, refuse_full, refuse_method, refuse_mutable, refuse_token, some_peers,
+};
 use crate::setting::ServeSetting;
 use kad_base::{Addrs, Bytes, Contacts, List, NoMemory};
 use kad_krpc::{Answer, Message};
@@ -26,8 +28,18 @@ pub enum Gained {
     Placed { stored: Stored },
     /// The peer has no place.
     Full,
+    /// The item of the key, where one is handed out, and the closest contacts.
+    Item { v: Option<Bytes>, nodes: Contacts },
+    /// The item is held.
+    Kept { stored: Stored },
+    /// The item has no place.
+    Crowded,
     /// The token isn't one of its source.
     RefuseToken,
+    /// The item is mutable.
+    RefuseMutable,
+    /// The item's written form is too long.
+    RefuseBig,
     /// The method isn't known.
     RefuseMethod,
 }
@@ -51,9 +63,40 @@ fn found(
         nodes6: None,
         snodes6: None,
         token: None,
+        v: None,
         values: None,
     };
     Ok(Message::Answer { tx, answer })
+}
+
+/// An answer that names nodes, with a token for whoever asks, and a value or peers.
+fn tokened(
+    alloc: Global,
+    setting: &ServeSetting,
+    asked: &Asked,
+    at: u64,
+    closest: Contacts,
+    v: Option<Bytes>,
+    values: Option<Addrs>,
+) -> Result<Answer, NoMemory>
+    requires { ip_bytes asked.now.from.ip ≡ asked.now.ip }
+    ensures { IfOk result (λ a. a ≡
+        tokened_from setting.now asked.now.from at closest v values) }
+{
+    let nodes = with_ipv4(closest);
+    let proofs = setting.proofs.as_slice();
+    let snodes = snodes_under(alloc, setting.policy, proofs, nodes.as_slice())?;
+    let token = List::from_slice(alloc, &setting.tokens.make(asked.ip, at))?;
+    Ok(Answer {
+        id: setting.own,
+        nodes: Some(nodes),
+        snodes,
+        nodes6: None,
+        snodes6: None,
+        token: Some(token),
+        v,
+        values,
+    })
 }
 
 /// The reply to a `get_peers`.
@@ -69,19 +112,24 @@ fn peers_found(
     requires { ip_bytes asked.now.from.ip ≡ asked.now.ip }
     ensures { IfOk result (λ m. m ≡ peers_from tx setting.now asked.now.from at list closest) }
 {
-    let nodes = with_ipv4(closest);
-    let proofs = setting.proofs.as_slice();
-    let snodes = snodes_under(alloc, setting.policy, proofs, nodes.as_slice())?;
-    let token = List::from_slice(alloc, &setting.tokens.make(asked.ip, at))?;
-    let answer = Answer {
-        id: setting.own,
-        nodes: Some(nodes),
-        snodes,
-        nodes6: None,
-        snodes6: None,
-        token: Some(token),
-        values: some_peers(list),
-    };
+    let answer = tokened(alloc, setting, asked, at, closest, None, some_peers(list))?;
+    Ok(Message::Answer { tx, answer })
+}
+
+/// The reply to a `get`.
+fn item_found(
+    alloc: Global,
+    setting: &ServeSetting,
+    asked: &Asked,
+    at: u64,
+    tx: Bytes,
+    v: Option<Bytes>,
+    closest: Contacts,
+) -> Result<Message, NoMemory>
+    requires { ip_bytes asked.now.from.ip ≡ asked.now.ip }
+    ensures { IfOk result (λ m. m ≡ item_from tx setting.now asked.now.from at v closest) }
+{
+    let answer = tokened(alloc, setting, asked, at, closest, v, None)?;
     Ok(Message::Answer { tx, answer })
 }
 
@@ -105,7 +153,12 @@ pub fn compose(
         Gained::Peers { list, nodes } => peers_found(alloc, setting, asked, at, tx, list, nodes),
         Gained::Placed { .. } => Ok(name(tx, setting.own)),
         Gained::Full => refuse_full(alloc, tx),
+        Gained::Item { v, nodes } => item_found(alloc, setting, asked, at, tx, v, nodes),
+        Gained::Kept { .. } => Ok(name(tx, setting.own)),
+        Gained::Crowded => refuse_full(alloc, tx),
         Gained::RefuseToken => refuse_token(alloc, tx),
+        Gained::RefuseMutable => refuse_mutable(alloc, tx),
+        Gained::RefuseBig => refuse_big(alloc, tx),
         Gained::RefuseMethod => refuse_method(alloc, tx),
     }
 }

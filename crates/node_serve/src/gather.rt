@@ -1,5 +1,5 @@
-//! The calls of a query, made on a table and peers of one's own.
-ghost use Rattle.std.specs.Prelude.{◌≡◌, ◌≤◌, ◌≢◌, length, None, IfOk, OnOk, OnErr};
+//! The calls of a query, made on a table, peers and items of one's own.
+ghost use Rattle.std.specs.Prelude.{◌≡◌, ◌≤◌, ◌≢◌, length, None, IfOk, IfSome, OnOk, OnErr};
 ghost use Rattle.contact_table.specs.TableStep.{TableStep};
 ghost use Rattle.contact_table.specs.declared.calls.TableCall.{TableCall};
 ghost use Rattle.contact_table.specs.declared.calls.TableReply.{TableReply};
@@ -7,13 +7,17 @@ ghost use Rattle.peer_store.specs.PeersStep.{PeersStep};
 ghost use Rattle.peer_store.specs.declared.calls.PeerCall.{PeerCall};
 ghost use Rattle.peer_store.specs.declared.calls.PeerReply.{PeerReply};
 ghost use Rattle.node_serve.specs.AnswerOf.{IsSeen, IsTold};
-ghost use Rattle.node_serve.specs.Gains.{IsFew};
-ghost use Rattle.node_serve.specs.Gathered.{Gathers, LeavesBy, LeavesPut};
+ghost use Rattle.item_store.specs.Items.{IsItem, purged};
+ghost use Rattle.item_store.specs.ItemSteps.{ItemStep};
+ghost use Rattle.item_store.specs.declared.calls.ItemCall.{ItemCall};
+ghost use Rattle.node_serve.specs.Gains.{IsFew, KeepsItem, item_reply};
+ghost use Rattle.node_serve.specs.Gathered.{Gathers, Keeps, LeavesBy, LeavesPut};
 
 use crate::composing::Gained;
 use crate::planning::Wants;
 use contact_table::{Table, TableCall, TableReply};
-use kad_base::{Addrs, Contact, Contacts, Id, NoMemory, Serial};
+use item_store::{ItemCall, ItemReply, Items};
+use kad_base::{Addrs, Bytes, Contact, Contacts, Id, NoMemory, Serial};
 use peer_store::{PeerCall, PeerReply, Peers};
 
 /// The role under which a node calls what it holds.
@@ -45,20 +49,56 @@ fn list(peers: &mut Peers, key: Id, at: u64) -> Result<Addrs, NoMemory>
     }
 }
 
+/// The item of the key, where one is handed out.
+fn get(items: &mut Items, key: Id, at: u64) -> Result<Option<Bytes>, NoMemory>
+    ensures item { IfOk result (λ v. IfSome v IsItem) }
+    ensures ok { IfOk result (λ v. ItemStep items.old 0 (ItemCall.Get key at) (item_reply v)) }
+    ensures same { items.new ≡ items.old }
+{
+    match items.apply(SERVER, ItemCall::Get { key, at }) {
+        ItemReply::Held { v } => Ok(Some(v)),
+        ItemReply::Absent => Ok(None),
+        _ => Err(NoMemory),
+    }
+}
+
+/// Puts the item, once what is old was dropped.
+fn keep(items: &mut Items, v: Bytes, at: u64) -> Result<Gained, NoMemory>
+    requires { IsItem v }
+    ensures ok { IfOk result (λ g. Keeps at v g items.old items.new) }
+    ensures err { OnErr result (items.new ≡ purged items.old at) }
+{
+    match items.apply(SERVER, ItemCall::Put { v, at }) {
+        ItemReply::Stored { stored } => Ok(Gained::Kept { stored }),
+        ItemReply::Full => Ok(Gained::Crowded),
+        ItemReply::NoMemory => Err(NoMemory),
+        ItemReply::Held { .. } => Err(NoMemory),
+        ItemReply::Absent => Err(NoMemory),
+    }
+}
+
 /// Makes the calls for what is wanted.
 pub(crate) fn gather(
     table: &mut Table,
     peers: &mut Peers,
+    items: &mut Items,
     k: u8,
     at: u64,
     wants: Wants,
 ) -> Result<Gained, NoMemory>
-    requires { k ≤ 20 }
+    requires few { k ≤ 20 }
+    requires item { KeepsItem wants }
     ensures table { table.new ≡ table.old }
     ensures few { IfOk result IsFew }
-    ensures ok { IfOk result (λ g. Gathers k at wants g table.old peers.old peers.new) }
-    ensures left { IfOk result (λ g. LeavesBy at g peers.old peers.new) }
-    ensures err { OnErr result (LeavesPut at wants peers.old peers.new) }
+    ensures ok { IfOk result (λ g. Gathers k at wants g table.old
+        (record { peers = peers.old; items = items.old })
+        (record { peers = peers.new; items = items.new })) }
+    ensures left { IfOk result (λ g. LeavesBy at g
+        (record { peers = peers.old; items = items.old })
+        (record { peers = peers.new; items = items.new })) }
+    ensures err { OnErr result (LeavesPut at wants
+        (record { peers = peers.old; items = items.old })
+        (record { peers = peers.new; items = items.new })) }
 {
     match wants {
         Wants::Nodes { target } => match closest(table, target, k) {
@@ -77,8 +117,18 @@ pub(crate) fn gather(
             PeerReply::Full => Ok(Gained::Full),
             _ => Err(NoMemory),
         },
+        Wants::Item { key } => match get(items, key, at) {
+            Ok(v) => match closest(table, key, k) {
+                Ok(nodes) => Ok(Gained::Item { v, nodes }),
+                Err(NoMemory) => Err(NoMemory),
+            },
+            Err(NoMemory) => Err(NoMemory),
+        },
+        Wants::Keep { v } => keep(items, v, at),
         Wants::Name => Ok(Gained::Name),
         Wants::RefuseToken => Ok(Gained::RefuseToken),
+        Wants::RefuseMutable => Ok(Gained::RefuseMutable),
+        Wants::RefuseBig => Ok(Gained::RefuseBig),
         Wants::RefuseMethod => Ok(Gained::RefuseMethod),
     }
 }

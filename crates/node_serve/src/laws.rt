@@ -3,6 +3,7 @@ ghost use Rattle.std.specs.Prelude.{◌≡◌, ℕ, List};
 ghost use Rattle.kad_base.specs.declared.types.Addr.{Addr};
 ghost use Rattle.kad_krpc.specs.declared.message.Message.{Message};
 ghost use Rattle.contact_table.specs.TableState.{SoundTable};
+ghost use Rattle.item_store.specs.Items.{IsItems};
 ghost use Rattle.node_serve.specs.AnswerBy.{AnswerBy};
 ghost use Rattle.node_serve.specs.AnswerOf.{AnswerOf};
 ghost use Rattle.node_serve.specs.NodeState.{NodeState};
@@ -19,11 +20,11 @@ pub fn one_answer()
 {}
 
 /// What the rules make of a datagram, from what the node holds, is what its calls make of it: those that it asks for, applied
-/// in order, and the reply that is computed from their replies alone.
+/// in order, and the reply that is computed from their replies alone; the items are sound, as those of every store are.
 pub fn same_answer()
     ensures by_calls { (s : NodeState) (from : Addr) (bytes : List ℕ) (at : ℕ) (m : Message)
         (x : NodeState)
-        → AnswerOf s from bytes at m x → AnswerBy s from bytes at m x }
+        → AnswerOf s from bytes at m x → IsItems s.items → AnswerBy s from bytes at m x }
     ensures by_rules { (s : NodeState) (from : Addr) (bytes : List ℕ) (at : ℕ) (m : Message)
         (x : NodeState)
         → AnswerBy s from bytes at m x → AnswerOf s from bytes at m x }

@@ -4,6 +4,8 @@ ghost use Rattle.std.specs.List.{All};
 ghost use Rattle.kad_base.specs.Limits.{max_k, max_answered_tx};
 ghost use Rattle.kad_base.specs.Puzzles.{Passes};
 ghost use Rattle.kad_krpc.specs.Records.{ip_bytes};
+ghost use Rattle.kad_krpc.specs.Views.{ask_seen};
+ghost use Rattle.node_serve.specs.Asked.{IsSaid};
 ghost use Rattle.node_serve.specs.NodeState.{new_node};
 ghost use Rattle.node_serve.specs.AnswerOf.{Answers, EndsEarly, IfReply};
 ghost use Rattle.node_serve.specs.Queries.{IsSilent};
@@ -18,6 +20,7 @@ use crate::sealing::seal_reply;
 use crate::setting::ServeSetting;
 use crate::size_bound::write;
 use contact_table::Table;
+use item_store::Items;
 use kad_base::{Addr, Id, List, NoMemory, Policy, Reports};
 use peer_store::{Peers, Tokens};
 use seal_tags::Seal;
@@ -32,19 +35,20 @@ pub enum Answered {
     /// The datagram is owed no reply, and left the node as it was: it has more than 4,096 bytes, comes from port 0 or from
     /// an IPv6 address, is no message, or is one but no query with a transaction id of at most 32 bytes.
     Silent,
-    /// There was no memory to answer a query. The table is as it was. Old peers may have been dropped, and where the table
-    /// alone had none the announced peer may be held.
+    /// There was no memory to answer a query. The table is as it was. Old peers or old items may have been dropped, and where
+    /// the table alone had none the announced peer may be held.
     NoMemory,
 }
 
-/// A node that answers queries (BEP 5). It holds its routing table, at most 65,536 peers, and the proofs that it was
-/// given; of its tokens it keeps none.
+/// A node that answers queries (BEP 5, BEP 44). It holds its routing table, at most 65,536 peers and 4,096 items, and the
+/// proofs that it was given; of its tokens it keeps none.
 #[derive(Drop)]
 pub struct Node {
     alloc: Global,
     setting: ServeSetting,
     table: Table,
     peers: Peers,
+    items: Items,
 }
 
 impl Model for Node {
@@ -52,9 +56,9 @@ impl Model for Node {
 
     ghost Value = { NodeState };
 
-    ghost view = { λ n. record { own = n.setting.own; k = n.setting.k; policy = n.setting.policy; table = n.table; peers = n.peers; proofs = n.setting.proofs; tokens = n.setting.tokens; sealed = n.setting.sealed } };
+    ghost view = { λ n. record { own = n.setting.own; k = n.setting.k; policy = n.setting.policy; table = n.table; peers = n.peers; items = n.items; proofs = n.setting.proofs; tokens = n.setting.tokens; sealed = n.setting.sealed } };
 
-    ghost invariant = { λ n. IsNode (record { own = n.setting.own; k = n.setting.k; policy = n.setting.policy; table = n.table; peers = n.peers; proofs = n.setting.proofs; tokens = n.setting.tokens; sealed = n.setting.sealed }) };
+    ghost invariant = { λ n. IsNode (record { own = n.setting.own; k = n.setting.k; policy = n.setting.policy; table = n.table; peers = n.peers; items = n.items; proofs = n.setting.proofs; tokens = n.setting.tokens; sealed = n.setting.sealed }) };
 }
 
 impl Node {
@@ -91,6 +95,7 @@ impl Node {
             setting,
             table,
             peers: Peers::new(alloc),
+            items: Items::new(alloc),
         }
     }
 
@@ -111,18 +116,29 @@ impl Node {
     ) -> Result<usize, NoMemory>
         requires ip { ip_bytes asked.now.from.ip ≡ asked.now.ip }
         requires short { length asked.now.tx.now ≤ max_answered_tx }
+        requires said { IsSaid (ask_seen asked.now.ask) }
         ensures ok { IfOk result (λ n. AnswersAsked (G.tag_of seal.now) self.old asked.now at
             (take n out.new) self.new) }
         ensures room { IfOk result (λ n. n ≤ 4096) }
         ensures err { OnErr result (EndsAsked self.old asked.now at self.new) }
     {
         let told = told_for(self.setting.policy, asked);
-        let wants = plan(&self.setting, asked, at);
         let tx = match List::from_slice(self.alloc, asked.tx) {
             Ok(tx) => tx,
             Err(NoMemory) => return Err(NoMemory),
         };
-        let gained = match gather(&mut self.table, &mut self.peers, self.setting.k, at, wants) {
+        let wants = match plan(self.alloc, &self.setting, asked, at) {
+            Ok(wants) => wants,
+            Err(NoMemory) => return Err(NoMemory),
+        };
+        let gained = match gather(
+            &mut self.table,
+            &mut self.peers,
+            &mut self.items,
+            self.setting.k,
+            at,
+            wants,
+        ) {
             Ok(gained) => gained,
             Err(NoMemory) => return Err(NoMemory),
         };
@@ -140,10 +156,11 @@ impl Node {
     }
 
     /// Answers a datagram that came from this address at this moment, in milliseconds. The reply is written in front of
-    /// `out`, and made from what the node held before: the nodes that a query asks for, peers with a token for its source,
-    /// or a refusal. An announced peer is held where its token is that of its source, and then, under `Plain`, the table is
-    /// told who asked, unless the query is read-only (BEP 43). A sealed node puts the seal's tag into each reply, an error
-    /// message too. Reading, writing and tagging take no memory; the parts of the reply do.
+    /// `out`, and made from what the node held before: the nodes that a query asks for, peers or an item with a token for its
+    /// source, or a refusal. An announced peer is held where its token is that of its source, and so is an immutable item of
+    /// at most 1,000 bytes (BEP 44), for two hours. After a query of BEP 5, under `Plain`, the table is told who asked, unless
+    /// the query is read-only (BEP 43). A sealed node puts the seal's tag into each reply, an error message too. Reading,
+    /// writing and tagging take no memory; the parts of the reply do, and an item that is put.
     pub fn answer<G: Seal>(
         &mut self,
         from: Addr,

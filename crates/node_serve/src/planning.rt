@@ -1,20 +1,26 @@
 //! What a query wants, before anything is asked for it.
-ghost use Rattle.std.specs.Prelude.{◌≡◌, cond};
+ghost use Rattle.std.specs.Prelude.{◌≡◌, true, false, cond, IfOk};
+ghost use Rattle.kad_bencode.specs.Spelling.{text_of};
+ghost use Rattle.kad_krpc.specs.Form.{IsCarried};
 ghost use Rattle.kad_krpc.specs.Records.{ip_bytes};
 ghost use Rattle.kad_krpc.specs.Views.{ask_seen};
 ghost use Rattle.node_serve.specs.Replies.{peer_for};
 ghost use Rattle.node_serve.specs.Calls.{is_accepted};
-ghost use Rattle.node_serve.specs.Gains.{wants_of};
+ghost use Rattle.node_serve.specs.Asked.{IsSaid};
+ghost use Rattle.node_serve.specs.Gains.{KeepsItem, put_wants, wants_of};
 ghost use Rattle.node_serve.specs.declared.planning.Wants.{Wants};
 
 use crate::asked::Asked;
 use crate::setting::ServeSetting;
-use kad_base::{Addr, Id};
+use item_store::MAX_ITEM;
+use kad_base::{Addr, Bytes, Id, NoMemory};
+use kad_bencode::Piece;
 use kad_krpc::{AskView, Port};
 use peer_store::Tokens;
+use std::alloc::Global;
 
-/// What a query wants of the table and the peers.
-#[derive(Clone, Copy, Debug, PartialEq, Eq)]
+/// What a query wants of the table, the peers and the items.
+#[derive(Debug, Drop, PartialEq, Eq)]
 pub enum Wants {
     /// The node's identifier alone.
     Name,
@@ -24,8 +30,16 @@ pub enum Wants {
     Peers { key: Id },
     /// That the peer is held under the key.
     Place { key: Id, peer: Addr },
+    /// The item of the key, and the nodes that are closest to it.
+    Item { key: Id },
+    /// That the item with this written form is held.
+    Keep { v: Bytes },
     /// Nothing: its token isn't one of its source.
     RefuseToken,
+    /// Nothing: its item is mutable.
+    RefuseMutable,
+    /// Nothing: its item's written form has more than 1,000 bytes.
+    RefuseBig,
     /// Nothing: its method isn't known.
     RefuseMethod,
 }
@@ -67,21 +81,77 @@ fn plan_announced(
     Wants::Place { key, peer }
 }
 
-/// What a query that came at this moment, in milliseconds, wants. It makes no call.
-pub fn plan(setting: &ServeSetting, asked: &Asked, at: u64) -> Wants
-    requires { ip_bytes asked.now.from.ip ≡ asked.now.ip }
-    ensures { result ≡ wants_of setting.now asked.now.from at (ask_seen asked.now.ask) }
+/// What an item of this written form wants, if it is immutable and its token is accepted.
+fn plan_item(v: Bytes) -> Wants
+    requires { IsCarried v }
+    ensures wants { result ≡ put_wants true false v }
+    ensures item { KeepsItem result }
+{
+    if v.len() > MAX_ITEM {
+        return Wants::RefuseBig;
+    }
+    Wants::Keep { v }
+}
+
+/// What a put wants.
+fn plan_put(
+    alloc: Global,
+    tokens: &Tokens,
+    asked: &Asked,
+    at: u64,
+    token: &[u8],
+    v: &Piece,
+    mutable: bool,
+) -> Result<Wants, NoMemory>
+    requires ip { ip_bytes asked.now.from.ip ≡ asked.now.ip }
+    requires form { mutable ≡ false → IsCarried (text_of v.now) }
+    ensures wants { IfOk result (λ w. w ≡ put_wants
+        (is_accepted tokens.now (ip_bytes asked.now.from.ip) at token.now) mutable
+        (text_of v.now)) }
+    ensures item { IfOk result KeepsItem }
+{
+    let accepted = is_token_of(tokens, asked.ip, at, token);
+    if !accepted {
+        return Ok(Wants::RefuseToken);
+    }
+    if mutable {
+        return Ok(Wants::RefuseMutable);
+    }
+    let form = v.written(alloc)?;
+    Ok(plan_item(form))
+}
+
+/// What a query that came at this moment, in milliseconds, wants. It makes no call. Only an item that is put, and isn't
+/// refused by its token or as mutable, takes memory: its written form is made.
+pub fn plan(
+    alloc: Global,
+    setting: &ServeSetting,
+    asked: &Asked,
+    at: u64,
+) -> Result<Wants, NoMemory>
+    requires ip { ip_bytes asked.now.from.ip ≡ asked.now.ip }
+    requires said { IsSaid (ask_seen asked.now.ask) }
+    ensures wants { IfOk result (λ w. w ≡
+        wants_of setting.now asked.now.from at (ask_seen asked.now.ask)) }
+    ensures item { IfOk result KeepsItem }
 {
     match &asked.ask {
-        AskView::Ping { .. } => Wants::Name,
-        AskView::FindNode { target, .. } => Wants::Nodes { target: *target },
-        AskView::GetPeers { info_hash, .. } => Wants::Peers { key: *info_hash },
+        AskView::Ping { .. } => Ok(Wants::Name),
+        AskView::FindNode { target, .. } => Ok(Wants::Nodes { target: *target }),
+        AskView::GetPeers { info_hash, .. } => Ok(Wants::Peers { key: *info_hash }),
         AskView::AnnouncePeer {
             info_hash,
             port,
             token,
             ..
-        } => plan_announced(&setting.tokens, asked, at, *info_hash, *port, token),
-        AskView::Other { .. } => Wants::RefuseMethod,
+        } => Ok(plan_announced(&setting.tokens, asked, at, *info_hash, *port, token)),
+        AskView::Get { target, .. } => Ok(Wants::Item { key: *target }),
+        AskView::Put {
+            token,
+            v,
+            mutable,
+            ..
+        } => plan_put(alloc, &setting.tokens, asked, at, token, v, *mutable),
+        AskView::Other { .. } => Ok(Wants::RefuseMethod),
     }
 }

@@ -1,6 +1,6 @@
 //! The tag of a reply.
 ghost use Rattle.std.specs.Prelude.{◌≡◌, ◌≤◌, take};
-ghost use Rattle.kad_krpc.specs.Form.{form};
+ghost use Rattle.kad_krpc.specs.Form.{HasForms, form};
 ghost use Rattle.node_serve.specs.Sealing.{sealed_form, sent_form};
 ghost use Rattle.node_serve.specs.Sizes.{max_reply};
 
@@ -20,6 +20,7 @@ fn put_tag<G: Seal>(
 ) -> usize
     requires room { length ≤ max_reply }
     requires written { take length out.old ≡ form reply.now }
+    requires forms { HasForms reply.now }
     ensures room { result ≤ 4096 }
     ensures form { take result out.new ≡ sealed_form (G.tag_of seal.now) own.now reply.now }
 {
@@ -44,6 +45,7 @@ pub fn seal_reply<G: Seal>(
 ) -> usize
     requires room { length ≤ max_reply }
     requires written { take length out.old ≡ form reply.now }
+    requires forms { HasForms reply.now }
     ensures room { result ≤ 4096 }
     ensures form { take result out.new ≡
         sent_form (G.tag_of seal.now) setting.now.sealed setting.now.own reply.now }

@@ -1,6 +1,6 @@
 //! That a reply has a place in 4,096 bytes, its tag too, and its text.
 ghost use Rattle.std.specs.Prelude.{◌≡◌, ◌*◌, ◌≤◌, length, take};
-ghost use Rattle.kad_krpc.specs.Form.{form};
+ghost use Rattle.kad_krpc.specs.Form.{HasForms, form};
 ghost use Rattle.kad_krpc.specs.Records.{ip_bytes, addr_bytes, node_bytes, nodes_bytes, proof_bytes, proved_bytes, snodes_bytes};
 ghost use Rattle.node_serve.specs.Sizes.{IsCompact, IsSmall, count, max_reply, nodes_size, peers_bytes, snodes_size, values_size};
 
@@ -139,6 +139,7 @@ pub fn write(message: &Message, out: &mut [u8; 4096]) -> usize
     requires { IsSmall message.now }
     ensures room { result ≤ max_reply }
     ensures form { take result out.new ≡ form message.now }
+    ensures forms { HasForms message.now }
 {
     size_bound(message);
     match encode_into(message, out) {

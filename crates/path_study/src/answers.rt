@@ -57,6 +57,7 @@ pub fn write_answer(
         nodes6: None,
         snodes6: None,
         token: None,
+        v: None,
         values: None,
     };
     let Ok(tx) = List::from_slice(alloc, tx) else {

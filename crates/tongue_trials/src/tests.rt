@@ -1,4 +1,5 @@
 mod bencode;
+mod items;
 mod messages;
 mod seals;
 mod tagging;

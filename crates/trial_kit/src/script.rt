@@ -105,6 +105,7 @@ pub fn answer(
         nodes6: None,
         snodes6: None,
         token: None,
+        v: None,
         values: None,
     };
     to_query(alloc, to, at, from, answer)
@@ -131,6 +132,7 @@ pub fn answer6(
         nodes6,
         snodes6,
         token: None,
+        v: None,
         values: None,
     };
     to_query(alloc, to, at, from, answer)

@@ -37,6 +37,7 @@ fn peers_event(
                 nodes6: None,
                 snodes6: None,
                 token: Some(bytes),
+                v: None,
                 values: Some(values),
             },
         },

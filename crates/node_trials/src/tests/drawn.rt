@@ -161,6 +161,7 @@ fn answering(
                 nodes6: None,
                 snodes6: None,
                 token,
+                v: None,
                 values: None,
             },
         },

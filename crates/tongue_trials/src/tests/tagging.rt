@@ -34,6 +34,7 @@ fn reply(alloc: Global) -> Result<Message, Fail>
         nodes6: None,
         snodes6: None,
         token: None,
+        v: None,
         values: None,
     };
     Ok(Message::Answer { tx, answer })
@@ -52,6 +53,7 @@ fn fault(alloc: Global) -> Result<Message, Fail>
 }
 
 /// That the written form of a message has this text with a tag, in memory of its own and where it stands.
+#[tactic(auto, using(kad_krpc::proofs::Writable::writable_forms))]
 fn is_tagged(
     rt: &impl Abort,
     alloc: Global,

@@ -314,6 +314,7 @@ fn a_whole_answer_is_read_and_written(rt: HostRuntime) -> Result<(), Fail> {
             nodes6: Some(nodes6(alloc)?),
             snodes6: Some(snodes6(alloc)?),
             token: Some(bytes(alloc, b"aoeusnth")?),
+            v: None,
             values: Some(two_peers(alloc)?),
         },
     };

@@ -5,7 +5,14 @@ use Rattle.kad_krpc.specs.Reading.{Says}
 use Rattle.kad_krpc.proofs.Put.{measured, all_put, whole_vec}
 use Rattle.kad_krpc.proofs.Spelled.{spelled}
 use Rattle.kad_krpc.proofs.ReadBack.{said_back}
+use Rattle.kad_krpc.proofs.Writable.{writable_forms}
 use Rattle.kad_krpc.proofs.writer.encode.Goals as goal
+
+pub put_message-length-requires : goal.put_message-length-requires
+put_message-length-requires c = writable_forms c.args.message.now c.requires
+
+pub put_message-end-requires : goal.put_message-end-requires
+put_message-end-requires c = writable_forms c.args.message.now c.requires
 
 pub returns-clause-form : goal.returns-clause-form
 returns-clause-form c =
@@ -21,6 +28,6 @@ returns-clause-says c =
     subst (λ bytes. Says bytes c.args.message.now) (sym (returns-clause-form c))
     (record {
       value = Dict (message_pairs c.args.message.now);
-      spelled = spelled c.args.message.now c.message_is_well_typed.ensures;
+      spelled = spelled c.args.message.now c.message_is_well_typed.ensures (writable_forms c.args.message.now c.requires);
       says = said_back c.args.message.now c.message_is_well_typed.ensures c.requires;
     })

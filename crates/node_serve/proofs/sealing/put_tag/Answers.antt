@@ -10,7 +10,7 @@ pub unreachable-requires : goal.unreachable-requires
 unreachable-requires g c =
     let reply = c.args.reply.now in
     let pairs = message_pairs reply in
-    let untagged : IsUntagged (take c.args.length c.args.out.now) pairs = subst (λ b. IsUntagged b pairs) (sym c.requires.written) (c.form_is_untagged.ensures reply c.message_is_well_typed.ensures) in
+    let untagged : IsUntagged (take c.args.length c.args.out.now) pairs = subst (λ b. IsUntagged b pairs) (sym c.requires.written) (c.form_is_untagged.ensures reply c.message_is_well_typed.ensures c.requires.forms) in
     let none : IsNone c.tag_into.result = search rules in
     let long = (c.tag_into.ensures.none pairs untagged).0 none in
     no_room reply c.args.out.now _ c.args.length c.requires.written c.requires.room long (omega (arith, length-take {A = ℕ}, c.tag-size.ensures.bound))

@@ -1,7 +1,7 @@
 use Rattle.std.proofs.Common.{◌≡◌, ◌∙◌, ℕ, subst, rules, arith}
 use Rattle.kad_base.specs.Outside.{Grows}
 use Rattle.node_serve.specs.Responded.{ReceivesAll, server_at}
-use Rattle.node_serve.proofs.Receiving.{received_more, all_made}
+use Rattle.node_serve.proofs.Receiving.{received_more, all_made, all_stop}
 use Rattle.node_serve.proofs.service.serve_loop.Goals as goal
 
 pub loop-i-preserved : goal.loop-i-preserved
@@ -20,3 +20,7 @@ returns-clause-ok g c =
     let whole : c.loop-i.i ≡ c.args.receives = search rules in
     all_made (g.G.Seal.tag_of c.args.seal.now) c.args.node c.args.began c.args.receives c.loop-i.server _ _
     (subst (λ (n : ℕ). Grows (g.L.Link.told c.args.link.now) (g.L.Link.told c.loop-i.link) (ReceivesAll (g.G.Seal.tag_of c.args.seal.now) n (server_at c.args.node c.args.began) c.loop-i.server)) whole c.loop-i.invariant.all)
+
+pub returns-in-Err-clause-begun : goal.returns-in-Err-clause-begun
+returns-in-Err-clause-begun g c =
+    all_stop (g.G.Seal.tag_of c.args.seal.now) c.in-Err.fault c.loop-i.i c.args.receives (server_at c.args.node c.args.began) c.loop-i.server _ _ _ (search rules) c.loop-i.invariant.all c.in-Err.ensures.stops
