@@ -219,13 +219,27 @@ fn is_lonely(node: &mut Node) -> bool {
 #[test]
 fn the_table_is_not_told_who_gets_and_puts(rt: HostRuntime) -> Result<(), Fail> {
     let mut node = node(rt.alloc(), 8, Policy::Plain)?;
-    assert!(&rt; !is_silent(&mut node, contact(1).addr, getting(&HELLO, false).as_slice()));
+    assert!(&rt;
+        !is_silent(
+            &mut node,
+            contact(1).addr,
+            getting(&HELLO, false).as_slice()
+        )
+    );
     let unmarked = joined(&[
         b"d1:ad2:id20:abcdefghij01234567895:token8:",
         &TOKEN,
         b"1:v5:helloe1:q3:put1:t2:aa1:y1:qe",
     ]);
-    assert!(&rt; replies(&mut node, local(7000), unmarked.as_slice(), 0, pong().as_slice()));
+    assert!(&rt;
+        replies(
+            &mut node,
+            local(7000),
+            unmarked.as_slice(),
+            0,
+            pong().as_slice()
+        )
+    );
     assert!(&rt; is_lonely(&mut node));
     Ok(())
 }

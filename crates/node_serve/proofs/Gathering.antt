@@ -13,8 +13,8 @@ use Rattle.contact_table.specs.TableStep.{TableStep, contacts_of}
 use Rattle.contact_table.specs.declared.calls.TableCall.TheVariants.{Closest}
 use Rattle.contact_table.specs.declared.calls.TableReply.TheVariants.{List as List_reply}
 use Rattle.peer_store.specs.Peers.{Held, listed, peers_of, fresh_of}
-use Rattle.item_store.specs.Items.{Held as HeldItem, IsItem}
-use Rattle.item_store.specs.ItemSteps.{ItemStep, item_after}
+use Rattle.item_store.specs.Items.{Held as HeldItem}
+use Rattle.item_store.specs.ItemSteps.{ItemStep}
 use Rattle.item_store.specs.declared.calls.ItemCall.TheVariants.{Get as Get_call, Put as Keep_call}
 use Rattle.item_store.specs.declared.calls.ItemReply.TheVariants.{Stored as Kept_reply, Full as No_room}
 use Rattle.peer_store.specs.PeersStep.{PeersStep, peers_after}
@@ -28,7 +28,7 @@ use Rattle.node_serve.specs.declared.planning.Wants.{Wants}
 use Rattle.node_serve.specs.declared.planning.Wants.TheVariants.{Nodes, Peers, Place, Item, Keep}
 use Rattle.node_serve.specs.Calls.{Did, on_table, on_peers, on_items, HadMemory, HasItemRoom}
 use Rattle.node_serve.specs.Gains.{IsFor, IsFew, calls_wanted, replies_of, item_reply}
-use Rattle.node_serve.specs.Gathered.{Gathers, Keeps, LeavesBy, old_items_gone}
+use Rattle.node_serve.specs.Gathered.{Gathers, Keeps, LeavesBy}
 use Rattle.node_serve.specs.NodeState.{Stores}
 
 pub closest_short : (t : TableState) (target : Id) (n : ℕ) (list : List Contact) → list ≡ k_closest target n (contacts_of t) → length list ≤ n

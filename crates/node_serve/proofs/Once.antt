@@ -14,7 +14,7 @@ use Rattle.contact_table.specs.TableState.{TableState, SoundTable}
 use Rattle.contact_table.specs.Told.{HasMemory}
 use Rattle.node_serve.specs.AnswerOf.{AnswerOf, IsTold, told_by}
 use Rattle.node_serve.specs.NodeState.{NodeState, Stores, stores_of, with_parts}
-use Rattle.node_serve.specs.Replies.{Announces, Puts, IsTaken, Outcome, RepliesWith, refused, full, added, strange, changing, long, crowded, kept}
+use Rattle.node_serve.specs.Replies.{Announces, Puts, Outcome, RepliesWith, refused, full, added, strange, changing, long, crowded, kept}
 use Rattle.kad_krpc.proofs.ReadBack.{one_said}
 use Rattle.contact_table.proofs.Outcome.{one-state}
 

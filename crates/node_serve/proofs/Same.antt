@@ -1,5 +1,5 @@
 -- Both ways to say what a node answers are one.
-use Rattle.std.proofs.Common.{◌≡◌, ◌↔◌, ℕ, List, [], ◌∷◌, ◌++◌, map, length, ◌<◌, ◌≤◌, Bool, true, false, cond, nat_le, refl, sym, ap, subst, ◌∙◌, All}
+use Rattle.std.proofs.Common.{◌≡◌, ◌↔◌, ℕ, List, [], ◌∷◌, ◌++◌, map, length, Bool, true, false, cond, nat_le, refl, sym, ap, subst, ◌∙◌, All}
 use Rattle.std.specs.Prelude.{Option, Some, None}
 use Rattle.std.specs.List.{list_any}
 use Rattle.std.specs.Map.{keys_of}
@@ -26,14 +26,14 @@ use Rattle.peer_store.specs.declared.peers.Stored.{Stored}
 use Rattle.peer_store.specs.declared.peers.Stored.TheVariants.{New, Renewed}
 use Rattle.peer_store.specs.Peers.{Held, Pair, pair_cmp, purged, with_add, listed}
 use Rattle.node_serve.specs.AnswerOf.{AnswerOf, IsTold, told_by}
-use Rattle.item_store.specs.Items.{Held as HeldItem, IsItems, Holds, HasNoPlace as HasNoRoom, max_items, max_length, key_cmp, key_of, handed_out, purged as purged_items, with_item}
-use Rattle.item_store.specs.ItemSteps.{ItemStep, HasPlace, StoredStep, item_after}
+use Rattle.item_store.specs.Items.{Held as HeldItem, IsItems, Holds, HasNoPlace as HasNoRoom, max_length, key_cmp, key_of, handed_out, purged as purged_items, with_item}
+use Rattle.item_store.specs.ItemSteps.{ItemStep, StoredStep, item_after}
 use Rattle.item_store.specs.declared.calls.ItemCall.TheVariants.{Get as Get_call, Put as Keep_call}
 use Rattle.item_store.specs.declared.calls.ItemReply.{ItemReply}
 use Rattle.item_store.specs.declared.calls.ItemReply.TheVariants.{Held as Held_reply, Absent, Stored as Kept_reply, Full as Crowded, NoMemory as No_item_memory}
 use Rattle.item_store.proofs.Looking.{handed_item}
 use Rattle.node_serve.specs.NodeState.{NodeState, Stores, stores_of}
-use Rattle.node_serve.specs.Replies.{Announces, Puts, IsTaken, Outcome, RepliesWith, refused, full, added, strange, changing, long, crowded, kept, named, bad_token, no_mutable, too_big, server_error, peer_for, with_peers, with_items}
+use Rattle.node_serve.specs.Replies.{Announces, Puts, IsTaken, Outcome, RepliesWith, refused, full, added, strange, changing, long, crowded, kept, named, bad_token, too_big, server_error, peer_for, with_peers, with_items}
 use Rattle.peer_store.specs.declared.calls.PeerCall.TheVariants.{List as List_call, Put}
 use Rattle.peer_store.specs.declared.calls.PeerReply.{PeerReply}
 use Rattle.peer_store.specs.declared.calls.PeerReply.TheVariants.{Listed, Stored as Stored_reply, Full, NoMemory}

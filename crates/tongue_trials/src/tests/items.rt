@@ -27,16 +27,17 @@ fn answering(alloc: Global, v: &[u8]) -> Result<Vec<u8>, Fail> {
 /// That a datagram puts an item of this written form.
 fn puts_form(rt: &impl Abort, alloc: Global, text: &[u8], form: &[u8], is_mutable: bool) {
     match decode(alloc, text) {
-        Ok(Message::Query {
-            ask:
-                Ask::Put {
+        Ok(
+            Message::Query {
+                ask: Ask::Put {
                     id,
                     token,
                     v,
                     mutable,
                 },
-            ..
-        }) => {
+                ..
+            },
+        ) => {
             assert!(rt; id == ABC);
             assert_eq!(rt; token.as_slice(), b"aoeusnth".as_slice());
             assert_eq!(rt; v.as_slice(), form);
@@ -151,7 +152,13 @@ fn a_value_may_be_of_any_kind(rt: HostRuntime) -> Result<(), Fail> {
 fn keys_out_of_order_are_put_in_order(rt: HostRuntime) -> Result<(), Fail> {
     let alloc = rt.alloc();
     let text = putting(alloc, b"d1:bi1e1:ad1:zle1:xi0eee")?;
-    puts_form(&rt, alloc, text.as_slice(), b"d1:ad1:xi0e1:zlee1:bi1ee", false);
+    puts_form(
+        &rt,
+        alloc,
+        text.as_slice(),
+        b"d1:ad1:xi0e1:zlee1:bi1ee",
+        false,
+    );
     let text = answering(alloc, b"ld1:b0:1:a0:ee")?;
     answers_form(&rt, alloc, text.as_slice(), b"ld1:a0:1:b0:ee");
     Ok(())
@@ -180,9 +187,19 @@ fn a_value_nests_fourteen_deep_and_no_deeper(rt: HostRuntime) -> Result<(), Fail
     let deeper = nested(alloc, 15)?;
     // The fifteenth list stands behind 52 bytes of the put, or 35 of the answer, and 14 more.
     let text = putting(alloc, deeper.as_slice())?;
-    refuses(&rt, alloc, text.as_slice(), KrpcFault::Bad(Bad::Deep { at: 66 }));
+    refuses(
+        &rt,
+        alloc,
+        text.as_slice(),
+        KrpcFault::Bad(Bad::Deep { at: 66 }),
+    );
     let text = answering(alloc, deeper.as_slice())?;
-    refuses(&rt, alloc, text.as_slice(), KrpcFault::Bad(Bad::Deep { at: 49 }));
+    refuses(
+        &rt,
+        alloc,
+        text.as_slice(),
+        KrpcFault::Bad(Bad::Deep { at: 49 }),
+    );
     Ok(())
 }
 
@@ -191,11 +208,26 @@ fn a_value_is_bencode(rt: HostRuntime) -> Result<(), Fail> {
     let alloc = rt.alloc();
     // A leading zero, a number that is too big, and a key that stands twice.
     let text = putting(alloc, b"i01e")?;
-    refuses(&rt, alloc, text.as_slice(), KrpcFault::Bad(Bad::NotBencode { at: 54 }));
+    refuses(
+        &rt,
+        alloc,
+        text.as_slice(),
+        KrpcFault::Bad(Bad::NotBencode { at: 54 }),
+    );
     let text = putting(alloc, b"i9223372036854775808e")?;
-    refuses(&rt, alloc, text.as_slice(), KrpcFault::Bad(Bad::NumberTooBig { at: 52 }));
+    refuses(
+        &rt,
+        alloc,
+        text.as_slice(),
+        KrpcFault::Bad(Bad::NumberTooBig { at: 52 }),
+    );
     let text = putting(alloc, b"d1:a0:1:a0:e")?;
-    refuses(&rt, alloc, text.as_slice(), KrpcFault::Bad(Bad::KeyTwice { at: 58 }));
+    refuses(
+        &rt,
+        alloc,
+        text.as_slice(),
+        KrpcFault::Bad(Bad::KeyTwice { at: 58 }),
+    );
     Ok(())
 }
 

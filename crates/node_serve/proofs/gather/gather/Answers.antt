@@ -9,8 +9,7 @@ use Rattle.peer_store.specs.PeersStep.{peers_after}
 use Rattle.peer_store.specs.Peers.{Held}
 use Rattle.item_store.specs.Items.{Held as HeldItem}
 use Rattle.node_serve.specs.NodeState.{Stores}
-use Rattle.node_serve.specs.Gathered.{Gathers, Keeps, LeavesBy}
-use Rattle.node_serve.specs.Gains.{IsFew}
+use Rattle.node_serve.specs.Gathered.{Gathers, LeavesBy}
 use Rattle.node_serve.proofs.Gathering.{nodes, peers, item, placed, no_place, keeps, keeps_left, keeps_few}
 use Rattle.node_serve.proofs.gather.gather.Goals as goal
 use Rattle.node_serve.proofs.gather.gather.Goals.{in-Stored, in-Full, in_default}
