@@ -1,8 +1,10 @@
 //! Tables as texts, and what a refresh makes of them. The node's own identifier is twenty bytes ff. The words are those of the
 //! generator of 32 zero bytes from place 5 on, the keystream of ChaCha20 under a key of zeros: a08ded1a, a836efcc, 8b770dc7,
 //! da41597c.
+ghost use Rattle.std.specs.Prelude.{IfOk};
+ghost use Rattle.table_file.specs.SavedText.{FailedOnce};
 
-use contact_table::Table;
+use contact_table::{Saved, Table};
 use fake_net::ScriptLink;
 use id_puzzles::Words;
 use kad_base::{Addr, Bytes, Event, Link, List, NoMemory};
@@ -52,10 +54,17 @@ fn table_of(alloc: Global, text: &[u8]) -> Result<Table, Fail> {
     Ok(Table::of_rows(alloc, &saved)?)
 }
 
+/// All that the table holds, which can be written.
+fn saved_of(table: &Table) -> Result<Saved, NoMemory>
+    ensures { IfOk result (λ saved. FailedOnce saved.rows) }
+{
+    table.sound();
+    table.rows()
+}
+
 /// The text of a table.
 fn text_of(alloc: Global, table: &Table) -> Result<Bytes, NoMemory> {
-    table.sound();
-    let saved = table.rows()?;
+    let saved = saved_of(table)?;
     write(alloc, &saved)
 }
 

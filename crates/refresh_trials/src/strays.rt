@@ -1,6 +1,5 @@
 //! Datagrams that reply to no ping.
-ghost use Rattle.std.specs.Prelude.{None, Some, ℕ, [], take, length};
-ghost use Rattle.kad_base.specs.Outside.{Rose};
+ghost use Rattle.std.specs.Prelude.{None};
 
 use crate::play::{ANSWER_1, ANSWER_2, NOBODY, ONE, PING_1, Told, leaves, play, tells};
 use kad_base::{Addr, Came, Failed, Link};

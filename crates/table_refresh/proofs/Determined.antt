@@ -1,5 +1,5 @@
 -- The events of a refresh determine what they show.
-use Rattle.std.proofs.Common.{◌≡◌, ◌⊎◌, ℕ, ◌+◌, ◌<◌, ◌≤◌, List, [], ◌∷◌, Option, Some, None, Bool, false, inl, inr, refl, sym, ap, subst, ◌∙◌, arith}
+use Rattle.std.proofs.Common.{◌≡◌, ℕ, ◌+◌, List, [], ◌∷◌, Option, Some, false, inl, inr, sym, ap, subst, ◌∙◌, arith}
 use Rattle.kad_base.specs.declared.types.Addr.{Addr}
 use Rattle.kad_base.specs.declared.types.Contact.{Contact}
 use Rattle.kad_base.specs.declared.types.Event.{Event}
@@ -18,7 +18,7 @@ use Rattle.contact_table.specs.TableStep.{table_after}
 use Rattle.contact_table.proofs.Outcome.{one-reply}
 use Rattle.contact_table.proofs.StaysSound.{step-sound}
 use Rattle.lookup_core.specs.Timeouts.{deadline_of}
-use Rattle.table_refresh.specs.Refreshed.{Given, Standing, is_kept, over, Answers, IsSeen, HasFailed, Succeeds, Fails, Pings, SentGives, UnsentGives, NoReply, ReplyGives, MatchGives, StrayGives, GotGives, Receives, Gives, TellsFrom, begun, Tells, Refreshed}
+use Rattle.table_refresh.specs.Refreshed.{Given, Standing, is_kept, over, IsSeen, HasFailed, Succeeds, Fails, SentGives, UnsentGives, NoReply, ReplyGives, GotGives, Gives, TellsFrom, begun, Tells, Refreshed}
 
 -- ---- the step of a try
 

@@ -7,7 +7,7 @@ use Rattle.kad_bencode.specs.declared.value.Value.TheVariants.{Text, Dict}
 use Rattle.kad_bencode.proofs.Folds.{text_of-int, text_of-text, text_of-dict}
 use Rattle.kad_krpc.specs.declared.message.Ask.TheVariants.{Ping}
 use Rattle.kad_krpc.specs.declared.message.Message.TheVariants as message
-use Rattle.kad_krpc.specs.Form.{pair, arguments_of, message_pairs, form}
+use Rattle.kad_krpc.specs.Form.{pair, message_pairs, form}
 use Rattle.kad_krpc.proofs.Queries.{text_long}
 
 one_joined : (k v e : List ℕ) → ((k ++ v) ++ []) ++ e ≡ k ++ (v ++ e)

@@ -1,5 +1,5 @@
 -- What one receive gives.
-use Rattle.std.proofs.Common.{◌≡◌, ◌⊎◌, ℕ, ◌+◌, ◌<◌, ◌≤◌, List, [], ◌∷◌, Option, Some, None, Result, Ok, Err, Bool, true, false, not, ◌&&◌, inl, inr, refl, sym, subst, ◌∙◌}
+use Rattle.std.proofs.Common.{◌≡◌, ℕ, ◌+◌, List, [], ◌∷◌, Option, None, Result, Ok, Err, Bool, false, not, ◌&&◌, inl, inr, refl, sym, subst}
 use Rattle.std.specs.Prelude.{IfOk, IfErr}
 use Rattle.kad_base.specs.declared.types.Addr.{Addr}
 use Rattle.kad_base.specs.declared.types.Contact.{Contact}
@@ -7,7 +7,6 @@ use Rattle.kad_base.specs.declared.types.Event.{Event}
 use Rattle.kad_base.specs.declared.types.Event.TheVariants.{Got, Quiet}
 use Rattle.kad_base.specs.Outside.{Grows}
 use Rattle.query_book.specs.declared.Query.{Query}
-use Rattle.contact_table.specs.TableState.{TableState}
 use Rattle.lookup_core.specs.Sealed.{Accepts}
 use Rattle.table_refresh.specs.declared.pong.Pong.{Pong}
 use Rattle.table_refresh.specs.declared.pong.Pong.TheVariants.{Stray, Answer, Refusal}
@@ -16,9 +15,8 @@ use Rattle.table_refresh.specs.declared.types.RefreshFault.{RefreshFault}
 use Rattle.table_refresh.specs.declared.types.RefreshFault.TheVariants.{LinkFault, Strays, NoMemory}
 use Rattle.table_refresh.specs.declared.types.Setting.{Setting}
 use Rattle.table_refresh.specs.declared.types.Tried.{Tried}
-use Rattle.table_refresh.specs.declared.types.Tried.TheVariants.{Waits, Over}
-use Rattle.table_refresh.specs.Refreshed.{Given, Standing, left_after, over, is_kept, HasFailed, IsSeen, Succeeds, Fails, NoReply, GotGives, Gives, Stops, Happens}
-use Rattle.table_refresh.specs.inner.Steps.{given_of, FailsKept, stands, waiting, tried, after, IsPong, FailsAt, GoesOn, TakesNone, TakesStray, TakesAnswer, TakesPong, TakesDatagram, StopsGot, Takes}
+use Rattle.table_refresh.specs.Refreshed.{Given, left_after, over, is_kept, Fails, NoReply, GotGives, Gives, Stops, Happens}
+use Rattle.table_refresh.specs.inner.Steps.{given_of, waiting, tried, after, IsPong, FailsAt, TakesNone, TakesPong, TakesDatagram, StopsGot, Takes}
 use Rattle.table_refresh.proofs.Happening.{happens_these}
 use Rattle.table_refresh.proofs.Walking.{tells_one}
 

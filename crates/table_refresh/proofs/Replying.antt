@@ -1,8 +1,7 @@
 -- What a datagram is to a ping, by what it says.
 use Rattle.std.proofs.Common.{◌≡◌, ℕ, List, Option, Some, None, Result, Ok, Err, Bool, true, false, true≢false, sym, subst, ◌∙◌}
-use Rattle.std.specs.Prelude.{IsTrue, ◌↔◌, MatchOption}
+use Rattle.std.specs.Prelude.{IsTrue, MatchOption}
 use Rattle.kad_base.specs.declared.types.Addr.{Addr}
-use Rattle.kad_base.specs.declared.types.Id.{Id}
 use Rattle.kad_base.specs.Words.{word_bytes}
 use Rattle.kad_krpc.specs.declared.message.Message.{Message}
 use Rattle.kad_krpc.specs.declared.message.KrpcFault.{KrpcFault}
@@ -10,7 +9,7 @@ use Rattle.kad_krpc.specs.Reading.{Says}
 use Rattle.query_book.specs.declared.Query.{Query}
 use Rattle.lookup_core.specs.Sealed.{Accepts, IsSealed}
 use Rattle.table_refresh.specs.declared.pong.Reply.{Reply}
-use Rattle.table_refresh.specs.Refreshed.{IsReply, speaker, IsMatched, IsStray}
+use Rattle.table_refresh.specs.Refreshed.{IsReply, speaker, IsStray}
 use Rattle.table_refresh.specs.inner.Steps.{SaysNoReply, SaysReply, IsRead, IsReadAs}
 
 same_ok : (x y : Message) → ◌≡◌ {A = Result Message KrpcFault} (Ok x) (Ok y) → y ≡ x

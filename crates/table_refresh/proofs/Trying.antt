@@ -1,5 +1,5 @@
 -- The receives of a try, and the tries of a head.
-use Rattle.std.proofs.Common.{◌≡◌, ℕ, ◌+◌, ◌<◌, List, [], ◌∷◌, ◌++◌, Option, Some, None, Result, Ok, Err, Bool, true, false, not, ◌&&◌, refl, sym, ap, subst, ◌∙◌}
+use Rattle.std.proofs.Common.{◌≡◌, ℕ, ◌+◌, ◌<◌, List, [], ◌∷◌, ◌++◌, Option, Some, None, Result, Ok, Err, Bool, true, false, not, ◌&&◌, refl, sym, ap, subst}
 use Rattle.std.specs.Prelude.{IfOk, IfErr}
 use Rattle.kad_base.specs.declared.types.Contact.{Contact}
 use Rattle.kad_base.specs.declared.types.Event.{Event}
@@ -18,7 +18,7 @@ use Rattle.table_refresh.specs.declared.types.RefreshFault.{RefreshFault}
 use Rattle.table_refresh.specs.declared.types.Setting.{Setting}
 use Rattle.table_refresh.specs.declared.types.Tried.{Tried}
 use Rattle.table_refresh.specs.declared.types.Tried.TheVariants.{Waits}
-use Rattle.table_refresh.specs.Refreshed.{Given, ping, Standing, left_after, over, is_kept, Fails, Pings, SentGives, UnsentGives, Gives, TellsFrom, Stops, EndsBy, Happens}
+use Rattle.table_refresh.specs.Refreshed.{Given, ping, Standing, left_after, over, is_kept, Pings, SentGives, UnsentGives, TellsFrom, Stops, EndsBy, Happens}
 use Rattle.table_refresh.specs.inner.Steps.{given_of, FailsKept, stands, waiting, tried, after, Takes, Awaits, AwaitEnds, Tries, TryEnds, PingsThese, TheseEnd}
 use Rattle.table_refresh.proofs.Happening.{happens_then, happens_these, happens_weaker}
 use Rattle.table_refresh.proofs.Walking.{tells_one, tells_then, ends_then}

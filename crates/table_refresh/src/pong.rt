@@ -16,14 +16,14 @@ use seal_tags::SealCheck;
 use std::alloc::Global;
 
 /// A reply to a ping: who says it, and whether it is an answer of the contact that was asked, in its own name.
-#[derive(Clone, Copy, Debug, PartialEq, Eq)]
+#[derive(Clone, Copy)]
 pub(crate) struct Reply {
     pub speaker: Id,
     pub answers: bool,
 }
 
 /// What a datagram is to an open ping.
-#[derive(Clone, Copy, Debug, PartialEq, Eq)]
+#[derive(Clone, Copy)]
 pub(crate) enum Pong {
     /// No reply to it.
     Stray,

@@ -45,7 +45,7 @@ pub(crate) struct Progress {
 }
 
 /// What a receive left of a try.
-#[derive(Clone, Copy, Debug, PartialEq, Eq)]
+#[derive(Clone, Copy)]
 pub(crate) enum Tried {
     /// The ping still waits for its reply.
     Waits,

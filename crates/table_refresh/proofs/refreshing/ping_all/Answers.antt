@@ -1,4 +1,4 @@
-use Rattle.std.proofs.Common.{arith, rules, ◌∙◌}
+use Rattle.std.proofs.Common.{arith, ◌∙◌}
 use Rattle.table_refresh.proofs.Wholly.{pings_next, ends_next}
 use Rattle.table_refresh.proofs.refreshing.ping_all.Goals as goal
 
