@@ -3,10 +3,12 @@ machine alone, processes that end with the script, and the clients that people r
 
 It needs Python 3 on Linux and nothing else. The clients are the Debian packages of PACKAGES."""
 
+import collections
 import contextlib
 import ctypes
 import fcntl
 import hashlib
+import ipaddress
 import os
 import shutil
 import signal
@@ -25,7 +27,13 @@ PACKAGES = {
     "rtorrent": "rtorrent",
     "libtorrent": "python3-libtorrent",
 }
-RECORD = 26  # bytes of a compact node: identifier, IPv4 address, port (BEP 5)
+
+# One of the two networks: the family of its sockets, the bytes of a compact node (identifier, address, port), the key of an
+# answer that has such nodes (BEP 5, BEP 32), what a query for nodes says besides so that it is there, and what words say
+# to the program that it is to look there.
+Family = collections.namedtuple("Family", "socket record nodes want words")
+IPV4 = Family(socket.AF_INET, 26, b"nodes", {}, ())
+IPV6 = Family(socket.AF_INET6, 38, b"nodes6", {b"want": [b"n6"]}, ("--family", "6"))
 
 
 class Refusal(Exception):
@@ -103,28 +111,41 @@ def query(tx, method, arguments, read_only=False):
     return bencode(message)
 
 
+def family_of(host):
+    return IPV6 if ":" in host else IPV4
+
+
 def compact(host, port):
-    return socket.inet_aton(host) + port.to_bytes(2, "big")
+    return socket.inet_pton(family_of(host).socket, host) + port.to_bytes(2, "big")
 
 
-def address_of(six):
-    return socket.inet_ntoa(six[:4]), int.from_bytes(six[4:6], "big")
+def address_of(piece):
+    """Host and port of a compact address: of IPv4 where it has 6 bytes, of IPv6 where it has 18."""
+    family = IPV6 if len(piece) == 18 else IPV4
+    return socket.inet_ntop(family.socket, piece[:-2]), int.from_bytes(piece[-2:], "big")
 
 
-def nodes_of(answer):
+def nodes_of(answer, family=IPV4):
     """The contacts (identifier, address) of an answer's compact nodes."""
-    text = answer.get(b"nodes", b"")
-    if len(text) % RECORD:
-        raise ValueError("`nodes` has %d bytes" % len(text))
-    return [(text[at : at + 20], address_of(text[at + 20 : at + RECORD])) for at in range(0, len(text), RECORD)]
+    text, size = answer.get(family.nodes, b""), family.record
+    if len(text) % size:
+        raise ValueError("`%s` has %d bytes" % (family.nodes.decode(), len(text)))
+    return [(text[at : at + 20], address_of(text[at + 20 : at + size])) for at in range(0, len(text), size)]
 
 
 def words_of(address):
-    return "%s:%d" % address
+    """The address as the program reads and prints it; one of IPv6 has all eight groups of four digits."""
+    host, port = address
+    return "%s:%d" % ("[%s]" % ipaddress.ip_address(host).exploded if family_of(host) is IPV6 else host, port)
 
 
 def contact_line(name, address):
     return "%s %s\n" % (name.hex(), words_of(address))
+
+
+def distance(one, other):
+    """Kademlia's distance of two identifiers, which bytes order as numbers do."""
+    return bytes(a ^ b for a, b in zip(one, other))
 
 
 class Asker:
@@ -132,15 +153,17 @@ class Asker:
     keeps no contact of it."""
 
     def __init__(self, host, port=0, name=None, read_only=True):
-        self.socket = socket.socket(socket.AF_INET, socket.SOCK_DGRAM)
+        self.family = family_of(host)
+        self.socket = socket.socket(self.family.socket, socket.SOCK_DGRAM)
         self.socket.bind((host, port))
-        self.address = self.socket.getsockname()
+        self.address = self.socket.getsockname()[:2]
         self.name, self.read_only = name or os.urandom(20), read_only
 
     def ask(self, address, method, arguments=None, timeout=1.0):
         """The message that answers, an error message too; None where none comes in time."""
         tx = os.urandom(4)
-        arguments = {b"id": self.name, **(arguments or {})}
+        want = self.family.want if method in (b"find_node", b"get_peers") else {}
+        arguments = {b"id": self.name, **want, **(arguments or {})}
         return self.send(address, query(tx, method, arguments, self.read_only), tx, timeout)
 
     def send(self, address, datagram, tx, timeout=1.0):
@@ -150,7 +173,7 @@ class Asker:
             self.socket.settimeout(max(until - time.monotonic(), 0.000001))
             try:
                 data, source = self.socket.recvfrom(65536)
-                message = bdecode(data) if source == address else {}
+                message = bdecode(data) if source[:2] == address else {}
             except socket.timeout:
                 return None
             except (ConnectionError, ValueError):
@@ -183,6 +206,7 @@ def wait_for(seconds, call, pause=0.1):
 SIOCSIFADDR, SIOCSIFFLAGS, SIOCSIFNETMASK = 0x8916, 0x8914, 0x891C
 IFF_UP_RUNNING = 0x41
 OWN_NETWORK = "NOLZAVIRT_OWN_NETWORK"
+LOOPBACK_OF_IPV6 = "::1"
 
 
 class Network:
@@ -199,9 +223,27 @@ class Network:
         return "a network namespace of its own (10.77.0.0/24)" if self.own else "loopback (127.0.0.0/8)"
 
 
+def has_ipv6():
+    """Whether the loopback device has its address of IPv6."""
+    try:
+        with socket.socket(socket.AF_INET6, socket.SOCK_DGRAM) as any_socket:
+            any_socket.bind((LOOPBACK_OF_IPV6, 0))
+    except OSError:
+        return False
+    return True
+
+
 def _interface(name, call, argument):
     with socket.socket(socket.AF_INET, socket.SOCK_DGRAM) as any_socket:
         fcntl.ioctl(any_socket, call, struct.pack("16s16s8x", name.encode(), argument))
+
+
+def _address_of_ipv6(name, host):
+    """Gives the device an address besides ::1, of those for documentation (RFC 3849): where a machine has ::1 and none
+    besides, glibc tells aria2 that ::1 is unknown too."""
+    with socket.socket(socket.AF_INET6, socket.SOCK_DGRAM) as any_socket:
+        argument = struct.pack("=16sIi", socket.inet_pton(socket.AF_INET6, host), 128, socket.if_nametoindex(name))
+        fcntl.ioctl(any_socket, SIOCSIFADDR, argument)
 
 
 def _internet(host):
@@ -224,6 +266,8 @@ def own_network():
     _interface("lo", SIOCSIFFLAGS, struct.pack("h14x", IFF_UP_RUNNING))
     _interface("lo:0", SIOCSIFADDR, _internet("10.77.0.1"))
     _interface("lo:0", SIOCSIFNETMASK, _internet("255.255.255.0"))
+    with contextlib.suppress(OSError):  # there may be no IPv6
+        _address_of_ipv6("lo", "2001:db8:77::1")
     return Network(True)
 
 
@@ -384,8 +428,8 @@ class Torrent:
 
 
 class Client:
-    """A client that serves the DHT at an address of the network. `boot` are the nodes that it is told of; of the torrent it
-    looks for peers, and it announces itself to them at its own port."""
+    """A client that serves the DHT at an address of the network, which of IPv6 only those of CLIENTS_OF_IPV6 do. `boot` are
+    the nodes that it is told of; of the torrent it looks for peers, and it announces itself to them at its own port."""
 
     kind = None
     end = signal.SIGTERM
@@ -431,11 +475,16 @@ class Aria2(Client):
 
     def start(self, boot):
         host, port = self.address
-        words = ["aria2c", "--no-conf", "--enable-dht=true", "--dht-listen-port=%d" % port, "--listen-port=%d" % port]
-        words += ["--interface=" + host, "--dht-file-path=" + os.path.join(self.folder, "dht.dat"), "--dir=" + self.folder]
+        six = "6" if family_of(host) is IPV6 else ""
+        words = ["aria2c", "--no-conf", "--dht-listen-port=%d" % port, "--listen-port=%d" % port]
+        if six:  # `--interface` takes no address of IPv6
+            words += ["--enable-dht=false", "--enable-dht6=true", "--dht-listen-addr6=" + host, "--interface=lo"]
+        else:
+            words += ["--enable-dht=true", "--interface=" + host]
+        words += ["--dht-file-path%s=%s" % (six, os.path.join(self.folder, "dht.dat")), "--dir=" + self.folder]
         words += ["--bt-enable-lpd=false", "--enable-peer-exchange=false", "--summary-interval=0", "--seed-time=0"]
         words += ["--console-log-level=warn", "--file-allocation=none", "--bt-tracker-connect-timeout=1"]
-        words += ["--dht-entry-point=" + words_of(boot[0])] if boot else []
+        words += ["--dht-entry-point%s=%s" % (six, words_of(boot[0]))] if boot else []
         return Process(words + [self.folder + "/wanted/wanted.torrent"], folder=self.folder)
 
 
@@ -553,7 +602,7 @@ class Many:
 
         def ready():
             answers = [asker.answer(address, b"find_node", {b"target": os.urandom(20)}) for address in self.addresses]
-            has_eight = all(len(answer.get(b"nodes", b"")) == 8 * RECORD for answer in answers)
+            has_eight = all(len(nodes_of(answer, asker.family)) == 8 for answer in answers)
             return has_eight and [answer[b"id"] for answer in answers]
 
         found = wait_for(60, ready, 1)
@@ -563,6 +612,7 @@ class Many:
 
 
 CLIENTS = (Aria2, Transmission, Rtorrent, Libtorrent)
+CLIENTS_OF_IPV6 = (Aria2, Libtorrent)  # rtorrent 0.9.8 has no DHT of IPv6, and transmission takes no node at ::1
 
 
 def first_number(words):
