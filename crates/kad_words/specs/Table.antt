@@ -9,7 +9,7 @@ use Rattle.kad_base.specs.declared.types.Policy.TheVariants as policy
 use Rattle.kad_words.specs.Text.{SpellsHex, SpellsId}
 use Rattle.kad_words.specs.Values.{FamilyBy, IsGiven, MayBeGiven, MayNumberBy, NumberBy}
 use Rattle.kad_words.specs.declared.command.Command.{Command}
-use Rattle.kad_words.specs.declared.command.Command.TheVariants.{Lookup, Peers, Serve, Table, Check, Mint, Sim}
+use Rattle.kad_words.specs.declared.command.Command.TheVariants.{Lookup, Peers, Serve, Table, Refresh, Check, Mint, Sim}
 use Rattle.kad_words.specs.declared.command.CommandKind.{CommandKind}
 use Rattle.kad_words.specs.declared.command.CommandKind.TheVariants as kind
 use Rattle.kad_words.specs.declared.command.LookWords.{LookWords}
@@ -52,6 +52,9 @@ serve = codes "serve"
 abbrev pub table : Word
 table = codes "table"
 
+abbrev pub refresh : Word
+refresh = codes "refresh"
+
 abbrev pub check : Word
 check = codes "check"
 
@@ -67,6 +70,7 @@ kind_word kind.Lookup = lookup
 kind_word kind.Peers = peers
 kind_word kind.Serve = serve
 kind_word kind.Table = table
+kind_word kind.Refresh = refresh
 kind_word kind.Check = check
 kind_word kind.Mint = mint
 kind_word kind.Sim = sim
@@ -76,6 +80,7 @@ abbrev pub links : CommandKind → Bool
 links kind.Lookup = true
 links kind.Peers = true
 links kind.Serve = true
+links kind.Refresh = true
 links other = false
 
 -- ---- the options. An identifier is 40 hex digits, and 32 bytes are 64; times are milliseconds
@@ -99,7 +104,7 @@ abbrev pub alpha_option : Choice
 alpha_option = choice (codes "alpha") (Number 1 4) (OrElse 3) (lookup ∷ peers ∷ sim ∷ [])
 
 abbrev pub timeout_option : Choice
-timeout_option = choice (codes "timeout") (Number 1 60000) (OrElse 2000) (lookup ∷ peers ∷ sim ∷ [])
+timeout_option = choice (codes "timeout") (Number 1 60000) (OrElse 2000) (lookup ∷ peers ∷ refresh ∷ sim ∷ [])
 
 abbrev pub bits_option : Choice
 bits_option = choice (codes "bits") (Number 1 5) (OrElse 1) (lookup ∷ peers ∷ serve ∷ table ∷ [])
@@ -114,10 +119,10 @@ abbrev pub family_option : Choice
 family_option = choice (codes "family") IpVersion (OrElse 4) (lookup ∷ peers ∷ [])
 
 abbrev pub bind_option : Choice
-bind_option = choice (codes "bind") Address Optional (lookup ∷ peers ∷ serve ∷ [])
+bind_option = choice (codes "bind") Address Optional (lookup ∷ peers ∷ serve ∷ refresh ∷ [])
 
 abbrev pub group_option : Choice
-group_option = choice (codes "group") Bytes32 Optional (lookup ∷ peers ∷ serve ∷ [])
+group_option = choice (codes "group") Bytes32 Optional (lookup ∷ peers ∷ serve ∷ refresh ∷ [])
 
 abbrev pub announce_option : Choice
 announce_option = choice (codes "announce") (Number 0 65535) Optional (peers ∷ [])
@@ -239,6 +244,7 @@ parts_of (Peers look announce) = gives_look key_option look ∷ may_give_number 
 parts_of (Serve own k bits policy receives sealed) =
     gives_id own_option own ∷ gives_number k_option k ∷ gives_number bits_option bits ∷ gives_policy policy ∷ gives_number receives_option receives ∷ says_whether group_option sealed ∷ []
 parts_of (Table own k bits policy) = gives_id own_option own ∷ gives_number k_option k ∷ gives_number bits_option bits ∷ gives_policy policy ∷ []
+parts_of (Refresh timeout sealed) = gives_number timeout_option timeout ∷ says_whether group_option sealed ∷ []
 parts_of (Check policy) = gives_policy policy ∷ []
 parts_of (Mint seed c1 c2 tries) = gives_seed seed_option seed ∷ gives_number c1_option c1 ∷ gives_number c2_option c2 ∷ gives_number tries_option tries ∷ []
 parts_of (Sim seed nodes hostile k paths alpha timeout) =
@@ -254,6 +260,7 @@ kind_of (Lookup look) = kind.Lookup
 kind_of (Peers look announce) = kind.Peers
 kind_of (Serve own k bits policy receives sealed) = kind.Serve
 kind_of (Table own k bits policy) = kind.Table
+kind_of (Refresh timeout sealed) = kind.Refresh
 kind_of (Check policy) = kind.Check
 kind_of (Mint seed c1 c2 tries) = kind.Mint
 kind_of (Sim seed nodes hostile k paths alpha timeout) = kind.Sim

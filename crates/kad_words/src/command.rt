@@ -1,6 +1,6 @@
 //! The commands: what each asks for, its word, its options, and how it is made of their values.
 ghost use Rattle.std.specs.Prelude.{◌≡◌, MatchOption};
-ghost use Rattle.kad_words.specs.Table.{check, lookup, mint, peers, serve, sim, table, kind_word, links, options_of, word_of, IsLook, Says};
+ghost use Rattle.kad_words.specs.Table.{check, lookup, mint, peers, refresh, serve, sim, table, kind_word, links, options_of, word_of, IsLook, Says};
 ghost use Rattle.kad_words.specs.Listed.{entries_of, entry_of};
 ghost use Rattle.kad_words.specs.Taken.{taken_of};
 ghost use Rattle.kad_words.specs.Fitting.{AllFit, LookFits};
@@ -44,6 +44,12 @@ pub enum Command {
         k: u8,
         bits: u8,
         policy: Policy,
+    },
+    /// Ping the least recently seen contact of each bucket of a saved table, and save what results. `timeout` is in
+    /// milliseconds; `sealed` is whether a reply has to carry a group's tag.
+    Refresh {
+        timeout: u32,
+        sealed: bool,
     },
     /// Say which contact lines pass a policy.
     Check {
@@ -109,6 +115,8 @@ static SERVE: [Choice; 8] = [OWN, K, BITS, C1, C2, BIND, GROUP, RECEIVES];
 
 static TABLE: [Choice; 5] = [OWN, K, BITS, C1, C2];
 
+static REFRESH: [Choice; 3] = [TIMEOUT, BIND, GROUP];
+
 static CHECK: [Choice; 2] = [C1, C2];
 
 static MINT: [Choice; 4] = [C1, C2, SEED, TRIES];
@@ -122,6 +130,7 @@ pub enum CommandKind {
     Peers,
     Serve,
     Table,
+    Refresh,
     Check,
     Mint,
     Sim,
@@ -137,6 +146,7 @@ pub(crate) fn kind_named(word: &str) -> Option<CommandKind>
         "peers" => Some(CommandKind::Peers),
         "serve" => Some(CommandKind::Serve),
         "table" => Some(CommandKind::Table),
+        "refresh" => Some(CommandKind::Refresh),
         "check" => Some(CommandKind::Check),
         "mint" => Some(CommandKind::Mint),
         "sim" => Some(CommandKind::Sim),
@@ -150,7 +160,7 @@ pub(crate) fn links(kind: CommandKind) -> bool
 {
     matches!(
         kind,
-        CommandKind::Lookup | CommandKind::Peers | CommandKind::Serve
+        CommandKind::Lookup | CommandKind::Peers | CommandKind::Serve | CommandKind::Refresh
     )
 }
 
@@ -163,6 +173,7 @@ pub(crate) fn options(kind: CommandKind) -> &'static [Choice]
         CommandKind::Peers => &PEERS,
         CommandKind::Serve => &SERVE,
         CommandKind::Table => &TABLE,
+        CommandKind::Refresh => &REFRESH,
         CommandKind::Check => &CHECK,
         CommandKind::Mint => &MINT,
         CommandKind::Sim => &SIM,
@@ -180,6 +191,7 @@ pub(crate) fn command_for(kind: CommandKind, matches: &ArgMatches) -> Command
         CommandKind::Peers => peers(matches),
         CommandKind::Serve => serve(matches),
         CommandKind::Table => table(matches),
+        CommandKind::Refresh => refresh(matches),
         CommandKind::Check => check(matches),
         CommandKind::Mint => mint(matches),
         CommandKind::Sim => sim(matches),
@@ -253,6 +265,17 @@ fn table(matches: &ArgMatches) -> Command
         k: small(matches, &K),
         bits: small(matches, &BITS),
         policy: policy(matches),
+    }
+}
+
+fn refresh(matches: &ArgMatches) -> Command
+    requires { AllFit (options_of refresh) (taken_of matches.now) }
+    ensures says { Says (taken_of matches.now) result }
+    ensures word { word_of result ≡ refresh }
+{
+    Command::Refresh {
+        timeout: number(matches, &TIMEOUT),
+        sealed: stands(matches, &GROUP),
     }
 }
 

@@ -7,13 +7,13 @@ use Rattle.kad_words.specs.Plain.{CommandOf}
 use Rattle.kad_words.specs.declared.command.Command.{Command}
 use Rattle.kad_words.proofs.OneCommand.{command_once}
 use Rattle.node_top.specs.declared.status.Status.{Status}
-use Rattle.node_top.specs.declared.status.Status.TheVariants.{Usage, BadLine, LinkFault, SourceFault, Strays, NoSeeds, NoMemory, Unminted, TooLong}
+use Rattle.node_top.specs.declared.status.Status.TheVariants.{Usage, BadLine, LinkFault, SourceFault, Strays, NoSeeds, NoMemory, Unminted, TooLong, Unsound}
 use Rattle.node_top.specs.Asked.{Asks}
-use Rattle.node_top.specs.Looked.{GivesSeeds, GivesNoSeeds}
+use Rattle.node_top.specs.Looked.{GivesNoSeeds}
 use Rattle.node_top.specs.Promise.{Sought}
 use Rattle.node_top.specs.Shown.{Shown, IsTold, HasFailed, nowhere}
-use Rattle.node_top.specs.Input.{ReadsTooMuch, HasBadLine}
-use Rattle.node_top.specs.Commands.{EndsInStrays, promise_of, HasText, IsCaused, HasCause, HasBegun, HasStart, HasSeeds, HasNoSeeds, HasStrays, HasNoLastStray, HasNothing, ReadsInput, GoesWell, IsDone}
+use Rattle.node_top.specs.Input.{ReadsTooMuch}
+use Rattle.node_top.specs.Commands.{EndsInStrays, promise_of, HasText, IsCaused, HasCause, HasBegun, HasStart, HasNoSeeds, HasStrays, HasBadLine, HasUnsound, HasNoLastStray, HasNothing, ReadsInput, GoesWell, IsDone}
 use Rattle.node_top.specs.Endings.{number_of, OrNoMemory, Names, CutShort, MayEnd, EndsByCommand}
 use Rattle.node_top.specs.Written.{IsFront}
 use Rattle.node_top.proofs.Exactly.{unread_few, few_not_much}
@@ -56,8 +56,11 @@ module _ (words : List Word) (called : Called) (source : Shown ℕ) (link : Show
       let sign = subst (λ (k : Command). Sign (promise_of k) called source link t) (command_once words d.command h.command d.asked h.asked) d.sign in
       (lawful h.command).no_sign called source link text t j h.text_of sign
 
-  pub not_bad : IsTold source → ¬ HasFailed source → HasBadLine source → ⊥
-  not_bad told quiet bad = not_signed (BadLine bad.0) (told, quiet) (record { command = h.command; asked = h.asked; sign = bad.1 })
+  pub not_bad : IsTold source → ¬ HasFailed source → HasBadLine words source → ⊥
+  not_bad told quiet bad = not_signed (BadLine bad.0) (told, quiet) (record { command = bad.1.command; asked = bad.1.asked; sign = bad.1.is_bad })
+
+  pub not_unsound : IsTold source → ¬ HasFailed source → HasUnsound words source → ⊥
+  not_unsound told quiet n = not_signed Unsound (told, quiet) (record { command = n.command; asked = n.asked; sign = n.unsound })
 
   pub not_much : IsTold source → ReadsTooMuch source.before source.after → ⊥
   not_much told much = not_signed TooLong told (record { command = h.command; asked = h.asked; sign = much })
@@ -77,15 +80,14 @@ never_rose : Rose 0 0 → ⊥
 never_rose h = elim h [ inl more ↦ absurd (omega (arith, more)) | inr last ↦ absurd (omega (arith, last)) ]
 
 -- the cause of a command that takes no link is none of a link's
-pub linkless : (command : Command) → ¬ IsTrue (promise_of command).links → (called : Called) (source : Shown ℕ) (s : Status) → (promise_of command).cause called source nowhere s → (number_of s ≢ 4) × (number_of s ≢ 7) × (number_of s ≢ 8)
+pub linkless : (command : Command) → ¬ IsTrue (promise_of command).links → (called : Called) (source : Shown ℕ) (s : Status) → (promise_of command).cause called source nowhere s → (number_of s ≢ 4) × (number_of s ≢ 7) × (number_of s ≢ 8) × (number_of s ≢ 13)
 linkless command n called source LinkFault c = absurd (never_rose ((lawful command).means called source nowhere LinkFault c).0)
-linkless command n called source Strays c =
-    let seeds = ((lawful command).means called source nowhere Strays c).1 in
-    absurd (subst (λ (o : Option Sought). GivesSeeds o called.random source) ((lawful command).seeks n) seeds)
+linkless command n called source Strays c = absurd ((lawful command).counts n called source nowhere ((lawful command).means called source nowhere Strays c).0)
+linkless command n called source Unsound c = absurd ((lawful command).restores n source ((lawful command).means called source nowhere Unsound c))
 linkless command n called source NoSeeds c =
     let none_ = (lawful command).means called source nowhere NoSeeds c in
     absurd (subst (λ (o : Option Sought). GivesNoSeeds o called.random source) ((lawful command).seeks n) none_)
-linkless command n called source other c = ((λ e. absurd cc), (λ e. absurd cc), (λ e. absurd cc))
+linkless command n called source other c = ((λ e. absurd cc), (λ e. absurd cc), (λ e. absurd cc), (λ e. absurd cc))
 
 -- no command's cause is that of words which ask for none
 pub unasked : (command : Command) (called : Called) (source : Shown ℕ) (link : Shown Event) (s : Status) → (promise_of command).cause called source link s → number_of s ≡ 2 → ⊥
@@ -116,16 +118,16 @@ module _ (asks : Type 0) (words : List Word) (called : Called) (source : Shown �
   means : (s : Status) (c : IsCaused words called source link s) → Means (promise_of c.command) called source link s
   means s c = (lawful c.command).means called source link s c.cause
 
-  pub named : (s : Status) → HasCause asks words called source link s → Names source s
-  named (BadLine line) c = (means (BadLine line) c).1
+  pub named : (s : Status) → HasCause asks words called source link s → Names words source s
+  named (BadLine line) c = record { command = c.command; asked = c.asked; is_bad = (means (BadLine line) c).1 }
   named other c = tt
 
   pub usage_alone : (s : Status) → HasCause asks words called source link s → number_of s ≡ 2 → ¬ asks
   usage_alone Usage c e = c.0
   usage_alone other c e = absurd cc
 
-  pub bad_line : (s : Status) → HasCause asks words called source link s → number_of s ≡ 3 → ReadsInput words × HasBadLine source
-  bad_line (BadLine line) c e = let m = means (BadLine line) c in (record { command = c.command; asked = c.asked; reads = m.0 }, (line, m.1))
+  pub bad_line : (s : Status) → HasCause asks words called source link s → number_of s ≡ 3 → ReadsInput words × HasBadLine words source
+  bad_line (BadLine line) c e = let m = means (BadLine line) c in (record { command = c.command; asked = c.asked; reads = m.0 }, (line, record { command = c.command; asked = c.asked; is_bad = m.1 }))
   bad_line other c e = absurd cc
 
   pub link_fault : (s : Status) → HasCause asks words called source link s → number_of s ≡ 4 → HasFailed link × HasStart words called source × HasBegun words called source link × HasNoLastStray words called source link
@@ -138,10 +140,10 @@ module _ (asks : Type 0) (words : List Word) (called : Called) (source : Shown �
   source_fault SourceFault c e = let m = means SourceFault c in (record { command = c.command; asked = c.asked; reads = m.0 }, m.1)
   source_fault other c e = absurd cc
 
-  pub strays : (s : Status) → HasCause asks words called source link s → number_of s ≡ 7 → HasStrays words called source link × HasSeeds words called source × HasBegun words called source link
+  pub strays : (s : Status) → HasCause asks words called source link s → number_of s ≡ 7 → HasStrays words called source link × HasStart words called source × HasBegun words called source link
   strays Strays c e =
       let m = means Strays c in
-      (record { command = c.command; asked = c.asked; strays = m.0 }, record { command = c.command; asked = c.asked; seeds = m.1 }, record { command = c.command; asked = c.asked; begun = m.2 })
+      (record { command = c.command; asked = c.asked; strays = m.0 }, record { command = c.command; asked = c.asked; started = m.1 }, record { command = c.command; asked = c.asked; begun = m.2 })
   strays other c e = absurd cc
 
   pub no_seeds : (s : Status) → HasCause asks words called source link s → number_of s ≡ 8 → HasNoSeeds words called source
@@ -155,6 +157,10 @@ module _ (asks : Type 0) (words : List Word) (called : Called) (source : Shown �
   pub too_long : (s : Status) → HasCause asks words called source link s → number_of s ≡ 11 → ReadsInput words × ReadsTooMuch source.before source.after
   too_long TooLong c e = let m = means TooLong c in (record { command = c.command; asked = c.asked; reads = m.0 }, m.1)
   too_long other c e = absurd cc
+
+  pub unsound : (s : Status) → HasCause asks words called source link s → number_of s ≡ 13 → HasUnsound words source
+  unsound Unsound c e = record { command = c.command; asked = c.asked; unsound = means Unsound c }
+  unsound other c e = absurd cc
 
   -- the sign of a status brings it
   comes : (s t : Status) → HasCause asks words called source link s → IsUncalled link s → IsJudged source link t → HasSign words called source link t → (HasSign words called source link t → asks) → OrNoMemory (number_of s) (number_of t)
@@ -173,10 +179,11 @@ module _ (asks : Type 0) (words : List Word) (called : Called) (source : Shown �
   pub unminted_comes : (s : Status) → HasCause asks words called source link s → IsUncalled link s → (HasNothing words called.random → asks) → HasNothing words called.random → OrNoMemory (number_of s) 10
   unminted_comes s c early asking n = comes s Unminted c early tt (record { command = n.command; asked = n.asked; sign = n.nothing }) (λ d. asking n)
 
-  pub bad_line_comes : (s : Status) → HasCause asks words called source link s → IsUncalled link s → asks → IsTold source → ¬ HasFailed source → HasBadLine source → OrNoMemory (number_of s) 3
-  bad_line_comes Usage c early asking told quiet bad = absurd (c.0 asking)
-  bad_line_comes NoMemory c early asking told quiet bad = inr refl
-  bad_line_comes s c early asking told quiet bad = (lawful c.command).one_sign called source link s (BadLine bad.0) (told, quiet) early c.cause bad.1
+  pub bad_line_comes : (s : Status) → HasCause asks words called source link s → IsUncalled link s → ((command : Command) → CommandOf words command → asks) → IsTold source → ¬ HasFailed source → HasBadLine words source → OrNoMemory (number_of s) 3
+  bad_line_comes s c early asking told quiet bad = comes s (BadLine bad.0) c early (told, quiet) (record { command = bad.1.command; asked = bad.1.asked; sign = bad.1.is_bad }) (λ d. asking d.command d.asked)
+
+  pub unsound_comes : (s : Status) → HasCause asks words called source link s → IsUncalled link s → ((command : Command) → CommandOf words command → asks) → IsTold source → ¬ HasFailed source → HasUnsound words source → OrNoMemory (number_of s) 13
+  unsound_comes s c early asking told quiet n = comes s Unsound c early (told, quiet) (record { command = n.command; asked = n.asked; sign = n.unsound }) (λ d. asking d.command d.asked)
 
   pub too_long_comes : (s : Status) → HasCause asks words called source link s → IsUncalled link s → IsTold source → ReadsTooMuch source.before source.after → OrNoMemory (number_of s) 11
   too_long_comes Usage c early told much = absurd (few_not_much source.before source.after told (unread_few source.before source.after c.1) much)

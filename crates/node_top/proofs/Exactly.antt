@@ -15,7 +15,7 @@ use Rattle.claim_book.specs.declared.types.Entry.{Entry}
 use Rattle.lookup_run.specs.Tells.{Given, EndsAtStray}
 use Rattle.node_top.specs.Lines.{lines, Reporting, IsBad, IsFirstBad}
 use Rattle.node_top.specs.Shown.{Shown}
-use Rattle.node_top.specs.Input.{ReadsAll, ReadsFew, ReadsTooMuch, Admits, Reads, ReadsSome, IsGood, Lists, HasBadLine}
+use Rattle.node_top.specs.Input.{ReadsAll, ReadsFew, ReadsTooMuch, Admits, Reads, ReadsSome, ReadsAs, IsGood, IsBadLine, AreGoodLines, IsBadContactLine, Lists}
 use Rattle.node_top.specs.Looked.{NeverInStrays, IsInStrays, GivesNoSeeds, ShowsLastStray}
 use Rattle.node_top.specs.Promise.{Sought}
 use Rattle.node_top.specs.Started.{own_of, lookup_of}
@@ -28,7 +28,7 @@ pub rose_after : (a b c : ℕ) → a ≤ b → Rose b c → Rose a c
 rose_after a b c le h = elim h [ inl lt ↦ inl (omega (arith, le, lt)) | inr last ↦ inr last ]
 
 -- where the rest is told, one input was read to its end
-input_once : (old new : Option (List ℕ)) (x y : List ℕ) → new ≢ None → ReadsAll old new x → ReadsAll old new y → x ≡ y
+pub input_once : (old new : Option (List ℕ)) (x y : List ℕ) → new ≢ None → ReadsAll old new x → ReadsAll old new y → x ≡ y
 input_once old None x y told s t = absurd (told refl)
 input_once old (Some rest) x y told s t = let p = s.1 in let q = t.1 in cc
 
@@ -66,10 +66,10 @@ unread_empty : (old new : Option (List ℕ)) (x : List ℕ) → new ≢ None →
 unread_empty old None x told same s = absurd (told refl)
 unread_empty old (Some rest) x told same s = let p = s.0 in let q = s.1 in cc
 
-pub unread_not_bad : (source : Shown ℕ) → source.after ≢ None → source.after ≡ source.before → HasBadLine source → ⊥
-unread_not_bad source told same bad =
-    let empty = unread_empty source.before source.after bad.1.input told same bad.1.read in
-    empty_good bad.0 (subst (λ (l : List ℕ). IsFirstBad (lines l) bad.0) empty bad.1.first_bad)
+pub unread_not_bad : (source : Shown ℕ) (number : ℕ) → source.after ≢ None → source.after ≡ source.before → IsBadLine IsBadContactLine source number → ⊥
+unread_not_bad source number told same bad =
+    let empty = unread_empty source.before source.after bad.input told same bad.read in
+    empty_good number (subst (λ (l : List ℕ). IsFirstBad (lines l) number) empty bad.is_bad)
 
 -- ---- what it gives
 
@@ -93,26 +93,32 @@ reads_once own family policy source xs ys told s t =
     let one = reading_once (lines t.input) s.reports t.reports (subst (λ l. Reporting (lines l) s.reports) same s.good_lines) t.good_lines in
     admits_once own family policy t.reports xs ys (subst (λ rs. Admits own family policy rs xs) one s.admits) t.admits
 
-pub lists_not_bad : (source : Shown ℕ) (reports : List Report) → source.after ≢ None → Lists source reports → HasBadLine source → ⊥
-lists_not_bad source reports told s bad =
-    let same = input_once source.before source.after s.input bad.1.input told s.read bad.1.read in
-    read_or_bad (lines bad.1.input) reports bad.0 (subst (λ l. Reporting (lines l) reports) same s.good_lines) bad.1.first_bad
+-- lines that are good are not bad
+pub lines_apart : (input : List ℕ) (number : ℕ) → AreGoodLines input → IsBadContactLine input number → ⊥
+lines_apart input number good bad = read_or_bad (lines input) good.0 number good.1 bad
 
 -- whatever contacts it gives, its lines are good
-pub reads_good : (own : Id) (family : Family) (policy : Policy) (source : Shown ℕ) (contacts : List Contact) → Reads own family policy source contacts → IsGood source
-reads_good own family policy source contacts r = record { reports = r.reports; lists = record { input = r.input; read = r.read; good_lines = r.good_lines } }
+pub lines_good : (source : Shown ℕ) → IsGood source → ReadsAs AreGoodLines source
+lines_good source good = record { input = good.lists.input; read = good.lists.read; is_good = (good.reports, good.lists.good_lines) }
 
-pub good_not_bad : (source : Shown ℕ) → source.after ≢ None → IsGood source → HasBadLine source → ⊥
-good_not_bad source told good bad = lists_not_bad source good.reports told good.lists bad
+pub reads_good : (own : Id) (family : Family) (policy : Policy) (source : Shown ℕ) (contacts : List Contact) → Reads own family policy source contacts → ReadsAs AreGoodLines source
+reads_good own family policy source contacts r = record { input = r.input; read = r.read; is_good = (r.reports, r.good_lines) }
 
-pub good_few : (source : Shown ℕ) → IsGood source → ReadsFew source.before source.after
-good_few source good = all_few source.before source.after good.lists.input good.lists.read
+-- what excludes a bad line in one text does so in an input
+pub good_not_bad : (good : List ℕ → Type 0) (bad : List ℕ → ℕ → Type 0) → ((input : List ℕ) (number : ℕ) → good input → bad input number → ⊥) → (source : Shown ℕ) (number : ℕ) → source.after ≢ None
+    → ReadsAs good source → IsBadLine bad source number → ⊥
+good_not_bad good bad apart source number told g b =
+    let same = input_once source.before source.after g.input b.input told g.read b.read in
+    apart b.input number (subst good same g.is_good) b.is_bad
+
+pub good_few : (good : List ℕ → Type 0) (source : Shown ℕ) → ReadsAs good source → ReadsFew source.before source.after
+good_few good source g = all_few source.before source.after g.input g.read
 
 -- it gives a contact or none
 pub some_not_none : (own : Id) (family : Family) (policy : Policy) (source : Shown ℕ) → source.after ≢ None → ReadsSome own family policy source → Reads own family policy source [] → ⊥
 some_not_none own family policy source told some_ none_ = some_.some_one (reads_once own family policy source some_.contacts [] told some_.reads none_)
 
-pub none_good : (sought : Option Sought) (random : List ℕ) (source : Shown ℕ) → GivesNoSeeds sought random source → IsGood source
+pub none_good : (sought : Option Sought) (random : List ℕ) (source : Shown ℕ) → GivesNoSeeds sought random source → ReadsAs AreGoodLines source
 none_good None random source n = absurd n
 none_good (Some sought) random source n = reads_good (own_of sought.look.own random) sought.look.family sought.look.policy source [] n
 

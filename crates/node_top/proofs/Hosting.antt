@@ -8,6 +8,7 @@ use Rattle.node_top.specs.Endings.{number_of}
 use Rattle.node_top.specs.Input.{IsGood}
 use Rattle.node_top.specs.Promise.{HostCause, HostsWell, IsOneOf, host_aim, judge_aim, reading}
 use Rattle.node_top.specs.Shown.{Shown}
+use Rattle.node_top.proofs.Exactly.{lines_apart, lines_good}
 use Rattle.node_top.proofs.Lawful.{Lawful}
 use Rattle.node_top.proofs.Staged.{Behind, reading_lawful}
 use Rattle.node_top.specs.Called.{Called}
@@ -27,29 +28,41 @@ module _ (ranges : Type 0) (text : Called → Shown ℕ → Shown Event → List
   behind : (called : Called) (source : Shown ℕ) (link : Shown Event) (s : Status) → HostCause (begun called source link) link s → Behind (host_aim ranges text begun) called source link s
   behind called source link LinkFault c =
       let well = begins called source link c.1 in
-      (well, (c.0, well, c.1, tt), λ told none_. absurd none_, λ told early last. absurd last)
+      (lines_good source well, (c.0, well, c.1, tt), λ told none_. absurd none_, λ told early last. absurd last, λ told unsound. absurd unsound)
   behind called source link other c = absurd c
 
   pub hosting_lawful : Lawful (reading (host_aim ranges text begun))
   hosting_lawful = reading_lawful (host_aim ranges text begun) (record {
-    good = good;
+    good = λ called source link written t. lines_good source (good called source link written t);
+    apart = lines_apart;
+    seedless = λ called source none_. absurd none_;
+    unrestored = λ source unsound. absurd unsound;
+    sound = λ called source link written told t unsound. unsound;
     seeded = λ called source link written told t none_. none_;
     few = λ called source link written told t last. last;
     behind = λ called source link s c. behind called source link s c;
-    well = λ called source link n. record { told = n.told; reads = n.reads; reports = n.good.reports; lists = n.good.lists };
+    well = λ called source link n. (n.told, n.reads, lines_good source n.good);
     needed = λ called source link s n c. needed source link (begun called source link) s n c;
     in_ends = λ called source link s c. in_ends source link (begun called source link) s c;
     seeks = λ none_. refl;
+    counts = λ none_ called source link last. last;
+    restores = λ none_ source unsound. unsound;
   })
 
 pub judging_lawful : (ranges : Type 0) (text : List ℕ → Shown ℕ → List ℕ → Type 0) → ((random : List ℕ) (source : Shown ℕ) (written : List ℕ) → text random source written → IsGood source) → Lawful (reading (judge_aim ranges text))
 judging_lawful ranges text good = reading_lawful (judge_aim ranges text) (record {
-  good = λ called source link written t. good called.random source written t;
+  good = λ called source link written t. lines_good source (good called.random source written t);
+  apart = lines_apart;
+  seedless = λ called source none_. absurd none_;
+  unrestored = λ source unsound. absurd unsound;
+  sound = λ called source link written told t unsound. unsound;
   seeded = λ called source link written told t none_. none_;
   few = λ called source link written told t last. last;
   behind = λ called source link s c. absurd c;
-  well = λ called source link n. n;
+  well = λ called source link n. (n.told, n.reads, lines_good source (record { reports = n.reports; lists = n.lists }));
   needed = λ called source link s n c. c;
   in_ends = λ called source link s c. absurd c;
   seeks = λ none_. refl;
+  counts = λ none_ called source link last. last;
+  restores = λ none_ source unsound. unsound;
 })

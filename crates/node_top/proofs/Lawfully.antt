@@ -19,6 +19,7 @@ use Rattle.node_top.proofs.Lawful.{Lawful}
 use Rattle.node_top.proofs.Looking.{seeking_lawful}
 use Rattle.node_top.proofs.Hosting.{hosting_lawful, judging_lawful}
 use Rattle.node_top.proofs.Minting.{mint_lawful}
+use Rattle.node_top.proofs.Refreshing.{refreshing_lawful}
 use Rattle.node_top.proofs.Ranges.{look_in_range, table_in_range, simulable}
 use Rattle.node_top.proofs.Staged.{made_lawful}
 
@@ -29,7 +30,7 @@ hosts_good : (service : Service) (random : List ℕ) (source : Shown ℕ) (table
 hosts_good service random source table proofs h = record { reports = h.reports; lists = h.lists }
 
 -- the ways in which a promise is made
-ruleset forms = (hosting_lawful, judging_lawful, made_lawful, good_by, hosts_good)
+ruleset forms = (hosting_lawful, judging_lawful, made_lawful, refreshing_lawful, good_by, hosts_good)
 
 -- the limits of words
 ruleset limits = (look_in_range, table_in_range, simulable)

@@ -22,4 +22,5 @@ pub mod Peering
 pub mod Simulating
 pub mod Serving
 pub mod Tabling
+pub mod Refreshing
 pub mod Unstrayed

@@ -4,12 +4,12 @@ use Rattle.kad_base.specs.declared.types.Event.{Event}
 use Rattle.node_top.specs.declared.status.Status.{Status}
 use Rattle.node_top.specs.declared.status.Status.TheVariants.{LinkFault, Strays, NoSeeds}
 use Rattle.node_top.specs.Endings.{number_of}
-use Rattle.node_top.specs.Input.{ReadsSome, ReadsWell}
+use Rattle.node_top.specs.Input.{AreGoodLines, ReadsAs, ReadsSome}
 use Rattle.node_top.specs.Looked.{LookupBegun, NeverInStrays, SeekCause, SeeksWell, seek_aim}
 use Rattle.node_top.specs.Promise.{Sought, IsOneOf, reading}
-use Rattle.node_top.specs.Shown.{Shown}
+use Rattle.node_top.specs.Shown.{Shown, IsTold, HasFailed}
 use Rattle.node_top.specs.Started.{own_of, Start}
-use Rattle.node_top.proofs.Exactly.{reads_good, some_not_none, few_not_last, uncalled_not_last}
+use Rattle.node_top.proofs.Exactly.{lines_apart, none_good, reads_good, some_not_none, few_not_last, uncalled_not_last}
 use Rattle.node_top.proofs.Lawful.{Lawful}
 use Rattle.node_top.proofs.Staged.{Behind, reading_lawful}
 use Rattle.node_top.specs.Called.{Called}
@@ -18,13 +18,8 @@ module _ (sought : Sought) (called : Called) (source : Shown ℕ) (link : Shown 
   start_seeds : Start sought.look called.random source → ReadsSome (own_of sought.look.own called.random) sought.look.family sought.look.policy source
   start_seeds s = record { contacts = s.contacts; reads = s.reads; some_one = s.some_one }
 
-  well : SeeksWell sought called source link → ReadsWell source
-  well n = record {
-    told = n.told;
-    reads = n.reads;
-    reports = n.seeds.reads.reports;
-    lists = record { input = n.seeds.reads.input; read = n.seeds.reads.read; good_lines = n.seeds.reads.good_lines };
-  }
+  well : SeeksWell sought called source link → IsTold source × (¬ HasFailed source) × ReadsAs AreGoodLines source
+  well n = (n.told, n.reads, reads_good (own_of sought.look.own called.random) sought.look.family sought.look.policy source n.seeds.contacts n.seeds.reads)
 
   needed : (s : Status) → SeeksWell sought called source link → ¬ SeekCause sought.kind sought.look called source link s
   needed LinkFault n c = n.hears c.0
@@ -49,6 +44,7 @@ module _ (sought : Sought) (text : Called → Shown ℕ → Shown Event → List
         (c.0, seeds, begins called source link c.1, c.2),
         λ told none_. absurd (some_not_none (own_of sought.look.own called.random) sought.look.family sought.look.policy source told seeds none_),
         λ told early last. absurd (few_not_last sought called link told c.2.never last),
+        λ told unsound. absurd unsound,
       )
   behind called source link Strays c =
       let seeds = start_seeds sought called source link c.1.start in (
@@ -56,18 +52,24 @@ module _ (sought : Sought) (text : Called → Shown ℕ → Shown Event → List
         (c.0, seeds, begins called source link c.1),
         λ told none_. absurd (some_not_none (own_of sought.look.own called.random) sought.look.family sought.look.policy source told seeds none_),
         λ told early last. inl refl,
+        λ told unsound. absurd unsound,
       )
   behind called source link NoSeeds c = (
     reads_good (own_of sought.look.own called.random) sought.look.family sought.look.policy source [] c,
     c,
     λ told none_. inl refl,
     λ told early last. absurd (uncalled_not_last (Some sought) called link told (early (inr (inr (inr (inl refl))))) last),
+    λ told unsound. absurd unsound,
   )
   behind called source link other c = absurd c
 
   pub seeking_lawful : Lawful (reading (seek_aim sought text begun))
   seeking_lawful = reading_lawful (seek_aim sought text begun) (record {
     good = λ called source link written x. let s = starts called source link written x in reads_good (own_of sought.look.own called.random) sought.look.family sought.look.policy source s.contacts s.reads;
+    apart = lines_apart;
+    seedless = λ called source none_. none_good (Some sought) called.random source none_;
+    unrestored = λ source unsound. absurd unsound;
+    sound = λ called source link written told x unsound. unsound;
     seeded = λ called source link written told x none_. some_not_none (own_of sought.look.own called.random) sought.look.family sought.look.policy source told (start_seeds sought called source link (starts called source link written x)) none_;
     few = λ called source link written told x last. few_not_last sought called link told (few called source link written x) last;
     behind = λ called source link s c. behind called source link s c;
@@ -75,4 +77,6 @@ module _ (sought : Sought) (text : Called → Shown ℕ → Shown Event → List
     needed = λ called source link s n c. needed sought called source link s n c;
     in_ends = λ called source link s c. in_ends sought called source link s c;
     seeks = λ none_. absurd (none_ refl);
+    counts = λ none_ called source link last. none_ refl;
+    restores = λ none_ source unsound. unsound;
   })

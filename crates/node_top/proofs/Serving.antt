@@ -25,6 +25,7 @@ use Rattle.node_top.specs.declared.status.Status.{Status}
 use Rattle.node_top.specs.declared.status.Status.TheVariants.{LinkFault}
 use Rattle.node_top.specs.Endings.{EndsUnasked as EndsBefore}
 use Rattle.node_top.specs.Input.{Lists, Admits, Keeps}
+use Rattle.node_top.specs.Input.{IsBadContactLine}
 use Rattle.node_top.specs.Looked.{ReportsCause}
 use Rattle.node_top.specs.Promise.{HostCause, ReadingCause}
 use Rattle.node_top.specs.Printed.{served_text}
@@ -87,13 +88,13 @@ err_is r x y e f = subst (λ z. r ≡ Err z) f e
 
 -- and it had called the link
 pub four_late : EndsBefore 4 → ⊥
-four_late e = elim e [ inl a ↦ absurd cc | inr e ↦ elim e [ inl a ↦ absurd cc | inr e ↦ elim e [ inl a ↦ absurd cc | inr e ↦ elim e [ inl a ↦ absurd cc | inr e ↦ elim e [ inl a ↦ absurd cc | inr a ↦ absurd cc ] ] ] ] ]
+four_late e = elim e [ inl a ↦ absurd cc | inr e ↦ elim e [ inl a ↦ absurd cc | inr e ↦ elim e [ inl a ↦ absurd cc | inr e ↦ elim e [ inl a ↦ absurd cc | inr e ↦ elim e [ inl a ↦ absurd cc | inr e ↦ elim e [ inl a ↦ absurd cc | inr a ↦ absurd cc ] ] ] ] ] ]
 
 pub nine_late : EndsBefore 9 → ⊥
-nine_late e = elim e [ inl a ↦ absurd cc | inr e ↦ elim e [ inl a ↦ absurd cc | inr e ↦ elim e [ inl a ↦ absurd cc | inr e ↦ elim e [ inl a ↦ absurd cc | inr e ↦ elim e [ inl a ↦ absurd cc | inr a ↦ absurd cc ] ] ] ] ]
+nine_late e = elim e [ inl a ↦ absurd cc | inr e ↦ elim e [ inl a ↦ absurd cc | inr e ↦ elim e [ inl a ↦ absurd cc | inr e ↦ elim e [ inl a ↦ absurd cc | inr e ↦ elim e [ inl a ↦ absurd cc | inr e ↦ elim e [ inl a ↦ absurd cc | inr a ↦ absurd cc ] ] ] ] ] ]
 
 -- how it ends where its input gave no reports
-pub unread_cause : (begun : Type 0) (source : Shown ℕ) (link : Shown Event) (status : Status) → ReportsCause source status → ReadingCause (HostCause begun link) source status
+pub unread_cause : (begun : Type 0) (source : Shown ℕ) (link : Shown Event) (status : Status) → ReportsCause source status → ReadingCause IsBadContactLine (HostCause begun link) source status
 unread_cause begun source link LinkFault h = absurd h
 unread_cause begun source link other h = h
 

@@ -3,6 +3,7 @@
 pub mod Checked
 pub mod Minted
 pub mod Peered
+pub mod Refreshing
 pub mod Served
 pub mod Simulated
 pub mod Tabled
@@ -14,7 +15,7 @@ use Rattle.kad_base.specs.Outside.{Grows}
 use Rattle.kad_words.specs.Table.{Word}
 use Rattle.kad_words.specs.Plain.{CommandOf}
 use Rattle.kad_words.specs.declared.command.Command.{Command}
-use Rattle.kad_words.specs.declared.command.Command.TheVariants.{Lookup, Peers, Serve, Table, Check, Mint, Sim}
+use Rattle.kad_words.specs.declared.command.Command.TheVariants.{Lookup, Peers, Serve, Table, Refresh, Check, Mint, Sim}
 use Rattle.node_top.specs.declared.commands.serve.Service.{Service}
 use Rattle.node_top.specs.declared.commands.sim.Simulation.{Simulation}
 use Rattle.node_top.specs.declared.status.Status.{Status}
@@ -22,9 +23,11 @@ use Rattle.node_top.specs.declared.status.Status.TheVariants.{Usage, NoMemory}
 use Rattle.node_top.specs.Asked.{AsksPlain}
 use Rattle.node_top.specs.Commands.Checked.{check_promise}
 use Rattle.node_top.specs.Commands.Served.{serve_promise}
-use Rattle.node_top.specs.Looked.{lookup_promise, GivesSeeds, GivesNoSeeds, MeetsLastStray, MeetsNoLastStray, ShowsLastStray}
+use Rattle.node_top.specs.Looked.{lookup_promise, GivesNoSeeds, ShowsLastStray}
 use Rattle.node_top.specs.Commands.Minted.{seed_of, mint_promise}
 use Rattle.node_top.specs.Commands.Peered.{peers_promise}
+use Rattle.node_top.specs.Commands.Refreshing.{refresh_promise}
+use Rattle.node_top.specs.Input.{IsBadLine}
 use Rattle.node_top.specs.Promise.{Promise}
 use Rattle.node_top.specs.Shown.{Shown, HasFailed, nowhere}
 use Rattle.node_top.specs.Called.{Called}
@@ -52,6 +55,7 @@ promise_of (Lookup look) = lookup_promise look
 promise_of (Peers look announce) = peers_promise look announce
 promise_of (Serve own k bits policy receives sealed) = serve_promise (service_of own k bits policy receives sealed)
 promise_of (Table own k bits policy) = table_promise own k bits policy
+promise_of (Refresh timeout sealed) = refresh_promise timeout sealed
 promise_of (Check policy) = check_promise policy
 promise_of (Mint seed c1 c2 tries) = mint_promise seed c1 c2 tries
 promise_of (Sim seed nodes hostile k paths alpha timeout) = sim_promise (simulation_of seed nodes hostile k paths alpha timeout)
@@ -90,12 +94,21 @@ pub record ReadsInput (words : List Word) : Type 0 where
   pub asked : CommandOf words command
   pub reads : IsTrue (promise_of command).reads
 
--- the words ask for a lookup; the input was read to its end, its lines are good, and some give a contact that is usable
--- and passes
-pub record HasSeeds (words : List Word) (called : Called) (source : Shown ℕ) : Type 0 where
+-- the words ask for a command; the input was read to its end, and the line of this number is bad by what the command reads
+pub record NamesBadLine (words : List Word) (source : Shown ℕ) (number : ℕ) : Type 0 where
   pub command : Command
   pub asked : CommandOf words command
-  pub seeds : GivesSeeds (promise_of command).sought called.random source
+  pub is_bad : IsBadLine (promise_of command).bad source number
+
+-- some line of it is
+abbrev pub HasBadLine : List Word → Shown ℕ → Type 0
+HasBadLine words source = (number : ℕ) × NamesBadLine words source number
+
+-- the words ask for a command that reads a saved table; the input was read to its end, and it is one that isn't sound
+pub record HasUnsound (words : List Word) (source : Shown ℕ) : Type 0 where
+  pub command : Command
+  pub asked : CommandOf words command
+  pub unsound : (promise_of command).unsound source
 
 -- the words ask for a lookup; the input was read to its end, its lines are good, and none gives a contact that is
 -- usable and passes
@@ -104,17 +117,18 @@ pub record HasNoSeeds (words : List Word) (called : Called) (source : Shown ℕ)
   pub asked : CommandOf words command
   pub no_seeds : GivesNoSeeds (promise_of command).sought called.random source
 
--- the words ask for a lookup, and the link's events end with the last stray that it takes, by a journal of its own
+-- the words ask for a command that counts strays, and the link's events end with the last that it takes: a lookup's by a
+-- journal of its own
 pub record HasStrays (words : List Word) (called : Called) (source : Shown ℕ) (link : Shown Event) : Type 0 where
   pub command : Command
   pub asked : CommandOf words command
-  pub strays : MeetsLastStray (promise_of command).sought called source link
+  pub strays : (promise_of command).strays called source link
 
--- the words ask for a command, and the link's events have fewer strays than a lookup takes, where it is one
+-- the words ask for a command, and the link's events have fewer strays than it takes, where it counts them
 pub record HasNoLastStray (words : List Word) (called : Called) (source : Shown ℕ) (link : Shown Event) : Type 0 where
   pub command : Command
   pub asked : CommandOf words command
-  pub few : MeetsNoLastStray (promise_of command).sought called source link
+  pub few : (promise_of command).few called source link
 
 -- the words ask for a lookup that isn't sealed, and the link's events end with that stray, by whatever journal
 pub record EndsInStrays (words : List Word) (called : Called) (link : Shown Event) : Type 0 where

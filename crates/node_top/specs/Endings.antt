@@ -3,15 +3,14 @@ use Rattle.std.specs.Prelude.{◌≡◌, ◌⊎◌, ℕ, List, ◌++◌, ◌∷�
 use Rattle.kad_base.specs.declared.types.Event.{Event}
 use Rattle.kad_base.specs.Outside.{Grows}
 use Rattle.node_top.specs.declared.status.Status.{Status}
-use Rattle.node_top.specs.declared.status.Status.TheVariants.{Usage, BadLine, LinkFault, SourceFault, Strays, NoSeeds, NoMemory, Unminted, TooLong}
+use Rattle.node_top.specs.declared.status.Status.TheVariants.{Usage, BadLine, LinkFault, SourceFault, Strays, NoSeeds, NoMemory, Unminted, TooLong, Unsound}
 use Rattle.kad_words.specs.Table.{Word}
 use Rattle.kad_words.specs.Plain.{CommandOf}
 use Rattle.kad_words.specs.declared.command.Command.{Command}
 use Rattle.node_top.specs.Written.{IsFront}
 use Rattle.node_top.specs.Shown.{Shown, HasFailed}
 use Rattle.node_top.specs.Called.{Called}
-use Rattle.node_top.specs.Input.{IsBadLine}
-use Rattle.node_top.specs.Commands.{promise_of, HasText}
+use Rattle.node_top.specs.Commands.{promise_of, HasText, NamesBadLine}
 use Rattle.node_top.specs.Promise.{Promise, IsOneOf}
 
 -- the number of a status
@@ -25,10 +24,11 @@ number_of NoSeeds = 8
 number_of NoMemory = 9
 number_of Unminted = 10
 number_of TooLong = 11
+number_of Unsound = 13
 
 -- no number is greater
 abbrev pub last_status : ℕ
-last_status = 11
+last_status = 13
 
 -- the line of a status
 abbrev pub status_line : Status → List ℕ
@@ -41,6 +41,7 @@ status_line NoSeeds = codes "no seeds\n"
 status_line NoMemory = codes "no memory\n"
 status_line Unminted = codes "unminted\n"
 status_line TooLong = codes "too long\n"
+status_line Unsound = codes "unsound\n"
 
 -- the text was written, or a front of it where the sink's faults rose
 abbrev pub Writes : List ℕ → Shown ℕ → Type 0
@@ -48,16 +49,16 @@ Writes text sink =
     Grows sink.before sink.after (λ added. added ≡ text)
     ⊎ (HasFailed sink × Grows sink.before sink.after (λ added. IsFront added text))
 
--- a status that names a line of the input names the first that is bad
-abbrev pub Names : Shown ℕ → Status → Type 0
-Names source (BadLine line) = IsBadLine source line
-Names source other = Unit {0}
+-- a status that names a line of the input names the one that is bad
+abbrev pub Names : List Word → Shown ℕ → Status → Type 0
+Names words source (BadLine line) = NamesBadLine words source line
+Names words source other = Unit {0}
 
 -- the line of the status of this number was written
-pub record WritesLine (number : ℕ) (source sink : Shown ℕ) : Type 0 where
+pub record WritesLine (words : List Word) (number : ℕ) (source sink : Shown ℕ) : Type 0 where
   pub status : Status
   pub numbered : number ≡ number_of status
-  pub names : Names source status
+  pub names : Names words source status
   pub writes : Writes (status_line status) sink
 
 -- a command whose text was not written to its end: all is as in a whole one, but that a front of its text was written
@@ -76,7 +77,7 @@ EndsByCommand words status = (command : Command) → CommandOf words command →
 
 -- the statuses that end a command before it calls the link
 abbrev pub EndsUnasked : ℕ → Type 0
-EndsUnasked status = (status ≡ 2) ⊎ (status ≡ 3) ⊎ (status ≡ 6) ⊎ (status ≡ 8) ⊎ (status ≡ 10) ⊎ (status ≡ 11)
+EndsUnasked status = (status ≡ 2) ⊎ (status ≡ 3) ⊎ (status ≡ 6) ⊎ (status ≡ 8) ⊎ (status ≡ 10) ⊎ (status ≡ 11) ⊎ (status ≡ 13)
 
 -- this status, or that of no memory
 abbrev pub OrNoMemory : ℕ → ℕ → Type 0

@@ -63,6 +63,20 @@ pub record Lists (source : Shown ℕ) (reports : List Report) : Type 0 where
   pub read : ReadsAll source.before source.after input
   pub good_lines : Reporting (lines input) reports
 
+-- each line of an input of contact lines is good
+abbrev pub AreGoodLines : List ℕ → Type 0
+AreGoodLines input = (reports : List Report) × Reporting (lines input) reports
+
+-- the line of this number is the first of them that isn't
+abbrev pub IsBadContactLine : List ℕ → ℕ → Type 0
+IsBadContactLine input number = IsFirstBad (lines input) number
+
+-- the input was read to its end, and it is good in this sense
+pub record ReadsAs (good : List ℕ → Type 0) (source : Shown ℕ) : Type 0 where
+  pub input : List ℕ
+  pub read : ReadsAll source.before source.after input
+  pub is_good : good input
+
 pub record IsGood (source : Shown ℕ) : Type 0 where
   pub reports : List Report
   pub lists : Lists source reports
@@ -82,15 +96,11 @@ pub record ReadsSome (own : Id) (family : Family) (policy : Policy) (source : Sh
   pub reads : Reads own family policy source contacts
   pub some_one : contacts ≢ []
 
--- the input was read to its end, and the line of this number is the first that is bad
-pub record IsBadLine (source : Shown ℕ) (number : ℕ) : Type 0 where
+-- the input was read to its end, and the line of this number is bad in this sense
+pub record IsBadLine (bad : List ℕ → ℕ → Type 0) (source : Shown ℕ) (number : ℕ) : Type 0 where
   pub input : List ℕ
   pub read : ReadsAll source.before source.after input
-  pub first_bad : IsFirstBad (lines input) number
-
--- the input was read to its end, and it has a bad line
-abbrev pub HasBadLine : Shown ℕ → Type 0
-HasBadLine source = (number : ℕ) × IsBadLine source number
+  pub is_bad : bad input number
 
 -- the input was read to its end without a failure, and each of its lines is good
 pub record ReadsWell (source : Shown ℕ) : Type 0 where

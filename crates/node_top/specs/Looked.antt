@@ -26,7 +26,7 @@ use Rattle.node_top.specs.declared.status.Status.TheVariants.{LinkFault, Strays,
 use Rattle.node_top.specs.Printed.{printed}
 use Rattle.node_top.specs.Shown.{Shown, IsTold, HasFailed}
 use Rattle.node_top.specs.Called.{Called}
-use Rattle.node_top.specs.Input.{Reads, ReadsSome}
+use Rattle.node_top.specs.Input.{Reads, ReadsSome, AreGoodLines, IsBadContactLine}
 use Rattle.node_top.specs.Promise.{Promise, Sought, Aim, ReadingCause, reading}
 use Rattle.node_top.specs.Reached.{HasRunOut}
 use Rattle.node_top.specs.Started.{own_of, look_of, book_of, drawn_of, lookup_of, IsInRange, Start}
@@ -85,11 +85,11 @@ SeekCause kind look called source link other = ⊥
 
 -- why a lookup ended with no output
 abbrev pub LookupCause : AskKind → LookWords → Called → Shown ℕ → Shown Event → Status → Type 0
-LookupCause kind look called source link status = ReadingCause (SeekCause kind look called source link) source status
+LookupCause kind look called source link status = ReadingCause IsBadContactLine (SeekCause kind look called source link) source status
 
 -- why an input gave no reports
 abbrev pub ReportsCause : Shown ℕ → Status → Type 0
-ReportsCause source status = ReadingCause (λ other. ⊥) source status
+ReportsCause source status = ReadingCause IsBadContactLine (λ other. ⊥) source status
 
 -- why an input gave no contacts to begin with
 abbrev pub InputCause : Id → Family → Policy → Shown ℕ → Status → Type 0
@@ -98,27 +98,12 @@ InputCause own family policy source other = ReportsCause source other
 
 -- ---- what is looked up, if something is
 
--- the input was read to its end, its lines are good, and some give a contact of the network that is usable and passes
-abbrev pub GivesSeeds : Option Sought → List ℕ → Shown ℕ → Type 0
-GivesSeeds None random source = ⊥
-GivesSeeds (Some sought) random source = ReadsSome (own_of sought.look.own random) sought.look.family sought.look.policy source
-
--- the same, and none does
+-- the input was read to its end, its lines are good, and none gives a contact of the network that is usable and passes
 abbrev pub GivesNoSeeds : Option Sought → List ℕ → Shown ℕ → Type 0
 GivesNoSeeds None random source = ⊥
 GivesNoSeeds (Some sought) random source = Reads (own_of sought.look.own random) sought.look.family sought.look.policy source []
 
--- the link's events end with the last stray that the lookup takes, by a journal of its own
-abbrev pub MeetsLastStray : Option Sought → Called → Shown ℕ → Shown Event → Type 0
-MeetsLastStray None called source link = ⊥
-MeetsLastStray (Some sought) called source link = EndsByLastStray sought.kind sought.look called source link
-
--- what is looked up, if something is, has met fewer strays than that
-abbrev pub MeetsNoLastStray : Option Sought → Called → Shown ℕ → Shown Event → Type 0
-MeetsNoLastStray None called source link = Unit {0}
-MeetsNoLastStray (Some sought) called source link = MeetsFew sought.kind sought.look called source link
-
--- the lookup isn't sealed, and they do by whatever journal
+-- the lookup isn't sealed, and the link's events end with the last stray that it takes, by whatever journal
 abbrev pub ShowsLastStray : Option Sought → Called → Shown Event → Type 0
 ShowsLastStray None called link = ⊥
 ShowsLastStray (Some sought) called link = IsInStrays sought.kind sought.look called link
@@ -137,7 +122,12 @@ pub record SeeksWell (sought : Sought) (called : Called) (source : Shown ℕ) (l
 abbrev pub seek_aim : Sought → (Called → Shown ℕ → Shown Event → List ℕ → Type 0) → (Called → Shown ℕ → Shown Event → Type 0) → Aim
 seek_aim sought text begun = record {
   links = true;
+  good = AreGoodLines;
+  bad = IsBadContactLine;
+  unsound = λ source. ⊥;
   sought = Some sought;
+  strays = λ called source link. EndsByLastStray sought.kind sought.look called source link;
+  few = λ called source link. MeetsFew sought.kind sought.look called source link;
   ends = 4 ∷ 7 ∷ 8 ∷ [];
   ranges = IsInRange sought.look;
   text = text;

@@ -6,7 +6,7 @@ use Rattle.lookup_core.specs.declared.quest.AskKind.{AskKind}
 use Rattle.kad_words.specs.declared.command.LookWords.{LookWords}
 use Rattle.node_top.specs.declared.status.Status.{Status}
 use Rattle.node_top.specs.declared.status.Status.TheVariants.{BadLine, LinkFault, SourceFault, NoMemory, Unminted, TooLong}
-use Rattle.node_top.specs.Input.{ReadsFew, ReadsTooMuch, ReadsWell, IsBadLine, IsGood}
+use Rattle.node_top.specs.Input.{ReadsFew, ReadsTooMuch, ReadsWell, IsBadLine, IsGood, AreGoodLines, IsBadContactLine}
 use Rattle.node_top.specs.Shown.{Shown, IsTold, HasFailed}
 use Rattle.node_top.specs.Called.{Called}
 
@@ -19,8 +19,15 @@ pub record Promise : Type 1 where
   -- whether it reads the input, and takes the link
   pub reads : Bool
   pub links : Bool
+  -- the line of this number of an input is bad: which lines are depends on what is read
+  pub bad : List ℕ → ℕ → Type 0
+  -- an input without a bad line is a saved table that isn't sound
+  pub unsound : Shown ℕ → Type 0
   -- what it looks up, if it does
   pub sought : Option Sought
+  -- the link's events end with the last stray that it takes; and there were fewer
+  pub strays : Called → Shown ℕ → Shown Event → Type 0
+  pub few : Called → Shown ℕ → Shown Event → Type 0
   -- the statuses that it may end with besides 0 (done), 5 (cut short) and 9 (no memory)
   pub ends : List ℕ
   -- the values of its words are within the limits
@@ -48,7 +55,13 @@ IsOneOf (x ∷ xs) n = (n ≡ x) ⊎ IsOneOf xs n
 -- what it does behind its input; the fields are those of its promise, where `ends` and `cause` leave out what any input brings
 pub record Aim : Type 1 where
   pub links : Bool
+  -- what an input is that it goes on with
+  pub good : List ℕ → Type 0
+  pub bad : List ℕ → ℕ → Type 0
+  pub unsound : Shown ℕ → Type 0
   pub sought : Option Sought
+  pub strays : Called → Shown ℕ → Shown Event → Type 0
+  pub few : Called → Shown ℕ → Shown Event → Type 0
   pub ends : List ℕ
   pub ranges : Type 0
   pub text : Called → Shown ℕ → Shown Event → List ℕ → Type 0
@@ -57,26 +70,37 @@ pub record Aim : Type 1 where
   pub cause : Called → Shown ℕ → Shown Event → Status → Type 0
   pub needs : Called → Shown ℕ → Shown Event → Type 0
 
--- why an input, or what is done behind it, ended with no text
-abbrev pub ReadingCause : (Status → Type 0) → Shown ℕ → Status → Type 0
-ReadingCause behind source (BadLine line) = IsBadLine source line
-ReadingCause behind source SourceFault = HasFailed source × ReadsFew source.before source.after
-ReadingCause behind source NoMemory = Unit {0}
-ReadingCause behind source TooLong = ReadsTooMuch source.before source.after
-ReadingCause behind source other = behind other
+-- why the bytes of an input were not read to their end
+abbrev pub WholeCause : Shown ℕ → Status → Type 0
+WholeCause source SourceFault = HasFailed source × ReadsFew source.before source.after
+WholeCause source NoMemory = Unit {0}
+WholeCause source TooLong = ReadsTooMuch source.before source.after
+WholeCause source other = ⊥
+
+-- why an input, of which these lines are bad, or what is done behind it, ended with no text
+abbrev pub ReadingCause : (List ℕ → ℕ → Type 0) → (Status → Type 0) → Shown ℕ → Status → Type 0
+ReadingCause bad behind source (BadLine line) = IsBadLine bad source line
+ReadingCause bad behind source SourceFault = HasFailed source × ReadsFew source.before source.after
+ReadingCause bad behind source NoMemory = Unit {0}
+ReadingCause bad behind source TooLong = ReadsTooMuch source.before source.after
+ReadingCause bad behind source other = behind other
 
 abbrev pub reading : Aim → Promise
 reading aim = record {
   reads = true;
   links = aim.links;
+  bad = aim.bad;
+  unsound = aim.unsound;
   sought = aim.sought;
+  strays = aim.strays;
+  few = aim.few;
   ends = 3 ∷ 6 ∷ 11 ∷ aim.ends;
   ranges = aim.ranges;
   text = aim.text;
   started = aim.started;
   begun = aim.begun;
   nothing = λ random. ⊥;
-  cause = λ called source link status. ReadingCause (aim.cause called source link) source status;
+  cause = λ called source link status. ReadingCause aim.bad (aim.cause called source link) source status;
   needs = aim.needs;
 }
 
@@ -84,7 +108,12 @@ reading aim = record {
 abbrev pub judge_aim : Type 0 → (List ℕ → Shown ℕ → List ℕ → Type 0) → Aim
 judge_aim ranges text = record {
   links = false;
+  good = AreGoodLines;
+  bad = IsBadContactLine;
+  unsound = λ source. ⊥;
   sought = None;
+  strays = λ called source link. ⊥;
+  few = λ called source link. Unit {0};
   ends = [];
   ranges = ranges;
   text = λ called source link written. text called.random source written;
@@ -110,7 +139,12 @@ pub record HostsWell (source : Shown ℕ) (link : Shown Event) : Type 0 where
 abbrev pub host_aim : Type 0 → (Called → Shown ℕ → Shown Event → List ℕ → Type 0) → (Called → Shown ℕ → Shown Event → Type 0) → Aim
 host_aim ranges text begun = record {
   links = true;
+  good = AreGoodLines;
+  bad = IsBadContactLine;
+  unsound = λ source. ⊥;
   sought = None;
+  strays = λ called source link. ⊥;
+  few = λ called source link. Unit {0};
   ends = 4 ∷ [];
   ranges = ranges;
   text = text;
@@ -133,7 +167,11 @@ abbrev pub unread : List ℕ → Type 0 → (List ℕ → List ℕ → Type 0) �
 unread ends ranges text nothing = record {
   reads = false;
   links = false;
+  bad = IsBadContactLine;
+  unsound = λ source. ⊥;
   sought = None;
+  strays = λ called source link. ⊥;
+  few = λ called source link. Unit {0};
   ends = ends;
   ranges = ranges;
   text = λ called source link written. text called.random written × (source.after ≡ source.before);

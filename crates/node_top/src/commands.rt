@@ -14,6 +14,7 @@ pub(crate) mod check;
 pub(crate) mod lookup;
 pub(crate) mod mint;
 pub(crate) mod peers;
+pub(crate) mod refresh;
 pub(crate) mod serve;
 pub(crate) mod sim;
 pub(crate) mod table;
@@ -79,6 +80,9 @@ fn output_of<R: Threads + Wait + Sync, S: Source, L: Link, C: Check + Sync, G: S
                 sealed,
             };
             serve::serve(alloc, &service, source, link, call)
+        }
+        Command::Refresh { timeout, sealed } => {
+            refresh::refresh(alloc, timeout, sealed, source, link, call)
         }
         other => plain_output_of(alloc, other, source, call),
     }
@@ -199,7 +203,7 @@ pub(crate) fn asked_plainly<S: Source, C: Check, G: Seal + SealCheck>(
         → IfErr result (λ status. number_of status ≡ 2) }
     ensures no_input { ¬ ReadsInput (bytes_of words.now) → source.new ≡ source.old }
     ensures no_link { IfErr result (λ status. (number_of status ≢ 4)
-        × (number_of status ≢ 7) × (number_of status ≢ 8)) }
+        × (number_of status ≢ 7) × (number_of status ≢ 8) × (number_of status ≢ 13)) }
     ensures at_most { ReadsAtMost (S.left source.old) (S.left source.new) }
 {
     if takes_link(words) {

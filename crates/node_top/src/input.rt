@@ -1,7 +1,9 @@
 //! The input of a command: its bytes, and the reports and contacts that its lines give.
-ghost use Rattle.std.specs.Prelude.{OnOk, IfOk, IfErr, IsTrue, ◌↔◌};
+ghost use Rattle.std.specs.Prelude.{OnOk, IfOk, IfErr, IsTrue, ◌↔◌, ◌≤◌, length};
+ghost use Rattle.kad_base.specs.Limits.{max_input};
 ghost use Rattle.node_top.specs.Input.{ReadsAll, ReadsAtMost, Lists, IsAdmitted, Admits, AdmitsOne, IsKept, Keeps, KeepsOne};
 ghost use Rattle.node_top.specs.Looked.{ReportsCause};
+ghost use Rattle.node_top.specs.Promise.{WholeCause};
 ghost use Rattle.node_top.specs.Shown.{shown};
 
 use crate::lines::{LinesFault, read_lines};
@@ -14,9 +16,10 @@ use kad_base::{
 use std::alloc::Global;
 
 /// Reads a source to its end, or to one byte more than an input may have.
-fn read_whole<S: Source>(alloc: Global, source: &mut S) -> Result<Bytes, Status>
+pub(crate) fn read_whole<S: Source>(alloc: Global, source: &mut S) -> Result<Bytes, Status>
     ensures ok { IfOk result (ReadsAll (S.left source.old) (S.left source.new)) }
-    ensures cause { IfErr result (ReportsCause (shown S.left S.faults source.old source.new)) }
+    ensures few { IfOk result (λ bytes. length bytes ≤ max_input) }
+    ensures cause { IfErr result (WholeCause (shown S.left S.faults source.old source.new)) }
     ensures at_most { ReadsAtMost (S.left source.old) (S.left source.new) }
 {
     let mut bytes = List::new(alloc);

@@ -13,7 +13,8 @@ pub(crate) const LINE_ROOM: usize = 30;
 pub(crate) enum Status {
     /// The words are not of the plain form.
     Usage,
-    /// This line of the input, counted from 1, is the first that is no contact line.
+    /// This line of the input, counted from 1, is the first that is none of what the command reads: no contact line, or none
+    /// that a saved table may go on with.
     BadLine { line: usize },
     /// A receive failed.
     LinkFault,
@@ -28,6 +29,8 @@ pub(crate) enum Status {
     Unminted,
     /// The input is longer than 1,048,576 bytes.
     TooLong,
+    /// The input is a saved table that isn't sound.
+    Unsound,
 }
 
 impl From<NoMemory> for Status {
@@ -56,7 +59,7 @@ impl Status {
     /// The exit status.
     pub(crate) fn number(&self) -> u8
         ensures number { result ≡ number_of self.now }
-        ensures known { (1 < result) × (result ≤ last_status) × (result ≢ 5) }
+        ensures known { (1 < result) × (result ≤ last_status) × (result ≢ 5) × (result ≢ 12) }
     {
         match self {
             Status::Usage => 2,
@@ -68,6 +71,7 @@ impl Status {
             Status::NoMemory => 9,
             Status::Unminted => 10,
             Status::TooLong => 11,
+            Status::Unsound => 13,
         }
     }
 
@@ -86,6 +90,7 @@ impl Status {
             Status::NoMemory => put_bytes(room, 0, b"no memory\n"),
             Status::Unminted => put_bytes(room, 0, b"unminted\n"),
             Status::TooLong => put_bytes(room, 0, b"too long\n"),
+            Status::Unsound => put_bytes(room, 0, b"unsound\n"),
         }
     }
 }

@@ -3,9 +3,9 @@ ghost use Rattle.std.specs.Prelude.{◌≡◌, ◌≢◌, ◌≤◌, ◌⊎◌, 
 ghost use Rattle.node_top.specs.Asked.{Asks, AsksPlain, bytes_of};
 ghost use Rattle.node_top.specs.Called.{called_plainly, called_with};
 ghost use Rattle.node_top.specs.Shown.{shown, nowhere, IsTold, HasFailed};
-ghost use Rattle.node_top.specs.Input.{HasBadLine, ReadsAtMost, ReadsTooMuch};
+ghost use Rattle.node_top.specs.Input.{ReadsAtMost, ReadsTooMuch};
 ghost use Rattle.node_top.specs.Commands.{GoesPlainlyWell, GoesWell, HasBegun};
-ghost use Rattle.node_top.specs.Commands.{HasNoLastStray, HasNoSeeds, HasNothing, HasSeeds, HasStart, HasStrays, EndsInStrays};
+ghost use Rattle.node_top.specs.Commands.{HasBadLine, HasNoLastStray, HasNoSeeds, HasNothing, HasStart, HasStrays, HasUnsound, EndsInStrays};
 ghost use Rattle.node_top.specs.Commands.{IsDone, ReadsInput};
 ghost use Rattle.node_top.specs.Endings.{last_status, CutShort, EndsByCommand};
 ghost use Rattle.node_top.specs.Endings.{EndsUnasked, OrNoMemory, WritesLine};
@@ -51,7 +51,8 @@ pub fn run<
     seal: &G,
 ) -> u8
     // The text that was written is the command's own: a lookup's is that of a legal journal which the link's events tell
-    // and whose paths have run out, and that of a node which served counts what they tell.
+    // and whose paths have run out, that of a node which served counts what they
+    // tell, and that of a refresh is the saved text of the table which they leave of the input's.
     ensures done { result ≡ 0 → IsDone (bytes_of words.now)
         (called_with random.now (G.accepted seal.now) (G.tag_of seal.now))
         (shown S.left S.faults source.old source.new)
@@ -63,7 +64,7 @@ pub fn run<
 
     // Each other status but 9 comes only with its cause.
     ensures bad_line { result ≡ 3 → ReadsInput (bytes_of words.now)
-        × HasBadLine (shown S.left S.faults source.old source.new) }
+        × HasBadLine (bytes_of words.now) (shown S.left S.faults source.old source.new) }
     ensures link_fault { result ≡ 4 → HasFailed (shown L.told L.recv_faults link.old link.new) }
     ensures few_strays { result ≡ 4 → HasNoLastStray (bytes_of words.now)
         (called_with random.now (G.accepted seal.now) (G.tag_of seal.now))
@@ -76,10 +77,7 @@ pub fn run<
         (called_with random.now (G.accepted seal.now) (G.tag_of seal.now))
         (shown S.left S.faults source.old source.new)
         (shown L.told L.recv_faults link.old link.new) }
-    ensures begun { result ≡ 4 → HasStart (bytes_of words.now)
-        (called_with random.now (G.accepted seal.now) (G.tag_of seal.now))
-        (shown S.left S.faults source.old source.new) }
-    ensures seeded { result ≡ 7 → HasSeeds (bytes_of words.now)
+    ensures begun { (result ≡ 4) ⊎ (result ≡ 7) → HasStart (bytes_of words.now)
         (called_with random.now (G.accepted seal.now) (G.tag_of seal.now))
         (shown S.left S.faults source.old source.new) }
     ensures unfinished { (result ≡ 4) ⊎ (result ≡ 7) → HasBegun (bytes_of words.now)
@@ -96,10 +94,12 @@ pub fn run<
     ensures unminted { result ≡ 10 → HasNothing (bytes_of words.now) random.now }
     ensures too_long { result ≡ 11 → ReadsInput (bytes_of words.now)
         × ReadsTooMuch (S.left source.old) (S.left source.new) }
+    ensures unsound { result ≡ 13 → HasUnsound (bytes_of words.now)
+        (shown S.left S.faults source.old source.new) }
 
     // Where the source, or the link, goes on telling, each of these causes brings its status, want of memory aside.
     ensures bad_line_comes { let input = shown S.left S.faults source.old source.new in
-        Asks (bytes_of words.now) → IsTold input → ¬ HasFailed input → HasBadLine input
+        IsTold input → ¬ HasFailed input → HasBadLine (bytes_of words.now) input
         → OrNoMemory result 3 }
     ensures no_seeds_come { let input = shown S.left S.faults source.old source.new in
         IsTold input → ¬ HasFailed input → HasNoSeeds (bytes_of words.now)
@@ -112,6 +112,9 @@ pub fn run<
     ensures too_long_comes { S.left source.new ≢ None
         → ReadsTooMuch (S.left source.old) (S.left source.new)
         → OrNoMemory result 11 }
+    ensures unsound_comes { let input = shown S.left S.faults source.old source.new in
+        IsTold input → ¬ HasFailed input → HasUnsound (bytes_of words.now) input
+        → OrNoMemory result 13 }
 
     // With what it needs, and no failure, a command is done, want of memory aside.
     ensures complete { GoesWell (bytes_of words.now)
@@ -122,7 +125,7 @@ pub fn run<
         → OrNoMemory result 0 }
 
     // What was written: the line of the status, or at 5 a front of the text.
-    ensures line { result ≢ 0 → result ≢ 5 → WritesLine result
+    ensures line { result ≢ 0 → result ≢ 5 → WritesLine (bytes_of words.now) result
         (shown S.left S.faults source.old source.new)
         (shown K.written K.faults sink.old sink.new) }
     ensures cut_short { result ≡ 5 → CutShort (bytes_of words.now)
@@ -142,7 +145,7 @@ pub fn run<
     // What a link keeps whose receives have room for 4,097 bytes: so each of them has.
     ensures kept { L.kept link.new ≡ L.kept link.old }
     ensures by_command { EndsByCommand (bytes_of words.now) result }
-    ensures statuses { (result ≤ last_status) × (result ≢ 1) }
+    ensures statuses { (result ≤ last_status) × (result ≢ 1) × (result ≢ 12) }
 {
     let call = Call {
         random: *random,
@@ -167,7 +170,8 @@ pub fn run<
 /// `sim` reads nothing, looks up in a network in memory that is made from a seed, and writes the counts of the lookup and how
 /// many of the closest nodes that aren't hostile it found. It waits by the network's own clock, which takes no time.
 ///
-/// The statuses and their lines are those of `run`. 2 comes also where the words ask for another command; 4, 7 and 8 don't come.
+/// The statuses and their lines are those of `run`. 2 comes also where the words ask for another command; 4, 7, 8 and 13 don't
+/// come.
 pub fn run_plain<S: Source, K: Sink, C: Check>(
     alloc: Global,
     words: &[String],
@@ -188,7 +192,7 @@ pub fn run_plain<S: Source, K: Sink, C: Check>(
 
     // Each other status but 9 comes only with its cause.
     ensures bad_line { result ≡ 3 → ReadsInput (bytes_of words.now)
-        × HasBadLine (shown S.left S.faults source.old source.new) }
+        × HasBadLine (bytes_of words.now) (shown S.left S.faults source.old source.new) }
     ensures sink_fault { result ≡ 5 → HasFailed (shown K.written K.faults sink.old sink.new) }
     ensures source_fault { result ≡ 6 → ReadsInput (bytes_of words.now)
         × HasFailed (shown S.left S.faults source.old source.new) }
@@ -198,8 +202,8 @@ pub fn run_plain<S: Source, K: Sink, C: Check>(
 
     // Where the source goes on telling, each of these causes brings its status, want of memory aside.
     ensures bad_line_comes { let input = shown S.left S.faults source.old source.new in
-        AsksPlain (bytes_of words.now) → IsTold input → ¬ HasFailed input → HasBadLine input
-        → OrNoMemory result 3 }
+        AsksPlain (bytes_of words.now) → IsTold input → ¬ HasFailed input
+        → HasBadLine (bytes_of words.now) input → OrNoMemory result 3 }
     ensures unminted_comes { HasNothing (bytes_of words.now) random.now → OrNoMemory result 10 }
     ensures too_long_comes { S.left source.new ≢ None
         → ReadsTooMuch (S.left source.old) (S.left source.new)
@@ -212,7 +216,7 @@ pub fn run_plain<S: Source, K: Sink, C: Check>(
         → OrNoMemory result 0 }
 
     // What was written: the line of the status, or at 5 a front of the text.
-    ensures line { result ≢ 0 → result ≢ 5 → WritesLine result
+    ensures line { result ≢ 0 → result ≢ 5 → WritesLine (bytes_of words.now) result
         (shown S.left S.faults source.old source.new)
         (shown K.written K.faults sink.old sink.new) }
     ensures cut_short { result ≡ 5 → AsksPlain (bytes_of words.now)
@@ -226,7 +230,8 @@ pub fn run_plain<S: Source, K: Sink, C: Check>(
     ensures at_most { ReadsAtMost (S.left source.old) (S.left source.new) }
     ensures by_command { AsksPlain (bytes_of words.now)
         → EndsByCommand (bytes_of words.now) result }
-    ensures statuses { (result ≤ last_status) × (result ≢ 1) × (result ≢ 4) × (result ≢ 7) × (result ≢ 8) }
+    ensures statuses { (result ≤ last_status) × (result ≢ 1) × (result ≢ 4) × (result ≢ 7) × (result ≢ 8)
+        × (result ≢ 12) × (result ≢ 13) }
 {
     let seal = GroupSeal::new([0; 32]);
     let call = Call {

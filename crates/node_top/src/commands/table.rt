@@ -18,7 +18,7 @@ use std::alloc::Global;
 use table_file::write;
 
 /// The saved text of a table.
-fn text_of(alloc: Global, table: &Table) -> Result<Bytes, NoMemory>
+pub(crate) fn text_of(alloc: Global, table: &Table) -> Result<Bytes, NoMemory>
     ensures { IfOk result (IsTextOf table.now) }
 {
     table.sound();

@@ -10,3 +10,6 @@ returns-in-Peers-clause-cause g c = cause_at c.peers.result _ _ _ _ _ (sym c.in-
 
 pub returns-in-Serve-clause-cause : goal.returns-in-Serve-clause-cause
 returns-in-Serve-clause-cause g c = cause_at c.serve.result _ _ _ _ _ (sym c.in-Serve.is) c.serve.ensures.cause
+
+pub returns-in-Refresh-clause-cause : goal.returns-in-Refresh-clause-cause
+returns-in-Refresh-clause-cause g c = cause_at c.refresh.result _ _ _ _ _ (sym c.in-Refresh.is) c.refresh.ensures.cause

@@ -52,7 +52,7 @@ returns-in-Err-clause-too_long g c = λ is. too_long _ _ _ _ _ c.in-Err.status c
 
 pub returns-in-Err-clause-bad_line_comes : goal.returns-in-Err-clause-bad_line_comes
 returns-in-Err-clause-bad_line_comes g c = λ asks told quiet bad.
-    subst (λ n. OrNoMemory n 3) (sym c.write_line.ensures.number) (bad_line_comes _ _ _ _ _ c.in-Err.status c.in-Err.ensures.cause (λ e. refl) asks told quiet bad)
+    subst (λ n. OrNoMemory n 3) (sym c.write_line.ensures.number) (bad_line_comes _ _ _ _ _ c.in-Err.status c.in-Err.ensures.cause (λ e. refl) (λ command asked. asks) told quiet bad)
 
 pub returns-in-Err-clause-unminted_comes : goal.returns-in-Err-clause-unminted_comes
 returns-in-Err-clause-unminted_comes g c = λ none_.

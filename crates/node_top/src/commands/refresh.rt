@@ -1,0 +1,85 @@
+//! The command `refresh`: pings the least recently seen contact of each bucket of a saved table, and makes the saved text of the
+//! table that results.
+ghost use Rattle.std.specs.Prelude.{◌≡◌, ◌⊎◌, IfOk, IfErr};
+ghost use Rattle.node_top.specs.Called.{called_with};
+ghost use Rattle.node_top.specs.Commands.Refreshing.{Restores, RefreshBegun, RefreshText, SavedCause, refresh_promise};
+ghost use Rattle.node_top.specs.Endings.{EndsUnasked, number_of};
+ghost use Rattle.node_top.specs.Input.{ReadsAtMost};
+ghost use Rattle.node_top.specs.Shown.{shown};
+
+use crate::bootstrap::FIRST_TX;
+use crate::call::Call;
+use crate::commands::table::text_of;
+use crate::input::read_whole;
+use crate::status::Status;
+use bucket_tree::TableFault;
+use contact_table::Table;
+use id_puzzles::Words;
+use kad_base::{Bytes, Link, Source};
+use seal_tags::{Seal, SealCheck};
+use std::alloc::Global;
+use table_file::{SaveFault, read};
+use table_refresh::RefreshFault;
+
+/// Reads the saved text of a table, and makes the table that it tells.
+fn read_table<S: Source>(alloc: Global, source: &mut S) -> Result<Table, Status>
+    ensures ok { IfOk result (Restores (shown S.left S.faults source.old source.new)) }
+    ensures cause { IfErr result (SavedCause (shown S.left S.faults source.old source.new)) }
+    ensures at_most { ReadsAtMost (S.left source.old) (S.left source.new) }
+{
+    let input = read_whole(alloc, source)?;
+    let saved = match read(alloc, input.as_slice()) {
+        Ok(saved) => saved,
+        Err(SaveFault::BadLine { line }) => {
+            return Err(Status::BadLine {
+                line: line as usize,
+            });
+        }
+        Err(SaveFault::NoMemory) => return Err(Status::NoMemory),
+    };
+    match Table::of_rows(alloc, &saved) {
+        Ok(table) => Ok(table),
+        Err(TableFault::Unsound) => Err(Status::Unsound),
+        Err(TableFault::NoMemory) => Err(Status::NoMemory),
+    }
+}
+
+/// Refreshes the table of the input, and makes the saved text of the table that results, or says why there is none. Nothing is
+/// written yet.
+pub(crate) fn refresh<S: Source, L: Link, C, G: Seal + SealCheck>(
+    alloc: Global,
+    timeout: u32,
+    sealed: bool,
+    source: &mut S,
+    link: &mut L,
+    call: &Call<'_, C, G>,
+) -> Result<Bytes, Status>
+    ensures ok { IfOk result (RefreshText timeout sealed (called_with call.now.random (G.accepted call.now.seal.now)
+        (G.tag_of call.now.seal.now))
+        (shown S.left S.faults source.old source.new)
+        (shown L.told L.recv_faults link.old link.new)) }
+    ensures cause { IfErr result ((refresh_promise timeout sealed).cause (called_with call.now.random (G.accepted call.now.seal.now)
+        (G.tag_of call.now.seal.now))
+        (shown S.left S.faults source.old source.new)
+        (shown L.told L.recv_faults link.old link.new)) }
+    ensures no_memory { IfErr result (λ status. status ≡ Status.NoMemory →
+        RefreshBegun timeout sealed (called_with call.now.random (G.accepted call.now.seal.now)
+        (G.tag_of call.now.seal.now))
+        (shown S.left S.faults source.old source.new)
+        (shown L.told L.recv_faults link.old link.new) ⊎ (link.new ≡ link.old)) }
+    ensures early { IfErr result (λ status. EndsUnasked (number_of status) → link.new ≡ link.old) }
+    ensures kept { L.kept link.new ≡ L.kept link.old }
+    ensures at_most { ReadsAtMost (S.left source.old) (S.left source.new) }
+{
+    let table = read_table(alloc, source)?;
+    let mut words = Words::new(&call.random, FIRST_TX);
+    let (table, ended) = table_refresh::refresh(
+        alloc, link, &mut words, table, timeout, sealed, call.seal,
+    );
+    match ended {
+        Ok(()) => Ok(text_of(alloc, &table)?),
+        Err(RefreshFault::LinkFault) => Err(Status::LinkFault),
+        Err(RefreshFault::Strays) => Err(Status::Strays),
+        Err(RefreshFault::NoMemory) => Err(Status::NoMemory),
+    }
+}
