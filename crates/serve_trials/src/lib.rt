@@ -1,4 +1,4 @@
-//! Whole commands that serve, check, mint, simulate and save a table, and reads and writes that fail, as tests:
+//! Whole commands that serve, check, mint, simulate, save a table and refresh one, and reads and writes that fail, as tests:
 //! by `run` and by `run_plain`. They stand apart from those of lookups, so that two processors
 //! prove them at once, and call what anybody may.
 #![tactic(auto)]
@@ -9,6 +9,8 @@ mod faults;
 mod input;
 #[cfg(test)]
 mod plain;
+#[cfg(test)]
+mod refreshing;
 #[cfg(test)]
 mod saving;
 #[cfg(test)]
