@@ -65,3 +65,17 @@ writable_forms (message.Query tx ro ask) n = asks ask n
     asks (Other method) n = tt
 writable_forms (message.Answer tx answer) n = n.v
 writable_forms (message.Fault tx code text) n = tt
+
+pub writable_immutable : (m : Message) → IsWritable m → is_mutable m ≡ false
+writable_immutable (message.Query tx ro ask) n = asks ask n
+  where
+    asks : (ask : Ask) → IsWritableAsk ask → is_mutable_ask ask ≡ false
+    asks (Ping id) n = refl
+    asks (FindNode id target want) n = refl
+    asks (GetPeers id info_hash want) n = refl
+    asks (AnnouncePeer id info_hash port token) n = refl
+    asks (Get id target want) n = refl
+    asks (Put id token v mutable) n = n.immutable
+    asks (Other method) n = refl
+writable_immutable (message.Answer tx answer) n = refl
+writable_immutable (message.Fault tx code text) n = refl

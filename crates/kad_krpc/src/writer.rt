@@ -1,9 +1,9 @@
 //! Writes a message in its one written form, by puts into bytes that are there; what is put into none is measured.
-ghost use Rattle.std.specs.Prelude.{◌≡◌, ◌<◌, ◌∷◌, [], ◌↔◌, length, take, IfOk, IsNone, IfSome};
+ghost use Rattle.std.specs.Prelude.{◌≡◌, false, ◌<◌, ◌∷◌, [], ◌↔◌, length, take, IfOk, IsNone, IfSome};
 ghost use Rattle.kad_bencode.specs.declared.value.Value.TheVariants as value;
 ghost use Rattle.kad_bencode.specs.Spelling.{text_of};
 ghost use Rattle.kad_bencode.specs.Written.{Puts};
-ghost use Rattle.kad_krpc.specs.Form.{BearsForm, CarriesForm, HasForms, IsWritable, message_pairs, form};
+ghost use Rattle.kad_krpc.specs.Form.{BearsForm, CarriesForm, HasForms, IsWritable, is_mutable, message_pairs, form};
 ghost use Rattle.kad_krpc.specs.Reading.{Says};
 ghost use Rattle.kad_krpc.specs.declared.message.Message.TheVariants as Message;
 
@@ -82,7 +82,8 @@ fn put_message(buf: &mut [u8], message: &Message) -> usize
 /// Writes the written form of a message in front of `buf`, and answers its length; `None` where it is longer than `buf`,
 /// whose bytes are then any. Takes no memory.
 pub fn encode_into(message: &Message, buf: &mut [u8; 4096]) -> Option<usize>
-    requires { HasForms message.now }
+    requires forms { HasForms message.now }
+    requires immutable { is_mutable message.now ≡ false }
     ensures none { IsNone result ↔ 4096 < length (form message.now) }
     ensures length { IfSome result (λ n. n ≡ length (form message.now)) }
     ensures form { IfSome result (λ n. take n buf.new ≡ form message.now) }

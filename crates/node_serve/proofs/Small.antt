@@ -1,5 +1,5 @@
 -- A reply with few parts is short, and with its tag too.
-use Rattle.std.proofs.Common.{◌≡◌, ℕ, suc, zero, ◌+◌, ◌*◌, ◌<◌, ◌≤◌, List, [], ◌∷◌, ◌++◌, length, map, ℤ, refl, ap, ◌∙◌, arith, length-append, Option, Some, None}
+use Rattle.std.proofs.Common.{◌≡◌, false, ℕ, suc, zero, ◌+◌, ◌*◌, ◌<◌, ◌≤◌, List, [], ◌∷◌, ◌++◌, length, map, ℤ, refl, ap, ◌∙◌, arith, length-append, Option, Some, None}
 use Rattle.std.specs.Prelude.{codes, IfSome}
 use Rattle.std.specs.List.{concat}
 use Rattle.std.specs.Int.Digits.{digits_of}
@@ -25,7 +25,7 @@ use Rattle.kad_krpc.specs.declared.message.Answer.{Answer}
 use Rattle.kad_krpc.specs.declared.message.Message.{Message}
 use Rattle.kad_krpc.specs.declared.message.Message.TheVariants as message
 use Rattle.kad_bencode.proofs.Formed.{named_text}
-use Rattle.kad_krpc.specs.Form.{IsCarried, HasForms, pair, maybe, nodes_value, snodes_value, peers_value, answer_pairs, message_pairs, form}
+use Rattle.kad_krpc.specs.Form.{IsCarried, HasForms, is_mutable, pair, maybe, nodes_value, snodes_value, peers_value, answer_pairs, message_pairs, form}
 use Rattle.kad_krpc.specs.Records.{addr_bytes, nodes_bytes, snodes_bytes}
 use Rattle.kad_krpc.specs.Seal.{tagged}
 use Rattle.node_serve.specs.Sizes.{HasFew, IsSmall, IsCompact, count, max_reply, nodes_size, peers_bytes, snodes_size, values_size}
@@ -159,6 +159,11 @@ pub small_forms : (m : Message) → IsSmall m → HasForms m
 small_forms (message.Query tx read_only ask) h = absurd h
 small_forms (message.Answer tx answer) h = h.1.v
 small_forms (message.Fault tx code text) h = tt
+
+pub small_immutable : (m : Message) → IsSmall m → is_mutable m ≡ false
+small_immutable (message.Query tx read_only ask) h = absurd h
+small_immutable (message.Answer tx answer) h = refl
+small_immutable (message.Fault tx code text) h = refl
 
 pub answer_short : (tx : List ℕ) (a : Answer) → length tx ≤ max_answered_tx → HasFew a → IsCompact a → length (form (message.Answer tx a)) ≤ max_reply
 unfolding form

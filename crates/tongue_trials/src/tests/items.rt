@@ -1,7 +1,7 @@
 //! Items of BEP 44 in messages: what is got and put, values of any kind and hostile ones.
 use crate::tests::messages::{ABC, MNO, NOTHING, again, bare, bytes, reads, refuses};
 use kad_bencode::Bad;
-use kad_krpc::{Ask, Key, KrpcFault, Message, decode, get_into};
+use kad_krpc::{Answer, Ask, Key, KrpcFault, Message, decode, get_into};
 use std::alloc::Global;
 use std::process::Abort;
 use std::test::Fail;
@@ -24,37 +24,51 @@ fn answering(alloc: Global, v: &[u8]) -> Result<Vec<u8>, Fail> {
     Ok(text)
 }
 
+/// That a query puts an item of this written form.
+fn is_put(rt: &impl Abort, ask: &Ask, form: &[u8], is_mutable: bool) {
+    match ask {
+        Ask::Put {
+            id,
+            token,
+            v,
+            mutable,
+        } => {
+            assert!(rt; *id == ABC);
+            assert_eq!(rt; token.as_slice(), b"aoeusnth".as_slice());
+            assert_eq!(rt; v.as_slice(), form);
+            assert!(rt; *mutable == is_mutable);
+        }
+        _ => assert!(rt; false, "no put"),
+    }
+}
+
 /// That a datagram puts an item of this written form.
 fn puts_form(rt: &impl Abort, alloc: Global, text: &[u8], form: &[u8], is_mutable: bool) {
     match decode(alloc, text) {
-        Ok(
-            Message::Query {
-                ask: Ask::Put {
-                    id,
-                    token,
-                    v,
-                    mutable,
-                },
-                ..
-            },
-        ) => {
-            assert!(rt; id == ABC);
-            assert_eq!(rt; token.as_slice(), b"aoeusnth".as_slice());
-            assert_eq!(rt; v.as_slice(), form);
-            assert!(rt; mutable == is_mutable);
-        }
-        _ => assert!(rt; false, "no put"),
+        Ok(message) => match &message {
+            Message::Query { ask, .. } => is_put(rt, ask, form, is_mutable),
+            _ => assert!(rt; false, "no query"),
+        },
+        Err(_) => assert!(rt; false, "refused"),
+    }
+}
+
+/// That an answer has an item of this written form.
+fn has_form(rt: &impl Abort, answer: &Answer, form: &[u8]) {
+    match &answer.v {
+        Some(v) => assert_eq!(rt; v.as_slice(), form),
+        None => assert!(rt; false, "no value"),
     }
 }
 
 /// That a datagram answers with an item of this written form.
 fn answers_form(rt: &impl Abort, alloc: Global, text: &[u8], form: &[u8]) {
     match decode(alloc, text) {
-        Ok(Message::Answer { answer, .. }) => match answer.v {
-            Some(v) => assert_eq!(rt; v.as_slice(), form),
-            None => assert!(rt; false, "no value"),
+        Ok(message) => match &message {
+            Message::Answer { answer, .. } => has_form(rt, answer, form),
+            _ => assert!(rt; false, "no answer"),
         },
-        _ => assert!(rt; false, "no answer"),
+        Err(_) => assert!(rt; false, "refused"),
     }
 }
 

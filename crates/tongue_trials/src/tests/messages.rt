@@ -65,7 +65,7 @@ fn is_mutable(message: &Message) -> bool
 }
 
 /// That a message is put so into bytes that are there.
-#[tactic(auto, using(kad_krpc::proofs::Writable::writable_forms))]
+#[tactic(auto, using(kad_krpc::proofs::Writable::writable_forms, kad_krpc::proofs::Writable::writable_immutable))]
 fn puts(rt: &impl Abort, message: &Message, text: &[u8])
     requires { IsWritable message.now }
 {
@@ -81,6 +81,15 @@ fn puts(rt: &impl Abort, message: &Message, text: &[u8])
         }
         None => assert!(rt; false, "no room"),
     }
+}
+
+/// That a message has no room in 4,096 bytes.
+#[tactic(auto, using(kad_krpc::proofs::Writable::writable_forms, kad_krpc::proofs::Writable::writable_immutable))]
+fn has_no_room(rt: &impl Abort, message: &Message)
+    requires { IsWritable message.now }
+{
+    let mut room = [0u8; 4096];
+    assert!(rt; encode_into(message, &mut room).is_none());
 }
 
 pub(crate) fn writes(rt: &impl Abort, alloc: Global, message: &Message, text: &[u8])
@@ -555,7 +564,12 @@ fn a_datagram_of_4096_bytes_fits(rt: HostRuntime) -> Result<(), Fail> {
     again(&rt, alloc, text.as_slice());
     let more = answer_text(alloc, b"5:token4038:", b"x", 4038, b"")?;
     match decode(alloc, more.as_slice()) {
-        Ok(message) => assert!(rt; encode_into(&message, &mut [0u8; 4096]).is_none()),
+        Ok(message) => {
+            let mutable = is_mutable(&message);
+            assert!(rt; !mutable);
+            said_is_writable();
+            has_no_room(&rt, &message);
+        }
         Err(_) => assert!(rt; false, "refused"),
     }
     Ok(())

@@ -53,7 +53,7 @@ fn fault(alloc: Global) -> Result<Message, Fail>
 }
 
 /// That the written form of a message has this text with a tag, in memory of its own and where it stands.
-#[tactic(auto, using(kad_krpc::proofs::Writable::writable_forms))]
+#[tactic(auto, using(kad_krpc::proofs::Writable::writable_forms, kad_krpc::proofs::Writable::writable_immutable))]
 fn is_tagged(
     rt: &impl Abort,
     alloc: Global,
