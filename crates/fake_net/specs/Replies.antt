@@ -88,8 +88,8 @@ reply_of net i tx target = said (conduct_of net.hostile i) net i tx target
 
 -- ---- when it comes
 
--- when an answer of node i comes to what was sent at the moment: 10 to 49 milliseconds later, by the number, and at the last
--- moment, 2^64 - 1, where the sum is past it
+-- when an answer of node i comes to what was sent at the moment: 10 to 49 milliseconds later, by the number, and at the
+-- last moment, 2^64 - 1, where the sum is past it
 abbrev pub comes_at : ℕ → ℕ → ℕ
 comes_at moment i = min (moment + (10 + i % 40)) (2 ^ 64 - 1)
 

@@ -134,8 +134,8 @@ fn reply(
     }
 }
 
-/// When an answer of node `i` comes to what was sent at the moment: 10 to 49 milliseconds later, by the node's number, and at
-/// the last moment of all where the sum is past it.
+/// When an answer of node `i` comes to what was sent at the moment: 10 to 49 milliseconds later, by the node's number, and
+/// at the last moment of all where the sum is past it.
 fn comes_at(moment: u64, i: u32) -> u64
     ensures { result ≡ comes_at moment i }
 {

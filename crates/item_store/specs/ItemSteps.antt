@@ -24,8 +24,8 @@ abbrev pub StoredStep : List Held → Id → Stored → Type 0
 StoredStep held key New = HasPlace held key
 StoredStep held key Renewed = Holds held key
 
--- when each reply comes: an item is put among those that a purge leaves. Putting what isn't held needs memory, and so does a
--- copy of what is handed out
+-- when each reply comes: an item is put among those that a purge leaves. Putting what isn't held needs memory, and so does
+-- a copy of what is handed out
 abbrev pub ItemStep : List Held → ℕ → ItemCall → ItemReply → Type 0
 ItemStep held role (Get key at) (Held_reply v) = (handed_out held key at ≡ Some v) × IsItem v
 ItemStep held role (Get key at) Absent = handed_out held key at ≡ None

@@ -33,8 +33,8 @@ fn tell_built(value: &Value)
     }
 }
 
-/// Any value of which at most 16 lists and dictionaries are nested, however it was made, is read back from what `write` makes
-/// of it. Takes no memory; it goes over the whole value.
+/// Any value of which at most 16 lists and dictionaries are nested, however it was made, is read back from what `write`
+/// makes of it. Takes no memory; it goes over the whole value.
 pub fn built_is_spelled(value: &Value)
     requires { depth_of value.now ≤ 16 }
     ensures { Spells (text_of value.now) value.now }

@@ -1,4 +1,5 @@
--- What the dictionaries of a datagram have under their keys is within the limits and in order, so that it has a written form.
+-- What the dictionaries of a datagram have under their keys is within the limits and in order, so that it has a written
+-- form.
 use Rattle.std.proofs.Common.{◌≡◌, ℕ, suc, List, length, Option, Some, None, refl, subst}
 use Rattle.std.specs.Prelude.{option_map}
 use Rattle.kad_bencode.specs.Faults.{Open}

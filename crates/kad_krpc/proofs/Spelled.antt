@@ -1,5 +1,5 @@
--- The dictionary of a message is a value that bencode reads back: its integers are of 64 bits, its pairs are in order, and it
--- nests at most two lists and dictionaries more than a value that it carries.
+-- The dictionary of a message is a value that bencode reads back: its integers are of 64 bits, its pairs are in order, and
+-- it nests at most two lists and dictionaries more than a value that it carries.
 use Rattle.std.proofs.Common.{ℕ, ◌≤◌, true, false, List, [], ◌∷◌, ℤ, pos, refl, arith}
 use Rattle.std.specs.Prelude.{codes}
 use Rattle.kad_bencode.specs.Spelling.{depth_of, Spells}

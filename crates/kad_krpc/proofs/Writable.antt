@@ -1,5 +1,5 @@
--- What is said has a written form, unless it puts a mutable item: the addresses of its records are of the family of their key,
--- its ports aren't 0, its unknown methods are unknown, and the values that it carries are within the limits.
+-- What is said has a written form, unless it puts a mutable item: the addresses of its records are of the family of their
+-- key, its ports aren't 0, its unknown methods are unknown, and the values that it carries are within the limits.
 use Rattle.std.proofs.Common.{◌≡◌, ℕ, List, [], ◌∷◌, false, refl, subst}
 use Rattle.std.specs.Prelude.{codes}
 use Rattle.kad_bencode.specs.Faults.{InList}

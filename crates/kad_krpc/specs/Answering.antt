@@ -1,5 +1,5 @@
--- The dictionary `r` of an answer (BEP 5, BEP 32, BEP 44; `snodes`, `snodes6` and the order of the steps are this project's own): how it is read,
--- how it is written, and which answers have a written form. A key more is a line in each part.
+-- The dictionary `r` of an answer (BEP 5, BEP 32, BEP 44; `snodes`, `snodes6` and the order of the steps are this project's
+-- own): how it is read, how it is written, and which answers have a written form. A key more is a line in each part.
 use Rattle.std.specs.Prelude.{List, ◌++◌, codes, Option, option_copied, option_map, IfSome, Result, Ok, Err}
 use Rattle.kad_base.specs.declared.types.Addr.{Addr}
 use Rattle.kad_base.specs.declared.types.Contact.{Contact}
@@ -40,7 +40,8 @@ snodes6_by snodes6 = records_by 90 (proved_in Six) key.Snodes6 snodes6
 abbrev pub values_by : Option Value → Step (Option (List Addr))
 values_by values = then (optional list_of key.Values values) (λ values. Ok (peers_in values))
 
--- an answer, by the values of its eight keys; who answered comes first. The value of `v` is of any kind, so its step never fails
+-- an answer, by the values of its eight keys; who answered comes first. The value of `v` is of any kind, so its step never
+-- fails
 abbrev pub answer_by : Option Value → Option Value → Option Value → Option Value → Option Value → Option Value → Option Value → Option Value → Step Answer
 answer_by id nodes snodes nodes6 snodes6 token v values =
     then (needed id_of key.Id id) (λ id.

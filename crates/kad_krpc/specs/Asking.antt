@@ -1,5 +1,6 @@
--- The dictionary `a` of a query, by its method (BEP 5; `get` and `put` are BEP 44's; the order of the steps is this project's own; `ro` is
--- BEP 43's, `want` BEP 32's): how it is read, how it is written, and which queries have a written form. A method more is a line in each part.
+-- The dictionary `a` of a query, by its method (BEP 5; `get` and `put` are BEP 44's; the order of the steps is this
+-- project's own; `ro` is BEP 43's, `want` BEP 32's): how it is read, how it is written, and which queries have a written
+-- form. A method more is a line in each part.
 use Rattle.std.specs.Prelude.{◌≡◌, ◌≢◌, ◌<◌, ℕ, Bool, true, false, cond, is_some, ◌&&◌, ◌||◌, List, [], ◌∷◌, ◌++◌, codes, bytes_eq, nat_eq, nat_le, nat_lt, ℤ, pos, negsuc, Option, Some, None, Result, Ok, Err}
 use Rattle.std.specs.List.{list_any}
 use Rattle.kad_base.specs.declared.types.Id.{Id}
@@ -95,8 +96,8 @@ announce_peer_at a id = announced_by id (a (codes "info_hash")) (a (codes "token
 abbrev pub get_at : Look → Id → Step Ask
 get_at a id = then (needed id_of key.Target (a (codes "target"))) (λ target. Ok (Get id target (want_of (a (codes "want")))))
 
--- What a put query says, by the values of its keys: token, then the value, of any kind, as its written form. One with a key `k` puts a
--- mutable item.
+-- What a put query says, by the values of its keys: token, then the value, of any kind, as its written form. One with a key
+-- `k` puts a mutable item.
 abbrev pub put_by : Id → Option Value → Option Value → Option Value → Step Ask
 put_by id token v k =
     then (needed bytes_of key.Token token) (λ token.

@@ -90,8 +90,8 @@ peers_in (Some values) = Some (flat_map (λ v. option_to_list (peer_in (bytes_of
 
 -- ---- values that are carried as they are
 
--- The bytes are the written form of a value that may stand in a message's inner dictionary: of the 16 lists and dictionaries
--- that may be open at once, at most 14 are its own.
+-- The bytes are the written form of a value that may stand in a message's inner dictionary: of the 16 lists and
+-- dictionaries that may be open at once, at most 14 are its own.
 abbrev pub IsCarried : List ℕ → Type 0
 IsCarried bytes = IsWrittenForm 2 bytes
 

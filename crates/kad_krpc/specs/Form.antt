@@ -60,7 +60,8 @@ IsWritable (message.Fault tx code text) = Unit {0}
 abbrev pub only : Bool → Want
 only six = record { four = false; six = six }
 
--- the read-only find_node query (`ro` is BEP 43's), whose transaction id is the bytes of a word, in the network of IPv6 or not
+-- the read-only find_node query (`ro` is BEP 43's), whose transaction id is the bytes of a word, in the network of IPv6 or
+-- not
 abbrev pub find_node_query : Id → Id → Bool → ℕ → Message
 find_node_query own target six tx = message.Query (word_bytes tx) true (FindNode own target (only six))
 

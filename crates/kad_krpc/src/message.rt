@@ -53,8 +53,8 @@ pub enum Ask {
         target: Id,
         want: Want,
     },
-    /// Gives an item of BEP 44. `v` is the written form of its value, of any kind. It is mutable where the arguments have the
-    /// key `k`; nothing else of a mutable item is read, and none is written.
+    /// Gives an item of BEP 44. `v` is the written form of its value, of any kind. It is mutable where the arguments have
+    /// the key `k`; nothing else of a mutable item is read, and none is written.
     Put {
         id: Id,
         token: Bytes,
@@ -67,8 +67,8 @@ pub enum Ask {
     },
 }
 
-/// Whose contacts a query asks for (BEP 32): `want` is a list of words, `n4` for those of IPv4 and `n6` for those of IPv6. A
-/// query without the key wants those of the network that it came by.
+/// Whose contacts a query asks for (BEP 32): `want` is a list of words, `n4` for those of IPv4 and `n6` for those of IPv6.
+/// A query without the key wants those of the network that it came by.
 #[derive(Clone, Copy, Debug, PartialEq, Eq)]
 pub struct Want {
     pub four: bool,

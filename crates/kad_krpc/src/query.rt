@@ -56,8 +56,8 @@ fn text_into(
 }
 
 /// Writes a read-only query (BEP 5, BEP 43) whose arguments are two identifiers, the second under `key`, and where the
-/// contacts of IPv6 are wanted the word that says so (BEP 32), in front of `buf`. The calls are inlined, since the names are
-/// known there.
+/// contacts of IPv6 are wanted the word that says so (BEP 32), in front of `buf`. The calls are inlined, since the names
+/// are known there.
 #[inline(always)]
 fn query_into(
     buf: &mut [u8; 160],
@@ -81,8 +81,8 @@ fn query_into(
     text_into(buf, own, key, sought, b"", method, tx)
 }
 
-/// Writes the read-only `find_node` query (BEP 5, BEP 43) in front of `buf`, and answers its length: 101 bytes, or 113 where
-/// it asks for contacts of IPv6 by `want` (BEP 32). The transaction id is the four bytes of `tx`, the lowest first.
+/// Writes the read-only `find_node` query (BEP 5, BEP 43) in front of `buf`, and answers its length: 101 bytes, or 113
+/// where it asks for contacts of IPv6 by `want` (BEP 32). The transaction id is the four bytes of `tx`, the lowest first.
 pub fn find_node_into(buf: &mut [u8; 160], own: &Id, target: &Id, six: bool, tx: u32) -> usize
     ensures length { result ≡ cond six 113 101 }
     ensures form { take result buf.new ≡ form (find_node_query own.now target.now six tx) }
@@ -90,8 +90,8 @@ pub fn find_node_into(buf: &mut [u8; 160], own: &Id, target: &Id, six: bool, tx:
     query_into(buf, own, b"target", target, six, b"find_node", tx)
 }
 
-/// Writes the read-only `get_peers` query (BEP 5, BEP 43) in front of `buf`, and answers its length: 104 bytes, or 116 where
-/// it asks for contacts of IPv6 by `want` (BEP 32). The transaction id is the four bytes of `tx`, the lowest first.
+/// Writes the read-only `get_peers` query (BEP 5, BEP 43) in front of `buf`, and answers its length: 104 bytes, or 116
+/// where it asks for contacts of IPv6 by `want` (BEP 32). The transaction id is the four bytes of `tx`, the lowest first.
 pub fn get_peers_into(buf: &mut [u8; 160], own: &Id, info_hash: &Id, six: bool, tx: u32) -> usize
     ensures length { result ≡ cond six 116 104 }
     ensures form { take result buf.new ≡ form (get_peers_query own.now info_hash.now six tx) }
@@ -99,8 +99,8 @@ pub fn get_peers_into(buf: &mut [u8; 160], own: &Id, info_hash: &Id, six: bool, 
     query_into(buf, own, b"info_hash", info_hash, six, b"get_peers", tx)
 }
 
-/// Writes the read-only `get` query (BEP 44, BEP 43) in front of `buf`, and answers its length: 95 bytes, or 107 where it asks
-/// for contacts of IPv6 by `want` (BEP 32). The transaction id is the four bytes of `tx`, the lowest first.
+/// Writes the read-only `get` query (BEP 44, BEP 43) in front of `buf`, and answers its length: 95 bytes, or 107 where it
+/// asks for contacts of IPv6 by `want` (BEP 32). The transaction id is the four bytes of `tx`, the lowest first.
 pub fn get_into(buf: &mut [u8; 160], own: &Id, target: &Id, six: bool, tx: u32) -> usize
     ensures length { result ≡ cond six 107 95 }
     ensures form { take result buf.new ≡ form (get_query own.now target.now six tx) }

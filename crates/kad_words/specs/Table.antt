@@ -211,8 +211,8 @@ pub record IsLook (goal : Entry) (value : Values) (look : LookWords) : Type 0 wh
   pub family : FamilyOf family_option value look.family
   pub sealed : StandsOf group_option value look.sealed
 
--- a part of a command, and the option that gives it: an identifier, a seed, a number, a number that may be left out, whether
--- it stands; or a policy, or a lookup with the option that names its target
+-- a part of a command, and the option that gives it: an identifier, a seed, a number, a number that may be left out,
+-- whether it stands; or a policy, or a lookup with the option that names its target
 pub data Part : Type 0 where
   gives_id : Choice → Option Id → Part
   gives_seed : Choice → Option (List ℕ) → Part

@@ -30,9 +30,9 @@ impl AskKind {
     }
 }
 
-/// What a lookup asks, and what it believes: `own` asks for `target` in the network of `family`, `policy` says which reports
-/// may be believed, `timeout` how long to wait for an answer, in milliseconds, and `sealed` whether a reply has to carry a
-/// tag that is accepted.
+/// What a lookup asks, and what it believes: `own` asks for `target` in the network of `family`, `policy` says which
+/// reports may be believed, `timeout` how long to wait for an answer, in milliseconds, and `sealed` whether a reply has to
+/// carry a tag that is accepted.
 #[derive(Clone, Copy, Debug, PartialEq, Eq)]
 pub struct Quest {
     pub own: Id,

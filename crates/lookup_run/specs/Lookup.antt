@@ -96,8 +96,8 @@ pub record Unfinished (look : LookSetting) (accepts : Accepts) (table : TableSta
   pub tells : Grows told told' (λ events. TellsEarly (given_of look accepts words) journal events)
   pub drawn : words' ≡ drawn_for words journal
 
--- A lookup that ended with the last stray that it takes: there is a legal journal with the same seeds that the events before
--- that one tell, and by which it is the last.
+-- A lookup that ended with the last stray that it takes: there is a legal journal with the same seeds that the events
+-- before that one tell, and by which it is the last.
 pub record EndsByStrays (look : LookSetting) (accepts : Accepts) (table : TableState) (words : WordsState) (told told' : Option (List Event)) : Type 0 where
   pub journal : List Entry
   pub legal : Legal (setting_of look) journal
@@ -166,8 +166,8 @@ TableTold calls table table' = TableToldBy sequential calls table table'
 
 -- ---- the promise
 
--- What a lookup promises, whichever way its rounds settle: by its setting, the tags that it accepts, the table, the words, and what the link tells,
--- how often it failed to receive, and what of it no call changes, each before and after.
+-- What a lookup promises, whichever way its rounds settle: by its setting, the tags that it accepts, the table, the words,
+-- and what the link tells, how often it failed to receive, and what of it no call changes, each before and after.
 pub record LooksUp {Kept : Type 0} (scheduling : Scheduling) (look : LookSetting) (accepts : Accepts) (before after : TableState) (words words' : WordsState) (told told' : Option (List Event)) (faults faults' : ℕ) (was is : Kept) (ended : Result Outcome LookFault) : Type 0 where
   pub lookup : IfOk ended (Finished look accepts before words words' told told')
   pub rounds : IfOk ended (λ outcome. Grows told told' (λ events. Rounds scheduling (given_of look accepts words) outcome.journal events))

@@ -9,9 +9,9 @@ use lookup_core::{AskKind, Lookup, Quest};
 use thiserror::Error;
 
 /// What a lookup is given. `own` is the node that asks; each of `paths` disjoint paths (S/Kademlia, section 4.4) has at
-/// most `alpha` queries open and ends when its `k` closest contacts have answered (Kademlia, section 2.3). `policy`
-/// says which reports may be believed, `timeout` how long to wait for an answer, in milliseconds, and `sealed` whether a
-/// reply has to carry a tag that the seal accepts. `family` is the network, of which there are two apart (BEP 32): in that of
+/// most `alpha` queries open and ends when its `k` closest contacts have answered (Kademlia, section 2.3). `policy` says
+/// which reports may be believed, `timeout` how long to wait for an answer, in milliseconds, and `sealed` whether a reply
+/// has to carry a tag that the seal accepts. `family` is the network, of which there are two apart (BEP 32): in that of
 /// IPv6 queries ask for contacts of IPv6, and of answers the parts with these are read.
 #[derive(Clone, Copy, Debug, PartialEq, Eq)]
 pub struct LookSetting {

@@ -87,8 +87,8 @@ abbrev pub IsPutTaken : NodeState → Addr → ℕ → Ask → Type 0
 IsPutTaken s from at (PutItem id token v mutable) = IsTaken s from at token v mutable
 IsPutTaken s from at other = ⊥
 
--- what it may leave of what is kept: all; what a purge leaves of the peers, where a peer was to be added, or of the items, where
--- an item was; or that of the whole answer, where only the table had no memory for the asker
+-- what it may leave of what is kept: all; what a purge leaves of the peers, where a peer was to be added, or of the items,
+-- where an item was; or that of the whole answer, where only the table had no memory for the asker
 pub data LeavesStores (s : NodeState) (from : Addr) (at : ℕ) (tx : List ℕ) (ask : Ask) (told : Option Contact) (stores : Stores) : Type 0 where
   all : stores ≡ stores_of s → LeavesStores s from at tx ask told stores
   peers_purged : IsTokenAccepted s from at ask → stores ≡ with_peers s (purged s.peers at) → LeavesStores s from at tx ask told stores

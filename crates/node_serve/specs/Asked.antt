@@ -11,7 +11,8 @@ use Rattle.kad_krpc.specs.Views.{ask_seen}
 use Rattle.node_serve.specs.declared.asked.Asked.{Asked}
 use Rattle.node_serve.specs.Queries.{IsQuery}
 
--- a query that puts no mutable item has a written form (BEP 44 has a value of any kind, which a datagram carries in its own)
+-- a query that puts no mutable item has a written form (BEP 44 has a value of any kind, which a datagram carries in its
+-- own)
 abbrev pub IsSaid : Ask → Type 0
 IsSaid ask = is_mutable_ask ask ≡ false → IsWritableAsk ask
 

@@ -1,6 +1,6 @@
 -- Which calls a datagram makes on what a node holds, and the reply that it is owed, computed from their replies alone. The
--- rules are those of node_serve: the nodes that a reply names are Kademlia's (2002, section 2.3), peers and tokens BEP 5's, items
--- BEP 44's.
+-- rules are those of node_serve: the nodes that a reply names are Kademlia's (2002, section 2.3), peers and tokens BEP 5's,
+-- items BEP 44's.
 use Rattle.std.specs.Prelude.{ℕ, ◌-◌, ◌<◌, ◌≤◌, Bool, true, false, cond, ◌&&◌, ◌||◌, nat_lt, nat_le, length, List, [], ◌∷◌, ◌++◌, drop, Option, Some, None}
 use Rattle.std.specs.List.{All}
 use Rattle.std.specs.Str.{bytes_eq}

@@ -1,5 +1,5 @@
--- What a query wants, and what its calls gave, as whoever makes the calls has them: the code between the calls of a datagram
--- and its reply.
+-- What a query wants, and what its calls gave, as whoever makes the calls has them: the code between the calls of a
+-- datagram and its reply.
 use Rattle.std.specs.Prelude.{ℕ, ◌≤◌, Bool, true, false, cond, nat_le, List, [], ◌∷◌, drop, length, Option, Some, None, IfSome}
 use Rattle.kad_base.specs.declared.types.Addr.{Addr}
 use Rattle.kad_krpc.specs.declared.message.Ask.{Ask}

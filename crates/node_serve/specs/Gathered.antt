@@ -48,8 +48,8 @@ LeavesPut at (Place key peer) old new = new ≡ old_peers_gone old at
 LeavesPut at (Keep v) old new = new ≡ old_items_gone old at
 LeavesPut at other old new = new ≡ old
 
--- where a reply may find no memory, what was gained tells of what is kept: all, or what a purge leaves where a peer or an item
--- had no place
+-- where a reply may find no memory, what was gained tells of what is kept: all, or what a purge leaves where a peer or an
+-- item had no place
 abbrev pub LeavesBy : ℕ → Gained → Stores → Stores → Type 0
 LeavesBy at (gained.Placed stored) old new = Unit {0}
 LeavesBy at gained.Full old new = new ≡ old_peers_gone old at

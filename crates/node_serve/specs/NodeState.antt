@@ -16,8 +16,8 @@ pub record Stores : Type 0 where
   pub peers : List Held
   pub items : List HeldItem
 
--- its identifier, how many contacts a reply names, under which policy it answers, its routing table, the peers and the items
--- that it keeps for others, the proofs that it keeps, its tokens, and whether it tags what it says
+-- its identifier, how many contacts a reply names, under which policy it answers, its routing table, the peers and the
+-- items that it keeps for others, the proofs that it keeps, its tokens, and whether it tags what it says
 pub record NodeState : Type 0 where
   pub own : Id
   pub k : ℕ
@@ -40,8 +40,8 @@ pub record IsNode (s : NodeState) : Type 0 where
 abbrev pub stores_of : NodeState → Stores
 stores_of s = record { peers = s.peers; items = s.items }
 
--- a node that begins at the moment: nobody has announced a peer or put an item to it, and its tokens are drawn from the random
--- bytes
+-- a node that begins at the moment: nobody has announced a peer or put an item to it, and its tokens are drawn from the
+-- random bytes
 abbrev pub new_node : Id → ℕ → Policy → TableState → List Report → List ℕ → ℕ → Bool → NodeState
 new_node own k policy table proofs random began sealed = record {
   own = own;

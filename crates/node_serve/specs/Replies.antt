@@ -1,7 +1,7 @@
 -- What a node replies to a query, and what it keeps for others then, by the first rule that fits (BEP 5, BEP 44). The nodes
--- that it names are Kademlia's (2002, section 2.3). `snodes`, the limits of peers and items, that no mutable item is kept, and
--- the text of a refusal are this project's own, and so is that a node serves in the network of IPv4 alone: it answers `nodes`
--- whatever `want` says (BEP 32), and never `nodes6`.
+-- that it names are Kademlia's (2002, section 2.3). `snodes`, the limits of peers and items, that no mutable item is kept,
+-- and the text of a refusal are this project's own, and so is that a node serves in the network of IPv4 alone: it answers
+-- `nodes` whatever `want` says (BEP 32), and never `nodes6`.
 use Rattle.std.specs.Prelude.{◌≡◌, ℕ, ◌<◌, ◌≤◌, length, Bool, true, false, List, [], ◌∷◌, filter, find, flat_map, codes, pos, Option, Some, None, option_to_list}
 use Rattle.kad_base.specs.declared.types.Id.{Id}
 use Rattle.kad_base.specs.declared.types.Ip.{Ip}

@@ -46,8 +46,8 @@ fn query_in<'a>(from: Addr, ip: [u8; 4], view: View<'a>) -> Option<Asked<'a>>
     }
 }
 
-/// The query that a datagram is, where it is answered: not one of more than 4,096 bytes, from port 0 or an IPv6 address, nor
-/// with a transaction id of more than 32 bytes. Takes no memory.
+/// The query that a datagram is, where it is answered: not one of more than 4,096 bytes, from port 0 or an IPv6 address,
+/// nor with a transaction id of more than 32 bytes. Takes no memory.
 pub fn read_query<'a>(from: Addr, bytes: &'a [u8]) -> Option<Asked<'a>>
     ensures query { MatchOption result (IsSilent from bytes.now) (IsAsked from bytes.now) }
     ensures silent { IsSilent from bytes.now → IsNone result }
@@ -79,8 +79,8 @@ fn asker(ask: &AskView) -> Option<Id>
     }
 }
 
-/// The contact that the table is told of after a query (Kademlia, 2002, section 2.2): the asker, unless it is read-only (BEP
-/// 43), or the policy asks for puzzles, which a query can't show to be solved.
+/// The contact that the table is told of after a query (Kademlia, 2002, section 2.2): the asker, unless it is read-only
+/// (BEP 43), or the policy asks for puzzles, which a query can't show to be solved.
 pub fn told_for(policy: Policy, asked: &Asked) -> Option<Contact>
     ensures { result ≡ told_by policy asked.now.read_only (ask_seen asked.now.ask) asked.now.from }
 {

@@ -19,8 +19,9 @@ pub fn one_answer()
         → AnswerOf s from bytes at m x → AnswerOf s from bytes at n y → SoundTable s.table → x ≡ y }
 {}
 
-/// What the rules make of a datagram, from what the node holds, is what its calls make of it: those that it asks for, applied
-/// in order, and the reply that is computed from their replies alone; the items are sound, as those of every store are.
+/// What the rules make of a datagram, from what the node holds, is what its calls make of it: those that it asks for,
+/// applied in order, and the reply that is computed from their replies alone; the items are sound, as those of every store
+/// are.
 pub fn same_answer()
     ensures by_calls { (s : NodeState) (from : Addr) (bytes : List ℕ) (at : ℕ) (m : Message)
         (x : NodeState)

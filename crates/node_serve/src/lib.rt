@@ -1,6 +1,6 @@
-//! A node that answers (BEP 5, BEP 44): its routing table, the peers and items that it keeps for others, its tokens, and the
-//! reply to a datagram, written into bytes that are there; and the receive calls of such a node on a link. It opens no socket
-//! and reads no clock.
+//! A node that answers (BEP 5, BEP 44): its routing table, the peers and items that it keeps for others, its tokens, and
+//! the reply to a datagram, written into bytes that are there; and the receive calls of such a node on a link. It opens no
+//! socket and reads no clock.
 //!
 //! An answer has steps that hold no store and make no call: `read_query` reads the datagram, `plan` says which calls it
 //! makes, `told_for` whom the table is told of afterwards, `compose` makes the reply from what the calls gave, `write` puts

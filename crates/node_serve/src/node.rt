@@ -35,8 +35,8 @@ pub enum Answered {
     /// The datagram is owed no reply, and left the node as it was: it has more than 4,096 bytes, comes from port 0 or from
     /// an IPv6 address, is no message, or is one but no query with a transaction id of at most 32 bytes.
     Silent,
-    /// There was no memory to answer a query. The table is as it was. Old peers or old items may have been dropped, and where
-    /// the table alone had none the announced peer may be held.
+    /// There was no memory to answer a query. The table is as it was. Old peers or old items may have been dropped, and
+    /// where the table alone had none the announced peer may be held.
     NoMemory,
 }
 
@@ -63,8 +63,8 @@ impl Model for Node {
 
 impl Node {
     /// A node with this routing table, whose replies name `k` contacts, 1 to 20. Under a policy that asks for puzzles they
-    /// name those of `proofs` too. The secrets of its tokens are drawn from `random`, and their epochs count from the moment
-    /// `began`, in milliseconds. A node that is `sealed` tags each of its replies. Takes no memory.
+    /// name those of `proofs` too. The secrets of its tokens are drawn from `random`, and their epochs count from the
+    /// moment `began`, in milliseconds. A node that is `sealed` tags each of its replies. Takes no memory.
     pub fn new(
         alloc: Global,
         own: Id,
@@ -156,11 +156,11 @@ impl Node {
     }
 
     /// Answers a datagram that came from this address at this moment, in milliseconds. The reply is written in front of
-    /// `out`, and made from what the node held before: the nodes that a query asks for, peers or an item with a token for its
-    /// source, or a refusal. An announced peer is held where its token is that of its source, and so is an immutable item of
-    /// at most 1,000 bytes (BEP 44), for two hours. After a query of BEP 5, under `Plain`, the table is told who asked, unless
-    /// the query is read-only (BEP 43). A sealed node puts the seal's tag into each reply, an error message too. Reading,
-    /// writing and tagging take no memory; the parts of the reply do, and an item that is put.
+    /// `out`, and made from what the node held before: the nodes that a query asks for, peers or an item with a token for
+    /// its source, or a refusal. An announced peer is held where its token is that of its source, and so is an immutable
+    /// item of at most 1,000 bytes (BEP 44), for two hours. After a query of BEP 5, under `Plain`, the table is told who
+    /// asked, unless the query is read-only (BEP 43). A sealed node puts the seal's tag into each reply, an error message
+    /// too. Reading, writing and tagging take no memory; the parts of the reply do, and an item that is put.
     pub fn answer<G: Seal>(
         &mut self,
         from: Addr,

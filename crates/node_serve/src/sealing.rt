@@ -34,8 +34,8 @@ fn put_tag<G: Seal>(
     }
 }
 
-/// Puts the seal's tag into a written reply where the node is sealed: it is the reply that `write` put in front of `out`, in
-/// this many bytes. Answers how many the reply has then. Takes no memory.
+/// Puts the seal's tag into a written reply where the node is sealed: it is the reply that `write` put in front of `out`,
+/// in this many bytes. Answers how many the reply has then. Takes no memory.
 pub fn seal_reply<G: Seal>(
     setting: &ServeSetting,
     seal: &G,

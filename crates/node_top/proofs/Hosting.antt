@@ -1,5 +1,5 @@
--- What a command does behind its input that goes on over a link, or over none, keeps the laws of what is done there. Nothing
--- here names one.
+-- What a command does behind its input that goes on over a link, or over none, keeps the laws of what is done there.
+-- Nothing here names one.
 use Rattle.std.proofs.Common.{ℕ, List, [], ◌∷◌, inl, refl}
 use Rattle.kad_base.specs.declared.types.Event.{Event}
 use Rattle.node_top.specs.declared.status.Status.{Status}

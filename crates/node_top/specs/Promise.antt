@@ -1,5 +1,5 @@
--- What a command promises: one record of predicates, by what it is called with and by what the source and the link showed. Each
--- command's own stands in its spec, and `promise_of` (`Commands`) is the table of all.
+-- What a command promises: one record of predicates, by what it is called with and by what the source and the link showed.
+-- Each command's own stands in its spec, and `promise_of` (`Commands`) is the table of all.
 use Rattle.std.specs.Prelude.{◌≡◌, ◌⊎◌, ℕ, List, [], ◌∷◌, Bool, true, false, Option, None}
 use Rattle.kad_base.specs.declared.types.Event.{Event}
 use Rattle.lookup_core.specs.declared.quest.AskKind.{AskKind}
@@ -52,7 +52,8 @@ IsOneOf (x ∷ xs) n = (n ≡ x) ⊎ IsOneOf xs n
 
 -- ---- a command that reads an input
 
--- what it does behind its input; the fields are those of its promise, where `ends` and `cause` leave out what any input brings
+-- what it does behind its input; the fields are those of its promise, where `ends` and `cause` leave out what any input
+-- brings
 pub record Aim : Type 1 where
   pub links : Bool
   -- what an input is that it goes on with

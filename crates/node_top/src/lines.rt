@@ -32,8 +32,8 @@ impl From<NoMemory> for LinesFault {
 #[derive(Clone, Copy, Debug, PartialEq, Eq)]
 struct BadLine;
 
-/// Reads the contact lines of an input, in order. Each of its lines is one of these: empty; a comment, which begins
-/// with `#`; `ID ADDRESS`; or `ID ADDRESS KEY X`. The address is `A.B.C.D:PORT`, or `[H:H:H:H:H:H:H:H]:PORT` where each H is
+/// Reads the contact lines of an input, in order. Each of its lines is one of these: empty; a comment, which begins with
+/// `#`; `ID ADDRESS`; or `ID ADDRESS KEY X`. The address is `A.B.C.D:PORT`, or `[H:H:H:H:H:H:H:H]:PORT` where each H is
 /// four hex digits: shortened forms of IPv6 are bad lines.
 pub(crate) fn read_lines(alloc: Global, bytes: &[u8]) -> Result<Reports, LinesFault>
     ensures ok { IfOk result (λ reports. Reporting (lines bytes.now) reports) }

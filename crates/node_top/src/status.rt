@@ -13,8 +13,8 @@ pub(crate) const LINE_ROOM: usize = 30;
 pub(crate) enum Status {
     /// The words are not of the plain form.
     Usage,
-    /// This line of the input, counted from 1, is the first that is none of what the command reads: no contact line, or none
-    /// that a saved table may go on with.
+    /// This line of the input, counted from 1, is the first that is none of what the command reads: no contact line, or
+    /// none that a saved table may go on with.
     BadLine { line: usize },
     /// A receive failed.
     LinkFault,

@@ -164,14 +164,14 @@ pub fn run<
 /// nobody else knows. It waits for nobody. A command that keeps an index, as `sim` does, takes the `hasher` for it; nothing
 /// that is written depends on it.
 ///
-/// `check` writes of each contact line of the source whether its contact passes the puzzles, and then how many do.
-/// `table` writes the saved text of the routing table that the contact lines of the source make.
-/// `mint` reads nothing, and writes an identifier that solves both puzzles, with its key and X.
-/// `sim` reads nothing, looks up in a network in memory that is made from a seed, and writes the counts of the lookup and how
-/// many of the closest nodes that aren't hostile it found. It waits by the network's own clock, which takes no time.
+/// `check` writes of each contact line of the source whether its contact passes the puzzles, and then how many do. `table`
+/// writes the saved text of the routing table that the contact lines of the source make. `mint` reads nothing, and writes
+/// an identifier that solves both puzzles, with its key and X. `sim` reads nothing, looks up in a network in memory that is
+/// made from a seed, and writes the counts of the lookup and how many of the closest nodes that aren't hostile it found. It
+/// waits by the network's own clock, which takes no time.
 ///
-/// The statuses and their lines are those of `run`. 2 comes also where the words ask for another command; 4, 7, 8 and 13 don't
-/// come.
+/// The statuses and their lines are those of `run`. 2 comes also where the words ask for another command; 4, 7, 8 and 13
+/// don't come.
 pub fn run_plain<S: Source, K: Sink, C: Check>(
     alloc: Global,
     words: &[String],

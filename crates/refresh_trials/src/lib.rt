@@ -1,5 +1,5 @@
-//! Refreshes of tables over scripted links, as tests. They call what anybody may, and stand apart so that nothing is proved a
-//! second time with them.
+//! Refreshes of tables over scripted links, as tests. They call what anybody may, and stand apart so that nothing is proved
+//! a second time with them.
 #![tactic(auto)]
 
 #[cfg(test)]

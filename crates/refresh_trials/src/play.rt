@@ -1,6 +1,6 @@
-//! Tables as texts, and what a refresh makes of them. The node's own identifier is twenty bytes ff. The words are those of the
-//! generator of 32 zero bytes from place 5 on, the keystream of ChaCha20 under a key of zeros: a08ded1a, a836efcc, 8b770dc7,
-//! da41597c.
+//! Tables as texts, and what a refresh makes of them. The node's own identifier is twenty bytes ff. The words are those of
+//! the generator of 32 zero bytes from place 5 on, the keystream of ChaCha20 under a key of zeros: a08ded1a, a836efcc,
+//! 8b770dc7, da41597c.
 ghost use Rattle.std.specs.Prelude.{IfOk};
 ghost use Rattle.table_file.specs.SavedText.{FailedOnce};
 

@@ -1,5 +1,5 @@
-//! Sealed refreshes, which take no reply without the tag of who says it. The tags are HMAC-SHA-1 under a key of 32 zero bytes, as
-//! Python's `hmac` makes them.
+//! Sealed refreshes, which take no reply without the tag of who says it. The tags are HMAC-SHA-1 under a key of 32 zero
+//! bytes, as Python's `hmac` makes them.
 
 use crate::play::{ANSWER_1, NOBODY, ONE, PING_1, Told, play, tells};
 use std::alloc::Global;

@@ -1,6 +1,6 @@
-//! Whole commands that serve, check, mint, simulate, save a table and refresh one, and reads and writes that fail, as tests:
-//! by `run` and by `run_plain`. They stand apart from those of lookups, so that two processors
-//! prove them at once, and call what anybody may.
+//! Whole commands that serve, check, mint, simulate, save a table and refresh one, and reads and writes that fail, as
+//! tests: by `run` and by `run_plain`. They stand apart from those of lookups, so that two processors prove them at once,
+//! and call what anybody may.
 #![tactic(auto)]
 
 #[cfg(test)]

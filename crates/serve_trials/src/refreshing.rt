@@ -1,5 +1,5 @@
-//! Whole commands `refresh`. The pings' transaction ids are the sixth and the seventh word of the generator of 32 zero bytes:
-//! a08ded1a and a836efcc of the keystream of ChaCha20 under a key of zeros. Texts and bytes were written by hand.
+//! Whole commands `refresh`. The pings' transaction ids are the sixth and the seventh word of the generator of 32 zero
+//! bytes: a08ded1a and a836efcc of the keystream of ChaCha20 under a key of zeros. Texts and bytes were written by hand.
 use fake_net::ScriptLink;
 use id_puzzles::Sha1Check;
 use kad_base::{BytesSink, BytesSource, List, Sink, SteadySource};

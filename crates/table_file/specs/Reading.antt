@@ -24,8 +24,8 @@ fed lines = flat_map (λ line. line ++ codes "\n") lines
 abbrev pub IsBegun : List (List ℕ) → Type 0
 IsBegun lines = (saved : Saved) × (rest : List ℕ) × IsSavedText (fed lines ++ rest) saved
 
--- the line of this number, counted from 1, is the bad one: some saved text begins with the lines before it, but none with it
--- too. Where nothing but the front of a line is left, with no line feed, that is the line of this number
+-- the line of this number, counted from 1, is the bad one: some saved text begins with the lines before it, but none with
+-- it too. Where nothing but the front of a line is left, with no line feed, that is the line of this number
 pub record IsBadLine (bytes : List ℕ) (number : ℕ) : Type 0 where
   pub before : List (List ℕ)
   pub rest : List ℕ

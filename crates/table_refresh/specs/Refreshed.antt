@@ -1,6 +1,6 @@
--- Eviction pings of a whole routing table (Kademlia, 2002, section 2.2: a bucket's least recently seen contact is pinged, and
--- who doesn't answer makes room): what the transcript of a link tells of the pings, and the table that results. That a head is
--- pinged twice before it goes, and all buckets in one call, is this project's own.
+-- Eviction pings of a whole routing table (Kademlia, 2002, section 2.2: a bucket's least recently seen contact is pinged,
+-- and who doesn't answer makes room): what the transcript of a link tells of the pings, and the table that results. That a
+-- head is pinged twice before it goes, and all buckets in one call, is this project's own.
 use Rattle.std.specs.Prelude.{◌≡◌, ◌⊎◌, ℕ, ◌+◌, ◌<◌, ◌≤◌, List, [], ◌∷◌, ◌++◌, length, take, drop, flat_map, Option, Some, None, Bool, true, false, not, ◌&&◌}
 use Rattle.kad_base.specs.declared.types.Id.{Id}
 use Rattle.kad_base.specs.declared.types.Addr.{Addr}
@@ -29,8 +29,8 @@ use Rattle.lookup_core.specs.Timeouts.{deadline_of}
 use Rattle.table_refresh.specs.declared.types.RefreshFault.{RefreshFault}
 use Rattle.table_refresh.specs.declared.types.RefreshFault.TheVariants.{LinkFault, Strays, NoMemory}
 
--- what a refresh goes by: whose table it is, how long a try waits, in milliseconds, whether a reply has to carry a tag, which
--- tags are accepted, and the seed of the words that are drawn
+-- what a refresh goes by: whose table it is, how long a try waits, in milliseconds, whether a reply has to carry a tag,
+-- which tags are accepted, and the seed of the words that are drawn
 pub record Given : Type 0 where
   pub own : Id
   pub timeout : ℕ
@@ -75,8 +75,8 @@ Answers c (message.Query tx read_only ask) = ⊥
 Answers c (message.Answer tx answer) = answer.id ≡ c.id
 Answers c (message.Fault tx code text) = ⊥
 
--- The datagram is matched with the open ping: it is short enough to be read (this project's own limit), says a reply to it, and
--- comes from its address (BEP 5); where tags are asked for it carries one of who says it (this project's own).
+-- The datagram is matched with the open ping: it is short enough to be read (this project's own limit), says a reply to it,
+-- and comes from its address (BEP 5); where tags are asked for it carries one of who says it (this project's own).
 pub record IsMatched (sealed : Bool) (accepts : Accepts) (q : Query) (from : Addr) (bytes : List ℕ) (said : Message) : Type 0 where
   pub short : length bytes ≤ max_datagram
   pub says : Says bytes said
@@ -218,8 +218,8 @@ Tells g table place [] end = ⊥
 Tells g table place (Now at ∷ rest) end = TellsFrom g (begun table place at) rest end
 Tells g table place other end = ⊥
 
--- The refresh of a table: its events tell one moment, and then the tries of each of its heads, in order; the table that comes
--- back is that after their steps, and each word that was drawn went to one ping.
+-- The refresh of a table: its events tell one moment, and then the tries of each of its heads, in order; the table that
+-- comes back is that after their steps, and each word that was drawn went to one ping.
 pub record Refreshed (g : Given) (table : TableState) (place : ℕ) (table' : TableState) (place' : ℕ) (events : List Event) : Type 0 where
   pub end : Standing
   pub tells : Tells g table place events end
@@ -247,8 +247,8 @@ pub record StopsAtStray (sealed : Bool) (accepts : Accepts) (q : Query) (strays 
   pub stray : IsStray sealed accepts q from bytes
   pub number : strays + 1 ≡ max_strays
 
--- the events behind those that were taken, while this ping waited and there were so many strays before: none at a receive that
--- failed, the last stray that a refresh takes, or a datagram for which there was no memory
+-- the events behind those that were taken, while this ping waited and there were so many strays before: none at a receive
+-- that failed, the last stray that a refresh takes, or a datagram for which there was no memory
 abbrev pub Stops : Bool → Accepts → Query → ℕ → RefreshFault → List Event → Type 0
 Stops sealed accepts q strays LinkFault last = last ≡ []
 Stops sealed accepts q strays Strays last = StopsAtStray sealed accepts q strays last

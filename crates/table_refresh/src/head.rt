@@ -46,8 +46,8 @@ fn await_reply<L: Link, G: SealCheck>(
     }
 }
 
-/// Pings the head once, and tells the table what came of it; true where the head failed, and the table keeps it. A ping that
-/// can't be sent is a whole try.
+/// Pings the head once, and tells the table what came of it; true where the head failed, and the table keeps it. A ping
+/// that can't be sent is a whole try.
 fn try_head<L: Link, G: SealCheck>(
     alloc: Global,
     link: &mut L,

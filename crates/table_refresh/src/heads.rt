@@ -37,8 +37,8 @@ fn heads_in(alloc: Global, rows: &[Row]) -> Result<Contacts, NoMemory>
     Ok(heads)
 }
 
-/// Whom a refresh of the table pings. More than 2^32 - 1 heads are more than there is memory for, so that there is a word for
-/// each ping.
+/// Whom a refresh of the table pings. More than 2^32 - 1 heads are more than there is memory for, so that there is a word
+/// for each ping.
 pub(crate) fn plan_of(alloc: Global, table: &Table) -> Result<Plan, NoMemory>
     ensures own { IfOk result (λ plan. plan.own ≡ table.now.own) }
     ensures heads { IfOk result (λ plan. plan.heads ≡ heads_of table.now.rows) }

@@ -1,6 +1,6 @@
-//! Eviction pings of a routing table (Kademlia, 2002, section 2.2): the least recently seen contact of each bucket is pinged,
-//! and the table is told what came of it. So a table that was saved can be refreshed. It opens no socket and reads no clock
-//! but the link's.
+//! Eviction pings of a routing table (Kademlia, 2002, section 2.2): the least recently seen contact of each bucket is
+//! pinged, and the table is told what came of it. So a table that was saved can be refreshed. It opens no socket and reads
+//! no clock but the link's.
 #![tactic(auto)]
 
 mod head;

@@ -14,8 +14,8 @@ use query_book::Query;
 /// The length of a ping, in bytes.
 const PING: usize = 65;
 
-/// Writes the read-only ping of a node (BEP 5, BEP 43), and answers its length. The transaction id is the four bytes of `tx`,
-/// the lowest first.
+/// Writes the read-only ping of a node (BEP 5, BEP 43), and answers its length. The transaction id is the four bytes of
+/// `tx`, the lowest first.
 fn ping_into(buf: &mut [u8; 65], own: &Id, tx: u32) -> usize
     ensures own { length own.now.0 ≡ 20 }
     ensures length { result ≡ 65 }

@@ -51,10 +51,10 @@ fn ping_all<L: Link, G: SealCheck>(
 
 /// Pings the least recently seen contact of each bucket of the table, in the order of the buckets, and tells the table what
 /// came (Kademlia, 2002, section 2.2). Who answers is seen, and so is the most recently seen of its bucket. Who doesn't has
-/// failed, and is pinged once more where the table keeps it; who fails twice makes room for the newest spare. A try waits for
-/// `timeout` milliseconds; a ping that can't be sent, an error message and an answer in another name are failures too. Where
-/// `sealed`, a reply without a tag that the seal accepts of who says it is none; else the seal is never asked. The table comes
-/// back on every answer. It waits for nobody but the link, and returns for every link.
+/// failed, and is pinged once more where the table keeps it; who fails twice makes room for the newest spare. A try waits
+/// for `timeout` milliseconds; a ping that can't be sent, an error message and an answer in another name are failures too.
+/// Where `sealed`, a reply without a tag that the seal accepts of who says it is none; else the seal is never asked. The
+/// table comes back on every answer. It waits for nobody but the link, and returns for every link.
 pub fn refresh<L: Link, G: SealCheck>(
     alloc: Global,
     link: &mut L,

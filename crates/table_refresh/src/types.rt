@@ -27,8 +27,8 @@ impl From<NoMemory> for RefreshFault {
     }
 }
 
-/// What the pings go by: who asks, how long a try waits for its reply, in milliseconds, and whether a reply has to carry a tag
-/// that the seal accepts.
+/// What the pings go by: who asks, how long a try waits for its reply, in milliseconds, and whether a reply has to carry a
+/// tag that the seal accepts.
 #[derive(Clone, Copy)]
 pub(crate) struct Setting {
     pub own: Id,
@@ -36,7 +36,8 @@ pub(crate) struct Setting {
     pub sealed: bool,
 }
 
-/// Where a refresh stands between two calls on its link: the table, the last told moment, and how many datagrams were strays.
+/// Where a refresh stands between two calls on its link: the table, the last told moment, and how many datagrams were
+/// strays.
 #[derive(Drop)]
 pub(crate) struct Progress {
     pub table: Table,

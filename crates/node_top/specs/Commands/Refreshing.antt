@@ -1,5 +1,5 @@
--- What the command `refresh` promises: that the input was the saved text of a sound table, that the link's events are those of
--- the eviction pings of that table (Kademlia, 2002, section 2.2), and that the text is the saved text of the table that
+-- What the command `refresh` promises: that the input was the saved text of a sound table, that the link's events are those
+-- of the eviction pings of that table (Kademlia, 2002, section 2.2), and that the text is the saved text of the table that
 -- results. Which text a table has, and that all buckets are pinged in one call, is this project's own.
 use Rattle.std.specs.Prelude.{◌≡◌, ◌⊎◌, ℕ, List, [], ◌∷◌, Bool, true, None}
 use Rattle.kad_base.specs.declared.types.Event.{Event}

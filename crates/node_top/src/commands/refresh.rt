@@ -1,5 +1,5 @@
-//! The command `refresh`: pings the least recently seen contact of each bucket of a saved table, and makes the saved text of the
-//! table that results.
+//! The command `refresh`: pings the least recently seen contact of each bucket of a saved table, and makes the saved text
+//! of the table that results.
 ghost use Rattle.std.specs.Prelude.{◌≡◌, ◌⊎◌, IfOk, IfErr};
 ghost use Rattle.node_top.specs.Called.{called_with};
 ghost use Rattle.node_top.specs.Commands.Refreshing.{Restores, RefreshBegun, RefreshText, SavedCause, refresh_promise};
@@ -44,8 +44,8 @@ fn read_table<S: Source>(alloc: Global, source: &mut S) -> Result<Table, Status>
     }
 }
 
-/// Refreshes the table of the input, and makes the saved text of the table that results, or says why there is none. Nothing is
-/// written yet.
+/// Refreshes the table of the input, and makes the saved text of the table that results, or says why there is none. Nothing
+/// is written yet.
 pub(crate) fn refresh<S: Source, L: Link, C, G: Seal + SealCheck>(
     alloc: Global,
     timeout: u32,

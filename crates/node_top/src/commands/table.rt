@@ -26,8 +26,8 @@ pub(crate) fn text_of(alloc: Global, table: &Table) -> Result<Bytes, NoMemory>
     write(alloc, &saved)
 }
 
-/// Reads the contacts of the input, tells a new routing table of those of IPv4, and makes its saved text, or says why there is
-/// none. Nothing is written yet.
+/// Reads the contacts of the input, tells a new routing table of those of IPv4, and makes its saved text, or says why there
+/// is none. Nothing is written yet.
 pub(crate) fn table<S: Source, C: Check, G: Seal + SealCheck>(
     alloc: Global,
     own: Option<Id>,

@@ -57,9 +57,9 @@ enum Conduct {
     Padding(usize),
 }
 
-/// One lookup. A wide one asks one node after the other, on one path, and for its own identifier, so that it begins with the
-/// k closest of its input, of however many lines; some sends are refused, and some answers come late. Another has no more
-/// nodes than it looks for, so that whoever is named is asked, in whatever order the paths do it.
+/// One lookup. A wide one asks one node after the other, on one path, and for its own identifier, so that it begins with
+/// the k closest of its input, of however many lines; some sends are refused, and some answers come late. Another has no
+/// more nodes than it looks for, so that whoever is named is asked, in whatever order the paths do it.
 #[derive(Clone, Copy)]
 struct Plan {
     seed: u64,

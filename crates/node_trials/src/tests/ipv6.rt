@@ -1,5 +1,5 @@
-//! Lookups in the network of IPv6 (BEP 32). Contact n is identifier n at the address of fifteen zero bytes and n, and at port
-//! 6000 + n.
+//! Lookups in the network of IPv6 (BEP 32). Contact n is identifier n at the address of fifteen zero bytes and n, and at
+//! port 6000 + n.
 ghost use Rattle.std.specs.Prelude.{IfOk};
 ghost use Rattle.fake_net.specs.Scripts.{IsWritableEvent};
 
