@@ -1,15 +1,18 @@
-//! Whole commands `refresh`. The pings' transaction ids are the sixth and the seventh word of the generator of 32 zero
-//! bytes: a08ded1a and a836efcc of the keystream of ChaCha20 under a key of zeros. Texts and bytes were written by hand.
+//! Whole commands `refresh`. The pings' transaction ids are the sixth and the seventh word of the generator of 32 zero bytes:
+//! a08ded1a and a836efcc of the keystream of ChaCha20 under a key of zeros. Texts and bytes were written by hand.
+ghost use Rattle.std.specs.Prelude.{None, Some, ℕ, [], take, length};
+ghost use Rattle.kad_base.specs.Outside.{Rose};
+
 use fake_net::ScriptLink;
 use id_puzzles::Sha1Check;
-use kad_base::{BytesSink, BytesSource, List, Sink, SteadySource};
+use kad_base::{Addr, BytesSink, BytesSource, Came, Failed, Link, List, Sink, SteadySource};
 use run_kit::{none, plain_status_of, play, shows, status_of, words};
 use std::alloc::Global;
 use std::random::RandomSource;
 use std::sync::Wait;
 use std::test::Fail;
 use std::thread::Threads;
-use trial_kit::{Reply, failing_link, link, link_with, sent};
+use trial_kit::{Reply, failing_link, link, link_with, local, sent};
 
 /// A table of contact 1 alone, of the node of twenty bytes ff.
 const ONE: &str =
@@ -78,7 +81,7 @@ fn who_is_silent_is_pinged_twice_and_goes(rt: HostRuntime) -> Result<(), Fail> {
 /// The moment at which a link stands.
 fn now(link: ScriptLink) -> u64 {
     let mut link = link;
-    kad_base::Link::now(&mut link)
+    link.now()
 }
 
 /// The command writes this and asks nobody.
@@ -139,12 +142,51 @@ fn failed_sends_are_failed_tries(rt: HostRuntime) -> Result<(), Fail> {
     shows(&rt, &["refresh"], ONE, link, 0, NOBODY)
 }
 
+/// A link that gives an empty datagram at each receive, and tells nothing.
+#[derive(Drop)]
+struct Strangers {
+    from: Addr,
+}
+
+impl Link for Strangers {
+    ghost kept = { λ _. tt };
+
+    ghost told = { λ _. None };
+
+    ghost moment = { λ _. 0 };
+
+    ghost send_faults = { λ _. 0 };
+
+    ghost recv_faults = { λ _. 0 };
+
+    fn now(&mut self) -> u64 {
+        0
+    }
+
+    fn send(&mut self, _to: Addr, _bytes: &[u8]) -> Result<(), Failed> {
+        Ok(())
+    }
+
+    fn recv(&mut self, _buf: &mut [u8], _until: u64) -> Result<Came, Failed> {
+        Ok(Came::Packet {
+            from: self.from,
+            len: 0,
+            at: 0,
+        })
+    }
+}
+
 #[test]
 fn the_millionth_stray_ends_it(rt: HostRuntime) -> Result<(), Fail> {
-    let million = link_with(rt.alloc(), b"", 10, 1_000_000, &[])?;
-    shows(&rt, &["refresh"], ONE, million, 7, "strays\n")?;
-    let less = link_with(rt.alloc(), b"", 10, 999_999, &[])?;
-    shows(&rt, &["refresh"], ONE, less, 0, NOBODY)
+    let alloc = rt.alloc();
+    let words = words(alloc, &["refresh"])?;
+    let mut source = SteadySource::new(List::from_slice(alloc, ONE.as_bytes())?);
+    let mut sink = BytesSink::new(4096, none(alloc), List::new(alloc));
+    let mut link = Strangers { from: local(6001) };
+    let status = status_of(&rt, &words, &mut source, &mut link, &mut sink, &Sha1Check)?;
+    assert_eq!(rt; status, 7);
+    assert_eq!(rt; sink.written(), b"strays\n".as_slice());
+    Ok(())
 }
 
 /// The source gives a byte a call, and this call fails; the last read finds the end.
