@@ -612,7 +612,7 @@ class Many:
 
 
 CLIENTS = (Aria2, Transmission, Rtorrent, Libtorrent)
-CLIENTS_OF_IPV6 = (Aria2, Libtorrent)  # rtorrent 0.9.8 has no DHT of IPv6, and transmission takes no node at ::1
+CLIENTS_OF_IPV6 = (Aria2, Libtorrent)  # rtorrent 0.9.8 binds IPv4 alone, transmission 3.00 no socket of IPv6 at ::1
 
 
 def first_number(words):
