@@ -69,6 +69,7 @@ fn answer(alloc: Global, n: u8, at: u64) -> ScriptEvent
                 nodes6: None,
                 snodes6: None,
                 token: None,
+                v: None,
                 values: None,
             },
         },
@@ -130,7 +131,10 @@ fn a_lookup_over_ipv6_asks_for_its_contacts(rt: HostRuntime) -> Result<(), Fail>
     let played = play(&rt, words.as_slice(), LINE6_1, link_with(alloc, NAMING_2)?)?;
     let sent = sent(alloc, &played.link)?;
     assert_eq!(rt; played.status, 0);
-    assert_eq!(rt; played.text.as_str(), "0000000000000000000000000000000000000001 [0000:0000:0000:0000:0000:0000:0000:0001]:6001\n0000000000000000000000000000000000000002 [0000:0000:0000:0000:0000:0000:0000:0002]:6002\nfound 2 asked 2 failed 0 turned 0\n");
+    assert_eq!(rt;
+        played.text.as_str(),
+        "0000000000000000000000000000000000000001 [0000:0000:0000:0000:0000:0000:0000:0001]:6001\n0000000000000000000000000000000000000002 [0000:0000:0000:0000:0000:0000:0000:0002]:6002\nfound 2 asked 2 failed 0 turned 0\n"
+    );
     assert_eq!(rt; query.len(), 113);
     assert_eq!(rt; sent[0].as_slice(), query.as_slice());
     Ok(())
