@@ -75,9 +75,9 @@ fn getting(key: &[u8; 20], read_only: bool) -> Text {
         b"d1:ad2:id20:abcdefghij01234567896:target20:",
         key,
         b"e1:q3:get",
-        mark(read_only),
-        b"1:t2:aa1:y1:qe",
     ])
+    .then(mark(read_only))
+    .then(b"1:t2:aa1:y1:qe")
 }
 
 /// Whether the reply to that query has a token, no nodes, and then this.
