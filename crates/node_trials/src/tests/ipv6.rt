@@ -136,6 +136,7 @@ fn a_lookup_over_ipv6_asks_for_its_contacts(rt: HostRuntime) -> Result<(), Fail>
         "0000000000000000000000000000000000000001 [0000:0000:0000:0000:0000:0000:0000:0001]:6001\n0000000000000000000000000000000000000002 [0000:0000:0000:0000:0000:0000:0000:0002]:6002\nfound 2 asked 2 failed 0 turned 0\n"
     );
     assert_eq!(rt; query.len(), 113);
+    assert_eq!(rt; sent.len(), 2);
     assert_eq!(rt; sent[0].as_slice(), query.as_slice());
     Ok(())
 }
