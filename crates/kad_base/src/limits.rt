@@ -48,7 +48,7 @@ pub const MAX_DATAGRAM: usize = 4_096;
 /// The room that each receive is given, in bytes: one more than a datagram may have, so that a longer one shows.
 pub const RECEIVE_ROOM: usize = 4_097;
 
-/// The stray datagram of this number ends a lookup.
+/// The stray datagram of this number ends a lookup, and a refresh of a saved table.
 pub const MAX_STRAYS: u32 = 1_000_000;
 
 /// The most receive calls of one round.

@@ -51,9 +51,9 @@ pub trait Sink {
 
 /// A datagram socket with a clock.
 pub trait Link {
-    /// What of a link no call changes that gives a receive room for every datagram that is believed and one byte more: of a
-    /// whole network in memory which one it is, and of others nothing. So who says that it is as it was says of each receive
-    /// how much room it had.
+    /// What of a link no call changes whose receives have room for just one byte more than the longest datagram that is
+    /// believed: of a whole network in memory which one it is, and of others nothing. So who says that it is as it was says
+    /// of each receive how much room it had.
     ghost Kept: { Type 0 } = { Unit {0} };
 
     ghost kept: { Self → Self.Kept };
@@ -99,7 +99,7 @@ pub trait Link {
         ensures told_moment { IfOk result (λ came. moment self.new ≡ came_at came) }
         ensures err { OnErr result (Grows (told self.old) (told self.new) (λ t. t ≡ [])) }
         ensures err_moment { OnErr result (moment self.new ≡ moment self.old) }
-        ensures kept { max_datagram < length buf.old → kept self.new ≡ kept self.old }
+        ensures kept { length buf.old ≡ max_datagram + 1 → kept self.new ≡ kept self.old }
         ensures send_faults { send_faults self.old ≤ send_faults self.new }
         ensures recv_faults { recv_faults self.old ≤ recv_faults self.new }
         ensures well { IfOk result (λ came. recv_faults self.new ≡ recv_faults self.old) }

@@ -143,8 +143,8 @@ pub fn decode_view(bytes: &[u8]) -> Result<View<'_>, KrpcFault>
     }
 }
 
-/// Reads a datagram of any length: what it says, or the first step of the reading that fails. Keys that BEP 5 and BEP 43
-/// don't name are passed over. Each string is copied once, and the memory taken is in proportion to the datagram.
+/// Reads a datagram of any length: what it says, or the first step of the reading that fails. Keys that none of BEP 5, 32,
+/// 43 and 44 names are passed over, but this project's own. Each string is copied once, and the memory taken is in proportion to the datagram.
 pub fn decode(alloc: Global, bytes: &[u8]) -> Result<Message, KrpcFault>
     // What is read is said so, and what is refused fails so.
     ensures says { IfOk result (Says bytes.now) }

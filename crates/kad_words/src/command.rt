@@ -38,7 +38,7 @@ pub enum Command {
         receives: u32,
         sealed: bool,
     },
-    /// Make the routing table of contact lines, and save it as a text.
+    /// Make the routing table of the IPv4 contacts of contact lines, and print it as a saved text.
     Table {
         own: Option<Id>,
         k: u8,

@@ -1,4 +1,4 @@
-//! The tokens of get_peers and announce_peer.
+//! The tokens of get_peers and announce_peer (BEP 5), and of get and put (BEP 44).
 ghost use Rattle.std.specs.Prelude.{◌≡◌, ◌↔◌, ◌-◌, ◌/◌, ◌^◌, ◌<◌, ◌++◌, IsTrue, take};
 ghost use Rattle.kad_base.specs.Puzzles.{hash};
 ghost use Rattle.peer_store.specs.Tokens.{TokensState, IsAccepted, epoch_at, secret_of, token_of};

@@ -1,11 +1,8 @@
 //! Datagrams that reply to no ping.
-ghost use Rattle.std.specs.Prelude.{None};
-
 use crate::play::{ANSWER_1, ANSWER_2, NOBODY, ONE, PING_1, Told, leaves, play, tells};
-use kad_base::{Addr, Came, Failed, Link};
 use std::test::Fail;
 use table_refresh::RefreshFault;
-use trial_kit::{Reply, link, link_from, link_with, local};
+use trial_kit::{Reply, Strangers, link, link_from, link_with, local};
 
 /// A query of contact 1 under the transaction id of the first ping.
 const QUERY: &[u8] =
@@ -58,40 +55,6 @@ fn the_deadline_is_the_last_moment(rt: HostRuntime) -> Result<(), Fail> {
     leaves(rt.alloc(), ONE, &mut in_time, ONE)?;
     let mut stray = link_with(rt.alloc(), b"", 2000, 1, &[Reply::of(1, 2000)])?;
     leaves(rt.alloc(), ONE, &mut stray, NOBODY)
-}
-
-/// A link that gives an empty datagram at each receive, and tells nothing.
-#[derive(Drop)]
-struct Strangers {
-    from: Addr,
-}
-
-impl Link for Strangers {
-    ghost kept = { λ _. tt };
-
-    ghost told = { λ _. None };
-
-    ghost moment = { λ _. 0 };
-
-    ghost send_faults = { λ _. 0 };
-
-    ghost recv_faults = { λ _. 0 };
-
-    fn now(&mut self) -> u64 {
-        0
-    }
-
-    fn send(&mut self, _to: Addr, _bytes: &[u8]) -> Result<(), Failed> {
-        Ok(())
-    }
-
-    fn recv(&mut self, _buf: &mut [u8], _until: u64) -> Result<Came, Failed> {
-        Ok(Came::Packet {
-            from: self.from,
-            len: 0,
-            at: 0,
-        })
-    }
 }
 
 #[test]

@@ -1,18 +1,15 @@
 //! Whole commands `refresh`. The pings' transaction ids are the sixth and the seventh word of the generator of 32 zero bytes:
 //! a08ded1a and a836efcc of the keystream of ChaCha20 under a key of zeros. Texts and bytes were written by hand.
-ghost use Rattle.std.specs.Prelude.{None, Some, ℕ, [], take, length};
-ghost use Rattle.kad_base.specs.Outside.{Rose};
-
 use fake_net::ScriptLink;
 use id_puzzles::Sha1Check;
-use kad_base::{Addr, BytesSink, BytesSource, Came, Failed, Link, List, Sink, SteadySource};
+use kad_base::{BytesSink, BytesSource, Link, List, Sink, SteadySource};
 use run_kit::{none, plain_status_of, play, shows, status_of, words};
 use std::alloc::Global;
 use std::random::RandomSource;
 use std::sync::Wait;
 use std::test::Fail;
 use std::thread::Threads;
-use trial_kit::{Reply, failing_link, link, link_with, local, sent};
+use trial_kit::{Reply, Strangers, failing_link, link, link_with, local, sent};
 
 /// A table of contact 1 alone, of the node of twenty bytes ff.
 const ONE: &str =
@@ -140,40 +137,6 @@ fn a_failed_receive_ends_it(rt: HostRuntime) -> Result<(), Fail> {
 fn failed_sends_are_failed_tries(rt: HostRuntime) -> Result<(), Fail> {
     let link = failing_link(rt.alloc(), &[Reply::of(1, 10)], &[0, 1], &[])?;
     shows(&rt, &["refresh"], ONE, link, 0, NOBODY)
-}
-
-/// A link that gives an empty datagram at each receive, and tells nothing.
-#[derive(Drop)]
-struct Strangers {
-    from: Addr,
-}
-
-impl Link for Strangers {
-    ghost kept = { λ _. tt };
-
-    ghost told = { λ _. None };
-
-    ghost moment = { λ _. 0 };
-
-    ghost send_faults = { λ _. 0 };
-
-    ghost recv_faults = { λ _. 0 };
-
-    fn now(&mut self) -> u64 {
-        0
-    }
-
-    fn send(&mut self, _to: Addr, _bytes: &[u8]) -> Result<(), Failed> {
-        Ok(())
-    }
-
-    fn recv(&mut self, _buf: &mut [u8], _until: u64) -> Result<Came, Failed> {
-        Ok(Came::Packet {
-            from: self.from,
-            len: 0,
-            at: 0,
-        })
-    }
 }
 
 #[test]

@@ -10,3 +10,4 @@ pub mod PartSpelling
 pub mod LineSpelling
 pub mod Failing
 pub mod Cutting
+pub mod Fitting

@@ -71,6 +71,12 @@ FitsLine (line.Spare c) = FitsContact c
 FitsLine (line.Sibling c) = FitsContact c
 FitsLine line.End = Unit {0}
 
+-- a row holds what its types can
+pub record FitsRow (row : Row) : Type 0 where
+  pub prefix : length row.prefix ≤ 160
+  pub live : All (λ e. FitsContact e.contact) row.live
+  pub spare : All FitsContact row.spare
+
 -- each live contact failed at most once since it was last seen
 abbrev pub FailedOnce : List Row → Type 0
 FailedOnce rows = All (λ row. All (λ e. e.failures ≤ 1) row.live) rows

@@ -1,9 +1,9 @@
 //! How the parts of a line are printed, behind what was printed before.
-ghost use Rattle.std.specs.Prelude.{◌≡◌, ◌++◌, ◌∷◌, [], OnOk, decimal, map};
+ghost use Rattle.std.specs.Prelude.{◌≡◌, ◌≤◌, ◌++◌, ◌∷◌, [], OnOk, decimal, length, map};
 ghost use Rattle.hex.specs.Hex.{encode_lower};
 ghost use Rattle.kad_base.specs.declared.types.Ip.TheVariants.{V4, V6};
-ghost use Rattle.kad_words.specs.Text.{addr_text, ip_text};
-ghost use Rattle.table_file.specs.SavedText.{bit_text, contact_text, prefix_text};
+ghost use Rattle.kad_words.specs.Text.{FitsAddr, FitsIp, addr_text, ip_text};
+ghost use Rattle.table_file.specs.SavedText.{FitsContact, FitsId, bit_text, contact_text, prefix_text};
 
 use bucket_tree::Prefix;
 use itoa::Buffer;
@@ -19,7 +19,8 @@ pub(crate) fn put_number(output: &mut Bytes, number: u16) -> Result<(), NoMemory
 
 /// An identifier in 40 lower-case hex digits.
 pub(crate) fn put_id(output: &mut Bytes, id: &Id) -> Result<(), NoMemory>
-    ensures { OnOk result (output.new ≡ output.old ++ encode_lower id.now.0) }
+    ensures fits { FitsId id.now }
+    ensures text { OnOk result (output.new ≡ output.old ++ encode_lower id.now.0) }
 {
     let mut digits = [0; 40];
     match hex::encode_to_slice(id.0, &mut digits) {
@@ -43,7 +44,8 @@ fn put_group(output: &mut Bytes, lead: u8, group: [u8; 2]) -> Result<(), NoMemor
 /// An address of IPv4 in dotted decimal.
 #[tactic(auto, using(crate::proofs::Printing::seven))]
 fn put_v4(output: &mut Bytes, ip: [u8; 4]) -> Result<(), NoMemory>
-    ensures { OnOk result (output.new ≡ output.old ++ ip_text (V4 ip)) }
+    ensures fits { FitsIp (V4 ip) }
+    ensures text { OnOk result (output.new ≡ output.old ++ ip_text (V4 ip)) }
 {
     put_number(output, u16::from(ip[0]))?;
     output.push(b'.')?;
@@ -56,7 +58,8 @@ fn put_v4(output: &mut Bytes, ip: [u8; 4]) -> Result<(), NoMemory>
 
 /// An address of IPv6 as eight groups of four hex digits, in brackets.
 fn put_v6(output: &mut Bytes, ip: [u8; 16]) -> Result<(), NoMemory>
-    ensures { OnOk result (output.new ≡ output.old ++ ip_text (V6 ip)) }
+    ensures fits { FitsIp (V6 ip) }
+    ensures text { OnOk result (output.new ≡ output.old ++ ip_text (V6 ip)) }
 {
     let mut lead = b'[';
     for i in 0..8 {
@@ -68,7 +71,8 @@ fn put_v6(output: &mut Bytes, ip: [u8; 16]) -> Result<(), NoMemory>
 
 /// An IP address.
 fn put_ip(output: &mut Bytes, ip: &Ip) -> Result<(), NoMemory>
-    ensures { OnOk result (output.new ≡ output.old ++ ip_text ip.now) }
+    ensures fits { FitsIp ip.now }
+    ensures text { OnOk result (output.new ≡ output.old ++ ip_text ip.now) }
 {
     match *ip {
         Ip::V4(bytes) => put_v4(output, bytes),
@@ -78,7 +82,8 @@ fn put_ip(output: &mut Bytes, ip: &Ip) -> Result<(), NoMemory>
 
 /// An address and its port.
 fn put_addr(output: &mut Bytes, addr: &Addr) -> Result<(), NoMemory>
-    ensures { OnOk result (output.new ≡ output.old ++ addr_text addr.now) }
+    ensures fits { FitsAddr addr.now }
+    ensures text { OnOk result (output.new ≡ output.old ++ addr_text addr.now) }
 {
     put_ip(output, &addr.ip)?;
     output.push(b':')?;
@@ -87,7 +92,8 @@ fn put_addr(output: &mut Bytes, addr: &Addr) -> Result<(), NoMemory>
 
 /// A contact: its identifier, a space, and its address.
 pub(crate) fn put_contact(output: &mut Bytes, contact: &Contact) -> Result<(), NoMemory>
-    ensures { OnOk result (output.new ≡ output.old ++ contact_text contact.now) }
+    ensures fits { FitsContact contact.now }
+    ensures text { OnOk result (output.new ≡ output.old ++ contact_text contact.now) }
 {
     put_id(output, &contact.id)?;
     output.push(b' ')?;
@@ -116,7 +122,8 @@ fn put_bits(output: &mut Bytes, prefix: &Prefix) -> Result<(), NoMemory>
 
 /// The bits of a prefix; a dash where it is empty.
 pub(crate) fn put_prefix(output: &mut Bytes, prefix: &Prefix) -> Result<(), NoMemory>
-    ensures { OnOk result (output.new ≡ output.old ++ prefix_text prefix.now) }
+    ensures within { length prefix.now ≤ 160 }
+    ensures text { OnOk result (output.new ≡ output.old ++ prefix_text prefix.now) }
 {
     if prefix.len() == 0 {
         return output.push(b'-');

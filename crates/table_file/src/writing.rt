@@ -1,7 +1,8 @@
 //! A saved table as a text.
-ghost use Rattle.std.specs.Prelude.{◌≡◌, ◌++◌, OnOk, IfOk, flat_map, map};
+ghost use Rattle.std.specs.Prelude.{◌≡◌, ◌≤◌, ◌++◌, OnOk, IfOk, flat_map, length, map};
+ghost use Rattle.std.specs.List.{All};
 ghost use Rattle.table_file.specs.declared.line.Line.TheVariants as line;
-ghost use Rattle.table_file.specs.SavedText.{FailedOnce, ended, joined, row_lines, saved_text};
+ghost use Rattle.table_file.specs.SavedText.{FailedOnce, FitsContact, FitsId, FitsRow, IsSavedText, ended, joined, row_lines};
 
 use crate::print::{put_contact, put_id, put_number, put_prefix};
 use bucket_tree::{Live, Prefix, Row};
@@ -9,11 +10,11 @@ use contact_table::Saved;
 use kad_base::{Bytes, Contact, Id, List, NoMemory};
 use std::alloc::Global;
 
-/// The text of a saved table: its lines, each ended by a line feed.
-#[tactic(auto, using(crate::proofs::Printing::saved_parts))]
+/// The text of a saved table: its lines, each ended by a line feed. It can be read back.
+#[tactic(auto, using(crate::proofs::Printing::saved_parts, crate::proofs::Fitting::lines_fit))]
 pub fn write(alloc: Global, saved: &Saved) -> Result<Bytes, NoMemory>
     requires { FailedOnce saved.now.rows }
-    ensures { IfOk result (λ text. text ≡ saved_text saved.now) }
+    ensures { IfOk result (λ text. IsSavedText text saved.now) }
 {
     let mut output = List::new(alloc);
     put_table(&mut output, &saved.own, saved.k, saved.b)?;
@@ -26,7 +27,8 @@ pub fn write(alloc: Global, saved: &Saved) -> Result<Bytes, NoMemory>
 /// The first line: whose table it is, and its setting.
 #[tactic(auto, using(crate::proofs::Printing::line7), unfolding(crate::specs::SavedText::text_of))]
 fn put_table(output: &mut Bytes, own: &Id, k: u8, b: u8) -> Result<(), NoMemory>
-    ensures { OnOk result (output.new ≡ output.old ++ ended (line.Table own.now k b)) }
+    ensures fits { FitsId own.now }
+    ensures text { OnOk result (output.new ≡ output.old ++ ended (line.Table own.now k b)) }
 {
     output.extend(b"table ")?;
     put_id(output, own)?;
@@ -40,7 +42,8 @@ fn put_table(output: &mut Bytes, own: &Id, k: u8, b: u8) -> Result<(), NoMemory>
 /// The line with which a bucket begins.
 #[tactic(auto, using(crate::proofs::Printing::line3), unfolding(crate::specs::SavedText::text_of))]
 fn put_prefix_line(output: &mut Bytes, prefix: &Prefix) -> Result<(), NoMemory>
-    ensures { OnOk result (output.new ≡ output.old ++ ended (line.Row prefix.now)) }
+    ensures within { length prefix.now ≤ 160 }
+    ensures text { OnOk result (output.new ≡ output.old ++ ended (line.Row prefix.now)) }
 {
     output.extend(b"row ")?;
     put_prefix(output, prefix)?;
@@ -50,7 +53,8 @@ fn put_prefix_line(output: &mut Bytes, prefix: &Prefix) -> Result<(), NoMemory>
 /// The line of a live contact.
 #[tactic(auto, using(crate::proofs::Printing::line5), unfolding(crate::specs::SavedText::text_of))]
 fn put_live(output: &mut Bytes, entry: &Live) -> Result<(), NoMemory>
-    ensures { OnOk result (output.new ≡ output.old ++ ended (line.Live entry.now)) }
+    ensures fits { FitsContact entry.now.contact }
+    ensures text { OnOk result (output.new ≡ output.old ++ ended (line.Live entry.now)) }
 {
     output.extend(b"live ")?;
     put_contact(output, &entry.contact)?;
@@ -62,7 +66,8 @@ fn put_live(output: &mut Bytes, entry: &Live) -> Result<(), NoMemory>
 /// The line of a spare.
 #[tactic(auto, using(crate::proofs::Printing::line3), unfolding(crate::specs::SavedText::text_of))]
 fn put_spare(output: &mut Bytes, contact: &Contact) -> Result<(), NoMemory>
-    ensures { OnOk result (output.new ≡ output.old ++ ended (line.Spare contact.now)) }
+    ensures fits { FitsContact contact.now }
+    ensures text { OnOk result (output.new ≡ output.old ++ ended (line.Spare contact.now)) }
 {
     output.extend(b"spare ")?;
     put_contact(output, contact)?;
@@ -72,7 +77,8 @@ fn put_spare(output: &mut Bytes, contact: &Contact) -> Result<(), NoMemory>
 /// The line of a sibling.
 #[tactic(auto, using(crate::proofs::Printing::line3), unfolding(crate::specs::SavedText::text_of))]
 fn put_sibling(output: &mut Bytes, contact: &Contact) -> Result<(), NoMemory>
-    ensures { OnOk result (output.new ≡ output.old ++ ended (line.Sibling contact.now)) }
+    ensures fits { FitsContact contact.now }
+    ensures text { OnOk result (output.new ≡ output.old ++ ended (line.Sibling contact.now)) }
 {
     output.extend(b"sibling ")?;
     put_contact(output, contact)?;
@@ -81,7 +87,8 @@ fn put_sibling(output: &mut Bytes, contact: &Contact) -> Result<(), NoMemory>
 
 /// The lines of the live contacts, in order.
 fn put_lives(output: &mut Bytes, live: &[Live]) -> Result<(), NoMemory>
-    ensures { OnOk result (output.new ≡ output.old ++ joined (map line.Live live.now)) }
+    ensures fits { OnOk result (All (λ e. FitsContact e.contact) live.now) }
+    ensures text { OnOk result (output.new ≡ output.old ++ joined (map line.Live live.now)) }
 {
     for entry in live {
         put_live(output, entry)?;
@@ -91,7 +98,8 @@ fn put_lives(output: &mut Bytes, live: &[Live]) -> Result<(), NoMemory>
 
 /// The lines of the spares, in order.
 fn put_spares(output: &mut Bytes, spare: &[Contact]) -> Result<(), NoMemory>
-    ensures { OnOk result (output.new ≡ output.old ++ joined (map line.Spare spare.now)) }
+    ensures fits { OnOk result (All FitsContact spare.now) }
+    ensures text { OnOk result (output.new ≡ output.old ++ joined (map line.Spare spare.now)) }
 {
     for contact in spare {
         put_spare(output, contact)?;
@@ -101,7 +109,8 @@ fn put_spares(output: &mut Bytes, spare: &[Contact]) -> Result<(), NoMemory>
 
 /// The lines of a row.
 fn put_row(output: &mut Bytes, row: &Row) -> Result<(), NoMemory>
-    ensures { OnOk result (output.new ≡ output.old ++ joined (row_lines row.now)) }
+    ensures fits { OnOk result (FitsRow row.now) }
+    ensures text { OnOk result (output.new ≡ output.old ++ joined (row_lines row.now)) }
 {
     put_prefix_line(output, &row.prefix)?;
     put_lives(output, row.live.as_slice())?;
@@ -110,7 +119,8 @@ fn put_row(output: &mut Bytes, row: &Row) -> Result<(), NoMemory>
 
 /// The lines of all rows, in order.
 fn put_rows(output: &mut Bytes, rows: &[Row]) -> Result<(), NoMemory>
-    ensures { OnOk result (output.new ≡ output.old ++ joined (flat_map row_lines rows.now)) }
+    ensures fits { OnOk result (All FitsRow rows.now) }
+    ensures text { OnOk result (output.new ≡ output.old ++ joined (flat_map row_lines rows.now)) }
 {
     for row in rows {
         put_row(output, row)?;
@@ -120,7 +130,8 @@ fn put_rows(output: &mut Bytes, rows: &[Row]) -> Result<(), NoMemory>
 
 /// The lines of the siblings, in order.
 fn put_siblings(output: &mut Bytes, siblings: &[Contact]) -> Result<(), NoMemory>
-    ensures { OnOk result (output.new ≡ output.old ++ joined (map line.Sibling siblings.now)) }
+    ensures fits { OnOk result (All FitsContact siblings.now) }
+    ensures text { OnOk result (output.new ≡ output.old ++ joined (map line.Sibling siblings.now)) }
 {
     for contact in siblings {
         put_sibling(output, contact)?;

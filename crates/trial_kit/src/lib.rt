@@ -6,6 +6,7 @@ mod contacts;
 mod input;
 mod meeting;
 mod script;
+mod strangers;
 mod told;
 
 pub use contacts::{at, at_in, at6, contact, contact6, local, number, port};
@@ -14,4 +15,5 @@ pub use meeting::Meeting;
 pub use script::{
     Reply, answer, answer6, failing_link, link, link_from, link_over, link_with, with_replies,
 };
+pub use strangers::Strangers;
 pub use told::{sent, tells};

@@ -11,17 +11,17 @@ use Rattle.contact_table.specs.TableState.{TableState}
 use Rattle.contact_table.specs.Told.{new_table}
 use Rattle.contact_table.specs.declared.saved.Saved.{Saved}
 use Rattle.lookup_run.specs.Lookup.{TableTold}
-use Rattle.table_file.specs.SavedText.{saved_text}
+use Rattle.table_file.specs.SavedText.{IsSavedText}
 use Rattle.node_top.specs.Input.{Lists, Admits}
 use Rattle.node_top.specs.Promise.{Promise, judge_aim, reading}
 use Rattle.node_top.specs.Shown.{Shown}
 use Rattle.node_top.specs.Started.{AreTableBounds, own_of, seen_call}
 
--- the text is the saved text of what the table holds
+-- the text is the saved text of what the table holds, so that it can be read back
 pub record IsTextOf (table : TableState) (text : List ℕ) : Type 0 where
   pub saved : Saved
   pub held : state_of saved ≡ table
-  pub text_is : text ≡ saved_text saved
+  pub is_saved : IsSavedText text saved
 
 -- the contacts of the input that are usable and pass, in order, were told to a new table, and the text is that table's
 pub record TableText (own : Option Id) (k bits : ℕ) (policy : Policy) (random : List ℕ) (source : Shown ℕ) (text : List ℕ) : Type 0 where
