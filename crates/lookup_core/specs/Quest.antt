@@ -10,9 +10,9 @@ use Rattle.kad_base.specs.declared.types.Policy.TheVariants.{Plain, Puzzled}
 use Rattle.kad_base.specs.Limits.{max_reports, max_datagram}
 use Rattle.kad_krpc.specs.declared.message.Answer.{Answer}
 use Rattle.kad_krpc.specs.declared.message.Message.{Message}
-use Rattle.kad_krpc.specs.Form.{find_node_query, get_peers_query}
+use Rattle.kad_krpc.specs.Form.{find_node_query, get_peers_query, get_query}
 use Rattle.lookup_core.specs.declared.quest.AskKind.{AskKind}
-use Rattle.lookup_core.specs.declared.quest.AskKind.TheVariants.{FindNode, GetPeers}
+use Rattle.lookup_core.specs.declared.quest.AskKind.TheVariants.{FindNode, GetPeers, GetItem}
 use Rattle.lookup_core.specs.declared.quest.Quest.{Quest}
 
 -- whether it is the network of IPv6
@@ -20,15 +20,11 @@ abbrev pub is_six : Family → Bool
 is_six Four = false
 is_six Six = true
 
--- the query of each kind (BEP 5), read-only (BEP 43), which asks for contacts of IPv6 or says nothing of whose (BEP 32)
+-- the query of each kind (BEP 5, BEP 44), read-only (BEP 43), which asks for contacts of IPv6 or says nothing of whose (BEP 32)
 abbrev pub message_of : AskKind → Id → Id → Bool → ℕ → Message
 message_of FindNode own target six tx = find_node_query own target six tx
 message_of GetPeers own target six tx = get_peers_query own target six tx
-
--- whether a lookup gathers the peers and the tokens that answers give (BEP 5)
-abbrev pub wants_peers : AskKind → Bool
-wants_peers FindNode = false
-wants_peers GetPeers = true
+message_of GetItem own target six tx = get_query own target six tx
 
 -- the query that a lookup sends
 abbrev pub query_message : Quest → ℕ → Message

@@ -2,32 +2,22 @@
 ghost use Rattle.std.specs.Prelude.{◌≡◌, ◌≤◌, ◌↔◌, take, map, IsTrue, IfOk};
 ghost use Rattle.kad_base.specs.Limits.{max_reports};
 ghost use Rattle.kad_krpc.specs.Form.{form};
-ghost use Rattle.lookup_core.specs.Quest.{wants_peers, query_message, bare, is_six, part_of, reports_of, IsBelievable};
+ghost use Rattle.lookup_core.specs.Quest.{query_message, bare, is_six, part_of, reports_of, IsBelievable};
 
 use kad_base::limits::{MAX_DATAGRAM, MAX_REPORTS};
 use kad_base::{Contact, Contacts, Family, Id, List, NoMemory, Policy, Report, Reports};
-use kad_krpc::{Answer, find_node_into, get_peers_into};
+use kad_krpc::{Answer, find_node_into, get_into, get_peers_into};
 use std::alloc::Global;
 
-/// What a lookup asks for (BEP 5).
+/// What a lookup asks for (BEP 5, BEP 44).
 #[derive(Clone, Copy, Debug, PartialEq, Eq)]
 pub enum AskKind {
     /// The contacts closest to the target.
     FindNode,
     /// Peers too. The target is the info hash.
     GetPeers,
-}
-
-impl AskKind {
-    /// Whether peers and tokens are gathered.
-    pub fn wants_peers(self) -> bool
-        ensures { result ≡ wants_peers self }
-    {
-        match self {
-            AskKind::FindNode => false,
-            AskKind::GetPeers => true,
-        }
-    }
+    /// An immutable item too. The target is its key.
+    GetItem,
 }
 
 /// What a lookup asks, and what it believes: `own` asks for `target` in the network of `family`, `policy` says which
@@ -112,6 +102,7 @@ impl Quest {
         match self.kind {
             AskKind::FindNode => find_node_into(buf, &self.own, &self.target, six, tx),
             AskKind::GetPeers => get_peers_into(buf, &self.own, &self.target, six, tx),
+            AskKind::GetItem => get_into(buf, &self.own, &self.target, six, tx),
         }
     }
 

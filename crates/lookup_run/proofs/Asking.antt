@@ -32,7 +32,7 @@ use Rattle.lookup_run.specs.declared.types.Progress.{Progress}
 use Rattle.lookup_run.specs.declared.types.LookupState.{LookupState}
 use Rattle.lookup_core.specs.Matching.{OpenQuery, query_of}
 use Rattle.lookup_core.specs.Timeouts.{deadline_of}
-use Rattle.lookup_core.specs.Quest.{query_message, wants_peers}
+use Rattle.lookup_core.specs.Quest.{query_message}
 use Rattle.lookup_run.specs.Tells.{Seen, driven, gives}
 use Rattle.lookup_run.specs.Rounds.{path_number, AllSettled, NoneAsks}
 use Rattle.lookup_run.specs.Lookup.{setting_of, given_of, drawn_for, IsWithinLimits, quest_of}
@@ -131,7 +131,7 @@ sent_event look accepts p c tx words words' start old new s a rest book queries 
       ascends = all_push (λ (x : Entry). path_number x ≤ p) s.since (Ask p c) asc (omega arith);
       found = [];
       hears = refl;
-      keeps = keeps_none (wants_peers look.kind) old.gathered new.gathered rest.gathered;
+      keeps = keeps_none look.kind old.gathered new.gathered rest.gathered;
     }
 
 pub sent_step : (look : LookSetting) (accepts : Accepts) (p : ℕ) (c : Contact) (tx : ℕ) (words words' : WordsState) (old new : LookupState) → Asking look p c tx words words' old → SameRest old new → new.lookup.book ≡ added old.lookup.book (Ask p c) → new.lookup.queries ≡ old.lookup.queries ++ the_query look c tx old ∷ []
@@ -176,7 +176,7 @@ unsent_event look accepts p c tx words words' start old new s a rest book querie
           (all_push (λ (x : Entry). path_number x ≤ p) (s.since ++ Ask p c ∷ []) (Lost p c SendFault) (all_push (λ (x : Entry). path_number x ≤ p) s.since (Ask p c) asc (omega arith)) (omega arith));
       found = [];
       hears = refl;
-      keeps = keeps_none (wants_peers look.kind) old.gathered new.gathered rest.gathered;
+      keeps = keeps_none look.kind old.gathered new.gathered rest.gathered;
     }
 
 unsent_step : (look : LookSetting) (accepts : Accepts) (p : ℕ) (c : Contact) (tx : ℕ) (words words' : WordsState) (old new : LookupState) → Asking look p c tx words words' old → SameRest old new → new.lookup.book ≡ added (added old.lookup.book (Ask p c)) (Lost p c SendFault) → new.lookup.queries ≡ old.lookup.queries
@@ -228,7 +228,7 @@ sent_asks look p c tx words words' old new told told' a rest book queries holds 
               (subst (AllByRecursion (λ (x : Query). x.deadline ≤ deadline_of old.progress.moment look.timeout)) (sym queries) (all_push (λ (x : Query). x.deadline ≤ deadline_of old.progress.moment look.timeout) old.lookup.queries q k.deadlines (omega arith)));
           few_strays = (let n = k.few_strays in omega (arith, n, same_strays));
           few_receives = (let n = k.few_receives in let e = ap (λ (x : Progress). x.receives) rest.progress in omega (arith, n, e));
-          no_peers = λ e. subst IsBare (sym rest.gathered) (k.no_peers e);
+          is_bare = λ e. subst IsBare (sym rest.gathered) (k.is_bare e);
         };
         has_words = (let h = a.has_words in let d = ap (λ (w : WordsState). w.place) a.drawn in omega (arith, h, d, one));
         settled = subst (AllSettled look.paths) (sym journal) (all_settled look p J c a.legal a.settled);
@@ -268,7 +268,7 @@ unsent_asks look p c tx words words' old new told told' a rest book queries hold
               (subst (AllByRecursion (λ (x : Query). x.deadline ≤ deadline_of old.progress.moment look.timeout)) (sym queries) k.deadlines);
           few_strays = (let n = k.few_strays in omega (arith, n, same_strays));
           few_receives = (let n = k.few_receives in let e = ap (λ (x : Progress). x.receives) rest.progress in omega (arith, n, e));
-          no_peers = λ e. subst IsBare (sym rest.gathered) (k.no_peers e);
+          is_bare = λ e. subst IsBare (sym rest.gathered) (k.is_bare e);
         };
         has_words = (let h = a.has_words in let d = ap (λ (w : WordsState). w.place) a.drawn in omega (arith, h, d, one));
         settled = subst (AllSettled look.paths) (sym journal) (λ q lt. settled_after_lost (setting_of look) p q J1 c SendFault l1 ∙ all_settled look p J c a.legal a.settled q lt);

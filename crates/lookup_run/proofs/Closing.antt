@@ -70,8 +70,8 @@ looked_up scheduling look accepts words words' table opened after book moment fi
       lookup = closed_well work ended r _ w.over done (λ over x d. looks_up scheduling look accepts words words' table work told told' x ((ends over).done x d.done));
       rounds = closed_well work ended r _ w.over done (λ over x d. goes_by_rounds scheduling look accepts words words' table work told told' x ((ends over).done x d.done));
       own_answers = closed_well work ended r _ w.over done (λ over x d. own_answers (setting_of look) x.journal (looks_up scheduling look accepts words words' table work told told' x ((ends over).done x d.done)).legal);
-      gathered = closed_well work ended r _ w.over done (λ over x d. gathered_all scheduling look accepts words words' table work told told' x ((ends over).done x d.done) d.peers d.tokens);
-      none_gathered = closed_well work ended r _ w.over done (λ over x d. none_gathered look work x.peers x.tokens over.keeps d.peers d.tokens);
+      gathered = closed_well work ended r _ w.over done (λ over x d. gathered_all scheduling look accepts words words' table work told told' x ((ends over).done x d.done) d.peers d.tokens d.items);
+      none_gathered = closed_well work ended r _ w.over done (λ over x d. none_gathered look work x.peers x.tokens x.items over.keeps d.peers d.tokens d.items);
       peers_in_order = closed_well work ended r _ w.over done (λ over x d. d.peers.in_order);
       table = closed_well work ended r _ w.over done (λ over x d. subst (λ t. TableToldBy scheduling (table_calls look x.journal) table t) (sym same) (table_told scheduling look accepts words words' table work told told' x ((ends over).done x d.done)));
       unfinished = closed_early ended r _ w.over w.stops (λ over. (ends over).left.unfinished) (λ stops. (stops words table told along).unfinished);

@@ -1,5 +1,5 @@
 -- Small facts of lists, of the driver's entries and of open queries.
-use Rattle.std.proofs.Common.{◌≡◌, ℕ, ◌^◌, ◌<◌, List, [], ◌∷◌, ◌++◌, true, false, cond, refl, sym, ap, ◌∙◌, arith, Bool}
+use Rattle.std.proofs.Common.{◌≡◌, ℕ, ◌^◌, ◌<◌, List, [], ◌∷◌, ◌++◌, true, false, cond, refl, sym, ap, ◌∙◌, arith}
 use Rattle.std.specs.Prelude.{map}
 use Rattle.std.specs.List.{AllByRecursion}
 use Rattle.std.proofs.lemmas.List.{append-nil}
@@ -8,10 +8,12 @@ use Rattle.query_book.specs.declared.Query.{Query}
 use Rattle.query_book.specs.Queries.{IsFirstFree}
 use Rattle.claim_book.specs.declared.types.Entry.{Entry}
 use Rattle.lookup_run.specs.declared.types.Gathered.{Gathered}
+use Rattle.lookup_core.specs.declared.quest.AskKind.{AskKind}
+use Rattle.lookup_core.specs.declared.quest.AskKind.TheVariants.{FindNode, GetPeers, GetItem}
 use Rattle.lookup_core.specs.Matching.{query_of}
 use Rattle.lookup_run.specs.Tells.{is_driven, driven}
 use Rattle.lookup_core.specs.LookupSteps.{as_open}
-use Rattle.lookup_run.specs.inner.RoundSteps.{KeepsFor}
+use Rattle.lookup_run.specs.inner.RoundSteps.{KeepsAlso, KeepsFor}
 
 pub driven_append : (J K : List Entry) → driven (J ++ K) ≡ driven J ++ driven K
 unfolding driven
@@ -25,10 +27,18 @@ pub driven_quiet : (J : List Entry) (e : Entry) → is_driven e ≡ false → dr
 unfolding driven
 driven_quiet J e is = driven_append J (e ∷ []) ∙ ap (λ b. driven J ++ cond b (e ∷ []) []) is ∙ append-nil (driven J)
 
+none_more : (old new : Gathered) → new ≡ old → KeepsAlso [] [] [] old new
+none_more old new is = record {
+  peers = ap (λ (g : Gathered). g.peers) is ∙ sym (append-nil old.peers);
+  tokens = ap (λ (g : Gathered). g.tokens) is ∙ sym (append-nil old.tokens);
+  items = ap (λ (g : Gathered). g.items) is ∙ sym (append-nil old.items);
+}
+
 -- nothing was heard, and nothing kept
-pub keeps_none : (wants : Bool) (old new : Gathered) → new ≡ old → KeepsFor wants [] old new
-keeps_none false old new is = is
-keeps_none true old new is = record { peers = ap (λ (g : Gathered). g.peers) is ∙ sym (append-nil old.peers); tokens = ap (λ (g : Gathered). g.tokens) is ∙ sym (append-nil old.tokens) }
+pub keeps_none : (kind : AskKind) (old new : Gathered) → new ≡ old → KeepsFor kind [] old new
+keeps_none FindNode old new is = is
+keeps_none GetPeers old new is = none_more old new is
+keeps_none GetItem old new is = none_more old new is
 
 pub query_back : (J : List Entry) (qs : List Query) → map query_of (map (as_open J) qs) ≡ qs
 query_back J [] = refl

@@ -42,6 +42,7 @@ use Rattle.lookup_run.specs.declared.types.Gathered.{Gathered}
 use Rattle.lookup_run.specs.declared.types.Outcome.{Outcome}
 use Rattle.lookup_run.specs.declared.types.Progress.{Progress}
 use Rattle.lookup_run.specs.declared.types.Token.{Token}
+use Rattle.lookup_run.specs.declared.types.Item.{Item}
 use Rattle.lookup_run.specs.declared.types.LookupState.{LookupState}
 use Rattle.lookup_core.specs.Timeouts.{deadline_of}
 use Rattle.lookup_run.specs.Tells.{Given, Seen, driven, begun, Tells, HasFewStrays, NeverEnds}
@@ -55,7 +56,8 @@ use Rattle.lookup_run.specs.inner.RoundSteps.{Begins, IsOver, IsDone, IsBookOf, 
 use Rattle.lookup_run.proofs.Early.{so_far_of, ran_of}
 use Rattle.lookup_run.proofs.Fewer.{few_told, never_told}
 use Rattle.lookup_run.proofs.Walking.{told_in_any}
-use Rattle.lookup_core.specs.Quest.{wants_peers}
+use Rattle.lookup_core.specs.declared.quest.AskKind.{AskKind}
+use Rattle.lookup_core.specs.declared.quest.AskKind.TheVariants.{FindNode, GetPeers, GetItem}
 use Rattle.lookup_core.specs.Sealed.{Accepts}
 
 -- ---- a journal of seeds alone
@@ -122,16 +124,17 @@ begins_of look words table table' book moment work told told' o =
         deadlines = subst (AllByRecursion (λ (q : Query). q.deadline ≤ deadline_of work.progress.moment look.timeout)) (sym b.none_open) tt;
         few_strays = (let z = ap (λ (x : Progress). x.strays) progress in omega (arith, z));
         few_receives = (let z = ap (λ (x : Progress). x.receives) progress in omega (arith, z));
-        no_peers = λ e. record { no_peers = b.no_peers; no_tokens = b.no_tokens };
+        is_bare = λ e. record { no_peers = b.no_peers; no_tokens = b.no_tokens; no_items = b.no_items };
       };
       has_words = (let lt = o.place in omega (arith, lt));
       round_over = ap (λ (x : Progress). x.receives) progress;
       settled = λ p lt. ap (unsettled p) journal ∙ seeds_settled p look.paths (seeds_in look table);
     }
 
-begun_keeping : (wants : Bool) (g : Gathered) → g.peers ≡ [] → g.tokens ≡ [] → Keeping wants [] g
-begun_keeping false g p t = (p, t)
-begun_keeping true g p t = (p, t)
+begun_keeping : (kind : AskKind) (g : Gathered) → g.peers ≡ [] → g.tokens ≡ [] → g.items ≡ [] → Keeping kind [] g
+begun_keeping FindNode g p t i = (p, t, i)
+begun_keeping GetPeers g p t i = (p, t, i)
+begun_keeping GetItem g p t i = (p, t, i)
 
 pub along_of : (scheduling : Scheduling) (look : LookSetting) (accepts : Accepts) (words : WordsState) (table table' : TableState) (book : BookState) (moment : ℕ) (work : LookupState) (told told' : Option (List Event)) → Opening look words table table' book moment work told told' → TraceInvariant scheduling look accepts words table told words work look.paths 0 told'
 along_of scheduling look accepts words table table' book moment work told told' o =
@@ -167,7 +170,7 @@ along_of scheduling look accepts words table table' book moment work told told' 
           receives = sym (ap (λ (x : Progress). x.receives) b.progress);
           given = sym (ap driven journal ∙ seeds_quiet look.paths 0 cs);
         };
-        keeping = begun_keeping (wants_peers look.kind) work.gathered b.no_peers b.no_tokens;
+        keeping = begun_keeping look.kind work.gathered b.no_peers b.no_tokens b.no_items;
       });
     }
 
@@ -250,13 +253,15 @@ each_of_none : (xs ys : List Addr) → xs ≡ [] → IsEachOnce xs ys → ys ≡
 each_of_none xs [] none h = refl
 each_of_none xs (y ∷ ys) none h = (let has = subst (λ l. Contains l y) none ((h.same y).0 (0, omega arith, refl)) in let lt = has.1 in absurd (omega (arith, lt)))
 
-gathers_of : (wants : Bool) (heard : List Answered) (g : Gathered) (peers : List Addr) (tokens : List Token) → Keeping wants heard g → IsEachOnce g.peers peers → tokens ≡ g.tokens → GathersOf wants heard peers tokens
-gathers_of false heard g peers tokens h once is = (each_of_none g.peers peers h.0 once, is ∙ h.1)
-gathers_of true heard g peers tokens h once is = (subst (λ l. IsEachOnce l peers) h.0 once, is ∙ h.1)
+gathers_of : (kind : AskKind) (heard : List Answered) (g : Gathered) (peers : List Addr) (tokens : List Token) (items : List Item) → Keeping kind heard g → IsEachOnce g.peers peers → tokens ≡ g.tokens → items ≡ g.items → GathersOf kind heard peers tokens items
+gathers_of FindNode heard g peers tokens items h once is are = (each_of_none g.peers peers h.0 once, is ∙ h.1, are ∙ h.2)
+gathers_of GetPeers heard g peers tokens items h once is are = (subst (λ l. IsEachOnce l peers) h.0 once, is ∙ h.1, are ∙ h.2)
+gathers_of GetItem heard g peers tokens items h once is are = (each_of_none g.peers peers h.0 once, is ∙ h.1, are ∙ h.2)
 
--- where no peers are asked for, there are none
-pub none_gathered : (look : LookSetting) (work : LookupState) (peers : List Addr) (tokens : List Token) → Keeps look work → IsEachOnce work.gathered.peers peers → tokens ≡ work.gathered.tokens → look.kind ≡ FindNode → (peers ≡ []) × (tokens ≡ [])
-none_gathered look work peers tokens k once is kind = (let none = k.no_peers (ap wants_peers kind) in (each_of_none work.gathered.peers peers none.no_peers once, is ∙ none.no_tokens))
+-- where contacts alone are asked for, there is nothing else
+pub none_gathered : (look : LookSetting) (work : LookupState) (peers : List Addr) (tokens : List Token) (items : List Item) → Keeps look work → IsEachOnce work.gathered.peers peers → tokens ≡ work.gathered.tokens → items ≡ work.gathered.items → look.kind ≡ FindNode
+    → (peers ≡ []) × (tokens ≡ []) × (items ≡ [])
+none_gathered look work peers tokens items k once is are kind = (let none = k.is_bare kind in (each_of_none work.gathered.peers peers none.no_peers once, is ∙ none.no_tokens, are ∙ none.no_items))
 
 -- what a lookup that is over has
 pub record Done (scheduling : Scheduling) (look : LookSetting) (accepts : Accepts) (start words' : WordsState) (table : TableState) (work : LookupState) (began told' : Option (List Event)) (o : Outcome) : Type 0 where
@@ -300,10 +305,11 @@ goes_by_rounds scheduling look accepts start words' table work began told' o d =
       none_asks = d.none_asks;
     }))
 
-pub gathered_all : (scheduling : Scheduling) (look : LookSetting) (accepts : Accepts) (start words' : WordsState) (table : TableState) (work : LookupState) (began told' : Option (List Event)) (o : Outcome) → Done scheduling look accepts start words' table work began told' o → IsEachOnce work.gathered.peers o.peers → o.tokens ≡ work.gathered.tokens → Grows began told' (λ events. Gathers (given_of look accepts start) o.journal events o.peers o.tokens)
-gathered_all scheduling look accepts start words' table work began told' o d once tokens =
+pub gathered_all : (scheduling : Scheduling) (look : LookSetting) (accepts : Accepts) (start words' : WordsState) (table : TableState) (work : LookupState) (began told' : Option (List Event)) (o : Outcome) → Done scheduling look accepts start words' table work began told' o → IsEachOnce work.gathered.peers o.peers → o.tokens ≡ work.gathered.tokens → o.items ≡ work.gathered.items
+    → Grows began told' (λ events. Gathers (given_of look accepts start) o.journal events o.peers o.tokens o.items)
+gathered_all scheduling look accepts start words' table work began told' o d once tokens items =
     let J = work.lookup.book.journal in
-    subst (λ K. Grows began told' (λ events. Gathers (given_of look accepts start) K events o.peers o.tokens)) (sym d.done.journal)
+    subst (λ K. Grows began told' (λ events. Gathers (given_of look accepts start) K events o.peers o.tokens o.items)) (sym d.done.journal)
     (grows_weaker began told' _ _ d.along.shows (λ es h. record {
       at = h.at;
       rest = h.rest;
@@ -312,7 +318,7 @@ gathered_all scheduling look accepts start words' table work began told' o d onc
       end = h.end;
       hears = hears_of scheduling (given_of look accepts start) J (seeded look.paths (seeds J)) (begun h.at) h.rest h.end h.last h.heard h.walk;
       tells = h.stands.given;
-      gathers = gathers_of (wants_peers look.kind) h.heard work.gathered o.peers o.tokens h.keeping once tokens;
+      gathers = gathers_of look.kind h.heard work.gathered o.peers o.tokens o.items h.keeping once tokens items;
     }))
 
 pub table_told : (scheduling : Scheduling) (look : LookSetting) (accepts : Accepts) (start words' : WordsState) (table : TableState) (work : LookupState) (began told' : Option (List Event)) (o : Outcome) → Done scheduling look accepts start words' table work began told' o → TableToldBy scheduling (table_calls look o.journal) table work.table

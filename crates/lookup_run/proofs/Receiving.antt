@@ -40,6 +40,7 @@ use Rattle.lookup_core.specs.LookupSteps.{as_open}
 use Rattle.lookup_run.specs.inner.DriverInvariant.{IsBare, Keeps, max_asks, KeepsSeen}
 use Rattle.lookup_core.specs.LookupSteps.{query_to, RepliesToNone, HearsIn}
 use Rattle.lookup_run.specs.inner.RoundSteps.{IsDue, WaitsFor, receives_kept, KeepsFor, Expires, IsStrayFor, IsMatchFor, TakesDatagram, MayReceive, ReceivesOne}
+use Rattle.lookup_run.proofs.Driven.{keeps_none}
 use Rattle.lookup_run.proofs.Walking.{OneEvent, NextStep, along_next, seeds_append}
 use Rattle.lookup_core.proofs.Opens.{opens_kept, each_asked}
 use Rattle.lookup_core.proofs.Lists.{in_cons, in_map, map_in, in_middle, all_in, none_in}
@@ -48,7 +49,8 @@ use Rattle.lookup_core.proofs.Lists.{map_append}
 use Rattle.lookup_core.specs.declared.quest.Quest.{Quest}
 use Rattle.lookup_core.specs.declared.state.Lookup.{Lookup}
 use Rattle.lookup_core.proofs.Holding.{all_dropped}
-use Rattle.lookup_core.specs.Quest.{wants_peers}
+use Rattle.lookup_core.specs.declared.quest.AskKind.{AskKind}
+use Rattle.lookup_core.specs.declared.quest.AskKind.TheVariants.{FindNode}
 use Rattle.lookup_core.specs.Sealed.{Accepts}
 
 -- ---- how long it waits
@@ -338,7 +340,7 @@ later_deadlines : (m at timeout : ℕ) (qs : List Query) → m ≤ at → AllByR
 later_deadlines m at timeout [] le h = tt
 later_deadlines m at timeout (q ∷ qs) le h = ((let a = h.0 in omega (arith, a, le)), later_deadlines m at timeout qs le h.1)
 
-keeps_left : (look : LookSetting) (at : ℕ) (old new : LookupState) (first : List Entry) (left : List Query) → Left look at old new first left → Keeps look old → new.progress.strays < max_strays → RoundGoes old.progress new.progress new.lookup.queries → (wants_peers look.kind ≡ false → new.gathered ≡ old.gathered) → Keeps look new
+keeps_left : (look : LookSetting) (at : ℕ) (old new : LookupState) (first : List Entry) (left : List Query) → Left look at old new first left → Keeps look old → new.progress.strays < max_strays → RoundGoes old.progress new.progress new.lookup.queries → (look.kind ≡ FindNode → new.gathered ≡ old.gathered) → Keeps look new
 keeps_left look at old new first left l keeps strays round bare = record {
   setting = l.setting ∙ keeps.setting;
   is_open = l.is_open;
@@ -347,7 +349,7 @@ keeps_left look at old new first left l keeps strays round bare = record {
       (all_still (λ (q : Query). q.deadline ≤ deadline_of new.progress.moment look.timeout) at left (later_deadlines old.progress.moment new.progress.moment look.timeout left (subst (λ m. old.progress.moment ≤ m) (sym l.moment) l.later) l.deadlines));
   few_strays = strays;
   few_receives = few round;
-  no_peers = λ e. subst IsBare (sym (bare e)) (keeps.no_peers e);
+  is_bare = λ e. subst IsBare (sym (bare e)) (keeps.is_bare e);
 }
   where
     few : RoundGoes old.progress new.progress new.lookup.queries → new.progress.receives < max_round_receives
@@ -362,7 +364,7 @@ goes_count : (from to : Progress) (qs : List Query) → RoundGoes from to qs →
 goes_count from to qs (inl z) = inl z
 goes_count from to qs (inr more) = inr more.0
 
-receives_one : (look : LookSetting) (accepts : Accepts) (at : ℕ) (old new : LookupState) (first : List Entry) (left : List Query) (e : Event) (told told' : Option (List Event)) → Left look at old new first left → Keeps look old → new.progress.strays < max_strays → RoundGoes old.progress new.progress new.lookup.queries → (wants_peers look.kind ≡ false → new.gathered ≡ old.gathered)
+receives_one : (look : LookSetting) (accepts : Accepts) (at : ℕ) (old new : LookupState) (first : List Entry) (left : List Query) (e : Event) (told told' : Option (List Event)) → Left look at old new first left → Keeps look old → new.progress.strays < max_strays → RoundGoes old.progress new.progress new.lookup.queries → (look.kind ≡ FindNode → new.gathered ≡ old.gathered)
     → length new.lookup.queries + (max_strays - new.progress.strays) ≤ length old.lookup.queries + (max_strays - old.progress.strays)
     → (old.progress.receives ≡ 0 → length new.lookup.queries + (max_strays - new.progress.strays) < length old.lookup.queries + (max_strays - old.progress.strays))
     → ((words : WordsState) (start : WordsState) (s : Seen) → KeepsSeen (given_of look accepts start) old words.place s → OneEvent (given_of look accepts start) old new (first ++ closed_at at (map (as_open old.lookup.book.journal) left)) words.place 0 s e)
@@ -385,14 +387,9 @@ receives_one look accepts at old new first left e told told' l keeps strays roun
     no_heavier : (n m x y : ℕ) → n ≡ m → x ≤ y → 2 * (max_asks - n) + x ≤ 2 * (max_asks - m) + y
     no_heavier n m x y e le = omega (arith, e, le)
 
--- nothing is kept where no peers are asked for
-kept_find : (wants : Bool) (heard : List Answered) (g h : Gathered) → wants ≡ false → KeepsFor wants heard g h → h ≡ g
-kept_find false heard g h is k = k
-kept_find true heard g h is k = absurd cc
-
-keeps_none : (wants : Bool) (g h : Gathered) → h ≡ g → KeepsFor wants [] g h
-keeps_none false g h is = is
-keeps_none true g h is = record { peers = ap (λ (x : Gathered). x.peers) is ∙ sym (append-nil g.peers); tokens = ap (λ (x : Gathered). x.tokens) is ∙ sym (append-nil g.tokens) }
+-- nothing is kept where contacts alone are asked for
+kept_find : (kind : AskKind) (heard : List Answered) (g h : Gathered) → kind ≡ FindNode → KeepsFor kind heard g h → h ≡ g
+kept_find kind heard g h is k = subst (λ x. KeepsFor x heard g h) is k
 
 -- ---- a datagram that replies to none
 
@@ -421,7 +418,7 @@ one_quiet look accepts words start at old new s e strays receives l st gathered 
   ascends = tt;
   found = [];
   hears = hears;
-  keeps = keeps_none (wants_peers look.kind) old.gathered new.gathered gathered;
+  keeps = keeps_none look.kind old.gathered new.gathered gathered;
 }
 
 -- what a receive depends on
@@ -542,7 +539,7 @@ match_receives look accepts from bytes until at n old mid late told told' r m e 
     let one : length old.lookup.queries ≡ length k.before + suc (length k.behind) = ap length k.was_open ∙ length-append k.before (k.query ∷ k.behind) in
     let two : length left ≡ length k.before + length k.behind = length-append k.before k.behind in
     let light : length late.lookup.queries + (max_strays - late.progress.strays) < length old.lookup.queries + (max_strays - old.progress.strays) = omega (arith, fewer, strays, one, two) in
-    receives_one look accepts at old new (entry ∷ []) left (Got from bytes until at) told told' l keeps few (round_goes late.progress.receives old.progress progress late.lookup.queries receives is) (λ is_find. e.gathered ∙ kept_find (wants_peers look.kind) m.heard old.gathered mid.gathered is_find m.keeps_for)
+    receives_one look accepts at old new (entry ∷ []) left (Got from bytes until at) told told' l keeps few (round_goes late.progress.receives old.progress progress late.lookup.queries receives is) (λ is_find. e.gathered ∙ kept_find look.kind m.heard old.gathered mid.gathered is_find m.keeps_for)
     (omega (arith, light)) (λ z. light)
     (λ words start s st. record {
       after = after_match s at entry (map (as_open J) left);
@@ -571,7 +568,7 @@ match_receives look accepts from bytes until at n old mid late told told' r m e 
       ascends = tt;
       found = m.heard;
       hears = hears_one (quest_of look) accepts J old.lookup.queries k.query from bytes until at k.what m.heard s st.queries (subst (λ qs. Contains qs k.query) (sym k.was_open) (in_middle k.before k.query k.behind)) keeps.ids k.replies k.reads k.alone k.hears_in;
-      keeps = subst (λ g. KeepsFor (wants_peers look.kind) m.heard old.gathered g) (sym e.gathered) m.keeps_for;
+      keeps = subst (λ g. KeepsFor look.kind m.heard old.gathered g) (sym e.gathered) m.keeps_for;
     })
     grows
 

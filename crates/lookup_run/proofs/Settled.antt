@@ -38,7 +38,6 @@ use Rattle.lookup_run.proofs.Early.{early_now}
 use Rattle.lookup_core.proofs.Opens.{opens_kept, each_asked}
 use Rattle.lookup_run.proofs.Quiet.{IsMute, IsQuiet, each_quiet, each_mute, no_seeds, none_driven, asked_same, open_same, unsettled_same, settles_from, below_more}
 use Rattle.lookup_run.proofs.Walking.{walk_longer, seeds_same, told_in_any, table_then, calls_more}
-use Rattle.lookup_core.specs.Quest.{wants_peers}
 use Rattle.lookup_core.specs.Sealed.{Accepts}
 
 -- ---- the table
@@ -153,7 +152,7 @@ shows_settled scheduling g old new more place b b' a es over is_open m h =
         receives = st.receives ∙ sym (ap (λ x. x.receives) m.progress);
         given = st.given ∙ sym (ap driven m.journal ∙ driven_append J more ∙ ap (λ l. driven J ++ l) (none_driven more mute) ∙ append-nil (driven J));
       };
-      keeping = subst (λ x. Keeping (wants_peers g.quest.kind) h.heard x) (sym m.gathered) h.keeping;
+      keeping = subst (λ x. Keeping g.quest.kind h.heard x) (sym m.gathered) h.keeping;
     }
 
 drawn_same : (words start : WordsState) (J J' : List Entry) → asked J' ≡ asked J → words ≡ drawn_for start J → words ≡ drawn_for start J'
@@ -174,7 +173,7 @@ settles_more scheduling look b b' old new more told k over m settled =
         deadlines = subst (λ x. AllByRecursion (λ (q : Query). q.deadline ≤ deadline_of x.moment look.timeout) new.lookup.queries) (sym m.progress) (subst (AllByRecursion (λ (q : Query). q.deadline ≤ deadline_of old.progress.moment look.timeout)) (sym m.queries) k.deadlines);
         few_strays = subst (λ x. x.strays < max_strays) (sym m.progress) k.few_strays;
         few_receives = subst (λ x. x.receives < max_round_receives) (sym m.progress) k.few_receives;
-        no_peers = λ e. subst IsBare (sym m.gathered) (k.no_peers e);
+        is_bare = λ e. subst IsBare (sym m.gathered) (k.is_bare e);
       };
       settled = settled;
       progress = m.progress;

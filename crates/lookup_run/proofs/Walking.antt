@@ -27,11 +27,12 @@ use Rattle.lookup_run.specs.declared.types.LookupState.{LookupState}
 use Rattle.lookup_run.specs.Tells.{Given, Seen, HasAsked, HaveAsked, Receives, Gives, begun}
 use Rattle.lookup_run.specs.Rounds.{Scheduling, sequential, concurrent, path_number, SettlesIn, InTurn}
 use Rattle.lookup_core.specs.declared.on_reply.Answered.{Answered}
-use Rattle.lookup_run.specs.Gathered.{Hears, values_of, token_of}
+use Rattle.lookup_run.specs.Gathered.{Hears, values_of, token_of, item_of}
 use Rattle.lookup_run.specs.Lookup.{given_of, drawn_for, told_of, table_calls, told_in, told_by, Told, AreCalls, TableTold, TableToldBy}
 use Rattle.lookup_run.specs.inner.DriverInvariant.{Step, Walk, KeepsSeen, Keeping, Shows, TraceInvariant, Preserves}
 use Rattle.lookup_run.specs.inner.RoundSteps.{KeepsFor}
-use Rattle.lookup_core.specs.Quest.{wants_peers}
+use Rattle.lookup_core.specs.declared.quest.AskKind.{AskKind}
+use Rattle.lookup_core.specs.declared.quest.AskKind.TheVariants.{FindNode, GetPeers, GetItem}
 use Rattle.lookup_core.specs.Sealed.{Accepts}
 
 -- ---- a longer journal
@@ -108,7 +109,7 @@ pub record OneEvent (g : Given) (old new : LookupState) (more : List Entry) (pla
   pub ascends : AllByRecursion (λ (x : Entry). path_number x ≤ a') after.since
   pub found : List Answered
   pub hears : Hears g.quest g.accepts s e found
-  pub keeps : KeepsFor (wants_peers g.quest.kind) found old.gathered new.gathered
+  pub keeps : KeepsFor g.quest.kind found old.gathered new.gathered
 
 pub seeds_append : (J K : List Entry) → seeds (J ++ K) ≡ seeds J ++ seeds K
 unfolding seeds
@@ -121,11 +122,24 @@ settles_none : (scheduling : Scheduling) (n : ℕ) → SettlesIn scheduling n []
 settles_none scheduling zero = tt
 settles_none scheduling (suc n) = refl
 
-keeping_more : (wants : Bool) (heard found : List Answered) (old new : Gathered) → Keeping wants heard old → KeepsFor wants found old new → Keeping wants (heard ++ found) new
-keeping_more false heard found old new h k = (ap (λ (x : Gathered). x.peers) k ∙ h.0, ap (λ (x : Gathered). x.tokens) k ∙ h.1)
-keeping_more true heard found old new h k = (
-  k.peers ∙ ap (λ l. l ++ flat_map values_of found) h.0 ∙ sym (flat_map-append values_of heard found),
-  k.tokens ∙ ap (λ l. l ++ flat_map token_of found) h.1 ∙ sym (flat_map-append token_of heard found),
+-- a list that was kept of what was heard goes on to be
+kept_more : {B : Type 0} (f : Answered → List B) (heard found : List Answered) (old new : List B) → old ≡ flat_map f heard → new ≡ old ++ flat_map f found → new ≡ flat_map f (heard ++ found)
+kept_more f heard found old new was is = is ∙ ap (λ l. l ++ flat_map f found) was ∙ sym (flat_map-append f heard found)
+
+still_none : {B : Type 0} (old new : List B) → old ≡ [] → new ≡ old ++ [] → new ≡ []
+still_none old new was is = is ∙ append-nil old ∙ was
+
+keeping_more : (kind : AskKind) (heard found : List Answered) (old new : Gathered) → Keeping kind heard old → KeepsFor kind found old new → Keeping kind (heard ++ found) new
+keeping_more FindNode heard found old new h k = (ap (λ (x : Gathered). x.peers) k ∙ h.0, ap (λ (x : Gathered). x.tokens) k ∙ h.1, ap (λ (x : Gathered). x.items) k ∙ h.2)
+keeping_more GetPeers heard found old new h k = (
+  kept_more values_of heard found old.peers new.peers h.0 k.peers,
+  kept_more token_of heard found old.tokens new.tokens h.1 k.tokens,
+  still_none old.items new.items h.2 k.items,
+)
+keeping_more GetItem heard found old new h k = (
+  still_none old.peers new.peers h.0 k.peers,
+  kept_more token_of heard found old.tokens new.tokens h.1 k.tokens,
+  kept_more item_of heard found old.items new.items h.2 k.items,
 )
 
 pub shows_next : (scheduling : Scheduling) (g : Given) (old new : LookupState) (more : List Entry) (place place' b b' a a' : ℕ) (e : Event) (es fs : List Event) → new.lookup.book.journal ≡ old.lookup.book.journal ++ more → seeds more ≡ []
@@ -164,7 +178,7 @@ shows_next scheduling g old new more place place' b b' a a' e es fs journal no_s
       below = tt;
       ascends = on.ascends;
       stands = on.stands;
-      keeping = keeping_more (wants_peers g.quest.kind) h.heard on.found old.gathered new.gathered h.keeping on.keeps;
+      keeping = keeping_more g.quest.kind h.heard on.found old.gathered new.gathered h.keeping on.keeps;
     }
 
 -- ---- the table

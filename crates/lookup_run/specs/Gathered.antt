@@ -1,5 +1,5 @@
--- What the heard answers of a lookup gave beside contacts: peers and tokens (BEP 5).
-use Rattle.std.specs.Prelude.{◌≡◌, ◌⊎◌, ◌↔◌, ℕ, List, [], ◌∷◌, ◌++◌, Option, Some, None, Contains, Bool, true, false}
+-- What the heard answers of a lookup gave beside contacts: peers and tokens (BEP 5), and items (BEP 44).
+use Rattle.std.specs.Prelude.{◌≡◌, ◌⊎◌, ◌↔◌, ℕ, List, [], ◌∷◌, ◌++◌, Option, Some, None, Contains}
 use Rattle.std.specs.List.{flat_map}
 use Rattle.std.specs.List.Sorted.{IsStrictlySortedBy}
 use Rattle.std.specs.Ordering.{ordering_then, nat_cmp}
@@ -12,9 +12,12 @@ use Rattle.kad_base.specs.declared.types.Event.TheVariants.{Now, Got}
 use Rattle.kad_base.specs.Contacts.{address_bytes}
 use Rattle.claim_book.specs.declared.types.Entry.{Entry}
 use Rattle.lookup_run.specs.declared.types.Token.{Token}
+use Rattle.lookup_run.specs.declared.types.Item.{Item}
 use Rattle.lookup_core.specs.declared.reply.Reply.TheVariants as reply
 use Rattle.lookup_core.specs.Matching.{OpenQuery, Replies}
-use Rattle.lookup_core.specs.Quest.{part_of, wants_peers}
+use Rattle.lookup_core.specs.Quest.{part_of}
+use Rattle.lookup_core.specs.declared.quest.AskKind.{AskKind}
+use Rattle.lookup_core.specs.declared.quest.AskKind.TheVariants.{FindNode, GetPeers, GetItem}
 use Rattle.lookup_run.specs.Tells.{Given, Seen, Gives, begun, driven}
 use Rattle.lookup_core.specs.declared.quest.Quest.{Quest}
 use Rattle.lookup_core.specs.declared.on_reply.Answered.{Answered}
@@ -65,18 +68,28 @@ abbrev pub tokens_in : Contact → Option (List ℕ) → List Token
 tokens_in c None = []
 tokens_in c (Some token) = record { contact = c; token = token } ∷ []
 
--- the token of an answer (BEP 5): an announce_peer query to that contact needs it
+-- the token of an answer (BEP 5): an announce_peer or put query to that contact needs it
 abbrev pub token_of : Answered → List Token
 token_of a = tokens_in a.contact a.answer.token
 
--- the peers that the answers named, and the tokens that they gave, where those were asked for
-abbrev pub GathersOf : Bool → List Answered → List Addr → List Token → Type 0
-GathersOf false heard peers tokens = (peers ≡ []) × (tokens ≡ [])
-GathersOf true heard peers tokens = IsEachOnce (flat_map values_of heard) peers × (tokens ≡ flat_map token_of heard)
+-- an item with the contact that gave it, where there is one
+abbrev pub items_in : Contact → Option (List ℕ) → List Item
+items_in c None = []
+items_in c (Some v) = record { contact = c; v = v } ∷ []
+
+-- the item of an answer (BEP 44), in its written form, whatever its length and its hash
+abbrev pub item_of : Answered → List Item
+item_of a = items_in a.contact a.answer.v
+
+-- the peers that the answers named, the tokens and the items that they gave, where those were asked for
+abbrev pub GathersOf : AskKind → List Answered → List Addr → List Token → List Item → Type 0
+GathersOf FindNode heard peers tokens items = (peers ≡ []) × (tokens ≡ []) × (items ≡ [])
+GathersOf GetPeers heard peers tokens items = IsEachOnce (flat_map values_of heard) peers × (tokens ≡ flat_map token_of heard) × (items ≡ [])
+GathersOf GetItem heard peers tokens items = (peers ≡ []) × (tokens ≡ flat_map token_of heard) × (items ≡ flat_map item_of heard)
 
 -- What was gathered is what the events show, read by the journal that they tell: so each query is to the contact that the
 -- journal has asked, and an answer is heard where the journal has it heard.
-pub record Gathers (g : Given) (J : List Entry) (events : List Event) (peers : List Addr) (tokens : List Token) : Type 0 where
+pub record Gathers (g : Given) (J : List Entry) (events : List Event) (peers : List Addr) (tokens : List Token) (items : List Item) : Type 0 where
   pub at : ℕ
   pub rest : List Event
   pub first : events ≡ Now at ∷ rest
@@ -84,4 +97,4 @@ pub record Gathers (g : Given) (J : List Entry) (events : List Event) (peers : L
   pub end : Seen
   pub hears : HearsFrom g J (begun at) rest end heard
   pub tells : end.given ≡ driven J
-  pub gathers : GathersOf (wants_peers g.quest.kind) heard peers tokens
+  pub gathers : GathersOf g.quest.kind heard peers tokens items

@@ -70,7 +70,7 @@ drawn_for words J = record { seed = words.seed; place = words.place + length (as
 
 -- A whole lookup. Its journal is legal, starts with the closest contacts of the table, is what the link's events tell,
 -- goes by rounds, and has run out on every path; what was found is its result; each word that was drawn went to one
--- contact; and the peers and tokens are those of the answers that were heard.
+-- contact; and the peers, tokens and items are those of the answers that were heard.
 pub record Finished (look : LookSetting) (accepts : Accepts) (table : TableState) (words words' : WordsState) (told told' : Option (List Event)) (outcome : Outcome) : Type 0 where
   pub legal : Legal (setting_of look) outcome.journal
   pub seeds_are : seeds outcome.journal ≡ seeds_in look table
@@ -172,8 +172,8 @@ pub record LooksUp {Kept : Type 0} (scheduling : Scheduling) (look : LookSetting
   pub lookup : IfOk ended (Finished look accepts before words words' told told')
   pub rounds : IfOk ended (λ outcome. Grows told told' (λ events. Rounds scheduling (given_of look accepts words) outcome.journal events))
   pub own_answers : IfOk ended (λ outcome. GoesByOwnAnswers (setting_of look) outcome.journal)
-  pub gathered : IfOk ended (λ outcome. Grows told told' (λ events. Gathers (given_of look accepts words) outcome.journal events outcome.peers outcome.tokens))
-  pub none_gathered : IfOk ended (λ outcome. look.kind ≡ FindNode → (outcome.peers ≡ []) × (outcome.tokens ≡ []))
+  pub gathered : IfOk ended (λ outcome. Grows told told' (λ events. Gathers (given_of look accepts words) outcome.journal events outcome.peers outcome.tokens outcome.items))
+  pub none_gathered : IfOk ended (λ outcome. look.kind ≡ FindNode → (outcome.peers ≡ []) × (outcome.tokens ≡ []) × (outcome.items ≡ []))
   pub peers_in_order : IfOk ended (λ outcome. IsStrictlySortedBy addr_cmp outcome.peers)
   pub table : IfOk ended (λ outcome. TableToldBy scheduling (table_calls look outcome.journal) before after)
   pub unfinished : IfErr ended (λ fault. Unfinished look accepts before words words' told told')

@@ -50,6 +50,7 @@ fn finish(mut book: Book, gathered: Gathered) -> Result<Outcome, LookFault>
     ensures done { IfOk result (IsDone book) }
     ensures peers { IfOk result (λ outcome. IsEachOnce gathered.peers outcome.peers) }
     ensures tokens { IfOk result (λ outcome. outcome.tokens ≡ gathered.tokens) }
+    ensures items { IfOk result (λ outcome. outcome.items ≡ gathered.items) }
     ensures fault { IfErr result (λ fault. fault ≡ LookFault.NoMemory) }
 {
     match book.apply(DRIVER, BookCall::Finish) {
@@ -59,6 +60,7 @@ fn finish(mut book: Book, gathered: Gathered) -> Result<Outcome, LookFault>
             journal: book.into_journal(),
             peers: in_order(gathered.peers),
             tokens: gathered.tokens,
+            items: gathered.items,
         }),
         _ => Err(LookFault::NoMemory),
     }

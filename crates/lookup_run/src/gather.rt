@@ -1,12 +1,13 @@
-//! What the answers give beside contacts: peers and tokens.
+//! What the answers give beside contacts: peers, tokens and items.
 ghost use Rattle.std.specs.Prelude.{◌≡◌, ◌∷◌, ◌++◌, [], true, OnOk, Contains, Any};
+ghost use Rattle.std.specs.List.{flat_map};
 ghost use Rattle.std.specs.Ordering.{is_eq};
 ghost use Rattle.std.specs.List.Sorted.{IsStrictlySortedBy};
-ghost use Rattle.lookup_core.specs.Quest.{wants_peers, part_of};
-ghost use Rattle.lookup_run.specs.Gathered.{tokens_in, IsEachOnce};
+ghost use Rattle.lookup_core.specs.Quest.{part_of};
+ghost use Rattle.lookup_run.specs.Gathered.{tokens_in, items_in, values_of, item_of, IsEachOnce};
 ghost use Rattle.lookup_run.specs.inner.RoundSteps.{KeepsAlso, KeepsFor};
 
-use crate::types::{Gathered, Token};
+use crate::types::{Gathered, Item, Token};
 use kad_base::{Addrs, Bytes, Contact, List, NoMemory};
 use lookup_core::{Answered, AskKind};
 use std::alloc::Global;
@@ -28,6 +29,7 @@ fn keep_token(
     token: Option<Bytes>,
 ) -> Result<(), NoMemory>
     ensures peers { gathered.new.peers ≡ gathered.old.peers }
+    ensures items { gathered.new.items ≡ gathered.old.items }
     ensures tokens { OnOk result (gathered.new.tokens
         ≡ gathered.old.tokens ++ tokens_in contact token) }
 {
@@ -37,12 +39,35 @@ fn keep_token(
     }
 }
 
-/// Keeps what the answer gives beside contacts.
-fn gather(gathered: &mut Gathered, answered: Answered) -> Result<(), NoMemory>
-    ensures { OnOk result (KeepsAlso (answered ∷ []) gathered.old gathered.new) }
+/// Keeps the item that the answer gives.
+fn keep_item(gathered: &mut Gathered, contact: Contact, v: Option<Bytes>) -> Result<(), NoMemory>
+    ensures peers { gathered.new.peers ≡ gathered.old.peers }
+    ensures tokens { gathered.new.tokens ≡ gathered.old.tokens }
+    ensures items { OnOk result (gathered.new.items ≡ gathered.old.items ++ items_in contact v) }
+{
+    match v {
+        Some(v) => gathered.items.push(Item { contact, v }),
+        None => Ok(()),
+    }
+}
+
+/// Keeps the peers and the token that the answer gives.
+fn gather_peers(gathered: &mut Gathered, answered: Answered) -> Result<(), NoMemory>
+    ensures { OnOk result (KeepsAlso (answered ∷ []) (flat_map values_of (answered ∷ [])) []
+        gathered.old gathered.new) }
 {
     let Answered { contact, answer } = answered;
     keep_values(&mut gathered.peers, &answer.values)?;
+    keep_token(gathered, contact, answer.token)
+}
+
+/// Keeps the item and the token that the answer gives.
+fn gather_items(gathered: &mut Gathered, answered: Answered) -> Result<(), NoMemory>
+    ensures { OnOk result (KeepsAlso (answered ∷ []) [] (flat_map item_of (answered ∷ []))
+        gathered.old gathered.new) }
+{
+    let Answered { contact, answer } = answered;
+    keep_item(gathered, contact, answer.v)?;
     keep_token(gathered, contact, answer.token)
 }
 
@@ -52,12 +77,13 @@ pub(crate) fn keep(
     kind: AskKind,
     answered: Answered,
 ) -> Result<(), NoMemory>
-    ensures { OnOk result (KeepsFor (wants_peers kind) (answered ∷ []) gathered.old gathered.new) }
+    ensures { OnOk result (KeepsFor kind (answered ∷ []) gathered.old gathered.new) }
 {
-    if kind.wants_peers() {
-        return gather(gathered, answered);
+    match kind {
+        AskKind::FindNode => Ok(()),
+        AskKind::GetPeers => gather_peers(gathered, answered),
+        AskKind::GetItem => gather_items(gathered, answered),
     }
-    Ok(())
 }
 
 /// The different members of the list, in order. Takes no memory.
@@ -85,9 +111,11 @@ pub(crate) fn in_order(peers: Addrs) -> Addrs
 pub(crate) fn nothing(alloc: Global) -> Gathered
     ensures peers { result.peers ≡ [] }
     ensures tokens { result.tokens ≡ [] }
+    ensures items { result.items ≡ [] }
 {
     Gathered {
         peers: List::new(alloc),
         tokens: List::new(alloc),
+        items: List::new(alloc),
     }
 }

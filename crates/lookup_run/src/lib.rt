@@ -18,4 +18,4 @@ mod types;
 pub use driver::{look_up, look_up_alone};
 pub use laws::one_journal;
 pub use lookup_core::AskKind;
-pub use types::{LookFault, LookSetting, Outcome, Token, Tokened};
+pub use types::{Item, ItemList, LookFault, LookSetting, Outcome, Token, Tokened};

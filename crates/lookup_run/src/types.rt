@@ -58,7 +58,7 @@ impl LookSetting {
     }
 }
 
-/// The token that a contact gave: what a later `announce_peer` to it has to bring along (BEP 5).
+/// The token that a contact gave: what a later `announce_peer` (BEP 5) or `put` (BEP 44) to it has to bring along.
 #[derive(Debug, Drop, PartialEq, Eq)]
 pub struct Token {
     pub contact: Contact,
@@ -67,9 +67,19 @@ pub struct Token {
 
 pub type Tokened = List<Token>;
 
+/// What a contact gave as the item that was asked for: `v` is its written form (BEP 44), of whatever length, and its
+/// hash need not be the key.
+#[derive(Debug, Drop, PartialEq, Eq)]
+pub struct Item {
+    pub contact: Contact,
+    pub v: Bytes,
+}
+
+pub type ItemList = List<Item>;
+
 /// What a lookup found: the closest contacts, its numbers, the journal that they are of, the peers that the answers
-/// named, each once and in order, and the tokens that came with them. The last two are empty where no peers were asked
-/// for.
+/// named, each once and in order, the tokens, and the items that they gave, both in the order of the answers. There are
+/// peers only where those were asked for, items only where one was, and tokens in both cases.
 #[derive(Debug, Drop)]
 pub struct Outcome {
     pub found: Contacts,
@@ -77,6 +87,7 @@ pub struct Outcome {
     pub journal: Journal,
     pub peers: Addrs,
     pub tokens: Tokened,
+    pub items: ItemList,
 }
 
 /// Why a lookup ended early.
@@ -112,11 +123,12 @@ pub(crate) struct Progress {
     pub strays: u32,
 }
 
-/// What the heard answers gave beside contacts: peers as they came, and tokens.
+/// What the heard answers gave beside contacts: peers, tokens and items as they came.
 #[derive(Debug, Drop)]
 pub(crate) struct Gathered {
     pub peers: Addrs,
     pub tokens: Tokened,
+    pub items: ItemList,
 }
 
 /// What a driver keeps: the lookup, the table, where the link stands, and what was gathered.

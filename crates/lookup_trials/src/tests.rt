@@ -6,6 +6,7 @@ ghost use Rattle.contact_table.specs.TableStep.{contacts_of};
 ghost use Rattle.lookup_run.specs.Lookup.{IsWithinLimits};
 
 mod hostile;
+mod items;
 mod script;
 mod sealed;
 mod six;

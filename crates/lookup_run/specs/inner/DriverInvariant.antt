@@ -1,5 +1,5 @@
 -- Where a lookup stands between two calls on its link: what its events showed, its journal, its open queries and its table.
-use Rattle.std.specs.Prelude.{◌≡◌, ℕ, ◌+◌, ◌-◌, ◌*◌, ◌^◌, ◌<◌, ◌≤◌, List, [], ◌∷◌, ◌++◌, length, map, Option, Bool, true, false}
+use Rattle.std.specs.Prelude.{◌≡◌, ℕ, ◌+◌, ◌-◌, ◌*◌, ◌^◌, ◌<◌, ◌≤◌, List, [], ◌∷◌, ◌++◌, length, map, Option}
 use Rattle.std.specs.List.{AllByRecursion, flat_map}
 use Rattle.kad_base.specs.declared.types.Event.{Event}
 use Rattle.kad_base.specs.declared.types.Event.TheVariants.{Now}
@@ -18,10 +18,11 @@ use Rattle.lookup_core.specs.Timeouts.{deadline_of}
 use Rattle.lookup_run.specs.Tells.{Given, Seen, driven, Gives, begun}
 use Rattle.lookup_run.specs.Rounds.{Scheduling, path_number, SettlesIn, InTurn}
 use Rattle.lookup_core.specs.declared.on_reply.Answered.{Answered}
-use Rattle.lookup_run.specs.Gathered.{Hears, values_of, token_of}
+use Rattle.lookup_run.specs.Gathered.{Hears, values_of, token_of, item_of}
 use Rattle.lookup_run.specs.Lookup.{setting_of, given_of, seeds_in, drawn_for, table_calls, TableToldBy}
 use Rattle.lookup_core.specs.LookupSteps.{as_open}
-use Rattle.lookup_core.specs.Quest.{wants_peers}
+use Rattle.lookup_core.specs.declared.quest.AskKind.{AskKind}
+use Rattle.lookup_core.specs.declared.quest.AskKind.TheVariants.{FindNode, GetPeers, GetItem}
 use Rattle.lookup_core.specs.Sealed.{Accepts}
 
 -- ---- the driver's own state
@@ -30,6 +31,7 @@ use Rattle.lookup_core.specs.Sealed.{Accepts}
 pub record IsBare (gathered : Gathered) : Type 0 where
   pub no_peers : gathered.peers ≡ []
   pub no_tokens : gathered.tokens ≡ []
+  pub no_items : gathered.items ≡ []
 
 -- the book is that of the lookup, and its open contacts are those of the open queries, in order
 pub record Keeps (look : LookSetting) (work : LookupState) : Type 0 where
@@ -39,7 +41,7 @@ pub record Keeps (look : LookSetting) (work : LookupState) : Type 0 where
   pub deadlines : AllByRecursion (λ (q : Query). q.deadline ≤ deadline_of work.progress.moment look.timeout) work.lookup.queries
   pub few_strays : work.progress.strays < max_strays
   pub few_receives : work.progress.receives < max_round_receives
-  pub no_peers : wants_peers look.kind ≡ false → IsBare work.gathered
+  pub is_bare : look.kind ≡ FindNode → IsBare work.gathered
 
 -- there is a word for each contact that may still be asked
 abbrev pub HasWords : WordsState → List Entry → Type 0
@@ -83,10 +85,11 @@ pub record KeepsSeen (g : Given) (work : LookupState) (place : ℕ) (s : Seen) :
   pub receives : s.receives ≡ work.progress.receives
   pub given : s.given ≡ driven work.lookup.book.journal
 
--- and of the answers this, where peers are asked for
-abbrev pub Keeping : Bool → List Answered → Gathered → Type 0
-Keeping false heard gathered = (gathered.peers ≡ []) × (gathered.tokens ≡ [])
-Keeping true heard gathered = (gathered.peers ≡ flat_map values_of heard) × (gathered.tokens ≡ flat_map token_of heard)
+-- and of the answers this, by what is asked for
+abbrev pub Keeping : AskKind → List Answered → Gathered → Type 0
+Keeping FindNode heard gathered = (gathered.peers ≡ []) × (gathered.tokens ≡ []) × (gathered.items ≡ [])
+Keeping GetPeers heard gathered = (gathered.peers ≡ flat_map values_of heard) × (gathered.tokens ≡ flat_map token_of heard) × (gathered.items ≡ [])
+Keeping GetItem heard gathered = (gathered.peers ≡ []) × (gathered.tokens ≡ flat_map token_of heard) × (gathered.items ≡ flat_map item_of heard)
 
 -- The events show where the lookup stands. What was settled since the last one is on the first b paths, and what was
 -- asked since the last receive on paths up to a.
@@ -104,7 +107,7 @@ pub record Shows (scheduling : Scheduling) (g : Given) (work : LookupState) (pla
   pub below : AllByRecursion (λ e. path_number e < b) behind
   pub ascends : AllByRecursion (λ e. path_number e ≤ a) end.since
   pub stands : KeepsSeen g work place end
-  pub keeping : Keeping (wants_peers g.quest.kind) heard work.gathered
+  pub keeping : Keeping g.quest.kind heard work.gathered
 
 -- since the lookup began, with these words and this table
 pub record TraceInvariant (scheduling : Scheduling) (look : LookSetting) (accepts : Accepts) (start : WordsState) (table : TableState) (began : Option (List Event)) (words : WordsState) (work : LookupState) (b a : ℕ) (told : Option (List Event)) : Type 0 where

@@ -1,5 +1,5 @@
 -- What each step of a lookup owes.
-use Rattle.std.specs.Prelude.{◌≡◌, ◌≢◌, ◌⊎◌, ℕ, zero, suc, Contains, if◌then◌else◌, ◌+◌, ◌<◌, ◌≤◌, List, [], ◌∷◌, ◌++◌, length, map, Option, None, Result, IsOk, IfErr, OnOk, OnErr, nat_lt, Bool, true, false}
+use Rattle.std.specs.Prelude.{◌≡◌, ◌≢◌, ◌⊎◌, ℕ, zero, suc, Contains, if◌then◌else◌, ◌+◌, ◌<◌, ◌≤◌, List, [], ◌∷◌, ◌++◌, length, map, Option, None, Result, IsOk, IfErr, OnOk, OnErr, nat_lt, false}
 use Rattle.std.specs.List.{AllByRecursion, flat_map}
 use Rattle.kad_base.specs.declared.types.Addr.{Addr}
 use Rattle.kad_base.specs.declared.types.Event.{Event}
@@ -19,6 +19,7 @@ use Rattle.lookup_run.specs.declared.types.LookFault.{LookFault}
 use Rattle.lookup_run.specs.declared.types.LookFault.TheVariants.{NoMemory}
 use Rattle.lookup_run.specs.declared.types.LookSetting.{LookSetting}
 use Rattle.lookup_run.specs.declared.types.Gathered.{Gathered}
+use Rattle.lookup_run.specs.declared.types.Item.{Item}
 use Rattle.lookup_run.specs.declared.types.Outcome.{Outcome}
 use Rattle.lookup_run.specs.declared.types.Progress.{Progress}
 use Rattle.lookup_run.specs.declared.types.LookupState.{LookupState}
@@ -26,11 +27,12 @@ use Rattle.lookup_core.specs.Timeouts.{closed_at}
 use Rattle.lookup_run.specs.Tells.{NeverEnds}
 use Rattle.lookup_run.specs.Rounds.{Scheduling, AllSettled, NoneAsks, WaitsInTurn}
 use Rattle.lookup_core.specs.declared.on_reply.Answered.{Answered}
-use Rattle.lookup_run.specs.Gathered.{values_of, token_of, IsEachOnce}
+use Rattle.lookup_run.specs.Gathered.{values_of, token_of, item_of, IsEachOnce}
 use Rattle.lookup_run.specs.Lookup.{IsWithinLimits, setting_of, given_of, seeds_in, told_of, Unfinished, EndsByStrays, MeetsFewStrays, TableRan, TableTold, Told, quest_of}
 use Rattle.lookup_core.specs.LookupSteps.{as_open, LosesOverdue, IsMatch, RepliesToNone}
 use Rattle.lookup_run.specs.inner.DriverInvariant.{Keeps, HasWords, weight_of, TraceInvariant, PreservesBy, Preserves}
-use Rattle.lookup_core.specs.Quest.{wants_peers}
+use Rattle.lookup_core.specs.declared.quest.AskKind.{AskKind}
+use Rattle.lookup_core.specs.declared.quest.AskKind.TheVariants.{FindNode, GetPeers, GetItem}
 use Rattle.lookup_core.specs.Sealed.{Accepts}
 
 -- ---- asking
@@ -54,15 +56,17 @@ pub record AsksNone (look : LookSetting) (path : ℕ) (words words' : WordsState
 
 -- ---- hearing
 
--- what an answer gave beside contacts, where it was heard and peers are asked for
-pub record KeepsAlso (heard : List Answered) (old new : Gathered) : Type 0 where
-  pub peers : new.peers ≡ old.peers ++ flat_map values_of heard
+-- what was heard gave these peers and these items beside contacts, and its tokens
+pub record KeepsAlso (heard : List Answered) (named : List Addr) (given : List Item) (old new : Gathered) : Type 0 where
+  pub peers : new.peers ≡ old.peers ++ named
   pub tokens : new.tokens ≡ old.tokens ++ flat_map token_of heard
+  pub items : new.items ≡ old.items ++ given
 
--- peers and tokens are kept where they are asked for
-abbrev pub KeepsFor : Bool → List Answered → Gathered → Gathered → Type 0
-KeepsFor false heard old new = new ≡ old
-KeepsFor true heard old new = KeepsAlso heard old new
+-- what is asked for is kept
+abbrev pub KeepsFor : AskKind → List Answered → Gathered → Gathered → Type 0
+KeepsFor FindNode heard old new = new ≡ old
+KeepsFor GetPeers heard old new = KeepsAlso heard (flat_map values_of heard) [] old new
+KeepsFor GetItem heard old new = KeepsAlso heard [] (flat_map item_of heard) old new
 
 -- those overdue at the moment are lost, oldest first, and the table was told so
 pub record Expires (at : ℕ) (old new : LookupState) : Type 0 where
@@ -152,7 +156,7 @@ pub record IsLastStray (look : LookSetting) (accepts : Accepts) (from : Addr) (b
 pub record IsMatchFor (look : LookSetting) (accepts : Accepts) (from : Addr) (bytes : List ℕ) (old new : LookupState) : Type 0 where
   pub heard : List Answered
   pub matches : IsMatch (quest_of look) accepts from bytes old.lookup new.lookup heard
-  pub keeps_for : KeepsFor (wants_peers look.kind) heard old.gathered new.gathered
+  pub keeps_for : KeepsFor look.kind heard old.gathered new.gathered
   pub table : new.table ≡ old.table
   pub progress : new.progress ≡ old.progress
 
@@ -253,6 +257,7 @@ pub record IsClosed (work : LookupState) (ended : Result (Unit {0}) LookFault) (
   pub done : IsDone work.lookup.book outcome
   pub peers : IsEachOnce work.gathered.peers outcome.peers
   pub tokens : outcome.tokens ≡ work.gathered.tokens
+  pub items : outcome.items ≡ work.gathered.items
 
 -- a book that begins with the closest contacts of the table
 pub record IsBookOf (look : LookSetting) (table : TableState) (book : BookState) : Type 0 where
@@ -272,3 +277,4 @@ pub record IsBegun (book : BookState) (table : TableState) (moment : ℕ) (work 
   pub progress : work.progress ≡ record { moment = moment; receives = 0; strays = 0 }
   pub no_peers : work.gathered.peers ≡ []
   pub no_tokens : work.gathered.tokens ≡ []
+  pub no_items : work.gathered.items ≡ []
