@@ -1,5 +1,5 @@
 -- Words that are of the plain form, seen from their first word.
-use Rattle.std.proofs.Common.{◌≡◌, ◌<◌, Bool, true, false, cond, List, [], ◌∷◌, length, drop, Option, Some, None, MatchOption, refl, sym, ap, ap₂, ◌∙◌, subst, arith}
+use Rattle.std.proofs.Common.{◌≡◌, ◌<◌, Bool, true, false, cond, List, [], ◌∷◌, length, drop, Option, Some, None, MatchOption, Result, Ok, Err, IfOk, IfErr, refl, sym, ap, ap₂, ◌∙◌, subst, arith}
 use Rattle.std.specs.Prelude.{◌↔◌, IsTrue, All, IfSome, bytes_eq, find, option_map}
 use Rattle.std.specs.Option.{IsSomeAnd}
 use Rattle.std.specs.Bool.{then_some}
@@ -144,6 +144,16 @@ command_is n texts taken command h same says is =
       there = subst (λ (es : List Entry). AreThere es (pairs_of (drop 1 texts))) options h.there;
       says = subst (λ (v : Values). Says v command) values says;
     }
+
+-- the same of what may be a command
+pub commands_are : {F : Type 0} (n : CommandKind) (texts : List Word) (taken : Values) (r : Result Command F) → IsPlainBy n texts → ((m : Word) → taken m ≡ values_of (pairs_of (drop 1 texts)) m) → IfOk r (λ command. Says taken command)
+    → IfOk r (λ command. word_of command ≡ kind_word n) → IfOk r (λ command. CommandOf texts command)
+commands_are n texts taken (Ok command) h same says is = command_is n texts taken command h same says is
+commands_are n texts taken (Err f) h same says is = tt
+
+pub err_shows : {T F : Type 0} (r : Result T F) (P : F → Type 0) (X : Type 0) → X → IfErr r (λ f. P f → X)
+err_shows (Ok x) P X h = tt
+err_shows (Err f) P X h = λ p. h
 
 pub plain_cases : (n : CommandKind) (texts rest : List Word) (first : Word) (entries : List Entry) (b : Bool) → texts ≡ first ∷ rest → first ≡ kind_word n → entries ≡ options_of (kind_word n)
     → IsTrue b ↔ (InPairs entries rest (pairs_of rest) × AreThere entries (pairs_of rest)) → MatchOption (then_some b n) (IsPlain texts → ⊥) (λ m. IsPlainBy m texts)

@@ -10,8 +10,10 @@ use Rattle.std.proofs.lemmas.Bool.{and_parts, cases_lt, eqb-true}
 use Rattle.std.proofs.lemmas.Bool.Decides.{nat_tests}
 use Rattle.hex.specs.Hex.{IsBytes, decode_of, decode_pairs, decode_sized, digit_or_error, hex_digit_value, encode_lower, encode_with, is_hex_digit, lower_digits, pair_value, value_at, ◌>>=◌}
 use Rattle.hex.specs.declared.error.FromHexError.{FromHexError}
-use Rattle.hex.proofs.HexLemmas.{IsOk-decode_sized, decode_of-encode_lower, decode_of-even, decode_of-ok, decode_of-same, decode_sized-ok, decode_sized-twice}
-use Rattle.kad_words.specs.Text.{SpellsHex}
+use Rattle.hex.proofs.HexLemmas.{IsOk-decode_sized, decode_of-digits, decode_of-encode_lower, decode_of-even, decode_of-ok, decode_of-same, decode_sized-ok, decode_sized-twice}
+use Rattle.std.specs.List.{list_all}
+use Rattle.std.proofs.lemmas.List.Sums.{AllPass-from_list_all, list_all-from_AllPass}
+use Rattle.kad_words.specs.Text.{SpellsBytes, SpellsHex}
 
 -- ---- one digit
 
@@ -122,3 +124,28 @@ pub hex_cases : (n : ℕ) (text : List ℕ) (r : Result (List ℕ) FromHexError)
     → MatchOption (result_ok r) ((bytes : List ℕ) → SpellsHex n text bytes → ⊥) (λ bytes. SpellsHex n text bytes)
 hex_cases n text (Ok bytes) e = spells_decoded n text bytes (sym e)
 hex_cases n text (Err f) e = λ bytes s. cc (e ∙ decoded_spells n text bytes s)
+
+-- ---- texts of any length
+
+pub bytes_decoded : (text bytes : List ℕ) → decode_of text ≡ Ok bytes → SpellsBytes text bytes
+bytes_decoded text bytes d =
+    let ok = decode_of-ok text bytes d in
+    record { long = refl; fit = ok.3; digits = lower_pairs 0 text bytes (sym (decode_of-even text ok.0) ∙ d) }
+
+pub bytes_decode : (text bytes : List ℕ) → SpellsBytes text bytes → decode_of text ≡ Ok bytes
+bytes_decode text bytes s =
+    let long = spells_digits (length bytes) text bytes s in
+    sym (decode_sized-twice text (length bytes) long.0) ∙ decoded_spells (length bytes) text bytes s
+
+-- an even number of digits spells bytes, and nothing else does
+pub digits_spell : (text shown : List ℕ) (b : Bool) → length text % 2 ≡ 0 → shown ≡ text → b ≡ list_all is_hex_digit shown
+    → (b ≡ true → (bytes : List ℕ) × SpellsBytes text bytes) × (((bytes : List ℕ) × SpellsBytes text bytes) → b ≡ true)
+digits_spell text shown b even same is = (
+  λ t.
+      let r = decode_of-digits text even (AllPass-from_list_all is_hex_digit text (ap (list_all is_hex_digit) (sym same) ∙ sym is ∙ t)) in
+      (r.0, bytes_decoded text r.0 r.1),
+  λ s. is ∙ ap (list_all is_hex_digit) same ∙ list_all-from_AllPass is_hex_digit text (spells_digits (length s.0) text s.0 s.1).1,
+)
+
+pub spelled_even : (text : List ℕ) → ((bytes : List ℕ) × SpellsBytes text bytes) → length text % 2 ≡ 0
+spelled_even text s = let long = (spells_digits (length s.0) text s.0 s.1).0 in omega (arith, long)

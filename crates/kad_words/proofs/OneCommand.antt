@@ -4,13 +4,14 @@ use Rattle.std.specs.Prelude.{bytes_eq, map, nat_lt}
 use Rattle.std.specs.List.{list_all}
 use Rattle.std.proofs.lemmas.Bool.{and_parts}
 use Rattle.std.proofs.lemmas.Bool.Decides.{nat_tests}
+use Rattle.kad_base.specs.declared.types.Id.{Id}
 use Rattle.kad_base.specs.declared.types.Policy.{Policy}
 use Rattle.kad_base.specs.declared.types.Policy.TheVariants as policy
 use Rattle.kad_base.specs.declared.types.Family.{Family}
 use Rattle.kad_base.specs.declared.types.Family.TheVariants.{Four, Six}
-use Rattle.kad_words.specs.Text.{SpellsHex, SpellsId, SpellsNumber, version}
-use Rattle.kad_words.specs.Table.{AreSaid, Choice, Entry, IsLook, IsSaid, MayIdOf, MayNumberOf, MaySeedOf, NumberOf, Part, PolicyBy, Says, StandsOf, Values, Word, kind_of, kind_word, parts_of, word_of}
-use Rattle.kad_words.specs.Table.Part.{gives_id, gives_seed, gives_number, may_give_number, says_whether, gives_policy, gives_look}
+use Rattle.kad_words.specs.Text.{SpellsBytes, SpellsHex, SpellsId, SpellsNumber, version}
+use Rattle.kad_words.specs.Table.{AreSaid, Choice, Entry, IsLook, IsLookAt, IsLookOf, IsSaid, MayIdOf, MayNumberOf, MaySeedOf, NumberOf, Part, PolicyBy, Says, StandsOf, Values, Word, key_of, kind_of, kind_word, parts_of, word_of}
+use Rattle.kad_words.specs.Table.Part.{gives_id, gives_seed, gives_number, may_give_number, says_whether, gives_policy, gives_look, gives_item}
 use Rattle.kad_words.specs.Plain.{CommandOf, IsPlain, pairs_of, values_of}
 use Rattle.kad_words.specs.Fitting.{ends_below}
 use Rattle.kad_words.specs.declared.choice.Kind.{Kind}
@@ -25,7 +26,7 @@ use Rattle.kad_words.specs.declared.command.LookWords.{LookWords}
 use Rattle.kad_words.specs.Values.{FamilyBy, IsGiven, IsGivenOr, MayBeGiven, MayNumberBy, NumberBy}
 use Rattle.kad_words.proofs.Checks.{pairs_are}
 use Rattle.kad_words.proofs.Listing.{one_word}
-use Rattle.kad_words.proofs.OneSpelling.{family_once, hex_once, id_once, number_once}
+use Rattle.kad_words.proofs.OneSpelling.{bytes_once, family_once, hex_once, id_once, number_once}
 
 -- ---- a word is that of one command
 
@@ -89,9 +90,9 @@ family_by_once kind need o x y s t = absurd s
 
 -- ---- what the words of a command ask for is one
 
-look_once : (goal : Entry) (value : Values) (a b : LookWords) → IsLook goal value a → IsLook goal value b → a ≡ b
-look_once goal value a b s t =
-    let target = given_once SpellsId id_once _ a.target b.target s.target t.target in
+look_at_once : (c d : Id) (value : Values) (a b : LookWords) → c ≡ d → IsLookAt c value a → IsLookAt d value b → a ≡ b
+look_at_once c d value a b same s t =
+    let target = s.target ∙ same ∙ sym t.target in
     let own = may_once SpellsId id_once _ a.own b.own s.own t.own in
     let k = or_once 8 1 20 (lit< tt) _ a.k b.k s.k t.k in
     let paths = or_once 4 1 8 (lit< tt) _ a.paths b.paths s.paths t.paths in
@@ -102,6 +103,12 @@ look_once goal value a b s t =
     let family = family_by_once IpVersion (OrElse 4) _ a.family b.family s.family t.family in
     let sealed = s.sealed ∙ sym t.sealed in
     λ i. record { target = target i; own = own i; k = k i; paths = paths i; alpha = alpha i; timeout = timeout i; bits = bits i; policy = passes i; family = family i; sealed = sealed i }
+
+look_once : (goal : Entry) (value : Values) (a b : LookWords) → IsLook goal value a → IsLook goal value b → a ≡ b
+look_once goal value a b s t = look_at_once a.target b.target value a b (given_once SpellsId id_once _ a.target b.target s.0 t.0) s.1 t.1
+
+item_once : (goal : Entry) (value : Values) (x y : List ℕ) → IsGiven SpellsBytes (value goal.name) x → IsGiven SpellsBytes (value goal.name) y → x ≡ y
+item_once goal value x y s t = given_once SpellsBytes bytes_once _ x y s t
 
 number_by_once : (kind : Kind) (need : Need) → ends_below bound kind ≡ true → (o : Option Word) (x y : ℕ) → NumberBy kind need o x → NumberBy kind need o y → x ≡ y
 number_by_once (Number least most) (OrElse d) small o x y s t = or_once d least most (below most small) o x y s t
@@ -120,6 +127,7 @@ data Shape : Type 0 where
   of_whether : Choice → Shape
   of_policy : Shape
   of_look : Choice → Shape
+  of_item : Choice → Shape
 
 abbrev shape : Part → Shape
 shape (gives_id c x) = of_id c
@@ -129,6 +137,7 @@ shape (may_give_number c x) = of_may_number c
 shape (says_whether c x) = of_whether c
 shape (gives_policy x) = of_policy
 shape (gives_look c x) = of_look c
+shape (gives_item c x l) = of_item c
 
 -- its numbers are so small that one text spells one of them
 abbrev is_small : Part → Bool
@@ -162,6 +171,11 @@ part_once value (gives_look c x) (gives_look d y) e small s t =
     let same : d ≡ c = cc in
     let t' = subst (λ (k : Choice). IsLook k.entry value y) same t in
     let one = look_once c.entry value x y s t' in cc
+part_once value (gives_item c x k) (gives_item d y l) e small s t =
+    let same : d ≡ c = cc in
+    let t' = subst (λ (g : Choice). IsLookOf g.entry value y l) same t in
+    let one : x ≡ y = item_once c.entry value x y s.0 t'.0 in
+    let looks : k ≡ l = look_at_once (key_of x) (key_of y) value k l (ap key_of one) s.1 t'.1 in cc
 part_once value x y e small s t = absurd cc
 
 parts_once : (value : Values) (xs ys : List Part) → map shape xs ≡ map shape ys → list_all is_small xs ≡ true → AreSaid value xs → AreSaid value ys → xs ≡ ys

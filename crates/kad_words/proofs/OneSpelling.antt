@@ -12,7 +12,7 @@ use Rattle.kad_base.specs.declared.types.Ip.TheVariants.{V4, V6}
 use Rattle.kad_base.specs.declared.types.Addr.{Addr}
 use Rattle.kad_base.specs.declared.types.Family.{Family}
 use Rattle.kad_base.specs.declared.types.Family.TheVariants.{Four, Six}
-use Rattle.kad_words.specs.Text.{FitsAddr, FitsIp, SpellsAddr, SpellsFamily, SpellsHex, SpellsId, SpellsNumber, addr_text, groups_after, ip_text}
+use Rattle.kad_words.specs.Text.{FitsAddr, FitsIp, SpellsAddr, SpellsBytes, SpellsFamily, SpellsHex, SpellsId, SpellsNumber, addr_text, groups_after, ip_text}
 use Rattle.kad_words.proofs.AddrSpelling.{bytes_two, decimal_digits, four, v4_bytes}
 use Rattle.kad_words.proofs.AddrText.{groups_plain}
 use Rattle.kad_words.proofs.HexSpelling.{encode_lower-same}
@@ -33,6 +33,9 @@ cut_once c (d ∷ a) (f ∷ b) x y ha hb e =
 
 pub hex_once : (n : ℕ) (text a b : List ℕ) → SpellsHex n text a → SpellsHex n text b → a ≡ b
 hex_once n text a b s t = encode_lower-same a b s.fit t.fit (sym s.digits ∙ t.digits)
+
+pub bytes_once : (text a b : List ℕ) → SpellsBytes text a → SpellsBytes text b → a ≡ b
+bytes_once text a b s t = encode_lower-same a b s.fit t.fit (sym s.digits ∙ t.digits)
 
 pub id_once : (text : List ℕ) (a b : Id) → SpellsId text a → SpellsId text b → a ≡ b
 id_once text a b s t =

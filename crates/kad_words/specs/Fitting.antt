@@ -17,9 +17,8 @@ Fits e value = IsThere e.need value × IfSome value (IsOfKind e.kind)
 abbrev pub AllFit : List Entry → Values → Type 0
 AllFit entries value = (name : Word) (e : Entry) → find (λ (x : Entry). bytes_eq x.name name) entries ≡ Some e → Fits e (value name)
 
--- the values of the options of a lookup whose target is that of `goal`
-pub record LookFits (goal : Entry) (value : Values) : Type 0 where
-  pub target : Fits goal (value goal.name)
+-- the values of the options of a lookup, apart from what names its target
+pub record LookFits (value : Values) : Type 0 where
   pub own : Fits own_option.entry (value own_option.entry.name)
   pub k : Fits k_option.entry (value k_option.entry.name)
   pub paths : Fits paths_option.entry (value paths_option.entry.name)

@@ -5,10 +5,10 @@ use Rattle.std.specs.Option.{IsSomeAnd}
 use Rattle.kad_base.specs.declared.types.Id.{Id}
 use Rattle.kad_base.specs.declared.types.Addr.{Addr}
 use Rattle.kad_base.specs.declared.types.Family.{Family}
-use Rattle.kad_words.specs.Text.{SpellsAddr, SpellsFamily, SpellsHex, SpellsId, SpellsNumber}
+use Rattle.kad_words.specs.Text.{SpellsAddr, SpellsBytes, SpellsFamily, SpellsHex, SpellsId, SpellsNumber}
 use Rattle.kad_words.specs.Table.{Entry, Says, Values, Word, kind_named, kind_word, option_word, options_of, word_of}
 use Rattle.kad_words.specs.declared.choice.Kind.{Kind}
-use Rattle.kad_words.specs.declared.choice.Kind.TheVariants.{Identifier, Bytes32, Number, IpVersion, Address}
+use Rattle.kad_words.specs.declared.choice.Kind.TheVariants.{Identifier, Bytes32, AnyBytes, Number, IpVersion, Address}
 use Rattle.kad_words.specs.declared.choice.Need.{Need}
 use Rattle.kad_words.specs.declared.choice.Need.TheVariants.{Required, Optional, OrElse}
 use Rattle.kad_words.specs.declared.command.Command.{Command}
@@ -37,6 +37,7 @@ IsValue (c ∷ rest) = c ≢ 45
 abbrev pub IsOfKind : Kind → Word → Type 0
 IsOfKind Identifier text = (id : Id) × SpellsId text id
 IsOfKind Bytes32 text = (bytes : List ℕ) × SpellsHex 32 text bytes
+IsOfKind AnyBytes text = (bytes : List ℕ) × SpellsBytes text bytes
 IsOfKind (Number least most) text = (n : ℕ) × SpellsNumber least most text n
 IsOfKind IpVersion text = (family : Family) × SpellsFamily text family
 IsOfKind Address text = (addr : Addr) × SpellsAddr text addr

@@ -6,15 +6,16 @@ use Rattle.kad_base.specs.declared.types.Family.{Family}
 use Rattle.kad_base.specs.declared.types.Id.{Id}
 use Rattle.kad_base.specs.declared.types.Policy.{Policy}
 use Rattle.kad_base.specs.declared.types.Policy.TheVariants as policy
-use Rattle.kad_words.specs.Text.{SpellsHex, SpellsId}
+use Rattle.kad_base.specs.Puzzles.{hash}
+use Rattle.kad_words.specs.Text.{SpellsBytes, SpellsHex, SpellsId}
 use Rattle.kad_words.specs.Values.{FamilyBy, IsGiven, MayBeGiven, MayNumberBy, NumberBy}
 use Rattle.kad_words.specs.declared.command.Command.{Command}
-use Rattle.kad_words.specs.declared.command.Command.TheVariants.{Lookup, Peers, Serve, Table, Refresh, Check, Mint, Sim}
+use Rattle.kad_words.specs.declared.command.Command.TheVariants.{Lookup, Peers, Get, Put, Serve, Table, Refresh, Check, Mint, Sim}
 use Rattle.kad_words.specs.declared.command.CommandKind.{CommandKind}
 use Rattle.kad_words.specs.declared.command.CommandKind.TheVariants as kind
 use Rattle.kad_words.specs.declared.command.LookWords.{LookWords}
 use Rattle.kad_words.specs.declared.choice.Kind.{Kind}
-use Rattle.kad_words.specs.declared.choice.Kind.TheVariants.{Identifier, Bytes32, Number, IpVersion, Address}
+use Rattle.kad_words.specs.declared.choice.Kind.TheVariants.{Identifier, Bytes32, AnyBytes, Number, IpVersion, Address}
 use Rattle.kad_words.specs.declared.choice.Need.{Need}
 use Rattle.kad_words.specs.declared.choice.Need.TheVariants.{Required, Optional, OrElse}
 
@@ -46,6 +47,12 @@ lookup = codes "lookup"
 abbrev pub peers : Word
 peers = codes "peers"
 
+abbrev pub get : Word
+get = codes "get"
+
+abbrev pub put : Word
+put = codes "put"
+
 abbrev pub serve : Word
 serve = codes "serve"
 
@@ -68,6 +75,8 @@ sim = codes "sim"
 abbrev pub kind_word : CommandKind → Word
 kind_word kind.Lookup = lookup
 kind_word kind.Peers = peers
+kind_word kind.Get = get
+kind_word kind.Put = put
 kind_word kind.Serve = serve
 kind_word kind.Table = table
 kind_word kind.Refresh = refresh
@@ -79,50 +88,56 @@ kind_word kind.Sim = sim
 abbrev pub links : CommandKind → Bool
 links kind.Lookup = true
 links kind.Peers = true
+links kind.Get = true
+links kind.Put = true
 links kind.Serve = true
 links kind.Refresh = true
 links other = false
 
--- ---- the options. An identifier is 40 hex digits, and 32 bytes are 64; times are milliseconds
+-- ---- the options. An identifier is 40 hex digits, and 32 bytes are 64; other bytes are two digits each, however many they
+-- are; times are milliseconds
 
 abbrev pub target_option : Choice
 target_option = choice (codes "target") Identifier Required (lookup ∷ [])
 
 abbrev pub key_option : Choice
-key_option = choice (codes "key") Identifier Required (peers ∷ [])
+key_option = choice (codes "key") Identifier Required (peers ∷ get ∷ [])
+
+abbrev pub value_option : Choice
+value_option = choice (codes "value") AnyBytes Required (put ∷ [])
 
 abbrev pub own_option : Choice
-own_option = choice (codes "own") Identifier Optional (lookup ∷ peers ∷ serve ∷ table ∷ [])
+own_option = choice (codes "own") Identifier Optional (lookup ∷ peers ∷ get ∷ put ∷ serve ∷ table ∷ [])
 
 abbrev pub k_option : Choice
-k_option = choice (codes "k") (Number 1 20) (OrElse 8) (lookup ∷ peers ∷ serve ∷ table ∷ sim ∷ [])
+k_option = choice (codes "k") (Number 1 20) (OrElse 8) (lookup ∷ peers ∷ get ∷ put ∷ serve ∷ table ∷ sim ∷ [])
 
 abbrev pub paths_option : Choice
-paths_option = choice (codes "paths") (Number 1 8) (OrElse 4) (lookup ∷ peers ∷ sim ∷ [])
+paths_option = choice (codes "paths") (Number 1 8) (OrElse 4) (lookup ∷ peers ∷ get ∷ put ∷ sim ∷ [])
 
 abbrev pub alpha_option : Choice
-alpha_option = choice (codes "alpha") (Number 1 4) (OrElse 3) (lookup ∷ peers ∷ sim ∷ [])
+alpha_option = choice (codes "alpha") (Number 1 4) (OrElse 3) (lookup ∷ peers ∷ get ∷ put ∷ sim ∷ [])
 
 abbrev pub timeout_option : Choice
-timeout_option = choice (codes "timeout") (Number 1 60000) (OrElse 2000) (lookup ∷ peers ∷ refresh ∷ sim ∷ [])
+timeout_option = choice (codes "timeout") (Number 1 60000) (OrElse 2000) (lookup ∷ peers ∷ get ∷ put ∷ refresh ∷ sim ∷ [])
 
 abbrev pub bits_option : Choice
-bits_option = choice (codes "bits") (Number 1 5) (OrElse 1) (lookup ∷ peers ∷ serve ∷ table ∷ [])
+bits_option = choice (codes "bits") (Number 1 5) (OrElse 1) (lookup ∷ peers ∷ get ∷ put ∷ serve ∷ table ∷ [])
 
 abbrev pub c1_option : Choice
-c1_option = choice (codes "c1") (Number 0 32) (OrElse 0) (lookup ∷ peers ∷ serve ∷ table ∷ check ∷ mint ∷ [])
+c1_option = choice (codes "c1") (Number 0 32) (OrElse 0) (lookup ∷ peers ∷ get ∷ put ∷ serve ∷ table ∷ check ∷ mint ∷ [])
 
 abbrev pub c2_option : Choice
-c2_option = choice (codes "c2") (Number 0 32) (OrElse 0) (lookup ∷ peers ∷ serve ∷ table ∷ check ∷ mint ∷ [])
+c2_option = choice (codes "c2") (Number 0 32) (OrElse 0) (lookup ∷ peers ∷ get ∷ put ∷ serve ∷ table ∷ check ∷ mint ∷ [])
 
 abbrev pub family_option : Choice
-family_option = choice (codes "family") IpVersion (OrElse 4) (lookup ∷ peers ∷ [])
+family_option = choice (codes "family") IpVersion (OrElse 4) (lookup ∷ peers ∷ get ∷ put ∷ [])
 
 abbrev pub bind_option : Choice
-bind_option = choice (codes "bind") Address Optional (lookup ∷ peers ∷ serve ∷ refresh ∷ [])
+bind_option = choice (codes "bind") Address Optional (lookup ∷ peers ∷ get ∷ put ∷ serve ∷ refresh ∷ [])
 
 abbrev pub group_option : Choice
-group_option = choice (codes "group") Bytes32 Optional (lookup ∷ peers ∷ serve ∷ refresh ∷ [])
+group_option = choice (codes "group") Bytes32 Optional (lookup ∷ peers ∷ get ∷ put ∷ serve ∷ refresh ∷ [])
 
 abbrev pub announce_option : Choice
 announce_option = choice (codes "announce") (Number 0 65535) Optional (peers ∷ [])
@@ -144,7 +159,7 @@ hostile_option = choice (codes "hostile") (Number 0 100) (OrElse 0) (sim ∷ [])
 
 -- all of them
 abbrev pub every_option : List Choice
-every_option = target_option ∷ key_option ∷ own_option ∷ k_option ∷ paths_option ∷ alpha_option ∷ timeout_option ∷ bits_option ∷ c1_option ∷ c2_option ∷ family_option ∷ bind_option ∷ group_option ∷ announce_option ∷ receives_option
+every_option = target_option ∷ key_option ∷ value_option ∷ own_option ∷ k_option ∷ paths_option ∷ alpha_option ∷ timeout_option ∷ bits_option ∷ c1_option ∷ c2_option ∷ family_option ∷ bind_option ∷ group_option ∷ announce_option ∷ receives_option
     ∷ seed_option ∷ tries_option ∷ nodes_option ∷ hostile_option ∷ []
 
 -- the options of a command
@@ -198,9 +213,13 @@ PolicyOf value p = PolicyBy (value c1_option.entry.name) (value c2_option.entry.
 
 -- ---- what the words of each command ask for
 
--- the options of a lookup, whose target is the value of `goal`
-pub record IsLook (goal : Entry) (value : Values) (look : LookWords) : Type 0 where
-  pub target : IsGiven SpellsId (value goal.name) look.target
+-- the key of an immutable item (BEP 44): the SHA-1 of the written form of its value
+abbrev pub key_of : List ℕ → Id
+key_of item = record { 0 = hash item }
+
+-- the options of a lookup with this target
+pub record IsLookAt (goal : Id) (value : Values) (look : LookWords) : Type 0 where
+  pub target : look.target ≡ goal
   pub own : MayIdOf own_option value look.own
   pub k : NumberOf k_option value look.k
   pub paths : NumberOf paths_option value look.paths
@@ -211,8 +230,16 @@ pub record IsLook (goal : Entry) (value : Values) (look : LookWords) : Type 0 wh
   pub family : FamilyOf family_option value look.family
   pub sealed : StandsOf group_option value look.sealed
 
+-- the same, where the target is the value of `goal`
+abbrev pub IsLook : Entry → Values → LookWords → Type 0
+IsLook goal value look = IsGiven SpellsId (value goal.name) look.target × IsLookAt look.target value look
+
+-- the same, where the target is the key of an item, which is the value of an option
+abbrev pub IsLookOf : Entry → Values → List ℕ → LookWords → Type 0
+IsLookOf goal value item look = IsGiven SpellsBytes (value goal.name) item × IsLookAt (key_of item) value look
+
 -- a part of a command, and the option that gives it: an identifier, a seed, a number, a number that may be left out,
--- whether it stands; or a policy, or a lookup with the option that names its target
+-- whether it stands; or a policy, a lookup with the option that names its target, or an item and the lookup of its key
 pub data Part : Type 0 where
   gives_id : Choice → Option Id → Part
   gives_seed : Choice → Option (List ℕ) → Part
@@ -221,6 +248,7 @@ pub data Part : Type 0 where
   says_whether : Choice → Bool → Part
   gives_policy : Policy → Part
   gives_look : Choice → LookWords → Part
+  gives_item : Choice → List ℕ → LookWords → Part
 
 -- the values give this part
 abbrev pub IsSaid : Values → Part → Type 0
@@ -231,6 +259,7 @@ IsSaid value (may_give_number c n) = MayNumberOf c value n
 IsSaid value (says_whether c stands) = StandsOf c value stands
 IsSaid value (gives_policy policy) = PolicyOf value policy
 IsSaid value (gives_look c look) = IsLook c.entry value look
+IsSaid value (gives_item c item look) = IsLookOf c.entry value item look
 
 -- each of these
 abbrev pub AreSaid : Values → List Part → Type 0
@@ -241,6 +270,8 @@ AreSaid value (part ∷ parts) = IsSaid value part × AreSaid value parts
 abbrev pub parts_of : Command → List Part
 parts_of (Lookup look) = gives_look target_option look ∷ []
 parts_of (Peers look announce) = gives_look key_option look ∷ may_give_number announce_option announce ∷ []
+parts_of (Get look) = gives_look key_option look ∷ []
+parts_of (Put look item) = gives_item value_option item look ∷ []
 parts_of (Serve own k bits policy receives sealed) =
     gives_id own_option own ∷ gives_number k_option k ∷ gives_number bits_option bits ∷ gives_policy policy ∷ gives_number receives_option receives ∷ says_whether group_option sealed ∷ []
 parts_of (Table own k bits policy) = gives_id own_option own ∷ gives_number k_option k ∷ gives_number bits_option bits ∷ gives_policy policy ∷ []
@@ -258,6 +289,8 @@ Says value command = AreSaid value (parts_of command)
 abbrev pub kind_of : Command → CommandKind
 kind_of (Lookup look) = kind.Lookup
 kind_of (Peers look announce) = kind.Peers
+kind_of (Get look) = kind.Get
+kind_of (Put look item) = kind.Put
 kind_of (Serve own k bits policy receives sealed) = kind.Serve
 kind_of (Table own k bits policy) = kind.Table
 kind_of (Refresh timeout sealed) = kind.Refresh

@@ -16,6 +16,10 @@ pub record SpellsHex (size : ℕ) (text bytes : List ℕ) : Type 0 where
   pub fit : IsBytes bytes
   pub digits : str_to_ascii_lowercase text ≡ encode_lower bytes
 
+-- the same, however many they are
+abbrev pub SpellsBytes : List ℕ → List ℕ → Type 0
+SpellsBytes text bytes = SpellsHex (length bytes) text bytes
+
 -- the text is the identifier in hex, 40 digits
 abbrev pub SpellsId : List ℕ → Id → Type 0
 SpellsId text id = SpellsHex 20 text id.0

@@ -3,7 +3,7 @@ ghost use Rattle.std.specs.Prelude.{◌≡◌, ◌↔◌, IsTrue, option_map};
 ghost use Rattle.kad_words.specs.Table.{option_word};
 ghost use Rattle.kad_words.specs.Plain.{IsOfKind, IsThere, IsValue};
 
-use crate::text::{read_addr, read_family, read_hex, read_id, read_number};
+use crate::text::{is_hex, read_addr, read_family, read_hex, read_id, read_number};
 
 /// What the value of an option is.
 #[derive(Clone, Copy, Debug, PartialEq, Eq)]
@@ -12,6 +12,8 @@ pub(crate) enum Kind {
     Identifier,
     /// 32 bytes in hex.
     Bytes32,
+    /// Bytes in hex, however many.
+    AnyBytes,
     /// A decimal number without leading zeros, within these bounds.
     Number { least: u32, most: u32 },
     /// A version of the Internet Protocol, 4 or 6.
@@ -73,6 +75,7 @@ pub(crate) fn is_of_kind(kind: Kind, text: &str) -> bool
     match kind {
         Kind::Identifier => read_id(text).is_some(),
         Kind::Bytes32 => read_hex::<32>(text).is_some(),
+        Kind::AnyBytes => is_hex(text),
         Kind::Number { least, most } => read_number(text, least, most).is_some(),
         Kind::IpVersion => read_family(text).is_some(),
         Kind::Address => read_addr(text).is_some(),

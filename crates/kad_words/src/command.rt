@@ -1,24 +1,28 @@
 //! The commands: what each asks for, its word, its options, and how it is made of their values.
-ghost use Rattle.std.specs.Prelude.{◌≡◌, MatchOption};
-ghost use Rattle.kad_words.specs.Table.{check, lookup, mint, peers, refresh, serve, sim, table, kind_word, links, options_of, word_of, IsLook, Says};
+ghost use Rattle.std.specs.Prelude.{◌≡◌, IfOk, MatchOption};
+ghost use Rattle.kad_words.specs.Table.{check, get, lookup, mint, peers, put, refresh, serve, sim, table, kind_word, key_of, links, options_of, word_of, IsLook, IsLookAt, Says};
 ghost use Rattle.kad_words.specs.Listed.{entries_of, entry_of};
 ghost use Rattle.kad_words.specs.Taken.{taken_of};
-ghost use Rattle.kad_words.specs.Fitting.{AllFit, LookFits};
+ghost use Rattle.kad_words.specs.Fitting.{AllFit, Fits, LookFits};
 ghost use Rattle.kad_words.specs.declared.command.CommandKind.{CommandKind};
 
 use crate::choice::{Choice, Kind, Need};
 use crate::options::{
     ALPHA, ANNOUNCE, BIND, BITS, C1, C2, FAMILY, GROUP, HOSTILE, K, KEY, NODES, OWN, PATHS,
-    RECEIVES, SEED, TARGET, TIMEOUT, TRIES,
+    RECEIVES, SEED, TARGET, TIMEOUT, TRIES, VALUE,
 };
-use crate::values::{family, id, needed_id, number, policy, port, seed, small, stands};
+use crate::values::{
+    family, id, needed_bytes, needed_id, number, policy, port, seed, small, stands,
+};
 use clap::ArgMatches;
-use kad_base::{Family, Id, Policy};
+use kad_base::{Bytes, Family, Id, NoMemory, Policy};
+use sha1::Sha1;
+use std::alloc::Global;
 use thiserror::Error;
 
 /// A command, with a value for each of its options. `--bind` is in none (see `bind_of`), and of `--group` only that it
 /// stands (see `group_of`).
-#[derive(Clone, Copy, Debug, PartialEq, Eq)]
+#[derive(Debug, Drop, PartialEq, Eq)]
 pub enum Command {
     /// Look for the nodes closest to an identifier.
     Lookup {
@@ -28,6 +32,16 @@ pub enum Command {
     Peers {
         look: LookWords,
         announce: Option<u16>,
+    },
+    /// Look for an immutable item (BEP 44); the target is the value of `--key`.
+    Get {
+        look: LookWords,
+    },
+    /// Store an immutable item (BEP 44) at the nodes closest to its key. `value` is the written form of its value as the
+    /// words have it, be it one or not, and the target is its key.
+    Put {
+        look: LookWords,
+        value: Bytes,
     },
     /// Answer queries, for that many receive calls. `sealed` is whether replies carry a group's tag.
     Serve {
@@ -111,6 +125,14 @@ static PEERS: [Choice; 13] = [
     KEY, OWN, K, PATHS, ALPHA, TIMEOUT, BITS, C1, C2, FAMILY, BIND, GROUP, ANNOUNCE,
 ];
 
+static GET: [Choice; 12] = [
+    KEY, OWN, K, PATHS, ALPHA, TIMEOUT, BITS, C1, C2, FAMILY, BIND, GROUP,
+];
+
+static PUT: [Choice; 12] = [
+    VALUE, OWN, K, PATHS, ALPHA, TIMEOUT, BITS, C1, C2, FAMILY, BIND, GROUP,
+];
+
 static SERVE: [Choice; 8] = [OWN, K, BITS, C1, C2, BIND, GROUP, RECEIVES];
 
 static TABLE: [Choice; 5] = [OWN, K, BITS, C1, C2];
@@ -128,6 +150,8 @@ static SIM: [Choice; 7] = [K, PATHS, ALPHA, TIMEOUT, SEED, NODES, HOSTILE];
 pub enum CommandKind {
     Lookup,
     Peers,
+    Get,
+    Put,
     Serve,
     Table,
     Refresh,
@@ -144,6 +168,8 @@ pub(crate) fn kind_named(word: &str) -> Option<CommandKind>
     match word {
         "lookup" => Some(CommandKind::Lookup),
         "peers" => Some(CommandKind::Peers),
+        "get" => Some(CommandKind::Get),
+        "put" => Some(CommandKind::Put),
         "serve" => Some(CommandKind::Serve),
         "table" => Some(CommandKind::Table),
         "refresh" => Some(CommandKind::Refresh),
@@ -160,7 +186,12 @@ pub(crate) fn links(kind: CommandKind) -> bool
 {
     matches!(
         kind,
-        CommandKind::Lookup | CommandKind::Peers | CommandKind::Serve | CommandKind::Refresh
+        CommandKind::Lookup
+            | CommandKind::Peers
+            | CommandKind::Get
+            | CommandKind::Put
+            | CommandKind::Serve
+            | CommandKind::Refresh
     )
 }
 
@@ -171,6 +202,8 @@ pub(crate) fn options(kind: CommandKind) -> &'static [Choice]
     match kind {
         CommandKind::Lookup => &LOOKUP,
         CommandKind::Peers => &PEERS,
+        CommandKind::Get => &GET,
+        CommandKind::Put => &PUT,
         CommandKind::Serve => &SERVE,
         CommandKind::Table => &TABLE,
         CommandKind::Refresh => &REFRESH,
@@ -181,32 +214,47 @@ pub(crate) fn options(kind: CommandKind) -> &'static [Choice]
 }
 
 /// The command of this kind, from the values of its options.
-pub(crate) fn command_for(kind: CommandKind, matches: &ArgMatches) -> Command
+pub(crate) fn command_for(
+    alloc: Global,
+    kind: CommandKind,
+    matches: &ArgMatches,
+) -> Result<Command, NoMemory>
     requires { AllFit (options_of (kind_word kind)) (taken_of matches.now) }
-    ensures says { Says (taken_of matches.now) result }
-    ensures word { word_of result ≡ kind_word kind }
+    ensures says { IfOk result (λ command. Says (taken_of matches.now) command) }
+    ensures word { IfOk result (λ command. word_of command ≡ kind_word kind) }
 {
     match kind {
-        CommandKind::Lookup => lookup(matches),
-        CommandKind::Peers => peers(matches),
-        CommandKind::Serve => serve(matches),
-        CommandKind::Table => table(matches),
-        CommandKind::Refresh => refresh(matches),
-        CommandKind::Check => check(matches),
-        CommandKind::Mint => mint(matches),
-        CommandKind::Sim => sim(matches),
+        CommandKind::Lookup => Ok(lookup(matches)),
+        CommandKind::Peers => Ok(peers(matches)),
+        CommandKind::Get => Ok(get(matches)),
+        CommandKind::Put => put(alloc, matches),
+        CommandKind::Serve => Ok(serve(matches)),
+        CommandKind::Table => Ok(table(matches)),
+        CommandKind::Refresh => Ok(refresh(matches)),
+        CommandKind::Check => Ok(check(matches)),
+        CommandKind::Mint => Ok(mint(matches)),
+        CommandKind::Sim => Ok(sim(matches)),
     }
 }
 
 /// The options of a lookup, whose target is that of `goal`.
 fn look(matches: &ArgMatches, goal: &Choice) -> LookWords
-    requires fits { LookFits (entry_of goal.now) (taken_of matches.now) }
+    requires target { Fits (entry_of goal.now) (taken_of matches.now goal.now.name.now) }
     requires kind { goal.now.kind ≡ Kind.Identifier }
     requires need { goal.now.need ≡ Need.Required }
+    requires fits { LookFits (taken_of matches.now) }
     ensures { IsLook (entry_of goal.now) (taken_of matches.now) result }
 {
+    look_at(matches, needed_id(matches, goal))
+}
+
+/// The options of a lookup with this target.
+fn look_at(matches: &ArgMatches, target: Id) -> LookWords
+    requires { LookFits (taken_of matches.now) }
+    ensures { IsLookAt target (taken_of matches.now) result }
+{
     LookWords {
-        target: needed_id(matches, goal),
+        target,
         own: id(matches, &OWN),
         k: small(matches, &K),
         paths: small(matches, &PATHS),
@@ -238,6 +286,36 @@ fn peers(matches: &ArgMatches) -> Command
         look: look(matches, &KEY),
         announce: port(matches, &ANNOUNCE),
     }
+}
+
+fn get(matches: &ArgMatches) -> Command
+    requires { AllFit (options_of get) (taken_of matches.now) }
+    ensures says { Says (taken_of matches.now) result }
+    ensures word { word_of result ≡ get }
+{
+    Command::Get {
+        look: look(matches, &KEY),
+    }
+}
+
+fn put(alloc: Global, matches: &ArgMatches) -> Result<Command, NoMemory>
+    requires { AllFit (options_of put) (taken_of matches.now) }
+    ensures says { IfOk result (λ command. Says (taken_of matches.now) command) }
+    ensures word { IfOk result (λ command. word_of command ≡ put) }
+{
+    let value = needed_bytes(alloc, matches, &VALUE)?;
+    Ok(Command::Put {
+        look: look_at(matches, key_of(value.as_slice())),
+        value,
+    })
+}
+
+/// The key of an immutable item (BEP 44): the SHA-1 of the written form of its value.
+#[tactic(auto, unfolding(kad_base::specs::Puzzles::hash))]
+fn key_of(value: &[u8]) -> Id
+    ensures { result ≡ key_of value.now }
+{
+    Id(Sha1::digest(value))
 }
 
 fn serve(matches: &ArgMatches) -> Command

@@ -40,6 +40,8 @@ pub(crate) const TARGET: Choice = choice!("target", Identifier, Required);
 
 pub(crate) const KEY: Choice = choice!("key", Identifier, Required);
 
+pub(crate) const VALUE: Choice = choice!("value", AnyBytes, Required);
+
 pub(crate) const OWN: Choice = choice!("own", Identifier, Optional);
 
 pub(crate) const K: Choice = choice!("k", 1, MAX_K, DEFAULT_K);

@@ -1,13 +1,15 @@
 //! From the words of a command line to a command.
 ghost use Rattle.std.specs.Prelude.{◌≡◌, List, IfErr, IfOk, MatchOption, map, string_bytes};
-ghost use Rattle.kad_words.specs.Table.{Word};
+ghost use Rattle.kad_words.specs.Table.{Says, Word, kind_word, options_of, word_of};
 ghost use Rattle.kad_words.specs.Plain.{CommandOf, IsPlain};
 ghost use Rattle.kad_words.specs.declared.command.Command.{Command};
-ghost use Rattle.kad_words.specs.Fitting.{IsPlainBy};
+ghost use Rattle.kad_words.specs.Fitting.{AllFit, IsPlainBy};
+ghost use Rattle.kad_words.specs.Taken.{taken_of};
 
 use crate::command::{Command, CommandKind, WordsFault, command_for, kind_named, options};
 use crate::grammar::is_plain;
 use crate::matched::matched;
+use clap::ArgMatches;
 use kad_base::NoMemory;
 use std::alloc::Global;
 
@@ -24,7 +26,20 @@ pub fn read(alloc: Global, words: &[String]) -> Result<Command, WordsFault>
         return Err(WordsFault::Usage);
     };
     match matched(alloc, words, options(kind)) {
-        Ok(matches) => Ok(command_for(kind, &matches)),
+        Ok(matches) => made(alloc, kind, &matches),
+        Err(NoMemory) => Err(WordsFault::NoMemory),
+    }
+}
+
+/// The command of this kind, from the values of its options.
+fn made(alloc: Global, kind: CommandKind, matches: &ArgMatches) -> Result<Command, WordsFault>
+    requires { AllFit (options_of (kind_word kind)) (taken_of matches.now) }
+    ensures says { IfOk result (λ command. Says (taken_of matches.now) command) }
+    ensures word { IfOk result (λ command. word_of command ≡ kind_word kind) }
+    ensures fault { IfErr result (λ fault. fault ≡ WordsFault.NoMemory) }
+{
+    match command_for(alloc, kind, matches) {
+        Ok(command) => Ok(command),
         Err(NoMemory) => Err(WordsFault::NoMemory),
     }
 }

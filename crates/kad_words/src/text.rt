@@ -1,16 +1,19 @@
-//! How identifiers, numbers, addresses and families are read from text.
-ghost use Rattle.std.specs.Prelude.{◌≡◌, ◌<◌, ◌^◌, ℕ, List, IsTrue, MatchOption};
+//! How bytes, identifiers, numbers, addresses and families are read from text.
+ghost use Rattle.std.specs.Prelude.{◌≡◌, ◌↔◌, ◌<◌, ◌^◌, ℕ, List, IfOk, IsTrue, MatchOption};
+ghost use Rattle.std.specs.List.{list_all};
+ghost use Rattle.hex.specs.Hex.{is_hex_digit};
 ghost use Rattle.kad_base.specs.Contacts.{of_family};
 ghost use Rattle.kad_base.specs.declared.types.Id.{Id};
 ghost use Rattle.kad_base.specs.declared.types.Addr.{Addr};
 ghost use Rattle.kad_base.specs.declared.types.Family.{Family};
 ghost use Rattle.kad_base.specs.declared.types.Family.TheVariants.{Four};
-ghost use Rattle.kad_words.specs.Text.{SpellsAddr, SpellsFamily, SpellsHex, SpellsId, SpellsNumber};
+ghost use Rattle.kad_words.specs.Text.{SpellsAddr, SpellsBytes, SpellsFamily, SpellsHex, SpellsId, SpellsNumber};
 
 use crate::ipv6::read_v6;
 use hex::FromHex;
 use itoa::Buffer;
-use kad_base::{Addr, Family, Id, Ip};
+use kad_base::{Addr, Bytes, Family, Id, Ip, List, NoMemory};
+use std::alloc::Global;
 use std::net::Ipv4Addr;
 
 /// Reads bytes in hex, two digits a byte, of either case.
@@ -19,6 +22,34 @@ pub fn read_hex<const N: usize>(text: &str) -> Option<[u8; N]>
         (λ bytes. SpellsHex N text.now bytes) }
 {
     <[u8; N]>::from_hex(text).ok()
+}
+
+/// Whether a text is bytes in hex, however many.
+pub(crate) fn is_hex(text: &str) -> bool
+    ensures { IsTrue result ↔ ((bytes : List ℕ) × SpellsBytes text.now bytes) }
+{
+    if text.len() % 2 == 1 {
+        return false;
+    }
+    are_digits(text.as_bytes())
+}
+
+/// Whether each of these is a hex digit, of either case.
+fn are_digits(text: &[u8]) -> bool
+    ensures { result ≡ list_all is_hex_digit text.now }
+{
+    text.iter().all(|digit| digit.is_ascii_hexdigit())
+}
+
+/// Reads bytes in hex, two digits a byte, of either case, however many there are. Nothing but want of memory refuses them.
+pub(crate) fn read_bytes(alloc: Global, text: &str) -> Result<Bytes, NoMemory>
+    requires { (bytes : List ℕ) × SpellsBytes text.now bytes }
+    ensures { IfOk result (λ bytes. SpellsBytes text.now bytes) }
+{
+    match hex::decode(alloc, text) {
+        Ok(bytes) => Ok(List::from_vec(bytes)),
+        Err(_) => Err(NoMemory),
+    }
 }
 
 /// Reads an identifier of 40 hex digits.

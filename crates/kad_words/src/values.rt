@@ -1,6 +1,6 @@
 //! The values of options, read from what clap found. Each of them fits its option: see `plain`.
-ghost use Rattle.std.specs.Prelude.{◌≡◌, IsTrue, is_some};
-ghost use Rattle.kad_words.specs.Text.{SpellsHex, SpellsId};
+ghost use Rattle.std.specs.Prelude.{◌≡◌, IfOk, IsTrue, is_some};
+ghost use Rattle.kad_words.specs.Text.{SpellsBytes, SpellsHex, SpellsId};
 ghost use Rattle.kad_words.specs.Listed.{entry_of};
 ghost use Rattle.kad_words.specs.Table.{c1_option, c2_option, PolicyOf};
 ghost use Rattle.kad_words.specs.Taken.{taken_of};
@@ -9,9 +9,10 @@ ghost use Rattle.kad_words.specs.Values.{FamilyBy, IsGiven, MayBeGiven, MayNumbe
 
 use crate::choice::{Choice, Kind, Need};
 use crate::options::{C1, C2};
-use crate::text::{read_family, read_hex, read_id, read_number};
+use crate::text::{read_bytes, read_family, read_hex, read_id, read_number};
 use clap::ArgMatches;
-use kad_base::{Family, Id, Policy};
+use kad_base::{Bytes, Family, Id, NoMemory, Policy};
+use std::alloc::Global;
 
 /// The identifier of an option that has to stand.
 pub(crate) fn needed_id(matches: &ArgMatches, choice: &Choice) -> Id
@@ -30,6 +31,21 @@ pub(crate) fn id(matches: &ArgMatches, choice: &Choice) -> Option<Id>
     ensures { MayBeGiven SpellsId (taken_of matches.now choice.now.name.now) result }
 {
     read_id(matches.get_str(choice.name)?)
+}
+
+/// The bytes of an option that has to stand, however many there are.
+pub(crate) fn needed_bytes(
+    alloc: Global,
+    matches: &ArgMatches,
+    choice: &Choice,
+) -> Result<Bytes, NoMemory>
+    requires fits { Fits (entry_of choice.now) (taken_of matches.now choice.now.name.now) }
+    requires kind { choice.now.kind ≡ Kind.AnyBytes }
+    requires need { choice.now.need ≡ Need.Required }
+    ensures { IfOk result (λ bytes.
+        IsGiven SpellsBytes (taken_of matches.now choice.now.name.now) bytes) }
+{
+    read_bytes(alloc, matches.get_str(choice.name).unwrap())
 }
 
 /// The 32 bytes of an option that may be left out.

@@ -1,6 +1,6 @@
 //! Lists of words and what each gives. Words are parted by one space; `ID` stands for an identifier of 40 digits, `SEED`
 //! for 64 and `ZEROS` for 64 zeros.
-use kad_base::{Addr, Family, Id, Ip, Policy};
+use kad_base::{Addr, Family, Id, Ip, List, NoMemory, Policy};
 use kad_words::text::read_addr;
 use kad_words::{Command, LookWords, WordsFault, bind_of, group_of, lacks_group, read, takes_link};
 use std::alloc::{AllocError, Global};
@@ -60,6 +60,22 @@ fn look() -> LookWords {
         policy: Policy::Plain,
         family: Family::Four,
         sealed: false,
+    }
+}
+
+/// A lookup of `ID` with the greatest values.
+fn greatest() -> LookWords {
+    LookWords {
+        target: id(),
+        own: Some(id()),
+        k: 20,
+        paths: 8,
+        alpha: 4,
+        timeout: 60000,
+        bits: 5,
+        policy: Policy::Puzzled { c1: 32, c2: 32 },
+        family: Family::Six,
+        sealed: true,
     }
 }
 
@@ -156,173 +172,240 @@ fn words_of_a_lookup(rt: HostRuntime) {
 }
 
 #[test]
-fn words_of_the_other_commands(rt: HostRuntime) {
+fn words_of_peers(rt: HostRuntime) {
     let look = look();
-    let puzzled = Policy::Puzzled { c1: 8, c2: 0 };
-    let serve = Command::Serve {
-        own: None,
-        k: 8,
-        bits: 1,
-        policy: Policy::Plain,
-        receives: 1_000_000_000,
-        sealed: false,
-    };
-    let sim = Command::Sim {
-        seed: None,
-        nodes: 2000,
-        hostile: 0,
-        k: 8,
-        paths: 4,
-        alpha: 3,
-        timeout: 2000,
-    };
-    for (line, command) in [
-        (
-            "peers --key ID",
-            Command::Peers {
-                look,
-                announce: None,
-            },
-        ),
-        (
-            "peers --announce 0 --key ID",
-            Command::Peers {
-                look,
-                announce: Some(0),
-            },
-        ),
+    for (line, look, announce) in [
+        ("peers --key ID", look, None),
+        ("peers --announce 0 --key ID", look, Some(0)),
         (
             "peers --key ID --announce 65535 --k 3 --own ID",
-            Command::Peers {
-                look: LookWords {
-                    k: 3,
-                    own: Some(id()),
-                    ..look
-                },
-                announce: Some(65535),
+            LookWords {
+                k: 3,
+                own: Some(id()),
+                ..look
             },
+            Some(65535),
         ),
         (
             "peers --key ID --own ID --k 20 --paths 8 --alpha 4 --timeout 60000 --bits 5 --c1 32 --c2 32 --family 6 --bind 1.2.3.4:5 --group SEED --announce 1",
-            Command::Peers {
-                look: LookWords {
-                    target: id(),
-                    own: Some(id()),
-                    k: 20,
-                    paths: 8,
-                    alpha: 4,
-                    timeout: 60000,
-                    bits: 5,
-                    policy: Policy::Puzzled { c1: 32, c2: 32 },
-                    family: Family::Six,
-                    sealed: true,
-                },
-                announce: Some(1),
-            },
+            greatest(),
+            Some(1),
         ),
-        ("serve", serve),
+    ] {
+        assert_eq!(rt;
+            read_line(rt.alloc(), line),
+            Ok(Command::Peers { look, announce }),
+            "at {line}"
+        );
+    }
+}
+
+#[test]
+fn words_of_get(rt: HostRuntime) {
+    let look = look();
+    for (line, look) in [
+        ("get --key ID", look),
+        ("get --k 3 --key ID", LookWords { k: 3, ..look }),
+        (
+            "get --key ID --own ID --k 20 --paths 8 --alpha 4 --timeout 60000 --bits 5 --c1 32 --c2 32 --family 6 --bind 1.2.3.4:5 --group SEED",
+            greatest(),
+        ),
+    ] {
+        assert_eq!(rt;
+            read_line(rt.alloc(), line),
+            Ok(Command::Get { look }),
+            "at {line}"
+        );
+    }
+}
+
+/// The command that stores this value, whose key is the target.
+fn put(
+    alloc: Global,
+    target: [u8; 20],
+    value: &[u8],
+    look: LookWords,
+) -> Result<Command, NoMemory> {
+    let look = LookWords {
+        target: Id(target),
+        ..look
+    };
+    let value = List::from_slice(alloc, value)?;
+    Ok(Command::Put { look, value })
+}
+
+#[test]
+fn words_of_put(rt: HostRuntime) {
+    let look = look();
+    let hello = [
+        0xe2, 0x89, 0x10, 0xea, 0x0a, 0xdb, 0x94, 0xdd, 0x45, 0xce, 0xd7, 0x5f, 0xbf, 0xf3, 0xe1,
+        0x35, 0xc0, 0x1b, 0xc4, 0x37,
+    ];
+    let nothing = [
+        0x5b, 0xa9, 0x3c, 0x9d, 0xb0, 0xcf, 0xf9, 0x3f, 0x52, 0xb5, 0x21, 0xd7, 0x42, 0x0e, 0x43,
+        0xf6, 0xed, 0xa2, 0x78, 0x4f,
+    ];
+    for (line, target, value, look) in [
+        ("put --value 353a68656c6c6f", hello, "5:hello", look),
+        (
+            "put --k 3 --value 353A68656c6C6F",
+            hello,
+            "5:hello",
+            LookWords { k: 3, ..look },
+        ),
+        ("put --value 00", nothing, "\0", look),
+        (
+            "put --value 353a68656c6c6f --own ID --k 20 --paths 8 --alpha 4 --timeout 60000 --bits 5 --c1 32 --c2 32 --family 6 --bind 1.2.3.4:5 --group SEED",
+            hello,
+            "5:hello",
+            greatest(),
+        ),
+    ] {
+        let wanted = put(rt.alloc(), target, value.as_bytes(), look).expect(&rt, "memory");
+        assert_eq!(rt; read_line(rt.alloc(), line), Ok(wanted), "at {line}");
+    }
+}
+
+#[test]
+fn words_of_serve(rt: HostRuntime) {
+    let puzzled = Policy::Puzzled { c1: 8, c2: 0 };
+    let own = Some(id());
+    for (line, own, k, bits, policy, receives, sealed) in [
+        ("serve", None, 8, 1, Policy::Plain, 1_000_000_000, false),
         (
             "serve --receives 1 --c1 8 --k 2 --bits 3 --own ID --bind 0.0.0.0:1",
-            Command::Serve {
-                own: Some(id()),
-                k: 2,
-                bits: 3,
-                policy: puzzled,
-                receives: 1,
-                sealed: false,
-            },
+            own,
+            2,
+            3,
+            puzzled,
+            1,
+            false,
         ),
         (
             "serve --group SEED --receives 2",
-            Command::Serve {
-                own: None,
-                k: 8,
-                bits: 1,
-                policy: Policy::Plain,
-                receives: 2,
-                sealed: true,
-            },
+            None,
+            8,
+            1,
+            Policy::Plain,
+            2,
+            true,
         ),
-        ("serve --receives 1000000000", serve),
         (
-            "table",
-            Command::Table {
-                own: None,
-                k: 8,
-                bits: 1,
-                policy: Policy::Plain,
-            },
+            "serve --receives 1000000000",
+            None,
+            8,
+            1,
+            Policy::Plain,
+            1_000_000_000,
+            false,
         ),
+    ] {
+        assert_eq!(rt;
+            read_line(rt.alloc(), line),
+            Ok(Command::Serve {
+                own,
+                k,
+                bits,
+                policy,
+                receives,
+                sealed,
+            }),
+            "at {line}"
+        );
+    }
+}
+
+#[test]
+fn words_of_table_and_check(rt: HostRuntime) {
+    let puzzled = Policy::Puzzled { c1: 8, c2: 0 };
+    for (line, own, k, bits, policy) in [
+        ("table", None, 8, 1, Policy::Plain),
         (
             "table --c1 8 --bits 5 --own ID --k 20",
-            Command::Table {
-                own: Some(id()),
-                k: 20,
-                bits: 5,
-                policy: puzzled,
-            },
+            Some(id()),
+            20,
+            5,
+            puzzled,
         ),
-        (
-            "check",
-            Command::Check {
-                policy: Policy::Plain,
-            },
-        ),
-        ("check --c1 8", Command::Check { policy: puzzled }),
-        (
-            "mint",
-            Command::Mint {
-                seed: None,
-                c1: 0,
-                c2: 0,
-                tries: 1_048_576,
-            },
-        ),
-        (
-            "mint --c2 4 --seed SEED --tries 1",
-            Command::Mint {
-                seed: Some(seed()),
-                c1: 0,
-                c2: 4,
-                tries: 1,
-            },
-        ),
-        (
-            "mint --tries 16777216 --c1 32",
-            Command::Mint {
-                seed: None,
-                c1: 32,
-                c2: 0,
-                tries: 16_777_216,
-            },
-        ),
-        ("sim", sim),
+    ] {
+        assert_eq!(rt;
+            read_line(rt.alloc(), line),
+            Ok(Command::Table {
+                own,
+                k,
+                bits,
+                policy,
+            }),
+            "at {line}"
+        );
+    }
+    for (line, policy) in [("check", Policy::Plain), ("check --c1 8", puzzled)] {
+        assert_eq!(rt;
+            read_line(rt.alloc(), line),
+            Ok(Command::Check { policy }),
+            "at {line}"
+        );
+    }
+}
+
+#[test]
+fn words_of_mint(rt: HostRuntime) {
+    for (line, seed, c1, c2, tries) in [
+        ("mint", None, 0, 0, 1_048_576),
+        ("mint --c2 4 --seed SEED --tries 1", Some(seed()), 0, 4, 1),
+        ("mint --tries 16777216 --c1 32", None, 32, 0, 16_777_216),
+    ] {
+        assert_eq!(rt;
+            read_line(rt.alloc(), line),
+            Ok(Command::Mint {
+                seed,
+                c1,
+                c2,
+                tries,
+            }),
+            "at {line}"
+        );
+    }
+}
+
+#[test]
+fn words_of_sim(rt: HostRuntime) {
+    for (line, seed, nodes, hostile, k, paths, alpha, timeout) in [
+        ("sim", None, 2000, 0, 8, 4, 3, 2000),
         (
             "sim --nodes 1 --hostile 100 --seed SEED",
-            Command::Sim {
-                seed: Some(seed()),
-                nodes: 1,
-                hostile: 100,
-                k: 8,
-                paths: 4,
-                alpha: 3,
-                timeout: 2000,
-            },
+            Some(seed()),
+            1,
+            100,
+            8,
+            4,
+            3,
+            2000,
         ),
         (
             "sim --timeout 7 --alpha 2 --paths 3 --k 5 --nodes 20000",
-            Command::Sim {
-                seed: None,
-                nodes: 20_000,
-                hostile: 0,
-                k: 5,
-                paths: 3,
-                alpha: 2,
-                timeout: 7,
-            },
+            None,
+            20_000,
+            0,
+            5,
+            3,
+            2,
+            7,
         ),
     ] {
-        assert_eq!(rt; read_line(rt.alloc(), line), Ok(command), "at {line}");
+        assert_eq!(rt;
+            read_line(rt.alloc(), line),
+            Ok(Command::Sim {
+                seed,
+                nodes,
+                hostile,
+                k,
+                paths,
+                alpha,
+                timeout,
+            }),
+            "at {line}"
+        );
     }
 }
 
@@ -379,6 +462,27 @@ fn words_that_are_refused(rt: HostRuntime) {
         "--target ID lookup",
         "peers --key ID --announce 65536",
         "peers --key ID --target ID",
+        "peers --key ID --value 35",
+        "get",
+        "get --target ID",
+        "get --key 00",
+        "get --key ID --target ID",
+        "get --key ID --key ID",
+        "get --key ID --value 35",
+        "get --key ID --announce 1",
+        "put",
+        "put --key ID",
+        "put --value",
+        "put --value ",
+        "put --value 3",
+        "put --value 353",
+        "put --value 3g",
+        "put --value 0x35",
+        "put --value -5",
+        "put --value 35 --value 35",
+        "put --value 35 --key ID",
+        "put --value 35 --target ID",
+        "put --value 35 --announce 1",
         "serve --receives 0",
         "serve --receives 1000000001",
         "serve --paths 1",
@@ -517,6 +621,8 @@ fn the_address_to_bind(rt: HostRuntime) {
         ("mint", chosen, false),
         ("", chosen, false),
         ("lookup --target ID --family 6", chosen_six, true),
+        ("get --key ID --bind 127.0.0.1:7000", local, true),
+        ("put --value 35 --family 6", chosen_six, true),
         ("lookup --target ID --family 4", chosen, true),
         ("peers --family 5 --family 6", chosen, true),
         ("peers --family 6 --family 4", chosen_six, true),
@@ -542,6 +648,8 @@ fn the_key_of_a_group(rt: HostRuntime) {
     let zeros = Some([0; 32]);
     for (line, group, lacks) in [
         ("lookup --target ID --group SEED", key, false),
+        ("get --key ID --group SEED", key, false),
+        ("put --value 35", None, true),
         ("serve --group SEED --group ZEROS", key, false),
         ("serve --group ZEROS --group SEED", zeros, false),
         ("sim --group SEED", key, false),
