@@ -1,6 +1,6 @@
 //! How the parts of a line are printed, behind what was printed before.
 ghost use Rattle.std.specs.Prelude.{◌≡◌, ◌≤◌, ◌++◌, ◌∷◌, [], OnOk, decimal, length, map};
-ghost use Rattle.hex.specs.Hex.{encode_lower};
+ghost use Rattle.hex.specs.Hex.{encode_lower, IsBytes};
 ghost use Rattle.kad_base.specs.declared.types.Ip.TheVariants.{V4, V6};
 ghost use Rattle.kad_words.specs.Text.{FitsAddr, FitsIp, addr_text, ip_text};
 ghost use Rattle.table_file.specs.SavedText.{FitsContact, FitsId, bit_text, contact_text, prefix_text};
@@ -17,16 +17,25 @@ pub(crate) fn put_number(output: &mut Bytes, number: u16) -> Result<(), NoMemory
     output.extend(buffer.format(number).as_bytes())
 }
 
-/// An identifier in 40 lower-case hex digits.
-pub(crate) fn put_id(output: &mut Bytes, id: &Id) -> Result<(), NoMemory>
-    ensures fits { FitsId id.now }
-    ensures text { OnOk result (output.new ≡ output.old ++ encode_lower id.now.0) }
+/// Twenty bytes in 40 lower-case hex digits.
+fn put_digits(output: &mut Bytes, bytes: [u8; 20]) -> Result<(), NoMemory>
+    ensures long { OnOk result (length bytes ≡ 20) }
+    ensures fit { OnOk result (IsBytes bytes) }
+    ensures text { OnOk result (output.new ≡ output.old ++ encode_lower bytes) }
 {
     let mut digits = [0; 40];
-    match hex::encode_to_slice(id.0, &mut digits) {
+    match hex::encode_to_slice(bytes, &mut digits) {
         Ok(()) => output.extend(&digits),
         Err(_) => unreachable!(),
     }
+}
+
+/// An identifier in 40 lower-case hex digits.
+pub(crate) fn put_id(output: &mut Bytes, id: &Id) -> Result<(), NoMemory>
+    ensures fits { OnOk result (FitsId id.now) }
+    ensures text { OnOk result (output.new ≡ output.old ++ encode_lower id.now.0) }
+{
+    put_digits(output, id.0)
 }
 
 /// Two bytes as four hex digits, behind a byte.
@@ -44,7 +53,7 @@ fn put_group(output: &mut Bytes, lead: u8, group: [u8; 2]) -> Result<(), NoMemor
 /// An address of IPv4 in dotted decimal.
 #[tactic(auto, using(crate::proofs::Printing::seven))]
 fn put_v4(output: &mut Bytes, ip: [u8; 4]) -> Result<(), NoMemory>
-    ensures fits { FitsIp (V4 ip) }
+    ensures fits { OnOk result (FitsIp (V4 ip)) }
     ensures text { OnOk result (output.new ≡ output.old ++ ip_text (V4 ip)) }
 {
     put_number(output, u16::from(ip[0]))?;
@@ -58,7 +67,7 @@ fn put_v4(output: &mut Bytes, ip: [u8; 4]) -> Result<(), NoMemory>
 
 /// An address of IPv6 as eight groups of four hex digits, in brackets.
 fn put_v6(output: &mut Bytes, ip: [u8; 16]) -> Result<(), NoMemory>
-    ensures fits { FitsIp (V6 ip) }
+    ensures fits { OnOk result (FitsIp (V6 ip)) }
     ensures text { OnOk result (output.new ≡ output.old ++ ip_text (V6 ip)) }
 {
     let mut lead = b'[';
@@ -71,7 +80,7 @@ fn put_v6(output: &mut Bytes, ip: [u8; 16]) -> Result<(), NoMemory>
 
 /// An IP address.
 fn put_ip(output: &mut Bytes, ip: &Ip) -> Result<(), NoMemory>
-    ensures fits { FitsIp ip.now }
+    ensures fits { OnOk result (FitsIp ip.now) }
     ensures text { OnOk result (output.new ≡ output.old ++ ip_text ip.now) }
 {
     match *ip {
@@ -82,7 +91,7 @@ fn put_ip(output: &mut Bytes, ip: &Ip) -> Result<(), NoMemory>
 
 /// An address and its port.
 fn put_addr(output: &mut Bytes, addr: &Addr) -> Result<(), NoMemory>
-    ensures fits { FitsAddr addr.now }
+    ensures fits { OnOk result (FitsAddr addr.now) }
     ensures text { OnOk result (output.new ≡ output.old ++ addr_text addr.now) }
 {
     put_ip(output, &addr.ip)?;
@@ -92,7 +101,7 @@ fn put_addr(output: &mut Bytes, addr: &Addr) -> Result<(), NoMemory>
 
 /// A contact: its identifier, a space, and its address.
 pub(crate) fn put_contact(output: &mut Bytes, contact: &Contact) -> Result<(), NoMemory>
-    ensures fits { FitsContact contact.now }
+    ensures fits { OnOk result (FitsContact contact.now) }
     ensures text { OnOk result (output.new ≡ output.old ++ contact_text contact.now) }
 {
     put_id(output, &contact.id)?;
@@ -122,7 +131,7 @@ fn put_bits(output: &mut Bytes, prefix: &Prefix) -> Result<(), NoMemory>
 
 /// The bits of a prefix; a dash where it is empty.
 pub(crate) fn put_prefix(output: &mut Bytes, prefix: &Prefix) -> Result<(), NoMemory>
-    ensures within { length prefix.now ≤ 160 }
+    ensures within { OnOk result (length prefix.now ≤ 160) }
     ensures text { OnOk result (output.new ≡ output.old ++ prefix_text prefix.now) }
 {
     if prefix.len() == 0 {

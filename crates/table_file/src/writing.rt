@@ -11,7 +11,6 @@ use kad_base::{Bytes, Contact, Id, List, NoMemory};
 use std::alloc::Global;
 
 /// The text of a saved table: its lines, each ended by a line feed. It can be read back.
-#[tactic(auto, using(crate::proofs::Printing::saved_parts, crate::proofs::Fitting::lines_fit))]
 pub fn write(alloc: Global, saved: &Saved) -> Result<Bytes, NoMemory>
     requires { FailedOnce saved.now.rows }
     ensures { IfOk result (λ text. IsSavedText text saved.now) }
@@ -27,7 +26,7 @@ pub fn write(alloc: Global, saved: &Saved) -> Result<Bytes, NoMemory>
 /// The first line: whose table it is, and its setting.
 #[tactic(auto, using(crate::proofs::Printing::line7), unfolding(crate::specs::SavedText::text_of))]
 fn put_table(output: &mut Bytes, own: &Id, k: u8, b: u8) -> Result<(), NoMemory>
-    ensures fits { FitsId own.now }
+    ensures fits { OnOk result (FitsId own.now) }
     ensures text { OnOk result (output.new ≡ output.old ++ ended (line.Table own.now k b)) }
 {
     output.extend(b"table ")?;
@@ -42,7 +41,7 @@ fn put_table(output: &mut Bytes, own: &Id, k: u8, b: u8) -> Result<(), NoMemory>
 /// The line with which a bucket begins.
 #[tactic(auto, using(crate::proofs::Printing::line3), unfolding(crate::specs::SavedText::text_of))]
 fn put_prefix_line(output: &mut Bytes, prefix: &Prefix) -> Result<(), NoMemory>
-    ensures within { length prefix.now ≤ 160 }
+    ensures within { OnOk result (length prefix.now ≤ 160) }
     ensures text { OnOk result (output.new ≡ output.old ++ ended (line.Row prefix.now)) }
 {
     output.extend(b"row ")?;
@@ -53,7 +52,7 @@ fn put_prefix_line(output: &mut Bytes, prefix: &Prefix) -> Result<(), NoMemory>
 /// The line of a live contact.
 #[tactic(auto, using(crate::proofs::Printing::line5), unfolding(crate::specs::SavedText::text_of))]
 fn put_live(output: &mut Bytes, entry: &Live) -> Result<(), NoMemory>
-    ensures fits { FitsContact entry.now.contact }
+    ensures fits { OnOk result (FitsContact entry.now.contact) }
     ensures text { OnOk result (output.new ≡ output.old ++ ended (line.Live entry.now)) }
 {
     output.extend(b"live ")?;
@@ -66,7 +65,7 @@ fn put_live(output: &mut Bytes, entry: &Live) -> Result<(), NoMemory>
 /// The line of a spare.
 #[tactic(auto, using(crate::proofs::Printing::line3), unfolding(crate::specs::SavedText::text_of))]
 fn put_spare(output: &mut Bytes, contact: &Contact) -> Result<(), NoMemory>
-    ensures fits { FitsContact contact.now }
+    ensures fits { OnOk result (FitsContact contact.now) }
     ensures text { OnOk result (output.new ≡ output.old ++ ended (line.Spare contact.now)) }
 {
     output.extend(b"spare ")?;
@@ -77,7 +76,7 @@ fn put_spare(output: &mut Bytes, contact: &Contact) -> Result<(), NoMemory>
 /// The line of a sibling.
 #[tactic(auto, using(crate::proofs::Printing::line3), unfolding(crate::specs::SavedText::text_of))]
 fn put_sibling(output: &mut Bytes, contact: &Contact) -> Result<(), NoMemory>
-    ensures fits { FitsContact contact.now }
+    ensures fits { OnOk result (FitsContact contact.now) }
     ensures text { OnOk result (output.new ≡ output.old ++ ended (line.Sibling contact.now)) }
 {
     output.extend(b"sibling ")?;
