@@ -12,6 +12,7 @@ use crate::fields::{
     needed_dict, needed_id, needed_port, needed_text, needed_value, optional_int, put_form, put_id,
     put_number, put_text,
 };
+use crate::members::{keys, members};
 use crate::message::{Ask, Key, KrpcFault, Method, Port, Want};
 use kad_base::{Id, List, NoMemory};
 use kad_bencode::{Piece, put_part};
@@ -128,19 +129,32 @@ fn read_want(value: Option<Piece>) -> Want
     }
 }
 
+/// The values of a key and of `want`, found in one pass. The call is inlined, since the key is known there.
+#[inline(always)]
+fn sought<'a>(a: &Piece<'a>, key: &'a [u8]) -> (Option<Piece<'a>>, Option<Piece<'a>>)
+    ensures sought { result.0 ≡ member_of a.now key.now }
+    ensures want { result.1 ≡ member_of a.now (codes "want") }
+{
+    let (sought, slots) = members(a, keys!(key, b"want")).take();
+    let (want, _) = slots.take();
+    (sought, want)
+}
+
 fn read_find_node<'a>(a: &Piece<'a>, id: Id) -> Result<AskView<'a>, KrpcFault>
     ensures { ask_outcome result ≡ find_node_at (member_of a.now) id }
 {
-    let target = needed_id(a.get(b"target"), Key::Target)?;
-    let want = read_want(a.get(b"want"));
+    let (target, want) = sought(a, b"target");
+    let target = needed_id(target, Key::Target)?;
+    let want = read_want(want);
     Ok(AskView::FindNode { id, target, want })
 }
 
 fn read_get_peers<'a>(a: &Piece<'a>, id: Id) -> Result<AskView<'a>, KrpcFault>
     ensures { ask_outcome result ≡ get_peers_at (member_of a.now) id }
 {
-    let info_hash = needed_id(a.get(b"info_hash"), Key::InfoHash)?;
-    let want = read_want(a.get(b"want"));
+    let (info_hash, want) = sought(a, b"info_hash");
+    let info_hash = needed_id(info_hash, Key::InfoHash)?;
+    let want = read_want(want);
     Ok(AskView::GetPeers {
         id,
         info_hash,
@@ -184,8 +198,9 @@ fn read_announce_peer<'a>(a: &Piece<'a>, id: Id) -> Result<AskView<'a>, KrpcFaul
 fn read_get<'a>(a: &Piece<'a>, id: Id) -> Result<AskView<'a>, KrpcFault>
     ensures { ask_outcome result ≡ get_at (member_of a.now) id }
 {
-    let target = needed_id(a.get(b"target"), Key::Target)?;
-    let want = read_want(a.get(b"want"));
+    let (target, want) = sought(a, b"target");
+    let target = needed_id(target, Key::Target)?;
+    let want = read_want(want);
     Ok(AskView::Get { id, target, want })
 }
 

@@ -70,6 +70,7 @@ fn found(
 }
 
 /// An answer that names nodes, with a token for whoever asks, and a value or peers.
+#[inline(always)]
 fn tokened(
     alloc: Global,
     setting: &ServeSetting,
