@@ -20,14 +20,20 @@ use Rattle.lookup_run.specs.declared.types.Outcome.{Outcome}
 use Rattle.lookup_run.specs.declared.types.LookupState.{LookupState}
 use Rattle.lookup_run.specs.Tells.{HasFewStrays}
 use Rattle.lookup_run.specs.Rounds.{Scheduling}
-use Rattle.lookup_run.specs.Lookup.{setting_of, given_of, table_calls, TableToldBy, TableRan, LooksUp}
+use Rattle.lookup_run.specs.Lookup.{setting_of, given_of, seeds_in, table_calls, TableToldBy, TableRan, LooksUp}
 use Rattle.lookup_run.specs.inner.RoundSteps.{IsOver, StopsRound, RoundEndsByStray, RoundFewStrays, IsClosed}
-use Rattle.lookup_run.proofs.Looking.{Opening, Ends, along_of, ends_of, never_began, looks_up, goes_by_rounds, gathered_all, none_gathered, table_told}
+use Rattle.lookup_run.proofs.Looking.{Opening, Ends, journal_of, along_of, ends_of, never_began, looks_up, goes_by_rounds, gathered_all, none_gathered, table_told}
+use Rattle.lookup_run.specs.SendFaults.{RefusedIn, Refuses}
+use Rattle.lookup_run.proofs.Refusing.{refused_seeded, refused_more}
 use Rattle.lookup_core.specs.Sealed.{Accepts}
 
 pub on_ok_then : {T F X Y : Type 0} (r : Result T F) → OnOk r X → (X → Y) → OnOk r Y
 on_ok_then (Ok x) h k = k h
 on_ok_then (Err e) h k = tt
+
+on_ok_both : {T F : Type 0} (X Y : Type 0) (r : Result T F) → OnOk r X → OnOk r Y → OnOk r (X × Y)
+on_ok_both X Y (Ok x) h k = (h, k)
+on_ok_both X Y (Err e) h k = tt
 
 -- what it found
 pub closed_well : {X : Type 0} (work : LookupState) (ended : Result (Unit {0}) LookFault) (r : Result Outcome LookFault) (Q : Outcome → Type 0) → OnOk ended X → IfOk r (IsClosed work ended) → (X → (o : Outcome) → IsClosed work ended o → Q o) → IfOk r Q
@@ -51,21 +57,24 @@ rose_before a b c le (inl lt) = inl (omega (arith, le, lt))
 rose_before a b c le (inr full) = inr full
 
 -- how its rounds ended, from where it began
-pub record Went (scheduling : Scheduling) (look : LookSetting) (accepts : Accepts) (words words' : WordsState) (first work : LookupState) (mid told' : Option (List Event)) (faults faults' : ℕ) (ended : Result (Unit {0}) LookFault) : Type 0 where
+pub record Went (scheduling : Scheduling) (look : LookSetting) (accepts : Accepts) (words words' : WordsState) (first work : LookupState) (mid told' : Option (List Event)) (faults faults' sends sends' : ℕ) (ended : Result (Unit {0}) LookFault) : Type 0 where
   pub over : OnOk ended (IsOver scheduling look accepts words words' first work mid told')
-  pub stops : OnErr ended (StopsRound scheduling look accepts words words' first work mid told')
+  pub refuses : OnOk ended (Refuses first.lookup.book.journal work.lookup.book.journal sends sends')
+  pub stops : OnErr ended (StopsRound scheduling look accepts words words' first work mid told' sends sends')
   pub strays : IsErrOf ended Strays → RoundEndsByStray scheduling look accepts words first mid told'
   pub few_strays : IsErrOf ended LinkFault → RoundFewStrays scheduling look accepts words first mid told'
   pub link : IsErrOf ended LinkFault → Rose faults faults'
   pub recv_faults : faults ≤ faults'
 
 -- the whole: what began so, went its rounds so and was closed so looked up
-pub looked_up : {Kept : Type 0} (scheduling : Scheduling) (look : LookSetting) (accepts : Accepts) (words words' : WordsState) (table opened after : TableState) (book : BookState) (moment : ℕ) (first work : LookupState) (told mid told' : Option (List Event)) (faults since faults' : ℕ) (was is : Kept) (ended : Result (Unit {0}) LookFault) (r : Result Outcome LookFault)
-    → Opening look words table opened book moment first told mid → Went scheduling look accepts words words' first work mid told' since faults' ended → faults ≤ since → is ≡ was → Legal work.lookup.book.setting work.lookup.book.journal
-    → after ≡ work.table → IfOk r (IsClosed work ended) → IfErr r (λ fault. fault ≢ NoMemory → ended ≡ Err fault) → LooksUp scheduling look accepts table after words words' told told' faults faults' was is r
-looked_up scheduling look accepts words words' table opened after book moment first work told mid told' faults since faults' was is ended r o w rises kept legal same done fault =
+pub looked_up : {Kept : Type 0} (scheduling : Scheduling) (look : LookSetting) (accepts : Accepts) (words words' : WordsState) (table opened after : TableState) (book : BookState) (moment : ℕ) (first work : LookupState) (told mid told' : Option (List Event)) (faults since faults' sends sends' : ℕ) (was is : Kept) (ended : Result (Unit {0}) LookFault) (r : Result Outcome LookFault)
+    → Opening look words table opened book moment first told mid → Went scheduling look accepts words words' first work mid told' since faults' sends sends' ended → faults ≤ since → is ≡ was → Legal work.lookup.book.setting work.lookup.book.journal
+    → after ≡ work.table → IfOk r (IsClosed work ended) → IfErr r (λ fault. fault ≢ NoMemory → ended ≡ Err fault) → LooksUp scheduling look accepts table after words words' told told' faults faults' sends sends' was is r
+looked_up scheduling look accepts words words' table opened after book moment first work told mid told' faults since faults' sends sends' was is ended r o w rises kept legal same done fault =
     let along = along_of scheduling look accepts words table opened book moment first told mid o in
     let ends : IsOver scheduling look accepts words words' first work mid told' → Ends scheduling look accepts words words' table work told told' = λ over. ends_of scheduling look accepts words words' table opened book moment first work told mid told' o over legal in
+    let begun : RefusedIn first.lookup.book.journal sends sends = subst (λ J. RefusedIn J sends sends) (sym (journal_of look words table opened book moment first told mid o)) (refused_seeded look.paths (seeds_in look table) sends) in
+    let both = on_ok_both (IsOver scheduling look accepts words words' first work mid told') (Refuses first.lookup.book.journal work.lookup.book.journal sends sends') ended w.over w.refuses in
     record {
       lookup = closed_well work ended r _ w.over done (λ over x d. looks_up scheduling look accepts words words' table work told told' x ((ends over).done x d.done));
       rounds = closed_well work ended r _ w.over done (λ over x d. goes_by_rounds scheduling look accepts words words' table work told told' x ((ends over).done x d.done));
@@ -74,8 +83,8 @@ looked_up scheduling look accepts words words' table opened after book moment fi
       none_gathered = closed_well work ended r _ w.over done (λ over x d. none_gathered look work x.peers x.tokens x.items over.keeps d.peers d.tokens d.items);
       peers_in_order = closed_well work ended r _ w.over done (λ over x d. d.peers.in_order);
       table = closed_well work ended r _ w.over done (λ over x d. subst (λ t. TableToldBy scheduling (table_calls look x.journal) table t) (sym same) (table_told scheduling look accepts words words' table work told told' x ((ends over).done x d.done)));
-      unfinished = closed_early ended r _ w.over w.stops (λ over. (ends over).left.unfinished) (λ stops. (stops words table told along).unfinished);
-      table_left = closed_early ended r _ w.over w.stops (λ over. subst (TableRan table) (sym same) (ends over).left.ran) (λ stops. subst (TableRan table) (sym same) (stops words table told along).ran);
+      unfinished = closed_early ended r _ both w.stops (λ x. ((ends x.0).left sends').unfinished sends (refused_more first.lookup.book.journal work.lookup.book.journal sends sends sends' begun x.1)) (λ stops. (stops words table told along).unfinished sends begun);
+      table_left = closed_early ended r _ w.over w.stops (λ over. subst (TableRan table) (sym same) ((ends over).left sends').ran) (λ stops. subst (TableRan table) (sym same) (stops words table told along).ran);
       strays = λ fail. w.strays (same_fault ended r Strays (λ e. absurd cc) fault fail) words table told along;
       few_strays = closed_well work ended r _ w.over done (λ over x d. subst (λ J. Grows told told' (λ events. HasFewStrays (given_of look accepts words) J events max_strays)) (sym d.done.journal) (ends over).few);
       few_strays_at_fault = λ fail. (w.few_strays (same_fault ended r LinkFault (λ e. absurd cc) fault fail) words table told along).meets;
@@ -83,12 +92,13 @@ looked_up scheduling look accepts words words' table opened after book moment fi
       no_last_stray_at_fault = λ fail. (w.few_strays (same_fault ended r LinkFault (λ e. absurd cc) fault fail) words table told along).never;
       link = λ fail. rose_before faults since faults' rises (w.link (same_fault ended r LinkFault (λ e. absurd cc) fault fail));
       recv_faults = (let b = w.recv_faults in omega (arith, rises, b));
+      refused = closed_well work ended r _ both done (λ x o d. subst (λ J. RefusedIn J sends sends') (sym d.done.journal) (refused_more first.lookup.book.journal work.lookup.book.journal sends sends sends' begun x.1));
       kept = kept;
     }
 
 -- there was no memory to begin
-pub never_looked : {Kept : Type 0} (scheduling : Scheduling) (look : LookSetting) (accepts : Accepts) (words : WordsState) (table after : TableState) (told : Option (List Event)) (faults : ℕ) (was : Kept) → All (IsUsable look.own) (contacts_of table) → after ≡ table → LooksUp scheduling look accepts table after words words told told faults faults was was (Err NoMemory)
-never_looked scheduling look accepts words table after told faults was usable same = record {
+pub never_looked : {Kept : Type 0} (scheduling : Scheduling) (look : LookSetting) (accepts : Accepts) (words : WordsState) (table after : TableState) (told : Option (List Event)) (faults sends : ℕ) (was : Kept) → All (IsUsable look.own) (contacts_of table) → after ≡ table → LooksUp scheduling look accepts table after words words told told faults faults sends sends was was (Err NoMemory)
+never_looked scheduling look accepts words table after told faults sends was usable same = record {
   lookup = tt;
   rounds = tt;
   own_answers = tt;
@@ -96,7 +106,7 @@ never_looked scheduling look accepts words table after told faults was usable sa
   none_gathered = tt;
   peers_in_order = tt;
   table = tt;
-  unfinished = never_began look accepts table words told usable;
+  unfinished = never_began look accepts table words told usable sends;
   table_left = record { run = []; is_run = tt; leaves = same };
   strays = λ e. absurd cc;
   few_strays = tt;
@@ -105,5 +115,6 @@ never_looked scheduling look accepts words table after told faults was usable sa
   no_last_stray_at_fault = λ e. absurd cc;
   link = λ e. absurd cc;
   recv_faults = omega arith;
+  refused = tt;
   kept = refl;
 }

@@ -23,7 +23,9 @@ use Rattle.lookup_core.specs.declared.on_reply.Answered.{Answered}
 use Rattle.lookup_run.specs.Lookup.{setting_of, given_of, TellsEarly, Told, TableToldBy, TableRan, quest_of}
 use Rattle.lookup_core.specs.LookupSteps.{as_open}
 use Rattle.lookup_run.specs.inner.DriverInvariant.{Walk, Shows}
-use Rattle.lookup_run.specs.inner.RoundSteps.{Stops, EndsByStray}
+use Rattle.lookup_run.specs.inner.RoundSteps.{Ended, Stops, EndsByStray}
+use Rattle.lookup_run.specs.SendFaults.{Refuses}
+use Rattle.lookup_run.proofs.Refusing.{refused_more}
 use Rattle.lookup_core.specs.Sealed.{Accepts}
 
 pub tells_of : (scheduling : Scheduling) (g : Given) (J P : List Entry) (s : Seen) (es : List Event) (t : Seen) (Q : List Entry) (heard : List Answered) → Walk scheduling g J P s es t Q heard → TellsFrom g J s es t
@@ -50,15 +52,20 @@ early_of scheduling g work place b a es fs h (inr got) = record { front = es; en
 pub early_now : (scheduling : Scheduling) (g : Given) (work : LookupState) (place b a : ℕ) (es : List Event) → Shows scheduling g work place b a es → TellsEarly g work.lookup.book.journal es
 early_now scheduling g work place b a es h = record { front = es; end = h.end; so_far = so_far_of scheduling g work place b a es h; whole = inl refl }
 
+-- an end behind a step that the link refused so many sends in
+pub ended_after : (look : LookSetting) (accepts : Accepts) (start : WordsState) (table : TableState) (began : Option (List Event)) (words' : WordsState) (table' : TableState) (told' : Option (List Event)) (J K : List Entry) (a b c : ℕ) → Refuses J K a b → Ended look accepts start table began words' table' told' K b c → Ended look accepts start table began words' table' told' J a c
+ended_after look accepts start table began words' table' told' J K a b c step h = record { unfinished = λ sends refused. h.unfinished sends (refused_more J K sends a b refused step); ran = h.ran }
+
 -- the journal is that from before the step
 pub stops_of : (look : LookSetting) (accepts : Accepts) (words : WordsState) (old new : LookupState) (told told' : Option (List Event)) → Legal (setting_of look) old.lookup.book.journal → new.table ≡ old.table → Grows told told' IsEarly → Stops look accepts words words old new told told'
-stops_of look accepts words old new told told' legal table grows scheduling start from began b a h = record {
-  unfinished = record {
+stops_of look accepts words old new told told' legal table grows scheduling start from began b a h sends = record {
+  unfinished = λ first refused. record {
     journal = old.lookup.book.journal;
     legal = legal;
     seeds_are = h.seeds_are;
     tells = grows_then began told told' _ _ _ h.shows grows (λ es fs p is. early_of scheduling (given_of look accepts start) old words.place b a es fs p is);
     drawn = h.drawn;
+    refused = refused;
   };
   ran = ran_of scheduling _ from old.table new.table table h.tabled;
 }

@@ -3,6 +3,7 @@ pub mod Others
 pub mod Driven
 pub mod Asking
 pub mod Quiet
+pub mod Refusing
 pub mod Early
 pub mod Settled
 pub mod OnceSettled

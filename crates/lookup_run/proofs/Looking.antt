@@ -58,6 +58,7 @@ use Rattle.lookup_run.proofs.Fewer.{few_told, never_told}
 use Rattle.lookup_run.proofs.Walking.{told_in_any}
 use Rattle.lookup_core.specs.declared.quest.AskKind.{AskKind}
 use Rattle.lookup_core.specs.declared.quest.AskKind.TheVariants.{FindNode, GetPeers, GetItem}
+use Rattle.lookup_run.proofs.Refusing.{refused_seeded}
 use Rattle.lookup_core.specs.Sealed.{Accepts}
 
 -- ---- a journal of seeds alone
@@ -108,7 +109,7 @@ pub record Opening (look : LookSetting) (words : WordsState) (table table' : Tab
   pub grows : Grows told told' (λ es. es ≡ Now moment ∷ [])
   pub place : words.place < 2 ^ 59
 
-journal_of : (look : LookSetting) (words : WordsState) (table table' : TableState) (book : BookState) (moment : ℕ) (work : LookupState) (told told' : Option (List Event)) → Opening look words table table' book moment work told told' → work.lookup.book.journal ≡ seeded look.paths (seeds_in look table)
+pub journal_of : (look : LookSetting) (words : WordsState) (table table' : TableState) (book : BookState) (moment : ℕ) (work : LookupState) (told told' : Option (List Event)) → Opening look words table table' book moment work told told' → work.lookup.book.journal ≡ seeded look.paths (seeds_in look table)
 journal_of look words table table' book moment work told told' o = ap (λ (b : BookState). b.journal) o.begun_at.book_is ∙ o.book_of.journal
 
 pub begins_of : (look : LookSetting) (words : WordsState) (table table' : TableState) (book : BookState) (moment : ℕ) (work : LookupState) (told told' : Option (List Event)) → Opening look words table table' book moment work told told' → Begins look words work
@@ -199,8 +200,8 @@ seeds_fit look table usable = record {
   usable = usable_seeds look table usable;
 }
 
-pub never_began : (look : LookSetting) (accepts : Accepts) (table : TableState) (words : WordsState) (told : Option (List Event)) → All (IsUsable look.own) (contacts_of table) → Unfinished look accepts table words words told told
-never_began look accepts table words told usable =
+pub never_began : (look : LookSetting) (accepts : Accepts) (table : TableState) (words : WordsState) (told : Option (List Event)) → All (IsUsable look.own) (contacts_of table) → (sends : ℕ) → Unfinished look accepts table words words told told sends sends
+never_began look accepts table words told usable sends =
     let cs = seeds_in look table in
     let J = seeded look.paths cs in
     let fit = seeds_fit look table usable in
@@ -212,6 +213,7 @@ never_began look accepts table words told usable =
       seeds_are = seeds_stand look.paths 0 cs;
       tells = grows_none told _ (record { front = []; end = begun 0; so_far = (seeds_quiet look.paths 0 cs, refl); whole = inl refl });
       drawn = ap (λ n. record { seed = words.seed; place = n }) place;
+      refused = refused_seeded look.paths cs sends;
     }
 
 -- ---- the end
@@ -325,14 +327,15 @@ pub table_told : (scheduling : Scheduling) (look : LookSetting) (accepts : Accep
 table_told scheduling look accepts start words' table work began told' o d = subst (λ K. TableToldBy scheduling (table_calls look K) table work.table) (sym d.done.journal) d.along.tabled
 
 -- a lookup that is over, and for which there was no memory
-pub over_ended : (scheduling : Scheduling) (look : LookSetting) (accepts : Accepts) (start words' : WordsState) (table : TableState) (work : LookupState) (began told' : Option (List Event)) (b a : ℕ) → Legal (setting_of look) work.lookup.book.journal → TraceInvariant scheduling look accepts start table began words' work b a told' → Ended look accepts start table began words' work.table told'
-over_ended scheduling look accepts start words' table work began told' b a legal h = record {
-  unfinished = record {
+pub over_ended : (scheduling : Scheduling) (look : LookSetting) (accepts : Accepts) (start words' : WordsState) (table : TableState) (work : LookupState) (began told' : Option (List Event)) (b a : ℕ) → Legal (setting_of look) work.lookup.book.journal → TraceInvariant scheduling look accepts start table began words' work b a told' → (sends : ℕ) → Ended look accepts start table began words' work.table told' work.lookup.book.journal sends sends
+over_ended scheduling look accepts start words' table work began told' b a legal h sends = record {
+  unfinished = λ first refused. record {
     journal = work.lookup.book.journal;
     legal = legal;
     seeds_are = h.seeds_are;
     tells = grows_weaker began told' _ _ h.shows (λ es x. record { front = es; end = x.end; so_far = so_far_of scheduling (given_of look accepts start) work words'.place b a es x; whole = inl refl });
     drawn = h.drawn;
+    refused = refused;
   };
   ran = ran_of scheduling (table_calls look work.lookup.book.journal) table work.table work.table refl h.tabled;
 }
@@ -383,7 +386,7 @@ opening_of look words table table' book moment work told told' b t w g lt = reco
 -- what a lookup that is over leaves, whether or not there is memory for what it found
 pub record Ends (scheduling : Scheduling) (look : LookSetting) (accepts : Accepts) (words words' : WordsState) (table : TableState) (work : LookupState) (told told' : Option (List Event)) : Type 0 where
   pub done : (o : Outcome) → IsDone work.lookup.book o → Done scheduling look accepts words words' table work told told' o
-  pub left : Ended look accepts words table told words' work.table told'
+  pub left : (sends : ℕ) → Ended look accepts words table told words' work.table told' work.lookup.book.journal sends sends
   pub few : Grows told told' (λ events. HasFewStrays (given_of look accepts words) work.lookup.book.journal events max_strays)
   pub never : look.sealed ≡ false → Grows told told' (NeverEnds (given_of look accepts words) max_strays)
 

@@ -35,12 +35,14 @@ use Rattle.lookup_run.specs.Rounds.{WaitsInTurn, InTurn}
 use Rattle.lookup_core.specs.declared.on_reply.Answered.{Answered}
 use Rattle.lookup_run.specs.Gathered.{HeardIn, Hears}
 use Rattle.lookup_run.specs.Lookup.{setting_of, given_of, told_of, TableTold, quest_of}
+use Rattle.lookup_run.specs.SendFaults.{unsent}
 use Rattle.lookup_core.specs.Says.{IsReply}
 use Rattle.lookup_core.specs.LookupSteps.{as_open}
 use Rattle.lookup_run.specs.inner.DriverInvariant.{IsBare, Keeps, max_asks, KeepsSeen}
 use Rattle.lookup_core.specs.LookupSteps.{query_to, RepliesToNone, HearsIn}
 use Rattle.lookup_run.specs.inner.RoundSteps.{IsDue, WaitsFor, receives_kept, KeepsFor, Expires, IsStrayFor, IsMatchFor, TakesDatagram, MayReceive, ReceivesOne}
 use Rattle.lookup_run.proofs.Driven.{keeps_none}
+use Rattle.lookup_run.proofs.Refusing.{unsent_left}
 use Rattle.lookup_run.proofs.Walking.{OneEvent, NextStep, along_next, seeds_append}
 use Rattle.lookup_core.proofs.Opens.{opens_kept, each_asked}
 use Rattle.lookup_core.proofs.Lists.{in_cons, in_map, map_in, in_middle, all_in, none_in}
@@ -192,23 +194,24 @@ pub record IsEnds (first : List Entry) : Type 0 where
   pub all_driven : driven first ≡ first
   pub no_seeds : seeds first ≡ []
   pub no_asks : asked first ≡ []
+  pub no_unsent : unsent first ≡ []
   pub untold : flat_map told_of first ≡ []
 
 ends_none : IsEnds []
-unfolding driven seeds asked
-ends_none = record { all_driven = refl; no_seeds = refl; no_asks = refl; untold = refl }
+unfolding driven seeds asked unsent
+ends_none = record { all_driven = refl; no_seeds = refl; no_asks = refl; no_unsent = refl; untold = refl }
 
 ends_heard : (p : ℕ) (c : Contact) (reports : _) → IsEnds (Heard p c reports ∷ [])
-unfolding driven seeds asked
-ends_heard p c reports = record { all_driven = refl; no_seeds = refl; no_asks = refl; untold = refl }
+unfolding driven seeds asked unsent
+ends_heard p c reports = record { all_driven = refl; no_seeds = refl; no_asks = refl; no_unsent = refl; untold = refl }
 
 ends_wrong : (p : ℕ) (c : Contact) → IsEnds (Lost p c WrongId ∷ [])
-unfolding driven seeds asked
-ends_wrong p c = record { all_driven = refl; no_seeds = refl; no_asks = refl; untold = refl }
+unfolding driven seeds asked unsent
+ends_wrong p c = record { all_driven = refl; no_seeds = refl; no_asks = refl; no_unsent = refl; untold = refl }
 
 ends_error : (p : ℕ) (c : Contact) (code : _) → IsEnds (Lost p c (Error code) ∷ [])
-unfolding driven seeds asked
-ends_error p c code = record { all_driven = refl; no_seeds = refl; no_asks = refl; untold = refl }
+unfolding driven seeds asked unsent
+ends_error p c code = record { all_driven = refl; no_seeds = refl; no_asks = refl; no_unsent = refl; untold = refl }
 
 -- what a reply gives ends one
 reply_ends : (quest : Quest) (q : OpenQuery) (what : Reply) (e : Entry) → ReplyGives quest q what e → IsEnds (e ∷ [])
@@ -284,6 +287,9 @@ asks_left J first qs ends = asked_append J (first ++ map timed_out qs) ∙ ap (�
 same_asks : (look : LookSetting) (at : ℕ) (old new : LookupState) (first : List Entry) (left : List Query) → Left look at old new first left → length (asked new.lookup.book.journal) ≡ length (asked old.lookup.book.journal)
 same_asks look at old new first left l =
     ap (λ J. length (asked J)) l.journal ∙ ap length (asks_left old.lookup.book.journal first (filter (is_overdue at) (map (as_open old.lookup.book.journal) left)) l.ends)
+
+same_unsent : (look : LookSetting) (at : ℕ) (old new : LookupState) (first : List Entry) (left : List Query) → Left look at old new first left → unsent new.lookup.book.journal ≡ unsent old.lookup.book.journal
+same_unsent look at old new first left l = ap unsent l.journal ∙ unsent_left old.lookup.book.journal first (filter (is_overdue at) (map (as_open old.lookup.book.journal) left)) l.ends.no_unsent
 
 stands_left : (look : LookSetting) (g : Given) (place at : ℕ) (old new : LookupState) (first : List Entry) (left : List Query) (strays receives : ℕ) (s : Seen) → Left look at old new first left → KeepsSeen g old place s → strays ≡ new.progress.strays → receives ≡ new.progress.receives
     → KeepsSeen g new place (received s at first (map (as_open old.lookup.book.journal) left) strays receives)
@@ -376,6 +382,7 @@ receives_one look accepts at old new first left e told told' l keeps strays roun
       some_open = goes_open old.progress new.progress new.lookup.queries round;
       round = goes_count old.progress new.progress new.lookup.queries round;
       same_asks = asks;
+      same_unsent = same_unsent look at old new first left l;
       first_lighter = λ z. (let lt = first_light z in lighter (length (asked new.lookup.book.journal)) (length (asked old.lookup.book.journal)) _ _ asks lt);
       lighter = no_heavier (length (asked new.lookup.book.journal)) (length (asked old.lookup.book.journal)) _ _ asks light;
       goes = λ words b a. along_next look accepts words words old new b 0 a 0 e told told' (next_of look accepts words at old new first left a e l (next words)) grows;

@@ -1,5 +1,5 @@
 -- One round of a lookup: asking, receiving and settling, one after another.
-use Rattle.std.proofs.Common.{◌≡◌, ◌+◌, ◌-◌, ◌*◌, ◌^◌, ◌<◌, List, [], length, Option, sym, ap, subst, ◌∙◌, arith}
+use Rattle.std.proofs.Common.{◌≡◌, ℕ, ◌+◌, ◌-◌, ◌*◌, ◌^◌, ◌<◌, List, [], length, Option, sym, ap, subst, ◌∙◌, arith}
 use Rattle.kad_base.specs.declared.types.Event.{Event}
 use Rattle.kad_base.specs.Limits.{max_strays}
 use Rattle.id_puzzles.specs.Drawn.{WordsState}
@@ -9,6 +9,8 @@ use Rattle.lookup_run.specs.declared.types.LookupState.{LookupState}
 use Rattle.lookup_run.specs.Rounds.{Scheduling}
 use Rattle.lookup_run.specs.inner.DriverInvariant.{max_asks, weight_of, PreservesBy}
 use Rattle.lookup_run.specs.inner.RoundSteps.{Asks, ReceivesAll, SettlesPaths, Begins, HasReceived, RoundAlong, IsOver, Stops, StopsRound, EndsByStray, RoundEndsByStray, FewStrays, RoundFewStrays}
+use Rattle.lookup_run.specs.SendFaults.{Refuses}
+use Rattle.lookup_run.proofs.Early.{ended_after}
 use Rattle.lookup_core.specs.Sealed.{Accepts}
 
 pub round_over : (scheduling : Scheduling) (look : LookSetting) (accepts : Accepts) (words words' : WordsState) (old new : LookupState) (told told' : Option (List Event)) → Asks look 0 look.paths words words' old new told told' → new.lookup.queries ≡ [] → IsOver scheduling look accepts words words' old new told told'
@@ -47,14 +49,16 @@ round_more scheduling look accepts words words' a b c t u h settles = record {
   goes = λ start table began al. settles.goes words' 0 accepts start table began (h.goes scheduling start table began al);
 }
 
-pub stops_receiving : (scheduling : Scheduling) (look : LookSetting) (accepts : Accepts) (words words' : WordsState) (a b c : LookupState) (t u v : Option (List Event)) → Asks look 0 look.paths words words' a b t u → Stops look accepts words' words' b c u v → StopsRound scheduling look accepts words words' a c t v
-stops_receiving scheduling look accepts words words' a b c t u v asks stops start table began al = stops scheduling start table began look.paths look.paths (asks.goes look.paths accepts scheduling start table began al)
+pub stops_receiving : (scheduling : Scheduling) (look : LookSetting) (accepts : Accepts) (words words' : WordsState) (a b c : LookupState) (t u v : Option (List Event)) → Asks look 0 look.paths words words' a b t u → Stops look accepts words' words' b c u v → (sends sends' : ℕ) → Refuses a.lookup.book.journal b.lookup.book.journal sends sends' → StopsRound scheduling look accepts words words' a c t v sends sends'
+stops_receiving scheduling look accepts words words' a b c t u v asks stops sends sends' refuses start table began al =
+    ended_after look accepts start table began words' c.table v a.lookup.book.journal b.lookup.book.journal sends sends' sends' refuses (stops scheduling start table began look.paths look.paths (asks.goes look.paths accepts scheduling start table began al) sends')
 
 pub strays_receiving : (scheduling : Scheduling) (look : LookSetting) (accepts : Accepts) (words words' : WordsState) (a b : LookupState) (t u v : Option (List Event)) → Asks look 0 look.paths words words' a b t u → EndsByStray look accepts words' b u v → RoundEndsByStray scheduling look accepts words a t v
 strays_receiving scheduling look accepts words words' a b t u v asks ends start table began al = ends scheduling start table began look.paths look.paths (asks.goes look.paths accepts scheduling start table began al)
 
-pub stops_settling_round : (scheduling : Scheduling) (look : LookSetting) (accepts : Accepts) (words words' : WordsState) (a b c : LookupState) (t u : Option (List Event)) → HasReceived look accepts words words' a b t u → Stops look accepts words' words' b c u u → StopsRound scheduling look accepts words words' a c t u
-stops_settling_round scheduling look accepts words words' a b c t u h stops start table began al = stops scheduling start table began 0 0 (h.goes scheduling start table began al)
+pub stops_settling_round : (scheduling : Scheduling) (look : LookSetting) (accepts : Accepts) (words words' : WordsState) (a b c : LookupState) (t u : Option (List Event)) → HasReceived look accepts words words' a b t u → Stops look accepts words' words' b c u u → (sends sends' : ℕ) → Refuses a.lookup.book.journal b.lookup.book.journal sends sends' → StopsRound scheduling look accepts words words' a c t u sends sends'
+stops_settling_round scheduling look accepts words words' a b c t u h stops sends sends' refuses start table began al =
+    ended_after look accepts start table began words' c.table u a.lookup.book.journal b.lookup.book.journal sends sends' sends' refuses (stops scheduling start table began 0 0 (h.goes scheduling start table began al) sends')
 
 -- ---- round after round
 
@@ -78,8 +82,9 @@ rounds_over scheduling look accepts w x y a b c t u v h k = record {
   goes = λ start table began al. k.goes start table began (h.goes start table began al);
 }
 
-pub rounds_stop : (scheduling : Scheduling) (look : LookSetting) (accepts : Accepts) (w x y : WordsState) (a b c : LookupState) (t u v : Option (List Event)) → Rounding scheduling look accepts w x a b t u → StopsRound scheduling look accepts x y b c u v → StopsRound scheduling look accepts w y a c t v
-rounds_stop scheduling look accepts w x y a b c t u v h k start table began al = k start table began (h.goes start table began al)
+pub rounds_stop : (scheduling : Scheduling) (look : LookSetting) (accepts : Accepts) (w x y : WordsState) (a b c : LookupState) (t u v : Option (List Event)) → Rounding scheduling look accepts w x a b t u → (sends since sends' : ℕ) → Refuses a.lookup.book.journal b.lookup.book.journal sends since → StopsRound scheduling look accepts x y b c u v since sends' → StopsRound scheduling look accepts w y a c t v sends sends'
+rounds_stop scheduling look accepts w x y a b c t u v h sends since sends' refuses k start table began al =
+    ended_after look accepts start table began y c.table v a.lookup.book.journal b.lookup.book.journal sends since sends' refuses (k start table began (h.goes start table began al))
 
 pub rounds_stray : (scheduling : Scheduling) (look : LookSetting) (accepts : Accepts) (w x : WordsState) (a b : LookupState) (t u v : Option (List Event)) → Rounding scheduling look accepts w x a b t u → RoundEndsByStray scheduling look accepts x b u v → RoundEndsByStray scheduling look accepts w a t v
 rounds_stray scheduling look accepts w x a b t u v h k start table began al = k start table began (h.goes start table began al)

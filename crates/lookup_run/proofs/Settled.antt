@@ -38,6 +38,8 @@ use Rattle.lookup_run.proofs.Early.{early_now}
 use Rattle.lookup_core.proofs.Opens.{opens_kept, each_asked}
 use Rattle.lookup_run.proofs.Quiet.{IsMute, IsQuiet, each_quiet, each_mute, no_seeds, none_driven, asked_same, open_same, unsettled_same, settles_from, below_more}
 use Rattle.lookup_run.proofs.Walking.{walk_longer, seeds_same, told_in_any, table_then, calls_more}
+use Rattle.lookup_run.specs.SendFaults.{unsent}
+use Rattle.lookup_run.proofs.Refusing.{unsent_settled}
 use Rattle.lookup_core.specs.Sealed.{Accepts}
 
 -- ---- the table
@@ -178,6 +180,7 @@ settles_more scheduling look b b' old new more told k over m settled =
       settled = settled;
       progress = m.progress;
       same_asks = ap length same_asked;
+      same_unsent = ap unsent m.journal ∙ unsent_settled J more mute;
       queries = m.queries;
       ran = record { run = m.tabled.run; is_run = m.tabled.is_run; leaves = m.tabled.leaves };
       goes = λ words a accepts start table began al. record {
@@ -219,13 +222,14 @@ settles_path scheduling look p old new told k over below h here queries progress
 
 -- where it ends early, the journal is that from before, and the table is what some run leaves
 pub stops_settling : (look : LookSetting) (accepts : Accepts) (old new : LookupState) (told : Option (List Event)) → Legal (setting_of look) old.lookup.book.journal → TableRan old.table new.table → (words : WordsState) → Stops look accepts words words old new told told
-stops_settling look accepts old new told legal ran words scheduling start table began b a al = record {
-  unfinished = record {
+stops_settling look accepts old new told legal ran words scheduling start table began b a al sends = record {
+  unfinished = λ first refused. record {
     journal = old.lookup.book.journal;
     legal = legal;
     seeds_are = al.seeds_are;
     tells = grows_weaker began told _ _ al.shows (λ es s. early_now scheduling (given_of look accepts start) old words.place b a es s);
     drawn = al.drawn;
+    refused = refused;
   };
   ran = ran_after scheduling (table_calls look old.lookup.book.journal) table old.table new.table al.tabled ran;
 }
@@ -238,6 +242,7 @@ settles_nothing scheduling look work told k = record {
   settled = λ p lt. absurd (omega arith);
   progress = refl;
   same_asks = refl;
+  same_unsent = refl;
   queries = refl;
   ran = record { run = []; is_run = tt; leaves = refl };
   goes = λ words a accepts start table began al. al;
@@ -249,6 +254,7 @@ settles_then scheduling look from mid to a b c told h k = record {
   settled = k.settled;
   progress = k.progress ∙ h.progress;
   same_asks = k.same_asks ∙ h.same_asks;
+  same_unsent = k.same_unsent ∙ h.same_unsent;
   queries = k.queries ∙ h.queries;
   ran = ran_then a.table b.table c.table h.ran k.ran;
   goes = λ words n accepts start table began al. k.goes words n accepts start table began (h.goes words n accepts start table began al);

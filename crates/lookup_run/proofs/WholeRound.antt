@@ -1,5 +1,5 @@
 -- The receives of a round, one after another.
-use Rattle.std.proofs.Common.{◌≡◌, ◌≢◌, ℕ, zero, suc, ◌-◌, ◌<◌, ◌≤◌, [], List, length, Option, ◌∙◌, arith}
+use Rattle.std.proofs.Common.{◌≡◌, ◌≢◌, ℕ, zero, suc, ◌-◌, ◌<◌, ◌≤◌, [], List, length, Option, refl, ◌∙◌, arith}
 use Rattle.kad_base.specs.declared.types.Event.{Event}
 use Rattle.kad_base.specs.Limits.{max_round_receives}
 use Rattle.id_puzzles.specs.Drawn.{WordsState}
@@ -8,6 +8,9 @@ use Rattle.lookup_run.specs.declared.types.LookSetting.{LookSetting}
 use Rattle.lookup_run.specs.declared.types.LookupState.{LookupState}
 use Rattle.lookup_run.specs.inner.DriverInvariant.{Keeps, weight_of, Preserves}
 use Rattle.lookup_run.specs.inner.RoundSteps.{ReceivesOne, Stops, EndsByStray, FewStrays}
+use Rattle.lookup_run.specs.SendFaults.{unsent}
+use Rattle.lookup_run.proofs.Early.{ended_after}
+use Rattle.lookup_run.proofs.Refusing.{refuses_none}
 use Rattle.lookup_core.specs.Sealed.{Accepts}
 
 -- one receive or more
@@ -15,6 +18,7 @@ pub record Rounding (look : LookSetting) (accepts : Accepts) (old new : LookupSt
   pub keeps : Keeps look new
   pub some_open : new.progress.receives ≢ 0 → new.lookup.queries ≢ []
   pub same_asks : length (asked new.lookup.book.journal) ≡ length (asked old.lookup.book.journal)
+  pub same_unsent : unsent new.lookup.book.journal ≡ unsent old.lookup.book.journal
   pub lighter : weight_of new < weight_of old
   pub goes : (words : WordsState) (b a : ℕ) → Preserves look accepts words words old new b a 0 0 told told'
 
@@ -23,6 +27,7 @@ next_receive look accepts old w new told mid told' h r = record {
   keeps = r.keeps;
   some_open = r.some_open;
   same_asks = r.same_asks ∙ h.same_asks;
+  same_unsent = r.same_unsent ∙ h.same_unsent;
   lighter = (let a = r.lighter in let b = h.lighter in less (weight_of new) (weight_of w) (weight_of old) a b);
   goes = λ words b a scheduling start table began along. r.goes words 0 0 scheduling start table began (h.goes words b a scheduling start table began along);
 }
@@ -31,7 +36,8 @@ next_receive look accepts old w new told mid told' h r = record {
     less x y z a b = omega (arith, a, b)
 
 pub stops_after : (look : LookSetting) (accepts : Accepts) (old w new : LookupState) (told mid told' : Option (List Event)) → Rounding look accepts old w told mid → ((words : WordsState) → Stops look accepts words words w new mid told') → (words : WordsState) → Stops look accepts words words old new told told'
-stops_after look accepts old w new told mid told' h stops words scheduling start table began b a along = stops words scheduling start table began 0 0 (h.goes words b a scheduling start table began along)
+stops_after look accepts old w new told mid told' h stops words scheduling start table began b a along sends =
+    ended_after look accepts start table began words new.table told' old.lookup.book.journal w.lookup.book.journal sends sends sends (refuses_none old.lookup.book.journal w.lookup.book.journal sends sends h.same_unsent refl) (stops words scheduling start table began 0 0 (h.goes words b a scheduling start table began along) sends)
 
 pub stray_after : (look : LookSetting) (accepts : Accepts) (old w : LookupState) (told mid told' : Option (List Event)) → Rounding look accepts old w told mid → ((words : WordsState) → EndsByStray look accepts words w mid told') → (words : WordsState) → EndsByStray look accepts words old told told'
 stray_after look accepts old w told mid told' h ends words scheduling start table began b a along = ends words scheduling start table began 0 0 (h.goes words b a scheduling start table began along)

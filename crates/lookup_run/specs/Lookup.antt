@@ -38,6 +38,7 @@ use Rattle.lookup_run.specs.declared.types.Outcome.{Outcome}
 use Rattle.lookup_run.specs.Tells.{Given, Seen, TellsSoFar, Tells, EndsAtStray, HasFewStrays, NeverEnds}
 use Rattle.lookup_run.specs.Rounds.{Scheduling, Rounds, sequential, concurrent}
 use Rattle.lookup_run.specs.Gathered.{Gathers, addr_cmp}
+use Rattle.lookup_run.specs.SendFaults.{RefusedIn}
 use Rattle.lookup_core.specs.Sealed.{Accepts}
 
 -- what the book is set to
@@ -88,13 +89,14 @@ pub record TellsEarly (g : Given) (J : List Entry) (events : List Event) : Type 
   pub whole : (events ≡ front) ⊎ ((from : Addr) × (bytes : List ℕ) × (until : ℕ) × (at : ℕ) × (events ≡ front ++ Got from bytes until at ∷ []))
 
 -- A lookup that ended early: there is a legal journal with the same seeds that the events tell so far, so nobody was asked
--- twice either.
-pub record Unfinished (look : LookSetting) (accepts : Accepts) (table : TableState) (words words' : WordsState) (told told' : Option (List Event)) : Type 0 where
+-- twice either; and who was lost to a refused send in it, the link counted.
+pub record Unfinished (look : LookSetting) (accepts : Accepts) (table : TableState) (words words' : WordsState) (told told' : Option (List Event)) (sends sends' : ℕ) : Type 0 where
   pub journal : List Entry
   pub legal : Legal (setting_of look) journal
   pub seeds_are : seeds journal ≡ seeds_in look table
   pub tells : Grows told told' (λ events. TellsEarly (given_of look accepts words) journal events)
   pub drawn : words' ≡ drawn_for words journal
+  pub refused : RefusedIn journal sends sends'
 
 -- A lookup that ended with the last stray that it takes: there is a legal journal with the same seeds that the events
 -- before that one tell, and by which it is the last.
@@ -167,8 +169,9 @@ TableTold calls table table' = TableToldBy sequential calls table table'
 -- ---- the promise
 
 -- What a lookup promises, whichever way its rounds settle: by its setting, the tags that it accepts, the table, the words,
--- and what the link tells, how often it failed to receive, and what of it no call changes, each before and after.
-pub record LooksUp {Kept : Type 0} (scheduling : Scheduling) (look : LookSetting) (accepts : Accepts) (before after : TableState) (words words' : WordsState) (told told' : Option (List Event)) (faults faults' : ℕ) (was is : Kept) (ended : Result Outcome LookFault) : Type 0 where
+-- and what the link tells, how often it failed to receive and to send, and what of it no call changes, each before and
+-- after.
+pub record LooksUp {Kept : Type 0} (scheduling : Scheduling) (look : LookSetting) (accepts : Accepts) (before after : TableState) (words words' : WordsState) (told told' : Option (List Event)) (faults faults' sends sends' : ℕ) (was is : Kept) (ended : Result Outcome LookFault) : Type 0 where
   pub lookup : IfOk ended (Finished look accepts before words words' told told')
   pub rounds : IfOk ended (λ outcome. Grows told told' (λ events. Rounds scheduling (given_of look accepts words) outcome.journal events))
   pub own_answers : IfOk ended (λ outcome. GoesByOwnAnswers (setting_of look) outcome.journal)
@@ -176,7 +179,7 @@ pub record LooksUp {Kept : Type 0} (scheduling : Scheduling) (look : LookSetting
   pub none_gathered : IfOk ended (λ outcome. look.kind ≡ FindNode → (outcome.peers ≡ []) × (outcome.tokens ≡ []) × (outcome.items ≡ []))
   pub peers_in_order : IfOk ended (λ outcome. IsStrictlySortedBy addr_cmp outcome.peers)
   pub table : IfOk ended (λ outcome. TableToldBy scheduling (table_calls look outcome.journal) before after)
-  pub unfinished : IfErr ended (λ fault. Unfinished look accepts before words words' told told')
+  pub unfinished : IfErr ended (λ fault. Unfinished look accepts before words words' told told' sends sends')
   pub table_left : IfErr ended (λ fault. TableRan before after)
   pub strays : IsErrOf ended Strays → EndsByStrays look accepts before words told told'
   pub few_strays : IfOk ended (λ outcome. Grows told told' (λ events. HasFewStrays (given_of look accepts words) outcome.journal events max_strays))
@@ -186,4 +189,6 @@ pub record LooksUp {Kept : Type 0} (scheduling : Scheduling) (look : LookSetting
   pub no_last_stray_at_fault : IsErrOf ended LinkFault → look.sealed ≡ false → Grows told told' (NeverEnds (given_of look accepts words) max_strays)
   pub link : IsErrOf ended LinkFault → Rose faults faults'
   pub recv_faults : faults ≤ faults'
+  -- who was lost because the link would not send, it counted, whether or not it tells its events
+  pub refused : IfOk ended (λ outcome. RefusedIn outcome.journal sends sends')
   pub kept : is ≡ was

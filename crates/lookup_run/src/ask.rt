@@ -2,6 +2,7 @@
 ghost use Rattle.std.specs.Prelude.{◌≡◌, ◌≤◌, ◌<◌, ◌+◌, true, false};
 ghost use Rattle.lookup_run.specs.Rounds.{AllSettled, NoneAsks};
 ghost use Rattle.lookup_run.specs.Lookup.{IsWithinLimits, setting_of};
+ghost use Rattle.lookup_run.specs.SendFaults.{Refuses};
 ghost use Rattle.lookup_run.specs.inner.DriverInvariant.{Keeps, HasWords, weight_of};
 ghost use Rattle.lookup_run.specs.inner.RoundSteps.{Asks, AsksNone, Begins};
 
@@ -32,6 +33,8 @@ fn ask_one<L: Link>(
         (L.told link.old) (L.told link.new) }
     ensures moment { L.moment link.new ≡ L.moment link.old }
     ensures recv_faults { L.recv_faults link.old ≤ L.recv_faults link.new }
+    ensures refuses { Refuses work.old.lookup.book.journal work.new.lookup.book.journal
+        (L.send_faults link.old) (L.send_faults link.new) }
     ensures kept { L.kept link.new ≡ L.kept link.old }
 {
     work.lookup.book.legal();
@@ -68,6 +71,8 @@ fn ask_path<L: Link>(
         (L.told link.old) (L.told link.new) }
     ensures moment { L.moment link.new ≡ L.moment link.old }
     ensures recv_faults { L.recv_faults link.old ≤ L.recv_faults link.new }
+    ensures refuses { Refuses work.old.lookup.book.journal work.new.lookup.book.journal
+        (L.send_faults link.old) (L.send_faults link.new) }
     ensures kept { L.kept link.new ≡ L.kept link.old }
 {
     'asking: while ask_one(link, work, words, look, path) {}
@@ -86,6 +91,8 @@ pub(crate) fn ask_all<L: Link>(
         (L.told link.old) (L.told link.new) }
     ensures moment { L.moment link.new ≡ L.moment link.old }
     ensures recv_faults { L.recv_faults link.old ≤ L.recv_faults link.new }
+    ensures refuses { Refuses work.old.lookup.book.journal work.new.lookup.book.journal
+        (L.send_faults link.old) (L.send_faults link.new) }
     ensures kept { L.kept link.new ≡ L.kept link.old }
 {
     for path in 0..look.paths {

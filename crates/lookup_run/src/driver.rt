@@ -110,6 +110,7 @@ fn begin<L: Link>(alloc: Global, link: &mut L, table: Table, book: Book) -> Look
     ensures told { Grows (L.told link.old) (L.told link.new)
         (λ es. es ≡ Now (L.moment link.new) ∷ []) }
     ensures recv_faults { L.recv_faults link.old ≤ L.recv_faults link.new }
+    ensures send_faults { L.send_faults link.new ≡ L.send_faults link.old }
     ensures kept { L.kept link.new ≡ L.kept link.old }
 {
     LookupState {
@@ -147,8 +148,8 @@ fn look_by<
     requires settles { (before : LookupState) (after : _) → MaySettle setting.now before
         → S.post settle before after → Settles O.scheduling setting.now before after.0 after.1 }
     ensures { LooksUp O.scheduling setting.now (G.accepted seal.now) table result.0 words.old words.new (L.told link.old)
-        (L.told link.new) (L.recv_faults link.old) (L.recv_faults link.new) (L.kept link.old)
-        (L.kept link.new) result.1 }
+        (L.told link.new) (L.recv_faults link.old) (L.recv_faults link.new) (L.send_faults link.old)
+        (L.send_faults link.new) (L.kept link.old) (L.kept link.new) result.1 }
 {
     let mut table = table;
     let book = match open_book(alloc, &mut table, setting, hasher) {
@@ -180,8 +181,8 @@ pub fn look_up_alone<L: Link, C: Check, G: SealCheck>(
     requires usable { All (IsUsable setting.now.own) (contacts_of table) }
     requires place { words.old.place < 2 ^ 59 }
     ensures { LooksUp sequential setting.now (G.accepted seal.now) table result.0 words.old words.new (L.told link.old)
-        (L.told link.new) (L.recv_faults link.old) (L.recv_faults link.new) (L.kept link.old)
-        (L.kept link.new) result.1 }
+        (L.told link.new) (L.recv_faults link.old) (L.recv_faults link.new) (L.send_faults link.old)
+        (L.send_faults link.new) (L.kept link.old) (L.kept link.new) result.1 }
 {
     look_by::<Sequential, _, _, _>(
         alloc,
@@ -220,8 +221,8 @@ pub fn look_up<R: Threads + Wait + Sync, L: Link, C: Check + Sync, G: SealCheck>
     requires usable { All (IsUsable setting.now.own) (contacts_of table) }
     requires place { words.old.place < 2 ^ 59 }
     ensures { LooksUp concurrent setting.now (G.accepted seal.now) table result.0 words.old words.new (L.told link.old)
-        (L.told link.new) (L.recv_faults link.old) (L.recv_faults link.new) (L.kept link.old)
-        (L.kept link.new) result.1 }
+        (L.told link.new) (L.recv_faults link.old) (L.recv_faults link.new) (L.send_faults link.old)
+        (L.send_faults link.new) (L.kept link.old) (L.kept link.new) result.1 }
 {
     look_by::<Concurrent, _, _, _>(
         alloc,

@@ -116,6 +116,7 @@ pub(crate) fn receive<L: Link, G: SealCheck>(
     ensures link { IsErrOf result LookFault.LinkFault
         → Rose (L.recv_faults link.old) (L.recv_faults link.new) }
     ensures recv_faults { L.recv_faults link.old ≤ L.recv_faults link.new }
+    ensures send_faults { L.send_faults link.new ≡ L.send_faults link.old }
     ensures kept { L.kept link.new ≡ L.kept link.old }
 {
     work.lookup.book.legal();
@@ -164,6 +165,7 @@ pub(crate) fn receive_round<L: Link, G: SealCheck>(
     ensures link { IsErrOf result LookFault.LinkFault
         → Rose (L.recv_faults link.old) (L.recv_faults link.new) }
     ensures recv_faults { L.recv_faults link.old ≤ L.recv_faults link.new }
+    ensures send_faults { L.send_faults link.new ≡ L.send_faults link.old }
     ensures kept { L.kept link.new ≡ L.kept link.old }
 {
     receive(alloc, link, work, buf, look, seal)?;

@@ -4,6 +4,7 @@ ghost use Rattle.kad_base.specs.Limits.{max_datagram};
 ghost use Rattle.kad_base.specs.Outside.{Rose};
 ghost use Rattle.lookup_run.specs.Lookup.{IsWithinLimits};
 ghost use Rattle.lookup_run.specs.Rounds.{Scheduling};
+ghost use Rattle.lookup_run.specs.SendFaults.{Refuses};
 ghost use Rattle.lookup_run.specs.inner.RoundSteps.{MaySettle, Settles, Begins, HasReceived, IsOver, StopsRound, RoundEndsByStray, RoundFewStrays};
 
 use crate::ask::ask_all;
@@ -39,7 +40,7 @@ fn ask_and_receive<L: Link, G: SealCheck>(
     ensures moment { OnOk result (L.moment link.new ≡ work.new.progress.moment) }
     ensures stops { (scheduling : Scheduling) → OnErr result
         (StopsRound scheduling look.now (G.accepted seal.now) words.old words.new work.old work.new
-        (L.told link.old) (L.told link.new)) }
+        (L.told link.old) (L.told link.new) (L.send_faults link.old) (L.send_faults link.new)) }
     ensures strays { (scheduling : Scheduling) → IsErrOf result LookFault.Strays
         → RoundEndsByStray scheduling look.now (G.accepted seal.now) words.old work.old
         (L.told link.old) (L.told link.new) }
@@ -49,6 +50,8 @@ fn ask_and_receive<L: Link, G: SealCheck>(
     ensures link { IsErrOf result LookFault.LinkFault
         → Rose (L.recv_faults link.old) (L.recv_faults link.new) }
     ensures recv_faults { L.recv_faults link.old ≤ L.recv_faults link.new }
+    ensures refuses { OnOk result (Refuses work.old.lookup.book.journal work.new.lookup.book.journal
+        (L.send_faults link.old) (L.send_faults link.new)) }
     ensures kept { L.kept link.new ≡ L.kept link.old }
 {
     ask_all(link, work, words, look);
@@ -85,7 +88,7 @@ pub(crate) fn go_rounds<
     ensures over { OnOk result.1 (IsOver O.scheduling look.now (G.accepted seal.now) words.old words.new work result.0
         (L.told link.old) (L.told link.new)) }
     ensures stops { OnErr result.1 (StopsRound O.scheduling look.now (G.accepted seal.now) words.old words.new work result.0
-        (L.told link.old) (L.told link.new)) }
+        (L.told link.old) (L.told link.new) (L.send_faults link.old) (L.send_faults link.new)) }
     ensures strays { IsErrOf result.1 LookFault.Strays
         → RoundEndsByStray O.scheduling look.now (G.accepted seal.now) words.old work (L.told link.old) (L.told link.new) }
     ensures few_strays { IsErrOf result.1 LookFault.LinkFault
@@ -93,6 +96,8 @@ pub(crate) fn go_rounds<
     ensures link { IsErrOf result.1 LookFault.LinkFault
         → Rose (L.recv_faults link.old) (L.recv_faults link.new) }
     ensures recv_faults { L.recv_faults link.old ≤ L.recv_faults link.new }
+    ensures refuses { OnOk result.1 (Refuses work.lookup.book.journal result.0.lookup.book.journal
+        (L.send_faults link.old) (L.send_faults link.new)) }
     ensures kept { L.kept link.new ≡ L.kept link.old }
 {
     let mut work = work;

@@ -9,6 +9,7 @@ use Rattle.id_puzzles.specs.Drawn.{WordsState}
 use Rattle.query_book.specs.declared.Query.{Query}
 use Rattle.contact_table.specs.declared.calls.TableCall.TheVariants.{Closest}
 use Rattle.contact_table.specs.TableState.{TableState}
+use Rattle.claim_book.specs.declared.types.Entry.{Entry}
 use Rattle.claim_book.specs.Journal.{asked, may_ask}
 use Rattle.claim_book.specs.Legal.{Legal, seeded}
 use Rattle.claim_book.specs.RunOut.{RunOut}
@@ -28,6 +29,7 @@ use Rattle.lookup_run.specs.Tells.{NeverEnds}
 use Rattle.lookup_run.specs.Rounds.{Scheduling, AllSettled, NoneAsks, WaitsInTurn}
 use Rattle.lookup_core.specs.declared.on_reply.Answered.{Answered}
 use Rattle.lookup_run.specs.Gathered.{values_of, token_of, item_of, IsEachOnce}
+use Rattle.lookup_run.specs.SendFaults.{unsent, RefusedIn}
 use Rattle.lookup_run.specs.Lookup.{IsWithinLimits, setting_of, given_of, seeds_in, told_of, Unfinished, EndsByStrays, MeetsFewStrays, TableRan, TableTold, Told, quest_of}
 use Rattle.lookup_core.specs.LookupSteps.{as_open, LosesOverdue, IsMatch, RepliesToNone}
 use Rattle.lookup_run.specs.inner.DriverInvariant.{Keeps, HasWords, weight_of, TraceInvariant, PreservesBy, Preserves}
@@ -77,20 +79,21 @@ pub record Expires (at : ℕ) (old new : LookupState) : Type 0 where
 
 -- ---- ending early
 
--- what holds where a lookup ended early
-pub record Ended (look : LookSetting) (accepts : Accepts) (start : WordsState) (table : TableState) (began : Option (List Event)) (words' : WordsState) (table' : TableState) (told' : Option (List Event)) : Type 0 where
-  pub unfinished : Unfinished look accepts table start words' began told'
+-- What holds where a lookup ended early in a step which began with this journal, and in which the count of refused sends
+-- went from the one to the other.
+pub record Ended (look : LookSetting) (accepts : Accepts) (start : WordsState) (table : TableState) (began : Option (List Event)) (words' : WordsState) (table' : TableState) (told' : Option (List Event)) (J : List Entry) (before after : ℕ) : Type 0 where
+  pub unfinished : (sends : ℕ) → RefusedIn J sends before → Unfinished look accepts table start words' began told' sends after
   pub ran : TableRan table table'
 
--- a lookup that ends early in this step
+-- a lookup that ends early in this step, which sends nothing
 abbrev pub Stops : LookSetting → Accepts → WordsState → WordsState → LookupState → LookupState → Option (List Event) → Option (List Event) → Type 0
 Stops look accepts words words' old new told told' =
-    (scheduling : Scheduling) (start : WordsState) (table : TableState) (began : Option (List Event)) (b a : ℕ) → TraceInvariant scheduling look accepts start table began words old b a told → Ended look accepts start table began words' new.table told'
+    (scheduling : Scheduling) (start : WordsState) (table : TableState) (began : Option (List Event)) (b a : ℕ) → TraceInvariant scheduling look accepts start table began words old b a told → (sends : ℕ) → Ended look accepts start table began words' new.table told' old.lookup.book.journal sends sends
 
 -- the same from where a round begins
-abbrev pub StopsRound : Scheduling → LookSetting → Accepts → WordsState → WordsState → LookupState → LookupState → Option (List Event) → Option (List Event) → Type 0
-StopsRound scheduling look accepts words words' old new told told' =
-    (start : WordsState) (table : TableState) (began : Option (List Event)) → TraceInvariant scheduling look accepts start table began words old look.paths 0 told → Ended look accepts start table began words' new.table told'
+abbrev pub StopsRound : Scheduling → LookSetting → Accepts → WordsState → WordsState → LookupState → LookupState → Option (List Event) → Option (List Event) → ℕ → ℕ → Type 0
+StopsRound scheduling look accepts words words' old new told told' sends sends' =
+    (start : WordsState) (table : TableState) (began : Option (List Event)) → TraceInvariant scheduling look accepts start table began words old look.paths 0 told → Ended look accepts start table began words' new.table told' old.lookup.book.journal sends sends'
 
 -- a lookup that has met fewer strays than it takes
 pub record FewMet (look : LookSetting) (accepts : Accepts) (start : WordsState) (table : TableState) (began told' : Option (List Event)) : Type 0 where
@@ -176,6 +179,7 @@ pub record ReceivesOne (look : LookSetting) (accepts : Accepts) (old new : Looku
   pub some_open : new.progress.receives ≢ 0 → new.lookup.queries ≢ []
   pub round : (new.progress.receives ≡ 0) ⊎ (new.progress.receives ≡ old.progress.receives + 1)
   pub same_asks : length (asked new.lookup.book.journal) ≡ length (asked old.lookup.book.journal)
+  pub same_unsent : unsent new.lookup.book.journal ≡ unsent old.lookup.book.journal
   pub first_lighter : old.progress.receives ≡ 0 → weight_of new < weight_of old
   pub lighter : weight_of new ≤ weight_of old
   pub goes : (words : WordsState) (b a : ℕ) → Preserves look accepts words words old new b a 0 0 told told'
@@ -185,6 +189,7 @@ pub record ReceivesAll (look : LookSetting) (accepts : Accepts) (old new : Looku
   pub keeps : Keeps look new
   pub round_over : new.progress.receives ≡ 0
   pub same_asks : length (asked new.lookup.book.journal) ≡ length (asked old.lookup.book.journal)
+  pub same_unsent : unsent new.lookup.book.journal ≡ unsent old.lookup.book.journal
   pub lighter : weight_of new < weight_of old
   pub goes : (words : WordsState) (b a : ℕ) → Preserves look accepts words words old new b a 0 0 told told'
 
@@ -202,6 +207,7 @@ pub record SettlesPaths (scheduling : Scheduling) (look : LookSetting) (from to 
   pub settled : AllSettled to new.lookup.book.journal
   pub progress : new.progress ≡ old.progress
   pub same_asks : length (asked new.lookup.book.journal) ≡ length (asked old.lookup.book.journal)
+  pub same_unsent : unsent new.lookup.book.journal ≡ unsent old.lookup.book.journal
   pub queries : new.lookup.queries ≡ old.lookup.queries
   pub ran : TableRan old.table new.table
   pub goes : (words : WordsState) (a : ℕ) (accepts : Accepts) → PreservesBy scheduling look accepts words words old new from a to a told told

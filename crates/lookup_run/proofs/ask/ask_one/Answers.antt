@@ -1,9 +1,12 @@
-use Rattle.std.proofs.Common.{refl, sym, subst}
+use Rattle.std.proofs.Common.{refl, sym, ap, subst}
 use Rattle.lookup_core.specs.declared.quest.Quest.{Quest}
 use Rattle.lookup_core.specs.LookupSteps.{CanAsk}
 use Rattle.lookup_run.specs.declared.types.LookupState.{LookupState}
 use Rattle.lookup_core.proofs.Opening.{last_opened}
 use Rattle.lookup_run.proofs.Asking.{can_ask, asking_of, sent_asks, unsent_asks, lost_added}
+use Rattle.lookup_core.specs.declared.state.Lookup.{Lookup}
+use Rattle.lookup_run.specs.SendFaults.{unsent}
+use Rattle.lookup_run.proofs.Refusing.{refuses_none, refuses_sent, refuses_unsent}
 use Rattle.lookup_run.proofs.ask.ask_one.Goals as goal
 
 pub ask-requires : goal.ask-requires
@@ -27,6 +30,12 @@ returns-then-send_query-clause-less g c sent =
     let asks = rw c.quest.ensures at c.in-Some.ensures.some in
     let asking = asking_of c.args.look.now c.args.path c.args.words.now c.ask.new.words w c.ask.new.self a r.limits r.path r.keeps r.has_words r.round_over r.settled r.none_below asks c.in-Some.ensures.drawn in
     (sent_asks c.args.look.now c.args.path a.contact a.tx c.args.words.now c.ask.new.words w (record w { lookup = c.ask.new.self }) _ _ asking (record { table = refl; progress = refl; gathered = refl }) asks.book asks.queries c.in-Some.ensures.holds (c.if-send_query.ensures.sent refl)).1
+
+pub returns-then-send_query-clause-refuses : goal.returns-then-send_query-clause-refuses
+returns-then-send_query-clause-refuses g c =
+    let w : LookupState = c.args.work.now in
+    let asks = c.in-Some.ensures.some in
+    refuses_sent c.args.path c.in-Some.asked.contact w.lookup.book c.ask.new.self.book _ _ asks.book (c.if-send_query.ensures.well refl)
 
 pub unsent-requires : goal.unsent-requires
 unsent-requires g c = (c.args.work.now.lookup.queries, last_opened _ _ c.args.path c.args.work.now.lookup c.ask.new.self c.in-Some.asked c.in-Some.ensures.some)
@@ -52,3 +61,14 @@ returns-clause-less g c sent =
     let book = lost_added _ _ c.args.path w.lookup c.ask.new.self c.unsent.new.self a asks c.unsent.ensures.book in
     let queries = c.unsent.ensures.queries w.lookup.queries (last_opened _ _ c.args.path w.lookup c.ask.new.self a asks) in
     (unsent_asks c.args.look.now c.args.path a.contact a.tx c.args.words.now c.ask.new.words w (record w { lookup = c.unsent.new.self }) _ _ asking (record { table = refl; progress = refl; gathered = refl }) book queries (c.unsent.ensures.holds c.in-Some.ensures.holds) (c.if-send_query.ensures.unsent refl)).1
+
+pub returns-clause-refuses : goal.returns-clause-refuses
+returns-clause-refuses g c =
+    let w : LookupState = c.args.work.now in
+    let asks = c.in-Some.ensures.some in
+    refuses_unsent c.args.path _ c.in-Some.asked.contact _ w.lookup.book c.ask.new.self.book c.unsent.new.self.book _ _ asks.book c.unsent.ensures.book c.if-send_query.ensures.send_faults (c.if-send_query.ensures.refused refl)
+
+pub returns-in-None-clause-refuses : goal.returns-in-None-clause-refuses
+returns-in-None-clause-refuses g c =
+    let w : LookupState = c.args.work.now in
+    refuses_none w.lookup.book.journal c.ask.new.self.book.journal _ _ (ap (λ (k : Lookup). unsent k.book.journal) c.in-None.ensures.same) refl

@@ -11,6 +11,7 @@ receiving-preserved g c = record {
   room = search rules;
   moment = search rules;
   faults = search rules;
+  sends = search rules;
   kept = search rules;
 }
 
