@@ -2,7 +2,7 @@
 //! alone see: where it is told when a call returns it was told before, so who stops telling never tells again. Each
 //! counts its failures: a call fails only where its count rose, or stands at its last value, 2^64 - 1, and one that goes well
 //! leaves the counts as they were.
-ghost use Rattle.std.specs.Prelude.{◌≡◌, ◌<◌, ◌≤◌, [], ◌∷◌, List, ℕ, length, take, Option, IfOk, OnOk, OnErr, IfSome, ◌↔◌, IsTrue};
+ghost use Rattle.std.specs.Prelude.{◌≡◌, ◌<◌, ◌≤◌, ◌+◌, [], ◌∷◌, List, ℕ, length, take, Option, IfOk, OnOk, OnErr, IfSome, ◌↔◌, IsTrue};
 ghost use Rattle.kad_base.specs.declared.types.Event.{Event};
 ghost use Rattle.kad_base.specs.Limits.{max_datagram};
 ghost use Rattle.kad_base.specs.Puzzles.{Passes};
