@@ -1,5 +1,5 @@
 -- Announcements that are made one after another.
-use Rattle.std.proofs.Common.{◌≡◌, ℕ, ◌+◌, ◌<◌, ◌≤◌, List, [], ◌∷◌, ◌++◌, length, take, drop, get_or, Bool, true, false, cond, refl, sym, ap, subst, ◌∙◌, arith, w32}
+use Rattle.std.proofs.Common.{◌≡◌, ℕ, zero, suc, ◌+◌, ◌<◌, ◌≤◌, List, [], ◌∷◌, ◌++◌, length, take, drop, get_or, Bool, true, false, cond, refl, sym, ap, subst, ◌∙◌, arith, w32}
 use Rattle.std.specs.Prelude.{map, filter, Option, Some, Result, Ok, Err, IfOk, OnErr}
 use Rattle.std.specs.List.{flat_map}
 use Rattle.std.specs.Int.{to_le_bytes}
@@ -16,12 +16,13 @@ use Rattle.kad_base.specs.Outside.{Grows}
 use Rattle.id_puzzles.specs.Drawn.{WordsState}
 use Rattle.kad_base.proofs.Grown.{grows_then, grows_weaker, grows_none}
 use Rattle.kad_base.specs.Words.{word, word_bytes}
-use Rattle.kad_krpc.specs.declared.message.Ask.TheVariants.{AnnouncePeer}
+use Rattle.kad_krpc.specs.declared.message.Ask.{Ask}
 use Rattle.kad_krpc.specs.declared.message.Message.TheVariants as message
-use Rattle.kad_krpc.specs.declared.message.Port.{Port}
-use Rattle.kad_krpc.specs.Form.{form}
+use Rattle.kad_krpc.specs.Form.{form, IsGivenPort, IsWritableAsk}
 use Rattle.lookup_run.specs.declared.types.Token.{Token}
-use Rattle.node_top.specs.Announced.{Announcement, port_of, announcement, first_from, tokens_for, announcements, owed, tried, asking, Announces, AnnouncesSome, is_sent, sent_in}
+use Rattle.node_top.specs.declared.announce.Said.{Said}
+use Rattle.node_top.specs.declared.announce.Said.TheVariants.{Item, Peer}
+use Rattle.node_top.specs.Announced.{Announcement, MaySay, announcing, asks_of, port_of, announcement, first_from, tokens_for, announcements, owed, tried, asking, Announces, AnnouncesSome, is_sent, sent_in}
 
 -- ---- one list of them after another
 
@@ -76,29 +77,29 @@ tokens_more tokens found i d lt =
 
 -- ---- the announcements of those that were found
 
-pub announcements_more : (own key : Id) (port : ℕ) (tokens : List Token) (found : List Contact) (i : ℕ) (d : Contact) → i < length found
-    → announcements own key port (take (i + 1) found) tokens ≡ announcements own key port (take i found) tokens ++ map (announcement own key port) (first_from tokens (get_or found i d))
-announcements_more own key port tokens found i d lt =
-    ap (map (announcement own key port)) (tokens_more tokens found i d lt) ∙ map-append (announcement own key port) (tokens_for (take i found) tokens) (first_from tokens (get_or found i d))
+pub announcements_more : (asks : List ℕ → Ask) (tokens : List Token) (found : List Contact) (i : ℕ) (d : Contact) → i < length found
+    → announcements asks (take (i + 1) found) tokens ≡ announcements asks (take i found) tokens ++ map (announcement asks) (first_from tokens (get_or found i d))
+announcements_more asks tokens found i d lt =
+    ap (map (announcement asks)) (tokens_more tokens found i d lt) ∙ map-append (announcement asks) (tokens_for (take i found) tokens) (first_from tokens (get_or found i d))
 
 -- the words after the announcements to the first ones that were found
 abbrev pub words_at : WordsState → List Token → List Contact → ℕ → WordsState
 words_at w tokens found i = record { seed = w.seed; place = w.place + length (tokens_for (take i found) tokens) }
 
 -- one contact more
-pub sends_more : (start w : WordsState) (own key : Id) (port : ℕ) (tokens : List Token) (found : List Contact) (i : ℕ) (d : Contact) (m n : ℕ) (a b c : Option (List Event)) → i < length found
+pub sends_more : (start w : WordsState) (asks : List ℕ → Ask) (tokens : List Token) (found : List Contact) (i : ℕ) (d : Contact) (m n : ℕ) (a b c : Option (List Event)) → i < length found
     → w ≡ words_at start tokens found i
-    → Grows a b (Sends start.seed start.place (announcements own key port (take i found) tokens) m)
-    → Grows b c (Sends w.seed w.place (map (announcement own key port) (first_from tokens (get_or found i d))) n)
-    → Grows a c (Sends start.seed start.place (announcements own key port (take (i + 1) found) tokens) (m + n))
-sends_more start w own key port tokens found i d m n a b c lt is g h =
-    let xs : List Announcement = announcements own key port (take i found) tokens in
-    let ys : List Announcement = map (announcement own key port) (first_from tokens (get_or found i d)) in
-    let many : length xs ≡ length (tokens_for (take i found) tokens) = length-map (tokens_for (take i found) tokens) (announcement own key port) in
+    → Grows a b (Sends start.seed start.place (announcements asks (take i found) tokens) m)
+    → Grows b c (Sends w.seed w.place (map (announcement asks) (first_from tokens (get_or found i d))) n)
+    → Grows a c (Sends start.seed start.place (announcements asks (take (i + 1) found) tokens) (m + n))
+sends_more start w asks tokens found i d m n a b c lt is g h =
+    let xs : List Announcement = announcements asks (take i found) tokens in
+    let ys : List Announcement = map (announcement asks) (first_from tokens (get_or found i d)) in
+    let many : length xs ≡ length (tokens_for (take i found) tokens) = length-map (tokens_for (take i found) tokens) (announcement asks) in
     grows_then a b c _ _ _ g h (λ es fs p q.
     let moved = subst (λ (v : WordsState). Sends v.seed v.place ys n fs) is q in
     let placed = subst (λ k. Sends start.seed (start.place + k) ys n fs) (sym many) moved in
-    subst (λ (l : List Announcement). Sends start.seed start.place l (m + n) (es ++ fs)) (sym (announcements_more own key port tokens found i d lt)) (sends_then start.seed start.place xs ys m n es fs p placed))
+    subst (λ (l : List Announcement). Sends start.seed start.place l (m + n) (es ++ fs)) (sym (announcements_more asks tokens found i d lt)) (sends_then start.seed start.place xs ys m n es fs p placed))
 
 pub words_more : (start w v : WordsState) (tokens : List Token) (found : List Contact) (i : ℕ) (d : Contact) → i < length found → w ≡ words_at start tokens found i
     → v ≡ record { seed = w.seed; place = w.place + length (first_from tokens (get_or found i d)) } → v ≡ words_at start tokens found (i + 1)
@@ -111,12 +112,12 @@ words_more start w v tokens found i d lt is then =
 
 -- ---- a front of them
 
-pub announcements_apart : (own key : Id) (port : ℕ) (tokens : List Token) (found : List Contact) (i : ℕ)
-    → announcements own key port found tokens ≡ announcements own key port (take i found) tokens ++ announcements own key port (drop i found) tokens
-announcements_apart own key port tokens found i =
-    ap (λ (l : List Contact). announcements own key port l tokens) (sym (take-append-drop i found))
-    ∙ ap (map (announcement own key port)) (flat_map-append (first_from tokens) (take i found) (drop i found))
-    ∙ map-append (announcement own key port) (tokens_for (take i found) tokens) (tokens_for (drop i found) tokens)
+pub announcements_apart : (asks : List ℕ → Ask) (tokens : List Token) (found : List Contact) (i : ℕ)
+    → announcements asks found tokens ≡ announcements asks (take i found) tokens ++ announcements asks (drop i found) tokens
+announcements_apart asks tokens found i =
+    ap (λ (l : List Contact). announcements asks l tokens) (sym (take-append-drop i found))
+    ∙ ap (map (announcement asks)) (flat_map-append (first_from tokens) (take i found) (drop i found))
+    ∙ map-append (announcement asks) (tokens_for (take i found) tokens) (tokens_for (drop i found) tokens)
 
 -- the link is as it was
 pub told_still : (a b c : Option (List Event)) (P : List Event → Type 0) → c ≡ b → Grows a b P → Grows a c P
@@ -127,12 +128,12 @@ any_err (Ok x) X h = tt
 any_err (Err f) X h = h
 
 -- those that were made are a front of all
-pub some_made : (seed : List ℕ) (place : ℕ) (own key : Id) (port : ℕ) (tokens : List Token) (found : List Contact) (i m : ℕ) (a b : Option (List Event))
-    → Grows a b (Sends seed place (announcements own key port (take i found) tokens) m) → Grows a b (AnnouncesSome seed place (announcements own key port found tokens))
-some_made seed place own key port tokens found i m a b g =
-    let xs : List Announcement = announcements own key port (take i found) tokens in
-    let ys : List Announcement = announcements own key port (drop i found) tokens in
-    let made : take (length xs) (announcements own key port found tokens) ≡ xs = ap (take (length xs)) (announcements_apart own key port tokens found i) ∙ take-append_seam xs ys in
+pub some_made : (seed : List ℕ) (place : ℕ) (asks : List ℕ → Ask) (tokens : List Token) (found : List Contact) (i m : ℕ) (a b : Option (List Event))
+    → Grows a b (Sends seed place (announcements asks (take i found) tokens) m) → Grows a b (AnnouncesSome seed place (announcements asks found tokens))
+some_made seed place asks tokens found i m a b g =
+    let xs : List Announcement = announcements asks (take i found) tokens in
+    let ys : List Announcement = announcements asks (drop i found) tokens in
+    let made : take (length xs) (announcements asks found tokens) ≡ xs = ap (take (length xs)) (announcements_apart asks tokens found i) ∙ take-append_seam xs ys in
     grows_weaker a b _ _ g (λ es h. (length xs, subst (λ (l : List Announcement). Announces seed place l es) (sym made) h.0))
 
 -- ---- the token of one contact
@@ -174,26 +175,33 @@ unfolding word_bytes
 bytes_of_word w = refl
 
 -- the datagram's parts are those that the definition names
-pub datagram_is : {F : Type 0} (r : Result (List ℕ) F) (id : List ℕ) (tx : ℕ) (own key : Id) (port : Port) (number : ℕ) (mine token : List ℕ) → id ≡ to_le_bytes w32 tx → port ≡ port_of number → mine ≡ token
-    → IfOk r (λ bytes. bytes ≡ form (message.Query id true (AnnouncePeer own key port mine))) → IfOk r (λ bytes. bytes ≡ asking tx (AnnouncePeer own key (port_of number) token))
-datagram_is r id tx own key port number mine token e f g h =
-    let a = subst (λ (x : List ℕ). IfOk r (λ bytes. bytes ≡ form (message.Query x true (AnnouncePeer own key port mine)))) (e ∙ bytes_of_word tx) h in
-    let b = subst (λ (x : Port). IfOk r (λ bytes. bytes ≡ form (message.Query (word_bytes tx) true (AnnouncePeer own key x mine)))) f a in
-    subst (λ (x : List ℕ). IfOk r (λ bytes. bytes ≡ form (message.Query (word_bytes tx) true (AnnouncePeer own key (port_of number) x)))) g b
+pub datagram_is : {F : Type 0} (r : Result (List ℕ) F) (id : List ℕ) (tx : ℕ) (mine ask : Ask) → id ≡ to_le_bytes w32 tx → mine ≡ ask → IfOk r (λ bytes. bytes ≡ form (message.Query id true mine)) → IfOk r (λ bytes. bytes ≡ asking tx ask)
+datagram_is r id tx mine ask e f h =
+    let a = subst (λ (x : List ℕ). IfOk r (λ bytes. bytes ≡ form (message.Query x true mine))) (e ∙ bytes_of_word tx) h in
+    subst (λ (x : Ask). IfOk r (λ bytes. bytes ≡ form (message.Query (word_bytes tx) true x))) f a
+
+given_port : (port : ℕ) → IsGivenPort (port_of port)
+given_port zero = tt
+given_port (suc n) = λ e. absurd cc
+
+-- what may be said has a written form
+pub may_write : (said : Said) (token : List ℕ) (mine : Ask) → mine ≡ asks_of said token → MaySay said → IsWritableAsk mine
+may_write (Peer own key port) token mine e h = subst IsWritableAsk (sym e) (given_port port)
+may_write (Item own v) token mine e h = subst IsWritableAsk (sym e) (record { form = h; immutable = refl })
 
 abbrev pub number_sent : Bool → ℕ
 number_sent true = 1
 number_sent false = 0
 
 -- one was tried
-pub one_tried : (w v : WordsState) (own key : Id) (port : ℕ) (tokens : List Token) (c : Contact) (t : Token) (tx : ℕ) (sent : Bool) (n : ℕ) (a a' b : Option (List Event)) → v ≡ w → a' ≡ a → tx ≡ word v.seed v.place → first_from tokens c ≡ t ∷ [] → n ≡ number_sent sent
-    → Grows a' b (λ es. es ≡ tried sent t.contact.addr (asking tx (announcement own key port t).ask) ∷ [])
-    → Grows a b (Sends w.seed w.place (map (announcement own key port) (first_from tokens c)) n)
-one_tried w v own key port tokens c t tx sent n a a' b same_ from id first count g =
-    let moved = subst (λ (o : Option (List Event)). Grows o b (λ es. es ≡ tried sent t.contact.addr (asking tx (announcement own key port t).ask) ∷ [])) from g in
-    let under = subst (λ m. Grows a b (λ es. es ≡ tried sent t.contact.addr (asking m (announcement own key port t).ask) ∷ [])) (id ∙ ap (λ (x : WordsState). word x.seed x.place) same_) moved in
-    grows_weaker a b _ _ under (λ es e. subst (λ (l : List Token). Sends w.seed w.place (map (announcement own key port) l) n es) (sym first)
-    ((sent, [], e, refl), count ∙ sym (counted_one sent t.contact.addr (asking (word w.seed w.place) (announcement own key port t).ask) es e)))
+pub one_tried : (w v : WordsState) (asks : List ℕ → Ask) (tokens : List Token) (c : Contact) (t : Token) (tx : ℕ) (sent : Bool) (n : ℕ) (a a' b : Option (List Event)) → v ≡ w → a' ≡ a → tx ≡ word v.seed v.place → first_from tokens c ≡ t ∷ [] → n ≡ number_sent sent
+    → Grows a' b (λ es. es ≡ tried sent t.contact.addr (asking tx (announcement asks t).ask) ∷ [])
+    → Grows a b (Sends w.seed w.place (map (announcement asks) (first_from tokens c)) n)
+one_tried w v asks tokens c t tx sent n a a' b same_ from id first count g =
+    let moved = subst (λ (o : Option (List Event)). Grows o b (λ es. es ≡ tried sent t.contact.addr (asking tx (announcement asks t).ask) ∷ [])) from g in
+    let under = subst (λ m. Grows a b (λ es. es ≡ tried sent t.contact.addr (asking m (announcement asks t).ask) ∷ [])) (id ∙ ap (λ (x : WordsState). word x.seed x.place) same_) moved in
+    grows_weaker a b _ _ under (λ es e. subst (λ (l : List Token). Sends w.seed w.place (map (announcement asks) l) n es) (sym first)
+    ((sent, [], e, refl), count ∙ sym (counted_one sent t.contact.addr (asking (word w.seed w.place) (announcement asks t).ask) es e)))
   where
     counted_one : (b : Bool) (to : Addr) (bytes : List ℕ) (es : List Event) → es ≡ tried b to bytes ∷ [] → sent_in es ≡ number_sent b
     counted_one true to bytes es e = ap sent_in e
@@ -205,18 +213,18 @@ drawn_one w v u tokens c t same_ first drawn =
     drawn ∙ ap (λ (x : WordsState). record { seed = x.seed; place = x.place + 1 }) same_ ∙ ap (λ (l : List Token). record { seed = w.seed; place = w.place + length l }) (sym first)
 
 -- none was
-pub none_tried : (w : WordsState) (own key : Id) (port : ℕ) (tokens : List Token) (c : Contact) (a b : Option (List Event)) → b ≡ a → first_from tokens c ≡ []
-    → Grows a b (Sends w.seed w.place (map (announcement own key port) (first_from tokens c)) 0)
-none_tried w own key port tokens c a b same_ first =
-    subst (λ (o : Option (List Event)). Grows a o (Sends w.seed w.place (map (announcement own key port) (first_from tokens c)) 0)) (sym same_)
-    (grows_none a _ (subst (λ (l : List Token). Sends w.seed w.place (map (announcement own key port) l) 0 []) (sym first) (refl, refl)))
+pub none_tried : (w : WordsState) (asks : List ℕ → Ask) (tokens : List Token) (c : Contact) (a b : Option (List Event)) → b ≡ a → first_from tokens c ≡ []
+    → Grows a b (Sends w.seed w.place (map (announcement asks) (first_from tokens c)) 0)
+none_tried w asks tokens c a b same_ first =
+    subst (λ (o : Option (List Event)). Grows a o (Sends w.seed w.place (map (announcement asks) (first_from tokens c)) 0)) (sym same_)
+    (grows_none a _ (subst (λ (l : List Token). Sends w.seed w.place (map (announcement asks) l) 0 []) (sym first) (refl, refl)))
 
 -- ---- what is owed where a port was told
 
 pub owes_some : (port : Option ℕ) (n : ℕ) (own own' key : Id) (found found' : List Contact) (tokens tokens' : List Token) (P : List Announcement → Type 0) → port ≡ Some n → own' ≡ own → found' ≡ found → tokens' ≡ tokens
-    → P (announcements own' key n found' tokens') → P (owed port own key found tokens)
+    → P (announcements (announcing own' key n) found' tokens') → P (owed port own key found tokens)
 owes_some port n own own' key found found' tokens tokens' P e f g h p =
-    let a = subst (λ (x : Id). P (announcements x key n found' tokens')) f p in
-    let b = subst (λ (l : List Contact). P (announcements own key n l tokens')) g a in
-    let c = subst (λ (l : List Token). P (announcements own key n found l)) h b in
+    let a = subst (λ (x : Id). P (announcements (announcing x key n) found' tokens')) f p in
+    let b = subst (λ (l : List Contact). P (announcements (announcing own key n) l tokens')) g a in
+    let c = subst (λ (l : List Token). P (announcements (announcing own key n) found l)) h b in
     subst (λ (o : Option ℕ). P (owed o own key found tokens)) (sym e) c

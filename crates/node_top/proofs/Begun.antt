@@ -56,7 +56,7 @@ text_is s o text a b c d is =
     ∙ ap (λ n. printed (result_of s o.journal) (length (asked o.journal)) n o.counts.turned) c
     ∙ ap (λ n. printed (result_of s o.journal) (length (asked o.journal)) (length (failed o.journal)) n) d
 
-pub begun_of : (kind : AskKind) (look : LookWords) (called : Called) (source : Shown ℕ) (link : Shown Event) (start : Start look called.random source) (left : WordsState) → Unfinished (look_of kind look called.random) called.accepts start.table (drawn_of called.random) left link.before link.after
+pub begun_of : (kind : AskKind) (look : LookWords) (called : Called) (source : Shown ℕ) (link : Shown Event) (start : Start look called.random source) (left : WordsState) → Unfinished (look_of kind look called.random) called.accepts start.table (drawn_of called.random) left link.before link.after link.sends link.sends'
     → LookupBegun kind look called source link
 begun_of kind look called source link start left h = record {
   start = start;
@@ -122,10 +122,10 @@ few_from kind look called source link setting words table h few never = record {
 }
 
 pub begun_from : (kind : AskKind) (look : LookWords) (called : Called) (source : Shown ℕ) (link : Shown Event) (setting : LookSetting) (words left : WordsState) (table : TableState) → Has kind look called.random source setting words table
-    → Unfinished setting called.accepts table words left link.before link.after → LookupBegun kind look called source link
+    → Unfinished setting called.accepts table words left link.before link.after link.sends link.sends' → LookupBegun kind look called source link
 begun_from kind look called source link setting words left table h so_far =
     begun_of kind look called source link (start_of kind look called.random source setting words table h) left
-    (moved kind look called.random source setting words table (λ s w. Unfinished s called.accepts table w left link.before link.after) h so_far)
+    (moved kind look called.random source setting words table (λ s w. Unfinished s called.accepts table w left link.before link.after link.sends link.sends') h so_far)
 
 pub strays_from : (kind : AskKind) (look : LookWords) (called : Called) (source : Shown ℕ) (link : Shown Event) (setting : LookSetting) (words : WordsState) (table : TableState) → Has kind look called.random source setting words table
     → EndsByStrays setting called.accepts table words link.before link.after → EndsByLastStray kind look called source link
@@ -153,3 +153,7 @@ ok_then (Err e) P Q h k = tt
 pub err_then : {T F : Type 0} (r : Result T F) (P Q : F → Type 0) → IfErr r P → ((x : F) → P x → Q x) → IfErr r Q
 err_then (Ok x) P Q h k = tt
 err_then (Err e) P Q h k = k e h
+
+pub both_err : {T F : Type 0} (r : Result T F) (P Q : F → Type 0) → IfErr r P → IfErr r Q → IfErr r (λ x. P x × Q x)
+both_err (Ok x) P Q h k = tt
+both_err (Err e) P Q h k = (h, k)

@@ -1,5 +1,5 @@
 -- The ends of the top calls, whatever the command is. Nothing here names one.
-use Rattle.std.proofs.Common.{◌≡◌, ◌≢◌, ◌⊎◌, ℕ, List, Option, Result, Err, IfOk, IfErr, IsTrue, inl, inr, refl, sym, subst, arith}
+use Rattle.std.proofs.Common.{◌≡◌, ◌≢◌, ◌⊎◌, ℕ, List, Option, Result, Ok, Err, IfOk, IfErr, IsTrue, inl, inr, refl, sym, subst, arith}
 use Rattle.kad_base.specs.declared.types.Event.{Event}
 use Rattle.kad_base.specs.Outside.{Grows, Rose}
 use Rattle.kad_words.specs.Table.{Word}
@@ -7,13 +7,13 @@ use Rattle.kad_words.specs.Plain.{CommandOf}
 use Rattle.kad_words.specs.declared.command.Command.{Command}
 use Rattle.kad_words.proofs.OneCommand.{command_once}
 use Rattle.node_top.specs.declared.status.Status.{Status}
-use Rattle.node_top.specs.declared.status.Status.TheVariants.{Usage, BadLine, LinkFault, SourceFault, Strays, NoSeeds, NoMemory, Unminted, TooLong, Unsound}
+use Rattle.node_top.specs.declared.status.Status.TheVariants.{Usage, BadLine, LinkFault, SourceFault, Strays, NoSeeds, NoMemory, Unminted, TooLong, BadValue, Unsound}
 use Rattle.node_top.specs.Asked.{Asks}
 use Rattle.node_top.specs.Looked.{GivesNoSeeds}
 use Rattle.node_top.specs.Promise.{Sought}
 use Rattle.node_top.specs.Shown.{Shown, IsTold, HasFailed, nowhere}
 use Rattle.node_top.specs.Input.{ReadsTooMuch}
-use Rattle.node_top.specs.Commands.{EndsInStrays, promise_of, HasText, IsCaused, HasCause, HasBegun, HasStart, HasNoSeeds, HasStrays, HasBadLine, HasUnsound, HasNoLastStray, HasNothing, ReadsInput, GoesWell, IsDone}
+use Rattle.node_top.specs.Commands.{EndsInStrays, promise_of, HasText, IsCaused, HasCause, HasBegun, HasStart, HasNoSeeds, HasStrays, HasBadLine, HasBadValue, HasUnsound, HasNoLastStray, HasNothing, ReadsInput, GoesWell, IsDone}
 use Rattle.node_top.specs.Endings.{number_of, OrNoMemory, Names, CutShort, MayEnd, EndsByCommand}
 use Rattle.node_top.specs.Written.{IsFront}
 use Rattle.node_top.proofs.Exactly.{unread_few, few_not_much}
@@ -31,6 +31,10 @@ text_at r called source link a b e h = subst (λ (k : Command). IfOk r ((promise
 
 pub cause_at : {T : Type 0} (r : Result T Status) (called : Called) (source : Shown ℕ) (link : Shown Event) (a b : Command) → a ≡ b → IfErr r ((promise_of a).cause called source link) → IfErr r ((promise_of b).cause called source link)
 cause_at r called source link a b e h = subst (λ (k : Command). IfErr r ((promise_of k).cause called source link)) e h
+
+pub begun_at : {T : Type 0} (r : Result T Status) (X : Type 0) (called : Called) (source : Shown ℕ) (link : Shown Event) (a b : Command) → a ≡ b → IfErr r (λ status. status ≡ NoMemory → (promise_of a).begun called source link ⊎ X)
+    → IfErr r (λ status. status ≡ NoMemory → (promise_of b).begun called source link ⊎ X)
+begun_at r X called source link a b e h = subst (λ (k : Command). IfErr r (λ status. status ≡ NoMemory → (promise_of k).begun called source link ⊎ X)) e h
 
 -- ---- a command that has its output
 
@@ -66,7 +70,10 @@ module _ (words : List Word) (called : Called) (source : Shown ℕ) (link : Show
   not_much told much = not_signed TooLong told (record { command = h.command; asked = h.asked; sign = much })
 
   pub not_seedless : IsTold source → ¬ HasFailed source → HasNoSeeds words called source → ⊥
-  not_seedless told quiet n = not_signed NoSeeds (told, quiet) (record { command = n.command; asked = n.asked; sign = n.no_seeds })
+  not_seedless told quiet n = not_signed NoSeeds (told, quiet) (record { command = n.command; asked = n.asked; sign = (n.accepted, n.no_seeds) })
+
+  pub not_refused : HasBadValue words → ⊥
+  not_refused n = not_signed BadValue tt (record { command = n.command; asked = n.asked; sign = n.refused })
 
   pub not_strays : IsTold link → EndsInStrays words called link → ⊥
   not_strays told n = not_signed Strays told (record { command = n.command; asked = n.asked; sign = n.strays })
@@ -80,19 +87,30 @@ never_rose : Rose 0 0 → ⊥
 never_rose h = elim h [ inl more ↦ absurd (omega (arith, more)) | inr last ↦ absurd (omega (arith, last)) ]
 
 -- the cause of a command that takes no link is none of a link's
-pub linkless : (command : Command) → ¬ IsTrue (promise_of command).links → (called : Called) (source : Shown ℕ) (s : Status) → (promise_of command).cause called source nowhere s → (number_of s ≢ 4) × (number_of s ≢ 7) × (number_of s ≢ 8) × (number_of s ≢ 13)
+pub linkless : (command : Command) → ¬ IsTrue (promise_of command).links → (called : Called) (source : Shown ℕ) (s : Status) → (promise_of command).cause called source nowhere s → (number_of s ≢ 4) × (number_of s ≢ 7) × (number_of s ≢ 8) × (number_of s ≢ 12) × (number_of s ≢ 13)
 linkless command n called source LinkFault c = absurd (never_rose ((lawful command).means called source nowhere LinkFault c).0)
 linkless command n called source Strays c = absurd ((lawful command).counts n called source nowhere ((lawful command).means called source nowhere Strays c).0)
 linkless command n called source Unsound c = absurd ((lawful command).restores n source ((lawful command).means called source nowhere Unsound c))
+linkless command n called source BadValue c = absurd ((lawful command).refuses n ((lawful command).means called source nowhere BadValue c))
 linkless command n called source NoSeeds c =
     let none_ = (lawful command).means called source nowhere NoSeeds c in
-    absurd (subst (λ (o : Option Sought). GivesNoSeeds o called.random source) ((lawful command).seeks n) none_)
-linkless command n called source other c = ((λ e. absurd cc), (λ e. absurd cc), (λ e. absurd cc), (λ e. absurd cc))
+    absurd (subst (λ (o : Option Sought). GivesNoSeeds o called.random source) ((lawful command).seeks n) none_.1)
+linkless command n called source other c = ((λ e. absurd cc), (λ e. absurd cc), (λ e. absurd cc), (λ e. absurd cc), (λ e. absurd cc))
 
 -- no command's cause is that of words which ask for none
 pub unasked : (command : Command) (called : Called) (source : Shown ℕ) (link : Shown Event) (s : Status) → (promise_of command).cause called source link s → number_of s ≡ 2 → ⊥
 unasked command called source link Usage c e = (lawful command).means called source link Usage c
 unasked command called source link other c e = absurd cc
+
+-- where a command refuses no value, no cause of its is that
+pub unrefused : {T : Type 0} (r : Result T Status) (X : Type 0) (command : Command) → ¬ (promise_of command).refused → (called : Called) (source : Shown ℕ) (link : Shown Event) → IfErr r ((promise_of command).cause called source link)
+    → IfErr r (λ status. number_of status ≡ 12 → X)
+unrefused (Ok x) X command n called source link c = tt
+unrefused (Err s) X command n called source link c = by s c
+  where
+    by : (s : Status) → (promise_of command).cause called source link s → number_of s ≡ 12 → X
+    by BadValue h e = absurd (n ((lawful command).means called source link BadValue h))
+    by other h e = absurd cc
 
 -- words that gave no command
 pub refused : {T : Type 0} (asks : Type 0) (words : List Word) (called : Called) (source : Shown ℕ) (link : Shown Event) (r : Result T Status) (y x : Status) → r ≡ Err y → y ≡ x
@@ -147,7 +165,7 @@ module _ (asks : Type 0) (words : List Word) (called : Called) (source : Shown �
   strays other c e = absurd cc
 
   pub no_seeds : (s : Status) → HasCause asks words called source link s → number_of s ≡ 8 → HasNoSeeds words called source
-  no_seeds NoSeeds c e = record { command = c.command; asked = c.asked; no_seeds = means NoSeeds c }
+  no_seeds NoSeeds c e = let m = means NoSeeds c in record { command = c.command; asked = c.asked; accepted = m.0; no_seeds = m.1 }
   no_seeds other c e = absurd cc
 
   pub unminted : (s : Status) → HasCause asks words called source link s → number_of s ≡ 10 → HasNothing words called.random
@@ -157,6 +175,10 @@ module _ (asks : Type 0) (words : List Word) (called : Called) (source : Shown �
   pub too_long : (s : Status) → HasCause asks words called source link s → number_of s ≡ 11 → ReadsInput words × ReadsTooMuch source.before source.after
   too_long TooLong c e = let m = means TooLong c in (record { command = c.command; asked = c.asked; reads = m.0 }, m.1)
   too_long other c e = absurd cc
+
+  pub bad_value : (s : Status) → HasCause asks words called source link s → number_of s ≡ 12 → HasBadValue words
+  bad_value BadValue c e = record { command = c.command; asked = c.asked; refused = means BadValue c }
+  bad_value other c e = absurd cc
 
   pub unsound : (s : Status) → HasCause asks words called source link s → number_of s ≡ 13 → HasUnsound words source
   unsound Unsound c e = record { command = c.command; asked = c.asked; unsound = means Unsound c }
@@ -171,7 +193,7 @@ module _ (asks : Type 0) (words : List Word) (called : Called) (source : Shown �
       (lawful c.command).one_sign called source link s t j early c.cause sign
 
   pub no_seeds_come : (s : Status) → HasCause asks words called source link s → IsUncalled link s → ((command : Command) → CommandOf words command → asks) → IsTold source → ¬ HasFailed source → HasNoSeeds words called source → OrNoMemory (number_of s) 8
-  no_seeds_come s c early asking told quiet n = comes s NoSeeds c early (told, quiet) (record { command = n.command; asked = n.asked; sign = n.no_seeds }) (λ d. asking d.command d.asked)
+  no_seeds_come s c early asking told quiet n = comes s NoSeeds c early (told, quiet) (record { command = n.command; asked = n.asked; sign = (n.accepted, n.no_seeds) }) (λ d. asking d.command d.asked)
 
   pub strays_come : (s : Status) → HasCause asks words called source link s → IsUncalled link s → ((command : Command) → CommandOf words command → asks) → IsTold link → EndsInStrays words called link → OrNoMemory (number_of s) 7
   strays_come s c early asking told n = comes s Strays c early told (record { command = n.command; asked = n.asked; sign = n.strays }) (λ d. asking d.command d.asked)
@@ -184,6 +206,9 @@ module _ (asks : Type 0) (words : List Word) (called : Called) (source : Shown �
 
   pub unsound_comes : (s : Status) → HasCause asks words called source link s → IsUncalled link s → ((command : Command) → CommandOf words command → asks) → IsTold source → ¬ HasFailed source → HasUnsound words source → OrNoMemory (number_of s) 13
   unsound_comes s c early asking told quiet n = comes s Unsound c early (told, quiet) (record { command = n.command; asked = n.asked; sign = n.unsound }) (λ d. asking d.command d.asked)
+
+  pub bad_value_comes : (s : Status) → HasCause asks words called source link s → IsUncalled link s → ((command : Command) → CommandOf words command → asks) → HasBadValue words → OrNoMemory (number_of s) 12
+  bad_value_comes s c early asking n = comes s BadValue c early tt (record { command = n.command; asked = n.asked; sign = n.refused }) (λ d. asking d.command d.asked)
 
   pub too_long_comes : (s : Status) → HasCause asks words called source link s → IsUncalled link s → IsTold source → ReadsTooMuch source.before source.after → OrNoMemory (number_of s) 11
   too_long_comes Usage c early told much = absurd (few_not_much source.before source.after told (unread_few source.before source.after c.1) much)

@@ -11,6 +11,7 @@ pub mod Verdicts
 pub mod Exactly
 pub mod Lawful
 pub mod Staged
+pub mod Valued
 pub mod Looking
 pub mod Hosting
 pub mod Minting
@@ -18,6 +19,10 @@ pub mod Lawfully
 pub mod Causes
 pub mod Announcing
 pub mod Reaching
+pub mod Following
+pub mod Getting
+pub mod Storing
+pub mod Forming
 pub mod Peering
 pub mod Simulating
 pub mod Serving

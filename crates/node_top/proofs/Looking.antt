@@ -56,7 +56,7 @@ module _ (sought : Sought) (text : Called → Shown ℕ → Shown Event → List
       )
   behind called source link NoSeeds c = (
     reads_good (own_of sought.look.own called.random) sought.look.family sought.look.policy source [] c,
-    c,
+    ((λ refused. refused), c),
     λ told none_. inl refl,
     λ told early last. absurd (uncalled_not_last (Some sought) called link told (early (inr (inr (inr (inl refl))))) last),
     λ told unsound. absurd unsound,

@@ -1,6 +1,7 @@
 -- The values of the words are within the limits.
 use Rattle.std.proofs.Common.{ℕ, ◌≤◌, Option, Some, None, arith}
-use Rattle.kad_words.specs.Table.{Word, Entry, alpha_option, bits_option, k_option, nodes_option, paths_option, Values, IsLook, NumberOf}
+use Rattle.kad_base.specs.declared.types.Id.{Id}
+use Rattle.kad_words.specs.Table.{Word, alpha_option, bits_option, k_option, nodes_option, paths_option, Values, IsLookAt, NumberOf}
 use Rattle.kad_words.specs.Text.{SpellsNumber}
 use Rattle.kad_words.specs.declared.command.LookWords.{LookWords}
 use Rattle.kad_words.specs.Values.{IsGivenOr}
@@ -17,7 +18,7 @@ within least most default low high None n is = record { above = omega (arith, is
 within least most default low high (Some value) n is = record { above = is.above; below = is.below }
 
 -- the options of a lookup are, whatever names its target
-pub look_in_range : (target : Entry) (value : Values) (look : LookWords) → IsLook target value look → IsInRange look
+pub look_in_range : (target : Id) (value : Values) (look : LookWords) → IsLookAt target value look → IsInRange look
 look_in_range target value look h =
     let k = within 1 20 8 (omega arith) (omega arith) _ look.k h.k in
     let paths = within 1 8 4 (omega arith) (omega arith) _ look.paths h.paths in

@@ -19,6 +19,7 @@ use Rattle.lookup_run.specs.Rounds.{Rounds, concurrent}
 use Rattle.std.specs.List.Sorted.{IsStrictlySortedBy}
 use Rattle.lookup_run.specs.Gathered.{Gathers, addr_cmp}
 use Rattle.lookup_run.specs.Lookup.{given_of, Finished, TellsEarly}
+use Rattle.lookup_run.specs.SendFaults.{RefusedIn}
 use Rattle.kad_words.specs.declared.command.LookWords.{LookWords}
 use Rattle.node_top.specs.declared.run_lookup.Reached.{Reached}
 use Rattle.node_top.specs.Printed.{printed}
@@ -59,26 +60,26 @@ where_plain : {A : Type 0} (sealed : Bool) (a b : Option (List A)) (P Q : List A
 where_plain true a b P Q g h = grows_weaker a b Q (λ t. true ≡ false → P t) g (λ t q e. absurd (true≢false e))
 where_plain false a b P Q g h = grows_weaker a b P (λ t. false ≡ false → P t) (h refl) (λ t p e. p)
 
-all_told : (g : Given) (o : Outcome) (a b : Option (List Event)) → Grows a b (λ events. Tells g o.journal events) → Grows a b (λ events. Rounds concurrent g o.journal events) → Grows a b (λ events. Gathers g o.journal events o.peers o.tokens)
-    → Grows a b (λ events. HasFewStrays g o.journal events max_strays) → (g.quest.sealed ≡ false → Grows a b (NeverEnds g max_strays)) → Grows a b (TellsAll g o.journal o.peers o.tokens)
+all_told : (g : Given) (o : Outcome) (a b : Option (List Event)) → Grows a b (λ events. Tells g o.journal events) → Grows a b (λ events. Rounds concurrent g o.journal events) → Grows a b (λ events. Gathers g o.journal events o.peers o.tokens o.items)
+    → Grows a b (λ events. HasFewStrays g o.journal events max_strays) → (g.quest.sealed ≡ false → Grows a b (NeverEnds g max_strays)) → Grows a b (TellsAll g o.journal o.peers o.tokens o.items)
 all_told g o a b tells rounds gathers few never =
     let half = grows_both a b _ _ (λ events. Tells g o.journal events × Rounds concurrent g o.journal events) tells rounds (λ t p q. (p, q)) in
-    let rest = grows_both a b _ _ (λ events. Gathers g o.journal events o.peers o.tokens × HasFewStrays g o.journal events max_strays) gathers few (λ t p q. (p, q)) in
-    let All : List Event → Type 0 = (λ events. (Tells g o.journal events × Rounds concurrent g o.journal events) × (Gathers g o.journal events o.peers o.tokens × HasFewStrays g o.journal events max_strays)) in
+    let rest = grows_both a b _ _ (λ events. Gathers g o.journal events o.peers o.tokens o.items × HasFewStrays g o.journal events max_strays) gathers few (λ t p q. (p, q)) in
+    let All : List Event → Type 0 = (λ events. (Tells g o.journal events × Rounds concurrent g o.journal events) × (Gathers g o.journal events o.peers o.tokens o.items × HasFewStrays g o.journal events max_strays)) in
     let all = grows_both a b _ _ All half rest (λ t p q. (p, q)) in
-    grows_both a b All (λ events. g.quest.sealed ≡ false → NeverEnds g max_strays events) (TellsAll g o.journal o.peers o.tokens) all (where_plain g.quest.sealed a b (NeverEnds g max_strays) All all never)
+    grows_both a b All (λ events. g.quest.sealed ≡ false → NeverEnds g max_strays events) (TellsAll g o.journal o.peers o.tokens o.items) all (where_plain g.quest.sealed a b (NeverEnds g max_strays) All all never)
     (λ t p q. record { tells = p.0.0; rounds = p.0.1; gathers = p.1.0; few_strays = p.1.1; no_last_stray = q })
 
 pub reaches : (kind : AskKind) (look : LookWords) (called : Called) (source : Shown ℕ) (link : Shown Event) (setting : LookSetting) (words left : WordsState) (table : TableState) (o : Outcome) → Has kind look called.random source setting words table
     → Finished setting called.accepts table words left link.before link.after o → Grows link.before link.after (λ events. Rounds concurrent (given_of setting called.accepts words) o.journal events)
-    → Grows link.before link.after (λ events. Gathers (given_of setting called.accepts words) o.journal events o.peers o.tokens)
+    → Grows link.before link.after (λ events. Gathers (given_of setting called.accepts words) o.journal events o.peers o.tokens o.items)
     → Grows link.before link.after (λ events. HasFewStrays (given_of setting called.accepts words) o.journal events max_strays) → (setting.sealed ≡ false → Grows link.before link.after (NeverEnds (given_of setting called.accepts words) max_strays))
-    → IsStrictlySortedBy addr_cmp o.peers
+    → IsStrictlySortedBy addr_cmp o.peers → RefusedIn o.journal link.sends link.sends'
     → Reaches kind look called source link (record { own = setting.own; outcome = o; words = left })
-reaches kind look called source link setting words left table o h up rounds gathers few never sorted =
+reaches kind look called source link setting words left table o h up rounds gathers few never sorted refused =
     let up' : Finished (look_of kind look called.random) called.accepts table (drawn_of called.random) left link.before link.after o = moved kind look called.random source setting words table (λ s w. Finished s called.accepts table w left link.before link.after o) h up in
     let rounds' = moved kind look called.random source setting words table (λ s w. Grows link.before link.after (λ events. Rounds concurrent (given_of s called.accepts w) o.journal events)) h rounds in
-    let gathers' = moved kind look called.random source setting words table (λ s w. Grows link.before link.after (λ events. Gathers (given_of s called.accepts w) o.journal events o.peers o.tokens)) h gathers in
+    let gathers' = moved kind look called.random source setting words table (λ s w. Grows link.before link.after (λ events. Gathers (given_of s called.accepts w) o.journal events o.peers o.tokens o.items)) h gathers in
     let few' = moved kind look called.random source setting words table (λ s w. Grows link.before link.after (λ events. HasFewStrays (given_of s called.accepts w) o.journal events max_strays)) h few in
     let never' = moved kind look called.random source setting words table (λ s w. s.sealed ≡ false → Grows link.before link.after (NeverEnds (given_of s called.accepts w) max_strays)) h never in
     record {
@@ -89,6 +90,7 @@ reaches kind look called source link setting words left table o h up rounds gath
       counted = up'.counted;
       drawn = up'.drawn;
       in_order = sorted;
+      refused = refused;
     }
 
 -- ---- and what follows
@@ -102,6 +104,7 @@ begun_reached kind look called source link r h =
       seeds_are = h.ran.seeds_are;
       tells = grows_weaker link.before link.after _ (λ events. TellsEarly (lookup_of kind look called) r.outcome.journal events) h.tells (λ events t. tells_early (lookup_of kind look called) r.outcome.journal events t.tells);
       drawn = h.drawn;
+      refused = h.refused;
     })
 
 -- where a lookup isn't sealed, of what it told
@@ -118,5 +121,6 @@ looks_reached kind look called source link r text h is =
       rounds = grows_weaker link.before link.after _ _ h.tells (λ events t. t.rounds);
       few_strays = grows_weaker link.before link.after _ _ h.tells (λ events t. t.few_strays);
       no_last_stray = never_reached kind look called source link r h;
+      refused = h.refused;
       text_is = text_is (book_of kind look called.random) r.outcome text h.found h.counted.asked h.counted.failed h.counted.turned is;
     }

@@ -46,7 +46,7 @@ module _ (aim : Aim) (law : LawfulAim aim) (called : Called) (source : Shown ℕ
 
   no_sign : (text : List ℕ) (t : Status) → IsJudged source link t → aim.text called source link text → Sign (reading aim) called source link t → ⊥
   no_sign text (BadLine line) j x d = not_bad line j.0 (law.good called source link text x) d
-  no_sign text NoSeeds j x d = law.seeded called source link text j.0 x d
+  no_sign text NoSeeds j x d = law.seeded called source link text j.0 x d.1
   no_sign text Strays j x d = law.few called source link text j x d
   no_sign text TooLong j x d = few_not_much source.before source.after j (good_few aim.good source (law.good called source link text x)) d
   no_sign text Unsound j x d = law.sound called source link text j.0 x d
@@ -89,7 +89,7 @@ module _ (aim : Aim) (law : LawfulAim aim) (called : Called) (source : Shown ℕ
 
   one_sign : (s t : Status) → IsJudged source link t → IsUncalled link s → ReadingCause aim.bad (aim.cause called source link) source s → Sign (reading aim) called source link t → OrNoMemory (number_of s) (number_of t)
   one_sign s (BadLine line) j early c d = with_bad line s j c d
-  one_sign s NoSeeds j early c d = with_none s j c d
+  one_sign s NoSeeds j early c d = with_none s j c d.1
   one_sign s Strays j early c d = with_strays s j early c d
   one_sign s TooLong j early c d = with_much s j c d
   one_sign s Unsound j early c d = with_unsound s j c d
@@ -126,6 +126,7 @@ reading_lawful aim law = record {
   seeks = law.seeks;
   counts = law.counts;
   restores = law.restores;
+  refuses = λ none_ refused. refused;
   no_link = λ random nothing links. nothing;
 }
 
@@ -135,6 +136,7 @@ module _ (ends : List ℕ) (ranges : Type 0) (text : List ℕ → List ℕ → T
     (apart : (random written : List ℕ) → text random written → nothing random → ⊥) (ended : (random : List ℕ) → nothing random → IsOneOf ends 10) (called : Called) (source : Shown ℕ) (link : Shown Event) where
   unread_sign : (written : List ℕ) (t : Status) → IsJudged source link t → text called.random written × (source.after ≡ source.before) → Sign (unread ends ranges text nothing) called source link t → ⊥
   unread_sign written (BadLine line) j x d = unread_not_bad source line j.0 x.1 d
+  unread_sign written NoSeeds j x d = d.1
   unread_sign written Unminted j x d = apart called.random written x.0 d
   unread_sign written TooLong j x d = few_not_much source.before source.after j (unread_few source.before source.after x.1) d
   unread_sign written other j x d = d
@@ -143,6 +145,7 @@ module _ (ends : List ℕ) (ranges : Type 0) (text : List ℕ → List ℕ → T
   unread_one NoMemory t j c d = inr refl
   unread_one Unminted (BadLine line) j c d = absurd (unread_not_bad source line j.0 c.1 d)
   unread_one Unminted Unminted j c d = inl refl
+  unread_one Unminted NoSeeds j c d = absurd d.1
   unread_one Unminted TooLong j c d = absurd (few_not_much source.before source.after j (unread_few source.before source.after c.1) d)
   unread_one Unminted t j c d = absurd d
   unread_one s t j c d = absurd c
@@ -173,6 +176,7 @@ unread_lawful ends ranges text nothing apart ended = record {
   seeks = λ none_. refl;
   counts = λ none_ called source link last. last;
   restores = λ none_ source unsound. unsound;
+  refuses = λ none_ refused. refused;
   no_link = λ random found links. true≢false (sym links);
 }
 

@@ -136,10 +136,10 @@ whole before events P began a =
 few_asked : (look : LookSetting) (J : List Entry) (n : ℕ) → IsWithinLimits look → n ≤ length (asked J) → length (asked J) ≤ max_path_contacts * look.paths → n < max_strays
 few_asked look J n limits le most = (let paths = limits.few_paths in omega (arith, le, most, paths))
 
-pub no_strays : (look : LookSetting) (accepts : Accepts) (table : TableState) (words words' : WordsState) (net : Network) (before after : Option (List Event)) → IsWithinLimits look → before ≡ Some [] → (after ≡ None → ⊥)
-    → IfSome after (Plays net) → Unfinished look accepts table words words' before after → EndsByStrays look accepts table words before after → ⊥
-no_strays look accepts table words words' net before None limits began goes_on plays left ends = absurd (goes_on refl)
-no_strays look accepts table words words' net before (Some events) limits began goes_on plays left ends =
+pub no_strays : (look : LookSetting) (accepts : Accepts) (table : TableState) (words words' : WordsState) (net : Network) (before after : Option (List Event)) (sends sends' : ℕ) → IsWithinLimits look → before ≡ Some [] → (after ≡ None → ⊥)
+    → IfSome after (Plays net) → Unfinished look accepts table words words' before after sends sends' → EndsByStrays look accepts table words before after → ⊥
+no_strays look accepts table words words' net before None sends sends' limits began goes_on plays left ends = absurd (goes_on refl)
+no_strays look accepts table words words' net before (Some events) sends sends' limits began goes_on plays left ends =
     let asks = early (given_of look accepts words) left.journal events (whole before events _ began left.tells) in
     let strays = last (given_of look accepts words) ends.journal events max_strays (whole before events _ began ends.tells) in
     let come = few_come net events plays in

@@ -1,6 +1,6 @@
--- Announcements: whoever gave a token is told that this node is a peer of the key (BEP 5, `announce_peer`), by messages
--- that say that their sender answers no queries (BEP 43).
-use Rattle.std.specs.Prelude.{◌≡◌, ℕ, zero, suc, ◌+◌, List, [], ◌∷◌, take, map, filter, Option, Some, None, Bool, true}
+-- Announcements: whoever gave a token is told that this node is a peer of the key (BEP 5, `announce_peer`), or is given an
+-- item to keep (BEP 44, `put`), by messages that say that their sender answers no queries (BEP 43).
+use Rattle.std.specs.Prelude.{◌≡◌, ℕ, zero, suc, ◌+◌, List, [], ◌∷◌, take, map, filter, Option, Some, None, Bool, true, false}
 use Rattle.std.specs.List.{flat_map}
 use Rattle.kad_base.specs.declared.types.Id.{Id}
 use Rattle.kad_base.specs.declared.types.Addr.{Addr}
@@ -9,12 +9,15 @@ use Rattle.kad_base.specs.declared.types.Event.{Event}
 use Rattle.kad_base.specs.Contacts.{same}
 use Rattle.kad_base.specs.Words.{word, word_bytes}
 use Rattle.kad_krpc.specs.declared.message.Ask.{Ask}
-use Rattle.kad_krpc.specs.declared.message.Ask.TheVariants.{AnnouncePeer}
+use Rattle.kad_krpc.specs.declared.message.Ask.TheVariants.{AnnouncePeer, Put}
 use Rattle.kad_krpc.specs.declared.message.Message.TheVariants as message
 use Rattle.kad_krpc.specs.declared.message.Port.{Port}
 use Rattle.kad_krpc.specs.declared.message.Port.TheVariants.{Given, Implied}
+use Rattle.kad_krpc.specs.Fields.{IsCarried}
 use Rattle.kad_krpc.specs.Form.{form}
 use Rattle.lookup_run.specs.declared.types.Token.{Token}
+use Rattle.node_top.specs.declared.announce.Said.{Said}
+use Rattle.node_top.specs.declared.announce.Said.TheVariants.{Item, Peer}
 -- the event of a send, and how many of the events are sends that the link took
 pub use Rattle.node_serve.specs.Receives.{is_sent, sent_in, tried}
 
@@ -28,9 +31,27 @@ pub record Announcement : Type 0 where
   pub to : Addr
   pub ask : Ask
 
--- to the contact of the token: the sender is a peer of the key, at the port
-abbrev pub announcement : Id → Id → ℕ → Token → Announcement
-announcement own key port t = record { to = t.contact.addr; ask = AnnouncePeer own key (port_of port) t.token }
+-- what is asked with a token: that the sender be known as a peer of the key, at the port
+abbrev pub announcing : Id → Id → ℕ → List ℕ → Ask
+announcing own key port token = AnnouncePeer own key (port_of port) token
+
+-- or that an immutable item be kept, by the written form of its value
+abbrev pub putting : Id → List ℕ → List ℕ → Ask
+putting own v token = Put own token v false
+
+-- the same, as the code has it
+abbrev pub asks_of : Said → List ℕ → Ask
+asks_of (Peer own key port) = announcing own key port
+asks_of (Item own v) = putting own v.now
+
+-- what is given to be kept may stand in a message
+abbrev pub MaySay : Said → Type 0
+MaySay (Peer own key port) = Unit {0}
+MaySay (Item own v) = IsCarried v.now
+
+-- to the contact of the token, with its token
+abbrev pub announcement : (List ℕ → Ask) → Token → Announcement
+announcement asks t = record { to = t.contact.addr; ask = asks t.token }
 
 -- the first of the tokens that the contact gave; none where it gave none
 abbrev pub first_from : List Token → Contact → List Token
@@ -40,13 +61,13 @@ first_from tokens c = take 1 (filter (λ t. same t.contact c) tokens)
 abbrev pub tokens_for : List Contact → List Token → List Token
 tokens_for found tokens = flat_map (first_from tokens) found
 
-abbrev pub announcements : Id → Id → ℕ → List Contact → List Token → List Announcement
-announcements own key port found tokens = map (announcement own key port) (tokens_for found tokens)
+abbrev pub announcements : (List ℕ → Ask) → List Contact → List Token → List Announcement
+announcements asks found tokens = map (announcement asks) (tokens_for found tokens)
 
 -- what is owed to those that were found: nothing where no port was told
 abbrev pub owed : Option ℕ → Id → Id → List Contact → List Token → List Announcement
 owed None own key found tokens = []
-owed (Some port) own key found tokens = announcements own key port found tokens
+owed (Some port) own key found tokens = announcements (announcing own key port) found tokens
 
 -- the read-only query under this transaction id
 abbrev pub asking : ℕ → Ask → List ℕ

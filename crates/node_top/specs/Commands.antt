@@ -1,11 +1,13 @@
 -- What the top calls promise, by the command that the words ask for. A command more is a module, and a line in
 -- `promise_of`.
 pub mod Checked
+pub mod Got
 pub mod Minted
 pub mod Peered
 pub mod Refreshing
 pub mod Served
 pub mod Simulated
+pub mod Stored
 pub mod Tabled
 use Rattle.std.specs.Prelude.{◌≡◌, ℕ, List, Option, Bool, IsTrue}
 use Rattle.kad_base.specs.declared.types.Id.{Id}
@@ -15,13 +17,14 @@ use Rattle.kad_base.specs.Outside.{Grows}
 use Rattle.kad_words.specs.Table.{Word}
 use Rattle.kad_words.specs.Plain.{CommandOf}
 use Rattle.kad_words.specs.declared.command.Command.{Command}
-use Rattle.kad_words.specs.declared.command.Command.TheVariants.{Lookup, Peers, Serve, Table, Refresh, Check, Mint, Sim}
+use Rattle.kad_words.specs.declared.command.Command.TheVariants.{Lookup, Peers, Get, Put, Serve, Table, Refresh, Check, Mint, Sim}
 use Rattle.node_top.specs.declared.commands.serve.Service.{Service}
 use Rattle.node_top.specs.declared.commands.sim.Simulation.{Simulation}
 use Rattle.node_top.specs.declared.status.Status.{Status}
 use Rattle.node_top.specs.declared.status.Status.TheVariants.{Usage, NoMemory}
 use Rattle.node_top.specs.Asked.{AsksPlain}
 use Rattle.node_top.specs.Commands.Checked.{check_promise}
+use Rattle.node_top.specs.Commands.Got.{get_promise}
 use Rattle.node_top.specs.Commands.Served.{serve_promise}
 use Rattle.node_top.specs.Looked.{lookup_promise, GivesNoSeeds, ShowsLastStray}
 use Rattle.node_top.specs.Commands.Minted.{seed_of, mint_promise}
@@ -32,6 +35,7 @@ use Rattle.node_top.specs.Promise.{Promise}
 use Rattle.node_top.specs.Shown.{Shown, HasFailed, nowhere}
 use Rattle.node_top.specs.Called.{Called}
 use Rattle.node_top.specs.Commands.Simulated.{sim_promise}
+use Rattle.node_top.specs.Commands.Stored.{put_promise}
 use Rattle.node_top.specs.Commands.Tabled.{table_promise}
 
 -- what the words of `serve` say
@@ -53,6 +57,8 @@ simulation_of seed nodes hostile k paths alpha timeout random = record {
 abbrev pub promise_of : Command → Promise
 promise_of (Lookup look) = lookup_promise look
 promise_of (Peers look announce) = peers_promise look announce
+promise_of (Get look) = get_promise look
+promise_of (Put look item) = put_promise look item
 promise_of (Serve own k bits policy receives sealed) = serve_promise (service_of own k bits policy receives sealed)
 promise_of (Table own k bits policy) = table_promise own k bits policy
 promise_of (Refresh timeout sealed) = refresh_promise timeout sealed
@@ -110,11 +116,12 @@ pub record HasUnsound (words : List Word) (source : Shown ℕ) : Type 0 where
   pub asked : CommandOf words command
   pub unsound : (promise_of command).unsound source
 
--- the words ask for a lookup; the input was read to its end, its lines are good, and none gives a contact that is
--- usable and passes
+-- the words ask for a lookup, and have no value that it refuses; the input was read to its end, its lines are good, and none
+-- gives a contact that is usable and passes
 pub record HasNoSeeds (words : List Word) (called : Called) (source : Shown ℕ) : Type 0 where
   pub command : Command
   pub asked : CommandOf words command
+  pub accepted : ¬ (promise_of command).refused
   pub no_seeds : GivesNoSeeds (promise_of command).sought called.random source
 
 -- the words ask for a command that counts strays, and the link's events end with the last that it takes: a lookup's by a
@@ -135,6 +142,12 @@ pub record EndsInStrays (words : List Word) (called : Called) (link : Shown Even
   pub command : Command
   pub asked : CommandOf words command
   pub strays : ShowsLastStray (promise_of command).sought called link
+
+-- the words ask for a command, and have a value that it refuses
+pub record HasBadValue (words : List Word) : Type 0 where
+  pub command : Command
+  pub asked : CommandOf words command
+  pub refused : (promise_of command).refused
 
 -- the words ask for a search, which finds nothing
 pub record HasNothing (words : List Word) (random : List ℕ) : Type 0 where

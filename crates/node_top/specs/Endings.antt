@@ -3,7 +3,7 @@ use Rattle.std.specs.Prelude.{◌≡◌, ◌⊎◌, ℕ, List, ◌++◌, ◌∷�
 use Rattle.kad_base.specs.declared.types.Event.{Event}
 use Rattle.kad_base.specs.Outside.{Grows}
 use Rattle.node_top.specs.declared.status.Status.{Status}
-use Rattle.node_top.specs.declared.status.Status.TheVariants.{Usage, BadLine, LinkFault, SourceFault, Strays, NoSeeds, NoMemory, Unminted, TooLong, Unsound}
+use Rattle.node_top.specs.declared.status.Status.TheVariants.{Usage, BadLine, LinkFault, SourceFault, Strays, NoSeeds, NoMemory, Unminted, TooLong, BadValue, Unsound}
 use Rattle.kad_words.specs.Table.{Word}
 use Rattle.kad_words.specs.Plain.{CommandOf}
 use Rattle.kad_words.specs.declared.command.Command.{Command}
@@ -24,6 +24,7 @@ number_of NoSeeds = 8
 number_of NoMemory = 9
 number_of Unminted = 10
 number_of TooLong = 11
+number_of BadValue = 12
 number_of Unsound = 13
 
 -- no number is greater
@@ -41,6 +42,7 @@ status_line NoSeeds = codes "no seeds\n"
 status_line NoMemory = codes "no memory\n"
 status_line Unminted = codes "unminted\n"
 status_line TooLong = codes "too long\n"
+status_line BadValue = codes "bad value\n"
 status_line Unsound = codes "unsound\n"
 
 -- the text was written, or a front of it where the sink's faults rose
@@ -77,7 +79,7 @@ EndsByCommand words status = (command : Command) → CommandOf words command →
 
 -- the statuses that end a command before it calls the link
 abbrev pub EndsUnasked : ℕ → Type 0
-EndsUnasked status = (status ≡ 2) ⊎ (status ≡ 3) ⊎ (status ≡ 6) ⊎ (status ≡ 8) ⊎ (status ≡ 10) ⊎ (status ≡ 11) ⊎ (status ≡ 13)
+EndsUnasked status = (status ≡ 2) ⊎ (status ≡ 3) ⊎ (status ≡ 6) ⊎ (status ≡ 8) ⊎ (status ≡ 10) ⊎ (status ≡ 11) ⊎ (status ≡ 12) ⊎ (status ≡ 13)
 
 -- this status, or that of no memory
 abbrev pub OrNoMemory : ℕ → ℕ → Type 0

@@ -9,6 +9,8 @@ pub mod Started
 pub mod Looked
 pub mod Commands
 pub mod Written
+pub mod Forms
 pub mod Endings
 pub mod Reached
 pub mod Announced
+pub mod Followed

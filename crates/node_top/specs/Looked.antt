@@ -20,6 +20,7 @@ use Rattle.lookup_core.specs.declared.quest.AskKind.TheVariants.{FindNode}
 use Rattle.lookup_run.specs.Tells.{Tells, EndsAtStray, HasFewStrays, NeverEnds}
 use Rattle.lookup_run.specs.Rounds.{Rounds, concurrent}
 use Rattle.lookup_run.specs.Lookup.{Unfinished, EndsByStrays, MeetsFewStrays}
+use Rattle.lookup_run.specs.SendFaults.{RefusedIn}
 use Rattle.kad_words.specs.declared.command.LookWords.{LookWords}
 use Rattle.node_top.specs.declared.status.Status.{Status}
 use Rattle.node_top.specs.declared.status.Status.TheVariants.{LinkFault, Strays, NoSeeds}
@@ -52,14 +53,17 @@ pub record LookupText (kind : AskKind) (look : LookWords) (called : Called) (sou
   pub rounds : Grows link.before link.after (λ events. Rounds concurrent (lookup_of kind look called) journal events)
   pub few_strays : Grows link.before link.after (λ events. HasFewStrays (lookup_of kind look called) journal events max_strays)
   pub no_last_stray : NeverInStrays kind look called link
+  -- over a link that tells nothing too
+  pub refused : RefusedIn journal link.sends link.sends'
   pub text_is : text ≡ printed_of (book_of kind look called.random) journal
 
 -- A lookup that ended early: there is a legal journal that begins with the same contacts, which the events tell so far. So
--- no contact was asked twice either, and what a path asked came from its own seeds and answers.
+-- no contact was asked twice either, what a path asked came from its own seeds and answers, and who was lost to a refused
+-- send, the link counted.
 pub record LookupBegun (kind : AskKind) (look : LookWords) (called : Called) (source : Shown ℕ) (link : Shown Event) : Type 0 where
   pub start : Start look called.random source
   pub left : WordsState
-  pub so_far : Unfinished (look_of kind look called.random) called.accepts start.table (drawn_of called.random) left link.before link.after
+  pub so_far : Unfinished (look_of kind look called.random) called.accepts start.table (drawn_of called.random) left link.before link.after link.sends link.sends'
   pub asked_once : IsDistinct same (asked so_far.journal)
   pub own_answers : GoesByOwnAnswers (book_of kind look called.random) so_far.journal
 

@@ -5,7 +5,7 @@ use Rattle.kad_base.specs.declared.types.Event.{Event}
 use Rattle.lookup_core.specs.declared.quest.AskKind.{AskKind}
 use Rattle.kad_words.specs.declared.command.LookWords.{LookWords}
 use Rattle.node_top.specs.declared.status.Status.{Status}
-use Rattle.node_top.specs.declared.status.Status.TheVariants.{BadLine, LinkFault, SourceFault, NoMemory, Unminted, TooLong}
+use Rattle.node_top.specs.declared.status.Status.TheVariants.{BadLine, LinkFault, SourceFault, NoMemory, Unminted, TooLong, BadValue}
 use Rattle.node_top.specs.Input.{ReadsFew, ReadsTooMuch, ReadsWell, IsBadLine, IsGood, AreGoodLines, IsBadContactLine}
 use Rattle.node_top.specs.Shown.{Shown, IsTold, HasFailed}
 use Rattle.node_top.specs.Called.{Called}
@@ -40,6 +40,8 @@ pub record Promise : Type 1 where
   pub begun : Called → Shown ℕ → Shown Event → Type 0
   -- what it searches for isn't there to be found
   pub nothing : List ℕ → Type 0
+  -- its words have a value that it refuses before it reads anything
+  pub refused : Type 0
   -- why it has no text
   pub cause : Called → Shown ℕ → Shown Event → Status → Type 0
   -- what it needs to have one
@@ -101,6 +103,7 @@ reading aim = record {
   started = aim.started;
   begun = aim.begun;
   nothing = λ random. ⊥;
+  refused = ⊥;
   cause = λ called source link status. ReadingCause aim.bad (aim.cause called source link) source status;
   needs = aim.needs;
 }
@@ -155,6 +158,35 @@ host_aim ranges text begun = record {
   needs = λ called source link. HostsWell source link;
 }
 
+-- ---- a command that is given a value, and first of all looks whether it is good
+
+-- why it has no text: the value isn't good, and nothing was read; or it is, and what it does then has none
+abbrev pub ValueCause : Type 0 → (Status → Type 0) → Shown ℕ → Status → Type 0
+ValueCause good behind source BadValue = (¬ good) × (source.after ≡ source.before)
+ValueCause good behind source NoMemory = Unit {0}
+ValueCause good behind source other = good × behind other
+
+-- what it promises, by whether its value is good and by what it does then
+abbrev pub valued : Type 0 → Aim → Promise
+valued good aim = record {
+  reads = true;
+  links = aim.links;
+  bad = aim.bad;
+  unsound = aim.unsound;
+  sought = aim.sought;
+  strays = aim.strays;
+  few = aim.few;
+  ends = 12 ∷ 3 ∷ 6 ∷ 11 ∷ aim.ends;
+  ranges = aim.ranges;
+  text = λ called source link written. good × aim.text called source link written;
+  started = aim.started;
+  begun = aim.begun;
+  nothing = λ random. ⊥;
+  refused = ¬ good;
+  cause = λ called source link status. ValueCause good (λ s. ReadingCause aim.bad (aim.cause called source link) source s) source status;
+  needs = λ called source link. good × aim.needs called source link;
+}
+
 -- ---- a command that reads nothing and takes no link
 
 -- why it has no text: there is nothing to be found, or no memory
@@ -179,6 +211,7 @@ unread ends ranges text nothing = record {
   started = λ called source. ⊥;
   begun = λ called source link. ⊥;
   nothing = nothing;
+  refused = ⊥;
   cause = λ called source link status. UnreadCause (nothing called.random) source status;
   needs = λ called source link. ¬ nothing called.random;
 }

@@ -9,10 +9,17 @@ pub record Shown (A : Type 0) : Type 0 where
   pub after : Option (List A)
   pub faults : ℕ
   pub faults' : ℕ
+  -- of a link: how often it refused to send
+  pub sends : ℕ
+  pub sends' : ℕ
 
 -- by what is told of each, and how its failures are counted
 abbrev pub shown : {X A : Type 0} → (X → Option (List A)) → (X → ℕ) → X → X → Shown A
-shown told faults old new = record { before = told old; after = told new; faults = faults old; faults' = faults new }
+shown told faults old new = record { before = told old; after = told new; faults = faults old; faults' = faults new; sends = 0; sends' = 0 }
+
+-- the same of a link, whose refused sends are counted apart
+abbrev pub shown_link : {X A : Type 0} → (X → Option (List A)) → (X → ℕ) → (X → ℕ) → X → X → Shown A
+shown_link told faults sends old new = record { before = told old; after = told new; faults = faults old; faults' = faults new; sends = sends old; sends' = sends new }
 
 -- it still tells what it holds
 abbrev pub IsTold : {A : Type 0} → Shown A → Type 0
@@ -24,4 +31,4 @@ HasFailed s = Rose s.faults s.faults'
 
 -- a link that tells nothing: that of a call which has none
 abbrev pub nowhere : Shown Event
-nowhere = record { before = None; after = None; faults = 0; faults' = 0 }
+nowhere = record { before = None; after = None; faults = 0; faults' = 0; sends = 0; sends' = 0 }

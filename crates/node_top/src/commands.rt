@@ -8,12 +8,14 @@ ghost use Rattle.node_top.specs.Asked.{Asks, AsksPlain, bytes_of};
 ghost use Rattle.node_top.specs.Commands.{promise_of, HasBegun, HasCause, HasText, ReadsInput};
 ghost use Rattle.node_top.specs.Endings.{EndsUnasked, number_of};
 ghost use Rattle.node_top.specs.Input.{ReadsAtMost};
-ghost use Rattle.node_top.specs.Shown.{Shown, shown, nowhere};
+ghost use Rattle.node_top.specs.Shown.{Shown, shown, shown_link, nowhere};
 
 pub(crate) mod check;
+pub(crate) mod get;
 pub(crate) mod lookup;
 pub(crate) mod mint;
 pub(crate) mod peers;
+pub(crate) mod put;
 pub(crate) mod refresh;
 pub(crate) mod serve;
 pub(crate) mod sim;
@@ -33,35 +35,40 @@ use std::thread::Threads;
 fn output_of<R: Threads + Wait + Sync, S: Source, L: Link, C: Check + Sync, G: Seal + SealCheck>(
     rt: &R,
     alloc: Global,
-    command: Command,
+    command: &Command,
     source: &mut S,
     link: &mut L,
     call: &Call<'_, C, G>,
 ) -> Result<Bytes, Status>
-    requires ranges { (promise_of command).ranges }
-    ensures ok { IfOk result ((promise_of command).text (called_with call.now.random (G.accepted call.now.seal.now)
+    requires ranges { (promise_of command.now).ranges }
+    ensures ok { IfOk result ((promise_of command.now).text (called_with call.now.random (G.accepted call.now.seal.now)
         (G.tag_of call.now.seal.now))
         (shown S.left S.faults source.old source.new)
-        (shown L.told L.recv_faults link.old link.new)) }
-    ensures cause { IfErr result ((promise_of command).cause (called_with call.now.random (G.accepted call.now.seal.now)
+        (shown_link L.told L.recv_faults L.send_faults link.old link.new)) }
+    ensures cause { IfErr result ((promise_of command.now).cause (called_with call.now.random (G.accepted call.now.seal.now)
         (G.tag_of call.now.seal.now))
         (shown S.left S.faults source.old source.new)
-        (shown L.told L.recv_faults link.old link.new)) }
+        (shown_link L.told L.recv_faults L.send_faults link.old link.new)) }
+    ensures unread { IfErr result (λ status. number_of status ≡ 12 → source.new ≡ source.old) }
     ensures early { IfErr result (λ status. EndsUnasked (number_of status) → link.new ≡ link.old) }
     ensures kept { L.kept link.new ≡ L.kept link.old }
     ensures at_most { ReadsAtMost (S.left source.old) (S.left source.new) }
     ensures no_memory { IfErr result (λ status. status ≡ Status.NoMemory →
-        (promise_of command).begun (called_with call.now.random (G.accepted call.now.seal.now)
+        (promise_of command.now).begun (called_with call.now.random (G.accepted call.now.seal.now)
         (G.tag_of call.now.seal.now))
         (shown S.left S.faults source.old source.new)
-        (shown L.told L.recv_faults link.old link.new) ⊎ (link.new ≡ link.old)) }
-    ensures no_input { ¬ IsTrue (promise_of command).reads → source.new ≡ source.old }
-    ensures no_link { ¬ IsTrue (promise_of command).links → link.new ≡ link.old }
+        (shown_link L.told L.recv_faults L.send_faults link.old link.new) ⊎ (link.new ≡ link.old)) }
+    ensures no_input { ¬ IsTrue (promise_of command.now).reads → source.new ≡ source.old }
+    ensures no_link { ¬ IsTrue (promise_of command.now).links → link.new ≡ link.old }
 {
-    match command {
+    match *command {
         Command::Lookup { look } => lookup::lookup(rt, alloc, &look, source, link, call),
         Command::Peers { look, announce } => {
             peers::peers(rt, alloc, &look, announce, source, link, call)
+        }
+        Command::Get { look } => get::get(rt, alloc, &look, source, link, call),
+        Command::Put { look, ref value } => {
+            put::put(rt, alloc, &look, value.as_slice(), source, link, call)
         }
         Command::Serve {
             own,
@@ -84,29 +91,29 @@ fn output_of<R: Threads + Wait + Sync, S: Source, L: Link, C: Check + Sync, G: S
         Command::Refresh { timeout, sealed } => {
             refresh::refresh(alloc, timeout, sealed, source, link, call)
         }
-        other => plain_output_of(alloc, other, source, call),
+        _ => plain_output_of(alloc, command, source, call),
     }
 }
 
 /// Does a command that takes no link, and makes its output. Nothing is written yet.
 fn plain_output_of<S: Source, C: Check, G: Seal + SealCheck>(
     alloc: Global,
-    command: Command,
+    command: &Command,
     source: &mut S,
     call: &Call<'_, C, G>,
 ) -> Result<Bytes, Status>
-    requires plain { ¬ IsTrue (promise_of command).links }
-    requires ranges { (promise_of command).ranges }
+    requires plain { ¬ IsTrue (promise_of command.now).links }
+    requires ranges { (promise_of command.now).ranges }
     ensures ok { (accepts : Accepts) (tags : Tags) (link : Shown Event) → IfOk result
-        ((promise_of command).text (called_with call.now.random accepts tags)
+        ((promise_of command.now).text (called_with call.now.random accepts tags)
         (shown S.left S.faults source.old source.new) link) }
     ensures cause { (accepts : Accepts) (tags : Tags) (link : Shown Event) → IfErr result
-        ((promise_of command).cause (called_with call.now.random accepts tags)
+        ((promise_of command.now).cause (called_with call.now.random accepts tags)
         (shown S.left S.faults source.old source.new) link) }
-    ensures no_input { ¬ IsTrue (promise_of command).reads → source.new ≡ source.old }
+    ensures no_input { ¬ IsTrue (promise_of command.now).reads → source.new ≡ source.old }
     ensures at_most { ReadsAtMost (S.left source.old) (S.left source.new) }
 {
-    match command {
+    match *command {
         Command::Table {
             own,
             k,
@@ -163,13 +170,14 @@ pub(crate) fn asked_output<
     ensures ok { IfOk result (HasText (bytes_of words.now) (called_with call.now.random (G.accepted call.now.seal.now)
         (G.tag_of call.now.seal.now))
         (shown S.left S.faults source.old source.new)
-        (shown L.told L.recv_faults link.old link.new)) }
+        (shown_link L.told L.recv_faults L.send_faults link.old link.new)) }
     ensures cause { IfErr result (HasCause (Asks (bytes_of words.now)) (bytes_of words.now)
         (called_with call.now.random (G.accepted call.now.seal.now)
         (G.tag_of call.now.seal.now))
         (shown S.left S.faults source.old source.new)
-        (shown L.told L.recv_faults link.old link.new)) }
-    ensures unread { IfErr result (λ status. number_of status ≡ 2 → source.new ≡ source.old) }
+        (shown_link L.told L.recv_faults L.send_faults link.old link.new)) }
+    ensures unread { IfErr result (λ status. (number_of status ≡ 2) ⊎ (number_of status ≡ 12)
+        → source.new ≡ source.old) }
     ensures early { IfErr result (λ status. EndsUnasked (number_of status) → link.new ≡ link.old) }
     ensures kept { L.kept link.new ≡ L.kept link.old }
     ensures at_most { ReadsAtMost (S.left source.old) (S.left source.new) }
@@ -177,13 +185,13 @@ pub(crate) fn asked_output<
         HasBegun (bytes_of words.now) (called_with call.now.random (G.accepted call.now.seal.now)
         (G.tag_of call.now.seal.now))
         (shown S.left S.faults source.old source.new)
-        (shown L.told L.recv_faults link.old link.new) ⊎ (link.new ≡ link.old)) }
+        (shown_link L.told L.recv_faults L.send_faults link.old link.new) ⊎ (link.new ≡ link.old)) }
     ensures plain { ¬ Asks (bytes_of words.now) → IfErr result (λ status. number_of status ≡ 2) }
     ensures no_input { ¬ ReadsInput (bytes_of words.now) → source.new ≡ source.old }
     ensures no_link { AsksPlain (bytes_of words.now) → link.new ≡ link.old }
 {
     let command = asked(alloc, words)?;
-    output_of(rt, alloc, command, source, link, call)
+    output_of(rt, alloc, &command, source, link, call)
 }
 
 /// Does the command that the words ask for, if it takes no link, and makes its output. Nothing is written yet.
@@ -203,12 +211,13 @@ pub(crate) fn asked_plainly<S: Source, C: Check, G: Seal + SealCheck>(
         → IfErr result (λ status. number_of status ≡ 2) }
     ensures no_input { ¬ ReadsInput (bytes_of words.now) → source.new ≡ source.old }
     ensures no_link { IfErr result (λ status. (number_of status ≢ 4)
-        × (number_of status ≢ 7) × (number_of status ≢ 8) × (number_of status ≢ 13)) }
+        × (number_of status ≢ 7) × (number_of status ≢ 8) × (number_of status ≢ 12)
+        × (number_of status ≢ 13)) }
     ensures at_most { ReadsAtMost (S.left source.old) (S.left source.new) }
 {
     if takes_link(words) {
         return Err(Status::Usage);
     }
     let command = asked(alloc, words)?;
-    plain_output_of(alloc, command, source, call)
+    plain_output_of(alloc, &command, source, call)
 }

@@ -8,6 +8,7 @@ mod bootstrap;
 mod call;
 mod commands;
 mod input;
+mod item;
 mod lines;
 mod output;
 mod printed;

@@ -47,7 +47,7 @@ pub(crate) fn write_output<K: Sink>(sink: &mut K, output: &[u8]) -> u8
 /// The line is whole before its first byte is written, and takes no memory.
 pub(crate) fn write_line<K: Sink>(sink: &mut K, status: &Status) -> u8
     ensures number { result ≡ number_of status.now }
-    ensures known { (1 < result) × (result ≤ last_status) × (result ≢ 5) × (result ≢ 12) }
+    ensures known { (1 < result) × (result ≤ last_status) × (result ≢ 5) }
     ensures writes { Writes (status_line status.now) (shown K.written K.faults sink.old sink.new) }
 {
     let mut room = [0u8; LINE_ROOM];

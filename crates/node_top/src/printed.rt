@@ -1,14 +1,14 @@
 //! What is printed.
-ghost use Rattle.std.specs.Prelude.{◌≡◌, ◌++◌, IfOk, OnOk, length, string_bytes};
+ghost use Rattle.std.specs.Prelude.{◌≡◌, ◌++◌, IfOk, OnOk, length, option_copied, string_bytes};
 ghost use Rattle.hex.specs.Hex.{IsBytes};
 ghost use Rattle.kad_base.specs.declared.types.Contact.{Contact};
 ghost use Rattle.kad_base.specs.declared.types.Ip.TheVariants.{V6};
 ghost use Rattle.kad_words.specs.Text.{FitsAddr, addr_text, ip_text};
 ghost use Rattle.node_top.specs.Lines.{IsContactLine};
-ghost use Rattle.node_top.specs.Printed.{printed, contact_text, counts_text, line_of, peers_text, printed_peers};
+ghost use Rattle.node_top.specs.Printed.{printed, contact_text, counts_text, item_text, key_text, line_of, peers_text, printed_item, printed_peers, printed_stored, stored_text};
 
 use claim_book::Counts;
-use kad_base::{Addr, Bytes, Contact, Ip, List, NoMemory};
+use kad_base::{Addr, Bytes, Contact, Id, Ip, List, NoMemory};
 use std::alloc::{AllocError, Global};
 use std::net::Ipv4Addr;
 
@@ -91,6 +91,94 @@ fn print_peer_counts(
 {
     let counts = print_counts(alloc, found, counts.asked, counts.failed, counts.turned)?;
     format!(in alloc; "peers {peers} {counts} announced {announced}")
+}
+
+/// The output of a search for an item: the item in hex, or that there is none, and a last line with the counts of the
+/// lookup.
+pub(crate) fn print_item(
+    alloc: Global,
+    item: Option<&[u8]>,
+    found: usize,
+    counts: &Counts,
+) -> Result<Bytes, NoMemory>
+    ensures { let c = counts.now in
+        IfOk result (λ text. text ≡ printed_item (option_copied item.entry) found c.asked c.failed
+        c.turned) }
+{
+    let mut output = List::new(alloc);
+    let Ok(line) = item_line(alloc, item) else {
+        return Err(NoMemory);
+    };
+    add_line(&mut output, line.as_str())?;
+    let Ok(line) = print_counts(alloc, found, counts.asked, counts.failed, counts.turned) else {
+        return Err(NoMemory);
+    };
+    add_line(&mut output, line.as_str())?;
+    Ok(output)
+}
+
+/// An item as it is printed, or that there is none.
+fn item_line(alloc: Global, item: Option<&[u8]>) -> Result<String, AllocError>
+    ensures { IfOk result (λ text. string_bytes text ≡ item_text (option_copied item.entry)) }
+{
+    match item {
+        Some(v) => value_line(alloc, v),
+        None => String::from_str(alloc, "none"),
+    }
+}
+
+/// An item as it is printed.
+fn value_line(alloc: Global, v: &[u8]) -> Result<String, AllocError>
+    ensures { IfOk result (λ text. string_bytes text ≡ item_text (Some v.now)) }
+{
+    let digits = hex::encode(alloc, v)?;
+    format!(in alloc; "value {digits}")
+}
+
+/// The output of storing an item: its key, and a last line with the counts of the lookup, and how many puts were sent.
+pub(crate) fn print_stored(
+    alloc: Global,
+    key: &Id,
+    found: usize,
+    counts: &Counts,
+    stored: usize,
+) -> Result<Bytes, NoMemory>
+    ensures { let c = counts.now in
+        IfOk result (λ text. text ≡ printed_stored key.now found c.asked c.failed c.turned stored) }
+{
+    let mut output = List::new(alloc);
+    let Ok(line) = key_line(alloc, key) else {
+        return Err(NoMemory);
+    };
+    add_line(&mut output, line.as_str())?;
+    let Ok(line) = stored_line(alloc, found, counts, stored) else {
+        return Err(NoMemory);
+    };
+    add_line(&mut output, line.as_str())?;
+    Ok(output)
+}
+
+/// The key of an item as it is printed.
+fn key_line(alloc: Global, key: &Id) -> Result<String, AllocError>
+    ensures { IfOk result (λ text. string_bytes text ≡ key_text key.now) }
+{
+    let digits = hex::encode(alloc, key.0)?;
+    format!(in alloc; "key {digits}")
+}
+
+/// The last line of storing an item.
+fn stored_line(
+    alloc: Global,
+    found: usize,
+    counts: &Counts,
+    stored: usize,
+) -> Result<String, AllocError>
+    ensures { let c = counts.now in
+        IfOk result (λ text. string_bytes text
+        ≡ stored_text found c.asked c.failed c.turned stored) }
+{
+    let counts = print_counts(alloc, found, counts.asked, counts.failed, counts.turned)?;
+    format!(in alloc; "{counts} stored {stored}")
 }
 
 /// Adds a text to an output, as a line.

@@ -7,7 +7,7 @@ ghost use Rattle.node_top.specs.Input.{Reads, ReadsAtMost};
 ghost use Rattle.node_top.specs.Looked.{LookupCause, InputCause, LookupBegun};
 ghost use Rattle.node_top.specs.Reached.{Reaches};
 ghost use Rattle.node_top.specs.Started.{IsInRange};
-ghost use Rattle.node_top.specs.Shown.{shown};
+ghost use Rattle.node_top.specs.Shown.{shown, shown_link};
 
 use crate::bootstrap::{FIRST_TX, setting_for, table_of};
 use crate::call::Call;
@@ -73,16 +73,16 @@ pub(crate) fn run_lookup<
     ensures ok { IfOk result (Reaches kind look.now (called_with call.now.random (G.accepted call.now.seal.now)
         (G.tag_of call.now.seal.now))
         (shown S.left S.faults source.old source.new)
-        (shown L.told L.recv_faults link.old link.new)) }
+        (shown_link L.told L.recv_faults L.send_faults link.old link.new)) }
     ensures cause { IfErr result (LookupCause kind look.now (called_with call.now.random (G.accepted call.now.seal.now)
         (G.tag_of call.now.seal.now))
         (shown S.left S.faults source.old source.new)
-        (shown L.told L.recv_faults link.old link.new)) }
+        (shown_link L.told L.recv_faults L.send_faults link.old link.new)) }
     ensures no_memory { IfErr result (λ status. status ≡ Status.NoMemory →
         LookupBegun kind look.now (called_with call.now.random (G.accepted call.now.seal.now)
         (G.tag_of call.now.seal.now))
         (shown S.left S.faults source.old source.new)
-        (shown L.told L.recv_faults link.old link.new) ⊎ (link.new ≡ link.old)) }
+        (shown_link L.told L.recv_faults L.send_faults link.old link.new) ⊎ (link.new ≡ link.old)) }
     ensures early { IfErr result (λ status. EndsUnasked (number_of status) → link.new ≡ link.old) }
     ensures kept { L.kept link.new ≡ L.kept link.old }
     ensures at_most { ReadsAtMost (S.left source.old) (S.left source.new) }

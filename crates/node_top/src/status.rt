@@ -29,6 +29,8 @@ pub(crate) enum Status {
     Unminted,
     /// The input is longer than 1,048,576 bytes.
     TooLong,
+    /// The value that is to be stored isn't the written form of one that may be.
+    BadValue,
     /// The input is a saved table that isn't sound.
     Unsound,
 }
@@ -59,7 +61,7 @@ impl Status {
     /// The exit status.
     pub(crate) fn number(&self) -> u8
         ensures number { result ≡ number_of self.now }
-        ensures known { (1 < result) × (result ≤ last_status) × (result ≢ 5) × (result ≢ 12) }
+        ensures known { (1 < result) × (result ≤ last_status) × (result ≢ 5) }
     {
         match self {
             Status::Usage => 2,
@@ -71,6 +73,7 @@ impl Status {
             Status::NoMemory => 9,
             Status::Unminted => 10,
             Status::TooLong => 11,
+            Status::BadValue => 12,
             Status::Unsound => 13,
         }
     }
@@ -90,6 +93,7 @@ impl Status {
             Status::NoMemory => put_bytes(room, 0, b"no memory\n"),
             Status::Unminted => put_bytes(room, 0, b"unminted\n"),
             Status::TooLong => put_bytes(room, 0, b"too long\n"),
+            Status::BadValue => put_bytes(room, 0, b"bad value\n"),
             Status::Unsound => put_bytes(room, 0, b"unsound\n"),
         }
     }

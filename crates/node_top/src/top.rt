@@ -2,10 +2,10 @@
 ghost use Rattle.std.specs.Prelude.{◌≡◌, ◌≢◌, ◌≤◌, ◌⊎◌, ◌↔◌, None};
 ghost use Rattle.node_top.specs.Asked.{Asks, AsksPlain, bytes_of};
 ghost use Rattle.node_top.specs.Called.{called_plainly, called_with};
-ghost use Rattle.node_top.specs.Shown.{shown, nowhere, IsTold, HasFailed};
+ghost use Rattle.node_top.specs.Shown.{shown, shown_link, nowhere, IsTold, HasFailed};
 ghost use Rattle.node_top.specs.Input.{ReadsAtMost, ReadsTooMuch};
 ghost use Rattle.node_top.specs.Commands.{GoesPlainlyWell, GoesWell, HasBegun};
-ghost use Rattle.node_top.specs.Commands.{HasBadLine, HasNoLastStray, HasNoSeeds, HasNothing, HasStart, HasStrays, HasUnsound, EndsInStrays};
+ghost use Rattle.node_top.specs.Commands.{HasBadLine, HasBadValue, HasNoLastStray, HasNoSeeds, HasNothing, HasStart, HasStrays, HasUnsound, EndsInStrays};
 ghost use Rattle.node_top.specs.Commands.{IsDone, ReadsInput};
 ghost use Rattle.node_top.specs.Endings.{last_status, CutShort, EndsByCommand};
 ghost use Rattle.node_top.specs.Endings.{EndsUnasked, OrNoMemory, WritesLine};
@@ -51,12 +51,12 @@ pub fn run<
     seal: &G,
 ) -> u8
     // The text that was written is the command's own: a lookup's is that of a legal journal which the link's events tell
-    // and whose paths have run out, that of a node which served counts what they
-    // tell, and that of a refresh is the saved text of the table which they leave of the input's.
+    // and whose paths have run out, that of a node which served counts what they tell, and that of a refresh is the saved
+    // text of the table which they leave of the input's.
     ensures done { result ≡ 0 → IsDone (bytes_of words.now)
         (called_with random.now (G.accepted seal.now) (G.tag_of seal.now))
         (shown S.left S.faults source.old source.new)
-        (shown L.told L.recv_faults link.old link.new)
+        (shown_link L.told L.recv_faults L.send_faults link.old link.new)
         (shown K.written K.faults sink.old sink.new) }
 
     // Words that ask for no command end with 2, and only they.
@@ -65,35 +65,36 @@ pub fn run<
     // Each other status but 9 comes only with its cause.
     ensures bad_line { result ≡ 3 → ReadsInput (bytes_of words.now)
         × HasBadLine (bytes_of words.now) (shown S.left S.faults source.old source.new) }
-    ensures link_fault { result ≡ 4 → HasFailed (shown L.told L.recv_faults link.old link.new) }
+    ensures link_fault { result ≡ 4 → HasFailed (shown_link L.told L.recv_faults L.send_faults link.old link.new) }
     ensures few_strays { result ≡ 4 → HasNoLastStray (bytes_of words.now)
         (called_with random.now (G.accepted seal.now) (G.tag_of seal.now))
         (shown S.left S.faults source.old source.new)
-        (shown L.told L.recv_faults link.old link.new) }
+        (shown_link L.told L.recv_faults L.send_faults link.old link.new) }
     ensures sink_fault { result ≡ 5 → HasFailed (shown K.written K.faults sink.old sink.new) }
     ensures source_fault { result ≡ 6 → ReadsInput (bytes_of words.now)
         × HasFailed (shown S.left S.faults source.old source.new) }
     ensures strays { result ≡ 7 → HasStrays (bytes_of words.now)
         (called_with random.now (G.accepted seal.now) (G.tag_of seal.now))
         (shown S.left S.faults source.old source.new)
-        (shown L.told L.recv_faults link.old link.new) }
+        (shown_link L.told L.recv_faults L.send_faults link.old link.new) }
     ensures begun { (result ≡ 4) ⊎ (result ≡ 7) → HasStart (bytes_of words.now)
         (called_with random.now (G.accepted seal.now) (G.tag_of seal.now))
         (shown S.left S.faults source.old source.new) }
     ensures unfinished { (result ≡ 4) ⊎ (result ≡ 7) → HasBegun (bytes_of words.now)
         (called_with random.now (G.accepted seal.now) (G.tag_of seal.now))
         (shown S.left S.faults source.old source.new)
-        (shown L.told L.recv_faults link.old link.new) }
+        (shown_link L.told L.recv_faults L.send_faults link.old link.new) }
     ensures no_memory { result ≡ 9 → HasBegun (bytes_of words.now)
         (called_with random.now (G.accepted seal.now) (G.tag_of seal.now))
         (shown S.left S.faults source.old source.new)
-        (shown L.told L.recv_faults link.old link.new) ⊎ (link.new ≡ link.old) }
+        (shown_link L.told L.recv_faults L.send_faults link.old link.new) ⊎ (link.new ≡ link.old) }
     ensures no_seeds { result ≡ 8 → HasNoSeeds (bytes_of words.now)
         (called_with random.now (G.accepted seal.now) (G.tag_of seal.now))
         (shown S.left S.faults source.old source.new) }
     ensures unminted { result ≡ 10 → HasNothing (bytes_of words.now) random.now }
     ensures too_long { result ≡ 11 → ReadsInput (bytes_of words.now)
         × ReadsTooMuch (S.left source.old) (S.left source.new) }
+    ensures bad_value { result ≡ 12 → HasBadValue (bytes_of words.now) }
     ensures unsound { result ≡ 13 → HasUnsound (bytes_of words.now)
         (shown S.left S.faults source.old source.new) }
 
@@ -105,13 +106,14 @@ pub fn run<
         IsTold input → ¬ HasFailed input → HasNoSeeds (bytes_of words.now)
         (called_with random.now (G.accepted seal.now) (G.tag_of seal.now)) input
         → OrNoMemory result 8 }
-    ensures strays_come { let told = shown L.told L.recv_faults link.old link.new in
+    ensures strays_come { let told = shown_link L.told L.recv_faults L.send_faults link.old link.new in
         IsTold told → EndsInStrays (bytes_of words.now)
         (called_with random.now (G.accepted seal.now) (G.tag_of seal.now)) told → OrNoMemory result 7 }
     ensures unminted_comes { HasNothing (bytes_of words.now) random.now → OrNoMemory result 10 }
     ensures too_long_comes { S.left source.new ≢ None
         → ReadsTooMuch (S.left source.old) (S.left source.new)
         → OrNoMemory result 11 }
+    ensures bad_value_comes { HasBadValue (bytes_of words.now) → OrNoMemory result 12 }
     ensures unsound_comes { let input = shown S.left S.faults source.old source.new in
         IsTold input → ¬ HasFailed input → HasUnsound (bytes_of words.now) input
         → OrNoMemory result 13 }
@@ -120,7 +122,7 @@ pub fn run<
     ensures complete { GoesWell (bytes_of words.now)
         (called_with random.now (G.accepted seal.now) (G.tag_of seal.now))
         (shown S.left S.faults source.old source.new)
-        (shown L.told L.recv_faults link.old link.new)
+        (shown_link L.told L.recv_faults L.send_faults link.old link.new)
         (shown K.written K.faults sink.old sink.new)
         → OrNoMemory result 0 }
 
@@ -131,12 +133,12 @@ pub fn run<
     ensures cut_short { result ≡ 5 → CutShort (bytes_of words.now)
         (called_with random.now (G.accepted seal.now) (G.tag_of seal.now))
         (shown S.left S.faults source.old source.new)
-        (shown L.told L.recv_faults link.old link.new)
+        (shown_link L.told L.recv_faults L.send_faults link.old link.new)
         (shown K.written K.faults sink.old sink.new) }
 
-    // What was not called: the source at 2, and for a command that reads no input; and the link at each status that comes
-    // before it is first called, and for a command that takes none.
-    ensures unread { result ≡ 2 → source.new ≡ source.old }
+    // What was not called: the source at 2 and at 12, and for a command that reads no input; and the link at each status
+    // that comes before it is first called, and for a command that takes none.
+    ensures unread { (result ≡ 2) ⊎ (result ≡ 12) → source.new ≡ source.old }
     ensures no_input { ¬ ReadsInput (bytes_of words.now) → source.new ≡ source.old }
     ensures at_most { ReadsAtMost (S.left source.old) (S.left source.new) }
     ensures unasked { EndsUnasked result → link.new ≡ link.old }
@@ -145,7 +147,7 @@ pub fn run<
     // What a link keeps whose receives have room for 4,097 bytes: so each of them has.
     ensures kept { L.kept link.new ≡ L.kept link.old }
     ensures by_command { EndsByCommand (bytes_of words.now) result }
-    ensures statuses { (result ≤ last_status) × (result ≢ 1) × (result ≢ 12) }
+    ensures statuses { (result ≤ last_status) × (result ≢ 1) }
 {
     let call = Call {
         random: *random,
@@ -170,8 +172,8 @@ pub fn run<
 /// made from a seed, and writes the counts of the lookup and how many of the closest nodes that aren't hostile it found. It
 /// waits by the network's own clock, which takes no time.
 ///
-/// The statuses and their lines are those of `run`. 2 comes also where the words ask for another command; 4, 7, 8 and 13
-/// don't come.
+/// The statuses and their lines are those of `run`. 2 comes also where the words ask for another command; 4, 7, 8, 12 and
+/// 13 don't come.
 pub fn run_plain<S: Source, K: Sink, C: Check>(
     alloc: Global,
     words: &[String],

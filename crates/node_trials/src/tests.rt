@@ -4,6 +4,7 @@ mod drawn;
 mod grouped;
 mod hostile;
 mod ipv6;
+mod items;
 mod paths;
 mod peering;
 mod puzzled;

@@ -9,9 +9,9 @@ ghost use Rattle.node_top.specs.Announced.{owed, Announces, AnnouncesSome, sent_
 ghost use Rattle.node_top.specs.Endings.{EndsUnasked, number_of};
 ghost use Rattle.node_top.specs.Commands.Peered.{PeersText, PeersBegun, peers_promise};
 ghost use Rattle.node_top.specs.Started.{IsInRange};
-ghost use Rattle.node_top.specs.Shown.{shown};
+ghost use Rattle.node_top.specs.Shown.{shown, shown_link};
 
-use crate::announce::{Announced, announce};
+use crate::announce::{Said, announce};
 use crate::call::Call;
 use crate::printed::print_peers;
 use crate::run_lookup::{Reached, run_lookup};
@@ -42,18 +42,19 @@ fn announce_told<L: Link>(
     ensures err { let all = owed port own key outcome.now.found outcome.now.tokens in
         OnErr result (Grows (L.told link.old) (L.told link.new)
         (AnnouncesSome words.old.seed words.old.place all)) }
+    ensures send_faults { L.send_faults link.old ≤ L.send_faults link.new }
     ensures kept { L.kept link.new ≡ L.kept link.old }
 {
     let Some(port) = port else {
         return Ok(0);
     };
-    let announced = Announced { own, key, port };
+    let said = Said::Peer { own, key, port };
     let found = outcome.found.as_slice();
     announce(
         alloc,
         link,
         words,
-        &announced,
+        &said,
         found,
         outcome.tokens.as_slice(),
     )
@@ -79,16 +80,16 @@ pub(crate) fn peers<
     ensures ok { IfOk result (PeersText look.now port (called_with call.now.random (G.accepted call.now.seal.now)
         (G.tag_of call.now.seal.now))
         (shown S.left S.faults source.old source.new)
-        (shown L.told L.recv_faults link.old link.new)) }
+        (shown_link L.told L.recv_faults L.send_faults link.old link.new)) }
     ensures cause { IfErr result ((peers_promise look.now port).cause (called_with call.now.random (G.accepted call.now.seal.now)
         (G.tag_of call.now.seal.now))
         (shown S.left S.faults source.old source.new)
-        (shown L.told L.recv_faults link.old link.new)) }
+        (shown_link L.told L.recv_faults L.send_faults link.old link.new)) }
     ensures no_memory { IfErr result (λ status. status ≡ Status.NoMemory →
         PeersBegun look.now port (called_with call.now.random (G.accepted call.now.seal.now)
         (G.tag_of call.now.seal.now))
         (shown S.left S.faults source.old source.new)
-        (shown L.told L.recv_faults link.old link.new) ⊎ (link.new ≡ link.old)) }
+        (shown_link L.told L.recv_faults L.send_faults link.old link.new) ⊎ (link.new ≡ link.old)) }
     ensures early { IfErr result (λ status. EndsUnasked (number_of status) → link.new ≡ link.old) }
     ensures kept { L.kept link.new ≡ L.kept link.old }
     ensures at_most { ReadsAtMost (S.left source.old) (S.left source.new) }

@@ -5,7 +5,7 @@ ghost use Rattle.node_top.specs.Called.{called_with};
 ghost use Rattle.node_top.specs.Commands.Refreshing.{Restores, RefreshBegun, RefreshText, SavedCause, refresh_promise};
 ghost use Rattle.node_top.specs.Endings.{EndsUnasked, number_of};
 ghost use Rattle.node_top.specs.Input.{ReadsAtMost};
-ghost use Rattle.node_top.specs.Shown.{shown};
+ghost use Rattle.node_top.specs.Shown.{shown, shown_link};
 
 use crate::bootstrap::FIRST_TX;
 use crate::call::Call;
@@ -57,16 +57,16 @@ pub(crate) fn refresh<S: Source, L: Link, C, G: Seal + SealCheck>(
     ensures ok { IfOk result (RefreshText timeout sealed (called_with call.now.random (G.accepted call.now.seal.now)
         (G.tag_of call.now.seal.now))
         (shown S.left S.faults source.old source.new)
-        (shown L.told L.recv_faults link.old link.new)) }
+        (shown_link L.told L.recv_faults L.send_faults link.old link.new)) }
     ensures cause { IfErr result ((refresh_promise timeout sealed).cause (called_with call.now.random (G.accepted call.now.seal.now)
         (G.tag_of call.now.seal.now))
         (shown S.left S.faults source.old source.new)
-        (shown L.told L.recv_faults link.old link.new)) }
+        (shown_link L.told L.recv_faults L.send_faults link.old link.new)) }
     ensures no_memory { IfErr result (λ status. status ≡ Status.NoMemory →
         RefreshBegun timeout sealed (called_with call.now.random (G.accepted call.now.seal.now)
         (G.tag_of call.now.seal.now))
         (shown S.left S.faults source.old source.new)
-        (shown L.told L.recv_faults link.old link.new) ⊎ (link.new ≡ link.old)) }
+        (shown_link L.told L.recv_faults L.send_faults link.old link.new) ⊎ (link.new ≡ link.old)) }
     ensures early { IfErr result (λ status. EndsUnasked (number_of status) → link.new ≡ link.old) }
     ensures kept { L.kept link.new ≡ L.kept link.old }
     ensures at_most { ReadsAtMost (S.left source.old) (S.left source.new) }

@@ -8,7 +8,7 @@ ghost use Rattle.node_top.specs.Looked.{ReportsCause};
 ghost use Rattle.node_top.specs.Printed.{printed_served, served_text};
 ghost use Rattle.node_top.specs.Commands.Served.{Hosts, ServeBegun, ServeText, serve_promise};
 ghost use Rattle.node_top.specs.Started.{AreTableBounds, own_of};
-ghost use Rattle.node_top.specs.Shown.{shown};
+ghost use Rattle.node_top.specs.Shown.{shown, shown_link};
 
 use crate::bootstrap::{own_id, table_of};
 use crate::call::Call;
@@ -94,16 +94,16 @@ pub(crate) fn serve<S: Source, L: Link, C: Check, G: Seal + SealCheck>(
     ensures ok { IfOk result (ServeText service.now (called_with call.now.random (G.accepted call.now.seal.now)
         (G.tag_of call.now.seal.now))
         (shown S.left S.faults source.old source.new)
-        (shown L.told L.recv_faults link.old link.new)) }
+        (shown_link L.told L.recv_faults L.send_faults link.old link.new)) }
     ensures cause { IfErr result ((serve_promise service.now).cause (called_with call.now.random (G.accepted call.now.seal.now)
         (G.tag_of call.now.seal.now))
         (shown S.left S.faults source.old source.new)
-        (shown L.told L.recv_faults link.old link.new)) }
+        (shown_link L.told L.recv_faults L.send_faults link.old link.new)) }
     ensures no_memory { IfErr result (λ status. status ≡ Status.NoMemory →
         ServeBegun service.now (called_with call.now.random (G.accepted call.now.seal.now)
         (G.tag_of call.now.seal.now))
         (shown S.left S.faults source.old source.new)
-        (shown L.told L.recv_faults link.old link.new) ⊎ (link.new ≡ link.old)) }
+        (shown_link L.told L.recv_faults L.send_faults link.old link.new) ⊎ (link.new ≡ link.old)) }
     ensures early { IfErr result (λ status. EndsUnasked (number_of status) → link.new ≡ link.old) }
     ensures kept { L.kept link.new ≡ L.kept link.old }
     ensures at_most { ReadsAtMost (S.left source.old) (S.left source.new) }

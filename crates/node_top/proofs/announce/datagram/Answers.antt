@@ -1,8 +1,12 @@
 use Rattle.std.proofs.Common.{◌∙◌}
-use Rattle.node_top.proofs.Announcing.{datagram_is}
+use Rattle.node_top.specs.Announced.{asks_of}
+use Rattle.node_top.proofs.Announcing.{datagram_is, may_write}
 use Rattle.node_top.proofs.announce.datagram.Goals as goal
+
+pub encode-requires : goal.encode-requires
+encode-requires c = may_write c.args.said.now c.args.token.now.token c.in_ok-ask_for.field-0 c.in_ok-ask_for.ensures c.requires
 
 pub returns : goal.returns
 returns c =
-    datagram_is c.encode.result c.in_ok-from_slice.field-0 c.args.tx c.args.announced.now.own c.args.announced.now.key c.port_for.result c.args.announced.now.port c.in_ok-from_slice-2.field-0 c.args.token.now.token
-    (c.in_ok-from_slice.ensures ∙ c.to_le_bytes.ensures) c.port_for.ensures (c.in_ok-from_slice-2.ensures ∙ c.as_slice.ensures) c.encode.ensures.form
+    datagram_is c.encode.result c.in_ok-from_slice.field-0 c.args.tx c.in_ok-ask_for.field-0 (asks_of c.args.said.now c.args.token.now.token)
+    (c.in_ok-from_slice.ensures ∙ c.to_le_bytes.ensures) c.in_ok-ask_for.ensures c.encode.ensures.form

@@ -2,7 +2,7 @@ use Rattle.std.proofs.Common.{inl, inr, refl}
 use Rattle.kad_words.proofs.OneCommand.{command_plain}
 use Rattle.node_top.proofs.Asking.{takes_by}
 use Rattle.node_top.proofs.Causes.{caused, unasked}
-use Rattle.node_top.proofs.Begun.{ok_then, err_then}
+use Rattle.node_top.proofs.Begun.{both_err, ok_then, err_then}
 use Rattle.node_top.proofs.Lawfully.{ranged}
 use Rattle.node_top.proofs.Parts.{unread_at_most}
 use Rattle.node_top.proofs.commands.asked_output.Goals as goal
@@ -14,7 +14,9 @@ pub returns-clause-cause : goal.returns-clause-cause
 returns-clause-cause g c = err_then c.output_of.result _ _ c.output_of.ensures.cause (λ status h. caused _ _ _ _ _ c.in_ok-command.command c.in_ok-command.ensures.command status h)
 
 pub returns-clause-unread : goal.returns-clause-unread
-returns-clause-unread g c = err_then c.output_of.result _ _ c.output_of.ensures.cause (λ status h two. absurd (unasked c.in_ok-command.command _ _ _ status h two))
+returns-clause-unread g c =
+    err_then c.output_of.result _ _ (both_err c.output_of.result _ _ c.output_of.ensures.cause c.output_of.ensures.unread)
+    (λ status h either. elim either [ inl two ↦ absurd (unasked c.in_ok-command.command _ _ _ status h.0 two) | inr twelve ↦ h.1 twelve ])
 
 pub returns-clause-no_memory : goal.returns-clause-no_memory
 returns-clause-no_memory g c =

@@ -1,5 +1,8 @@
-use Rattle.std.proofs.Common.{sym}
-use Rattle.node_top.proofs.Causes.{cause_at}
+use Rattle.std.proofs.Common.{sym, ap, rules, ◌∙◌}
+use Rattle.kad_words.specs.declared.command.Command.TheVariants.{Lookup, Peers, Get, Put, Serve, Refresh}
+use Rattle.node_top.specs.Shown.{nowhere}
+use Rattle.node_top.proofs.Lawfully.{lawful}
+use Rattle.node_top.proofs.Causes.{begun_at, cause_at, text_at, unrefused}
 use Rattle.node_top.proofs.commands.output_of.Goals as goal
 
 pub returns-in-Lookup-clause-cause : goal.returns-in-Lookup-clause-cause
@@ -8,8 +11,42 @@ returns-in-Lookup-clause-cause g c = cause_at c.lookup.result _ _ _ _ _ (sym c.i
 pub returns-in-Peers-clause-cause : goal.returns-in-Peers-clause-cause
 returns-in-Peers-clause-cause g c = cause_at c.peers.result _ _ _ _ _ (sym c.in-Peers.is) c.peers.ensures.cause
 
+pub returns-in-Get-clause-cause : goal.returns-in-Get-clause-cause
+returns-in-Get-clause-cause g c = cause_at c.get.result _ _ _ _ _ (sym c.in-Get.is) c.get.ensures.cause
+
+pub returns-in-Put-clause-ok : goal.returns-in-Put-clause-ok
+returns-in-Put-clause-ok g c = text_at c.put.result _ _ _ _ _ (ap (Put c.in-Put.look) c.as_slice.ensures ∙ sym c.in-Put.is) c.put.ensures.ok
+
+pub returns-in-Put-clause-cause : goal.returns-in-Put-clause-cause
+returns-in-Put-clause-cause g c = cause_at c.put.result _ _ _ _ _ (ap (Put c.in-Put.look) c.as_slice.ensures ∙ sym c.in-Put.is) c.put.ensures.cause
+
+pub returns-in-Put-clause-no_memory : goal.returns-in-Put-clause-no_memory
+returns-in-Put-clause-no_memory g c = begun_at c.put.result _ _ _ _ _ _ (ap (Put c.in-Put.look) c.as_slice.ensures ∙ sym c.in-Put.is) c.put.ensures.no_memory
+
 pub returns-in-Serve-clause-cause : goal.returns-in-Serve-clause-cause
 returns-in-Serve-clause-cause g c = cause_at c.serve.result _ _ _ _ _ (sym c.in-Serve.is) c.serve.ensures.cause
 
 pub returns-in-Refresh-clause-cause : goal.returns-in-Refresh-clause-cause
 returns-in-Refresh-clause-cause g c = cause_at c.refresh.result _ _ _ _ _ (sym c.in-Refresh.is) c.refresh.ensures.cause
+
+-- ---- none of them refuses a value but that which puts one
+
+pub returns-in-Lookup-clause-unread : goal.returns-in-Lookup-clause-unread
+returns-in-Lookup-clause-unread g c = unrefused c.lookup.result _ (Lookup c.in-Lookup.look) (λ refused. refused) _ _ _ c.lookup.ensures.cause
+
+pub returns-in-Peers-clause-unread : goal.returns-in-Peers-clause-unread
+returns-in-Peers-clause-unread g c = unrefused c.peers.result _ (Peers c.in-Peers.look c.in-Peers.announce) (λ refused. refused) _ _ _ c.peers.ensures.cause
+
+pub returns-in-Get-clause-unread : goal.returns-in-Get-clause-unread
+returns-in-Get-clause-unread g c = unrefused c.get.result _ (Get c.in-Get.look) (λ refused. refused) _ _ _ c.get.ensures.cause
+
+pub returns-in-Serve-clause-unread : goal.returns-in-Serve-clause-unread
+returns-in-Serve-clause-unread g c = unrefused c.serve.result _ (Serve c.in-Serve.own c.in-Serve.k c.in-Serve.bits c.in-Serve.policy c.in-Serve.receives c.in-Serve.sealed) (λ refused. refused) _ _ _ c.serve.ensures.cause
+
+pub returns-in-Refresh-clause-unread : goal.returns-in-Refresh-clause-unread
+returns-in-Refresh-clause-unread g c = unrefused c.refresh.result _ (Refresh c.in-Refresh.timeout c.in-Refresh.sealed) (λ refused. refused) _ _ _ c.refresh.ensures.cause
+
+pub returns-in_default-clause-unread : goal.returns-in_default-clause-unread
+returns-in_default-clause-unread g c =
+    unrefused c.plain_output_of.result _ c.args.command.now ((lawful c.args.command.now).refuses (search rules)) _ _ _
+    (c.plain_output_of.ensures.cause (g.G.SealCheck.accepted c.args.call.now.seal.now) (g.G.Seal.tag_of c.args.call.now.seal.now) nowhere)

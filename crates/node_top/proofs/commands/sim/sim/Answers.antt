@@ -31,6 +31,6 @@ pub unreachable-requires-in-Err-Strays : goal.unreachable-requires-in-Err-Strays
 unreachable-requires-in-Err-Strays g c =
     let is : IsErrOf c.look_up_alone-ended.result.1 fault.Strays = search rules in
     absurd
-    (no_strays c.in_ok-start.start.setting (is_group_tag c.new-seal.result) c.in_ok-start.start.table c.new-words.result c.look_up_alone-ended.new.words c.look_up_alone-ended.new.link.network c.in_ok-net.net.told c.look_up_alone-ended.new.link.told
+    (no_strays c.in_ok-start.start.setting (is_group_tag c.new-seal.result) c.in_ok-start.start.table c.new-words.result c.look_up_alone-ended.new.words c.look_up_alone-ended.new.link.network c.in_ok-net.net.told c.look_up_alone-ended.new.link.told _ _
     (sim_limits c.args.simulation.now c.in_ok-start.start c.requires c.in_ok-start.ensures) c.in_ok-net.ensures.told (λ none_. iff_false c.short.ensures.short c.if-short.false none_) c.short.ensures.plays
     (err_at c.look_up_alone-ended.result.1 c.in-Err-Strays.field-0 _ c.in-Err-Strays.is c.look_up_alone-ended.ensures.unfinished) (c.look_up_alone-ended.ensures.strays is))
