@@ -51,12 +51,7 @@ fn ask_for(alloc: Global, said: &Said<'_>, token: &Token) -> Result<Ask, NoMemor
 }
 
 /// What is said as a datagram: a read-only query (BEP 43).
-fn datagram(
-    alloc: Global,
-    said: &Said<'_>,
-    tx: u32,
-    token: &Token,
-) -> Result<Bytes, NoMemory>
+fn datagram(alloc: Global, said: &Said<'_>, tx: u32, token: &Token) -> Result<Bytes, NoMemory>
     requires { MaySay said.now }
     ensures { IfOk result (λ bytes. bytes
         ≡ asking tx (announcement (asks_of said.now) token.now).ask) }

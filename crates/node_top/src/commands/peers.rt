@@ -50,14 +50,7 @@ fn announce_told<L: Link>(
     };
     let said = Said::Peer { own, key, port };
     let found = outcome.found.as_slice();
-    announce(
-        alloc,
-        link,
-        words,
-        &said,
-        found,
-        outcome.tokens.as_slice(),
-    )
+    announce(alloc, link, words, &said, found, outcome.tokens.as_slice())
 }
 
 /// Looks for peers, announces, and makes the text of what was found, or says why there is none. Nothing is written yet.

@@ -69,13 +69,7 @@ pub(crate) fn put<
 }
 
 /// The same of bytes that may be an item.
-fn store<
-    R: Threads + Wait + Sync,
-    S: Source,
-    L: Link,
-    C: Check + Sync,
-    G: Seal + SealCheck,
->(
+fn store<R: Threads + Wait + Sync, S: Source, L: Link, C: Check + Sync, G: Seal + SealCheck>(
     rt: &R,
     alloc: Global,
     look: &LookWords,
@@ -114,11 +108,5 @@ fn store<
     let found = outcome.found.as_slice();
     let tokens = outcome.tokens.as_slice();
     let stored = announce(alloc, link, &mut words, &said, found, tokens)?;
-    Ok(print_stored(
-        alloc,
-        &look.target,
-        found.len(),
-        &outcome.counts,
-        stored,
-    )?)
+    Ok(print_stored(alloc, &look.target, found.len(), &outcome.counts, stored)?)
 }

@@ -228,7 +228,8 @@ fn an_item_of_one_byte_more_is_none(rt: HostRuntime) -> Result<(), Fail> {
 #[test]
 fn an_item_is_put_with_the_token(rt: HostRuntime) -> Result<(), Fail> {
     let link = link_from(rt.alloc(), &[(6001, NO_ITEM)], &[], &[])?;
-    let text = "key e28910ea0adb94dd45ced75fbff3e135c01bc437\nfound 1 asked 1 failed 0 turned 0 stored 1\n";
+    let text =
+        "key e28910ea0adb94dd45ced75fbff3e135c01bc437\nfound 1 asked 1 failed 0 turned 0 stored 1\n";
     let sent = sends(&rt, STORE, LINE_1, link, text)?;
     assert_eq!(rt; sent.len(), 2);
     assert!(rt; is_at(&sent, 0, QUERY));
@@ -241,7 +242,8 @@ fn each_contact_is_given_the_item_with_its_own_token(rt: HostRuntime) -> Result<
     let input = lines(rt.alloc(), 1, 2)?;
     let datagrams: [(u16, &[u8]); 2] = [(6001, NO_ITEM), (6002, SECOND_TOKEN)];
     let link = link_from(rt.alloc(), &datagrams, &[], &[])?;
-    let text = "key e28910ea0adb94dd45ced75fbff3e135c01bc437\nfound 2 asked 2 failed 0 turned 0 stored 2\n";
+    let text =
+        "key e28910ea0adb94dd45ced75fbff3e135c01bc437\nfound 2 asked 2 failed 0 turned 0 stored 2\n";
     let sent = sends(&rt, STORE, input.as_str(), link, text)?;
     assert_eq!(rt; sent.len(), 4);
     assert!(rt; is_at(&sent, 2, THIRD));
@@ -252,7 +254,8 @@ fn each_contact_is_given_the_item_with_its_own_token(rt: HostRuntime) -> Result<
 #[test]
 fn a_contact_without_a_token_is_given_no_item(rt: HostRuntime) -> Result<(), Fail> {
     let link = link_from(rt.alloc(), &[(6001, HELLO)], &[], &[])?;
-    let text = "key e28910ea0adb94dd45ced75fbff3e135c01bc437\nfound 1 asked 1 failed 0 turned 0 stored 0\n";
+    let text =
+        "key e28910ea0adb94dd45ced75fbff3e135c01bc437\nfound 1 asked 1 failed 0 turned 0 stored 0\n";
     let sent = sends(&rt, STORE, LINE_1, link, text)?;
     assert_eq!(rt; sent.len(), 1);
     Ok(())
@@ -261,7 +264,8 @@ fn a_contact_without_a_token_is_given_no_item(rt: HostRuntime) -> Result<(), Fai
 #[test]
 fn a_refused_put_is_not_counted(rt: HostRuntime) -> Result<(), Fail> {
     let link = link_from(rt.alloc(), &[(6001, NO_ITEM)], &[1], &[])?;
-    let text = "key e28910ea0adb94dd45ced75fbff3e135c01bc437\nfound 1 asked 1 failed 0 turned 0 stored 0\n";
+    let text =
+        "key e28910ea0adb94dd45ced75fbff3e135c01bc437\nfound 1 asked 1 failed 0 turned 0 stored 0\n";
     let sent = sends(&rt, STORE, LINE_1, link, text)?;
     assert_eq!(rt; sent.len(), 1);
     Ok(())
@@ -270,7 +274,8 @@ fn a_refused_put_is_not_counted(rt: HostRuntime) -> Result<(), Fail> {
 #[test]
 fn an_item_is_put_by_eight_paths(rt: HostRuntime) -> Result<(), Fail> {
     let link = link_from(rt.alloc(), &[(6001, NO_ITEM)], &[], &[])?;
-    let text = "key e28910ea0adb94dd45ced75fbff3e135c01bc437\nfound 1 asked 1 failed 0 turned 0 stored 1\n";
+    let text =
+        "key e28910ea0adb94dd45ced75fbff3e135c01bc437\nfound 1 asked 1 failed 0 turned 0 stored 1\n";
     let sent = sends(&rt, STORE_BY_8, LINE_1, link, text)?;
     assert_eq!(rt; sent.len(), 2);
     assert!(rt; is_at(&sent, 1, PUT));
@@ -317,10 +322,16 @@ fn a_value_that_is_no_item_is_refused_unread(rt: HostRuntime) -> Result<(), Fail
 /// its keys in order, and fourteen lists one in another.
 const GOOD: [(&str, &str); 6] = [
     ("303a", "b44b82a4bc6c35f6ad5e9fceefef9509c17fba74"),
-    ("692d3932323333373230333638353437373538303865", "4fefecd95fddad9f505c6bd3d42bc7367c3d5c5c"),
+    (
+        "692d3932323333373230333638353437373538303865",
+        "4fefecd95fddad9f505c6bd3d42bc7367c3d5c5c",
+    ),
     ("6c65", "593b743b207e10ff55ec63e71a46c07909d0880a"),
     ("6465", "600ccd1b71569232d01d110bc63e906beab04d8c"),
-    ("64313a61693165313a6269316565", "49edaaac4dae9b6fd1f52eb7d0992a7842ac64c7"),
+    (
+        "64313a61693165313a6269316565",
+        "49edaaac4dae9b6fd1f52eb7d0992a7842ac64c7",
+    ),
     (
         "6c6c6c6c6c6c6c6c6c6c6c6c6c6c6565656565656565656565656565",
         "ff3e14905ea624667a952da2e1838ff4e04e7752",
@@ -332,8 +343,7 @@ fn values_that_are_items_are_stored(rt: HostRuntime) -> Result<(), Fail> {
     let alloc = rt.alloc();
     for (value, key) in GOOD {
         let link = link_from(alloc, &[(6001, NO_ITEM)], &[], &[])?;
-        let text =
-            format!(in alloc; "key {key}\nfound 1 asked 1 failed 0 turned 0 stored 1\n")?;
+        let text = format!(in alloc; "key {key}\nfound 1 asked 1 failed 0 turned 0 stored 1\n")?;
         let words = ["put", "--value", value];
         shows(&rt, &words, LINE_1, link, 0, text.as_str())?;
     }
@@ -346,7 +356,8 @@ fn a_value_of_a_thousand_bytes_is_stored(rt: HostRuntime) -> Result<(), Fail> {
     let alloc = rt.alloc();
     let value = digits(alloc, letters(alloc, 996)?.as_slice())?;
     let link = link_from(alloc, &[(6001, NO_ITEM)], &[], &[])?;
-    let text = "key 360592535a3b3aa674dd44d3359b19f5fdaba9e8\nfound 1 asked 1 failed 0 turned 0 stored 1\n";
+    let text =
+        "key 360592535a3b3aa674dd44d3359b19f5fdaba9e8\nfound 1 asked 1 failed 0 turned 0 stored 1\n";
     let words = ["put", "--value", value.as_str()];
     shows(&rt, &words, LINE_1, link, 0, text)
 }
