@@ -1,0 +1,7 @@
+//! The order in which a batch is dealt to holders in a ring, as cards are: the place of each thing, and what each holder
+//! then has.
+#![tactic(auto)]
+
+mod place;
+
+pub use place::Place;
