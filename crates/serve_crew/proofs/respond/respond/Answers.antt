@@ -1,0 +1,49 @@
+use Rattle.std.proofs.Common.{ℕ, List, take, length, ◌≤◌, sym, subst, ap, ◌∙◌}
+use Rattle.node_serve.specs.Gains.{reply_gained}
+use Rattle.node_serve.specs.Sizes.{IsSmall}
+use Rattle.node_serve.proofs.Few.{gained_small}
+use Rattle.serve_crew.specs.Hands.{Hands, hands}
+use Rattle.serve_crew.proofs.Responding.{stop_first, stop_early, stop_composing, stop_telling, replies_to}
+use Rattle.serve_crew.proofs.respond.respond.Goals as goal
+
+pub write-length-requires : goal.write-length-requires
+write-length-requires g c =
+    let tx = c.in-Ok.tx in
+    let short : length tx ≤ 32 = subst (λ (t : List ℕ). length t ≤ 32) (sym c.in-Ok.ensures) c.requires.short in
+    subst IsSmall (sym c.in-Ok-compose.ensures.message) (gained_small c.args.setting.now c.args.asked.now.from c.args.at tx short c.in-Ok-gather.gained c.in-Ok-gather.ensures.few)
+
+pub returns-in-Ok-tell_asker-clause-ok : goal.returns-in-Ok-tell_asker-clause-ok
+returns-in-Ok-tell_asker-clause-ok g c =
+    let s = c.args.setting.now in
+    let asked = c.args.asked.now in
+    let old : Hands = hands c.args.table.now c.args.peers.now c.args.items.now in
+    let mid : Hands = hands c.gather.new.table c.gather.new.peers c.gather.new.items in
+    let gained = c.in-Ok-gather.gained in
+    replies_to (g.G.Seal.tag_of c.args.seal.now) s asked c.args.at c.in-Ok-plan.wants c.told_for-told.result c.in-Ok-plan.ensures.wants c.told_for-told.ensures gained c.in-Ok-compose.reply (take c.seal_reply.result c.seal_reply.new.out)
+    old mid c.tell_asker.new.table c.gather.ensures.same c.in-Ok-gather.ensures.ok
+    (c.in-Ok-compose.ensures.message ∙ ap (λ (t : List ℕ). reply_gained s asked.from c.args.at t gained) c.in-Ok.ensures) c.seal_reply.ensures.form c.in-Ok-tell_asker.ensures.ok
+
+pub returns-clause-err : goal.returns-clause-err
+returns-clause-err g c =
+    let old : Hands = hands c.args.table.now c.args.peers.now c.args.items.now in
+    let mid : Hands = hands c.gather.new.table c.gather.new.peers c.gather.new.items in
+    stop_telling (g.G.Seal.tag_of c.args.seal.now) c.args.setting.now c.args.asked.now c.args.at c.in-Ok-plan.wants c.told_for-told.result c.in-Ok-plan.ensures.wants c.told_for-told.ensures c.in-Ok-gather.gained
+    old mid c.tell_asker.new.table c.gather.ensures.same c.in-Ok-gather.ensures.ok c.in-Err-tell_asker.ensures.err
+
+pub returns-in-Err-clause-err : goal.returns-in-Err-clause-err
+returns-in-Err-clause-err g c = stop_first c.args.setting.now c.args.asked.now c.args.at (hands c.args.table.now c.args.peers.now c.args.items.now)
+
+pub returns-in-Err-plan-clause-err : goal.returns-in-Err-plan-clause-err
+returns-in-Err-plan-clause-err g c = stop_first c.args.setting.now c.args.asked.now c.args.at (hands c.args.table.now c.args.peers.now c.args.items.now)
+
+pub returns-in-Err-gather-clause-err : goal.returns-in-Err-gather-clause-err
+returns-in-Err-gather-clause-err g c =
+    let old : Hands = hands c.args.table.now c.args.peers.now c.args.items.now in
+    let mid : Hands = hands c.gather.new.table c.gather.new.peers c.gather.new.items in
+    stop_early c.args.setting.now c.args.asked.now c.args.at c.in-Ok-plan.wants c.told_for-told.result c.in-Ok-plan.ensures.wants c.told_for-told.ensures old mid c.in-Err-gather.ensures.err
+
+pub returns-in-Err-compose-clause-err : goal.returns-in-Err-compose-clause-err
+returns-in-Err-compose-clause-err g c =
+    let old : Hands = hands c.args.table.now c.args.peers.now c.args.items.now in
+    let mid : Hands = hands c.gather.new.table c.gather.new.peers c.gather.new.items in
+    stop_composing c.args.setting.now c.args.asked.now c.args.at c.in-Ok-plan.wants c.told_for-told.result c.in-Ok-plan.ensures.wants c.told_for-told.ensures c.in-Ok-gather.gained old mid c.in-Ok-gather.ensures.ok

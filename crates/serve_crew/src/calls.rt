@@ -1,0 +1,146 @@
+//! The calls of a worker at its three turns.
+ghost use Rattle.std.specs.Prelude.{◌≡◌, ◌≤◌, ◌↔◌, length, IfOk, IfSome, OnOk, OnErr};
+ghost use Rattle.contact_table.specs.declared.calls.TableCall.{TableCall};
+ghost use Rattle.contact_table.specs.declared.calls.TableReply.{TableReply};
+ghost use Rattle.peer_store.specs.declared.calls.PeerCall.{PeerCall};
+ghost use Rattle.peer_store.specs.declared.calls.PeerReply.{PeerReply};
+ghost use Rattle.item_store.specs.Items.{IsItem};
+ghost use Rattle.item_store.specs.declared.calls.ItemCall.{ItemCall};
+ghost use Rattle.node_serve.specs.Gains.{item_reply};
+ghost use Rattle.serve_crew.specs.Hands.{Called, Replied, SamePass, ToldOf};
+ghost use Rattle.serve_crew.specs.Serving.{Keeps, Places};
+
+use contact_table::{Table, TableCall, TableReply};
+use item_store::{ItemCall, ItemReply, Items};
+use kad_base::{Addr, Addrs, Bytes, Contact, Contacts, Id, NoMemory};
+use node_serve::Gained;
+use peer_store::{PeerCall, PeerReply, Peers};
+use std::sync::Wait;
+use turn_book::{Pass, Turn};
+
+/// Asks the table for the closest contacts.
+pub(crate) fn closest<R: Wait>(
+    rt: &R,
+    turn: &Turn<Table>,
+    pass: &mut Pass<Table>,
+    target: Id,
+    n: u8,
+) -> Result<Contacts, NoMemory>
+    requires own { pass.old.turn ≡ turn.now.id }
+    ensures same { SamePass pass.old pass.new }
+    ensures few { IfOk result (λ list. length list ≤ n) }
+    ensures ok { IfOk result (λ list. Replied (TableCall.Closest target n) (TableReply.List list)
+        pass.old pass.new) }
+    ensures err { OnErr result (Called (TableCall.Closest target n) pass.old pass.new) }
+{
+    match turn.call(rt, pass, TableCall::Closest { target, n }) {
+        TableReply::List { list } => Ok(list),
+        _ => Err(NoMemory),
+    }
+}
+
+/// Asks for the peers of the key.
+pub(crate) fn list<R: Wait>(
+    rt: &R,
+    turn: &Turn<Peers>,
+    pass: &mut Pass<Peers>,
+    key: Id,
+    at: u64,
+) -> Result<Addrs, NoMemory>
+    requires own { pass.old.turn ≡ turn.now.id }
+    ensures same { SamePass pass.old pass.new }
+    ensures few { IfOk result (λ list. length list ≤ 50) }
+    ensures ok { IfOk result (λ list. Replied (PeerCall.List key at) (PeerReply.Listed list)
+        pass.old pass.new) }
+    ensures err { OnErr result (Called (PeerCall.List key at) pass.old pass.new) }
+{
+    match turn.call(rt, pass, PeerCall::List { key, at }) {
+        PeerReply::Listed { list } => Ok(list),
+        _ => Err(NoMemory),
+    }
+}
+
+/// Puts the peer under the key.
+pub(crate) fn place<R: Wait>(
+    rt: &R,
+    turn: &Turn<Peers>,
+    pass: &mut Pass<Peers>,
+    key: Id,
+    peer: Addr,
+    at: u64,
+) -> Result<Gained, NoMemory>
+    requires own { pass.old.turn ≡ turn.now.id }
+    ensures same { SamePass pass.old pass.new }
+    ensures ok { IfOk result (λ g. Places key peer at g pass.old pass.new) }
+    ensures err { OnErr result (Called (PeerCall.Put key peer at) pass.old pass.new) }
+{
+    match turn.call(rt, pass, PeerCall::Put { key, peer, at }) {
+        PeerReply::Stored { stored } => Ok(Gained::Placed { stored }),
+        PeerReply::Full => Ok(Gained::Full),
+        PeerReply::NoMemory => Err(NoMemory),
+        PeerReply::Listed { .. } => Err(NoMemory),
+    }
+}
+
+/// Asks for the item of the key, where one is handed out.
+pub(crate) fn get<R: Wait>(
+    rt: &R,
+    turn: &Turn<Items>,
+    pass: &mut Pass<Items>,
+    key: Id,
+    at: u64,
+) -> Result<Option<Bytes>, NoMemory>
+    requires own { pass.old.turn ≡ turn.now.id }
+    ensures same { SamePass pass.old pass.new }
+    ensures item { IfOk result (λ v. IfSome v IsItem) }
+    ensures ok { IfOk result (λ v. Replied (ItemCall.Get key at) (item_reply v)
+        pass.old pass.new) }
+    ensures err { OnErr result (Called (ItemCall.Get key at) pass.old pass.new) }
+{
+    match turn.call(rt, pass, ItemCall::Get { key, at }) {
+        ItemReply::Held { v } => Ok(Some(v)),
+        ItemReply::Absent => Ok(None),
+        _ => Err(NoMemory),
+    }
+}
+
+/// Puts the item.
+pub(crate) fn keep<R: Wait>(
+    rt: &R,
+    turn: &Turn<Items>,
+    pass: &mut Pass<Items>,
+    v: Bytes,
+    at: u64,
+) -> Result<Gained, NoMemory>
+    requires own { pass.old.turn ≡ turn.now.id }
+    requires item { IsItem v }
+    ensures same { SamePass pass.old pass.new }
+    ensures ok { IfOk result (λ g. Keeps v at g pass.old pass.new) }
+    ensures err { OnErr result (Called (ItemCall.Put v at) pass.old pass.new) }
+{
+    match turn.call(rt, pass, ItemCall::Put { v, at }) {
+        ItemReply::Stored { stored } => Ok(Gained::Kept { stored }),
+        ItemReply::Full => Ok(Gained::Crowded),
+        ItemReply::NoMemory => Err(NoMemory),
+        ItemReply::Held { .. } => Err(NoMemory),
+        ItemReply::Absent => Err(NoMemory),
+    }
+}
+
+/// Tells the table that the contact asked.
+pub(crate) fn tell<R: Wait>(
+    rt: &R,
+    turn: &Turn<Table>,
+    pass: &mut Pass<Table>,
+    contact: Contact,
+) -> Result<(), NoMemory>
+    requires own { pass.old.turn ≡ turn.now.id }
+    ensures same { SamePass pass.old pass.new }
+    ensures ok { OnOk result (ToldOf contact pass.old pass.new) }
+    ensures err { OnErr result (Called (TableCall.Seen contact) pass.old pass.new) }
+{
+    match turn.call(rt, pass, TableCall::Seen { contact }) {
+        TableReply::NoMemory => Err(NoMemory),
+        _ => Ok(()),
+    }
+}

@@ -1,0 +1,10 @@
+//! Workers that answer datagrams at the same time over one routing table, one store of peers and one of items, behind a
+//! turn each. It opens no socket and reads no clock.
+#![tactic(auto)]
+
+mod calls;
+mod gather;
+mod respond;
+mod worker;
+
+pub use worker::ServeWorker;
