@@ -2,6 +2,8 @@
 //! then has.
 #![tactic(auto)]
 
+mod laws;
 mod place;
 
+pub use laws::each_has_its_share;
 pub use place::Place;
