@@ -1,9 +1,11 @@
 /* Load on one node of the DHT on this machine, for bench/peers, which builds and runs it:
  *
  *     load HOST PORT ping|find_node|get_peers OUTSTANDING SECONDS
+ *     load HOST PORT METHOD OUTSTANDING SECONDS HEX
  *
  * It keeps so many queries open: an answer, or half a second without one, makes room for the next. Each query is read-only
- * (BEP 43), so that who is asked keeps no contact of it, and asks for a drawn identifier. It prints one line:
+ * (BEP 43), so that who is asked keeps no contact of it, and asks for a drawn identifier; or it has these bytes behind the
+ * identifier of who asks, its other arguments as bencode has them. It prints one line:
  *
  *     answers N errors N lost N seconds S median US p99 US
  *
@@ -32,6 +34,8 @@ static struct {
 } line[SOCKETS];
 static int lines;
 static const char *method;
+static uint8_t rest[2048];
+static int rest_length;
 static uint64_t drawn = 88172645463325252u;
 static uint32_t sent, latency[LATENCIES];
 static long answers, errors, lost;
@@ -67,7 +71,10 @@ static int put_drawn(uint8_t *to) {
 static int write_query(uint8_t *to, uint8_t place, uint32_t number) {
   int at = put(to, "d1:ad2:id20:");
   at += put_drawn(to + at);
-  if (strcmp(method, "ping")) {
+  if (rest_length) {
+    memcpy(to + at, rest, rest_length);
+    at += rest_length;
+  } else if (strcmp(method, "ping")) {
     at += put(to + at, strcmp(method, "find_node") ? "9:info_hash20:" : "6:target20:");
     at += put_drawn(to + at);
   }
@@ -79,7 +86,7 @@ static int write_query(uint8_t *to, uint8_t place, uint32_t number) {
 
 /* Sends as many queries as there is room for. */
 static void fill(int on) {
-  static uint8_t text[EACH][256];
+  static uint8_t text[EACH][sizeof rest + 256];
   struct mmsghdr batch[EACH];
   struct iovec part[EACH];
   int count = 0;
@@ -134,6 +141,12 @@ static void forget(uint64_t before) {
       if (line[on].open[place].sent && line[on].open[place].sent < before) lost++, line[on].open[place].sent = 0;
 }
 
+static int is_hex_of_rest(const char *hex) {
+  for (; hex[0] && hex[1] && rest_length < (int)sizeof rest; hex += 2)
+    if (sscanf(hex, "%2hhx", &rest[rest_length++]) != 1) return 0;
+  return !hex[0];
+}
+
 static int by_size(const void *a, const void *b) {
   uint32_t one = *(const uint32_t *)a, other = *(const uint32_t *)b;
   return one < other ? -1 : one > other;
@@ -142,7 +155,8 @@ static int by_size(const void *a, const void *b) {
 int main(int count, char **words) {
   struct sockaddr_in to = {.sin_family = AF_INET};
   struct pollfd wait[SOCKETS];
-  if (count != 6 || inet_pton(AF_INET, words[1], &to.sin_addr) != 1) return 2;
+  if ((count != 6 && count != 7) || inet_pton(AF_INET, words[1], &to.sin_addr) != 1) return 2;
+  if (count == 7 && !is_hex_of_rest(words[6])) return 2;
   to.sin_port = htons(atoi(words[2]));
   method = words[3];
   int outstanding = atoi(words[4]);

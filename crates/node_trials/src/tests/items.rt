@@ -63,17 +63,25 @@ const HELLO: &[u8] =
 const JELLO: &[u8] =
     b"d1:rd2:id20:\0\0\0\0\0\0\0\0\0\0\0\0\0\0\0\0\0\0\0\x011:v5:jelloe1:t4:\xa0\x8d\xed\x1a1:y1:re";
 
-/// Contact 2 answers the second query with the item of the key.
+/// Contact 2, which is nearer to the key, answers the first query with an item of another key.
+const JELLO_OF_2: &[u8] =
+    b"d1:rd2:id20:\0\0\0\0\0\0\0\0\0\0\0\0\0\0\0\0\0\0\0\x021:v5:jelloe1:t4:\xa0\x8d\xed\x1a1:y1:re";
+
+/// Contact 1 answers the second with the item of the key.
 const SECOND_HELLO: &[u8] =
-    b"d1:rd2:id20:\0\0\0\0\0\0\0\0\0\0\0\0\0\0\0\0\0\0\0\x021:v5:helloe1:t4:\xa86\xef\xcc1:y1:re";
+    b"d1:rd2:id20:\0\0\0\0\0\0\0\0\0\0\0\0\0\0\0\0\0\0\0\x011:v5:helloe1:t4:\xa86\xef\xcc1:y1:re";
 
 /// Contact 1 answers the first query with a token and no item.
 const NO_ITEM: &[u8] =
     b"d1:rd2:id20:\0\0\0\0\0\0\0\0\0\0\0\0\0\0\0\0\0\0\0\x015:token8:aoeusnthe1:t4:\xa0\x8d\xed\x1a1:y1:re";
 
-/// Contact 2 answers the second query with another token.
+/// Contact 2 answers the first query with another token.
+const TOKEN_OF_2: &[u8] =
+    b"d1:rd2:id20:\0\0\0\0\0\0\0\0\0\0\0\0\0\0\0\0\0\0\0\x025:token3:abce1:t4:\xa0\x8d\xed\x1a1:y1:re";
+
+/// Contact 1 answers the second with its own.
 const SECOND_TOKEN: &[u8] =
-    b"d1:rd2:id20:\0\0\0\0\0\0\0\0\0\0\0\0\0\0\0\0\0\0\0\x025:token3:abce1:t4:\xa86\xef\xcc1:y1:re";
+    b"d1:rd2:id20:\0\0\0\0\0\0\0\0\0\0\0\0\0\0\0\0\0\0\0\x015:token8:aoeusnthe1:t4:\xa86\xef\xcc1:y1:re";
 
 /// Contact 1 answers the first query in the name of identifier 7, with a token and the item.
 const POSING: &[u8] =
@@ -87,13 +95,13 @@ const QUERY: &[u8] =
 const PUT: &[u8] =
     b"d1:ad2:id20:\xff\xff\xff\xff\xff\xff\xff\xff\xff\xff\xff\xff\xff\xff\xff\xff\xff\xff\xff\xff5:token8:aoeusnth1:v5:helloe1:q3:put2:roi1e1:t4:\xa86\xef\xcc1:y1:qe";
 
-/// The item for contact 1 where two queries came before, under the eighth word.
+/// The item for contact 2 where two queries came before, under the eighth word.
 const THIRD: &[u8] =
-    b"d1:ad2:id20:\xff\xff\xff\xff\xff\xff\xff\xff\xff\xff\xff\xff\xff\xff\xff\xff\xff\xff\xff\xff5:token8:aoeusnth1:v5:helloe1:q3:put2:roi1e1:t4:\x8bw\x0d\xc71:y1:qe";
+    b"d1:ad2:id20:\xff\xff\xff\xff\xff\xff\xff\xff\xff\xff\xff\xff\xff\xff\xff\xff\xff\xff\xff\xff5:token3:abc1:v5:helloe1:q3:put2:roi1e1:t4:\x8bw\x0d\xc71:y1:qe";
 
-/// The item for contact 2 after that one, under the ninth word.
+/// The item for contact 1 after that one, under the ninth word.
 const FOURTH: &[u8] =
-    b"d1:ad2:id20:\xff\xff\xff\xff\xff\xff\xff\xff\xff\xff\xff\xff\xff\xff\xff\xff\xff\xff\xff\xff5:token3:abc1:v5:helloe1:q3:put2:roi1e1:t4:\xdaAY|1:y1:qe";
+    b"d1:ad2:id20:\xff\xff\xff\xff\xff\xff\xff\xff\xff\xff\xff\xff\xff\xff\xff\xff\xff\xff\xff\xff5:token8:aoeusnth1:v5:helloe1:q3:put2:roi1e1:t4:\xdaAY|1:y1:qe";
 
 /// The datagrams that the command sends over the link where it ends well with this text.
 fn sends<R: AllocGlobal + RandomSource + Threads + Wait + Sync>(
@@ -155,7 +163,7 @@ fn an_item_in_another_name_is_none(rt: HostRuntime) -> Result<(), Fail> {
 #[test]
 fn the_first_item_of_the_key_is_printed(rt: HostRuntime) -> Result<(), Fail> {
     let input = lines(rt.alloc(), 1, 2)?;
-    let datagrams: [(u16, &[u8]); 2] = [(6001, JELLO), (6002, SECOND_HELLO)];
+    let datagrams: [(u16, &[u8]); 2] = [(6002, JELLO_OF_2), (6001, SECOND_HELLO)];
     let link = link_from(rt.alloc(), &datagrams, &[], &[])?;
     let text = "value 353a68656c6c6f\nfound 2 asked 2 failed 0 turned 0\n";
     shows(&rt, GET, input.as_str(), link, 0, text)
@@ -240,7 +248,7 @@ fn an_item_is_put_with_the_token(rt: HostRuntime) -> Result<(), Fail> {
 #[test]
 fn each_contact_is_given_the_item_with_its_own_token(rt: HostRuntime) -> Result<(), Fail> {
     let input = lines(rt.alloc(), 1, 2)?;
-    let datagrams: [(u16, &[u8]); 2] = [(6001, NO_ITEM), (6002, SECOND_TOKEN)];
+    let datagrams: [(u16, &[u8]); 2] = [(6002, TOKEN_OF_2), (6001, SECOND_TOKEN)];
     let link = link_from(rt.alloc(), &datagrams, &[], &[])?;
     let text =
         "key e28910ea0adb94dd45ced75fbff3e135c01bc437\nfound 2 asked 2 failed 0 turned 0 stored 2\n";
