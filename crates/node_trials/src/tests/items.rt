@@ -306,23 +306,29 @@ const BAD: [&str; 11] = [
     "6c6c6c6c6c6c6c6c6c6c6c6c6c6c6c656565656565656565656565656565",
 ];
 
-/// The statuses of storing such a value, over a source whose first read fails: nothing is read, and nothing is sent.
 #[test]
-fn a_value_that_is_no_item_is_refused_unread(rt: HostRuntime) -> Result<(), Fail> {
+fn a_value_that_is_no_item_is_refused(rt: HostRuntime) -> Result<(), Fail> {
     let alloc = rt.alloc();
     for value in BAD {
-        let mut link = link_from(alloc, &[(6001, NO_ITEM)], &[], &[])?;
-        let mut fails = none(alloc);
-        fails.push(0)?;
-        let mut source = BytesSource::new(List::from_slice(alloc, LINE_1.as_bytes())?, 4096, fails);
-        let mut sink = BytesSink::new(4096, none(alloc), List::new(alloc));
-        let words = words(alloc, &["put", "--value", value])?;
-        let status = status_of(&rt, &words, &mut source, &mut link, &mut sink, &Sha1Check)?;
-        assert_eq!(rt; status, 12, "at {value}");
-        assert_eq!(rt; sink.written(), b"bad value\n".as_slice(), "at {value}");
-        let sent = sent(alloc, &link)?;
-        assert_eq!(rt; sent.len(), 0, "at {value}");
+        let link = link_from(alloc, &[(6001, NO_ITEM)], &[], &[])?;
+        let words = ["put", "--value", value];
+        shows(&rt, &words, LINE_1, link, 12, "bad value\n")?;
     }
+    Ok(())
+}
+
+/// The first read would fail.
+#[test]
+fn a_bad_value_is_told_before_the_input_is_read(rt: HostRuntime) -> Result<(), Fail> {
+    let alloc = rt.alloc();
+    let words = words(alloc, &["put", "--value", "353a"])?;
+    let input = List::from_slice(alloc, LINE_1.as_bytes())?;
+    let mut source = BytesSource::new(input, 4096, List::from_slice(alloc, &[0])?);
+    let mut sink = BytesSink::new(4096, none(alloc), List::new(alloc));
+    let mut link = link_from(alloc, &[], &[], &[])?;
+    let status = status_of(&rt, &words, &mut source, &mut link, &mut sink, &Sha1Check)?;
+    assert_eq!(rt; status, 12);
+    assert_eq!(rt; sink.written(), b"bad value\n".as_slice());
     Ok(())
 }
 
