@@ -9,6 +9,7 @@ mod paths;
 mod peering;
 mod puzzled;
 mod replies;
+mod sending;
 mod together;
 
 use kad_base::{Event, List};

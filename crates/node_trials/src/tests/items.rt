@@ -1,13 +1,10 @@
 //! Searches for items over a scripted link, and items that are stored: which value is printed, and who is given the item. The
 //! bytes of the answers and of the puts were written from BEP 44 by a script of their own, and so were the SHA-1s.
-use fake_net::ScriptLink;
-use run_kit::{play, shows};
+use crate::tests::sending::{is_at, sends};
+use run_kit::shows;
 use std::alloc::Global;
-use std::random::RandomSource;
-use std::sync::Wait;
 use std::test::Fail;
-use std::thread::Threads;
-use trial_kit::{LINE_1, lines, link_from, sent};
+use trial_kit::{LINE_1, lines, link_from};
 
 /// A search for the item `5:hello` by the node of ones, on one path.
 const GET: &[&str] = &[
@@ -100,32 +97,6 @@ const THIRD: &[u8] =
 /// The item for contact 1 after that one, under the ninth word.
 const FOURTH: &[u8] =
     b"d1:ad2:id20:\xff\xff\xff\xff\xff\xff\xff\xff\xff\xff\xff\xff\xff\xff\xff\xff\xff\xff\xff\xff5:token8:aoeusnth1:v5:helloe1:q3:put2:roi1e1:t4:\xdaAY|1:y1:qe";
-
-/// The datagrams that the command sends over the link where it ends well with this text.
-fn sends<R: AllocGlobal + RandomSource + Threads + Wait + Sync>(
-    rt: &R,
-    words: &[&str],
-    input: &str,
-    link: ScriptLink,
-    text: &str,
-) -> Result<Vec<Vec<u8>>, Fail> {
-    let played = play(rt, words, input, link)?;
-    if played.status != 0 {
-        return Err(Fail::new("another status"));
-    }
-    if played.text.as_str() != text {
-        return Err(Fail::new("another text"));
-    }
-    sent(rt.alloc(), &played.link)
-}
-
-/// Whether the datagram of this number, from 0, has these bytes.
-fn is_at(sent: &[Vec<u8>], place: usize, wanted: &[u8]) -> bool {
-    match sent.get(place) {
-        Some(bytes) => bytes.as_slice() == wanted,
-        None => false,
-    }
-}
 
 #[test]
 fn an_item_is_printed(rt: HostRuntime) -> Result<(), Fail> {

@@ -1,14 +1,15 @@
 //! Searches for peers over a scripted link: which peers are printed, and who is told of this node.
 //! The bytes of the answers and of the announcements were written by hand from BEP 5.
 use crate::tests::PEERS;
+use crate::tests::sending::{is_at, sends};
 use fake_net::ScriptLink;
-use run_kit::{play, shows};
+use run_kit::shows;
 use std::alloc::Global;
 use std::random::RandomSource;
 use std::sync::Wait;
 use std::test::Fail;
 use std::thread::Threads;
-use trial_kit::{LINE_1, lines, link_from, sent};
+use trial_kit::{LINE_1, lines, link_from};
 
 /// Further words: the port 6882 is announced.
 const ANNOUNCE: &[&str] = &["--announce", "6882"];
@@ -83,7 +84,7 @@ fn search(alloc: Global, further: &[&'static str]) -> Result<Vec<&'static str>, 
 
 /// The datagrams that the search with these further words sends over the link where it ends well
 /// with this text.
-fn sends<R: AllocGlobal + RandomSource + Threads + Wait + Sync>(
+fn search_sends<R: AllocGlobal + RandomSource + Threads + Wait + Sync>(
     rt: &R,
     further: &[&'static str],
     input: &str,
@@ -91,29 +92,14 @@ fn sends<R: AllocGlobal + RandomSource + Threads + Wait + Sync>(
     text: &str,
 ) -> Result<Vec<Vec<u8>>, Fail> {
     let words = search(rt.alloc(), further)?;
-    let played = play(rt, words.as_slice(), input, link)?;
-    if played.status != 0 {
-        return Err(Fail::new("another status"));
-    }
-    if played.text.as_str() != text {
-        return Err(Fail::new("another text"));
-    }
-    sent(rt.alloc(), &played.link)
-}
-
-/// Whether the datagram of this number, from 0, has these bytes.
-fn is_at(sent: &[Vec<u8>], place: usize, wanted: &[u8]) -> bool {
-    match sent.get(place) {
-        Some(bytes) => bytes.as_slice() == wanted,
-        None => false,
-    }
+    sends(rt, words.as_slice(), input, link, text)
 }
 
 #[test]
 fn a_peer_is_printed(rt: HostRuntime) -> Result<(), Fail> {
     let link = link_from(rt.alloc(), &[(6001, ONE_PEER)], &[], &[])?;
     let text = "127.0.0.1:6881\npeers 1 found 1 asked 1 failed 0 turned 0 announced 0\n";
-    let sent = sends(&rt, &[], LINE_1, link, text)?;
+    let sent = search_sends(&rt, &[], LINE_1, link, text)?;
     assert_eq!(rt; sent.len(), 1);
     assert!(rt; is_at(&sent, 0, QUERY));
     Ok(())
@@ -123,7 +109,7 @@ fn a_peer_is_printed(rt: HostRuntime) -> Result<(), Fail> {
 fn a_port_is_announced_with_the_token(rt: HostRuntime) -> Result<(), Fail> {
     let link = link_from(rt.alloc(), &[(6001, ONE_PEER)], &[], &[])?;
     let text = "127.0.0.1:6881\npeers 1 found 1 asked 1 failed 0 turned 0 announced 1\n";
-    let sent = sends(&rt, ANNOUNCE, LINE_1, link, text)?;
+    let sent = search_sends(&rt, ANNOUNCE, LINE_1, link, text)?;
     assert_eq!(rt; sent.len(), 2);
     assert!(rt; is_at(&sent, 1, ANNOUNCED));
     Ok(())
@@ -133,7 +119,7 @@ fn a_port_is_announced_with_the_token(rt: HostRuntime) -> Result<(), Fail> {
 fn port_0_announces_the_one_that_the_datagram_comes_from(rt: HostRuntime) -> Result<(), Fail> {
     let link = link_from(rt.alloc(), &[(6001, ONE_PEER)], &[], &[])?;
     let text = "127.0.0.1:6881\npeers 1 found 1 asked 1 failed 0 turned 0 announced 1\n";
-    let sent = sends(&rt, IMPLY, LINE_1, link, text)?;
+    let sent = search_sends(&rt, IMPLY, LINE_1, link, text)?;
     assert_eq!(rt; sent.len(), 2);
     assert!(rt; is_at(&sent, 1, IMPLIED));
     Ok(())
@@ -143,7 +129,7 @@ fn port_0_announces_the_one_that_the_datagram_comes_from(rt: HostRuntime) -> Res
 fn a_refused_announcement_is_not_counted(rt: HostRuntime) -> Result<(), Fail> {
     let link = link_from(rt.alloc(), &[(6001, ONE_PEER)], &[1], &[])?;
     let text = "127.0.0.1:6881\npeers 1 found 1 asked 1 failed 0 turned 0 announced 0\n";
-    let sent = sends(&rt, ANNOUNCE, LINE_1, link, text)?;
+    let sent = search_sends(&rt, ANNOUNCE, LINE_1, link, text)?;
     assert_eq!(rt; sent.len(), 1);
     Ok(())
 }
@@ -159,7 +145,7 @@ fn peers_of_several_answers_stand_once_and_in_order(rt: HostRuntime) -> Result<(
         &[],
         &[],
     )?;
-    let sent = sends(&rt, ANNOUNCE, input.as_str(), link, THREE_PEERS)?;
+    let sent = search_sends(&rt, ANNOUNCE, input.as_str(), link, THREE_PEERS)?;
     assert_eq!(rt; sent.len(), 4);
     assert!(rt; is_at(&sent, 2, THIRD));
     assert!(rt; is_at(&sent, 3, FOURTH));
@@ -172,7 +158,7 @@ fn peers_of_several_answers_stand_once_and_in_order(rt: HostRuntime) -> Result<(
 fn odd_peers_and_no_token(rt: HostRuntime) -> Result<(), Fail> {
     let link = link_from(rt.alloc(), &[(6001, ODD_PEERS)], &[], &[])?;
     let text = "127.0.0.1:0\npeers 1 found 1 asked 1 failed 0 turned 0 announced 0\n";
-    let sent = sends(&rt, ANNOUNCE, LINE_1, link, text)?;
+    let sent = search_sends(&rt, ANNOUNCE, LINE_1, link, text)?;
     assert_eq!(rt; sent.len(), 1);
     Ok(())
 }
@@ -188,7 +174,7 @@ fn a_token_of_a_contact_that_is_not_found_is_not_used(rt: HostRuntime) -> Result
         &[],
     )?;
     let text = "peers 0 found 1 asked 2 failed 0 turned 0 announced 1\n";
-    let sent = sends(&rt, ONE_FOUND, input.as_str(), link, text)?;
+    let sent = search_sends(&rt, ONE_FOUND, input.as_str(), link, text)?;
     assert_eq!(rt; sent.len(), 3);
     assert!(rt; is_at(&sent, 2, THIRD));
     Ok(())
@@ -199,7 +185,7 @@ fn a_token_of_a_contact_that_is_not_found_is_not_used(rt: HostRuntime) -> Result
 fn an_answer_in_another_name_gives_no_peers(rt: HostRuntime) -> Result<(), Fail> {
     let link = link_from(rt.alloc(), &[(6001, POSING)], &[], &[])?;
     let text = "peers 0 found 0 asked 1 failed 1 turned 0 announced 0\n";
-    let sent = sends(&rt, ANNOUNCE, LINE_1, link, text)?;
+    let sent = search_sends(&rt, ANNOUNCE, LINE_1, link, text)?;
     assert_eq!(rt; sent.len(), 1);
     Ok(())
 }
@@ -211,7 +197,7 @@ fn a_contact_learnt_on_the_way_gives_its_peers(rt: HostRuntime) -> Result<(), Fa
     let datagrams: [(u16, &[u8]); 2] = [(6002, NAMING_1), (6001, SECOND_PEER)];
     let link = link_from(rt.alloc(), &datagrams, &[], &[])?;
     let text = "127.0.0.1:6881\npeers 1 found 2 asked 2 failed 0 turned 0 announced 2\n";
-    let sent = sends(&rt, ANNOUNCE, input.as_str(), link, text)?;
+    let sent = search_sends(&rt, ANNOUNCE, input.as_str(), link, text)?;
     assert_eq!(rt; sent.len(), 4);
     assert!(rt; is_at(&sent, 2, THIRD));
     assert!(rt; is_at(&sent, 3, FOURTH));
