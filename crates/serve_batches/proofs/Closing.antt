@@ -1,0 +1,330 @@
+-- What is known once the three turns are closed.
+use Rattle.std.proofs.Common.{◌≡◌, ℕ, ◌+◌, ◌-◌, ◌<◌, ◌%◌, ◌==◌, cond, Bool, true, false, List, [], ◌∷◌, ◌++◌, map, length, get_or, eqb, Option, Some, None, Result, Ok, Err, IfOk, inl, refl, sym, ap, subst, ◌∙◌, arith, All}
+use Rattle.std.specs.Prelude.{IfErr, reverse, slice_index_or}
+use Rattle.std.specs.List.{flat_map, range_with_len}
+use Rattle.std.proofs.lemmas.Grind.{flat_map-append}
+use Rattle.std.proofs.lemmas.List.{length-reverse, length-map, get_or-map, get_or-reverse}
+use Rattle.std.proofs.lemmas.List.Elements.{All-nil, All-cons, All-head, All-tail, All-same, All-map, All-append, All-weaker, filter_passes}
+use Rattle.std.proofs.lemmas.List.Sorted.{All-permutation, IsPermutation-sym}
+use Rattle.std.proofs.lemmas.Bool.{eqb-true}
+use Rattle.kad_base.specs.declared.types.Event.{Event}
+use Rattle.kad_base.specs.declared.serial.Made.{Made}
+use Rattle.kad_base.specs.Serial.{made, calls_of, left_by, IsRun}
+use Rattle.deal_ring.specs.Deal.{dealt_from, dealt}
+use Rattle.turn_book.specs.Turns.{TurnState, PassState, Closed, fresh, all_fresh, mine}
+use Rattle.contact_table.specs.TableState.{TableState}
+use Rattle.contact_table.specs.TableStep.{TableMay, TableStep, table_after}
+use Rattle.contact_table.specs.Told.{HasMemory}
+use Rattle.contact_table.specs.declared.calls.TableCall.{TableCall}
+use Rattle.contact_table.specs.declared.calls.TableReply.{TableReply}
+use Rattle.peer_store.specs.Peers.{Held}
+use Rattle.peer_store.specs.PeersStep.{PeersMay, PeersStep, peers_after}
+use Rattle.peer_store.specs.declared.calls.PeerCall.{PeerCall}
+use Rattle.peer_store.specs.declared.calls.PeerReply.{PeerReply}
+use Rattle.item_store.specs.Items.{Held as HeldItem}
+use Rattle.item_store.specs.ItemSteps.{ItemMay, ItemStep, item_after}
+use Rattle.item_store.specs.declared.calls.ItemCall.{ItemCall}
+use Rattle.item_store.specs.declared.calls.ItemReply.{ItemReply}
+use Rattle.node_serve.specs.Calls.{Did, on_table, on_peers, on_items, HadMemory, HasRoom, HasItemRoom}
+use Rattle.node_serve.specs.Sealing.{Tags}
+use Rattle.node_serve.specs.declared.service.ServeCounts.{ServeCounts}
+use Rattle.node_serve.specs.declared.service.ServeFault.{ServeFault}
+use Rattle.node_serve.specs.declared.service.ServeFault.TheVariants.{NoMemory as Out_of_memory}
+use Rattle.node_serve.specs.declared.setting.ServeSetting.{ServeSetting}
+use Rattle.serve_crew.specs.Hands.{Grew, TablePass, PeersPass, ItemsPass, at_table, at_peers, at_items}
+use Rattle.serve_batches.specs.Batches.{Datagram, Done, IsAnsweredBy, IsDone, calls_for}
+use Rattle.serve_batches.specs.ManyServed.{Happens, Ran, HadAllMemory, AreCalls, AreFirstCalls, ManyServed, ManyBegun}
+use Rattle.serve_batches.specs.Passes.{new_hands}
+use Rattle.serve_batches.specs.Serving.{Rows, AreBack, ServedBack, StoppedBack}
+use Rattle.serve_batches.specs.declared.shift.Shift.{Shift}
+use Rattle.serve_batches.proofs.Dealing.{all_reverse}
+use Rattle.serve_batches.proofs.Answering.{first_of}
+use Rattle.serve_batches.proofs.Happening.{happens_weaker}
+
+-- ---- one turn
+
+module _ {C R : Type 0} where
+  all_mine : (P : Made C R → Type 0) (row : List (PassState C R)) → All (λ (p : PassState C R). All P (mine p)) row → All P (flat_map mine row)
+  all_mine P [] each = All-nil P
+  all_mine P (p ∷ row) each = All-append P (mine p) (flat_map mine row) (All-head (λ (q : PassState C R). All P (mine q)) p row each) (all_mine P row (All-tail (λ (q : PassState C R). All P (mine q)) p row each))
+
+  mine_few : (n : ℕ) (p : PassState C R) → p.role < n → All (λ (m : Made C R). m.role < n) (mine p)
+  mine_few n p lt = All-weaker (λ (m : Made C R). eqb m.role p.role ≡ true) (λ (m : Made C R). m.role < n) (λ m is. (let same : m.role ≡ p.role = eqb-true m.role p.role is in omega (arith, same, lt))) (mine p)
+      (filter_passes (λ (m : Made C R). eqb m.role p.role) p.seen)
+
+module _ {S C R : Type 0} (may : ℕ → C → Type 0) (step : S → ℕ → C → R → Type 0) (after : S → ℕ → C → R → S) (turn : TurnState S) (row : List (PassState C R)) (state : S) (calls : ℕ) (closed : Closed may step after turn row state calls) where
+  -- what holds of each pass's own calls holds of all
+  all_run : (P : Made C R → Type 0) → All (λ (p : PassState C R). All P (mine p)) row → All P closed.run
+  all_run P each = All-permutation P (flat_map mine row) closed.run (IsPermutation-sym closed.run (flat_map mine row) closed.each_once) (all_mine P row each)
+
+  module _ (pass_of : Shift → PassState C R) (crew : List Shift) (is : row ≡ map pass_of (reverse crew)) where
+    all_crew : (P : Made C R → Type 0) → All (λ (x : Shift). All P (mine (pass_of x))) crew → All P closed.run
+    all_crew P each =
+        all_run P (All-same (λ (p : PassState C R). All P (mine p)) row (map pass_of (reverse crew)) is
+        (All-map (λ (p : PassState C R). All P (mine p)) pass_of (reverse crew) (all_reverse (λ (x : Shift). All P (mine (pass_of x))) crew each)))
+
+    crew_few : (n : ℕ) → All (λ (x : Shift). (pass_of x).role < n) crew → All (λ (m : Made C R). m.role < n) closed.run
+    crew_few n few = all_crew (λ (m : Made C R). m.role < n) (λ w d lt. mine_few n (pass_of (get_or crew w d)) (few w d lt))
+
+    in_order_at : (w : ℕ) (d : Shift) → w < length crew → calls_of (pass_of (get_or crew w d)).role closed.run ≡ mine (pass_of (get_or crew w d))
+    in_order_at w d lt =
+        let P : PassState C R → Type 0 = λ p. calls_of p.role closed.run ≡ mine p in
+        let k : ℕ = length crew - 1 - w in
+        let r = length-reverse crew in
+        let m = length-map (reverse crew) pass_of in
+        let below : length crew - 1 - w < length crew = omega (arith, lt) in
+        let there : length crew - 1 - w < length (reverse crew) = omega (arith, r, lt) in
+        let mapped : length crew - 1 - w < length (map pass_of (reverse crew)) = omega (arith, r, m, lt) in
+        let back : length crew - 1 - (length crew - 1 - w) ≡ w = omega (arith, lt) in
+        let at : P (get_or (map pass_of (reverse crew)) k (pass_of d)) = (subst (All P) is closed.in_order) k (pass_of d) mapped in
+        let e : get_or (map pass_of (reverse crew)) k (pass_of d) ≡ pass_of (get_or crew w d) =
+        get_or-map pass_of (reverse crew) k d (pass_of d) there ∙ ap pass_of (get_or-reverse crew k d below ∙ ap (λ i. get_or crew i d) back) in
+        subst P e at
+
+    -- the calls of a worker
+    calls_at : (w : ℕ) (d : Shift) → w < length crew → (pass_of (get_or crew w d)).role ≡ w → calls_of w closed.run ≡ mine (pass_of (get_or crew w d))
+    calls_at w d lt role = ap (λ r. calls_of r closed.run) (sym role) ∙ in_order_at w d lt
+
+  -- passes that made no call
+  none_made : (n : ℕ) → n ≡ turn.roles → row ≡ all_fresh turn → (P : Made C R → Type 0) → All P closed.run
+  none_made n roles is P =
+      all_run P (All-same (λ (p : PassState C R). All P (mine p)) row (all_fresh turn) is
+      (All-map (λ (p : PassState C R). All P (mine p)) (fresh turn.id) (range_with_len 0 turn.roles) (λ k d lt. All-nil P)))
+
+-- ---- memory
+
+did_table : (w : ℕ) (ds : List Did) → All HadMemory ds → All (λ (m : Made TableCall TableReply). HasMemory m.reply) (flat_map (at_table w) ds)
+did_table w [] h = All-nil (λ (m : Made TableCall TableReply). HasMemory m.reply)
+did_table w (d ∷ ds) h = All-append (λ (m : Made TableCall TableReply). HasMemory m.reply) (at_table w d) (flat_map (at_table w) ds) (one d (All-head HadMemory d ds h)) (did_table w ds (All-tail HadMemory d ds h))
+  where
+    one : (x : Did) → HadMemory x → All (λ (m : Made TableCall TableReply). HasMemory m.reply) (at_table w x)
+    one (on_table call reply) h = All-cons (λ (m : Made TableCall TableReply). HasMemory m.reply) (made w call reply) [] h (All-nil (λ (m : Made TableCall TableReply). HasMemory m.reply))
+    one (on_peers call reply) h = All-nil (λ (m : Made TableCall TableReply). HasMemory m.reply)
+    one (on_items call reply) h = All-nil (λ (m : Made TableCall TableReply). HasMemory m.reply)
+
+did_peers : (w : ℕ) (ds : List Did) → All HadMemory ds → All (λ (m : Made PeerCall PeerReply). HasRoom m.reply) (flat_map (at_peers w) ds)
+did_peers w [] h = All-nil (λ (m : Made PeerCall PeerReply). HasRoom m.reply)
+did_peers w (d ∷ ds) h = All-append (λ (m : Made PeerCall PeerReply). HasRoom m.reply) (at_peers w d) (flat_map (at_peers w) ds) (one d (All-head HadMemory d ds h)) (did_peers w ds (All-tail HadMemory d ds h))
+  where
+    one : (x : Did) → HadMemory x → All (λ (m : Made PeerCall PeerReply). HasRoom m.reply) (at_peers w x)
+    one (on_table call reply) h = All-nil (λ (m : Made PeerCall PeerReply). HasRoom m.reply)
+    one (on_peers call reply) h = All-cons (λ (m : Made PeerCall PeerReply). HasRoom m.reply) (made w call reply) [] h (All-nil (λ (m : Made PeerCall PeerReply). HasRoom m.reply))
+    one (on_items call reply) h = All-nil (λ (m : Made PeerCall PeerReply). HasRoom m.reply)
+
+did_items : (w : ℕ) (ds : List Did) → All HadMemory ds → All (λ (m : Made ItemCall ItemReply). HasItemRoom m.reply) (flat_map (at_items w) ds)
+did_items w [] h = All-nil (λ (m : Made ItemCall ItemReply). HasItemRoom m.reply)
+did_items w (d ∷ ds) h = All-append (λ (m : Made ItemCall ItemReply). HasItemRoom m.reply) (at_items w d) (flat_map (at_items w) ds) (one d (All-head HadMemory d ds h)) (did_items w ds (All-tail HadMemory d ds h))
+  where
+    one : (x : Did) → HadMemory x → All (λ (m : Made ItemCall ItemReply). HasItemRoom m.reply) (at_items w x)
+    one (on_table call reply) h = All-nil (λ (m : Made ItemCall ItemReply). HasItemRoom m.reply)
+    one (on_peers call reply) h = All-nil (λ (m : Made ItemCall ItemReply). HasItemRoom m.reply)
+    one (on_items call reply) h = All-cons (λ (m : Made ItemCall ItemReply). HasItemRoom m.reply) (made w call reply) [] h (All-nil (λ (m : Made ItemCall ItemReply). HasItemRoom m.reply))
+
+module _ (tag_of : Tags) (s : ServeSetting) where
+  had_memory : (d : Datagram) (did : List Did) (reply : Option (List ℕ)) → IsAnsweredBy tag_of s d did reply → All HadMemory did
+  had_memory d did None h = subst (All HadMemory) (sym h.1) (All-nil HadMemory)
+  had_memory d did (Some text) h = h.memory
+
+  all_cond : {A : Type 0} (P : A → Type 0) (b : Bool) (x : A) (xs : List A) → P x → All P xs → All P (cond b (x ∷ xs) xs)
+  all_cond P true x xs h all = All-cons P x xs h all
+  all_cond P false x xs h all = all
+
+  all_dealt : {A : Type 0} (P : A → Type 0) (n w j : ℕ) (xs : List A) → All P xs → All P (dealt_from n w j xs)
+  all_dealt P n w j [] all = All-nil P
+  all_dealt P n w j (x ∷ xs) all = all_cond P (j % n == w) x (dealt_from n w (j + 1) xs) (All-head P x xs all) (all_dealt P n w (j + 1) xs (All-tail P x xs all))
+
+  done_memory : (ds : List Done) → All (IsDone tag_of s) ds → All HadMemory (flat_map (λ (d : Done). d.did) ds)
+  done_memory [] all = All-nil HadMemory
+  done_memory (d ∷ ds) all = All-append HadMemory d.did (flat_map (λ (x : Done). x.did) ds) (had_memory d.datagram d.did d.reply (All-head (IsDone tag_of s) d ds all)) (done_memory ds (All-tail (IsDone tag_of s) d ds all))
+
+  done_for : (n w : ℕ) (bs : List (List Done)) → All (All (IsDone tag_of s)) bs → All (IsDone tag_of s) (flat_map (dealt n w) bs)
+  done_for n w [] all = All-nil (IsDone tag_of s)
+  done_for n w (b ∷ bs) all =
+      All-append (IsDone tag_of s) (dealt n w b) (flat_map (dealt n w) bs) (all_dealt (IsDone tag_of s) n w 0 b (All-head (All (IsDone tag_of s)) b bs all)) (done_for n w bs (All-tail (All (IsDone tag_of s)) b bs all))
+
+  calls_memory : (n w : ℕ) (bs : List (List Done)) → All (All (IsDone tag_of s)) bs → All HadMemory (calls_for n w bs)
+  calls_memory n w bs all = done_memory (flat_map (dealt n w) bs) (done_for n w bs all)
+
+-- ---- three turns
+
+module _ (n : ℕ) (r : Rows) (before after : TableState) (table_calls : ℕ) (held : List Held) (peers_calls : ℕ) (shelf : List HeldItem) (items_calls : ℕ)
+    (t : Closed TableMay TableStep table_after r.tables r.table_row after table_calls) (p : Closed PeersMay PeersStep peers_after r.stores r.peers_row held peers_calls) (i : Closed ItemMay ItemStep item_after r.shelves r.items_row shelf items_calls)
+    (start : r.tables.start ≡ before) (no_peers : r.stores.start ≡ []) (no_items : r.shelves.start ≡ []) (crew : List Shift) (back : AreBack n r crew) where
+  abbrev table_of : Shift → TablePass
+  table_of x = x.worker.table
+
+  abbrev peers_of : Shift → PeersPass
+  peers_of x = x.worker.peers
+
+  abbrev items_of : Shift → ItemsPass
+  items_of x = x.worker.items
+
+  below : (w : ℕ) → w < length crew → w < n
+  below w lt = (let count = back.count in omega (arith, count, lt))
+
+  ran : Ran n before after
+  ran = record {
+    tables = t.run;
+    tables_legal = subst (λ b. IsRun TableMay TableStep table_after b t.run) start t.legal;
+    tables_roles = crew_few TableMay TableStep table_after r.tables r.table_row after table_calls t table_of crew back.tables n
+        (λ w d lt. (let role = (back.same w d (below w lt)).table.role in let few = below w lt in omega (arith, role, few)));
+    leaves = t.left ∙ ap (λ b. left_by table_after b t.run) start;
+    stores = p.run;
+    stores_legal = subst (λ b. IsRun PeersMay PeersStep peers_after b p.run) no_peers p.legal;
+    stores_roles = crew_few PeersMay PeersStep peers_after r.stores r.peers_row held peers_calls p peers_of crew back.peers n
+        (λ w d lt. (let role = (back.same w d (below w lt)).peers.role in let few = below w lt in omega (arith, role, few)));
+    shelves = i.run;
+    shelves_legal = subst (λ b. IsRun ItemMay ItemStep item_after b i.run) no_items i.legal;
+    shelves_roles = crew_few ItemMay ItemStep item_after r.shelves r.items_row shelf items_calls i items_of crew back.items n
+        (λ w d lt. (let role = (back.same w d (below w lt)).items.role in let few = below w lt in omega (arith, role, few)));
+  }
+
+  abbrev GrewBy : (ℕ → List Did) → Type 0
+  GrewBy did = (w : ℕ) (d : Shift) → w < n → Grew (new_hands r.tables r.stores r.shelves w) (slice_index_or crew w d).worker (did w)
+
+  memory : (did : ℕ → List Did) → GrewBy did → ((w : ℕ) → All HadMemory (did w)) → HadAllMemory n before after ran
+  unfolding ran
+  memory did grew had = record {
+    tables = all_crew TableMay TableStep table_after r.tables r.table_row after table_calls t table_of crew back.tables (λ (m : Made TableCall TableReply). HasMemory m.reply)
+        (λ w d lt. All-same (λ (m : Made TableCall TableReply). HasMemory m.reply) (mine (get_or crew w d).worker.table) (flat_map (at_table w) (did w)) (grew w d (below w lt)).table (did_table w (did w) (had w)));
+    stores = all_crew PeersMay PeersStep peers_after r.stores r.peers_row held peers_calls p peers_of crew back.peers (λ (m : Made PeerCall PeerReply). HasRoom m.reply)
+        (λ w d lt. All-same (λ (m : Made PeerCall PeerReply). HasRoom m.reply) (mine (get_or crew w d).worker.peers) (flat_map (at_peers w) (did w)) (grew w d (below w lt)).peers (did_peers w (did w) (had w)));
+    shelves = all_crew ItemMay ItemStep item_after r.shelves r.items_row shelf items_calls i items_of crew back.items (λ (m : Made ItemCall ItemReply). HasItemRoom m.reply)
+        (λ w d lt. All-same (λ (m : Made ItemCall ItemReply). HasItemRoom m.reply) (mine (get_or crew w d).worker.items) (flat_map (at_items w) (did w)) (grew w d (below w lt)).items (did_items w (did w) (had w)));
+  }
+
+  are_calls : (w : ℕ) (did : List Did) → w < n → ((d : Shift) → Grew (new_hands r.tables r.stores r.shelves w) (slice_index_or crew w d).worker did) → AreCalls n before after ran w did
+  unfolding ran
+  are_calls w did lt grew =
+      let count = back.count in
+      let there : w < length crew = omega (arith, count, lt) in
+      let d : Shift = first_of crew (omega (arith, there)) in
+      let same = back.same w d lt in
+      record {
+        tables = calls_at TableMay TableStep table_after r.tables r.table_row after table_calls t table_of crew back.tables w d there same.table.role ∙ (grew d).table;
+        stores = calls_at PeersMay PeersStep peers_after r.stores r.peers_row held peers_calls p peers_of crew back.peers w d there same.peers.role ∙ (grew d).peers;
+        shelves = calls_at ItemMay ItemStep item_after r.shelves r.items_row shelf items_calls i items_of crew back.items w d there same.items.role ∙ (grew d).items;
+      }
+
+  are_first : (w : ℕ) (did rest : List Did) → w < n → (d : Shift) → Grew (new_hands r.tables r.stores r.shelves w) (slice_index_or crew w d).worker (did ++ rest) → AreFirstCalls n before after ran w did
+  unfolding ran
+  are_first w did rest lt d grew =
+      let count = back.count in
+      let there : w < length crew = omega (arith, count, lt) in
+      let same = back.same w d lt in
+      record {
+        tables = (
+          flat_map (at_table w) rest,
+          calls_at TableMay TableStep table_after r.tables r.table_row after table_calls t table_of crew back.tables w d there same.table.role ∙ grew.table ∙ flat_map-append (at_table w) did rest,
+        );
+        stores = (
+          flat_map (at_peers w) rest,
+          calls_at PeersMay PeersStep peers_after r.stores r.peers_row held peers_calls p peers_of crew back.peers w d there same.peers.role ∙ grew.peers ∙ flat_map-append (at_peers w) did rest,
+        );
+        shelves = (
+          flat_map (at_items w) rest,
+          calls_at ItemMay ItemStep item_after r.shelves r.items_row shelf items_calls i items_of crew back.items w d there same.items.role ∙ grew.items ∙ flat_map-append (at_items w) did rest,
+        );
+      }
+
+module _ (tag_of : Tags) (s : ServeSetting) (n began receives : ℕ) (r : Rows) (before after : TableState) (table_calls : ℕ) (held : List Held) (peers_calls : ℕ) (shelf : List HeldItem) (items_calls : ℕ)
+    (t : Closed TableMay TableStep table_after r.tables r.table_row after table_calls) (p : Closed PeersMay PeersStep peers_after r.stores r.peers_row held peers_calls) (i : Closed ItemMay ItemStep item_after r.shelves r.items_row shelf items_calls)
+    (start : r.tables.start ≡ before) (no_peers : r.stores.start ≡ []) (no_items : r.shelves.start ≡ []) where
+  pub many_served : (received replied : ℕ) (es : List Event) → ServedBack tag_of s n began receives received replied r es → ManyServed tag_of s n began receives before after received replied es
+  many_served received replied es h = record {
+    ran = ran n r before after table_calls held peers_calls shelf items_calls t p i start no_peers no_items h.crew h.back;
+    memory = memory n r before after table_calls held peers_calls shelf items_calls t p i start no_peers no_items h.crew h.back (λ w. calls_for n w h.batches) h.grew (λ w. calls_memory tag_of s n w h.batches h.done);
+    batches = h.batches;
+    end = h.end;
+    are = h.are;
+    done = h.done;
+    each = λ w lt. are_calls n r before after table_calls held peers_calls shelf items_calls t p i start no_peers no_items h.crew h.back w (calls_for n w h.batches) lt (λ d. h.grew w d lt);
+    received_are = h.received_are;
+    replied_are = h.replied_are;
+  }
+
+  pub many_begun : (fault : ServeFault) (es : List Event) → 0 < n → StoppedBack tag_of s n began receives r fault es → ManyBegun tag_of s n began receives before after fault es
+  many_begun fault es some h =
+      let count = h.back.count in
+      let d : Shift = first_of h.crew (omega (arith, count, some)) in
+      record {
+        ran = ran n r before after table_calls held peers_calls shelf items_calls t p i start no_peers no_items h.crew h.back;
+        batches = h.batches;
+        front = h.front;
+        left = h.left;
+        moment = h.moment;
+        are = h.are;
+        done = h.done;
+        each = λ w lt. are_first n r before after table_calls held peers_calls shelf items_calls t p i start no_peers no_items h.crew h.back w (calls_for n w h.batches) (h.grew w d lt).0 lt d (h.grew w d lt).1;
+        last = h.last;
+        whole = h.whole;
+        ended = h.ended;
+      }
+
+-- ---- where nothing was begun
+
+pub nothing_begun : (tag_of : Tags) (s : ServeSetting) (n began receives : ℕ) (table : TableState) → ManyBegun tag_of s n began receives table table Out_of_memory []
+nothing_begun tag_of s n began receives table = record {
+  ran = record {
+    tables = [];
+    tables_legal = tt;
+    tables_roles = All-nil (λ (m : Made TableCall TableReply). m.role < n);
+    leaves = refl;
+    stores = [];
+    stores_legal = tt;
+    stores_roles = All-nil (λ (m : Made PeerCall PeerReply). m.role < n);
+    shelves = [];
+    shelves_legal = tt;
+    shelves_roles = All-nil (λ (m : Made ItemCall ItemReply). m.role < n);
+  };
+  batches = [];
+  front = [];
+  left = receives;
+  moment = began;
+  are = (refl, refl, refl);
+  done = All-nil (All (IsDone tag_of s));
+  each = λ w lt. record { tables = ([], refl); stores = ([], refl); shelves = ([], refl) };
+  last = [];
+  whole = refl;
+  ended = inl refl;
+}
+
+pub opened_alone : (tag_of : Tags) (s : ServeSetting) (n began receives : ℕ) (turn : TurnState TableState) (row : List TablePass) (table after : TableState) (calls : ℕ) → Closed TableMay TableStep table_after turn row after calls → turn.start ≡ table → row ≡ all_fresh turn
+    → ManyBegun tag_of s n began receives table after Out_of_memory []
+opened_alone tag_of s n began receives turn row table after calls t start is = record {
+  ran = record {
+    tables = t.run;
+    tables_legal = subst (λ b. IsRun TableMay TableStep table_after b t.run) start t.legal;
+    tables_roles = none_made TableMay TableStep table_after turn row after calls t turn.roles refl is (λ (m : Made TableCall TableReply). m.role < n);
+    leaves = t.left ∙ ap (λ b. left_by table_after b t.run) start;
+    stores = [];
+    stores_legal = tt;
+    stores_roles = All-nil (λ (m : Made PeerCall PeerReply). m.role < n);
+    shelves = [];
+    shelves_legal = tt;
+    shelves_roles = All-nil (λ (m : Made ItemCall ItemReply). m.role < n);
+  };
+  batches = [];
+  front = [];
+  left = receives;
+  moment = began;
+  are = (refl, refl, refl);
+  done = All-nil (All (IsDone tag_of s));
+  each = λ w lt. record { tables = (calls_of w t.run, refl); stores = ([], refl); shelves = ([], refl) };
+  last = [];
+  whole = refl;
+  ended = inl refl;
+}
+
+-- ---- what comes back
+
+module _ (tag_of : Tags) (s : ServeSetting) (n began receives : ℕ) (r : Rows) (before after : TableState) (table_calls : ℕ) (held : List Held) (peers_calls : ℕ) (shelf : List HeldItem) (items_calls : ℕ)
+    (t : Closed TableMay TableStep table_after r.tables r.table_row after table_calls) (p : Closed PeersMay PeersStep peers_after r.stores r.peers_row held peers_calls) (i : Closed ItemMay ItemStep item_after r.shelves r.items_row shelf items_calls)
+    (start : r.tables.start ≡ before) (no_peers : r.stores.start ≡ []) (no_items : r.shelves.start ≡ []) (a b : Option (List Event)) where
+  pub ok_served : (x : Result ServeCounts ServeFault) → IfOk x (λ (c : ServeCounts). Happens a b (ServedBack tag_of s n began receives c.received c.replied r)) → IfOk x (λ (c : ServeCounts). Happens a b (ManyServed tag_of s n began receives before after c.received c.replied))
+  ok_served (Ok c) h = happens_weaker a b _ _ h (λ es x. many_served tag_of s n began receives r before after table_calls held peers_calls shelf items_calls t p i start no_peers no_items c.received c.replied es x)
+  ok_served (Err e) h = tt
+
+  pub err_begun : (x : Result ServeCounts ServeFault) → 0 < n → IfErr x (λ fault. Happens a b (StoppedBack tag_of s n began receives r fault)) → IfErr x (λ fault. Happens a b (ManyBegun tag_of s n began receives before after fault))
+  err_begun (Ok c) some h = tt
+  err_begun (Err e) some h = happens_weaker a b _ _ h (λ es x. many_begun tag_of s n began receives r before after table_calls held peers_calls shelf items_calls t p i start no_peers no_items e es some x)

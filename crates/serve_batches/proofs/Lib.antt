@@ -1,0 +1,14 @@
+pub mod Answering
+pub mod Arriving
+pub mod Batching
+pub mod Circling
+pub mod Closing
+pub mod Crossing
+pub mod Dealing
+pub mod Happening
+pub mod Listing
+pub mod Parting
+pub mod Returning
+pub mod Rounds
+pub mod Sending
+pub mod Taking

@@ -1,0 +1,76 @@
+use Rattle.std.proofs.Common.{◌≡◌, ◌<◌, length, sym, ap, subst, ◌∙◌, rules, arith}
+use Rattle.std.specs.Prelude.{min}
+use Rattle.deal_ring.specs.Ring.{behind}
+use Rattle.deal_ring.specs.declared.place.Place.{Place}
+use Rattle.serve_batches.specs.Crew.{slots_of}
+use Rattle.serve_batches.proofs.Arriving.{Arrived, has_slot, same_crew_more, roomy_after, arrived_more, arrived_quiet, arrived_cut, arrived_all}
+use Rattle.serve_batches.proofs.Circling.{place_within, place_small}
+use Rattle.serve_batches.proofs.receiving.receive_into.Goals as goal
+
+pub receive_at-requires-clause-within : goal.receive_at-requires-clause-within
+receive_at-requires-clause-within g c =
+    let len = c.loop-made.invariant.same.len in
+    let some = c.requires.workers in
+    place_within (length c.loop-made.crew) c.loop-made.made c.loop-made.place c.loop-made.invariant.arrived.place_is (omega (arith, len, some))
+
+pub receive_at-requires-clause-room : goal.receive_at-requires-clause-room
+receive_at-requires-clause-room g c =
+    let len = c.loop-made.invariant.same.len in
+    let some = c.requires.workers in
+    let few : c.loop-made.made < 32 = search rules in
+    subst (λ (p : Place). p.round < length (slots_of c.loop-made.crew p.holder)) (sym c.loop-made.invariant.arrived.place_is)
+    (has_slot c.loop-made.crew c.loop-made.made (roomy_after c.args.crew.now c.loop-made.crew c.loop-made.invariant.same c.requires.roomy) (omega (arith, len, some)) few)
+
+pub next-place-requires-clause-within : goal.next-place-requires-clause-within
+next-place-requires-clause-within g c =
+    let len = c.loop-made.invariant.same.len in
+    let some = c.requires.workers in
+    let w = place_within (length c.loop-made.crew) c.loop-made.made c.loop-made.place c.loop-made.invariant.arrived.place_is (omega (arith, len, some)) in
+    omega (arith, w, len)
+
+pub next-place-requires-clause-few : goal.next-place-requires-clause-few
+next-place-requires-clause-few g c = place_small (length c.loop-made.crew) c.loop-made.made c.loop-made.place c.loop-made.invariant.arrived.place_is (search rules)
+
+pub returns-in-Ok-Quiet-clause-ok : goal.returns-in-Ok-Quiet-clause-ok
+returns-in-Ok-Quiet-clause-ok g c =
+    let p = c.in-Ok-Quiet in
+    let grows = rw p.field-0-is at p.ensures.told in
+    let lt = c.loop-made-test.true in
+    let most = c.min-most.ensures in
+    let few : c.loop-made.made < min c.args.left 32 = omega (arith, lt, most) in
+    arrived_quiet c.args.moment c.loop-made.crew c.receive_at.new.crew c.loop-made.made c.loop-made.place c.loop-made.until _ _ _ c.loop-made.invariant.arrived p.ensures.same p.ensures.put c.args.left p.at few grows
+
+pub returns-in-Err-clause-err : goal.returns-in-Err-clause-err
+returns-in-Err-clause-err g c =
+    let lt = c.loop-made-test.true in
+    let most = c.min-most.ensures in
+    let few : c.loop-made.made < min c.args.left 32 = omega (arith, lt, most) in
+    arrived_cut c.args.moment c.loop-made.crew c.loop-made.made c.loop-made.place c.loop-made.until c.args.left _ _ _ c.loop-made.invariant.arrived few c.in-Err.ensures.still
+
+pub loop-made-preserved : goal.loop-made-preserved
+loop-made-preserved g c =
+    let i = c.loop-made.invariant in
+    let p = c.in-Ok-Packet in
+    let grows = rw p.field-0-is at p.ensures.told in
+    let came = rw p.field-0-is at p.ensures.took in
+    let len = i.same.len in
+    let some = c.requires.workers in
+    let few : c.loop-made.made < 32 = search rules in
+    let room = subst (λ (q : Place). q.round < length (slots_of c.loop-made.crew q.holder)) (sym i.arrived.place_is)
+    (has_slot c.loop-made.crew c.loop-made.made (roomy_after c.args.crew.now c.loop-made.crew i.same c.requires.roomy) (omega (arith, len, some)) few) in
+    let faults = i.faults in
+    let more = p.ensures.recv_faults in
+    record {
+      same = same_crew_more c.args.crew.now c.loop-made.crew c.receive_at.new.crew i.same p.ensures.same;
+      arrived = arrived_more c.args.moment c.loop-made.crew c.receive_at.new.crew c.loop-made.made c.loop-made.place c.loop-made.until _ _ _ i.arrived p.ensures.same p.ensures.put p.at c.next-place.result room
+          (c.next-place.ensures.next ∙ ap (λ n. behind n c.loop-made.place) (sym len)) came grows;
+      faults = omega (arith, faults, more);
+      kept = p.ensures.kept ∙ i.kept;
+    }
+
+pub returns-clause-ok : goal.returns-clause-ok
+returns-clause-ok g c =
+    let whole : c.loop-made.made ≡ c.min-most.result = search rules in
+    arrived_all c.args.moment c.loop-made.crew c.min-most.result c.loop-made.place c.loop-made.until c.args.left _ _
+    (subst (λ m. Arrived c.args.moment c.loop-made.crew m c.loop-made.place c.loop-made.until (g.L.Link.told c.args.link.now) (g.L.Link.told c.loop-made.link)) whole c.loop-made.invariant.arrived)
+    c.min-most.ensures

@@ -1,0 +1,6 @@
+pub mod Batches
+pub mod Crew
+pub mod ManyServed
+pub mod Passes
+pub mod Serving
+pub mod Slots

@@ -1,0 +1,117 @@
+-- One batch, and all of them, as the code has them; no public contract speaks of these.
+use Rattle.std.specs.Prelude.{◌≡◌, ℕ, ◌+◌, ◌<◌, List, ◌++◌, length, slice_index_or}
+use Rattle.std.specs.List.{All, flat_map}
+use Rattle.kad_base.specs.declared.types.Event.{Event}
+use Rattle.deal_ring.specs.Deal.{dealt}
+use Rattle.turn_book.specs.Turns.{TurnState}
+use Rattle.contact_table.specs.TableState.{TableState}
+use Rattle.peer_store.specs.Peers.{Held}
+use Rattle.item_store.specs.Items.{Held as HeldItem}
+use Rattle.node_serve.specs.Calls.{Did}
+use Rattle.node_serve.specs.Receives.{got_in, sent_in}
+use Rattle.node_serve.specs.Sealing.{Tags}
+use Rattle.node_serve.specs.declared.service.ServeFault.{ServeFault}
+use Rattle.node_serve.specs.declared.setting.ServeSetting.{ServeSetting}
+use Rattle.serve_crew.specs.Hands.{Hands, TablePass, PeersPass, ItemsPass, SameHands, Grew}
+use Rattle.serve_batches.specs.Batches.{Done, IsDone, IsBatch, Batches, calls_for}
+use Rattle.serve_batches.specs.ManyServed.{EndsEarly}
+use Rattle.serve_batches.specs.Passes.{new_hands, table_passes, peers_passes, items_passes}
+use Rattle.serve_batches.specs.declared.batch.Progress.{Progress}
+use Rattle.serve_batches.specs.declared.shift.Shift.{Shift}
+
+-- a service that has received nothing
+abbrev pub begun : ℕ → ℕ → Progress
+begun began receives = record { moment = began; left = receives; received = 0; replied = 0 }
+
+-- each worker has the roles of the turns that it had
+abbrev pub SameRoles : List Shift → List Shift → Type 0
+SameRoles old new = (w : ℕ) (d : Shift) → w < length old → SameHands (slice_index_or old w d).worker (slice_index_or new w d).worker
+
+-- each worker's own calls grew
+abbrev pub GrewSome : List Shift → List Shift → Type 0
+GrewSome old new = (w : ℕ) (d : Shift) → w < length old → (did : List Did) × Grew (slice_index_or old w d).worker (slice_index_or new w d).worker did
+
+-- a batch was served
+pub record ServesBatch (tag_of : Tags) (s : ServeSetting) (p q : Progress) (old new : List Shift) (events : List Event) : Type 0 where
+  pub batch : List Done
+  pub is : IsBatch p.left p.moment batch events q.left q.moment
+  pub done : All (IsDone tag_of s) batch
+  pub grew : (w : ℕ) (d : Shift) → w < length old → Grew (slice_index_or old w d).worker (slice_index_or new w d).worker (flat_map (λ x. x.did) (dealt (length old) w batch))
+  pub received_are : q.received ≡ p.received + got_in events
+  pub replied_are : q.replied ≡ p.replied + sent_in events
+
+-- and so many, one after another
+pub record ServesBatches (tag_of : Tags) (s : ServeSetting) (p q : Progress) (old new : List Shift) (events : List Event) : Type 0 where
+  pub batches : List (List Done)
+  pub are : Batches p.left p.moment batches events q.left q.moment
+  pub done : All (All (IsDone tag_of s)) batches
+  pub grew : (w : ℕ) (d : Shift) → w < length old → Grew (slice_index_or old w d).worker (slice_index_or new w d).worker (calls_for (length old) w batches)
+  pub received_are : q.received ≡ p.received + got_in events
+  pub replied_are : q.replied ≡ p.replied + sent_in events
+
+-- these calls, and maybe more
+abbrev pub GrewFirst : Hands → Hands → List Did → Type 0
+GrewFirst old new did = (rest : List Did) × Grew old new (did ++ rest)
+
+-- some were, and then it ended
+pub record StopsServing (tag_of : Tags) (s : ServeSetting) (p : Progress) (old new : List Shift) (fault : ServeFault) (events : List Event) : Type 0 where
+  pub batches : List (List Done)
+  pub front : List Event
+  pub left : ℕ
+  pub moment : ℕ
+  pub are : Batches p.left p.moment batches front left moment
+  pub done : All (All (IsDone tag_of s)) batches
+  pub grew : (w : ℕ) (d : Shift) → w < length old → GrewFirst (slice_index_or old w d).worker (slice_index_or new w d).worker (calls_for (length old) w batches)
+  pub last : List Event
+  pub whole : events ≡ front ++ last
+  pub ended : EndsEarly fault left moment last
+
+-- ---- with the passes put back
+
+-- the three turns, and the passes that are back in their rows
+pub record Rows : Type 0 where
+  pub tables : TurnState TableState
+  pub stores : TurnState (List Held)
+  pub shelves : TurnState (List HeldItem)
+  pub table_row : List TablePass
+  pub peers_row : List PeersPass
+  pub items_row : List ItemsPass
+
+abbrev pub rows : TurnState TableState → TurnState (List Held) → TurnState (List HeldItem) → List TablePass → List PeersPass → List ItemsPass → Rows
+rows tables stores shelves table_row peers_row items_row =
+    record { tables = tables; stores = stores; shelves = shelves; table_row = table_row; peers_row = peers_row; items_row = items_row }
+
+-- the passes are those of this crew, each worker of which has its own role
+pub record AreBack (n : ℕ) (r : Rows) (crew : List Shift) : Type 0 where
+  pub count : length crew ≡ n
+  pub tables : r.table_row ≡ table_passes crew
+  pub peers : r.peers_row ≡ peers_passes crew
+  pub items : r.items_row ≡ items_passes crew
+  pub same : (w : ℕ) (d : Shift) → w < n → SameHands (new_hands r.tables r.stores r.shelves w) (slice_index_or crew w d).worker
+
+-- the crew served all batches
+pub record ServedBack (tag_of : Tags) (s : ServeSetting) (n began receives received replied : ℕ) (r : Rows) (events : List Event) : Type 0 where
+  pub crew : List Shift
+  pub back : AreBack n r crew
+  pub batches : List (List Done)
+  pub end : ℕ
+  pub are : Batches receives began batches events 0 end
+  pub done : All (All (IsDone tag_of s)) batches
+  pub grew : (w : ℕ) (d : Shift) → w < n → Grew (new_hands r.tables r.stores r.shelves w) (slice_index_or crew w d).worker (calls_for n w batches)
+  pub received_are : received ≡ got_in events
+  pub replied_are : replied ≡ sent_in events
+
+-- the crew served some
+pub record StoppedBack (tag_of : Tags) (s : ServeSetting) (n began receives : ℕ) (r : Rows) (fault : ServeFault) (events : List Event) : Type 0 where
+  pub crew : List Shift
+  pub back : AreBack n r crew
+  pub batches : List (List Done)
+  pub front : List Event
+  pub left : ℕ
+  pub moment : ℕ
+  pub are : Batches receives began batches front left moment
+  pub done : All (All (IsDone tag_of s)) batches
+  pub grew : (w : ℕ) (d : Shift) → w < n → GrewFirst (new_hands r.tables r.stores r.shelves w) (slice_index_or crew w d).worker (calls_for n w batches)
+  pub last : List Event
+  pub whole : events ≡ front ++ last
+  pub ended : EndsEarly fault left moment last

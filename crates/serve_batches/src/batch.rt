@@ -1,0 +1,149 @@
+//! One batch: its datagrams are received, answered by all workers at once, and replied to; and all of them, one after
+//! another.
+ghost use Rattle.std.specs.Prelude.{◌≡◌, ◌+◌, ◌≤◌, ◌<◌, ◌^◌, length, IfErr, OnOk};
+ghost use Rattle.std.specs.List.{All};
+ghost use Rattle.kad_base.specs.Outside.{Rose};
+ghost use Rattle.node_serve.specs.Calls.{IsSetting};
+ghost use Rattle.node_serve.specs.declared.service.ServeFault.{ServeFault};
+ghost use Rattle.serve_batches.specs.Crew.{AreRoomy, CanWork};
+ghost use Rattle.serve_batches.specs.ManyServed.{EndsEarly, Happens};
+ghost use Rattle.serve_batches.specs.Serving.{GrewSome, SameRoles, ServesBatch, ServesBatches, StopsServing};
+
+use crate::crew::work_all;
+use crate::receiving::receive_batch;
+use crate::replying::{all_went, send_replies};
+use crate::shift::Shift;
+use contact_table::Table;
+use item_store::Items;
+use kad_base::{Failed, Link};
+use node_serve::{ServeFault, ServeSetting};
+use peer_store::Peers;
+use seal_tags::Seal;
+use std::sync::Wait;
+use std::thread::Threads;
+use turn_book::Turn;
+
+/// How far a service is: the moment that its link told last, how many receive calls are left, how many datagrams came, and
+/// how many replies were sent.
+#[derive(Clone, Copy, Drop)]
+pub(crate) struct Progress {
+    pub moment: u64,
+    pub left: u32,
+    pub received: u32,
+    pub replied: u32,
+}
+
+/// Keeps the tokens' secrets of the moment.
+fn renew(setting: &mut ServeSetting, at: u64)
+    ensures { setting.new ≡ setting.old }
+{
+    setting.tokens.renew(at);
+}
+
+/// Serves one batch.
+fn serve_batch<R: Threads + Wait + Sync, L: Link, G: Seal + Sync>(
+    rt: &R,
+    link: &mut L,
+    setting: &mut ServeSetting,
+    tables: &Turn<Table>,
+    stores: &Turn<Peers>,
+    shelves: &Turn<Items>,
+    seal: &G,
+    crew: &mut Vec<Shift>,
+    progress: &mut Progress,
+) -> Result<(), ServeFault>
+    requires setting { IsSetting setting.old }
+    requires some { 0 < progress.old.left }
+    requires few { progress.old.received + progress.old.left < 2 ^ 32 }
+    requires fewer { progress.old.replied ≤ progress.old.received }
+    requires workers { 0 < length crew.old.items }
+    requires roomy { AreRoomy crew.old.items }
+    requires can { All (λ s. CanWork tables.now stores.now shelves.now s.worker) crew.old.items }
+    ensures setting { setting.new ≡ setting.old }
+    ensures len { length crew.new.items ≡ length crew.old.items }
+    ensures roomy { AreRoomy crew.new.items }
+    ensures roles { SameRoles crew.old.items crew.new.items }
+    ensures fewer { OnOk result (progress.new.replied ≤ progress.new.received) }
+    ensures left { OnOk result (progress.new.left < progress.old.left) }
+    ensures counts { OnOk result (progress.new.received + progress.new.left
+        ≤ progress.old.received + progress.old.left) }
+    ensures ok { OnOk result (Happens (L.told link.old) (L.told link.new)
+        (ServesBatch (G.tag_of seal.now) setting.old progress.old progress.new crew.old.items
+        crew.new.items)) }
+    ensures err { IfErr result (λ fault. Happens (L.told link.old) (L.told link.new)
+        (EndsEarly fault progress.old.left progress.old.moment)) }
+    ensures grew { GrewSome crew.old.items crew.new.items }
+    ensures link_fault { result ≡ Err ServeFault.LinkFault
+        → Rose (L.recv_faults link.old) (L.recv_faults link.new) }
+    ensures recv_faults { L.recv_faults link.old ≤ L.recv_faults link.new }
+    ensures kept { L.kept link.new ≡ L.kept link.old }
+{
+    let batch = match receive_batch(link, crew, progress.moment, progress.left) {
+        Ok(batch) => batch,
+        Err(Failed) => return Err(ServeFault::LinkFault),
+    };
+    renew(setting, batch.moment);
+    work_all(
+        rt,
+        setting,
+        tables,
+        stores,
+        shelves,
+        seal,
+        &batch.place,
+        crew,
+    );
+    if !all_went(crew, batch.came) {
+        return Err(ServeFault::NoMemory);
+    }
+    let sent = send_replies(link, crew, batch.came);
+    progress.moment = batch.moment;
+    progress.left -= batch.made;
+    progress.received += batch.came;
+    progress.replied += sent;
+    Ok(())
+}
+
+/// Serves batch after batch, until no receive call is left.
+pub(crate) fn serve_each<R: Threads + Wait + Sync, L: Link, G: Seal + Sync>(
+    rt: &R,
+    link: &mut L,
+    setting: &mut ServeSetting,
+    tables: &Turn<Table>,
+    stores: &Turn<Peers>,
+    shelves: &Turn<Items>,
+    seal: &G,
+    crew: &mut Vec<Shift>,
+    progress: &mut Progress,
+) -> Result<(), ServeFault>
+    requires setting { IsSetting setting.old }
+    requires few { progress.old.received + progress.old.left < 2 ^ 32 }
+    requires fewer { progress.old.replied ≤ progress.old.received }
+    requires workers { 0 < length crew.old.items }
+    requires roomy { AreRoomy crew.old.items }
+    requires can { All (λ s. CanWork tables.now stores.now shelves.now s.worker) crew.old.items }
+    ensures setting { setting.new ≡ setting.old }
+    ensures len { length crew.new.items ≡ length crew.old.items }
+    ensures roles { SameRoles crew.old.items crew.new.items }
+    ensures all { OnOk result (progress.new.left ≡ 0) }
+    ensures ok { OnOk result (Happens (L.told link.old) (L.told link.new)
+        (ServesBatches (G.tag_of seal.now) setting.old progress.old progress.new crew.old.items
+        crew.new.items)) }
+    ensures err { IfErr result (λ fault. Happens (L.told link.old) (L.told link.new)
+        (StopsServing (G.tag_of seal.now) setting.old progress.old crew.old.items
+        crew.new.items fault)) }
+    ensures link_fault { result ≡ Err ServeFault.LinkFault
+        → Rose (L.recv_faults link.old) (L.recv_faults link.new) }
+    ensures recv_faults { L.recv_faults link.old ≤ L.recv_faults link.new }
+    ensures kept { L.kept link.new ≡ L.kept link.old }
+{
+    while progress.left > 0 {
+        match serve_batch(
+            rt, link, setting, tables, stores, shelves, seal, crew, progress,
+        ) {
+            Ok(()) => {}
+            Err(fault) => return Err(fault),
+        }
+    }
+    Ok(())
+}

@@ -1,0 +1,16 @@
+//! A node that serves by several workers at once: it receives datagrams in batches, deals each batch to the workers, who
+//! answer it at the same time over one routing table, one store of peers and one of items, and sends the replies in the
+//! order in which the datagrams came. It opens no socket and reads no clock, and after its start it takes no memory but
+//! what the answers need.
+#![tactic(auto)]
+
+mod batch;
+mod crew;
+mod many;
+mod passes;
+mod receiving;
+mod replying;
+mod shift;
+mod slot;
+
+pub use many::serve_many;

@@ -1,0 +1,180 @@
+//! The passes of three turns, dealt to the workers and gathered again, and the slots of the workers.
+ghost use Rattle.std.specs.Prelude.{◌≡◌, ◌+◌, ◌-◌, ◌*◌, ◌<◌, ◌≤◌, ◌++◌, ◌∷◌, [], map, length, reverse, vec_capacity, IfOk};
+ghost use Rattle.std.specs.List.{All, range_with_len};
+ghost use Rattle.turn_book.specs.Turns.{fresh};
+ghost use Rattle.serve_batches.specs.Crew.{HasSlots};
+ghost use Rattle.serve_batches.specs.Passes.{new_hands, workers_of, table_passes, peers_passes, items_passes};
+
+use crate::receiving::MAX_BATCH;
+use crate::shift::Shift;
+use crate::slot::Slot;
+use contact_table::Table;
+use item_store::Items;
+use kad_base::{NoMemory, Serial};
+use peer_store::Peers;
+use serve_crew::ServeWorker;
+use std::alloc::Global;
+use turn_book::{Pass, Passes, Turn};
+
+/// So many slots.
+fn new_slots(alloc: Global, count: usize) -> Result<Vec<Slot>, NoMemory>
+    ensures { IfOk result (λ v. length v.items ≡ count) }
+{
+    let mut slots = Vec::with_capacity(alloc, count)?;
+    for i in 0..count {
+        slots.push_reserved(Slot::empty());
+    }
+    Ok(slots)
+}
+
+/// The slots of each of n workers: enough for its share of a batch.
+pub(crate) fn all_slots(alloc: Global, n: u8) -> Result<Vec<Vec<Slot>>, NoMemory>
+    requires some { 0 < n }
+    ensures count { IfOk result (λ v. length v.items ≡ n) }
+    ensures room { IfOk result (λ v. All (λ s. 32 ≤ length s.items * n) v.items) }
+{
+    let mut all = Vec::with_capacity(alloc, n as usize)?;
+    let count = (MAX_BATCH as usize).div_ceil(n as usize);
+    for w in 0..n {
+        all.push_reserved(new_slots(alloc, count)?);
+    }
+    Ok(all)
+}
+
+/// Takes out the last pass, where those of the first `n` roles are left.
+fn take_last<S: Serial>(turn: &Turn<S>, passes: &mut Passes<S>, n: u8) -> Pass<S>
+    requires some { 0 < n }
+    requires fresh { passes.old.passes ≡ map (fresh turn.now.id) (range_with_len 0 n) }
+    ensures left { passes.new.passes ≡ map (fresh turn.now.id) (range_with_len 0 (n - 1)) }
+    ensures room { passes.new.room ≡ passes.old.room }
+    ensures last { result ≡ fresh turn.now.id (n - 1) }
+{
+    let _ = turn;
+    let _ = n;
+    let Some(pass) = passes.pop() else {
+        unreachable!()
+    };
+    pass
+}
+
+/// Takes out the last slots.
+fn take_slots(slots: &mut Vec<Vec<Slot>>, n: u8) -> Vec<Slot>
+    requires some { 0 < n }
+    requires count { length slots.old.items ≡ n }
+    ensures left { slots.old.items ≡ slots.new.items ++ result ∷ [] }
+{
+    let _ = n;
+    let Some(last) = slots.pop() else {
+        unreachable!()
+    };
+    last
+}
+
+/// Deals all passes to workers, the last role first.
+fn deal_last(
+    alloc: Global,
+    tables: &Turn<Table>,
+    stores: &Turn<Peers>,
+    shelves: &Turn<Items>,
+    table_row: &mut Passes<Table>,
+    peers_row: &mut Passes<Peers>,
+    items_row: &mut Passes<Items>,
+    mut slots: Vec<Vec<Slot>>,
+    workers: u8,
+    crew: &mut Vec<Shift>,
+)
+    requires tables { table_row.old.passes ≡ map (fresh tables.now.id) (range_with_len 0 workers) }
+    requires peers { peers_row.old.passes ≡ map (fresh stores.now.id) (range_with_len 0 workers) }
+    requires items { items_row.old.passes ≡ map (fresh shelves.now.id) (range_with_len 0 workers) }
+    requires slots { length slots.items ≡ workers }
+    requires slot_room { All (λ s. 32 ≤ length s.items * workers) slots.items }
+    requires empty { crew.old.items ≡ [] }
+    requires room { workers ≤ vec_capacity crew.old }
+    ensures tables { table_row.new.passes ≡ [] }
+    ensures peers { peers_row.new.passes ≡ [] }
+    ensures items { items_row.new.passes ≡ [] }
+    ensures table_room { table_row.new.room ≡ table_row.old.room }
+    ensures peers_room { peers_row.new.room ≡ peers_row.old.room }
+    ensures items_room { items_row.new.room ≡ items_row.old.room }
+    ensures crew { workers_of crew.new.items
+        ≡ reverse (map (new_hands tables.now stores.now shelves.now) (range_with_len 0 workers)) }
+    ensures slots { All (HasSlots workers) crew.new.items }
+{
+    let mut left = workers;
+    while left > 0 {
+        let table = take_last(tables, table_row, left);
+        let peers = take_last(stores, peers_row, left);
+        let items = take_last(shelves, items_row, left);
+        let taken = take_slots(&mut slots, left);
+        left -= 1;
+        crew.push_reserved(Shift {
+            worker: ServeWorker::new(alloc, table, peers, items),
+            slots: taken,
+        });
+    }
+}
+
+/// Turns the crew round.
+fn turn_round(crew: &mut Vec<Shift>)
+    ensures { crew.new.items ≡ reverse crew.old.items }
+{
+    crew.as_mut_slice().reverse();
+}
+
+/// Deals all passes to workers: worker w has role w of each turn.
+pub(crate) fn deal_passes(
+    alloc: Global,
+    tables: &Turn<Table>,
+    stores: &Turn<Peers>,
+    shelves: &Turn<Items>,
+    table_row: &mut Passes<Table>,
+    peers_row: &mut Passes<Peers>,
+    items_row: &mut Passes<Items>,
+    slots: Vec<Vec<Slot>>,
+    workers: u8,
+    crew: &mut Vec<Shift>,
+)
+    requires tables { table_row.old.passes ≡ map (fresh tables.now.id) (range_with_len 0 workers) }
+    requires peers { peers_row.old.passes ≡ map (fresh stores.now.id) (range_with_len 0 workers) }
+    requires items { items_row.old.passes ≡ map (fresh shelves.now.id) (range_with_len 0 workers) }
+    requires slots { length slots.items ≡ workers }
+    requires slot_room { All (λ s. 32 ≤ length s.items * workers) slots.items }
+    requires empty { crew.old.items ≡ [] }
+    requires room { workers ≤ vec_capacity crew.old }
+    ensures tables { table_row.new.passes ≡ [] }
+    ensures peers { peers_row.new.passes ≡ [] }
+    ensures items { items_row.new.passes ≡ [] }
+    ensures table_room { table_row.new.room ≡ table_row.old.room }
+    ensures peers_room { peers_row.new.room ≡ peers_row.old.room }
+    ensures items_room { items_row.new.room ≡ items_row.old.room }
+    ensures crew { workers_of crew.new.items
+        ≡ map (new_hands tables.now stores.now shelves.now) (range_with_len 0 workers) }
+    ensures slots { All (HasSlots workers) crew.new.items }
+{
+    deal_last(
+        alloc, tables, stores, shelves, table_row, peers_row, items_row, slots, workers, crew,
+    );
+    turn_round(crew);
+}
+
+/// Puts the passes of all workers back.
+pub(crate) fn gather_passes(
+    table_row: &mut Passes<Table>,
+    peers_row: &mut Passes<Peers>,
+    items_row: &mut Passes<Items>,
+    mut crew: Vec<Shift>,
+)
+    requires table_room { length table_row.old.passes + length crew.items ≤ table_row.old.room }
+    requires peers_room { length peers_row.old.passes + length crew.items ≤ peers_row.old.room }
+    requires items_room { length items_row.old.passes + length crew.items ≤ items_row.old.room }
+    ensures tables { table_row.new.passes ≡ table_row.old.passes ++ table_passes crew.items }
+    ensures peers { peers_row.new.passes ≡ peers_row.old.passes ++ peers_passes crew.items }
+    ensures items { items_row.new.passes ≡ items_row.old.passes ++ items_passes crew.items }
+{
+    while let Some(shift) = crew.pop() {
+        let (table, peers, items) = shift.worker.into_passes();
+        table_row.push(table);
+        peers_row.push(peers);
+        items_row.push(items);
+    }
+}

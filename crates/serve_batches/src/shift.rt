@@ -1,0 +1,161 @@
+//! A worker with its slots.
+ghost use Rattle.std.specs.Prelude.{◌≡◌, ◌≤◌, ◌<◌, [], length, set, get_or, take, IfOk, OnErr};
+ghost use Rattle.kad_base.specs.Outside.{Grows, Rose};
+ghost use Rattle.node_serve.specs.Calls.{IsSetting};
+ghost use Rattle.serve_crew.specs.Hands.{SameHands};
+ghost use Rattle.serve_batches.specs.Crew.{CanWork, Worked, no_slot};
+ghost use Rattle.serve_batches.specs.Slots.{AnswersAll, datagram_in, took_event, Took};
+
+use crate::slot::Slot;
+use contact_table::Table;
+use item_store::Items;
+use kad_base::{Came, Failed, Link};
+use node_serve::ServeSetting;
+use peer_store::Peers;
+use seal_tags::Seal;
+use serve_crew::ServeWorker;
+use std::sync::Wait;
+use turn_book::Turn;
+
+/// A worker, and the slots of the datagrams that it is to answer.
+#[derive(Drop)]
+pub(crate) struct Shift {
+    pub worker: ServeWorker,
+    pub slots: Vec<Slot>,
+}
+
+/// Receives into a slot of a list.
+fn receive_into<L: Link>(
+    slots: &mut [Slot],
+    round: usize,
+    link: &mut L,
+    until: u64,
+) -> Result<Came, Failed>
+    requires room { round < length slots.old }
+    ensures len { length slots.new ≡ length slots.old }
+    ensures put { slots.new ≡ set slots.old round (get_or slots.new round no_slot) }
+    ensures took { IfOk result (λ came. Took came (get_or slots.new round no_slot)) }
+    ensures told { IfOk result (λ came. Grows (L.told link.old) (L.told link.new)
+        (λ es. es ≡ took_event came until (datagram_in (get_or slots.new round no_slot)))) }
+    ensures still { OnErr result (Grows (L.told link.old) (L.told link.new) (λ es. es ≡ [])) }
+    ensures failed { OnErr result (Rose (L.recv_faults link.old) (L.recv_faults link.new)) }
+    ensures recv_faults { L.recv_faults link.old ≤ L.recv_faults link.new }
+    ensures kept { L.kept link.new ≡ L.kept link.old }
+{
+    slots[round].receive(link, until)
+}
+
+/// Lets the worker answer the datagrams of a list, in order.
+fn answer_all<R: Wait, G: Seal>(
+    worker: &mut ServeWorker,
+    slots: &mut [Slot],
+    rt: &R,
+    setting: &ServeSetting,
+    tables: &Turn<Table>,
+    stores: &Turn<Peers>,
+    shelves: &Turn<Items>,
+    seal: &G,
+)
+    requires setting { IsSetting setting.now }
+    requires can { CanWork tables.now stores.now shelves.now worker.old }
+    ensures same { SameHands worker.old worker.new }
+    ensures len { length slots.new ≡ length slots.old }
+    ensures answers { AnswersAll (G.tag_of seal.now) setting.now worker.old worker.new slots.old
+        slots.new }
+{
+    for slot in slots.iter_mut() {
+        slot.answer(worker, rt, setting, tables, stores, shelves, seal);
+    }
+}
+
+/// The same of the first so many.
+fn answer_first<R: Wait, G: Seal>(
+    worker: &mut ServeWorker,
+    slots: &mut [Slot],
+    given: usize,
+    rt: &R,
+    setting: &ServeSetting,
+    tables: &Turn<Table>,
+    stores: &Turn<Peers>,
+    shelves: &Turn<Items>,
+    seal: &G,
+)
+    requires setting { IsSetting setting.now }
+    requires can { CanWork tables.now stores.now shelves.now worker.old }
+    requires given { given ≤ length slots.old }
+    ensures same { SameHands worker.old worker.new }
+    ensures len { length slots.new ≡ length slots.old }
+    ensures answers { AnswersAll (G.tag_of seal.now) setting.now worker.old worker.new
+        (take given slots.old) (take given slots.new) }
+{
+    answer_all(
+        worker,
+        &mut slots[..given],
+        rt,
+        setting,
+        tables,
+        stores,
+        shelves,
+        seal,
+    );
+}
+
+impl Shift {
+    ghost use Rattle.std.specs.Prelude.{◌≡◌, ◌≤◌, ◌<◌, [], length, get_or, set, IfOk, OnErr};
+    ghost use Rattle.kad_base.specs.Outside.{Grows, Rose};
+    ghost use Rattle.node_serve.specs.Calls.{IsSetting};
+    ghost use Rattle.serve_batches.specs.Crew.{CanWork, Worked, no_slot};
+    ghost use Rattle.serve_batches.specs.Slots.{datagram_in, took_event, Took};
+
+    /// Receives a datagram into a slot, until the moment in milliseconds.
+    pub(crate) fn receive<L: Link>(
+        &mut self,
+        round: usize,
+        link: &mut L,
+        until: u64,
+    ) -> Result<Came, Failed>
+        requires room { round < length self.old.slots.items }
+        ensures worker { self.new.worker ≡ self.old.worker }
+        ensures len { length self.new.slots.items ≡ length self.old.slots.items }
+        ensures put { self.new.slots.items ≡ set self.old.slots.items round
+            (get_or self.new.slots.items round no_slot) }
+        ensures took { IfOk result (λ came. Took came (get_or self.new.slots.items round no_slot)) }
+        ensures told { IfOk result (λ came. Grows (L.told link.old) (L.told link.new)
+            (λ es. es ≡ took_event came until (datagram_in (get_or self.new.slots.items round no_slot)))) }
+        ensures still { OnErr result (Grows (L.told link.old) (L.told link.new) (λ es. es ≡ [])) }
+        ensures failed { OnErr result (Rose (L.recv_faults link.old) (L.recv_faults link.new)) }
+        ensures recv_faults { L.recv_faults link.old ≤ L.recv_faults link.new }
+        ensures kept { L.kept link.new ≡ L.kept link.old }
+    {
+        receive_into(self.slots.as_mut_slice(), round, link, until)
+    }
+
+    /// Answers the datagrams of the first so many slots, in order.
+    pub(crate) fn work<R: Wait, G: Seal>(
+        &mut self,
+        given: usize,
+        rt: &R,
+        setting: &ServeSetting,
+        tables: &Turn<Table>,
+        stores: &Turn<Peers>,
+        shelves: &Turn<Items>,
+        seal: &G,
+    )
+        requires setting { IsSetting setting.now }
+        requires can { CanWork tables.now stores.now shelves.now self.old.worker }
+        requires given { given ≤ length self.old.slots.items }
+        ensures { Worked (G.tag_of seal.now) setting.now given self.old self.new }
+    {
+        answer_first(
+            &mut self.worker,
+            self.slots.as_mut_slice(),
+            given,
+            rt,
+            setting,
+            tables,
+            stores,
+            shelves,
+            seal,
+        );
+    }
+}
