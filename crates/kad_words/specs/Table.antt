@@ -145,6 +145,9 @@ announce_option = choice (codes "announce") (Number 0 65535) Optional (peers ∷
 abbrev pub receives_option : Choice
 receives_option = choice (codes "receives") (Number 1 1000000000) (OrElse 1000000000) (serve ∷ [])
 
+abbrev pub workers_option : Choice
+workers_option = choice (codes "workers") (Number 1 8) (OrElse 1) (serve ∷ [])
+
 abbrev pub seed_option : Choice
 seed_option = choice (codes "seed") Bytes32 Optional (mint ∷ sim ∷ [])
 
@@ -160,7 +163,7 @@ hostile_option = choice (codes "hostile") (Number 0 100) (OrElse 0) (sim ∷ [])
 -- all of them
 abbrev pub every_option : List Choice
 every_option = target_option ∷ key_option ∷ value_option ∷ own_option ∷ k_option ∷ paths_option ∷ alpha_option ∷ timeout_option ∷ bits_option ∷ c1_option ∷ c2_option ∷ family_option ∷ bind_option ∷ group_option ∷ announce_option ∷ receives_option
-    ∷ seed_option ∷ tries_option ∷ nodes_option ∷ hostile_option ∷ []
+    ∷ workers_option ∷ seed_option ∷ tries_option ∷ nodes_option ∷ hostile_option ∷ []
 
 -- the options of a command
 abbrev pub options_of : Word → List Entry
@@ -272,8 +275,8 @@ parts_of (Lookup look) = gives_look target_option look ∷ []
 parts_of (Peers look announce) = gives_look key_option look ∷ may_give_number announce_option announce ∷ []
 parts_of (Get look) = gives_look key_option look ∷ []
 parts_of (Put look item) = gives_item value_option item look ∷ []
-parts_of (Serve own k bits policy receives sealed) =
-    gives_id own_option own ∷ gives_number k_option k ∷ gives_number bits_option bits ∷ gives_policy policy ∷ gives_number receives_option receives ∷ says_whether group_option sealed ∷ []
+parts_of (Serve own k bits policy receives workers sealed) =
+    gives_id own_option own ∷ gives_number k_option k ∷ gives_number bits_option bits ∷ gives_policy policy ∷ gives_number receives_option receives ∷ gives_number workers_option workers ∷ says_whether group_option sealed ∷ []
 parts_of (Table own k bits policy) = gives_id own_option own ∷ gives_number k_option k ∷ gives_number bits_option bits ∷ gives_policy policy ∷ []
 parts_of (Refresh timeout sealed) = gives_number timeout_option timeout ∷ says_whether group_option sealed ∷ []
 parts_of (Check policy) = gives_policy policy ∷ []
@@ -291,7 +294,7 @@ kind_of (Lookup look) = kind.Lookup
 kind_of (Peers look announce) = kind.Peers
 kind_of (Get look) = kind.Get
 kind_of (Put look item) = kind.Put
-kind_of (Serve own k bits policy receives sealed) = kind.Serve
+kind_of (Serve own k bits policy receives workers sealed) = kind.Serve
 kind_of (Table own k bits policy) = kind.Table
 kind_of (Refresh timeout sealed) = kind.Refresh
 kind_of (Check policy) = kind.Check

@@ -9,7 +9,7 @@ ghost use Rattle.kad_words.specs.declared.command.CommandKind.{CommandKind};
 use crate::choice::{Choice, Kind, Need};
 use crate::options::{
     ALPHA, ANNOUNCE, BIND, BITS, C1, C2, FAMILY, GROUP, HOSTILE, K, KEY, NODES, OWN, PATHS,
-    RECEIVES, SEED, TARGET, TIMEOUT, TRIES, VALUE,
+    RECEIVES, SEED, TARGET, TIMEOUT, TRIES, VALUE, WORKERS,
 };
 use crate::values::{
     family, id, needed_bytes, needed_id, number, policy, port, seed, small, stands,
@@ -43,13 +43,14 @@ pub enum Command {
         look: LookWords,
         value: Bytes,
     },
-    /// Answer queries, for that many receive calls. `sealed` is whether replies carry a group's tag.
+    /// Answer queries, for that many receive calls, by so many workers. `sealed` is whether replies carry a group's tag.
     Serve {
         own: Option<Id>,
         k: u8,
         bits: u8,
         policy: Policy,
         receives: u32,
+        workers: u8,
         sealed: bool,
     },
     /// Make the routing table of the IPv4 contacts of contact lines, and print it as a saved text.
@@ -133,7 +134,7 @@ static PUT: [Choice; 12] = [
     VALUE, OWN, K, PATHS, ALPHA, TIMEOUT, BITS, C1, C2, FAMILY, BIND, GROUP,
 ];
 
-static SERVE: [Choice; 8] = [OWN, K, BITS, C1, C2, BIND, GROUP, RECEIVES];
+static SERVE: [Choice; 9] = [OWN, K, BITS, C1, C2, BIND, GROUP, RECEIVES, WORKERS];
 
 static TABLE: [Choice; 5] = [OWN, K, BITS, C1, C2];
 
@@ -329,6 +330,7 @@ fn serve(matches: &ArgMatches) -> Command
         bits: small(matches, &BITS),
         policy: policy(matches),
         receives: number(matches, &RECEIVES),
+        workers: small(matches, &WORKERS),
         sealed: stands(matches, &GROUP),
     }
 }

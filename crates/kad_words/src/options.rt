@@ -72,6 +72,8 @@ pub(crate) const ANNOUNCE: Choice = choice!("announce", 0, 65_535);
 
 pub(crate) const RECEIVES: Choice = choice!("receives", 1, 1_000_000_000, 1_000_000_000);
 
+pub(crate) const WORKERS: Choice = choice!("workers", 1, 8, 1);
+
 pub(crate) const SEED: Choice = choice!("seed", Bytes32, Optional);
 
 pub(crate) const TRIES: Choice = choice!("tries", 1, 16_777_216, 1_048_576);

@@ -270,8 +270,8 @@ fn words_of_put(rt: HostRuntime) {
 fn words_of_serve(rt: HostRuntime) {
     let puzzled = Policy::Puzzled { c1: 8, c2: 0 };
     let own = Some(id());
-    for (line, own, k, bits, policy, receives, sealed) in [
-        ("serve", None, 8, 1, Policy::Plain, 1_000_000_000, false),
+    for (line, own, k, bits, policy, receives, workers, sealed) in [
+        ("serve", None, 8, 1, Policy::Plain, 1_000_000_000, 1, false),
         (
             "serve --receives 1 --c1 8 --k 2 --bits 3 --own ID --bind 0.0.0.0:1",
             own,
@@ -279,24 +279,27 @@ fn words_of_serve(rt: HostRuntime) {
             3,
             puzzled,
             1,
+            1,
             false,
         ),
         (
-            "serve --group SEED --receives 2",
+            "serve --group SEED --workers 2 --receives 2",
             None,
             8,
             1,
             Policy::Plain,
             2,
+            2,
             true,
         ),
         (
-            "serve --receives 1000000000",
+            "serve --receives 1000000000 --workers 8",
             None,
             8,
             1,
             Policy::Plain,
             1_000_000_000,
+            8,
             false,
         ),
     ] {
@@ -308,6 +311,7 @@ fn words_of_serve(rt: HostRuntime) {
                 bits,
                 policy,
                 receives,
+                workers,
                 sealed,
             }),
             "at {line}"
@@ -485,6 +489,9 @@ fn words_that_are_refused(rt: HostRuntime) {
         "put --value 35 --announce 1",
         "serve --receives 0",
         "serve --receives 1000000001",
+        "serve --workers 0",
+        "serve --workers 9",
+        "lookup --target ID --workers 1",
         "serve --paths 1",
         "serve --family 4",
         "table --target ID",
