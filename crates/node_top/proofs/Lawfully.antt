@@ -22,7 +22,7 @@ use Rattle.node_top.proofs.Looking.{seeking_lawful}
 use Rattle.node_top.proofs.Hosting.{hosting_lawful, judging_lawful}
 use Rattle.node_top.proofs.Minting.{mint_lawful}
 use Rattle.node_top.proofs.Refreshing.{refreshing_lawful}
-use Rattle.node_top.proofs.Ranges.{look_in_range, table_in_range, simulable}
+use Rattle.node_top.proofs.Ranges.{look_in_range, table_in_range, service_in_range, simulable}
 use Rattle.node_top.proofs.Staged.{made_lawful}
 use Rattle.node_top.proofs.Valued.{valued_lawful}
 use Rattle.node_top.proofs.Exactly.{unread_not_bad}
@@ -38,7 +38,7 @@ hosts_good service random source table proofs h = record { reports = h.reports; 
 ruleset forms = (hosting_lawful, judging_lawful, made_lawful, refreshing_lawful, good_by, hosts_good)
 
 -- the limits of words
-ruleset limits = (look_in_range, table_in_range, simulable)
+ruleset limits = (look_in_range, table_in_range, service_in_range, simulable)
 
 pub lawful : (command : Command) → Lawful (promise_of command)
 lawful (Lookup look) =

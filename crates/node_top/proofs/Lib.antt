@@ -26,6 +26,7 @@ pub mod Forming
 pub mod Peering
 pub mod Simulating
 pub mod Serving
+pub mod AtOnce
 pub mod Tabling
 pub mod Refreshing
 pub mod Unstrayed

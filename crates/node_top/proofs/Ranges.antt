@@ -1,11 +1,13 @@
 -- The values of the words are within the limits.
 use Rattle.std.proofs.Common.{ℕ, ◌≤◌, Option, Some, None, arith}
 use Rattle.kad_base.specs.declared.types.Id.{Id}
-use Rattle.kad_words.specs.Table.{Word, alpha_option, bits_option, k_option, nodes_option, paths_option, Values, IsLookAt, NumberOf}
+use Rattle.kad_words.specs.Table.{Word, alpha_option, bits_option, k_option, nodes_option, paths_option, workers_option, Values, IsLookAt, NumberOf}
 use Rattle.kad_words.specs.Text.{SpellsNumber}
 use Rattle.kad_words.specs.declared.command.LookWords.{LookWords}
 use Rattle.kad_words.specs.Values.{IsGivenOr}
+use Rattle.node_top.specs.declared.commands.serve.Service.{Service}
 use Rattle.node_top.specs.declared.commands.sim.Simulation.{Simulation}
+use Rattle.node_top.specs.Commands.Served.{AreServiceBounds}
 use Rattle.node_top.specs.Commands.Simulated.{IsSimulable}
 use Rattle.node_top.specs.Started.{AreTableBounds, IsInRange}
 
@@ -40,6 +42,11 @@ table_in_range value k bits is_k is_bits =
     let live = within 1 20 8 (omega arith) (omega arith) _ k is_k in
     let split = within 1 5 1 (omega arith) (omega arith) _ bits is_bits in
     record { some_live = live.above; few_live = live.below; some_bits = split.above; few_bits = split.below }
+
+pub service_in_range : (value : Values) (service : Service) → NumberOf k_option value service.k → NumberOf bits_option value service.bits → NumberOf workers_option value service.workers → AreServiceBounds service
+service_in_range value service is_k is_bits is_workers =
+    let workers = within 1 8 1 (omega arith) (omega arith) _ service.workers is_workers in
+    record { table = table_in_range value service.k service.bits is_k is_bits; some_worker = workers.above; few_workers = workers.below }
 
 pub simulable : (value : Values) (s : Simulation) → NumberOf nodes_option value s.nodes → NumberOf k_option value s.k → NumberOf paths_option value s.paths → NumberOf alpha_option value s.alpha → IsSimulable s
 simulable value s nodes k paths alpha =

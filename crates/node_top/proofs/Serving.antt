@@ -30,7 +30,7 @@ use Rattle.node_top.specs.Looked.{ReportsCause}
 use Rattle.node_top.specs.Promise.{HostCause, ReadingCause}
 use Rattle.node_top.specs.Printed.{served_text}
 use Rattle.node_top.specs.Shown.{Shown}
-use Rattle.node_top.specs.Commands.Served.{Hosts, begun_at, Served, ServedSome, ServeBegun}
+use Rattle.node_top.specs.Commands.Served.{Hosts, begun_at, Served, ServedSome}
 use Rattle.node_top.specs.Started.{own_of, seen_call}
 use Rattle.node_top.specs.Called.{Called}
 
@@ -75,13 +75,6 @@ hosted service random source own reports read contacts cs proofs table mine list
   told = subst (λ (id : Id). TableTold (map seen_call contacts) (new_table id service.k service.bits) table) mine (subst (λ (l : List Contact). TableTold (map seen_call l) (new_table own service.k service.bits) table) same told);
   keeps = subst (λ (id : Id). Keeps id Four service.policy reports proofs) mine (subst (λ (l : List Report). Keeps own Four service.policy l proofs) is keeps);
 }
-
--- how it ends where its receive calls stop
-pub some_begun : (service : Service) (called : Called) (source : Shown ℕ) (link : Shown Event) (table : TableState) (proofs : List Report) (node : NodeState) (began : ℕ) (b : Option (List Event)) → Hosts service called.random source table proofs
-    → record { node = node; moment = began } ≡ begun_at service called.random table proofs began → Grows link.before b (λ es. es ≡ Now began ∷ []) → Grows b link.after (ServesSome called.tags (record { node = node; moment = began }) service.receives)
-    → ServeBegun service called source link
-some_begun service called source link table proofs node began b hosts begins g h =
-    record { table = table; proofs = proofs; hosts = hosts; tells = served_some service called table proofs node began link.before b link.after begins g h }
 
 pub err_is : {T E : Type 0} (r : Result T E) (x y : E) → r ≡ Err x → x ≡ y → r ≡ Err y
 err_is r x y e f = subst (λ z. r ≡ Err z) f e

@@ -39,8 +39,8 @@ use Rattle.node_top.specs.Commands.Stored.{put_promise}
 use Rattle.node_top.specs.Commands.Tabled.{table_promise}
 
 -- what the words of `serve` say
-abbrev pub service_of : Option Id → ℕ → ℕ → Policy → ℕ → Bool → Service
-service_of own k bits policy receives sealed = record { own = own; k = k; bits = bits; policy = policy; receives = receives; sealed = sealed }
+abbrev pub service_of : Option Id → ℕ → ℕ → Policy → ℕ → ℕ → Bool → Service
+service_of own k bits policy receives workers sealed = record { own = own; k = k; bits = bits; policy = policy; receives = receives; workers = workers; sealed = sealed }
 
 -- the simulation of the words
 abbrev pub simulation_of : Option (List ℕ) → ℕ → ℕ → ℕ → ℕ → ℕ → ℕ → List ℕ → Simulation
@@ -59,7 +59,7 @@ promise_of (Lookup look) = lookup_promise look
 promise_of (Peers look announce) = peers_promise look announce
 promise_of (Get look) = get_promise look
 promise_of (Put look item) = put_promise look item
-promise_of (Serve own k bits policy receives sealed) = serve_promise (service_of own k bits policy receives sealed)
+promise_of (Serve own k bits policy receives workers sealed) = serve_promise (service_of own k bits policy receives workers sealed)
 promise_of (Table own k bits policy) = table_promise own k bits policy
 promise_of (Refresh timeout sealed) = refresh_promise timeout sealed
 promise_of (Check policy) = check_promise policy

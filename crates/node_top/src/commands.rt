@@ -32,7 +32,13 @@ use std::sync::Wait;
 use std::thread::Threads;
 
 /// Does a command, and makes its output. Nothing is written yet.
-fn output_of<R: Threads + Wait + Sync, S: Source, L: Link, C: Check + Sync, G: Seal + SealCheck>(
+fn output_of<
+    R: Threads + Wait + Sync,
+    S: Source,
+    L: Link,
+    C: Check + Sync,
+    G: Seal + SealCheck + Sync,
+>(
     rt: &R,
     alloc: Global,
     command: &Command,
@@ -76,6 +82,7 @@ fn output_of<R: Threads + Wait + Sync, S: Source, L: Link, C: Check + Sync, G: S
             bits,
             policy,
             receives,
+            workers,
             sealed,
         } => {
             let service = serve::Service {
@@ -84,9 +91,10 @@ fn output_of<R: Threads + Wait + Sync, S: Source, L: Link, C: Check + Sync, G: S
                 bits,
                 policy,
                 receives,
+                workers,
                 sealed,
             };
-            serve::serve(alloc, &service, source, link, call)
+            serve::serve(rt, alloc, &service, source, link, call)
         }
         Command::Refresh { timeout, sealed } => {
             refresh::refresh(alloc, timeout, sealed, source, link, call)
@@ -158,7 +166,7 @@ pub(crate) fn asked_output<
     S: Source,
     L: Link,
     C: Check + Sync,
-    G: Seal + SealCheck,
+    G: Seal + SealCheck + Sync,
 >(
     rt: &R,
     alloc: Global,

@@ -37,7 +37,7 @@ pub fn run<
     K: Sink,
     L: Link,
     C: Check + Sync,
-    G: Seal + SealCheck,
+    G: Seal + SealCheck + Sync,
 >(
     rt: &R,
     alloc: Global,

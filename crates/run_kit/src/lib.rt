@@ -7,7 +7,7 @@ use id_puzzles::Sha1Check;
 use kad_base::{BytesSink, Check, Link, List, Numbers, Sink, Source, SteadySource};
 use kad_words::group_of;
 use node_top::{run, run_plain};
-use seal_tags::GroupSeal;
+use seal_tags::{GroupSeal, Seal, SealCheck};
 use std::alloc::{AllocError, Global};
 use std::hash::RandomState;
 use std::random::RandomSource;
@@ -53,6 +53,26 @@ pub fn status_of<
     check: &C,
 ) -> Result<u8, Fail> {
     let seal = GroupSeal::new(group_of(words).unwrap_or([0; 32]));
+    status_under(rt, words, source, link, sink, check, &seal)
+}
+
+/// The same under a seal of the test's own.
+pub fn status_under<
+    R: AllocGlobal + RandomSource + Threads + Wait + Sync,
+    S: Source,
+    L: Link,
+    K: Sink,
+    C: Check + Sync,
+    G: Seal + SealCheck + Sync,
+>(
+    rt: &R,
+    words: &[String],
+    source: &mut S,
+    link: &mut L,
+    sink: &mut K,
+    check: &C,
+    seal: &G,
+) -> Result<u8, Fail> {
     Ok(run(
         rt,
         rt.alloc(),
@@ -63,7 +83,7 @@ pub fn status_of<
         &[0; 32],
         check,
         RandomState::new(rt)?,
-        &seal,
+        seal,
     ))
 }
 
@@ -103,13 +123,30 @@ pub fn play_with<R: AllocGlobal + RandomSource + Threads + Wait + Sync, C: Check
     link: ScriptLink,
     check: &C,
 ) -> Result<Played, Fail> {
+    let words = words(rt.alloc(), texts)?;
+    let seal = GroupSeal::new(group_of(&words).unwrap_or([0; 32]));
+    play_under(rt, &words, input, link, check, &seal)
+}
+
+/// The same under a check and a seal of the test's own.
+pub fn play_under<
+    R: AllocGlobal + RandomSource + Threads + Wait + Sync,
+    C: Check + Sync,
+    G: Seal + SealCheck + Sync,
+>(
+    rt: &R,
+    words: &[String],
+    input: &str,
+    link: ScriptLink,
+    check: &C,
+    seal: &G,
+) -> Result<Played, Fail> {
     let alloc = rt.alloc();
     let mut link = link;
     let bytes = List::from_slice(alloc, input.as_bytes())?;
     let mut source = SteadySource::new(bytes);
     let mut sink = BytesSink::new(4096, none(alloc), List::new(alloc));
-    let words = words(alloc, texts)?;
-    let status = status_of(rt, &words, &mut source, &mut link, &mut sink, check)?;
+    let status = status_under(rt, words, &mut source, &mut link, &mut sink, check, seal)?;
     let text = String::from_str(alloc, std::str::from_utf8(sink.written())?)?;
     Ok(Played { status, text, link })
 }

@@ -17,3 +17,5 @@ mod saving;
 mod serving;
 #[cfg(test)]
 mod simulated;
+#[cfg(test)]
+mod workers;

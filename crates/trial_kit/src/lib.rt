@@ -5,6 +5,7 @@
 mod contacts;
 mod input;
 mod meeting;
+mod meeting_seal;
 mod script;
 mod strangers;
 mod told;
@@ -12,8 +13,10 @@ mod told;
 pub use contacts::{at, at_in, at6, contact, contact6, local, number, port};
 pub use input::{LINE_1, PROVED_LINES, lines, lines6};
 pub use meeting::Meeting;
+pub use meeting_seal::MeetingSeal;
 pub use script::{
-    Reply, answer, answer6, failing_link, link, link_from, link_over, link_with, with_replies,
+    Reply, answer, answer6, failing_link, link, link_at, link_from, link_over, link_with,
+    with_replies,
 };
 pub use strangers::Strangers;
 pub use told::{sent, tells};

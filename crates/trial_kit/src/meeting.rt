@@ -48,7 +48,7 @@ impl Meeting {
     }
 
     /// Comes, and the first time looks whether all others come.
-    fn meet(&self, place: u8) {
+    pub(crate) fn meet(&self, place: u8) {
         let own = 1u32 << (place % 32);
         if self.came.fetch_or(own, Ordering::SeqCst) & own != 0 {
             return;

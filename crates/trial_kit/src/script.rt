@@ -239,6 +239,24 @@ pub fn link_from(
     Ok(ScriptLink::new(alloc, 0, script, sends, receives))
 }
 
+/// A link over these datagrams, each at its moment and from its port, where the sends and the receives of these numbers,
+/// from 0, fail.
+pub fn link_at(
+    alloc: Global,
+    datagrams: &[(u64, u16, &[u8])],
+    sends: &[u64],
+    receives: &[u64],
+) -> Result<ScriptLink, NoMemory> {
+    let mut script = List::new(alloc);
+    for (at, port, bytes) in datagrams {
+        let event = delivered(alloc, *port, bytes, *at, 1)?;
+        script.push(event)?;
+    }
+    let sends = List::from_slice(alloc, sends)?;
+    let receives = List::from_slice(alloc, receives)?;
+    Ok(ScriptLink::new(alloc, 0, script, sends, receives))
+}
+
 /// A link over this script, whose first moment is 0.
 pub fn link_over(alloc: Global, script: Script) -> ScriptLink
     requires { All IsWritableEvent script }

@@ -1,14 +1,17 @@
-//! The command `serve`: a node that answers queries, and in the end the text of how many datagrams came and how many
-//! replies it sent.
-ghost use Rattle.std.specs.Prelude.{◌≡◌, ◌⊎◌, IfOk, IfErr, string_bytes};
+//! The command `serve`: a node that answers queries, alone or by several workers at once, and in the end the text of how
+//! many datagrams came and how many replies it sent.
+ghost use Rattle.std.specs.Prelude.{◌≡◌, ◌≤◌, ◌⊎◌, Err, IfOk, IfErr, string_bytes};
+ghost use Rattle.std.specs.List.{All};
+ghost use Rattle.kad_base.specs.Puzzles.{Passes};
+ghost use Rattle.node_serve.specs.declared.service.ServeFault.{ServeFault};
 ghost use Rattle.node_top.specs.Called.{called_with};
 ghost use Rattle.node_top.specs.Input.{ReadsAtMost};
 ghost use Rattle.node_top.specs.Endings.{EndsUnasked, number_of};
 ghost use Rattle.node_top.specs.Looked.{ReportsCause};
 ghost use Rattle.node_top.specs.Printed.{printed_served, served_text};
-ghost use Rattle.node_top.specs.Commands.Served.{Hosts, ServeBegun, ServeText, serve_promise};
+ghost use Rattle.node_top.specs.Commands.Served.{AreServiceBounds, HasServed, HasServedSome, Hosts, ServeBegun, ServeText, serve_promise};
 ghost use Rattle.node_top.specs.Started.{AreTableBounds, own_of};
-ghost use Rattle.node_top.specs.Shown.{shown, shown_link};
+ghost use Rattle.node_top.specs.Shown.{shown, shown_link, HasFailed};
 
 use crate::bootstrap::{own_id, table_of};
 use crate::call::Call;
@@ -17,12 +20,16 @@ use crate::printed::add_line;
 use crate::status::Status;
 use contact_table::Table;
 use kad_base::{Bytes, Check, Family, Id, Link, List, NoMemory, Policy, Reports, Source};
-use node_serve::{Node, ServeFault, serve_loop};
+use node_serve::{Node, ServeCounts, ServeFault, ServeSetting, serve_loop};
+use peer_store::Tokens;
 use seal_tags::{Seal, SealCheck};
+use serve_batches::serve_many;
 use std::alloc::{AllocError, Global};
+use std::sync::Wait;
+use std::thread::Threads;
 
 /// What the words of `serve` say: the node's own identifier where they name it, Kademlia's k and b, which contacts pass,
-/// how many receive calls are made, and whether what it says is tagged.
+/// how many receive calls are made, how many workers answer, and whether what it says is tagged.
 #[derive(Clone, Copy, Debug, PartialEq, Eq)]
 pub(crate) struct Service {
     pub own: Option<Id>,
@@ -30,6 +37,7 @@ pub(crate) struct Service {
     pub bits: u8,
     pub policy: Policy,
     pub receives: u32,
+    pub workers: u8,
     pub sealed: bool,
 }
 
@@ -82,15 +90,143 @@ fn text_of(alloc: Global, received: u32, replied: u32) -> Result<Bytes, NoMemory
     Ok(output)
 }
 
+/// Serves alone, from a first look at the link's clock on.
+fn serve_alone<L: Link, C: Check, G: Seal + SealCheck>(
+    alloc: Global,
+    service: &Service,
+    own: Id,
+    host: Host,
+    link: &mut L,
+    call: &Call<'_, C, G>,
+) -> Result<ServeCounts, ServeFault>
+    requires ranges { AreServiceBounds service.now }
+    requires alone { service.now.workers ≡ 1 }
+    requires own { own ≡ own_of service.now.own call.now.random }
+    requires table { host.table.own ≡ own }
+    requires proofs { All (Passes service.now.policy) host.proofs }
+    ensures ok { IfOk result (λ counts. HasServed service.now
+        (called_with call.now.random (G.accepted call.now.seal.now) (G.tag_of call.now.seal.now))
+        (shown_link L.told L.recv_faults L.send_faults link.old link.new) host.table host.proofs
+        counts.received counts.replied) }
+    ensures begun { IfErr result (λ fault. HasServedSome service.now
+        (called_with call.now.random (G.accepted call.now.seal.now) (G.tag_of call.now.seal.now))
+        (shown_link L.told L.recv_faults L.send_faults link.old link.new) host.table host.proofs) }
+    ensures link_fault { result ≡ Err ServeFault.LinkFault
+        → HasFailed (shown_link L.told L.recv_faults L.send_faults link.old link.new) }
+    ensures kept { L.kept link.new ≡ L.kept link.old }
+{
+    let Host { table, proofs } = host;
+    let began = link.now();
+    let node = Node::new(
+        alloc,
+        own,
+        service.k,
+        service.policy,
+        table,
+        proofs,
+        &call.random,
+        began,
+        service.sealed,
+    );
+    serve_loop(link, node, call.seal, began, service.receives)
+}
+
+/// Serves by several workers at once, from a first look at the link's clock on.
+fn serve_at_once<R: Threads + Wait + Sync, L: Link, C: Check, G: Seal + SealCheck + Sync>(
+    rt: &R,
+    alloc: Global,
+    service: &Service,
+    own: Id,
+    host: Host,
+    link: &mut L,
+    call: &Call<'_, C, G>,
+) -> Result<ServeCounts, ServeFault>
+    requires ranges { AreServiceBounds service.now }
+    requires several { 2 ≤ service.now.workers }
+    requires own { own ≡ own_of service.now.own call.now.random }
+    requires proofs { All (Passes service.now.policy) host.proofs }
+    ensures ok { IfOk result (λ counts. HasServed service.now
+        (called_with call.now.random (G.accepted call.now.seal.now) (G.tag_of call.now.seal.now))
+        (shown_link L.told L.recv_faults L.send_faults link.old link.new) host.table host.proofs
+        counts.received counts.replied) }
+    ensures begun { IfErr result (λ fault. HasServedSome service.now
+        (called_with call.now.random (G.accepted call.now.seal.now) (G.tag_of call.now.seal.now))
+        (shown_link L.told L.recv_faults L.send_faults link.old link.new) host.table host.proofs) }
+    ensures link_fault { result ≡ Err ServeFault.LinkFault
+        → HasFailed (shown_link L.told L.recv_faults L.send_faults link.old link.new) }
+    ensures kept { L.kept link.new ≡ L.kept link.old }
+{
+    let Host { table, proofs } = host;
+    let began = link.now();
+    let setting = ServeSetting {
+        own,
+        k: service.k,
+        policy: service.policy,
+        proofs,
+        tokens: Tokens::new(&call.random, 0),
+        sealed: service.sealed,
+    };
+    let (_, answer) = serve_many(
+        rt,
+        alloc,
+        link,
+        call.seal,
+        setting,
+        table,
+        began,
+        service.workers,
+        service.receives,
+    );
+    answer
+}
+
+/// Serves by as many workers as the words say.
+fn serve_by<R: Threads + Wait + Sync, L: Link, C: Check, G: Seal + SealCheck + Sync>(
+    rt: &R,
+    alloc: Global,
+    service: &Service,
+    own: Id,
+    host: Host,
+    link: &mut L,
+    call: &Call<'_, C, G>,
+) -> Result<ServeCounts, ServeFault>
+    requires ranges { AreServiceBounds service.now }
+    requires own { own ≡ own_of service.now.own call.now.random }
+    requires table { host.table.own ≡ own }
+    requires proofs { All (Passes service.now.policy) host.proofs }
+    ensures ok { IfOk result (λ counts. HasServed service.now
+        (called_with call.now.random (G.accepted call.now.seal.now) (G.tag_of call.now.seal.now))
+        (shown_link L.told L.recv_faults L.send_faults link.old link.new) host.table host.proofs
+        counts.received counts.replied) }
+    ensures begun { IfErr result (λ fault. HasServedSome service.now
+        (called_with call.now.random (G.accepted call.now.seal.now) (G.tag_of call.now.seal.now))
+        (shown_link L.told L.recv_faults L.send_faults link.old link.new) host.table host.proofs) }
+    ensures link_fault { result ≡ Err ServeFault.LinkFault
+        → HasFailed (shown_link L.told L.recv_faults L.send_faults link.old link.new) }
+    ensures kept { L.kept link.new ≡ L.kept link.old }
+{
+    if service.workers == 1 {
+        return serve_alone(alloc, service, own, host, link, call);
+    }
+    serve_at_once(rt, alloc, service, own, host, link, call)
+}
+
 /// Serves, and makes the text of how much was served, or says why there is none. Nothing is written yet.
-pub(crate) fn serve<S: Source, L: Link, C: Check, G: Seal + SealCheck>(
+pub(crate) fn serve<
+    R: Threads + Wait + Sync,
+    S: Source,
+    L: Link,
+    C: Check,
+    G: Seal + SealCheck + Sync,
+>(
+    rt: &R,
     alloc: Global,
     service: &Service,
     source: &mut S,
     link: &mut L,
     call: &Call<'_, C, G>,
 ) -> Result<Bytes, Status>
-    requires { AreTableBounds service.now.k service.now.bits }
+    requires { AreServiceBounds service.now }
     ensures ok { IfOk result (ServeText service.now (called_with call.now.random (G.accepted call.now.seal.now)
         (G.tag_of call.now.seal.now))
         (shown S.left S.faults source.old source.new)
@@ -110,20 +246,7 @@ pub(crate) fn serve<S: Source, L: Link, C: Check, G: Seal + SealCheck>(
 {
     let own = own_id(service.own, &call.random);
     let host = read_host(alloc, service, own, source, call)?;
-    let Host { table, proofs } = host;
-    let began = link.now();
-    let node = Node::new(
-        alloc,
-        own,
-        service.k,
-        service.policy,
-        table,
-        proofs,
-        &call.random,
-        began,
-        service.sealed,
-    );
-    let counts = match serve_loop(link, node, call.seal, began, service.receives) {
+    let counts = match serve_by(rt, alloc, service, own, host, link, call) {
         Ok(counts) => counts,
         Err(ServeFault::LinkFault) => return Err(Status::LinkFault),
         Err(ServeFault::NoMemory) => return Err(Status::NoMemory),

@@ -1,0 +1,178 @@
+//! Nodes that serve by several workers, over a scripted link. The bytes were written by hand from BEP 5; who pings has the
+//! identifier `abcdefghij0123456789` of its examples.
+use id_puzzles::Sha1Check;
+use kad_base::{Event, List};
+use run_kit::{play, play_under, words};
+use std::test::Fail;
+use trial_kit::{MeetingSeal, link_at, local, sent, tells};
+
+/// The node of ones serves by two workers for two receive calls, for four, and by eight for 45.
+const TWO: &[&str] = &[
+    "serve",
+    "--workers",
+    "2",
+    "--receives",
+    "2",
+    "--own",
+    "ffffffffffffffffffffffffffffffffffffffff",
+];
+
+const FOUR: &[&str] = &[
+    "serve",
+    "--workers",
+    "2",
+    "--receives",
+    "4",
+    "--own",
+    "ffffffffffffffffffffffffffffffffffffffff",
+];
+
+const EIGHT: &[&str] = &[
+    "serve",
+    "--workers",
+    "8",
+    "--receives",
+    "45",
+    "--own",
+    "ffffffffffffffffffffffffffffffffffffffff",
+];
+
+/// Two workers of a group whose key is 32 zero bytes, for two receive calls.
+const GROUPED: &[&str] = &[
+    "serve",
+    "--workers",
+    "2",
+    "--receives",
+    "2",
+    "--own",
+    "ffffffffffffffffffffffffffffffffffffffff",
+    "--group",
+    "0000000000000000000000000000000000000000000000000000000000000000",
+];
+
+const PING: &[u8] = b"d1:ad2:id20:abcdefghij0123456789e1:q4:ping1:t2:aa1:y1:qe";
+
+const PONG: &[u8] =
+    b"d1:rd2:id20:\xff\xff\xff\xff\xff\xff\xff\xff\xff\xff\xff\xff\xff\xff\xff\xff\xff\xff\xff\xffe1:t2:aa1:y1:re";
+
+/// The same with another transaction id.
+const SECOND_PING: &[u8] = b"d1:ad2:id20:abcdefghij0123456789e1:q4:ping1:t2:ab1:y1:qe";
+
+const SECOND_PONG: &[u8] =
+    b"d1:rd2:id20:\xff\xff\xff\xff\xff\xff\xff\xff\xff\xff\xff\xff\xff\xff\xff\xff\xff\xff\xff\xffe1:t2:ab1:y1:re";
+
+/// Nodes 5 and 6 look for the identifier of zeros.
+const FIND_BY_5: &[u8] =
+    b"d1:ad2:id20:\0\0\0\0\0\0\0\0\0\0\0\0\0\0\0\0\0\0\0\x056:target20:\0\0\0\0\0\0\0\0\0\0\0\0\0\0\0\0\0\0\0\0e1:q9:find_node1:t2:aa1:y1:qe";
+
+const FIND_BY_6: &[u8] =
+    b"d1:ad2:id20:\0\0\0\0\0\0\0\0\0\0\0\0\0\0\0\0\0\0\0\x066:target20:\0\0\0\0\0\0\0\0\0\0\0\0\0\0\0\0\0\0\0\0e1:q9:find_node1:t2:aa1:y1:qe";
+
+/// The node knows nobody yet; and then node 5, at port 7005.
+const FOUND_NONE: &[u8] =
+    b"d1:rd2:id20:\xff\xff\xff\xff\xff\xff\xff\xff\xff\xff\xff\xff\xff\xff\xff\xff\xff\xff\xff\xff5:nodes0:e1:t2:aa1:y1:re";
+
+const FOUND_5: &[u8] =
+    b"d1:rd2:id20:\xff\xff\xff\xff\xff\xff\xff\xff\xff\xff\xff\xff\xff\xff\xff\xff\xff\xff\xff\xff5:nodes26:\0\0\0\0\0\0\0\0\0\0\0\0\0\0\0\0\0\0\0\x05\x7f\0\0\x01\x1b\x5de1:t2:aa1:y1:re";
+
+/// The first receive call waits for a minute and the second for nothing; then both are answered, in order.
+#[test]
+fn a_batch_is_answered_in_its_order(rt: HostRuntime) -> Result<(), Fail> {
+    let alloc = rt.alloc();
+    let link = link_at(alloc, &[(10, 7000, PING), (10, 7001, SECOND_PING)], &[], &[])?;
+    let played = play(&rt, TWO, "", link)?;
+    let events = [
+        Event::Now { at: 0 },
+        Event::Got {
+            from: local(7000),
+            bytes: List::from_slice(alloc, PING)?,
+            until: 60_000,
+            at: 10,
+        },
+        Event::Got {
+            from: local(7001),
+            bytes: List::from_slice(alloc, SECOND_PING)?,
+            until: 10,
+            at: 10,
+        },
+        Event::Sent {
+            to: local(7000),
+            bytes: List::from_slice(alloc, PONG)?,
+        },
+        Event::Sent {
+            to: local(7001),
+            bytes: List::from_slice(alloc, SECOND_PONG)?,
+        },
+    ];
+    assert_eq!(rt; played.status, 0);
+    assert_eq!(rt; played.text.as_str(), "received 2 replied 2\n");
+    assert!(rt; tells(&played.link, &events));
+    Ok(())
+}
+
+/// Who asks is told to the table behind its own answer, and is named to who asks in the next batch.
+#[test]
+fn a_later_batch_names_who_asked_before(rt: HostRuntime) -> Result<(), Fail> {
+    let alloc = rt.alloc();
+    let link = link_at(alloc, &[(1, 7005, FIND_BY_5), (10, 7006, FIND_BY_6)], &[], &[])?;
+    let played = play(&rt, FOUR, "", link)?;
+    let sent = sent(alloc, &played.link)?;
+    assert_eq!(rt; played.text.as_str(), "received 2 replied 2\n");
+    assert_eq!(rt; sent.len(), 2);
+    assert_eq!(rt; sent[0].as_slice(), FOUND_NONE);
+    assert_eq!(rt; sent[1].as_slice(), FOUND_5);
+    Ok(())
+}
+
+/// A batch has at most 32 receive calls, and eight workers answer forty pings in two.
+#[test]
+fn more_than_a_batch_is_answered(rt: HostRuntime) -> Result<(), Fail> {
+    let alloc = rt.alloc();
+    let pings: [(u64, u16, &[u8]); 40] = [(10, 7000, PING); 40];
+    let link = link_at(alloc, &pings, &[], &[])?;
+    let played = play(&rt, EIGHT, "", link)?;
+    let sent = sent(alloc, &played.link)?;
+    assert_eq!(rt; played.status, 0);
+    assert_eq!(rt; played.text.as_str(), "received 40 replied 40\n");
+    assert_eq!(rt; sent.len(), 40);
+    Ok(())
+}
+
+#[test]
+fn a_reply_that_is_refused_is_passed_over(rt: HostRuntime) -> Result<(), Fail> {
+    let alloc = rt.alloc();
+    let link = link_at(alloc, &[(10, 7000, PING), (10, 7001, SECOND_PING)], &[0], &[])?;
+    let played = play(&rt, TWO, "", link)?;
+    let sent = sent(alloc, &played.link)?;
+    assert_eq!(rt; played.status, 0);
+    assert_eq!(rt; played.text.as_str(), "received 2 replied 1\n");
+    assert_eq!(rt; sent.len(), 1);
+    assert_eq!(rt; sent[0].as_slice(), SECOND_PONG);
+    Ok(())
+}
+
+/// The batch in which a receive fails is not answered.
+#[test]
+fn a_failed_receive_ends_it_without_the_replies_of_its_batch(rt: HostRuntime) -> Result<(), Fail> {
+    let alloc = rt.alloc();
+    let link = link_at(alloc, &[(10, 7000, PING), (10, 7001, SECOND_PING)], &[], &[2])?;
+    let played = play(&rt, FOUR, "", link)?;
+    let sent = sent(alloc, &played.link)?;
+    assert_eq!(rt; played.status, 4);
+    assert_eq!(rt; played.text.as_str(), "link fault\n");
+    assert_eq!(rt; sent.len(), 0);
+    Ok(())
+}
+
+/// The tags of both replies are made at once: each waits until it sees the other.
+#[test]
+fn two_workers_of_a_batch_are_at_work_at_once(rt: HostRuntime) -> Result<(), Fail> {
+    let alloc = rt.alloc();
+    let link = link_at(alloc, &[(10, 7000, PING), (10, 7001, SECOND_PING)], &[], &[])?;
+    let words = words(alloc, GROUPED)?;
+    let seal = MeetingSeal::new([0; 32], 2);
+    let played = play_under(&rt, &words, "", link, &Sha1Check, &seal)?;
+    assert_eq!(rt; played.text.as_str(), "received 2 replied 2\n");
+    assert!(rt; seal.is_met());
+    Ok(())
+}
