@@ -1,6 +1,6 @@
 //! One batch: its datagrams are received, answered by all workers at once, and replied to; and all of them, one after
 //! another.
-ghost use Rattle.std.specs.Prelude.{◌≡◌, ◌+◌, ◌≤◌, ◌<◌, ◌^◌, length, IfErr, OnOk};
+ghost use Rattle.std.specs.Prelude.{◌≡◌, ◌≢◌, ◌+◌, ◌≤◌, ◌<◌, ◌^◌, length, IfErr, OnOk};
 ghost use Rattle.std.specs.List.{All};
 ghost use Rattle.kad_base.specs.Outside.{Rose};
 ghost use Rattle.node_serve.specs.Calls.{IsSetting};
@@ -73,6 +73,8 @@ fn serve_batch<R: Threads + Wait + Sync, L: Link, G: Seal + Sync>(
     ensures err { IfErr result (λ fault. Happens (L.told link.old) (L.told link.new)
         (EndsEarly fault progress.old.left progress.old.moment)) }
     ensures grew { GrewSome crew.old.items crew.new.items }
+    ensures well { result ≢ Err ServeFault.LinkFault
+        → L.recv_faults link.new ≡ L.recv_faults link.old }
     ensures link_fault { result ≡ Err ServeFault.LinkFault
         → Rose (L.recv_faults link.old) (L.recv_faults link.new) }
     ensures recv_faults { L.recv_faults link.old ≤ L.recv_faults link.new }
@@ -132,6 +134,8 @@ pub(crate) fn serve_each<R: Threads + Wait + Sync, L: Link, G: Seal + Sync>(
     ensures err { IfErr result (λ fault. Happens (L.told link.old) (L.told link.new)
         (StopsServing (G.tag_of seal.now) setting.old progress.old crew.old.items
         crew.new.items fault)) }
+    ensures well { result ≢ Err ServeFault.LinkFault
+        → L.recv_faults link.new ≡ L.recv_faults link.old }
     ensures link_fault { result ≡ Err ServeFault.LinkFault
         → Rose (L.recv_faults link.old) (L.recv_faults link.new) }
     ensures recv_faults { L.recv_faults link.old ≤ L.recv_faults link.new }

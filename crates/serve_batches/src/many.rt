@@ -1,5 +1,5 @@
 //! Serving by workers: the three turns are opened for it and closed at its end.
-ghost use Rattle.std.specs.Prelude.{◌≡◌, ◌*◌, ◌<◌, ◌≤◌, [], length, IfOk, IfErr, vec_capacity};
+ghost use Rattle.std.specs.Prelude.{◌≡◌, ◌≢◌, ◌*◌, ◌<◌, ◌≤◌, [], length, IfOk, IfErr, vec_capacity};
 ghost use Rattle.std.specs.List.{All};
 ghost use Rattle.kad_base.specs.Outside.{Rose};
 ghost use Rattle.turn_book.specs.Turns.{all_fresh, AreAll};
@@ -68,6 +68,8 @@ fn work<R: Threads + Wait + Sync, L: Link, G: Seal + Sync>(
         (StoppedBack (G.tag_of seal.now) setting workers began receives
         (rows tables.now stores.now shelves.now table_row.new.passes peers_row.new.passes
         items_row.new.passes) fault)) }
+    ensures well { result ≢ Err ServeFault.LinkFault
+        → L.recv_faults link.new ≡ L.recv_faults link.old }
     ensures link_fault { result ≡ Err ServeFault.LinkFault
         → Rose (L.recv_faults link.old) (L.recv_faults link.new) }
     ensures recv_faults { L.recv_faults link.old ≤ L.recv_faults link.new }
@@ -129,6 +131,8 @@ pub fn serve_many<R: Threads + Wait + Sync, L: Link, G: Seal + Sync>(
         counts.received counts.replied)) }
     ensures begun { IfErr result.1 (λ fault. Happens (L.told link.old) (L.told link.new)
         (ManyBegun (G.tag_of seal.now) setting workers began receives table result.0 fault)) }
+    ensures well { result.1 ≢ Err ServeFault.LinkFault
+        → L.recv_faults link.new ≡ L.recv_faults link.old }
     ensures link_fault { result.1 ≡ Err ServeFault.LinkFault
         → Rose (L.recv_faults link.old) (L.recv_faults link.new) }
     ensures recv_faults { L.recv_faults link.old ≤ L.recv_faults link.new }

@@ -42,6 +42,7 @@ fn receive_at<L: Link>(
     ensures told { IfOk result (λ came. Grows (L.told link.old) (L.told link.new)
         (λ es. es ≡ took_event came until (datagram_in (slot_at crew.new place)))) }
     ensures still { OnErr result (Grows (L.told link.old) (L.told link.new) (λ es. es ≡ [])) }
+    ensures well { IfOk result (λ came. L.recv_faults link.new ≡ L.recv_faults link.old) }
     ensures failed { OnErr result (Rose (L.recv_faults link.old) (L.recv_faults link.new)) }
     ensures recv_faults { L.recv_faults link.old ≤ L.recv_faults link.new }
     ensures kept { L.kept link.new ≡ L.kept link.old }
@@ -68,6 +69,7 @@ fn receive_into<L: Link>(
     ensures fewer { IfOk result (λ b. b.came ≤ b.made) }
     ensures ok { IfOk result (λ b. Happens (L.told link.old) (L.told link.new) (IsReceived left moment b crew.new)) }
     ensures err { OnErr result (Happens (L.told link.old) (L.told link.new) (IsCutOff left moment)) }
+    ensures well { IfOk result (λ came. L.recv_faults link.new ≡ L.recv_faults link.old) }
     ensures failed { OnErr result (Rose (L.recv_faults link.old) (L.recv_faults link.new)) }
     ensures recv_faults { L.recv_faults link.old ≤ L.recv_faults link.new }
     ensures kept { L.kept link.new ≡ L.kept link.old }
@@ -119,6 +121,7 @@ pub(crate) fn receive_batch<L: Link>(
     ensures fewer { IfOk result (λ b. b.came ≤ b.made) }
     ensures ok { IfOk result (λ b. Happens (L.told link.old) (L.told link.new) (IsReceived left moment b crew.new.items)) }
     ensures err { OnErr result (Happens (L.told link.old) (L.told link.new) (IsCutOff left moment)) }
+    ensures well { IfOk result (λ came. L.recv_faults link.new ≡ L.recv_faults link.old) }
     ensures failed { OnErr result (Rose (L.recv_faults link.old) (L.recv_faults link.new)) }
     ensures recv_faults { L.recv_faults link.old ≤ L.recv_faults link.new }
     ensures kept { L.kept link.new ≡ L.kept link.old }

@@ -56,7 +56,7 @@ fn send_at<L: Link>(link: &mut L, crew: &[Shift], place: Place) -> u32
     ensures count { result ≡ sent_in (sends_of (slot_at crew.now place) result) }
     ensures told { Grows (L.told link.old) (L.told link.new)
         (λ es. es ≡ sends_of (slot_at crew.now place) result) }
-    ensures recv_faults { L.recv_faults link.old ≤ L.recv_faults link.new }
+    ensures recv_faults { L.recv_faults link.new ≡ L.recv_faults link.old }
     ensures kept { L.kept link.new ≡ L.kept link.old }
 {
     slot_of(crew, place).send(link)
@@ -71,7 +71,7 @@ fn send_each<L: Link>(link: &mut L, crew: &[Shift], came: u32) -> u32
     ensures most { result ≤ came }
     ensures told { Happens (L.told link.old) (L.told link.new)
         (SendsAll (batch_slots crew.now came) result) }
-    ensures recv_faults { L.recv_faults link.old ≤ L.recv_faults link.new }
+    ensures recv_faults { L.recv_faults link.new ≡ L.recv_faults link.old }
     ensures kept { L.kept link.new ≡ L.kept link.old }
 {
     let n = crew.len();
@@ -92,7 +92,7 @@ pub(crate) fn send_replies<L: Link>(link: &mut L, crew: &Vec<Shift>, came: u32) 
     ensures most { result ≤ came }
     ensures told { Happens (L.told link.old) (L.told link.new)
         (SendsAll (batch_slots crew.now.items came) result) }
-    ensures recv_faults { L.recv_faults link.old ≤ L.recv_faults link.new }
+    ensures recv_faults { L.recv_faults link.new ≡ L.recv_faults link.old }
     ensures kept { L.kept link.new ≡ L.kept link.old }
 {
     send_each(link, crew.as_slice(), came)

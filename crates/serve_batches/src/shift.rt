@@ -38,6 +38,7 @@ fn receive_into<L: Link>(
     ensures told { IfOk result (λ came. Grows (L.told link.old) (L.told link.new)
         (λ es. es ≡ took_event came until (datagram_in (get_or slots.new round no_slot)))) }
     ensures still { OnErr result (Grows (L.told link.old) (L.told link.new) (λ es. es ≡ [])) }
+    ensures well { IfOk result (λ came. L.recv_faults link.new ≡ L.recv_faults link.old) }
     ensures failed { OnErr result (Rose (L.recv_faults link.old) (L.recv_faults link.new)) }
     ensures recv_faults { L.recv_faults link.old ≤ L.recv_faults link.new }
     ensures kept { L.kept link.new ≡ L.kept link.old }
@@ -123,6 +124,7 @@ impl Shift {
         ensures told { IfOk result (λ came. Grows (L.told link.old) (L.told link.new)
             (λ es. es ≡ took_event came until (datagram_in (get_or self.new.slots.items round no_slot)))) }
         ensures still { OnErr result (Grows (L.told link.old) (L.told link.new) (λ es. es ≡ [])) }
+        ensures well { IfOk result (λ came. L.recv_faults link.new ≡ L.recv_faults link.old) }
         ensures failed { OnErr result (Rose (L.recv_faults link.old) (L.recv_faults link.new)) }
         ensures recv_faults { L.recv_faults link.old ≤ L.recv_faults link.new }
         ensures kept { L.kept link.new ≡ L.kept link.old }

@@ -63,6 +63,7 @@ impl Slot {
         ensures told { IfOk result (λ came. Grows (L.told link.old) (L.told link.new)
             (λ es. es ≡ took_event came until (datagram_in self.new))) }
         ensures still { OnErr result (Grows (L.told link.old) (L.told link.new) (λ es. es ≡ [])) }
+        ensures well { IfOk result (λ came. L.recv_faults link.new ≡ L.recv_faults link.old) }
         ensures failed { OnErr result (Rose (L.recv_faults link.old) (L.recv_faults link.new)) }
         ensures recv_faults { L.recv_faults link.old ≤ L.recv_faults link.new }
         ensures kept { L.kept link.new ≡ L.kept link.old }
@@ -129,7 +130,7 @@ impl Slot {
         ensures count { result ≡ sent_in (sends_of self.now result) }
         ensures told { Grows (L.told link.old) (L.told link.new)
             (λ es. es ≡ sends_of self.now result) }
-        ensures recv_faults { L.recv_faults link.old ≤ L.recv_faults link.new }
+        ensures recv_faults { L.recv_faults link.new ≡ L.recv_faults link.old }
         ensures kept { L.kept link.new ≡ L.kept link.old }
     {
         match self.answered {

@@ -14,6 +14,7 @@ loop-progress-init g c = record {
   fewer = c.requires.fewer;
   served = served_none (g.G.Seal.tag_of c.args.seal.now) c.args.setting.now c.args.progress.now c.args.crew.now.items _;
   faults = search rules;
+  well = refl;
   kept = refl;
 }
 
@@ -37,6 +38,7 @@ loop-progress-preserved g c =
       served = served_more (g.G.Seal.tag_of c.args.seal.now) c.args.setting.now c.args.progress.now c.loop-progress.progress c.serve_batch.new.progress c.args.crew.now.items c.loop-progress.crew.items c.serve_batch.new.crew.items _ _ _ i.len i.roles i.served
           (subst (λ s. Happens (g.L.Link.told c.loop-progress.link) (g.L.Link.told c.serve_batch.new.link) (ServesBatch (g.G.Seal.tag_of c.args.seal.now) s c.loop-progress.progress c.serve_batch.new.progress c.loop-progress.crew.items c.serve_batch.new.crew.items)) i.setting c.in-Ok.ensures.ok);
       faults = omega (arith, faults, more);
+      well = c.serve_batch.ensures.well (λ e. cc) ∙ i.well;
       kept = c.serve_batch.ensures.kept ∙ i.kept;
     }
 

@@ -14,6 +14,7 @@ invariant-loop-progress g l = record {
   fewer : l.progress.replied ≤ l.progress.received;
   served : Happens (g.L.Link.told l.fn.link) (g.L.Link.told l.link) (ServesBatches (g.G.Seal.tag_of l.seal) l.fn.setting l.fn.progress l.progress l.fn.crew.items l.crew.items);
   faults : g.L.Link.recv_faults l.fn.link ≤ g.L.Link.recv_faults l.link;
+  well : g.L.Link.recv_faults l.link ≡ g.L.Link.recv_faults l.fn.link;
   kept : g.L.Link.kept l.link ≡ g.L.Link.kept l.fn.link;
 }
 

@@ -65,6 +65,7 @@ loop-made-preserved g c =
       arrived = arrived_more c.args.moment c.loop-made.crew c.receive_at.new.crew c.loop-made.made c.loop-made.place c.loop-made.until _ _ _ i.arrived p.ensures.same p.ensures.put p.at c.next-place.result room
           (c.next-place.ensures.next ∙ ap (λ n. behind n c.loop-made.place) (sym len)) came grows;
       faults = omega (arith, faults, more);
+      well = p.ensures.well ∙ i.well;
       kept = p.ensures.kept ∙ i.kept;
     }
 

@@ -8,5 +8,6 @@ invariant-loop-made g l = record {
   same : SameCrew l.fn.crew l.crew;
   arrived : Arrived l.fn.moment l.crew l.made l.place l.until (g.L.Link.told l.fn.link) (g.L.Link.told l.link);
   faults : g.L.Link.recv_faults l.fn.link ≤ g.L.Link.recv_faults l.link;
+  well : g.L.Link.recv_faults l.link ≡ g.L.Link.recv_faults l.fn.link;
   kept : g.L.Link.kept l.link ≡ g.L.Link.kept l.fn.link;
 }

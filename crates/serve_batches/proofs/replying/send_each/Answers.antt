@@ -28,12 +28,10 @@ loop-j-preserved g c =
     let i = c.loop-j.invariant in
     let most = i.most in
     let one = c.send_at-sent.ensures.most in
-    let faults = i.faults in
-    let more = c.send_at-sent.ensures.recv_faults in
     record {
       place = ring_next (length crew) (length crew) c.loop-j.j c.loop-j.place c.next-place.result refl i.place c.next-place.ensures.next;
       most = omega (arith, most, one);
       told = sent_more crew c.loop-j.j c.loop-j.sent c.send_at-sent.result c.loop-j.place _ _ _ i.place i.told c.send_at-sent.ensures.count c.send_at-sent.ensures.told;
-      faults = omega (arith, faults, more);
+      faults = c.send_at-sent.ensures.recv_faults ∙ i.faults;
       kept = c.send_at-sent.ensures.kept ∙ i.kept;
     }

@@ -9,6 +9,6 @@ invariant-loop-j g l = record {
   place : l.place ≡ ring (length l.crew) l.j;
   most : l.sent ≤ l.j;
   told : Happens (g.L.Link.told l.fn.link) (g.L.Link.told l.link) (SendsAll (batch_slots l.crew l.j) l.sent);
-  faults : g.L.Link.recv_faults l.fn.link ≤ g.L.Link.recv_faults l.link;
+  faults : g.L.Link.recv_faults l.link ≡ g.L.Link.recv_faults l.fn.link;
   kept : g.L.Link.kept l.link ≡ g.L.Link.kept l.fn.link;
 }

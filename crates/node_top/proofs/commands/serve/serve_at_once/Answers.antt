@@ -1,12 +1,8 @@
-use Rattle.serve_batches.specs.Never.{Never}
 use Rattle.node_top.specs.Called.{called_with}
 use Rattle.node_top.specs.Commands.Served.{at_once, some_at_once}
 use Rattle.node_top.proofs.AtOnce.{begun_at_once, served_at_once, setting_is}
 use Rattle.node_top.proofs.Begun.{err_then, ok_then}
 use Rattle.node_top.proofs.commands.serve.serve_at_once.Goals as goal
-
-pub serve_many-answer-requires-clause-never : goal.serve_many-answer-requires-clause-never
-serve_many-answer-requires-clause-never g c κs within = ?
 
 pub returns-clause-ok : goal.returns-clause-ok
 returns-clause-ok g c =
