@@ -1,5 +1,5 @@
 //! The receive calls of a node that serves on a link, and the replies to what came.
-ghost use Rattle.std.specs.Prelude.{◌≡◌, ◌≤◌, ◌<◌, ◌+◌, ◌^◌, [], ◌∷◌, length, IfOk, OnOk, OnErr, IfErr};
+ghost use Rattle.std.specs.Prelude.{◌≡◌, ◌≢◌, ◌≤◌, ◌<◌, ◌+◌, ◌^◌, [], ◌∷◌, length, IfOk, OnOk, OnErr, IfErr};
 ghost use Rattle.kad_base.specs.Outside.{Grows, Rose};
 ghost use Rattle.node_serve.specs.AnswerOf.{EndsEarly};
 ghost use Rattle.node_serve.specs.Receives.{ServesAll, ServesSome, tried};
@@ -47,7 +47,7 @@ pub(crate) struct Server {
 fn send<L: Link>(link: &mut L, to: Addr, reply: &[u8]) -> bool
     ensures sent { Grows (L.told link.old) (L.told link.new)
         (λ es. es ≡ tried result to reply.now ∷ []) }
-    ensures recv_faults { L.recv_faults link.old ≤ L.recv_faults link.new }
+    ensures recv_faults { L.recv_faults link.new ≡ L.recv_faults link.old }
     ensures kept { L.kept link.new ≡ L.kept link.old }
 {
     match link.send(to, reply) {
@@ -71,7 +71,7 @@ fn answer_one<L: Link, G: Seal>(
         (RespondsWith (G.tag_of seal.now) node.old from bytes.now at sent node.new)) }
     ensures err { OnErr result (EndsEarly node.old from bytes.now at node.new) }
     ensures still { OnErr result (link.new ≡ link.old) }
-    ensures recv_faults { L.recv_faults link.old ≤ L.recv_faults link.new }
+    ensures recv_faults { L.recv_faults link.new ≡ L.recv_faults link.old }
     ensures kept { L.kept link.new ≡ L.kept link.old }
 {
     match node.answer(from, bytes, at, seal, out) {
@@ -102,6 +102,8 @@ fn receive<L: Link, G: Seal>(
     ensures link_fault { result ≡ Err ServeFault.LinkFault
         → Rose (L.recv_faults link.old) (L.recv_faults link.new) }
     ensures recv_faults { L.recv_faults link.old ≤ L.recv_faults link.new }
+    ensures well { result ≢ Err ServeFault.LinkFault
+        → L.recv_faults link.new ≡ L.recv_faults link.old }
     ensures kept { L.kept link.new ≡ L.kept link.old }
 {
     let until = server.moment.saturating_add(PATIENCE);
@@ -143,6 +145,8 @@ pub fn serve_loop<L: Link, G: Seal>(
     ensures link_fault { result ≡ Err ServeFault.LinkFault
         → Rose (L.recv_faults link.old) (L.recv_faults link.new) }
     ensures recv_faults { L.recv_faults link.old ≤ L.recv_faults link.new }
+    ensures well { result ≢ Err ServeFault.LinkFault
+        → L.recv_faults link.new ≡ L.recv_faults link.old }
     ensures kept { L.kept link.new ≡ L.kept link.old }
 {
     let mut server = Server {

@@ -9,5 +9,6 @@ invariant-loop-i g l = record {
   few : l.server.received ≤ l.i;
   fewer : l.server.replied ≤ l.server.received;
   faults : g.L.Link.recv_faults l.fn.link ≤ g.L.Link.recv_faults l.link;
+  well : g.L.Link.recv_faults l.link ≡ g.L.Link.recv_faults l.fn.link;
   kept : g.L.Link.kept l.link ≡ g.L.Link.kept l.fn.link;
 }
