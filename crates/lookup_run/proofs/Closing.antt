@@ -1,5 +1,5 @@
 -- A lookup has gone its rounds: what follows for what it answers.
-use Rattle.std.proofs.Common.{◌≡◌, ◌≢◌, ◌≤◌, ℕ, List, [], Option, inl, inr, refl, sym, arith, Result, Ok, Err, IfOk, subst}
+use Rattle.std.proofs.Common.{◌≡◌, ◌≢◌, ◌≤◌, ℕ, List, [], Option, inl, inr, refl, sym, arith, Result, Ok, Err, IfOk, subst, ◌∙◌}
 use Rattle.std.specs.Prelude.{IfErr, OnOk, OnErr, IsErrOf}
 use Rattle.std.specs.List.{All}
 use Rattle.std.proofs.lemmas.Bool.{false≢true}
@@ -65,12 +65,14 @@ pub record Went (scheduling : Scheduling) (look : LookSetting) (accepts : Accept
   pub few_strays : IsErrOf ended LinkFault → RoundFewStrays scheduling look accepts words first mid told'
   pub link : IsErrOf ended LinkFault → Rose faults faults'
   pub recv_faults : faults ≤ faults'
+  pub well : (IsErrOf ended LinkFault → ⊥) → faults' ≡ faults
 
 -- the whole: what began so, went its rounds so and was closed so looked up
 pub looked_up : {Kept : Type 0} (scheduling : Scheduling) (look : LookSetting) (accepts : Accepts) (words words' : WordsState) (table opened after : TableState) (book : BookState) (moment : ℕ) (first work : LookupState) (told mid told' : Option (List Event)) (faults since faults' sends sends' : ℕ) (was is : Kept) (ended : Result (Unit {0}) LookFault) (r : Result Outcome LookFault)
-    → Opening look words table opened book moment first told mid → Went scheduling look accepts words words' first work mid told' since faults' sends sends' ended → faults ≤ since → is ≡ was → Legal work.lookup.book.setting work.lookup.book.journal
-    → after ≡ work.table → IfOk r (IsClosed work ended) → IfErr r (λ fault. fault ≢ NoMemory → ended ≡ Err fault) → LooksUp scheduling look accepts table after words words' told told' faults faults' sends sends' was is r
-looked_up scheduling look accepts words words' table opened after book moment first work told mid told' faults since faults' sends sends' was is ended r o w rises kept legal same done fault =
+    → Opening look words table opened book moment first told mid → Went scheduling look accepts words words' first work mid told' since faults' sends sends' ended → since ≡ faults → is ≡ was → Legal work.lookup.book.setting work.lookup.book.journal
+    → after ≡ work.table → IfOk r (IsClosed work ended) → IfErr r (λ fault. fault ≢ NoMemory → ended ≡ Err fault) → (IsErrOf ended LinkFault → IsErrOf r LinkFault) → LooksUp scheduling look accepts table after words words' told told' faults faults' sends sends' was is r
+looked_up scheduling look accepts words words' table opened after book moment first work told mid told' faults since faults' sends sends' was is ended r o w still kept legal same done fault out =
+    let rises : faults ≤ since = omega (arith, still) in
     let along = along_of scheduling look accepts words table opened book moment first told mid o in
     let ends : IsOver scheduling look accepts words words' first work mid told' → Ends scheduling look accepts words words' table work told told' = λ over. ends_of scheduling look accepts words words' table opened book moment first work told mid told' o over legal in
     let begun : RefusedIn first.lookup.book.journal sends sends = subst (λ J. RefusedIn J sends sends) (sym (journal_of look words table opened book moment first told mid o)) (refused_seeded look.paths (seeds_in look table) sends) in
@@ -92,6 +94,7 @@ looked_up scheduling look accepts words words' table opened after book moment fi
       no_last_stray_at_fault = λ fail. (w.few_strays (same_fault ended r LinkFault (λ e. absurd cc) fault fail) words table told along).never;
       link = λ fail. rose_before faults since faults' rises (w.link (same_fault ended r LinkFault (λ e. absurd cc) fault fail));
       recv_faults = (let b = w.recv_faults in omega (arith, rises, b));
+      well = λ other. w.well (λ is. other (out is)) ∙ still;
       refused = closed_well work ended r _ both done (λ x o d. subst (λ J. RefusedIn J sends sends') (sym d.done.journal) (refused_more first.lookup.book.journal work.lookup.book.journal sends sends sends' begun x.1));
       kept = kept;
     }
@@ -115,6 +118,7 @@ never_looked scheduling look accepts words table after told faults sends was usa
   no_last_stray_at_fault = λ e. absurd cc;
   link = λ e. absurd cc;
   recv_faults = omega arith;
+  well = λ other. refl;
   refused = tt;
   kept = refl;
 }

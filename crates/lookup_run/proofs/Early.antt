@@ -104,6 +104,13 @@ passed_on {T} fault r y x e same is =
     let passed : ◌≡◌ {A = Result (Unit {0}) LookFault} (Err x) (Err fault) = cc in
     passed
 
+-- and where that of the `?` is another, so is that of the call
+pub passed_other : {T : Type 0} (fault : LookFault) (r : Result T LookFault) (y x : LookFault) → r ≡ Err y → y ≡ x → (IsErrOf r fault → ⊥) → IsErrOf {T = Unit {0}} (Err x) fault → ⊥
+passed_other {T} fault r y x e same other is =
+    let it : x ≡ fault = cc in
+    let there : ◌≡◌ {A = Result T LookFault} (Err y) (Err fault) = ap (λ (z : LookFault). Err z) (same ∙ it) in
+    other (e ∙ there)
+
 -- what a result that is known promises
 pub ok_of : {T F : Type 0} (r : Result T F) (x : T) (P : T → Type 0) → r ≡ Ok x → IfOk r P → P x
 ok_of r x P is h = subst (λ y. IfOk y P) is h

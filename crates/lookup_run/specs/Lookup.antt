@@ -189,6 +189,8 @@ pub record LooksUp {Kept : Type 0} (scheduling : Scheduling) (look : LookSetting
   pub no_last_stray_at_fault : IsErrOf ended LinkFault → look.sealed ≡ false → Grows told told' (NeverEnds (given_of look accepts words) max_strays)
   pub link : IsErrOf ended LinkFault → Rose faults faults'
   pub recv_faults : faults ≤ faults'
+  -- no failed receive is made again: where it ends otherwise none failed, whether or not the link tells its events
+  pub well : ¬ IsErrOf ended LinkFault → faults' ≡ faults
   -- who was lost because the link would not send, it counted, whether or not it tells its events
   pub refused : IfOk ended (λ outcome. RefusedIn outcome.journal sends sends')
   pub kept : is ≡ was

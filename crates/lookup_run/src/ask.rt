@@ -32,7 +32,7 @@ fn ask_one<L: Link>(
     ensures none { result ≡ false → AsksNone look.now path words.old words.new work.old work.new
         (L.told link.old) (L.told link.new) }
     ensures moment { L.moment link.new ≡ L.moment link.old }
-    ensures recv_faults { L.recv_faults link.old ≤ L.recv_faults link.new }
+    ensures recv_faults { L.recv_faults link.new ≡ L.recv_faults link.old }
     ensures refuses { Refuses work.old.lookup.book.journal work.new.lookup.book.journal
         (L.send_faults link.old) (L.send_faults link.new) }
     ensures kept { L.kept link.new ≡ L.kept link.old }
@@ -70,7 +70,7 @@ fn ask_path<L: Link>(
     ensures asks { Asks look.now path (path + 1) words.old words.new work.old work.new
         (L.told link.old) (L.told link.new) }
     ensures moment { L.moment link.new ≡ L.moment link.old }
-    ensures recv_faults { L.recv_faults link.old ≤ L.recv_faults link.new }
+    ensures recv_faults { L.recv_faults link.new ≡ L.recv_faults link.old }
     ensures refuses { Refuses work.old.lookup.book.journal work.new.lookup.book.journal
         (L.send_faults link.old) (L.send_faults link.new) }
     ensures kept { L.kept link.new ≡ L.kept link.old }
@@ -90,7 +90,7 @@ pub(crate) fn ask_all<L: Link>(
     ensures asks { Asks look.now 0 look.now.paths words.old words.new work.old work.new
         (L.told link.old) (L.told link.new) }
     ensures moment { L.moment link.new ≡ L.moment link.old }
-    ensures recv_faults { L.recv_faults link.old ≤ L.recv_faults link.new }
+    ensures recv_faults { L.recv_faults link.new ≡ L.recv_faults link.old }
     ensures refuses { Refuses work.old.lookup.book.journal work.new.lookup.book.journal
         (L.send_faults link.old) (L.send_faults link.new) }
     ensures kept { L.kept link.new ≡ L.kept link.old }

@@ -1,5 +1,5 @@
 //! A whole lookup, from the seeds of a table to where every path has run out.
-ghost use Rattle.std.specs.Prelude.{◌≡◌, ◌≢◌, ◌≤◌, ◌<◌, ◌^◌, ◌∷◌, [], ℕ, Err, IfOk, IfErr, OnOk, OnErr};
+ghost use Rattle.std.specs.Prelude.{◌≡◌, ◌≢◌, ◌≤◌, ◌<◌, ◌^◌, ◌∷◌, [], ℕ, Err, IfOk, IfErr, OnOk, OnErr, IsErrOf};
 ghost use Rattle.std.specs.List.{All};
 ghost use Rattle.kad_base.specs.declared.types.Event.TheVariants.{Now};
 ghost use Rattle.kad_base.specs.Contacts.{IsUsable};
@@ -73,6 +73,7 @@ fn close(work: LookupState, ended: Result<(), LookFault>) -> (Table, Result<Outc
     ensures table { result.0 ≡ work.table }
     ensures done { IfOk result.1 (λ outcome. IsClosed work ended outcome) }
     ensures fault { IfErr result.1 (λ fault. fault ≢ LookFault.NoMemory → ended ≡ Err fault) }
+    ensures link { IsErrOf ended LookFault.LinkFault → IsErrOf result.1 LookFault.LinkFault }
 {
     let LookupState {
         lookup,
@@ -109,7 +110,7 @@ fn begin<L: Link>(alloc: Global, link: &mut L, table: Table, book: Book) -> Look
     ensures begun { IsBegun book table (L.moment link.new) result }
     ensures told { Grows (L.told link.old) (L.told link.new)
         (λ es. es ≡ Now (L.moment link.new) ∷ []) }
-    ensures recv_faults { L.recv_faults link.old ≤ L.recv_faults link.new }
+    ensures recv_faults { L.recv_faults link.new ≡ L.recv_faults link.old }
     ensures send_faults { L.send_faults link.new ≡ L.send_faults link.old }
     ensures kept { L.kept link.new ≡ L.kept link.old }
 {

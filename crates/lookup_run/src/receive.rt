@@ -116,6 +116,8 @@ pub(crate) fn receive<L: Link, G: SealCheck>(
     ensures link { IsErrOf result LookFault.LinkFault
         → Rose (L.recv_faults link.old) (L.recv_faults link.new) }
     ensures recv_faults { L.recv_faults link.old ≤ L.recv_faults link.new }
+    ensures well { ¬ IsErrOf result LookFault.LinkFault
+        → L.recv_faults link.new ≡ L.recv_faults link.old }
     ensures send_faults { L.send_faults link.new ≡ L.send_faults link.old }
     ensures kept { L.kept link.new ≡ L.kept link.old }
 {
@@ -165,6 +167,8 @@ pub(crate) fn receive_round<L: Link, G: SealCheck>(
     ensures link { IsErrOf result LookFault.LinkFault
         → Rose (L.recv_faults link.old) (L.recv_faults link.new) }
     ensures recv_faults { L.recv_faults link.old ≤ L.recv_faults link.new }
+    ensures well { ¬ IsErrOf result LookFault.LinkFault
+        → L.recv_faults link.new ≡ L.recv_faults link.old }
     ensures send_faults { L.send_faults link.new ≡ L.send_faults link.old }
     ensures kept { L.kept link.new ≡ L.kept link.old }
 {

@@ -50,6 +50,8 @@ fn ask_and_receive<L: Link, G: SealCheck>(
     ensures link { IsErrOf result LookFault.LinkFault
         → Rose (L.recv_faults link.old) (L.recv_faults link.new) }
     ensures recv_faults { L.recv_faults link.old ≤ L.recv_faults link.new }
+    ensures well { ¬ IsErrOf result LookFault.LinkFault
+        → L.recv_faults link.new ≡ L.recv_faults link.old }
     ensures refuses { OnOk result (Refuses work.old.lookup.book.journal work.new.lookup.book.journal
         (L.send_faults link.old) (L.send_faults link.new)) }
     ensures kept { L.kept link.new ≡ L.kept link.old }
@@ -96,6 +98,8 @@ pub(crate) fn go_rounds<
     ensures link { IsErrOf result.1 LookFault.LinkFault
         → Rose (L.recv_faults link.old) (L.recv_faults link.new) }
     ensures recv_faults { L.recv_faults link.old ≤ L.recv_faults link.new }
+    ensures well { ¬ IsErrOf result.1 LookFault.LinkFault
+        → L.recv_faults link.new ≡ L.recv_faults link.old }
     ensures refuses { OnOk result.1 (Refuses work.lookup.book.journal result.0.lookup.book.journal
         (L.send_faults link.old) (L.send_faults link.new)) }
     ensures kept { L.kept link.new ≡ L.kept link.old }

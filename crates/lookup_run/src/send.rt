@@ -19,7 +19,7 @@ pub(crate) fn send_query<L: Link>(link: &mut L, look: &LookSetting, asked: &Aske
         (λ es. es ≡ Unsent asked.now.contact.addr (form
         (query_message (quest_of look.now) asked.now.tx)) ∷ []) }
     ensures moment { L.moment link.new ≡ L.moment link.old }
-    ensures recv_faults { L.recv_faults link.old ≤ L.recv_faults link.new }
+    ensures recv_faults { L.recv_faults link.new ≡ L.recv_faults link.old }
     ensures well { result ≡ true → L.send_faults link.new ≡ L.send_faults link.old }
     ensures refused { result ≡ false → Rose (L.send_faults link.old) (L.send_faults link.new) }
     ensures send_faults { L.send_faults link.old ≤ L.send_faults link.new }

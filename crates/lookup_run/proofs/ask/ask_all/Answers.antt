@@ -11,7 +11,7 @@ loop-path-init g c =
       asks = asks_not c.args.look.now 0 c.args.words.now c.args.work.now _ b.keeps b.has_words b.settled (λ q lt. absurd (omega (arith, lt)));
       moment = refl;
       refuses = refuses_none c.args.work.now.lookup.book.journal c.args.work.now.lookup.book.journal _ _ refl refl;
-      faults = omega arith;
+      faults = refl;
       kept = refl;
     }
 
@@ -23,7 +23,7 @@ loop-path-preserved g c =
       asks = asks_then c.args.look.now 0 p (p + 1) c.args.words.now c.loop-path.words c.ask_path.new.words c.args.work.now c.loop-path.work c.ask_path.new.work _ _ _ i.asks c.ask_path.ensures.asks;
       moment = c.ask_path.ensures.moment ∙ i.moment;
       refuses = refuses_then c.args.work.now.lookup.book.journal c.loop-path.work.lookup.book.journal c.ask_path.new.work.lookup.book.journal _ _ _ i.refuses c.ask_path.ensures.refuses;
-      faults = (let a = i.faults in let b = c.ask_path.ensures.recv_faults in omega (arith, a, b));
+      faults = c.ask_path.ensures.recv_faults ∙ i.faults;
       kept = c.ask_path.ensures.kept ∙ i.kept;
     }
 

@@ -1,4 +1,4 @@
-use Rattle.std.proofs.Common.{◌∙◌, refl, arith}
+use Rattle.std.proofs.Common.{◌∙◌, refl}
 use Rattle.lookup_run.proofs.Asking.{asks_not, asks_then, asks_over}
 use Rattle.lookup_run.proofs.Refusing.{refuses_none, refuses_then}
 use Rattle.lookup_run.proofs.ask.ask_path.Goals as goal
@@ -10,7 +10,7 @@ asking-init g c =
       asks = asks_not c.args.look.now c.args.path c.args.words.now c.args.work.now _ r.keeps r.has_words r.settled r.none_below;
       moment = refl;
       refuses = refuses_none c.args.work.now.lookup.book.journal c.args.work.now.lookup.book.journal _ _ refl refl;
-      faults = omega arith;
+      faults = refl;
       kept = refl;
     }
 
@@ -22,7 +22,7 @@ asking-preserved g c =
       asks = asks_then c.args.look.now p p p c.args.words.now c.asking.words c.ask_one.new.words c.args.work.now c.asking.work c.ask_one.new.work _ _ _ i.asks (c.asking-test.ensures.some refl);
       moment = c.ask_one.ensures.moment ∙ i.moment;
       refuses = refuses_then c.args.work.now.lookup.book.journal c.asking.work.lookup.book.journal c.ask_one.new.work.lookup.book.journal _ _ _ i.refuses c.ask_one.ensures.refuses;
-      faults = (let a = i.faults in let b = c.ask_one.ensures.recv_faults in omega (arith, a, b));
+      faults = c.ask_one.ensures.recv_faults ∙ i.faults;
       kept = c.ask_one.ensures.kept ∙ i.kept;
     }
 

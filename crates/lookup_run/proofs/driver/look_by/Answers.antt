@@ -22,6 +22,6 @@ returns g c =
     let r = c.go_rounds-work in
     let o = opening_of c.args.setting.now c.args.words.now c.args.table _ _ _ _ (g.L.Link.told c.args.link.now) (g.L.Link.told c.begin-work.new.link) c.in-Ok.ensures.book c.in-Ok.ensures.told c.begin-work.ensures.begun c.begin-work.ensures.told c.requires.place in
     let e = r.ensures in
-    let went : Went g.O.Schedule.scheduling c.args.setting.now (g.G.SealCheck.accepted c.args.seal.now) c.args.words.now r.new.words c.begin-work.result r.result.0 (g.L.Link.told c.begin-work.new.link) (g.L.Link.told r.new.link) (g.L.Link.recv_faults c.begin-work.new.link) (g.L.Link.recv_faults r.new.link) (g.L.Link.send_faults c.begin-work.new.link) (g.L.Link.send_faults r.new.link) r.result.1 = record { over = e.over; refuses = e.refuses; stops = e.stops; strays = e.strays; few_strays = e.few_strays; link = e.link; recv_faults = e.recv_faults } in
+    let went : Went g.O.Schedule.scheduling c.args.setting.now (g.G.SealCheck.accepted c.args.seal.now) c.args.words.now r.new.words c.begin-work.result r.result.0 (g.L.Link.told c.begin-work.new.link) (g.L.Link.told r.new.link) (g.L.Link.recv_faults c.begin-work.new.link) (g.L.Link.recv_faults r.new.link) (g.L.Link.send_faults c.begin-work.new.link) (g.L.Link.send_faults r.new.link) r.result.1 = record { over = e.over; refuses = e.refuses; stops = e.stops; strays = e.strays; few_strays = e.few_strays; link = e.link; recv_faults = e.recv_faults; well = e.well } in
     subst (λ n. LooksUp g.O.Schedule.scheduling c.args.setting.now (g.G.SealCheck.accepted c.args.seal.now) c.args.table c.close.result.0 c.args.words.now r.new.words (g.L.Link.told c.args.link.now) (g.L.Link.told r.new.link) (g.L.Link.recv_faults c.args.link.now) (g.L.Link.recv_faults r.new.link) n (g.L.Link.send_faults r.new.link) (g.L.Link.kept c.args.link.now) (g.L.Link.kept r.new.link) c.close.result.1) c.begin-work.ensures.send_faults
-    (looked_up g.O.Schedule.scheduling c.args.setting.now (g.G.SealCheck.accepted c.args.seal.now) c.args.words.now r.new.words c.args.table _ _ _ _ c.begin-work.result r.result.0 _ _ _ _ _ _ _ _ _ _ r.result.1 c.close.result.1 o went c.begin-work.ensures.recv_faults (e.kept ∙ c.begin-work.ensures.kept) c.legal.ensures c.close.ensures.table c.close.ensures.done c.close.ensures.fault)
+    (looked_up g.O.Schedule.scheduling c.args.setting.now (g.G.SealCheck.accepted c.args.seal.now) c.args.words.now r.new.words c.args.table _ _ _ _ c.begin-work.result r.result.0 _ _ _ _ _ _ _ _ _ _ r.result.1 c.close.result.1 o went c.begin-work.ensures.recv_faults (e.kept ∙ c.begin-work.ensures.kept) c.legal.ensures c.close.ensures.table c.close.ensures.done c.close.ensures.fault c.close.ensures.link)

@@ -55,6 +55,9 @@ returns-in-Ok-Quiet-clause-ok g c =
     quiet_receives c.args.look.now (g.G.SealCheck.accepted c.args.seal.now) c.wait_until-until.result p.at old c.expire-in-Ok-Quiet.new.work _ _
     (record { may = c.requires.may_receive; legal = c.legal.ensures; waits = c.wait_until-until.ensures; later = later }) came.0 c.expire-in-Ok-Quiet.ensures grows
 
+pub returns-in-Err-clause-well : goal.returns-in-Err-clause-well
+returns-in-Err-clause-well g c other = absurd (other refl)
+
 pub returns-in-Err-clause-stops : goal.returns-in-Err-clause-stops
 returns-in-Err-clause-stops g c words =
     let old : LookupState = c.args.work.now in

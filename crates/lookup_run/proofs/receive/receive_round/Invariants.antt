@@ -9,6 +9,7 @@ invariant-receiving g l = record {
   room : length l.buf ≡ max_datagram + 1;
   moment : g.L.Link.moment l.link ≡ l.work.progress.moment;
   faults : g.L.Link.recv_faults l.fn.link ≤ g.L.Link.recv_faults l.link;
+  well : g.L.Link.recv_faults l.link ≡ g.L.Link.recv_faults l.fn.link;
   sends : g.L.Link.send_faults l.link ≡ g.L.Link.send_faults l.fn.link;
   kept : g.L.Link.kept l.link ≡ g.L.Link.kept l.fn.link;
 }

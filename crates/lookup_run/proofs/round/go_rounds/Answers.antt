@@ -13,6 +13,7 @@ rounds-init g c = record {
   room = refl;
   refuses = refuses_none c.args.work.lookup.book.journal c.args.work.lookup.book.journal _ _ refl refl;
   faults = omega arith;
+  well = refl;
   kept = refl;
 }
 
@@ -40,6 +41,7 @@ rounds-preserved g c =
           (refuses_then c.rounds.work.lookup.book.journal c.ask_and_receive.new.work.lookup.book.journal c.settle-after.result.0.lookup.book.journal _ _ _ c.in-Ok-true.ensures.refuses
           (refuses_none c.ask_and_receive.new.work.lookup.book.journal c.settle-after.result.0.lookup.book.journal _ _ (on_ok c.settle-after.result.1 c.in-Ok.field-0 c.in-Ok.is (settled.ok told)).same_unsent refl));
       faults = (let a = i.faults in let b = c.ask_and_receive.ensures.recv_faults in omega (arith, a, b));
+      well = c.in-Ok-true.ensures.well (λ e. cc) ∙ i.well;
       kept = c.ask_and_receive.ensures.kept ∙ i.kept;
     }
 
@@ -49,6 +51,12 @@ returns-in-Ok-false-clause-over g c =
 
 pub returns-in-Ok-false-clause-refuses : goal.returns-in-Ok-false-clause-refuses
 returns-in-Ok-false-clause-refuses g c = refuses_then c.args.work.lookup.book.journal c.rounds.work.lookup.book.journal c.ask_and_receive.new.work.lookup.book.journal _ _ _ c.rounds.invariant.refuses c.in-Ok-false.ensures.refuses
+
+pub returns-in-Ok-false-clause-well : goal.returns-in-Ok-false-clause-well
+returns-in-Ok-false-clause-well g c other = c.in-Ok-false.ensures.well (λ e. cc) ∙ c.rounds.invariant.well
+
+pub returns-in-Err-clause-well : goal.returns-in-Err-clause-well
+returns-in-Err-clause-well g c other = c.in-Err.ensures.well (λ is. (let fault : c.in-Err.fault ≡ LinkFault = cc in other (ap (λ x. Err x) fault))) ∙ c.rounds.invariant.well
 
 pub returns-in-Err-clause-stops : goal.returns-in-Err-clause-stops
 returns-in-Err-clause-stops g c =
@@ -72,6 +80,9 @@ returns-in-Err-settled-clause-stops g c =
     let told = g.L.Link.told c.ask_and_receive.new.link in
     let stop = stops_settling_round g.O.Schedule.scheduling c.args.look.now (g.G.SealCheck.accepted c.args.seal.now) c.rounds.words c.ask_and_receive.new.words c.rounds.work c.ask_and_receive.new.work c.settle-after.result.0 _ told h (on_err c.settle-after.result.1 c.in-Err-settled.fault c.in-Err-settled.is (settled.stops told) (g.G.SealCheck.accepted c.args.seal.now) c.ask_and_receive.new.words) _ _ c.in-Ok-true.ensures.refuses in
     rounds_stop g.O.Schedule.scheduling c.args.look.now (g.G.SealCheck.accepted c.args.seal.now) c.args.words.now c.rounds.words c.ask_and_receive.new.words c.args.work c.rounds.work c.settle-after.result.0 _ _ _ c.rounds.invariant.rounding _ _ _ c.rounds.invariant.refuses stop
+
+pub returns-in-Err-settled-clause-well : goal.returns-in-Err-settled-clause-well
+returns-in-Err-settled-clause-well g c other = c.in-Ok-true.ensures.well (λ e. cc) ∙ c.rounds.invariant.well
 
 pub returns-in-Err-settled-clause-few_strays : goal.returns-in-Err-settled-clause-few_strays
 returns-in-Err-settled-clause-few_strays g c is =

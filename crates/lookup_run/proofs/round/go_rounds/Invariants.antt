@@ -12,6 +12,7 @@ invariant-rounds g l = record {
   room : length l.buf ≡ max_datagram + 1;
   refuses : Refuses l.fn.work.lookup.book.journal l.work.lookup.book.journal (g.L.Link.send_faults l.fn.link) (g.L.Link.send_faults l.link);
   faults : g.L.Link.recv_faults l.fn.link ≤ g.L.Link.recv_faults l.link;
+  well : g.L.Link.recv_faults l.link ≡ g.L.Link.recv_faults l.fn.link;
   kept : g.L.Link.kept l.link ≡ g.L.Link.kept l.fn.link;
 }
 
