@@ -6,3 +6,4 @@ pub mod Receiving
 pub mod Trying
 pub mod Wholly
 pub mod Determined
+pub mod Matching

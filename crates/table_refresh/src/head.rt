@@ -35,6 +35,8 @@ fn await_reply<L: Link, G: SealCheck>(
     ensures link { IsErrOf result RefreshFault.LinkFault
         → Rose (L.recv_faults link.old) (L.recv_faults link.new) }
     ensures recv_faults { L.recv_faults link.old ≤ L.recv_faults link.new }
+    ensures well { ¬ IsErrOf result RefreshFault.LinkFault
+        → L.recv_faults link.new ≡ L.recv_faults link.old }
     ensures kept { L.kept link.new ≡ L.kept link.old }
 {
     'waiting: loop {
@@ -70,6 +72,8 @@ fn try_head<L: Link, G: SealCheck>(
     ensures link { IsErrOf result RefreshFault.LinkFault
         → Rose (L.recv_faults link.old) (L.recv_faults link.new) }
     ensures recv_faults { L.recv_faults link.old ≤ L.recv_faults link.new }
+    ensures well { ¬ IsErrOf result RefreshFault.LinkFault
+        → L.recv_faults link.new ≡ L.recv_faults link.old }
     ensures kept { L.kept link.new ≡ L.kept link.old }
 {
     let query = open_ping(words, head, work.moment, setting.timeout);
@@ -103,6 +107,8 @@ pub(crate) fn ping_head<L: Link, G: SealCheck>(
     ensures link { IsErrOf result RefreshFault.LinkFault
         → Rose (L.recv_faults link.old) (L.recv_faults link.new) }
     ensures recv_faults { L.recv_faults link.old ≤ L.recv_faults link.new }
+    ensures well { ¬ IsErrOf result RefreshFault.LinkFault
+        → L.recv_faults link.new ≡ L.recv_faults link.old }
     ensures kept { L.kept link.new ≡ L.kept link.old }
 {
     match try_head(alloc, link, words, work, buf, setting, head, seal) {

@@ -52,7 +52,7 @@ pub(crate) fn send_ping<L: Link>(link: &mut L, own: &Id, query: &Query) -> bool
     ensures unsent { result ≡ false → Grows (L.told link.old) (L.told link.new)
         (λ es. es ≡ Unsent query.now.contact.addr (form (ping own.now query.now.tx)) ∷ []) }
     ensures moment { L.moment link.new ≡ L.moment link.old }
-    ensures recv_faults { L.recv_faults link.old ≤ L.recv_faults link.new }
+    ensures recv_faults { L.recv_faults link.new ≡ L.recv_faults link.old }
     ensures kept { L.kept link.new ≡ L.kept link.old }
 {
     let mut buf = [0u8; PING];

@@ -37,6 +37,8 @@ fn ping_all<L: Link, G: SealCheck>(
     ensures link { IsErrOf result RefreshFault.LinkFault
         → Rose (L.recv_faults link.old) (L.recv_faults link.new) }
     ensures recv_faults { L.recv_faults link.old ≤ L.recv_faults link.new }
+    ensures well { ¬ IsErrOf result RefreshFault.LinkFault
+        → L.recv_faults link.new ≡ L.recv_faults link.old }
     ensures kept { L.kept link.new ≡ L.kept link.old }
 {
     let mut buf = [0u8; RECEIVE_ROOM];
@@ -74,6 +76,8 @@ pub fn refresh<L: Link, G: SealCheck>(
     ensures link { IsErrOf result.1 RefreshFault.LinkFault
         → Rose (L.recv_faults link.old) (L.recv_faults link.new) }
     ensures recv_faults { L.recv_faults link.old ≤ L.recv_faults link.new }
+    ensures well { ¬ IsErrOf result.1 RefreshFault.LinkFault
+        → L.recv_faults link.new ≡ L.recv_faults link.old }
     ensures kept { L.kept link.new ≡ L.kept link.old }
 {
     let plan = match plan_of(alloc, &table) {

@@ -1,4 +1,5 @@
-use Rattle.std.proofs.Common.{rules, arith}
+use Rattle.std.proofs.Common.{◌≡◌, ◌∙◌, Err, ap, rules, arith}
+use Rattle.table_refresh.specs.declared.types.RefreshFault.TheVariants.{LinkFault}
 use Rattle.table_refresh.specs.declared.types.Tried.TheVariants.{Waits, Over}
 use Rattle.table_refresh.proofs.Trying.{waits_more, waits_end}
 use Rattle.table_refresh.proofs.head.await_reply.Goals as goal
@@ -12,6 +13,7 @@ waiting-preserved g c =
       room = search rules;
       few = p.ensures.few;
       faults = (let a = c.waiting.invariant.faults in let b = c.receive.ensures.recv_faults in omega (arith, a, b));
+      well = p.ensures.well (λ e. cc) ∙ c.waiting.invariant.well;
       kept = search rules;
     }
 
@@ -20,6 +22,12 @@ returns-in-Ok-Over-clause-ok g c =
     let p = c.in-Ok-Over in
     let ok = rw p.field-0-is at p.ensures.ok in
     waits_more c.args.setting.now (g.G.SealCheck.accepted c.args.seal.now) c.args.query.now c.args.work.now c.waiting.work c.receive.new.work (Over p.kept) _ _ _ c.waiting.invariant.so_far ok
+
+pub returns-in-Ok-Over-clause-well : goal.returns-in-Ok-Over-clause-well
+returns-in-Ok-Over-clause-well g c other = c.in-Ok-Over.ensures.well (λ e. cc) ∙ c.waiting.invariant.well
+
+pub returns-in-Err-clause-well : goal.returns-in-Err-clause-well
+returns-in-Err-clause-well g c other = c.in-Err.ensures.well (λ is. (let fault : c.in-Err.fault ≡ LinkFault = cc in other (ap (λ x. Err x) fault))) ∙ c.waiting.invariant.well
 
 pub returns-in-Err-clause-ends : goal.returns-in-Err-clause-ends
 returns-in-Err-clause-ends g c =

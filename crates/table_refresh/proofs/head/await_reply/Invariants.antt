@@ -11,6 +11,7 @@ invariant-waiting g l = record {
   room : length l.buf ≡ max_datagram + 1;
   few : l.work.strays < max_strays;
   faults : g.L.Link.recv_faults l.fn.link ≤ g.L.Link.recv_faults l.link;
+  well : g.L.Link.recv_faults l.link ≡ g.L.Link.recv_faults l.fn.link;
   kept : g.L.Link.kept l.link ≡ g.L.Link.kept l.fn.link;
 }
 

@@ -1,4 +1,5 @@
-use Rattle.std.proofs.Common.{arith, ◌∙◌}
+use Rattle.std.proofs.Common.{◌≡◌, ◌∙◌, Err, ap, arith}
+use Rattle.table_refresh.specs.declared.types.RefreshFault.TheVariants.{LinkFault}
 use Rattle.table_refresh.proofs.Wholly.{pings_next, ends_next}
 use Rattle.table_refresh.proofs.refreshing.ping_all.Goals as goal
 
@@ -7,6 +8,9 @@ returns-in-Err-clause-ends g c =
     let i = c.loop-head.invariant in
     ends_next c.args.setting.now (g.G.SealCheck.accepted c.args.seal.now) c.args.heads.now c.loop-head.head-index _ c.args.words.now c.loop-head.words c.ping_head.new.words c.args.work.now c.loop-head.work c.ping_head.new.work.table c.in-Err.fault _ _ _
     (omega arith) i.seed i.so_far c.in-Err.ensures.ends
+
+pub returns-in-Err-clause-well : goal.returns-in-Err-clause-well
+returns-in-Err-clause-well g c other = c.in-Err.ensures.well (λ is. (let fault : c.in-Err.fault ≡ LinkFault = cc in other (ap (λ x. Err x) fault))) ∙ c.loop-head.invariant.well
 
 pub loop-head-preserved : goal.loop-head-preserved
 loop-head-preserved g c =
@@ -17,5 +21,6 @@ loop-head-preserved g c =
       seed = c.ping_head.ensures.seed ∙ i.seed;
       place = (let a = i.place in let b = c.ping_head.ensures.place in omega (arith, a, b));
       faults = (let a = i.faults in let b = c.ping_head.ensures.recv_faults in omega (arith, a, b));
+      well = c.in-Ok.ensures.well (λ e. cc) ∙ i.well;
       kept = c.ping_head.ensures.kept ∙ i.kept;
     }

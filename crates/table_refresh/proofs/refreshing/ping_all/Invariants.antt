@@ -11,5 +11,6 @@ invariant-loop-head g l = record {
   seed : l.words.seed ≡ l.fn.words.seed;
   place : l.words.place ≤ l.fn.words.place + 2 * l.head-index;
   faults : g.L.Link.recv_faults l.fn.link ≤ g.L.Link.recv_faults l.link;
+  well : g.L.Link.recv_faults l.link ≡ g.L.Link.recv_faults l.fn.link;
   kept : g.L.Link.kept l.link ≡ g.L.Link.kept l.fn.link;
 }
