@@ -15,7 +15,7 @@ use Rattle.claim_book.specs.declared.types.Entry.{Entry}
 use Rattle.lookup_run.specs.Tells.{Given, EndsAtStray}
 use Rattle.node_top.specs.Lines.{lines, Reporting, IsBad, IsFirstBad}
 use Rattle.node_top.specs.Shown.{Shown}
-use Rattle.node_top.specs.Input.{ReadsAll, ReadsFew, ReadsTooMuch, Admits, Reads, ReadsSome, ReadsAs, IsGood, IsBadLine, AreGoodLines, IsBadContactLine, Lists}
+use Rattle.node_top.specs.Input.{ReadsAll, ReadsFew, ReadsTooMuch, Admits, Reads, ReadsSome, ReadsAs, IsGood, IsBadLine, AreGoodLines, IsBadContactLine}
 use Rattle.node_top.specs.Looked.{NeverInStrays, IsInStrays, GivesNoSeeds, ShowsLastStray}
 use Rattle.node_top.specs.Promise.{Sought}
 use Rattle.node_top.specs.Started.{own_of, lookup_of}

@@ -23,7 +23,7 @@ use Rattle.node_top.specs.Followed.{Owing, owed_by, next_place, TellsThen, Tells
 use Rattle.node_top.specs.Looked.{NeverInStrays}
 use Rattle.node_top.specs.Shown.{Shown}
 use Rattle.node_top.specs.Started.{own_of, lookup_of}
-use Rattle.node_top.specs.Reached.{TellsAll, Reaches}
+use Rattle.node_top.specs.Reached.{Reaches}
 use Rattle.node_top.proofs.Announcing.{Sends}
 use Rattle.node_top.specs.Called.{Called}
 

@@ -1,7 +1,7 @@
 -- Bytes that spell a value in two lists, and are the written form of the value that they spell, are an item's.
 use Rattle.std.proofs.Common.{◌≡◌, ℕ, suc, ◌+◌, ◌≤◌, Bool, true, false, ◌&&◌, List, [], ◌∷◌, ◌++◌, refl, sym, ap, subst, ◌∙◌, arith, append-nil, append_assoc}
 use Rattle.std.specs.Prelude.{◌↔◌, IsTrue}
-use Rattle.kad_bencode.specs.Spelling.{depth_of, greatest, is_plain, in_order, text_of, Fits, Spells}
+use Rattle.kad_bencode.specs.Spelling.{depth_of, greatest, is_plain, in_order, text_of, Spells}
 use Rattle.kad_bencode.specs.WrittenForm.{IsWrittenForm}
 use Rattle.kad_bencode.specs.declared.value.Value.{Value}
 use Rattle.kad_bencode.specs.declared.value.Value.TheVariants as value

@@ -1,5 +1,5 @@
 -- The command `refresh`, from its input to its end.
-use Rattle.std.proofs.Common.{◌≡◌, ◌≢◌, ℕ, List, [], ◌∷◌, Bool, None, inl, inr, refl, sym, subst}
+use Rattle.std.proofs.Common.{◌≢◌, ℕ, List, [], ◌∷◌, Bool, None, inl, inr, refl, subst}
 use Rattle.kad_base.specs.declared.types.Event.{Event}
 use Rattle.contact_table.specs.SavedState.{state_of}
 use Rattle.contact_table.specs.TableState.{SoundTable, TableState}
@@ -10,9 +10,9 @@ use Rattle.table_file.proofs.SavedOnce.{saved_once}
 use Rattle.node_top.specs.declared.status.Status.{Status}
 use Rattle.node_top.specs.declared.status.Status.TheVariants.{LinkFault, SourceFault, Strays, NoMemory, TooLong, Unsound}
 use Rattle.node_top.specs.Endings.{number_of}
-use Rattle.node_top.specs.Commands.Refreshing.{IsSaved, Refreshes, RefreshBegun, RefreshCause, RefreshesWell, Restores, RestoresNone, SavedCause, refresh_aim, refresh_promise}
+use Rattle.node_top.specs.Commands.Refreshing.{IsSaved, RefreshCause, RefreshesWell, Restores, RestoresNone, SavedCause, refresh_aim, refresh_promise}
 use Rattle.node_top.specs.Input.{ReadsAs}
-use Rattle.node_top.specs.Promise.{IsOneOf, ReadingCause, WholeCause, reading}
+use Rattle.node_top.specs.Promise.{IsOneOf, ReadingCause, WholeCause}
 use Rattle.node_top.specs.Shown.{Shown}
 use Rattle.node_top.specs.Called.{Called}
 use Rattle.node_top.proofs.Exactly.{input_once}

@@ -17,14 +17,12 @@ use Rattle.kad_words.specs.declared.command.LookWords.{LookWords}
 use Rattle.node_top.specs.Announced.{Announcement, announcements}
 use Rattle.node_top.specs.declared.run_lookup.Reached.{Reached}
 use Rattle.node_top.specs.declared.status.Status.{Status}
-use Rattle.node_top.specs.declared.status.Status.TheVariants.{BadLine, BadValue, NoMemory, SourceFault, TooLong}
+use Rattle.node_top.specs.declared.status.Status.TheVariants.{BadValue, NoMemory}
 use Rattle.node_top.specs.Called.{Called}
 use Rattle.node_top.specs.Commands.Stored.{PutText, put_promise, putting_to}
 use Rattle.node_top.specs.Endings.{number_of}
-use Rattle.node_top.specs.Input.{IsBadContactLine}
-use Rattle.node_top.specs.Looked.{LookupCause, SeekCause}
+use Rattle.node_top.specs.Looked.{LookupCause}
 use Rattle.node_top.specs.Printed.{printed_stored}
-use Rattle.node_top.specs.Promise.{ValueCause}
 use Rattle.node_top.specs.Reached.{Reaches}
 use Rattle.node_top.specs.Shown.{Shown}
 use Rattle.node_top.specs.Started.{book_of}

@@ -1,13 +1,12 @@
 -- What a command does behind a value and an input keeps the laws of every promise, where what it does behind its input does.
-use Rattle.std.proofs.Common.{◌≡◌, ℕ, List, IsTrue, inl, inr, refl, subst}
+use Rattle.std.proofs.Common.{◌≡◌, ℕ, List, IsTrue, inl, inr, refl}
 use Rattle.kad_base.specs.declared.types.Event.{Event}
 use Rattle.node_top.specs.declared.status.Status.{Status}
 use Rattle.node_top.specs.declared.status.Status.TheVariants.{BadLine, Strays, NoSeeds, NoMemory, TooLong, BadValue, Unsound}
 use Rattle.node_top.specs.Called.{Called}
 use Rattle.node_top.specs.Endings.{number_of, MayEnd, OrNoMemory}
 use Rattle.node_top.specs.Input.{IsBadLine}
-use Rattle.node_top.specs.Looked.{GivesNoSeeds}
-use Rattle.node_top.specs.Promise.{Aim, IsOneOf, ReadingCause, ValueCause, reading, valued}
+use Rattle.node_top.specs.Promise.{Aim, ReadingCause, ValueCause, reading, valued}
 use Rattle.node_top.specs.Shown.{Shown, IsTold}
 use Rattle.node_top.proofs.Exactly.{few_not_much, uncalled_not_last, unread_few}
 use Rattle.node_top.proofs.Lawful.{Sign, IsJudged, Means, IsUncalled, Lawful}

@@ -45,10 +45,10 @@ status_line TooLong = codes "too long\n"
 status_line BadValue = codes "bad value\n"
 status_line Unsound = codes "unsound\n"
 
--- the text was written, or a front of it where the sink's faults rose
+-- the text was written, and no write failed; or a front of it, where the sink's faults rose
 abbrev pub Writes : List ℕ → Shown ℕ → Type 0
 Writes text sink =
-    Grows sink.before sink.after (λ added. added ≡ text)
+    (Grows sink.before sink.after (λ added. added ≡ text) × (sink.faults' ≡ sink.faults))
     ⊎ (HasFailed sink × Grows sink.before sink.after (λ added. IsFront added text))
 
 -- a status that names a line of the input names the one that is bad

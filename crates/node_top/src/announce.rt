@@ -77,7 +77,7 @@ fn send_one<L: Link>(
         IfOk result (λ sent. Grows (L.told link.old) (L.told link.new)
         (λ es. es ≡ tried sent a.to (asking tx a.ask) ∷ [])) }
     ensures err { OnErr result (link.new ≡ link.old) }
-    ensures recv_faults { L.recv_faults link.old ≤ L.recv_faults link.new }
+    ensures recv_faults { L.recv_faults link.new ≡ L.recv_faults link.old }
     ensures send_faults { L.send_faults link.old ≤ L.send_faults link.new }
     ensures kept { L.kept link.new ≡ L.kept link.old }
 {
@@ -115,7 +115,7 @@ fn announce_to<L: Link>(
     ensures drawn { OnOk result (words.new ≡ record words.old
         { place = words.old.place + length (first_from tokens.now contact.now) }) }
     ensures err { OnErr result (link.new ≡ link.old) }
-    ensures recv_faults { L.recv_faults link.old ≤ L.recv_faults link.new }
+    ensures recv_faults { L.recv_faults link.new ≡ L.recv_faults link.old }
     ensures send_faults { L.send_faults link.old ≤ L.send_faults link.new }
     ensures kept { L.kept link.new ≡ L.kept link.old }
 {
@@ -146,7 +146,7 @@ pub(crate) fn announce<L: Link>(
     ensures err { let all = announcements (asks_of said.now) found.now tokens.now in
         OnErr result (Grows (L.told link.old) (L.told link.new)
         (AnnouncesSome words.old.seed words.old.place all)) }
-    ensures recv_faults { L.recv_faults link.old ≤ L.recv_faults link.new }
+    ensures recv_faults { L.recv_faults link.new ≡ L.recv_faults link.old }
     ensures send_faults { L.send_faults link.old ≤ L.send_faults link.new }
     ensures kept { L.kept link.new ≡ L.kept link.old }
 {

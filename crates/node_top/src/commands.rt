@@ -1,5 +1,5 @@
 //! The commands: a module each, and an arm here; and what the words ask for, done.
-ghost use Rattle.std.specs.Prelude.{◌≡◌, ◌≢◌, ◌⊎◌, IfOk, IfErr, IsTrue};
+ghost use Rattle.std.specs.Prelude.{◌≡◌, ◌≢◌, ◌⊎◌, IfOk, IfErr, IsTrue, IsErrOf};
 ghost use Rattle.kad_base.specs.declared.types.Event.{Event};
 ghost use Rattle.lookup_core.specs.Sealed.{Accepts};
 ghost use Rattle.node_serve.specs.Sealing.{Tags};
@@ -58,7 +58,11 @@ fn output_of<
     ensures unread { IfErr result (λ status. number_of status ≡ 12 → source.new ≡ source.old) }
     ensures early { IfErr result (λ status. EndsUnasked (number_of status) → link.new ≡ link.old) }
     ensures kept { L.kept link.new ≡ L.kept link.old }
+    ensures hears_well { ¬ IsErrOf result Status.LinkFault
+        → L.recv_faults link.new ≡ L.recv_faults link.old }
     ensures at_most { ReadsAtMost (S.left source.old) (S.left source.new) }
+    ensures reads_well { ¬ IsErrOf result Status.SourceFault
+        → S.faults source.new ≡ S.faults source.old }
     ensures no_memory { IfErr result (λ status. status ≡ Status.NoMemory →
         (promise_of command.now).begun (called_with call.now.random (G.accepted call.now.seal.now)
         (G.tag_of call.now.seal.now))
@@ -120,6 +124,8 @@ fn plain_output_of<S: Source, C: Check, G: Seal + SealCheck>(
         (shown S.left S.faults source.old source.new) link) }
     ensures no_input { ¬ IsTrue (promise_of command.now).reads → source.new ≡ source.old }
     ensures at_most { ReadsAtMost (S.left source.old) (S.left source.new) }
+    ensures reads_well { ¬ IsErrOf result Status.SourceFault
+        → S.faults source.new ≡ S.faults source.old }
 {
     match *command {
         Command::Table {
@@ -188,7 +194,11 @@ pub(crate) fn asked_output<
         → source.new ≡ source.old) }
     ensures early { IfErr result (λ status. EndsUnasked (number_of status) → link.new ≡ link.old) }
     ensures kept { L.kept link.new ≡ L.kept link.old }
+    ensures hears_well { ¬ IsErrOf result Status.LinkFault
+        → L.recv_faults link.new ≡ L.recv_faults link.old }
     ensures at_most { ReadsAtMost (S.left source.old) (S.left source.new) }
+    ensures reads_well { ¬ IsErrOf result Status.SourceFault
+        → S.faults source.new ≡ S.faults source.old }
     ensures no_memory { IfErr result (λ status. status ≡ Status.NoMemory →
         HasBegun (bytes_of words.now) (called_with call.now.random (G.accepted call.now.seal.now)
         (G.tag_of call.now.seal.now))
@@ -222,6 +232,8 @@ pub(crate) fn asked_plainly<S: Source, C: Check, G: Seal + SealCheck>(
         × (number_of status ≢ 7) × (number_of status ≢ 8) × (number_of status ≢ 12)
         × (number_of status ≢ 13)) }
     ensures at_most { ReadsAtMost (S.left source.old) (S.left source.new) }
+    ensures reads_well { ¬ IsErrOf result Status.SourceFault
+        → S.faults source.new ≡ S.faults source.old }
 {
     if takes_link(words) {
         return Err(Status::Usage);

@@ -1,5 +1,5 @@
 //! The input of a command: its bytes, and the reports and contacts that its lines give.
-ghost use Rattle.std.specs.Prelude.{OnOk, IfOk, IfErr, IsTrue, ◌↔◌, ◌≤◌, length};
+ghost use Rattle.std.specs.Prelude.{◌≡◌, OnOk, IfOk, IfErr, IsTrue, ◌↔◌, ◌≤◌, length, IsErrOf};
 ghost use Rattle.kad_base.specs.Limits.{max_input};
 ghost use Rattle.node_top.specs.Input.{ReadsAll, ReadsAtMost, Lists, IsAdmitted, Admits, AdmitsOne, IsKept, Keeps, KeepsOne};
 ghost use Rattle.node_top.specs.Looked.{ReportsCause};
@@ -21,6 +21,8 @@ pub(crate) fn read_whole<S: Source>(alloc: Global, source: &mut S) -> Result<Byt
     ensures few { IfOk result (λ bytes. length bytes ≤ max_input) }
     ensures cause { IfErr result (WholeCause (shown S.left S.faults source.old source.new)) }
     ensures at_most { ReadsAtMost (S.left source.old) (S.left source.new) }
+    ensures reads_well { ¬ IsErrOf result Status.SourceFault
+        → S.faults source.new ≡ S.faults source.old }
 {
     let mut bytes = List::new(alloc);
     let mut buf = [0u8; 4096];
@@ -45,6 +47,8 @@ pub(crate) fn read_reports<S: Source>(alloc: Global, source: &mut S) -> Result<R
     ensures ok { IfOk result (Lists (shown S.left S.faults source.old source.new)) }
     ensures cause { IfErr result (ReportsCause (shown S.left S.faults source.old source.new)) }
     ensures at_most { ReadsAtMost (S.left source.old) (S.left source.new) }
+    ensures reads_well { ¬ IsErrOf result Status.SourceFault
+        → S.faults source.new ≡ S.faults source.old }
 {
     let input = read_whole(alloc, source)?;
     match read_lines(alloc, input.as_slice()) {

@@ -16,6 +16,7 @@ fn write_whole<K: Sink>(sink: &mut K, bytes: &[u8]) -> Result<(), Failed>
         (λ added. IsFront added bytes.now)) }
     ensures writes { Writes bytes.now (shown K.written K.faults sink.old sink.new) }
     ensures faults { K.faults sink.old ≤ K.faults sink.new }
+    ensures well { OnOk result (K.faults sink.new ≡ K.faults sink.old) }
     ensures failed { OnErr result (Rose (K.faults sink.old) (K.faults sink.new)) }
 {
     let mut at = 0;
@@ -35,6 +36,7 @@ pub(crate) fn write_output<K: Sink>(sink: &mut K, output: &[u8]) -> u8
         Grows (K.written sink.old) (K.written sink.new) (λ added. added ≡ output.now) }
     ensures cut { result ≡ 5 →
         Grows (K.written sink.old) (K.written sink.new) (λ added. IsFront added output.now) }
+    ensures well { result ≡ 0 → K.faults sink.new ≡ K.faults sink.old }
     ensures failed { result ≡ 5 → HasFailed (shown K.written K.faults sink.old sink.new) }
 {
     match write_whole(sink, output) {

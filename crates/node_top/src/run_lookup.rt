@@ -1,6 +1,6 @@
 //! What every command that looks up does first: it reads the contacts of the input, tells a new routing table of them, and
 //! looks up from its closest until every path has run out.
-ghost use Rattle.std.specs.Prelude.{◌≡◌, ◌≢◌, ◌⊎◌, [], IfOk, IfErr};
+ghost use Rattle.std.specs.Prelude.{◌≡◌, ◌≢◌, ◌⊎◌, [], IfOk, IfErr, IsErrOf};
 ghost use Rattle.node_top.specs.Called.{called_with};
 ghost use Rattle.node_top.specs.Endings.{EndsUnasked, number_of};
 ghost use Rattle.node_top.specs.Input.{Reads, ReadsAtMost};
@@ -44,6 +44,8 @@ pub(crate) fn read_contacts<S: Source, C: Check>(
     ensures cause { IfErr result (InputCause own.now family policy
         (shown S.left S.faults source.old source.new)) }
     ensures at_most { ReadsAtMost (S.left source.old) (S.left source.new) }
+    ensures reads_well { ¬ IsErrOf result Status.SourceFault
+        → S.faults source.new ≡ S.faults source.old }
 {
     let reports = read_reports(alloc, source)?;
     let contacts = admitted(alloc, own, family, policy, check, reports.as_slice())?;
@@ -85,7 +87,11 @@ pub(crate) fn run_lookup<
         (shown_link L.told L.recv_faults L.send_faults link.old link.new) ⊎ (link.new ≡ link.old)) }
     ensures early { IfErr result (λ status. EndsUnasked (number_of status) → link.new ≡ link.old) }
     ensures kept { L.kept link.new ≡ L.kept link.old }
+    ensures hears_well { ¬ IsErrOf result Status.LinkFault
+        → L.recv_faults link.new ≡ L.recv_faults link.old }
     ensures at_most { ReadsAtMost (S.left source.old) (S.left source.new) }
+    ensures reads_well { ¬ IsErrOf result Status.SourceFault
+        → S.faults source.new ≡ S.faults source.old }
 {
     let setting = setting_for(kind, look, &call.random);
     let contacts = read_contacts(

@@ -146,6 +146,11 @@ pub fn run<
 
     // What a link keeps whose receives have room for 4,097 bytes: so each of them has.
     ensures kept { L.kept link.new ≡ L.kept link.old }
+
+    // No call that failed is made again: a read failed at 6 alone, a receive at 4 alone, and at 0 no write did.
+    ensures reads_well { result ≢ 6 → S.faults source.new ≡ S.faults source.old }
+    ensures hears_well { result ≢ 4 → L.recv_faults link.new ≡ L.recv_faults link.old }
+    ensures writes_well { result ≡ 0 → K.faults sink.new ≡ K.faults sink.old }
     ensures by_command { EndsByCommand (bytes_of words.now) result }
     ensures statuses { (result ≤ last_status) × (result ≢ 1) }
 {
@@ -230,6 +235,10 @@ pub fn run_plain<S: Source, K: Sink, C: Check>(
     ensures unread { result ≡ 2 → source.new ≡ source.old }
     ensures no_input { ¬ ReadsInput (bytes_of words.now) → source.new ≡ source.old }
     ensures at_most { ReadsAtMost (S.left source.old) (S.left source.new) }
+
+    // No call that failed is made again: a read failed at 6 alone, and at 0 no write did.
+    ensures reads_well { result ≢ 6 → S.faults source.new ≡ S.faults source.old }
+    ensures writes_well { result ≡ 0 → K.faults sink.new ≡ K.faults sink.old }
     ensures by_command { AsksPlain (bytes_of words.now)
         → EndsByCommand (bytes_of words.now) result }
     ensures statuses { (result ≤ last_status) × (result ≢ 1) × (result ≢ 4) × (result ≢ 7) × (result ≢ 8)

@@ -1,5 +1,5 @@
 //! The command `check`: says of each contact line of the input whether its contact passes the puzzles.
-ghost use Rattle.std.specs.Prelude.{◌≡◌, IfOk, IfErr, string_bytes};
+ghost use Rattle.std.specs.Prelude.{◌≡◌, IfOk, IfErr, string_bytes, IsErrOf};
 ghost use Rattle.std.specs.List.{AllZip};
 ghost use Rattle.node_top.specs.Called.{Called};
 ghost use Rattle.node_top.specs.Input.{ReadsAtMost};
@@ -78,6 +78,8 @@ pub(crate) fn check<S: Source, C: Check, G: Seal + SealCheck>(
     ensures cause { (called : Called) (link : Shown Event) → IfErr result ((check_promise policy).cause
         called (shown S.left S.faults source.old source.new) link) }
     ensures at_most { ReadsAtMost (S.left source.old) (S.left source.new) }
+    ensures reads_well { ¬ IsErrOf result Status.SourceFault
+        → S.faults source.new ≡ S.faults source.old }
 {
     let reports = read_reports(alloc, source)?;
     let verdicts = judged(alloc, policy, call.check, reports.as_slice())?;

@@ -1,5 +1,5 @@
 //! The command `get`: looks for an immutable item (BEP 44), and makes the text of the first that is one of the key.
-ghost use Rattle.std.specs.Prelude.{◌≡◌, ◌↔◌, ◌⊎◌, IfOk, IfErr, IsTrue, option_copied};
+ghost use Rattle.std.specs.Prelude.{◌≡◌, ◌↔◌, ◌⊎◌, IfOk, IfErr, IsTrue, option_copied, IsErrOf};
 ghost use Rattle.node_top.specs.Called.{called_with};
 ghost use Rattle.node_top.specs.Commands.Got.{GetText, IsGot, IsItemOf, IsPrinted, get_promise};
 ghost use Rattle.node_top.specs.Endings.{EndsUnasked, number_of};
@@ -95,7 +95,11 @@ pub(crate) fn get<
         (shown_link L.told L.recv_faults L.send_faults link.old link.new) ⊎ (link.new ≡ link.old)) }
     ensures early { IfErr result (λ status. EndsUnasked (number_of status) → link.new ≡ link.old) }
     ensures kept { L.kept link.new ≡ L.kept link.old }
+    ensures hears_well { ¬ IsErrOf result Status.LinkFault
+        → L.recv_faults link.new ≡ L.recv_faults link.old }
     ensures at_most { ReadsAtMost (S.left source.old) (S.left source.new) }
+    ensures reads_well { ¬ IsErrOf result Status.SourceFault
+        → S.faults source.new ≡ S.faults source.old }
 {
     let kind = AskKind::GetItem;
     let reached = run_lookup(rt, alloc, kind, look, source, link, call)?;

@@ -1,5 +1,5 @@
 //! The command `lookup`: looks the target up, and makes the text of what it found.
-ghost use Rattle.std.specs.Prelude.{◌≡◌, ◌⊎◌, IfOk, IfErr};
+ghost use Rattle.std.specs.Prelude.{◌≡◌, ◌⊎◌, IfOk, IfErr, IsErrOf};
 ghost use Rattle.node_top.specs.Called.{called_with};
 ghost use Rattle.node_top.specs.Input.{ReadsAtMost};
 ghost use Rattle.node_top.specs.Endings.{EndsUnasked, number_of};
@@ -67,7 +67,11 @@ pub(crate) fn lookup<
         (shown_link L.told L.recv_faults L.send_faults link.old link.new) ⊎ (link.new ≡ link.old)) }
     ensures early { IfErr result (λ status. EndsUnasked (number_of status) → link.new ≡ link.old) }
     ensures kept { L.kept link.new ≡ L.kept link.old }
+    ensures hears_well { ¬ IsErrOf result Status.LinkFault
+        → L.recv_faults link.new ≡ L.recv_faults link.old }
     ensures at_most { ReadsAtMost (S.left source.old) (S.left source.new) }
+    ensures reads_well { ¬ IsErrOf result Status.SourceFault
+        → S.faults source.new ≡ S.faults source.old }
 {
     let kind = AskKind::FindNode;
     let reached = run_lookup(rt, alloc, kind, look, source, link, call)?;

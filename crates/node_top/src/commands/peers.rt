@@ -1,6 +1,6 @@
 //! The command `peers`: looks for peers of a key, makes the text of those that the answers named, and where it is told a
 //! port announces it to the contacts of the result.
-ghost use Rattle.std.specs.Prelude.{◌≡◌, ◌≤◌, ◌⊎◌, ◌+◌, ◌^◌, length, IfOk, IfErr, OnErr};
+ghost use Rattle.std.specs.Prelude.{◌≡◌, ◌≤◌, ◌⊎◌, ◌+◌, ◌^◌, length, IfOk, IfErr, OnErr, IsErrOf};
 ghost use Rattle.kad_base.specs.Outside.{Grows};
 ghost use Rattle.lookup_core.specs.declared.quest.AskKind.TheVariants.{GetPeers};
 ghost use Rattle.node_top.specs.Called.{called_with};
@@ -43,6 +43,7 @@ fn announce_told<L: Link>(
         OnErr result (Grows (L.told link.old) (L.told link.new)
         (AnnouncesSome words.old.seed words.old.place all)) }
     ensures send_faults { L.send_faults link.old ≤ L.send_faults link.new }
+    ensures recv_faults { L.recv_faults link.new ≡ L.recv_faults link.old }
     ensures kept { L.kept link.new ≡ L.kept link.old }
 {
     let Some(port) = port else {
@@ -85,7 +86,11 @@ pub(crate) fn peers<
         (shown_link L.told L.recv_faults L.send_faults link.old link.new) ⊎ (link.new ≡ link.old)) }
     ensures early { IfErr result (λ status. EndsUnasked (number_of status) → link.new ≡ link.old) }
     ensures kept { L.kept link.new ≡ L.kept link.old }
+    ensures hears_well { ¬ IsErrOf result Status.LinkFault
+        → L.recv_faults link.new ≡ L.recv_faults link.old }
     ensures at_most { ReadsAtMost (S.left source.old) (S.left source.new) }
+    ensures reads_well { ¬ IsErrOf result Status.SourceFault
+        → S.faults source.new ≡ S.faults source.old }
 {
     let kind = AskKind::GetPeers;
     let reached = run_lookup(rt, alloc, kind, look, source, link, call)?;

@@ -1,6 +1,6 @@
 //! The command `put`: looks up the key of an immutable item (BEP 44), gives the item to the contacts of the result, and makes
 //! the text of its key and of how many were given it.
-ghost use Rattle.std.specs.Prelude.{◌≡◌, ◌⊎◌, IfOk, IfErr};
+ghost use Rattle.std.specs.Prelude.{◌≡◌, ◌⊎◌, IfOk, IfErr, IsErrOf};
 ghost use Rattle.item_store.specs.Items.{IsItem};
 ghost use Rattle.lookup_core.specs.declared.quest.AskKind.TheVariants.{GetItem};
 ghost use Rattle.node_top.specs.Called.{called_with};
@@ -59,7 +59,11 @@ pub(crate) fn put<
     ensures unread { IfErr result (λ status. number_of status ≡ 12 → source.new ≡ source.old) }
     ensures early { IfErr result (λ status. EndsUnasked (number_of status) → link.new ≡ link.old) }
     ensures kept { L.kept link.new ≡ L.kept link.old }
+    ensures hears_well { ¬ IsErrOf result Status.LinkFault
+        → L.recv_faults link.new ≡ L.recv_faults link.old }
     ensures at_most { ReadsAtMost (S.left source.old) (S.left source.new) }
+    ensures reads_well { ¬ IsErrOf result Status.SourceFault
+        → S.faults source.new ≡ S.faults source.old }
 {
     match is_item(alloc, item) {
         Ok(true) => store(rt, alloc, look, item, source, link, call),
@@ -95,7 +99,11 @@ fn store<R: Threads + Wait + Sync, S: Source, L: Link, C: Check + Sync, G: Seal 
         (shown_link L.told L.recv_faults L.send_faults link.old link.new) ⊎ (link.new ≡ link.old)) }
     ensures early { IfErr result (λ status. EndsUnasked (number_of status) → link.new ≡ link.old) }
     ensures kept { L.kept link.new ≡ L.kept link.old }
+    ensures hears_well { ¬ IsErrOf result Status.LinkFault
+        → L.recv_faults link.new ≡ L.recv_faults link.old }
     ensures at_most { ReadsAtMost (S.left source.old) (S.left source.new) }
+    ensures reads_well { ¬ IsErrOf result Status.SourceFault
+        → S.faults source.new ≡ S.faults source.old }
 {
     let kind = AskKind::GetItem;
     let reached = run_lookup(rt, alloc, kind, look, source, link, call)?;

@@ -1,6 +1,6 @@
 //! The command `refresh`: pings the least recently seen contact of each bucket of a saved table, and makes the saved text
 //! of the table that results.
-ghost use Rattle.std.specs.Prelude.{◌≡◌, ◌⊎◌, IfOk, IfErr};
+ghost use Rattle.std.specs.Prelude.{◌≡◌, ◌⊎◌, IfOk, IfErr, IsErrOf};
 ghost use Rattle.node_top.specs.Called.{called_with};
 ghost use Rattle.node_top.specs.Commands.Refreshing.{Restores, RefreshBegun, RefreshText, SavedCause, refresh_promise};
 ghost use Rattle.node_top.specs.Endings.{EndsUnasked, number_of};
@@ -26,6 +26,8 @@ fn read_table<S: Source>(alloc: Global, source: &mut S) -> Result<Table, Status>
     ensures ok { IfOk result (Restores (shown S.left S.faults source.old source.new)) }
     ensures cause { IfErr result (SavedCause (shown S.left S.faults source.old source.new)) }
     ensures at_most { ReadsAtMost (S.left source.old) (S.left source.new) }
+    ensures reads_well { ¬ IsErrOf result Status.SourceFault
+        → S.faults source.new ≡ S.faults source.old }
 {
     let input = read_whole(alloc, source)?;
     let saved = match read(alloc, input.as_slice()) {
@@ -69,7 +71,11 @@ pub(crate) fn refresh<S: Source, L: Link, C, G: Seal + SealCheck>(
         (shown_link L.told L.recv_faults L.send_faults link.old link.new) ⊎ (link.new ≡ link.old)) }
     ensures early { IfErr result (λ status. EndsUnasked (number_of status) → link.new ≡ link.old) }
     ensures kept { L.kept link.new ≡ L.kept link.old }
+    ensures hears_well { ¬ IsErrOf result Status.LinkFault
+        → L.recv_faults link.new ≡ L.recv_faults link.old }
     ensures at_most { ReadsAtMost (S.left source.old) (S.left source.new) }
+    ensures reads_well { ¬ IsErrOf result Status.SourceFault
+        → S.faults source.new ≡ S.faults source.old }
 {
     let table = read_table(alloc, source)?;
     let mut words = Words::new(&call.random, FIRST_TX);

@@ -1,6 +1,6 @@
 //! The command `serve`: a node that answers queries, alone or by several workers at once, and in the end the text of how
 //! many datagrams came and how many replies it sent.
-ghost use Rattle.std.specs.Prelude.{◌≡◌, ◌≤◌, ◌⊎◌, Err, IfOk, IfErr, string_bytes};
+ghost use Rattle.std.specs.Prelude.{◌≡◌, ◌≢◌, ◌≤◌, ◌⊎◌, Err, IfOk, IfErr, IsErrOf, string_bytes};
 ghost use Rattle.std.specs.List.{All};
 ghost use Rattle.kad_base.specs.Puzzles.{Passes};
 ghost use Rattle.node_serve.specs.declared.service.ServeFault.{ServeFault};
@@ -62,6 +62,8 @@ fn read_host<S: Source, C: Check, G: Seal + SealCheck>(
         (shown S.left S.faults source.old source.new) host.table host.proofs) }
     ensures cause { IfErr result (ReportsCause (shown S.left S.faults source.old source.new)) }
     ensures at_most { ReadsAtMost (S.left source.old) (S.left source.new) }
+    ensures reads_well { ¬ IsErrOf result Status.SourceFault
+        → S.faults source.new ≡ S.faults source.old }
 {
     let reports = read_reports(alloc, source)?;
     let read = reports.as_slice();
@@ -111,6 +113,8 @@ fn serve_alone<L: Link, C: Check, G: Seal + SealCheck>(
     ensures begun { IfErr result (λ fault. HasServedSome service.now
         (called_with call.now.random (G.accepted call.now.seal.now) (G.tag_of call.now.seal.now))
         (shown_link L.told L.recv_faults L.send_faults link.old link.new) host.table host.proofs) }
+    ensures well { result ≢ Err ServeFault.LinkFault
+        → L.recv_faults link.new ≡ L.recv_faults link.old }
     ensures link_fault { result ≡ Err ServeFault.LinkFault
         → HasFailed (shown_link L.told L.recv_faults L.send_faults link.old link.new) }
     ensures kept { L.kept link.new ≡ L.kept link.old }
@@ -152,6 +156,8 @@ fn serve_at_once<R: Threads + Wait + Sync, L: Link, C: Check, G: Seal + SealChec
     ensures begun { IfErr result (λ fault. HasServedSome service.now
         (called_with call.now.random (G.accepted call.now.seal.now) (G.tag_of call.now.seal.now))
         (shown_link L.told L.recv_faults L.send_faults link.old link.new) host.table host.proofs) }
+    ensures well { result ≢ Err ServeFault.LinkFault
+        → L.recv_faults link.new ≡ L.recv_faults link.old }
     ensures link_fault { result ≡ Err ServeFault.LinkFault
         → HasFailed (shown_link L.told L.recv_faults L.send_faults link.old link.new) }
     ensures kept { L.kept link.new ≡ L.kept link.old }
@@ -201,6 +207,8 @@ fn serve_by<R: Threads + Wait + Sync, L: Link, C: Check, G: Seal + SealCheck + S
     ensures begun { IfErr result (λ fault. HasServedSome service.now
         (called_with call.now.random (G.accepted call.now.seal.now) (G.tag_of call.now.seal.now))
         (shown_link L.told L.recv_faults L.send_faults link.old link.new) host.table host.proofs) }
+    ensures well { result ≢ Err ServeFault.LinkFault
+        → L.recv_faults link.new ≡ L.recv_faults link.old }
     ensures link_fault { result ≡ Err ServeFault.LinkFault
         → HasFailed (shown_link L.told L.recv_faults L.send_faults link.old link.new) }
     ensures kept { L.kept link.new ≡ L.kept link.old }
@@ -242,7 +250,11 @@ pub(crate) fn serve<
         (shown_link L.told L.recv_faults L.send_faults link.old link.new) ⊎ (link.new ≡ link.old)) }
     ensures early { IfErr result (λ status. EndsUnasked (number_of status) → link.new ≡ link.old) }
     ensures kept { L.kept link.new ≡ L.kept link.old }
+    ensures hears_well { ¬ IsErrOf result Status.LinkFault
+        → L.recv_faults link.new ≡ L.recv_faults link.old }
     ensures at_most { ReadsAtMost (S.left source.old) (S.left source.new) }
+    ensures reads_well { ¬ IsErrOf result Status.SourceFault
+        → S.faults source.new ≡ S.faults source.old }
 {
     let own = own_id(service.own, &call.random);
     let host = read_host(alloc, service, own, source, call)?;

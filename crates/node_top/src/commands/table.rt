@@ -1,5 +1,5 @@
 //! The command `table`: makes the saved text of the routing table that the contacts of the input make. It asks nobody.
-ghost use Rattle.std.specs.Prelude.{IfOk, IfErr};
+ghost use Rattle.std.specs.Prelude.{◌≡◌, IfOk, IfErr, IsErrOf};
 ghost use Rattle.kad_base.specs.declared.types.Event.{Event};
 ghost use Rattle.node_top.specs.Called.{Called};
 ghost use Rattle.node_top.specs.Input.{ReadsAtMost};
@@ -44,6 +44,8 @@ pub(crate) fn table<S: Source, C: Check, G: Seal + SealCheck>(
         ((table_promise own k bits policy).cause called
         (shown S.left S.faults source.old source.new) link) }
     ensures at_most { ReadsAtMost (S.left source.old) (S.left source.new) }
+    ensures reads_well { ¬ IsErrOf result Status.SourceFault
+        → S.faults source.new ≡ S.faults source.old }
 {
     let id = own_id(own, &call.random);
     let reports = read_reports(alloc, source)?;

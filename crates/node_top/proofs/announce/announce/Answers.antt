@@ -27,7 +27,7 @@ loop-contact-preserved g c =
       sends = sends_more c.args.words.now c.loop-contact.words a c.args.tokens.now c.args.found.now c.loop-contact.contact-index _ c.loop-contact.sent c.in_ok-sent.field-0 _ _ _ c.loop-contact-test.true i.words i.sends c.in_ok-sent.ensures.ok;
       words = words_more c.args.words.now c.loop-contact.words c.announce_to.new.words c.args.tokens.now c.args.found.now c.loop-contact.contact-index _ c.loop-contact-test.true i.words c.in_ok-sent.ensures.drawn;
       few = (let b = i.few in let d = c.in_ok-sent.ensures.most in omega (arith, b, d));
-      faults = (let b = i.faults in let d = c.announce_to.ensures.recv_faults in omega (arith, b, d));
+      faults = c.announce_to.ensures.recv_faults ∙ i.faults;
       refused = (let b = i.refused in let d = c.announce_to.ensures.send_faults in omega (arith, b, d));
       kept = c.announce_to.ensures.kept ∙ i.kept;
     }

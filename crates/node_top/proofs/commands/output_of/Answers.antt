@@ -29,6 +29,9 @@ returns-in-Serve-clause-cause g c = cause_at c.serve.result _ _ _ _ _ (sym c.in-
 pub returns-in-Refresh-clause-cause : goal.returns-in-Refresh-clause-cause
 returns-in-Refresh-clause-cause g c = cause_at c.refresh.result _ _ _ _ _ (sym c.in-Refresh.is) c.refresh.ensures.cause
 
+pub returns-in-Refresh-clause-no_memory : goal.returns-in-Refresh-clause-no_memory
+returns-in-Refresh-clause-no_memory g c = begun_at c.refresh.result _ _ _ _ _ _ (sym c.in-Refresh.is) c.refresh.ensures.no_memory
+
 -- ---- none of them refuses a value but that which puts one
 
 pub returns-in-Lookup-clause-unread : goal.returns-in-Lookup-clause-unread

@@ -9,6 +9,7 @@ invariant-reading g l = record {
   few : length l.bytes ≤ max_input + 1;
   room : length l.buf ≡ 4096;
   faults : g.S.Source.faults l.fn.source ≤ g.S.Source.faults l.source;
+  well : g.S.Source.faults l.source ≡ g.S.Source.faults l.fn.source;
 }
 
 abbrev pub decreases-reading : goal.decreases-reading

@@ -1,4 +1,4 @@
-use Rattle.std.proofs.Common.{inr, arith, refl}
+use Rattle.std.proofs.Common.{inr, arith, refl, ◌∙◌}
 use Rattle.std.proofs.lemmas.Grind.{common_steps}
 use Rattle.std.proofs.Math.Seq.{take-add}
 use Rattle.kad_base.proofs.Grown.{grows_then}
@@ -18,4 +18,5 @@ writing-preserved g c = record {
   within = grind (arith, common_steps, c.in-Ok.ensures.bound);
   written = grows_then _ _ _ _ _ _ c.writing.invariant.written c.in-Ok.ensures.ok (λ t u p q. rw (take-add, p, q, rest_whole c.args.bytes.now c.writing.at) refl);
   faults = omega (arith, c.writing.invariant.faults, c.give.ensures.faults);
+  well = c.in-Ok.ensures.well ∙ c.writing.invariant.well;
 }

@@ -7,6 +7,7 @@ invariant-writing g l = record {
   within : l.at ≤ length l.bytes;
   written : Grows (g.K.Sink.written l.fn.sink) (g.K.Sink.written l.sink) (λ t. t ≡ take l.at l.bytes);
   faults : g.K.Sink.faults l.fn.sink ≤ g.K.Sink.faults l.sink;
+  well : g.K.Sink.faults l.sink ≡ g.K.Sink.faults l.fn.sink;
 }
 
 abbrev pub decreases-writing : goal.decreases-writing

@@ -1,7 +1,8 @@
-use Rattle.std.proofs.Common.{inl, inr, sym, ap, subst, ◌∙◌}
+use Rattle.std.proofs.Common.{◌≡◌, inl, inr, sym, ap, subst, ◌∙◌}
 use Rattle.kad_words.proofs.OneCommand.{command_plain}
 use Rattle.node_top.specs.Commands.{promise_of}
-use Rattle.node_top.specs.Endings.{MayEnd, OrNoMemory}
+use Rattle.node_top.specs.declared.status.Status.TheVariants.{LinkFault, SourceFault}
+use Rattle.node_top.specs.Endings.{MayEnd, OrNoMemory, number_of}
 use Rattle.node_top.proofs.Causes.{done_of, cut_of, done_end, not_bad, not_much, not_seedless, not_strays, not_nothing, not_refused, not_unsound, is_no_memory, named, usage_alone, bad_line, link_fault, source_fault, strays, no_seeds, unminted, too_long, bad_value, unsound, bad_line_comes, no_seeds_come, strays_come, unminted_comes, too_long_comes, bad_value_comes, unsound_comes, completes, may_end}
 use Rattle.node_top.proofs.top.run.Goals as goal
 
@@ -126,6 +127,12 @@ returns-in-Err-clause-too_long_comes g c = λ told much.
 
 pub returns-in-Err-clause-complete : goal.returns-in-Err-clause-complete
 returns-in-Err-clause-complete g c = λ well. inr (c.write_line.ensures.number ∙ completes _ _ _ _ _ _ c.in-Err.status c.in-Err.ensures.cause (command_plain _ well.command well.asked) well)
+
+pub returns-in-Err-clause-reads_well : goal.returns-in-Err-clause-reads_well
+returns-in-Err-clause-reads_well g c other = c.in-Err.ensures.reads_well (λ is. (let fault : c.in-Err.status ≡ SourceFault = cc in other (c.write_line.ensures.number ∙ ap number_of fault)))
+
+pub returns-in-Err-clause-hears_well : goal.returns-in-Err-clause-hears_well
+returns-in-Err-clause-hears_well g c other = c.in-Err.ensures.hears_well (λ is. (let fault : c.in-Err.status ≡ LinkFault = cc in other (c.write_line.ensures.number ∙ ap number_of fault)))
 
 pub returns-in-Err-clause-line : goal.returns-in-Err-clause-line
 returns-in-Err-clause-line g c = λ some whole. record {

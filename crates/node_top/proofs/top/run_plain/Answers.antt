@@ -1,6 +1,7 @@
-use Rattle.std.proofs.Common.{inl, inr, refl, sym, subst, ◌∙◌}
+use Rattle.std.proofs.Common.{◌≡◌, inl, inr, refl, sym, ap, subst, ◌∙◌}
 use Rattle.node_top.specs.Commands.{promise_of}
-use Rattle.node_top.specs.Endings.{MayEnd, OrNoMemory}
+use Rattle.node_top.specs.declared.status.Status.TheVariants.{SourceFault}
+use Rattle.node_top.specs.Endings.{MayEnd, OrNoMemory, number_of}
 use Rattle.node_top.proofs.Asking.{asks_plain}
 use Rattle.node_top.proofs.Lawfully.{lawful}
 use Rattle.node_top.proofs.Causes.{done_of, cut_of, done_end, not_bad, not_much, not_nothing, named, usage_alone, bad_line, source_fault, unminted, too_long, bad_line_comes, unminted_comes, too_long_comes, completes, may_end}
@@ -65,6 +66,9 @@ returns-in-Err-clause-too_long_comes g c = λ told much.
 
 pub returns-in-Err-clause-complete : goal.returns-in-Err-clause-complete
 returns-in-Err-clause-complete g c = λ well. inr (c.write_line.ensures.number ∙ completes _ _ _ _ _ _ c.in-Err.status c.in-Err.ensures.cause well.0 well.1)
+
+pub returns-in-Err-clause-reads_well : goal.returns-in-Err-clause-reads_well
+returns-in-Err-clause-reads_well g c other = c.in-Err.ensures.reads_well (λ is. (let fault : c.in-Err.status ≡ SourceFault = cc in other (c.write_line.ensures.number ∙ ap number_of fault)))
 
 pub returns-in-Err-clause-line : goal.returns-in-Err-clause-line
 returns-in-Err-clause-line g c = λ some whole. record {

@@ -1,4 +1,4 @@
-use Rattle.node_top.proofs.Getting.{first_got, none_got, none_more}
+use Rattle.node_top.proofs.Getting.{first_got}
 use Rattle.node_top.proofs.commands.get.first_item.Goals as goal
 
 pub returns-then-is_item_of : goal.returns-then-is_item_of
