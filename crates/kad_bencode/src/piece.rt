@@ -39,6 +39,7 @@ impl<'a> Model for Piece<'a> {
 
 impl<'a> Piece<'a> {
     /// The value that the bytes spell, all of them, or the fault that is seen first. Takes no memory.
+    #[inline(always)]
     pub fn parse(bytes: &'a [u8]) -> Result<Piece<'a>, Bad>
         ensures spells { IfOk result (Spells bytes.now) }
         ensures fault { IfErr result (IsFirstFault bytes.now) }
@@ -93,6 +94,7 @@ impl<'a> Piece<'a> {
     }
 
     /// A string's bytes.
+    #[inline(always)]
     pub fn as_bytes(&self) -> Option<&'a [u8]>
         ensures { option_copied result ≡ bytes_of self.now }
     {

@@ -16,6 +16,7 @@ use crate::scan::{has_byte, integer_at, string_at};
 use crate::value::Bad;
 
 /// Whether the bytes spell a value, all of them, or the fault that is seen first.
+#[inline(always)]
 pub fn check(bytes: &[u8]) -> Result<(), Bad>
     ensures spells { OnOk result ((v : Value) × Spells bytes.now v) }
     ensures fault { IfErr result (IsFirstFault bytes.now) }
@@ -26,6 +27,7 @@ pub fn check(bytes: &[u8]) -> Result<(), Bad>
 }
 
 /// A value, and nothing behind it.
+#[inline(always)]
 fn whole(bytes: &[u8]) -> Result<(), Bad>
     ensures { Scans bytes.now result (λ _. (v : Value) × Spells bytes.now v) }
 {

@@ -15,6 +15,7 @@ use kad_bencode::{Items, Piece, put_integer, put_part, put_string};
 use kad_records::{Record, Records, put_peers, put_records};
 
 /// A string of 20 bytes.
+#[inline(always)]
 fn id(string: Option<&[u8]>) -> Option<Id>
     ensures { result ≡ id_in (option_copied string.entry) }
 {
@@ -75,6 +76,7 @@ pub(crate) fn needed_dict<'a>(value: Option<Piece<'a>>, key: Key) -> Result<Piec
     }
 }
 
+#[inline(always)]
 pub(crate) fn needed_id(value: Option<Piece>, key: Key) -> Result<Id, KrpcFault>
     ensures { result ≡ needed id_of key value.entry }
 {
@@ -99,6 +101,7 @@ pub(crate) fn needed_port(value: Option<Piece>, key: Key) -> Result<u16, KrpcFau
     }
 }
 
+#[inline(always)]
 pub(crate) fn optional_text<'a>(
     value: Option<Piece<'a>>,
     key: Key,

@@ -28,12 +28,10 @@ fn same(a: &[u8], b: &[u8]) -> bool
 fn fill<'a>(slot: &mut Option<Piece<'a>>, wanted: &[u8], key: &[u8], value: &Piece<'a>)
     ensures { slot.new ≡ first_of slot.old (behind key.now value.now wanted.now) }
 {
-    match slot {
-        Some(_) => {}
-        None => {
-            if same(key, wanted) {
-                *slot = Some(value.copied());
-            }
+    if same(key, wanted) {
+        match slot {
+            Some(_) => {}
+            None => *slot = Some(value.copied()),
         }
     }
 }

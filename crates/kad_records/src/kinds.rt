@@ -97,6 +97,7 @@ impl Record for Node {
         node_length(node)
     }
 
+    #[inline(always)]
     fn put(buf: &mut [u8], at: usize, node: &Contact) -> usize {
         put_node(buf, at, node)
     }
@@ -129,6 +130,7 @@ impl Record for Node6 {
         node_length(node)
     }
 
+    #[inline(always)]
     fn put(buf: &mut [u8], at: usize, node: &Contact) -> usize {
         put_node(buf, at, node)
     }
@@ -161,6 +163,7 @@ impl Record for Proved {
         proved_length(report)
     }
 
+    #[inline(always)]
     fn put(buf: &mut [u8], at: usize, report: &Report) -> usize {
         put_proved(buf, at, report)
     }
@@ -193,6 +196,7 @@ impl Record for Proved6 {
         proved_length(report)
     }
 
+    #[inline(always)]
     fn put(buf: &mut [u8], at: usize, report: &Report) -> usize {
         put_proved(buf, at, report)
     }
