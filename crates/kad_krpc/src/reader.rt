@@ -103,18 +103,19 @@ fn read_fault<'a>(tx: &'a [u8], e: Option<Piece<'a>>) -> Result<View<'a>, KrpcFa
 fn read_top<'a>(top: &Piece<'a>) -> Result<View<'a>, KrpcFault>
     ensures { viewed result ≡ message_at (member_of top.now) }
 {
-    let slots = keys!(b"t", b"y", b"r", b"q", b"a", b"ro");
+    let slots = keys!(b"t", b"y", b"r", b"q", b"a", b"ro", b"e");
     let (t, slots) = members(top, slots).take();
     let (y, slots) = slots.take();
     let (r, slots) = slots.take();
     let (q, slots) = slots.take();
     let (a, slots) = slots.take();
-    let (ro, _) = slots.take();
+    let (ro, slots) = slots.take();
+    let (e, _) = slots.take();
     let tx = needed_text(t, Key::T)?;
     match needed_kind(y, Key::Y)? {
         Kind::Query => read_query(tx, q, a, ro),
         Kind::Answer => read_answer_message(tx, r),
-        Kind::Fault => read_fault(tx, top.get(b"e")),
+        Kind::Fault => read_fault(tx, e),
     }
 }
 
