@@ -20,7 +20,7 @@ use Rattle.lookup_core.specs.declared.quest.Quest.{Quest}
 use Rattle.lookup_core.specs.Sealed.{Accepts, IsSealed, speaker}
 
 -- an open query as the events alone show it
-abbrev bare : OpenQuery → OpenQuery
+abbrev pub bare : OpenQuery → OpenQuery
 bare q = record { path = 0; contact = record { id = record { 0 = [] }; addr = q.contact.addr }; tx = q.tx; deadline = q.deadline }
 
 -- two journals' states that the events can't tell apart
@@ -178,7 +178,7 @@ sent_alike g s t s' t' to bytes a j k =
       receives = ap (λ (z : Seen). z.receives) j.after ∙ a.receives ∙ sym (ap (λ (z : Seen). z.receives) k.after);
     }
 
-step_alike : (g : Given) (J K : List Entry) (s t s' t' : Seen) (e : Event) → g.quest.sealed ≡ false → Apart s.queries → Apart t.queries → Alike s t → Gives g J s e s' → Gives g K t e t' → Alike s' t'
+pub step_alike : (g : Given) (J K : List Entry) (s t s' t' : Seen) (e : Event) → g.quest.sealed ≡ false → Apart s.queries → Apart t.queries → Alike s t → Gives g J s e s' → Gives g K t e t' → Alike s' t'
 step_alike g J K s t s' t' (Now at) plain hs ht a j k = absurd j
 step_alike g J K s t s' t' (Sent to bytes) plain hs ht a j k = sent_alike g s t s' t' to bytes a j k
 step_alike g J K s t s' t' (Unsent to bytes) plain hs ht a j k = record {
@@ -218,7 +218,7 @@ last_of : (g : Given) (J : List Entry) (s t : Seen) (es : List Event) (e : Event
 last_of g J s t [] e h = record { mid = s; front = refl; gives = subst (λ (x : Seen). Gives g J s e x) (sym h.2) h.1 }
 last_of g J s t (x ∷ es) e h = (let r = last_of g J h.0 t es e h.2 in record { mid = r.mid; front = (h.0, h.1, r.front); gives = r.gives })
 
-abbrev same_begun : (at : ℕ) → Alike (begun at) (begun at)
+abbrev pub same_begun : (at : ℕ) → Alike (begun at) (begun at)
 same_begun at = record { moment = refl; queries = refl; sends = refl; strays = refl; receives = refl }
 
 stray_counts : (g : Given) (m t u : Seen) (from : Addr) (bytes : List ℕ) (at number : ℕ) → g.quest.sealed ≡ false → Alike m u → GotGives g m from bytes at t → IsStray g.quest g.accepts u.queries from bytes → u.strays + 1 ≡ number → t.strays ≡ number

@@ -10,6 +10,7 @@ pub mod OnceSettled
 pub mod OnceEvents
 pub mod Once
 pub mod Alike
+pub mod OnceCalls
 pub mod Expiring
 pub mod Matching
 pub mod Receiving

@@ -160,17 +160,17 @@ free_once qs w a b h k =
     ]
 
 -- the path that asks, and whom
-record Asks (s : Setting) (Q : List Entry) (path : ℕ) (contact : Contact) : Type 0 where
-  may : may_ask s path Q ≡ Some contact
-  none_before : NoneAsks s path Q
+pub record Asks (s : Setting) (Q : List Entry) (path : ℕ) (contact : Contact) : Type 0 where
+  pub may : may_ask s path Q ≡ Some contact
+  pub none_before : NoneAsks s path Q
 
-asks_of : (s : Setting) (Q more gave : List Entry) (t : Seen) (path : ℕ) (contact : Contact) → gave ≡ Ask path contact ∷ more → AsksInTurn s Q t gave → LegalAfter s Q gave → Asks s Q path contact
+pub asks_of : (s : Setting) (Q more gave : List Entry) (t : Seen) (path : ℕ) (contact : Contact) → gave ≡ Ask path contact ∷ more → AsksInTurn s Q t gave → LegalAfter s Q gave → Asks s Q path contact
 asks_of s Q more gave t path contact is turn legal =
     let e : Ask path contact ∷ more ≡ Ask turn.path turn.contact ∷ turn.rest = sym is ∙ turn.asks in
     let same : path ≡ turn.path = cc in
     record { may = (subst (LegalAfter s Q) is legal).0; none_before = subst (λ n. NoneAsks s n Q) (sym same) turn.none_before }
 
-asks_once : (s : Setting) (Q : List Entry) (p q : ℕ) (c d : Contact) → Asks s Q p c → Asks s Q q d → (p ≡ q) × (c ≡ d)
+pub asks_once : (s : Setting) (Q : List Entry) (p q : ℕ) (c d : Contact) → Asks s Q p c → Asks s Q q d → (p ≡ q) × (c ≡ d)
 asks_once s Q p q c d h k =
     elim (cases_lt p q) [
       | inl lt ↦ (let none = k.none_before p lt in let some = h.may in absurd cc)

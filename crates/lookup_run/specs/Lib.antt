@@ -1,5 +1,6 @@
 pub mod Tells
 pub mod Rounds
+pub mod LinkCalls
 pub mod Gathered
 pub mod SendFaults
 pub mod Lookup

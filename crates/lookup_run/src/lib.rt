@@ -16,6 +16,6 @@ mod together;
 mod types;
 
 pub use driver::{look_up, look_up_alone};
-pub use laws::one_journal;
+pub use laws::{one_journal, one_next_call};
 pub use lookup_core::AskKind;
 pub use types::{Item, ItemList, LookFault, LookSetting, Outcome, Token, Tokened};
