@@ -1,5 +1,5 @@
 -- Each datagram that comes answers one that was sent, so that no more come than were sent.
-use Rattle.std.proofs.Common.{◌≡◌, ℕ, ◌+◌, ◌≤◌, List, [], ◌∷◌, ◌++◌, length, Option, Some, None, refl, ap, arith}
+use Rattle.std.proofs.Common.{◌≡◌, ℕ, ◌+◌, ◌≤◌, List, [], ◌∷◌, ◌++◌, length, Bool, Option, Some, None, refl, ap, arith}
 use Rattle.std.proofs.lemmas.List.{length-append}
 use Rattle.std.proofs.lemmas.List.Edits.{length-remove}
 use Rattle.std.proofs.lemmas.Option.{slice_get_within}
@@ -69,28 +69,28 @@ not_sent : (came : Came) (until : ℕ) (buf : List ℕ) → sent_of (EventOf cam
 not_sent (Packet from len at) until buf = refl
 not_sent (Quiet at) until buf = refl
 
-few_wait : (net : Network) (events : List Event) (moment : ℕ) (waiting : List Waiting) → PlaysTo net events moment waiting → count got_of events + length waiting ≤ count sent_of events
-few_wait net events moment waiting begins = omega arith
-few_wait net events moment waiting (tells {events = es} p) =
-    let h = few_wait net es moment waiting p in
+few_wait : (net : Network) (wide : Bool) (events : List Event) (moment : ℕ) (waiting : List Waiting) → PlaysTo net wide events moment waiting → count got_of events + length waiting ≤ count sent_of events
+few_wait net wide events moment waiting begins = omega arith
+few_wait net wide events moment waiting (tells {events = es} p) =
+    let h = few_wait net wide es moment waiting p in
     let a = count_more got_of es (event.Now moment) in
     let b = count_more sent_of es (event.Now moment) in
     omega (arith, h, a, b)
-few_wait net events moment waiting (sends {events = es} {moment = at} {waiting = held} to bytes p queued) =
-    let h = few_wait net es at held p in
+few_wait net wide events moment waiting (sends {events = es} {moment = at} {waiting = held} to bytes p queued) =
+    let h = few_wait net wide es at held p in
     let a = count_more got_of es (event.Sent to bytes) in
     let b = count_more sent_of es (event.Sent to bytes) in
     let few = brings_few net at to bytes queued.answers queued.brought in
     let all = ap length queued.behind in
     let sum = length-append held queued.answers in
     omega (arith, h, a, b, few, all, sum)
-few_wait net events moment waiting (receives {events = es} {moment = last} {waiting = held} until room buf came p gets) =
-    let h = few_wait net es last held p in
+few_wait net wide events moment waiting (receives {events = es} {moment = last} {waiting = held} until room buf came has_room p gets) =
+    let h = few_wait net wide es last held p in
     let a = count_more got_of es (EventOf came until buf) in
     let b = count_more sent_of es (EventOf came until buf) in
     let none_sent = not_sent came until buf in
     let less = one_less held last until room buf waiting came gets in
     omega (arith, h, a, b, none_sent, less)
 
-pub few_come : (net : Network) (events : List Event) → Plays net events → count got_of events ≤ count sent_of events
-few_come net events p = (let h = few_wait net events p.moment p.waiting p.plays in omega (arith, h))
+pub few_come : (net : Network) (wide : Bool) (events : List Event) → Plays net wide events → count got_of events ≤ count sent_of events
+few_come net wide events p = (let h = few_wait net wide events p.moment p.waiting p.plays in omega (arith, h))

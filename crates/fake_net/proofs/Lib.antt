@@ -8,4 +8,5 @@ pub mod Answering
 pub mod Asking
 pub mod Nexts
 pub mod Playing
+pub mod Course
 pub mod Answered

@@ -1,5 +1,5 @@
 -- Answers that wait to be received: what a receive gives, and what is left. This project's own.
-use Rattle.std.specs.Prelude.{◌≡◌, ℕ, ◌<◌, ◌≤◌, min, max, List, ◌++◌, length, take, remove, All, Option, Some, slice_get, MatchOption}
+use Rattle.std.specs.Prelude.{◌≡◌, ℕ, ◌<◌, ◌≤◌, min, max, List, ◌++◌, length, take, remove, All, Bool, Option, Some, slice_get, MatchOption}
 use Rattle.std.specs.List.{AllWithin}
 use Rattle.kad_base.specs.declared.types.Addr.{Addr}
 use Rattle.kad_base.specs.declared.types.Came.{Came}
@@ -9,13 +9,14 @@ use Rattle.fake_net.specs.declared.waiting.Waiting.{Waiting}
 use Rattle.fake_net.specs.Network.{Network}
 use Rattle.fake_net.specs.Replies.{BringsAbout}
 
--- what a network holds: what it follows from, the last told moment, what happened, where it is told, and the answers that
--- wait, in the order in which they were sent for
+-- what a network holds: what it follows from, the last told moment, what happened, where it is told, the answers that wait,
+-- in the order in which they were sent for, and whether each receive had room for all that is believed
 pub record SimState : Type 0 where
   pub network : Network
   pub moment : ℕ
   pub told : Option (List Event)
   pub waiting : List Waiting
+  pub wide : Bool
 
 -- the answer at the place is the next by then: each before it in the list comes later, and none comes sooner
 pub record IsNextWaiting (waiting : List Waiting) (until place : ℕ) (answer : Waiting) : Type 0 where

@@ -11,7 +11,7 @@ mod sim_net;
 mod telling;
 mod waiting;
 
-pub use laws::{none_next, one_next};
+pub use laws::{none_next, one_course, one_next};
 pub use link::ScriptLink;
 pub use replies::Conduct;
 pub use script::{Asked, Script, ScriptEvent};

@@ -1,6 +1,7 @@
 //! The link to a whole network that follows from a seed.
-ghost use Rattle.std.specs.Prelude.{◌≡◌, ◌<◌, ◌≤◌, ◌++◌, ◌∷◌, ◌↔◌, [], length, Some, None, IfOk, IsOk, OnOk, IfSome, IsTrue};
+ghost use Rattle.std.specs.Prelude.{◌≡◌, ◌<◌, ◌≤◌, ◌++◌, ◌∷◌, ◌↔◌, ◌+◌, ◌&&◌, [], length, nat_eq, Some, None, true, IfOk, IsOk, OnOk, IfSome, IsTrue};
 ghost use Rattle.kad_base.specs.declared.types.Event.{Event};
+ghost use Rattle.kad_base.specs.Limits.{max_datagram};
 ghost use Rattle.kad_base.specs.Outside.{Grows, EventOf, Arrives, came_at};
 ghost use Rattle.kad_distance.specs.KClosest.{k_closest};
 ghost use Rattle.fake_net.specs.Network.{own_of, target_of, node, honest};
@@ -12,6 +13,7 @@ use crate::nodes::Nodes;
 use crate::replies::answer;
 use crate::telling::{came_at, telling, telling_came, telling_sent};
 use crate::waiting::{Waiting, take_next};
+use kad_base::limits::RECEIVE_ROOM;
 use kad_base::{Addr, Came, Contact, Contacts, Event, Failed, Id, Link, List, NoMemory};
 use std::alloc::Global;
 use std::marker::Model;
@@ -26,6 +28,7 @@ pub struct SimNet {
     moment: u64,
     told: Option<List<Event>>,
     waiting: Vec<Waiting>,
+    wide: bool,
 }
 
 impl Model for SimNet {
@@ -35,10 +38,16 @@ impl Model for SimNet {
 
     ghost Value = { SimState };
 
-    ghost view = { λ s. record { network = s.nodes; moment = s.moment; told = s.told; waiting = s.waiting.items } };
+    ghost view = { λ s. record {
+      network = s.nodes;
+      moment = s.moment;
+      told = s.told;
+      waiting = s.waiting.items;
+      wide = s.wide;
+    } };
 
     // What it tells is what its network plays.
-    ghost invariant = { λ s. IfSome s.told (λ events. PlaysTo s.nodes events s.moment s.waiting.items) };
+    ghost invariant = { λ s. IfSome s.told (λ events. PlaysTo s.nodes s.wide events s.moment s.waiting.items) };
 }
 
 impl SimNet {
@@ -51,6 +60,7 @@ impl SimNet {
         ensures moment { IfOk result (λ net. net.moment ≡ 0) }
         ensures told { IfOk result (λ net. net.told ≡ Some []) }
         ensures waiting { IfOk result (λ net. net.waiting ≡ []) }
+        ensures wide { IfOk result (λ net. net.wide ≡ true) }
     {
         Ok(SimNet {
             alloc,
@@ -58,6 +68,7 @@ impl SimNet {
             moment: 0,
             told: Some(List::new(alloc)),
             waiting: Vec::new(alloc),
+            wide: true,
         })
     }
 
@@ -90,10 +101,11 @@ impl SimNet {
         self.nodes.closest_honest(self.alloc, target, k)
     }
 
-    /// Whether it ran out of memory. Takes none. What it tells is what its network plays.
+    /// Whether it ran out of memory. Takes none. What it tells is what its network plays, with wide receives where each
+    /// had room for more than the longest datagram that is believed.
     pub fn short(&self) -> bool
         ensures short { IsTrue result ↔ (self.now.told ≡ None) }
-        ensures plays { IfSome self.now.told (Plays self.now.network) }
+        ensures plays { IfSome self.now.told (Plays self.now.network self.now.wide) }
     {
         self.told.is_none()
     }
@@ -118,11 +130,11 @@ fn queue(
 }
 
 impl Link for SimNet {
-    ghost use Rattle.fake_net.specs.Network.{Network};
+    ghost use Rattle.fake_net.specs.Plays.{SimKept};
 
-    ghost Kept = { Network };
+    ghost Kept = { SimKept };
 
-    ghost kept = { λ s. s.network };
+    ghost kept = { λ s. record { network = s.network; wide = s.wide } };
 
     ghost told = { λ s. s.told };
 
@@ -138,6 +150,7 @@ impl Link for SimNet {
         ensures told { Grows self.old.told self.new.told (λ t. t ≡ Event.Now result ∷ []) }
         ensures same_moment { self.new.moment ≡ self.old.moment }
         ensures same_network { self.new.network ≡ self.old.network }
+        ensures same_wide { self.new.wide ≡ self.old.wide }
         ensures same_waiting { self.new.waiting ≡ self.old.waiting }
     {
         let at = self.moment;
@@ -155,6 +168,7 @@ impl Link for SimNet {
             self.new.waiting) }
         ensures same_moment { self.new.moment ≡ self.old.moment }
         ensures same_network { self.new.network ≡ self.old.network }
+        ensures same_wide { self.new.wide ≡ self.old.wide }
     {
         let queued = queue(
             self.alloc,
@@ -186,7 +200,9 @@ impl Link for SimNet {
             (λ t. t ≡ EventOf came until buf.new ∷ [])) }
         ensures moment { IfOk result (λ came. self.new.moment ≡ came_at came) }
         ensures same_network { self.new.network ≡ self.old.network }
+        ensures wide { self.new.wide ≡ (self.old.wide && nat_eq (length buf.old) (max_datagram + 1)) }
     {
+        self.wide = self.wide && buf.len() == RECEIVE_ROOM;
         let came = take_next(&mut self.waiting, self.moment, buf, until);
         self.moment = came_at(&came);
         self.told = telling_came(self.alloc, self.told.take(), &came, buf, until);

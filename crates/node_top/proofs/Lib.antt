@@ -30,3 +30,6 @@ pub mod AtOnce
 pub mod Tabling
 pub mod Refreshing
 pub mod Unstrayed
+pub mod OneTable
+pub mod OneSim
+pub mod OneText

@@ -12,7 +12,7 @@ use Rattle.node_top.proofs.Lawful.{Lawful}
 use Rattle.node_top.proofs.Staged.{unread_lawful}
 use Rattle.node_top.specs.Called.{Called}
 
-first_key_once : (seed : List ℕ) (c1 tries : ℕ) (a b : List ℕ) → IsFirstKey seed c1 tries a → IsFirstKey seed c1 tries b → a ≡ b
+pub first_key_once : (seed : List ℕ) (c1 tries : ℕ) (a b : List ℕ) → IsFirstKey seed c1 tries a → IsFirstKey seed c1 tries b → a ≡ b
 first_key_once seed c1 tries a b s t =
     elim (cases_order s.number t.number) [
       | inl same ↦ s.is_key ∙ ap (key_at seed) same ∙ sym t.is_key

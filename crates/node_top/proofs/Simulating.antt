@@ -1,5 +1,5 @@
 -- From a lookup in a network to what `sim` makes.
-use Rattle.std.proofs.Common.{◌≡◌, ℕ, List, [], ◌++◌, length, Option, Some, None, refl, sym, ap, subst, ◌∙◌, arith}
+use Rattle.std.proofs.Common.{◌≡◌, ℕ, List, [], ◌++◌, length, Bool, true, Option, Some, None, refl, sym, ap, subst, ◌∙◌, arith}
 use Rattle.std.specs.Prelude.{min, map, codes, decimal, IfSome}
 use Rattle.std.specs.List.{All}
 use Rattle.std.proofs.lemmas.List.{append_assoc}
@@ -96,7 +96,7 @@ sim_usable s start b =
     (usable_told own s.k 1 b.contacts start.table (admits_usable own Four Plain (first_nodes s) b.contacts b.admits) b.told)
 
 simulates_at : (s : Simulation) (left : WordsState) (contacts : List Contact) (table : TableState) (near : List Contact) (o : Outcome) (events : List Event) (text : List ℕ)
-    → Admits (own_of None s.seed) Four Plain (first_nodes s) contacts → StartsWith (sim_look s) s.seed contacts table → near ≡ sought_in s → Plays (network_of s) events
+    → Admits (own_of None s.seed) Four Plain (first_nodes s) contacts → StartsWith (sim_look s) s.seed contacts table → near ≡ sought_in s → Plays (network_of s) true events
     → Finished (look_of FindNode (sim_look s) s.seed) (sim_called s).accepts table (drawn_of s.seed) left (Some []) (Some events) o
     → Grows (Some []) (Some events) (λ events. Rounds sequential (lookup_of FindNode (sim_look s) (sim_called s)) o.journal events)
     → text ≡ line_of (sim_text (length o.found) o.counts.asked o.counts.failed o.counts.turned (count_among near o.found)) → SimText s text
@@ -126,13 +126,13 @@ simulates_at s left contacts table near o events text admits told near_is plays 
     }
 
 -- the same over the values that the code has
-pub simulates : (s : Simulation) (start : Start) (key : List ℕ) (words left : WordsState) (o : Outcome) (net : Network) (before after : Option (List Event)) (text : List ℕ)
-    → Begins s start → key ≡ no_key → words ≡ drawn_of s.seed → net ≡ network_of s → before ≡ Some [] → (after ≡ None → ⊥) → IfSome after (Plays net)
+pub simulates : (s : Simulation) (start : Start) (key : List ℕ) (words left : WordsState) (o : Outcome) (net : Network) (wide : Bool) (before after : Option (List Event)) (text : List ℕ)
+    → Begins s start → key ≡ no_key → words ≡ drawn_of s.seed → net ≡ network_of s → wide ≡ true → before ≡ Some [] → (after ≡ None → ⊥) → IfSome after (Plays net wide)
     → Finished start.setting (is_group_tag key) start.table words left before after o → Grows before after (λ events. Rounds sequential (given_of start.setting (is_group_tag key) words) o.journal events)
     → text ≡ line_of (sim_text (length o.found) o.counts.asked o.counts.failed o.counts.turned (count_among start.near o.found)) → SimText s text
-simulates s start key words left o net before None text begun sealed f net_is began goes_on plays up rounds is = absurd (goes_on refl)
-simulates s start key words left o net before (Some events) text begun sealed f net_is began goes_on plays up rounds is =
-    simulates_at s left begun.contacts start.table start.near o events text begun.admits begun.told begun.near_is (subst (λ (n : Network). Plays n events) net_is plays)
+simulates s start key words left o net wide before None text begun sealed f net_is wide_is began goes_on plays up rounds is = absurd (goes_on refl)
+simulates s start key words left o net wide before (Some events) text begun sealed f net_is wide_is began goes_on plays up rounds is =
+    simulates_at s left begun.contacts start.table start.near o events text begun.admits begun.told begun.near_is (subst (λ (b : Bool). Plays (network_of s) b events) wide_is (subst (λ (n : Network). Plays n wide events) net_is plays))
     (subst (λ (st : LookSetting). Finished st (is_group_tag no_key) start.table (drawn_of s.seed) left (Some []) (Some events) o) begun.setting_is
     (subst (λ (w : WordsState). Finished start.setting (is_group_tag no_key) start.table w left (Some []) (Some events) o) f
     (subst (λ (b : Option (List Event)). Finished start.setting (is_group_tag no_key) start.table words left b (Some events) o) began

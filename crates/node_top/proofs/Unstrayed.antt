@@ -1,5 +1,5 @@
 -- A lookup in a network meets no more datagrams than it asks contacts, and so not the last stray that a lookup takes.
-use Rattle.std.proofs.Common.{◌≡◌, ℕ, ◌+◌, ◌*◌, ◌≤◌, ◌<◌, List, [], ◌∷◌, ◌++◌, length, Option, Some, None, inl, inr, refl, sym, ap, subst, ◌∙◌, arith}
+use Rattle.std.proofs.Common.{◌≡◌, ℕ, ◌+◌, ◌*◌, ◌≤◌, ◌<◌, List, [], ◌∷◌, ◌++◌, length, Bool, Option, Some, None, inl, inr, refl, sym, ap, subst, ◌∙◌, arith}
 use Rattle.std.specs.Prelude.{IfSome}
 use Rattle.std.proofs.lemmas.List.{length-append}
 use Rattle.std.proofs.lemmas.Grind.{flat_map-append}
@@ -127,7 +127,7 @@ last g J events n h =
     omega (arith, strays, is, same, sum)
 
 -- what is told from the first event on
-whole : (before : Option (List Event)) (events : List Event) (P : List Event → Type 0) → before ≡ Some [] → Added before events P → P events
+pub whole : (before : Option (List Event)) (events : List Event) (P : List Event → Type 0) → before ≡ Some [] → Added before events P → P events
 whole before events P began a =
     let none_before : Some [] ≡ Some a.before = sym began ∙ a.was in
     let empty : [] ≡ a.before = cc in
@@ -136,13 +136,13 @@ whole before events P began a =
 few_asked : (look : LookSetting) (J : List Entry) (n : ℕ) → IsWithinLimits look → n ≤ length (asked J) → length (asked J) ≤ max_path_contacts * look.paths → n < max_strays
 few_asked look J n limits le most = (let paths = limits.few_paths in omega (arith, le, most, paths))
 
-pub no_strays : (look : LookSetting) (accepts : Accepts) (table : TableState) (words words' : WordsState) (net : Network) (before after : Option (List Event)) (sends sends' : ℕ) → IsWithinLimits look → before ≡ Some [] → (after ≡ None → ⊥)
-    → IfSome after (Plays net) → Unfinished look accepts table words words' before after sends sends' → EndsByStrays look accepts table words before after → ⊥
-no_strays look accepts table words words' net before None sends sends' limits began goes_on plays left ends = absurd (goes_on refl)
-no_strays look accepts table words words' net before (Some events) sends sends' limits began goes_on plays left ends =
+pub no_strays : (look : LookSetting) (accepts : Accepts) (table : TableState) (words words' : WordsState) (net : Network) (wide : Bool) (before after : Option (List Event)) (sends sends' : ℕ) → IsWithinLimits look → before ≡ Some [] → (after ≡ None → ⊥)
+    → IfSome after (Plays net wide) → Unfinished look accepts table words words' before after sends sends' → EndsByStrays look accepts table words before after → ⊥
+no_strays look accepts table words words' net wide before None sends sends' limits began goes_on plays left ends = absurd (goes_on refl)
+no_strays look accepts table words words' net wide before (Some events) sends sends' limits began goes_on plays left ends =
     let asks = early (given_of look accepts words) left.journal events (whole before events _ began left.tells) in
     let strays = last (given_of look accepts words) ends.journal events max_strays (whole before events _ began ends.tells) in
-    let come = few_come net events plays in
+    let come = few_come net wide events plays in
     let some_path = limits.some_path in
     let few_live = limits.few in
     let most = asked_few (setting_of look) left.journal (omega (arith, some_path)) (omega (arith, few_live)) left.legal in

@@ -8,6 +8,7 @@ pub mod Promise
 pub mod Started
 pub mod Looked
 pub mod Commands
+pub mod MadeFrom
 pub mod Written
 pub mod Forms
 pub mod Endings

@@ -9,6 +9,7 @@ mod call;
 mod commands;
 mod input;
 mod item;
+mod laws;
 mod lines;
 mod output;
 mod printed;
@@ -16,5 +17,6 @@ mod run_lookup;
 mod status;
 mod top;
 
+pub use laws::one_text;
 pub use lines::{one_bad_line, one_reading};
 pub use top::{run, run_plain};

@@ -1,6 +1,6 @@
 -- What `sim` makes: the line of a lookup in a network that follows from a seed, which begins with the network's first
 -- nodes. The network and the line are this project's own.
-use Rattle.std.specs.Prelude.{◌≡◌, ℕ, ◌<◌, ◌≤◌, List, [], ◌++◌, min, map, filter, length, codes, decimal, replicate, false, Some, None}
+use Rattle.std.specs.Prelude.{◌≡◌, ℕ, ◌<◌, ◌≤◌, List, [], ◌++◌, min, map, filter, length, codes, decimal, replicate, false, true, Some, None}
 use Rattle.kad_base.specs.declared.types.Family.TheVariants.{Four}
 use Rattle.kad_base.specs.declared.types.Id.{Id}
 use Rattle.kad_base.specs.declared.types.Contact.{Contact}
@@ -111,15 +111,16 @@ pub record Begins (s : Simulation) (start : Start) : Type 0 where
 
 -- A lookup in the network. The table is told of its first nodes, in order, but for one with the identifier of the node that
 -- looks up; the journal is legal and begins with the k closest of that table; the events, from the first on, are those
--- that this network plays, and they tell the journal and go by rounds; every path has run out; what a path asked came from
--- its own seeds and answers; and the line is the journal's.
+-- that this network plays, each receive with room for all that is believed, and they tell the journal and go by rounds;
+-- every path has run out; what a path asked came from its own seeds and answers; and the line is the journal's. There is one
+-- such line (the law `one_text`).
 pub record SimText (s : Simulation) (text : List ℕ) : Type 0 where
   pub contacts : List Contact
   pub admits : Admits (own_of None s.seed) Four Plain (first_nodes s) contacts
   pub table : TableState
   pub told : StartsWith (sim_look s) s.seed contacts table
   pub events : List Event
-  pub plays : Plays (network_of s) events
+  pub plays : Plays (network_of s) true events
   pub journal : List Entry
   pub legal : Legal (book_of FindNode (sim_look s) s.seed) journal
   pub seeds_are : seeds journal ≡ seeds_in (look_of FindNode (sim_look s) s.seed) table
