@@ -8,8 +8,8 @@ use Rattle.kad_base.specs.declared.types.Event.{Event}
 use Rattle.kad_base.specs.declared.types.Family.TheVariants.{Four}
 use Rattle.kad_base.specs.declared.types.Policy.{Policy}
 use Rattle.kad_base.specs.declared.types.Report.{Report}
-use Rattle.kad_base.specs.declared.types.Event.TheVariants.{Now}
 use Rattle.kad_base.specs.Outside.{Grows}
+use Rattle.kad_base.proofs.Grown.{grows_weaker}
 use Rattle.kad_base.specs.Puzzles.{hash}
 use Rattle.id_puzzles.specs.Minting.{value_at, IsFirstValue}
 use Rattle.kad_words.specs.Table.{Word}
@@ -23,7 +23,7 @@ use Rattle.node_top.specs.Commands.{promise_of, service_of, simulation_of, HasTe
 use Rattle.node_top.specs.Commands.Checked.{Judges, verdicts_printed, CheckText}
 use Rattle.node_top.specs.Commands.Minted.{seed_of, minted_line, MintText}
 use Rattle.node_top.specs.Commands.Refreshing.{pings_of, Restores, RefreshText}
-use Rattle.node_top.specs.Commands.Served.{Served, ServeText}
+use Rattle.node_top.specs.Commands.Served.{HasServed, ServeText, alone, at_once}
 use Rattle.node_top.specs.Commands.Simulated.{SimText}
 use Rattle.node_top.specs.Commands.Tabled.{TableText}
 use Rattle.node_top.specs.Input.{ReadsAll, Lists, Admits}
@@ -150,16 +150,29 @@ refresh_once timeout sealed called source again link beside t u same events_same
 
 -- ---- `serve`
 
+-- so many datagrams came, and so many replies were sent
+record Counted (received replied : ℕ) (events : List Event) : Type 0 where
+  received_are : received ≡ got_in events
+  replied_are : replied ≡ sent_in events
+
+counted : (service : Service) (called : Called) (link : Shown Event) (table : TableState) (proofs : List Report) (received replied : ℕ) → HasServed service called link table proofs received replied
+    → Grows link.before link.after (Counted received replied)
+counted service called link table proofs received replied (alone one g) =
+    grows_weaker link.before link.after _ _ g (λ es s. record { received_are = s.serves.received_are ∙ sym (ap got_in s.whole); replied_are = s.serves.replied_are ∙ sym (ap sent_in s.whole) })
+counted service called link table proofs received replied (at_once several after h) =
+    grows_weaker link.before link.after _ _ h.told_are (λ es is. record {
+      received_are = h.holds.serves.received_are ∙ sym (ap got_in h.holds.whole) ∙ sym (ap got_in is);
+      replied_are = h.holds.serves.replied_are ∙ sym (ap sent_in h.holds.whole) ∙ sym (ap sent_in is);
+    })
+
 serve_once : (service : Service) (called : Called) (source again : Shown ℕ) (link beside : Shown Event) (t u : List ℕ) → SameEvents link beside
     → ServeText service called source link t → ServeText service called again beside u → t ≡ u
 serve_once service called source again link beside t u same a b =
-    let both = added_once link.before beside.before link.after beside.after _ _ same.before same.after same.told a.tells b.tells in
-    let x : Served service called a.table a.proofs a.received a.replied both.0 = both.1 in
-    let y : Served service called b.table b.proofs b.received b.replied both.0 = both.2 in
-    let first : Now x.began ∷ x.then ≡ Now y.began ∷ y.then = sym x.whole ∙ y.whole in
-    let rest : x.then ≡ y.then = cc in
-    let received : a.received ≡ b.received = x.serves.received_are ∙ ap got_in rest ∙ sym y.serves.received_are in
-    let replied : a.replied ≡ b.replied = x.serves.replied_are ∙ ap sent_in rest ∙ sym y.serves.replied_are in
+    let x = counted service called link a.table a.proofs a.received a.replied a.tells in
+    let y = counted service called beside b.table b.proofs b.received b.replied b.tells in
+    let both = added_once link.before beside.before link.after beside.after _ _ same.before same.after same.told x y in
+    let received : a.received ≡ b.received = both.1.received_are ∙ sym both.2.received_are in
+    let replied : a.replied ≡ b.replied = both.1.replied_are ∙ sym both.2.replied_are in
     a.text_is ∙ ap (λ n. printed_served n a.replied) received ∙ ap (λ n. printed_served b.received n) replied ∙ sym b.text_is
 
 -- ---- of a command
@@ -186,8 +199,8 @@ of_seed other_command called other source again link beside t u ranges named h j
 
 of_events : (c : Command) (called : Called) (source again : Shown ℕ) (link beside : Shown Event) (t u : List ℕ) → GoesByEvents c → SameInput source again → SameEvents link beside
     → (promise_of c).text called source link t → (promise_of c).text called again beside u → t ≡ u
-of_events (Serve own k bits policy receives sealed) called source again link beside t u goes same events_same h j =
-    serve_once (service_of own k bits policy receives sealed) called source again link beside t u events_same h j
+of_events (Serve own k bits policy receives workers sealed) called source again link beside t u goes same events_same h j =
+    serve_once (service_of own k bits policy receives workers sealed) called source again link beside t u events_same h j
 of_events (Refresh timeout sealed) called source again link beside t u goes same events_same h j =
     refresh_once timeout sealed called source again link beside t u same events_same h j
 of_events other called source again link beside t u goes same events_same h j = absurd goes

@@ -14,7 +14,7 @@ NamesSeed other = ⊥
 -- from the words, the input, what it is called with and the link's events: the commands that take a link, and settle
 -- nothing on several threads
 abbrev pub GoesByEvents : Command → Type 0
-GoesByEvents (Serve own k bits policy receives sealed) = Unit {0}
+GoesByEvents (Serve own k bits policy receives workers sealed) = Unit {0}
 GoesByEvents (Refresh timeout sealed) = Unit {0}
 GoesByEvents other = ⊥
 
