@@ -2,3 +2,4 @@ pub mod Determined
 pub mod StaysSound
 pub mod Outcome
 pub mod Holding
+pub mod Naming

@@ -40,6 +40,10 @@ calls_in run = map (λ e. e.call) run
 abbrev pub replies_in : List (Made TableCall TableReply) → List TableReply
 replies_in run = map (λ e. e.reply) run
 
+-- the calls that say of each of these that it was seen
+abbrev pub seen_calls : List Contact → List TableCall
+seen_calls contacts = map Seen contacts
+
 -- the reply isn't want of memory
 abbrev pub HasMemory : TableReply → Type 0
 HasMemory NoMemory = ⊥

@@ -1,15 +1,16 @@
 //! What holds of every table, whoever calls it. Each law is the clause of a function that does nothing.
-ghost use Rattle.std.specs.Prelude.{◌≡◌, ◌<◌, ◌≤◌, ℕ, List, ◌++◌};
+ghost use Rattle.std.specs.Prelude.{◌≡◌, ◌≢◌, ◌<◌, ◌≤◌, ◌↔◌, ℕ, List, [], ◌++◌};
 ghost use Rattle.std.specs.List.{All, Contains};
 ghost use Rattle.kad_base.specs.declared.types.Id.{Id};
 ghost use Rattle.kad_base.specs.declared.types.Contact.{Contact};
 ghost use Rattle.kad_base.specs.declared.serial.Made.{Made};
 ghost use Rattle.kad_base.specs.Serial.{IsRun, left_by};
+ghost use Rattle.kad_distance.specs.KClosest.{k_closest};
 ghost use Rattle.contact_table.specs.declared.calls.TableCall.{TableCall};
 ghost use Rattle.contact_table.specs.declared.calls.TableReply.{TableReply};
 ghost use Rattle.contact_table.specs.TableState.{TableState, SoundTable};
 ghost use Rattle.contact_table.specs.TableStep.{TableMay, TableStep, table_after, contacts_of};
-ghost use Rattle.contact_table.specs.Told.{HasMemory, calls_in, replies_in, held_in, new_table, told_by};
+ghost use Rattle.contact_table.specs.Told.{HasMemory, calls_in, replies_in, held_in, new_table, seen_calls, told_by};
 
 /// A call of a sound table has one outcome, want of memory aside: its reply and the state that it leaves follow from the
 /// state and the call. So do the replies of a run and the state at its end from the calls: an input gives one table.
@@ -49,4 +50,17 @@ pub fn holds_what_it_was_told()
         → All (Contains (held_in s ++ told_by run)) (held_in (left_by table_after s run)) }
     ensures since_new { (own : Id) (k b : ℕ) (run : List (Made TableCall TableReply))
         → All (Contains (told_by run)) (contacts_of (left_by table_after (new_table own k b) run)) }
+{}
+
+/// A new table that was told of contacts, want of memory aside, names none as closest exactly where it was told of none. The
+/// table's own identifier is no contact's: it would take none in of those. So a lookup lacks contacts to begin with exactly
+/// where its input gives none.
+pub fn names_none_of_none()
+    ensures { (own target : Id) (k b n : ℕ) (contacts : List Contact)
+        (run : List (Made TableCall TableReply)) → 0 < k → 0 < n
+        → All (λ (c : Contact). c.id ≢ own) contacts
+        → IsRun TableMay TableStep table_after (new_table own k b) run
+        → calls_in run ≡ seen_calls contacts → All HasMemory (replies_in run)
+        → (k_closest target n (contacts_of (left_by table_after (new_table own k b) run)) ≡ [])
+        ↔ (contacts ≡ []) }
 {}

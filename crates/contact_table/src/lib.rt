@@ -9,6 +9,6 @@ mod table;
 mod threads;
 
 pub use calls::{TableCall, TableReply};
-pub use laws::{holds_what_it_was_told, one_outcome, stays_sound};
+pub use laws::{holds_what_it_was_told, names_none_of_none, one_outcome, stays_sound};
 pub use saved::Saved;
 pub use table::Table;
