@@ -11,7 +11,7 @@ use Rattle.turn_book.specs.Turns.{PassState, GoesOnTo, mine}
 use Rattle.contact_table.specs.TableState.{TableState}
 use Rattle.contact_table.specs.TableStep.{TableMay, TableStep, table_after}
 use Rattle.contact_table.specs.declared.calls.TableCall.{TableCall}
-use Rattle.contact_table.specs.declared.calls.TableCall.TheVariants.{Closest}
+use Rattle.contact_table.specs.declared.calls.TableCall.TheVariants.{Closest, Failed}
 use Rattle.contact_table.specs.declared.calls.TableReply.{TableReply}
 use Rattle.contact_table.specs.declared.calls.TableReply.TheVariants.{List as List_reply}
 use Rattle.peer_store.specs.Peers.{Held}
@@ -28,7 +28,8 @@ use Rattle.item_store.specs.declared.calls.ItemReply.{ItemReply}
 use Rattle.item_store.specs.declared.calls.ItemReply.TheVariants.{Held as Held_reply}
 use Rattle.node_serve.specs.Calls.{Did}
 use Rattle.node_serve.proofs.Gathering.{closest_short as closest_few, listed_short as listed_few}
-use Rattle.serve_crew.specs.Hands.{Hands, SamePass, SameHands, Grew, at_table, at_peers, at_items}
+use Rattle.serve_crew.specs.Hands.{Hands, TablePass, PeersPass, ItemsPass, SamePass, SameHands, Grew, Called, at_table, at_peers, at_items, hands}
+use Rattle.serve_crew.specs.Serving.{TellsLost}
 
 grows : {A B : Type 0} (f : A → List B) (old mid new : List B) (xs ys : List A) → mid ≡ old ++ flat_map f xs → new ≡ mid ++ flat_map f ys → new ≡ old ++ flat_map f (xs ++ ys)
 grows f old mid new xs ys e g =
@@ -43,6 +44,10 @@ grew_more old mid new xs ys same a b = record {
   peers = grows (at_peers old.peers.role) (mine old.peers) (mine mid.peers) (mine new.peers) xs ys a.peers (b.peers ∙ ap (λ r. mine mid.peers ++ flat_map (at_peers r) ys) same.peers.role);
   items = grows (at_items old.items.role) (mine old.items) (mine mid.items) (mine new.items) xs ys a.items (b.items ∙ ap (λ r. mine mid.items ++ flat_map (at_items r) ys) same.items.role);
 }
+
+-- the table was told of one that didn't answer
+pub tells_lost : (c : Contact) (t u : TablePass) (p : PeersPass) (i : ItemsPass) → Called (Failed c) t u → TellsLost c (hands t p i) (hands u p i)
+tells_lost c t u p i h = record { reply = h.0; grew = record { table = h.1; peers = sym (append-nil (mine p)); items = sym (append-nil (mine i)) } }
 
 same_pass_more : {C R : Type 0} (old mid new : PassState C R) → SamePass old mid → SamePass mid new → SamePass old new
 same_pass_more old mid new a b = record { turn = b.turn ∙ a.turn; role = b.role ∙ a.role }

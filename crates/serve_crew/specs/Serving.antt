@@ -1,11 +1,12 @@
 -- What a worker does for one datagram.
-use Rattle.std.specs.Prelude.{◌≡◌, ℕ, List, ◌++◌, map, Option, Some, None}
+use Rattle.std.specs.Prelude.{◌≡◌, ℕ, List, [], ◌∷◌, ◌++◌, map, Option, Some, None}
 use Rattle.std.specs.List.{All}
 use Rattle.kad_base.specs.declared.types.Addr.{Addr}
 use Rattle.kad_base.specs.declared.types.Id.{Id}
 use Rattle.kad_base.specs.declared.types.Contact.{Contact}
 use Rattle.kad_krpc.specs.Views.{ask_seen}
-use Rattle.contact_table.specs.declared.calls.TableCall.TheVariants.{Seen}
+use Rattle.contact_table.specs.declared.calls.TableCall.TheVariants.{Seen, Failed}
+use Rattle.contact_table.specs.declared.calls.TableReply.{TableReply}
 use Rattle.peer_store.specs.declared.calls.PeerCall.TheVariants.{Put}
 use Rattle.peer_store.specs.declared.calls.PeerReply.TheVariants.{Stored as Stored_reply, Full as Full_reply}
 use Rattle.item_store.specs.declared.calls.ItemCall.TheVariants.{Put as Keep_call}
@@ -16,7 +17,7 @@ use Rattle.node_serve.specs.declared.composing.Gained.{Gained}
 use Rattle.node_serve.specs.declared.composing.Gained.TheVariants as gained
 use Rattle.node_serve.specs.declared.planning.Wants.{Wants}
 use Rattle.node_serve.specs.declared.setting.ServeSetting.{ServeSetting}
-use Rattle.node_serve.specs.Calls.{Call, Did, HadMemory, call_of, reply_of, calls_of, answer_with}
+use Rattle.node_serve.specs.Calls.{Call, Did, HadMemory, on_table, call_of, reply_of, calls_of, answer_with}
 use Rattle.node_serve.specs.Gains.{IsFor, calls_wanted, replies_of}
 use Rattle.node_serve.specs.Sealing.{Tags, sent_form}
 use Rattle.serve_crew.specs.Answered.{IsAnswered}
@@ -27,6 +28,11 @@ pub record Answers (tag_of : Tags) (s : ServeSetting) (from : Addr) (bytes : Lis
   pub did : List Did
   pub grew : Grew old new did
   pub answer : IsAnswered tag_of s from bytes at answered out did
+
+-- the worker told the table that the contact didn't answer, and made no other call
+pub record TellsLost (c : Contact) (old new : Hands) : Type 0 where
+  pub reply : TableReply
+  pub grew : Grew old new (on_table (Failed c) reply ∷ [])
 
 -- ---- the parts of it
 

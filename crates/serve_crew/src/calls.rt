@@ -144,3 +144,13 @@ pub(crate) fn tell<R: Wait>(
         _ => Ok(()),
     }
 }
+
+/// Tells the table that the contact didn't answer, as the driver may alone.
+pub(crate) fn fail<R: Wait>(rt: &R, turn: &Turn<Table>, pass: &mut Pass<Table>, contact: Contact)
+    requires own { pass.old.turn ≡ turn.now.id }
+    requires driver { pass.old.role ≡ 0 }
+    ensures same { SamePass pass.old pass.new }
+    ensures told { Called (TableCall.Failed contact) pass.old pass.new }
+{
+    turn.call(rt, pass, TableCall::Failed { contact });
+}

@@ -4,12 +4,13 @@ ghost use Rattle.node_serve.specs.Calls.{IsSetting};
 ghost use Rattle.node_serve.specs.Queries.{IsSilent};
 ghost use Rattle.node_serve.specs.declared.node.Answered.{Answered};
 ghost use Rattle.serve_crew.specs.Hands.{SameHands};
-ghost use Rattle.serve_crew.specs.Serving.{Answers};
+ghost use Rattle.serve_crew.specs.Serving.{Answers, TellsLost};
 
+use crate::calls::fail;
 use crate::respond::respond;
 use contact_table::Table;
 use item_store::Items;
-use kad_base::{Addr, NoMemory};
+use kad_base::{Addr, Contact, NoMemory};
 use node_serve::{Answered, ServeSetting, read_query};
 use peer_store::Peers;
 use seal_tags::Seal;
@@ -118,5 +119,16 @@ impl ServeWorker {
                 }
             }
         }
+    }
+
+    /// Tells the table that the contact didn't answer a query of the node's own, as the worker of role 0 may alone. Takes
+    /// no memory.
+    pub fn lost<R: Wait>(&mut self, rt: &R, tables: &Turn<Table>, contact: Contact)
+        requires table { self.old.table.turn ≡ tables.now.id }
+        requires driver { self.old.table.role ≡ 0 }
+        ensures same { SameHands self.old self.new }
+        ensures tells { TellsLost contact self.old self.new }
+    {
+        fail(rt, tables, &mut self.table, contact);
     }
 }
