@@ -1,0 +1,50 @@
+use Rattle.std.proofs.Common.{take, inl, inr}
+use Rattle.kad_base.proofs.Grown.{grows_weaker}
+use Rattle.look_many.specs.inner.Crowd.{stand}
+use Rattle.look_many.specs.inner.ManySteps.{owed_in}
+use Rattle.look_many.specs.declared.seeker.ManyFault.TheVariants.{Strays}
+use Rattle.look_many.proofs.Telling.{got_on, got_advances, got_received, quiet_advances, quiet_received, stops_early, ends_by_foreign, err_moved}
+use Rattle.look_many.proofs.receive.receive_until.Goals as goal
+
+pub returns-in-Ok-clause-goes : goal.returns-in-Ok-clause-goes
+returns-in-Ok-clause-goes g c words =
+    let p = c.in-Ok-Packet in
+    let bytes = take p.len c.recv.new.buf in
+    let accepts = g.G.SealCheck.accepted c.args.seal.now in
+    let tags = g.G.Seal.tag_of c.args.seal.now in
+    let owed = owed_in c.in-Ok.reply p.from c.came.new.out in
+    let grows = rw p.field-0-is at p.ensures.ok in
+    got_advances accepts tags c.args.desk.now.setting.now c.args.busy p.from bytes c.args.until p.at c.args.seekers.now c.came.new.seekers c.args.line.now c.came.new.line c.args.host.now c.came.new.host owed words _ _ _
+    (got_on accepts tags c.args.desk.now.setting.now c.args.busy p.from bytes c.args.until p.at c.args.seekers.now c.came.new.seekers c.args.line.now c.came.new.line c.args.host.now c.came.new.host owed c.in-Ok.ensures.ok c.requires.may) grows c.pay.ensures.pays
+
+pub returns-in-Ok-clause-received : goal.returns-in-Ok-clause-received
+returns-in-Ok-clause-received g c =
+    let p = c.in-Ok-Packet in
+    got_received (g.G.SealCheck.accepted c.args.seal.now) (g.G.Seal.tag_of c.args.seal.now) c.args.desk.now.setting.now c.args.busy p.from (take p.len c.recv.new.buf) c.args.until p.at c.args.seekers.now c.came.new.seekers c.args.line.now c.came.new.line c.args.host.now c.came.new.host (owed_in c.in-Ok.reply p.from c.came.new.out) c.requires.may c.in-Ok.ensures.ok
+
+pub returns-in-Ok-Quiet-clause-goes : goal.returns-in-Ok-Quiet-clause-goes
+returns-in-Ok-Quiet-clause-goes g c words =
+    let p = c.in-Ok-Quiet in
+    let grows = rw p.field-0-is at p.ensures.ok in
+    quiet_advances (g.G.SealCheck.accepted c.args.seal.now) (g.G.Seal.tag_of c.args.seal.now) c.args.desk.now.setting.now c.args.busy c.args.until p.at c.args.seekers.now c.pass.new.seekers c.args.line.now c.pass.new.line c.args.host.now c.pass.new.host words _ _ c.requires.may c.pass.ensures.passes grows
+
+pub returns-in-Ok-Quiet-clause-received : goal.returns-in-Ok-Quiet-clause-received
+returns-in-Ok-Quiet-clause-received g c =
+    quiet_received c.args.busy c.args.until c.in-Ok-Quiet.at c.args.seekers.now c.pass.new.seekers c.args.line.now c.pass.new.line c.args.host.now c.pass.new.host c.requires.may c.pass.ensures.passes
+
+pub returns-in-Err-came-clause-stops : goal.returns-in-Err-came-clause-stops
+returns-in-Err-came-clause-stops g c words =
+    let p = c.in-Ok-Packet in
+    let grows = rw p.field-0-is at p.ensures.ok in
+    stops_early c.args.busy (g.G.SealCheck.accepted c.args.seal.now) (g.G.Seal.tag_of c.args.seal.now) c.args.desk.now.setting.now (stand c.args.seekers.now c.args.line.now words c.args.host.now _) _
+    (grows_weaker _ _ _ _ grows (λ es is. inr (p.from, take p.len c.recv.new.buf, c.args.until, p.at, is)))
+
+pub returns-in-Err-came-clause-strays : goal.returns-in-Err-came-clause-strays
+returns-in-Err-came-clause-strays g c is words =
+    let p = c.in-Ok-Packet in
+    let grows = rw p.field-0-is at p.ensures.ok in
+    ends_by_foreign c.args.busy (g.G.SealCheck.accepted c.args.seal.now) (g.G.Seal.tag_of c.args.seal.now) c.args.desk.now.setting.now p.from (take p.len c.recv.new.buf) c.args.until p.at (stand c.args.seekers.now c.args.line.now words c.args.host.now _) _ c.requires.may (c.in-Err-came.ensures.strays (err_moved c.in-Err-came.fault Strays is)) grows
+
+pub returns-in-Err-clause-stops : goal.returns-in-Err-clause-stops
+returns-in-Err-clause-stops g c words =
+    stops_early c.args.busy (g.G.SealCheck.accepted c.args.seal.now) (g.G.Seal.tag_of c.args.seal.now) c.args.desk.now.setting.now (stand c.args.seekers.now c.args.line.now words c.args.host.now _) _ (grows_weaker _ _ _ _ c.in-Err.ensures.err (λ es is. inl is))

@@ -1,0 +1,10 @@
+use Rattle.std.proofs.Common.{◌≡◌, take}
+use Rattle.std.specs.List.{AllByRecursion}
+use Rattle.look_many.specs.inner.ManySteps.{IsNotFor}
+use Rattle.look_many.proofs.take.take.Given as goal
+
+abbrev pub invariant-loop-i : goal.invariant-loop-i
+invariant-loop-i g l = record {
+  same : l.seekers ≡ l.fn.seekers;
+  none : AllByRecursion (λ k. IsNotFor (g.G.SealCheck.accepted l.seal) l.from l.bytes k) (take l.i l.fn.seekers);
+}

@@ -1,0 +1,3 @@
+-- What the steps of the driver owe and keep, which no promise of the lookups is made of.
+pub mod Crowd
+pub mod ManySteps

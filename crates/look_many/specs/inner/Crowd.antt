@@ -1,0 +1,140 @@
+-- Where several lookups stand between two calls on their link: what the events showed, what each keeps, and what the node that
+-- serves has done.
+use Rattle.std.specs.Prelude.{◌≡◌, ℕ, ◌+◌, ◌-◌, ◌<◌, List, [], ◌∷◌, ◌++◌, map, Option, None, Bool, cond}
+use Rattle.std.specs.List.{AllZip, flat_map}
+use Rattle.kad_base.specs.declared.types.Contact.{Contact}
+use Rattle.kad_base.specs.declared.types.Event.{Event}
+use Rattle.kad_base.specs.declared.types.Event.TheVariants.{Now}
+use Rattle.kad_base.specs.Outside.{Grows}
+use Rattle.id_puzzles.specs.Drawn.{WordsState}
+use Rattle.query_book.specs.declared.Query.{Query}
+use Rattle.claim_book.specs.declared.types.Entry.{Entry}
+use Rattle.claim_book.specs.Journal.{may_ask}
+use Rattle.contact_table.specs.declared.calls.TableCall.TheVariants.{Failed}
+use Rattle.contact_table.specs.declared.calls.TableReply.{TableReply}
+use Rattle.lookup_core.specs.LookupSteps.{as_open, Holds}
+use Rattle.lookup_core.specs.Matching.{OpenQuery}
+use Rattle.lookup_core.specs.Sealed.{Accepts}
+use Rattle.node_serve.specs.declared.setting.ServeSetting.{ServeSetting}
+use Rattle.node_serve.specs.Calls.{Did, on_table}
+use Rattle.node_serve.specs.Sealing.{Tags}
+use Rattle.serve_crew.specs.Hands.{Hands, Grew}
+use Rattle.look_many.specs.declared.seeker.Seeker.{Seeker}
+use Rattle.look_many.specs.declared.seeker.Line.{Line}
+use Rattle.look_many.specs.Mine.{Mine, Whose, driven}
+use Rattle.look_many.specs.Many.{Frame, Owed, Shown, Reading, and_then, GivesFrom, begun}
+
+-- ---- each lookup
+
+-- a lookup as events are read for it
+abbrev pub whose : Seeker → Whose
+whose k = record { setting = k.lookup.book.setting; quest = k.quest; journal = k.lookup.book.journal }
+
+-- its open queries, with their paths
+abbrev pub opens : Seeker → List OpenQuery
+opens k = map (as_open k.lookup.book.journal) k.lookup.queries
+
+-- its open contacts are those of its open queries, in order
+abbrev pub Holding : Seeker → Type 0
+Holding k = Holds k.lookup
+
+-- none of its paths may ask
+abbrev pub NoneAsks : Seeker → Type 0
+NoneAsks k = (p : ℕ) → p < k.lookup.book.setting.paths → may_ask k.lookup.book.setting p k.lookup.book.journal ≡ None
+
+-- a longer journal, and else the same
+pub record Longer (old new : Seeker) : Type 0 where
+  pub more : List Entry
+  pub quest : new.quest ≡ old.quest
+  pub setting : new.lookup.book.setting ≡ old.lookup.book.setting
+  pub journal : new.lookup.book.journal ≡ old.lookup.book.journal ++ more
+
+-- the open queries of all
+abbrev pub queries_of : List Seeker → List Query
+queries_of ks = flat_map (λ k. k.lookup.queries) ks
+
+-- the lookup keeps of the events just this
+pub record KeepsMine (k : Seeker) (m : Mine) : Type 0 where
+  pub queries : m.queries ≡ opens k
+  pub given : m.given ≡ driven k.lookup.book.journal
+
+-- ---- all of them
+
+-- and who drives them just this; `left` is how many receives are still wanted
+pub record KeepsLine (f : Frame) (line : Line) (place : ℕ) (owed : Option Owed) (s : Shown) : Type 0 where
+  pub moment : s.moment ≡ line.moment
+  pub sends : f.place + s.sends ≡ place
+  pub foreign : s.foreign ≡ line.foreign
+  pub receives : s.receives ≡ line.receives
+  pub left : f.wanted - s.made ≡ line.left
+  pub owed_is : s.owed ≡ owed
+
+-- while lookups are open no receive is made for others, so their journals may grow
+abbrev pub framed : Bool → Frame → Frame
+framed busy f = record f { wanted = cond busy 0 f.wanted }
+
+-- the events show where all lookups stand, and which reply is owed; `busy` while lookups may ask or wait
+pub record ManyShow (busy : Bool) (f : Frame) (count : ℕ) (ks : List Seeker) (line : Line) (place : ℕ) (owed : Option Owed) (read : Reading) (events : List Event) : Type 0 where
+  pub at : ℕ
+  pub rest : List Event
+  pub first : events ≡ Now at ∷ rest
+  pub end : Shown
+  pub walk : GivesFrom (framed busy f) (map whose ks) (begun count at) rest end read
+  pub keeps_line : KeepsLine f line place owed end
+  pub keeps_each : AllZip KeepsMine ks end.each
+
+-- ---- the node that serves
+
+-- a call for a foreign datagram, or one that tells the table whom a lookup lost, each with its reply
+pub data Errand : Type 0 where
+  answering : Did → Errand
+  losing : Contact → TableReply → Errand
+
+abbrev pub did_of : Errand → Did
+did_of (answering did) = did
+did_of (losing c reply) = on_table (Failed c) reply
+
+abbrev pub answer_in : Errand → List Did
+answer_in (answering did) = did ∷ []
+answer_in (losing c reply) = []
+
+abbrev pub loss_in : Errand → List Contact
+loss_in (answering did) = []
+loss_in (losing c reply) = c ∷ []
+
+-- its calls since were just these, in some order: those of the foreign datagrams, and one for each contact that was lost
+pub record Ran (old new : Hands) (did : List Did) (lost : List Contact) : Type 0 where
+  pub errands : List Errand
+  pub grew : Grew old new (map did_of errands)
+  pub answers : flat_map answer_in errands ≡ did
+  pub losses : flat_map loss_in errands ≡ lost
+
+-- ---- going on
+
+-- where all stand: the lookups, their link, the words, the node that serves and what was told
+pub record Stand : Type 0 where
+  pub seekers : List Seeker
+  pub line : Line
+  pub words : WordsState
+  pub host : Hands
+  pub told : Option (List Event)
+
+abbrev pub stand : List Seeker → Line → WordsState → Hands → Option (List Event) → Stand
+stand seekers line words host told = record { seekers = seekers; line = line; words = words; host = host; told = told }
+
+-- what the lookups share is this
+pub record IsFrame (accepts : Accepts) (tags : Tags) (server : ServeSetting) (seed : List ℕ) (f : Frame) : Type 0 where
+  pub accepts_is : f.accepts ≡ accepts
+  pub tags_is : f.tags ≡ tags
+  pub server_is : f.server ≡ server
+  pub seed_is : f.seed ≡ seed
+
+-- Whatever the events showed since any beginning they go on to show; what is read of them grew by `more`, and so did the calls
+-- of the node that serves.
+pub record Advances (busy : Bool) (accepts : Accepts) (tags : Tags) (server : ServeSetting) (old new : Stand) : Type 0 where
+  pub more : Reading
+  pub goes : (f : Frame) (count : ℕ) (read : Reading) (began : Option (List Event)) → IsFrame accepts tags server old.words.seed f
+      → Grows began old.told (λ events. ManyShow busy f count old.seekers old.line old.words.place None read events)
+      → Grows began new.told (λ events. ManyShow busy f count new.seekers new.line new.words.place None (and_then read more) events)
+  pub ran : Ran old.host new.host more.did more.lost
+  pub seed : new.words.seed ≡ old.words.seed

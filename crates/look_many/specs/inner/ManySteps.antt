@@ -1,0 +1,207 @@
+-- What each step of the driver owes.
+use Rattle.std.specs.Prelude.{◌≡◌, ◌≢◌, ◌⊎◌, ℕ, ◌+◌, ◌-◌, ◌^◌, ◌<◌, ◌≤◌, List, [], ◌∷◌, ◌++◌, length, map, filter, take, min, Option, Some, None, Bool, true, false}
+use Rattle.std.specs.List.{AllByRecursion, AllZip, flat_map}
+use Rattle.kad_base.specs.declared.types.Addr.{Addr}
+use Rattle.kad_base.specs.declared.types.Contact.{Contact}
+use Rattle.kad_base.specs.declared.types.Event.{Event}
+use Rattle.kad_base.specs.declared.types.Event.TheVariants.{Got}
+use Rattle.kad_base.specs.Limits.{max_strays, max_round_receives}
+use Rattle.kad_base.specs.Outside.{Grows}
+use Rattle.query_book.specs.declared.Query.{Query}
+use Rattle.claim_book.specs.RunOut.{RunOut}
+use Rattle.lookup_core.specs.declared.on_reply.Answered.{Answered}
+use Rattle.lookup_core.specs.LookupSteps.{LosesOverdue, IsMatch, RepliesToNone}
+use Rattle.lookup_core.specs.Sealed.{Accepts}
+use Rattle.lookup_core.specs.Timeouts.{is_overdue}
+use Rattle.node_serve.specs.declared.setting.ServeSetting.{ServeSetting}
+use Rattle.node_serve.specs.Calls.{Did}
+use Rattle.node_serve.specs.Receives.{waits_until, tried}
+use Rattle.node_serve.specs.Sealing.{Tags}
+use Rattle.serve_crew.specs.Hands.{Hands, Grew, SameHands}
+use Rattle.look_many.specs.declared.host.Desk.{Desk}
+use Rattle.look_many.specs.declared.seeker.Seeker.{Seeker}
+use Rattle.look_many.specs.declared.seeker.Line.{Line}
+use Rattle.look_many.specs.Many.{Frame, Owed, Reading, Owes, IsEarliest, WaitsUntil, IsForeign, goes_on, open_of}
+use Rattle.look_many.specs.inner.Crowd.{whose, opens, Holding, NoneAsks, Longer, queries_of, ManyShow, Ran, Stand, IsFrame}
+
+-- ---- a datagram
+
+-- the lookup matches it
+pub record IsMatchFor (accepts : Accepts) (from : Addr) (bytes : List ℕ) (old new : Seeker) : Type 0 where
+  pub heard : List Answered
+  pub matches : IsMatch old.quest accepts from bytes old.lookup new.lookup heard
+  pub quest : new.quest ≡ old.quest
+  pub holds : Holding new
+
+-- it replies to none of the lookup's open queries
+abbrev pub IsNotFor : Accepts → Addr → List ℕ → Seeker → Type 0
+IsNotFor accepts from bytes k = RepliesToNone k.quest accepts from bytes k.lookup
+
+-- whether it was for the lookup
+abbrev pub TakesOne : Accepts → Addr → List ℕ → Seeker → Seeker → Bool → Type 0
+TakesOne accepts from bytes old new true = IsMatchFor accepts from bytes old new
+TakesOne accepts from bytes old new false = IsNotFor accepts from bytes old × (new ≡ old)
+
+-- the first that it replies to takes it, and all others are as they were
+pub record TakesFirst (accepts : Accepts) (from : Addr) (bytes : List ℕ) (old new : List Seeker) : Type 0 where
+  pub before : List Seeker
+  pub one : Seeker
+  pub behind : List Seeker
+  pub after : Seeker
+  pub were : old ≡ before ++ one ∷ behind
+  pub none_before : AllByRecursion (λ k. IsNotFor accepts from bytes k) before
+  pub takes : IsMatchFor accepts from bytes one after
+  pub are : new ≡ before ++ after ∷ behind
+
+-- or it is for none, and nothing changed
+abbrev pub Takes : Accepts → Addr → List ℕ → List Seeker → List Seeker → Bool → Type 0
+Takes accepts from bytes old new true = TakesFirst accepts from bytes old new
+Takes accepts from bytes old new false = AllByRecursion (λ k. IsNotFor accepts from bytes k) old × (new ≡ old)
+
+-- ---- what is overdue
+
+-- those overdue at the moment are lost, oldest first
+pub record Expires (at : ℕ) (old new : Seeker) : Type 0 where
+  pub loses : LosesOverdue at old.lookup new.lookup
+  pub quest : new.quest ≡ old.quest
+  pub holds : Holding new
+
+-- whom the lookup loses
+abbrev pub lapsed : ℕ → Seeker → List Contact
+lapsed at k = map (λ q. q.contact) (filter (is_overdue at) (opens k))
+
+-- whom all lose, one after another
+abbrev pub all_lapsed : ℕ → List Seeker → List Contact
+all_lapsed at ks = flat_map (lapsed at) ks
+
+-- ---- how long a receive waits
+
+-- the earlier of two moments that may be missing
+abbrev pub sooner_of : Option ℕ → Option ℕ → Option ℕ
+sooner_of None b = b
+sooner_of (Some a) None = Some a
+sooner_of (Some a) (Some b) = Some (min a b)
+
+-- the earliest deadline of the queries, where there is one
+abbrev pub IsSoonest : Option ℕ → List Query → Type 0
+IsSoonest None qs = qs ≡ []
+IsSoonest (Some d) qs = IsEarliest (map (λ q. q.deadline) qs) d
+
+-- the lookup asks and waits for nothing more
+pub record IsRunOut (k : Seeker) : Type 0 where
+  pub run_out : (p : ℕ) → p < k.lookup.book.setting.paths → RunOut k.lookup.book.setting p k.lookup.book.journal
+
+-- by whether some query is open
+pub data WaitsFor (ks : List Seeker) (line : Line) (until : ℕ) (busy : Bool) : Type 0 where
+  for_replies : busy ≡ true → queries_of ks ≢ [] → WaitsUntil line.receives line.moment (map (λ q. q.deadline) (queries_of ks)) until → line.foreign < max_strays → WaitsFor ks line until busy
+  for_others : busy ≡ false → queries_of ks ≡ [] → AllByRecursion IsRunOut ks → 0 < line.left → until ≡ waits_until line.moment → WaitsFor ks line until busy
+
+-- a receive may be made until then
+pub record MayReceive (ks : List Seeker) (line : Line) (until : ℕ) (busy : Bool) : Type 0 where
+  pub holds : AllByRecursion Holding ks
+  pub waits : WaitsFor ks line until busy
+  pub in_turn : line.receives ≡ 0 → AllByRecursion NoneAsks ks
+  pub few_receives : line.receives < max_round_receives
+  pub room : line.foreign + 1 < 2 ^ 32
+
+-- ---- a receive
+
+-- one foreign datagram more; while a query is open it isn't the last that is taken
+abbrev pub Counts : Bool → Line → Line → Type 0
+Counts busy old new = (new ≡ record old { foreign = old.foreign + 1 }) × (busy ≡ true → new.foreign < max_strays)
+
+-- what a length says is owed: so many bytes, to the source
+abbrev pub owed_in : Option ℕ → Addr → List ℕ → Option Owed
+owed_in None from out = None
+owed_in (Some n) from out = Some (record { to = from; reply = take n out })
+
+-- a foreign datagram was answered
+pub record Answers (tags : Tags) (server : ServeSetting) (from : Addr) (bytes : List ℕ) (at : ℕ) (owed : Option Owed) (old new : Hands) : Type 0 where
+  pub did : List Did
+  pub owes : Owes tags server from bytes at did owed
+  pub grew : Grew old new did
+  pub same : SameHands old new
+
+-- the datagram was for a lookup, or is foreign: then it is counted and answered
+pub data Handles (accepts : Accepts) (tags : Tags) (server : ServeSetting) (busy : Bool) (from : Addr) (bytes : List ℕ) (at : ℕ) (old new : List Seeker) (line line' : Line) (host host' : Hands) (owed : Option Owed) : Type 0 where
+  is_taken : TakesFirst accepts from bytes old new → line' ≡ line → host' ≡ host → owed ≡ None → Handles accepts tags server busy from bytes at old new line line' host host' owed
+  is_foreign : AllByRecursion (λ k. IsNotFor accepts from bytes k) old → new ≡ old → Counts busy line line' → Answers tags server from bytes at owed host host'
+      → Handles accepts tags server busy from bytes at old new line line' host host' owed
+
+-- a datagram came at that moment: it was handled, and then all lost who was overdue
+pub record Comes (accepts : Accepts) (tags : Tags) (server : ServeSetting) (busy : Bool) (from : Addr) (bytes : List ℕ) (at : ℕ) (old new : List Seeker) (line line' : Line) (host host' : Hands) (owed : Option Owed) : Type 0 where
+  pub mid : List Seeker
+  pub counted : Line
+  pub between : Hands
+  pub handles : Handles accepts tags server busy from bytes at old mid line counted host between owed
+  pub expires : AllZip (Expires at) mid new
+  pub ran : Ran between host' [] (all_lapsed at mid)
+  pub line_is : line' ≡ record { moment = at; receives = goes_on line.receives (length (queries_of new)); foreign = counted.foreign; left = line.left - 1 }
+
+-- no datagram came: all lost who was overdue, and the round is over
+pub record Passes (at : ℕ) (old new : List Seeker) (line line' : Line) (host host' : Hands) : Type 0 where
+  pub expires : AllZip (Expires at) old new
+  pub ran : Ran host host' [] (all_lapsed at old)
+  pub line_is : line' ≡ record { moment = at; receives = 0; foreign = line.foreign; left = line.left - 1 }
+
+-- what is owed was sent, or the link refused it
+abbrev pub Pays : Option Owed → List Event → Type 0
+Pays None events = events ≡ []
+Pays (Some owed) events = (was_sent : Bool) × (events ≡ tried was_sent owed.to owed.reply ∷ [])
+
+-- the worker's passes are of the turns of the desk, in the role of the driver
+pub record IsOfDesk (desk : Desk) (host : Hands) : Type 0 where
+  pub driver : host.table.role ≡ 0
+  pub table : host.table.turn ≡ desk.table.now.id
+  pub peers : host.peers.turn ≡ desk.peers.now.id
+  pub items : host.items.turn ≡ desk.items.now.id
+
+-- the last foreign datagram that is taken while a query is open
+pub record IsLastForeign (accepts : Accepts) (from : Addr) (bytes : List ℕ) (busy : Bool) (ks : List Seeker) (line : Line) : Type 0 where
+  pub none : AllByRecursion (λ k. IsNotFor accepts from bytes k) ks
+  pub is_open : busy ≡ true
+  pub last : line.foreign + 1 ≡ max_strays
+
+-- what a receive leaves, beside what it told
+pub record Received (busy : Bool) (old new : List Seeker) (line line' : Line) : Type 0 where
+  pub holds : AllByRecursion Holding new
+  pub longer : AllZip Longer old new
+  pub round : (line'.receives ≡ 0) ⊎ (line'.receives ≡ line.receives + 1)
+  pub few_receives : line'.receives < max_round_receives
+  pub still : line'.receives ≢ 0 → queries_of new ≢ []
+  pub left : line'.left ≡ line.left - 1
+  pub foreign : line'.foreign ≤ line.foreign + 1
+  pub few_foreign : busy ≡ true → line'.foreign < max_strays
+
+-- ---- ending early
+
+-- the events, without the last one where that is a datagram, show where all lookups stood
+pub record ShowsEarly (busy : Bool) (f : Frame) (count : ℕ) (old : Stand) (read : Reading) (events : List Event) : Type 0 where
+  pub front : List Event
+  pub shows : ManyShow busy f count old.seekers old.line old.words.place None read front
+  pub whole : (events ≡ front) ⊎ ((from : Addr) × (bytes : List ℕ) × (until : ℕ) × (at : ℕ) × (events ≡ front ++ Got from bytes until at ∷ []))
+
+-- where a step ends all early: what the events showed before it, and perhaps one datagram more
+abbrev pub Stops : Bool → Accepts → Tags → ServeSetting → Stand → Option (List Event) → Type 0
+Stops busy accepts tags server old told' =
+    (f : Frame) (count : ℕ) (read : Reading) (began : Option (List Event)) → IsFrame accepts tags server old.words.seed f
+    → Grows began old.told (λ events. ManyShow busy f count old.seekers old.line old.words.place None read events) → Grows began told' (λ events. ShowsEarly busy f count old read events)
+
+-- the events end with the foreign datagram of this number, before which a query was open
+pub record ShowsForeign (busy : Bool) (f : Frame) (count : ℕ) (old : Stand) (read : Reading) (number : ℕ) (events : List Event) : Type 0 where
+  pub front : List Event
+  pub shows : ManyShow busy f count old.seekers old.line old.words.place None read front
+  pub from : Addr
+  pub bytes : List ℕ
+  pub until : ℕ
+  pub at : ℕ
+  pub last : events ≡ front ++ Got from bytes until at ∷ []
+  pub some_open : open_of shows.end.each ≢ []
+  pub foreign : IsForeign f.accepts from bytes (map whose old.seekers) shows.end.each
+  pub number_is : shows.end.foreign + 1 ≡ number
+
+-- where a step ends all by the last foreign datagram that is taken
+abbrev pub EndsByForeign : Bool → Accepts → Tags → ServeSetting → Stand → Option (List Event) → Type 0
+EndsByForeign busy accepts tags server old told' =
+    (f : Frame) (count : ℕ) (read : Reading) (began : Option (List Event)) → IsFrame accepts tags server old.words.seed f
+    → Grows began old.told (λ events. ManyShow busy f count old.seekers old.line old.words.place None read events) → Grows began told' (λ events. ShowsForeign busy f count old read max_strays events)

@@ -1,0 +1,11 @@
+//! Up to sixteen lookups at the same time on one link, while the node answers queries: whose a datagram is, who is owed a
+//! reply, and whom the time has passed for. It opens no socket and reads no clock.
+#![tactic(auto)]
+
+mod host;
+mod receive;
+mod seeker;
+mod take;
+mod wait;
+
+pub use seeker::ManyFault;
