@@ -5,3 +5,6 @@ pub mod Waiting
 pub mod Hosting
 pub mod Walking
 pub mod Telling
+pub mod Rounding
+pub mod Asking
+pub mod ServingOn

@@ -1,6 +1,6 @@
 -- One receive of all lookups: what its event gives goes with what they keep.
 use Rattle.std.proofs.Common.{◌≡◌, ◌≢◌, ◌⊎◌, ℕ, zero, suc, ◌+◌, ◌-◌, ◌<◌, ◌≤◌, List, [], ◌∷◌, ◌++◌, length, Option, Some, None, Bool, true, false, cond, inl, inr, refl, sym, ap, subst, ◌∙◌, arith, Result, Err}
-use Rattle.std.specs.Prelude.{map, nat_lt, IsErrOf}
+use Rattle.std.specs.Prelude.{map, filter, nat_lt, IsErrOf}
 use Rattle.std.specs.List.{AllByRecursion, AllZip, flat_map}
 use Rattle.std.proofs.lemmas.Bool.Decides.{nat_tests}
 use Rattle.std.proofs.lemmas.List.{append-nil, append_assoc, length-map, nil_from_length}
@@ -241,10 +241,10 @@ module _ (accepts : Accepts) (tags : Tags) (server : ServeSetting) (busy : Bool)
 
 -- ---- its reply
 
-same_longer : (k : Seeker) → Longer k k
+pub same_longer : (k : Seeker) → Longer k k
 same_longer k = record { more = []; quest = refl; setting = refl; journal = sym (append-nil k.lookup.book.journal) }
 
-all_longer : (ks : List Seeker) → AllZip Longer ks ks
+pub all_longer : (ks : List Seeker) → AllZip Longer ks ks
 all_longer [] = tt
 all_longer (k ∷ ks) = (same_longer k, all_longer ks)
 
@@ -377,6 +377,19 @@ handled_longer accepts tags server busy from bytes at old mid line counted host 
     subst (λ l. AllZip Longer l mid) (sym t.were) (subst (AllZip Longer (t.before ++ t.one ∷ t.behind)) (sym t.are) (taken_longer accepts from bytes t.before t.behind t.one t.after t.takes))
 handled_longer accepts tags server busy from bytes at old mid line counted host between owed (is_foreign none m counts answers) = subst (AllZip Longer old) (sym m) (all_longer old)
 
+-- where no query is open the datagram changes no lookup
+handled_idle : (accepts : Accepts) (tags : Tags) (server : ServeSetting) (busy : Bool) (from : Addr) (bytes : List ℕ) (at : ℕ) (old mid : List Seeker) (line counted : Line) (host between : Hands) (owed : Option Owed) → Handles accepts tags server busy from bytes at old mid line counted host between owed → queries_of old ≡ [] → mid ≡ old
+handled_idle accepts tags server busy from bytes at old mid line counted host between owed (is_taken t is b o) none = absurd (none_taken accepts from bytes old mid t none)
+handled_idle accepts tags server busy from bytes at old mid line counted host between owed (is_foreign none m counts answers) idle = m
+
+-- and none is open afterwards
+all_closed : (at : ℕ) (olds news : List Seeker) → AllZip (Expires at) olds news → queries_of olds ≡ [] → queries_of news ≡ []
+all_closed at [] [] e none = refl
+all_closed at [] (n ∷ news) e none = absurd e
+all_closed at (o ∷ olds) [] e none = absurd e
+all_closed at (o ∷ olds) (n ∷ news) e none =
+    ap (λ l. l ++ queries_of news) (e.0.loses.queries ∙ ap (filter (λ (q : Query). nat_lt at q.deadline)) (none_front o.lookup.queries (queries_of olds) none)) ∙ all_closed at olds news e.1 (none_back o.lookup.queries (queries_of olds) none)
+
 pub got_received : (accepts : Accepts) (tags : Tags) (server : ServeSetting) (busy : Bool) (from : Addr) (bytes : List ℕ) (until at : ℕ) (old new : List Seeker) (line line' : Line) (host host' : Hands) (owed : Option Owed) → MayReceive old line until busy → Comes accepts tags server busy from bytes at old new line line' host host' owed → Received busy old new line line'
 got_received accepts tags server busy from bytes until at old new line line' host host' owed may c =
     let n = line.receives in
@@ -385,6 +398,8 @@ got_received accepts tags server busy from bytes until at old new line line' hos
     let most = counted.most in
     let receives : line'.receives ≡ goes_on n k = ap (λ (l : Line). l.receives) c.line_is in
     let same_foreign : line'.foreign ≡ c.counted.foreign = ap (λ (l : Line). l.foreign) c.line_is in
+    let expires_idle : busy ≡ false → AllZip (Expires at) old new =
+    (λ idle. subst (λ l. AllZip (Expires at) l new) (handled_idle accepts tags server busy from bytes at old c.mid line c.counted host c.between owed c.handles (none_open old line until busy may.waits idle)) c.expires) in
     record {
       holds = expired_hold at c.mid new c.expires;
       longer = mid_longer at old c.mid new (handled_longer accepts tags server busy from bytes at old c.mid line c.counted host c.between owed c.handles) c.expires;
@@ -394,6 +409,8 @@ got_received accepts tags server busy from bytes until at old new line line' hos
       left = ap (λ (l : Line). l.left) c.line_is;
       foreign = omega (arith, same_foreign, most);
       few_foreign = λ is_busy. subst (λ m. m < max_strays) (sym same_foreign) (counted.few is_busy);
+      same = λ idle. all_still at old new (expires_idle idle) (none_open old line until busy may.waits idle);
+      none_open = λ idle. all_closed at old new (expires_idle idle) (none_open old line until busy may.waits idle);
     }
 
 pub quiet_received : (busy : Bool) (until at : ℕ) (old new : List Seeker) (line line' : Line) (host host' : Hands) → MayReceive old line until busy → Passes at old new line line' host host' → Received busy old new line line'
@@ -409,6 +426,8 @@ quiet_received busy until at old new line line' host host' may c =
       left = ap (λ (l : Line). l.left) c.line_is;
       foreign = omega (arith, same_foreign);
       few_foreign = λ is_busy. subst (λ m. m < max_strays) (sym same_foreign) (few_while old line until busy may.waits is_busy);
+      same = λ idle. all_still at old new c.expires (none_open old line until busy may.waits idle);
+      none_open = λ idle. all_closed at old new c.expires (none_open old line until busy may.waits idle);
     }
 
 -- ---- ended early

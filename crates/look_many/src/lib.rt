@@ -2,9 +2,12 @@
 //! reply, and whom the time has passed for. It opens no socket and reads no clock.
 #![tactic(auto)]
 
+mod ask;
 mod host;
 mod receive;
+mod round;
 mod seeker;
+mod serving;
 mod take;
 mod wait;
 

@@ -197,6 +197,7 @@ pub(crate) fn receive_until<R: Wait, L: Link, G: Seal + SealCheck>(
     ensures strays { IsErrOf result ManyFault.Strays → (words : WordsState)
         → EndsByForeign busy (G.accepted seal.now) (G.tag_of seal.now) desk.now.setting.now
         (stand seekers.old line.old words host.old (L.told link.old)) (L.told link.new) }
+    ensures busy { IsErrOf result ManyFault.Strays → busy ≡ true }
     ensures link { IsErrOf result ManyFault.LinkFault
         → Rose (L.recv_faults link.old) (L.recv_faults link.new) }
     ensures recv_faults { L.recv_faults link.old ≤ L.recv_faults link.new }

@@ -4,15 +4,25 @@ use Rattle.std.specs.List.{AllByRecursion, AllZip, flat_map}
 use Rattle.kad_base.specs.declared.types.Addr.{Addr}
 use Rattle.kad_base.specs.declared.types.Contact.{Contact}
 use Rattle.kad_base.specs.declared.types.Event.{Event}
-use Rattle.kad_base.specs.declared.types.Event.TheVariants.{Got}
+use Rattle.kad_base.specs.declared.types.Event.TheVariants.{Got, Sent, Unsent}
 use Rattle.kad_base.specs.Limits.{max_strays, max_round_receives}
 use Rattle.kad_base.specs.Outside.{Grows}
+use Rattle.kad_base.specs.Words.{word}
+use Rattle.kad_krpc.specs.Form.{form}
+use Rattle.id_puzzles.specs.Drawn.{WordsState}
 use Rattle.query_book.specs.declared.Query.{Query}
+use Rattle.claim_book.specs.declared.types.Cause.TheVariants.{SendFault}
+use Rattle.claim_book.specs.declared.types.Entry.TheVariants.{Lost}
+use Rattle.claim_book.specs.Calls.{asker}
 use Rattle.claim_book.specs.RunOut.{RunOut}
+use Rattle.claim_book.specs.State.{added}
+use Rattle.lookup_core.specs.declared.ask.Asked.{Asked}
+use Rattle.lookup_core.specs.declared.state.Lookup.{Lookup}
+use Rattle.lookup_core.specs.Quest.{query_message}
 use Rattle.lookup_core.specs.declared.on_reply.Answered.{Answered}
-use Rattle.lookup_core.specs.LookupSteps.{LosesOverdue, IsMatch, RepliesToNone}
+use Rattle.lookup_core.specs.LookupSteps.{AsksNext, LosesOverdue, IsMatch, RepliesToNone}
 use Rattle.lookup_core.specs.Sealed.{Accepts}
-use Rattle.lookup_core.specs.Timeouts.{is_overdue}
+use Rattle.lookup_core.specs.Timeouts.{deadline_of, is_overdue}
 use Rattle.node_serve.specs.declared.setting.ServeSetting.{ServeSetting}
 use Rattle.node_serve.specs.Calls.{Did}
 use Rattle.node_serve.specs.Receives.{waits_until, tried}
@@ -22,7 +32,7 @@ use Rattle.look_many.specs.declared.host.Desk.{Desk}
 use Rattle.look_many.specs.declared.seeker.Seeker.{Seeker}
 use Rattle.look_many.specs.declared.seeker.Line.{Line}
 use Rattle.look_many.specs.Many.{Frame, Owed, Reading, Owes, IsEarliest, WaitsUntil, IsForeign, goes_on, open_of}
-use Rattle.look_many.specs.inner.Crowd.{whose, opens, Holding, NoneAsks, Longer, queries_of, ManyShow, Ran, Stand, IsFrame}
+use Rattle.look_many.specs.inner.Crowd.{whose, opens, Holding, NoneAsks, Longer, queries_of, ManyShow, Ran, Stand, IsFrame, Advances}
 
 -- ---- a datagram
 
@@ -172,6 +182,8 @@ pub record Received (busy : Bool) (old new : List Seeker) (line line' : Line) : 
   pub left : line'.left ≡ line.left - 1
   pub foreign : line'.foreign ≤ line.foreign + 1
   pub few_foreign : busy ≡ true → line'.foreign < max_strays
+  pub same : busy ≡ false → map whose new ≡ map whose old
+  pub none_open : busy ≡ false → queries_of new ≡ []
 
 -- ---- ending early
 
@@ -205,3 +217,53 @@ abbrev pub EndsByForeign : Bool → Accepts → Tags → ServeSetting → Stand 
 EndsByForeign busy accepts tags server old told' =
     (f : Frame) (count : ℕ) (read : Reading) (began : Option (List Event)) → IsFrame accepts tags server old.words.seed f
     → Grows began old.told (λ events. ManyShow busy f count old.seekers old.line old.words.place None read events) → Grows began told' (λ events. ShowsForeign busy f count old read max_strays events)
+
+-- where the lookups stand when a step ends all early: the last stand that the events went on to show
+pub record EndsEarly (busy : Bool) (accepts : Accepts) (tags : Tags) (server : ServeSetting) (old : Stand) (told' : Option (List Event)) : Type 0 where
+  pub last : Stand
+  pub advances : Advances busy accepts tags server old last
+  pub stops : Stops busy accepts tags server last told'
+
+-- the same where the last foreign datagram that is taken ends all
+pub record EndsLast (accepts : Accepts) (tags : Tags) (server : ServeSetting) (old : Stand) (told' : Option (List Event)) : Type 0 where
+  pub last : Stand
+  pub advances : Advances true accepts tags server old last
+  pub ends : EndsByForeign true accepts tags server last told'
+
+-- ---- rounds
+
+-- a receive may be made that waits for a reply
+pub record MayAwait (ks : List Seeker) (line : Line) : Type 0 where
+  pub holds : AllByRecursion Holding ks
+  pub some_open : queries_of ks ≢ []
+  pub in_turn : line.receives ≡ 0 → AllByRecursion NoneAsks ks
+  pub few_receives : line.receives < max_round_receives
+  pub few_foreign : line.foreign < max_strays
+
+-- a receive may be made that waits for others than the lookups, which are over
+pub record MayServe (ks : List Seeker) (line : Line) : Type 0 where
+  pub holds : AllByRecursion Holding ks
+  pub none_open : queries_of ks ≡ []
+  pub over : AllByRecursion IsRunOut ks
+  pub none_asks : AllByRecursion NoneAsks ks
+  pub few_receives : line.receives < max_round_receives
+  pub room : line.foreign + line.left < 2 ^ 32
+
+-- what the receives of a round leave, beside what they told
+pub record ReceivedAll (old new : List Seeker) (line line' : Line) : Type 0 where
+  pub holds : AllByRecursion Holding new
+  pub longer : AllZip Longer old new
+  pub left : line'.left ≤ line.left
+  pub few_foreign : line'.foreign < max_strays
+
+-- ---- asking
+
+-- the bytes of the lookup's query
+abbrev pub query_bytes : Seeker → ℕ → List ℕ
+query_bytes k tx = form (query_message k.quest tx)
+
+-- what the path may ask is open, under the next word; where it could not be sent its query is closed again, and it is lost
+pub data AsksOver (moment : ℕ) (words : WordsState) (path : ℕ) (old new : Seeker) (told told' : Option (List Event)) : Type 0 where
+  is_sent : (asked : Asked) → AsksNext (word words.seed words.place) (deadline_of moment old.quest.timeout) path old.lookup new.lookup asked → Grows told told' (λ es. es ≡ Sent asked.contact.addr (query_bytes old asked.tx) ∷ []) → AsksOver moment words path old new told told'
+  is_unsent : (asked : Asked) (mid : Lookup) → AsksNext (word words.seed words.place) (deadline_of moment old.quest.timeout) path old.lookup mid asked → new.lookup.queries ≡ old.lookup.queries
+      → new.lookup.book ≡ added mid.book (Lost (asker asked.contact mid.book.journal) asked.contact SendFault) → Grows told told' (λ es. es ≡ Unsent asked.contact.addr (query_bytes old asked.tx) ∷ []) → AsksOver moment words path old new told told'

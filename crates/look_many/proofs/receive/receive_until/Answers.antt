@@ -14,7 +14,7 @@ returns-in-Ok-clause-goes g c words =
     let tags = g.G.Seal.tag_of c.args.seal.now in
     let owed = owed_in c.in-Ok.reply p.from c.came.new.out in
     let grows = rw p.field-0-is at p.ensures.ok in
-    got_advances accepts tags c.args.desk.now.setting.now c.args.busy p.from bytes c.args.until p.at c.args.seekers.now c.came.new.seekers c.args.line.now c.came.new.line c.args.host.now c.came.new.host owed words _ _ _
+    got_advances accepts tags c.args.desk.now.setting.now c.args.busy p.from bytes c.args.until p.at c.args.seekers.now c.came.new.seekers c.args.line.now c.came.new.line c.args.host.now c.came.new.host owed words (g.L.Link.told c.args.link.now) (g.L.Link.told c.recv.new.self) (g.L.Link.told c.pay.new.link)
     (got_on accepts tags c.args.desk.now.setting.now c.args.busy p.from bytes c.args.until p.at c.args.seekers.now c.came.new.seekers c.args.line.now c.came.new.line c.args.host.now c.came.new.host owed c.in-Ok.ensures.ok c.requires.may) grows c.pay.ensures.pays
 
 pub returns-in-Ok-clause-received : goal.returns-in-Ok-clause-received
@@ -26,7 +26,7 @@ pub returns-in-Ok-Quiet-clause-goes : goal.returns-in-Ok-Quiet-clause-goes
 returns-in-Ok-Quiet-clause-goes g c words =
     let p = c.in-Ok-Quiet in
     let grows = rw p.field-0-is at p.ensures.ok in
-    quiet_advances (g.G.SealCheck.accepted c.args.seal.now) (g.G.Seal.tag_of c.args.seal.now) c.args.desk.now.setting.now c.args.busy c.args.until p.at c.args.seekers.now c.pass.new.seekers c.args.line.now c.pass.new.line c.args.host.now c.pass.new.host words _ _ c.requires.may c.pass.ensures.passes grows
+    quiet_advances (g.G.SealCheck.accepted c.args.seal.now) (g.G.Seal.tag_of c.args.seal.now) c.args.desk.now.setting.now c.args.busy c.args.until p.at c.args.seekers.now c.pass.new.seekers c.args.line.now c.pass.new.line c.args.host.now c.pass.new.host words (g.L.Link.told c.args.link.now) (g.L.Link.told c.recv.new.self) c.requires.may c.pass.ensures.passes grows
 
 pub returns-in-Ok-Quiet-clause-received : goal.returns-in-Ok-Quiet-clause-received
 returns-in-Ok-Quiet-clause-received g c =
@@ -48,3 +48,6 @@ returns-in-Err-came-clause-strays g c is words =
 pub returns-in-Err-clause-stops : goal.returns-in-Err-clause-stops
 returns-in-Err-clause-stops g c words =
     stops_early c.args.busy (g.G.SealCheck.accepted c.args.seal.now) (g.G.Seal.tag_of c.args.seal.now) c.args.desk.now.setting.now (stand c.args.seekers.now c.args.line.now words c.args.host.now _) _ (grows_weaker _ _ _ _ c.in-Err.ensures.err (λ es is. inl is))
+
+pub returns-in-Err-came-clause-busy : goal.returns-in-Err-came-clause-busy
+returns-in-Err-came-clause-busy g c is = (c.in-Err-came.ensures.strays (err_moved c.in-Err-came.fault Strays is)).is_open

@@ -1,0 +1,210 @@
+-- One of several lookups asks: its query is the next of all, and no other lookup sees it.
+use Rattle.std.proofs.Common.{◌≡◌, ℕ, zero, suc, ◌+◌, ◌<◌, List, [], ◌∷◌, ◌++◌, length, get_or, set, Option, None, true, inl, refl, sym, ap, subst, ◌∙◌, arith}
+use Rattle.std.specs.Prelude.{map}
+use Rattle.std.specs.List.{AllByRecursion, AllZip}
+use Rattle.std.proofs.lemmas.List.{append_assoc}
+use Rattle.kad_base.specs.declared.types.Contact.{Contact}
+use Rattle.kad_base.specs.declared.types.Event.{Event}
+use Rattle.kad_base.specs.declared.types.Event.TheVariants.{Sent, Unsent}
+use Rattle.kad_base.specs.Words.{word}
+use Rattle.kad_base.proofs.Grown.{grows_then}
+use Rattle.id_puzzles.specs.Drawn.{WordsState}
+use Rattle.query_book.specs.declared.Query.{Query}
+use Rattle.query_book.specs.Queries.{IsFirstFree}
+use Rattle.claim_book.specs.declared.types.Cause.TheVariants.{SendFault}
+use Rattle.claim_book.specs.declared.types.Entry.{Entry}
+use Rattle.claim_book.specs.declared.types.Entry.TheVariants.{Ask, Lost}
+use Rattle.claim_book.specs.Calls.{asker}
+use Rattle.claim_book.specs.State.{BookState, added}
+use Rattle.claim_book.proofs.Claims.{may_ask_says}
+use Rattle.lookup_core.specs.declared.ask.Asked.{Asked}
+use Rattle.lookup_core.specs.declared.quest.Quest.{Quest}
+use Rattle.lookup_core.specs.declared.state.Lookup.{Lookup}
+use Rattle.lookup_core.specs.Matching.{OpenQuery, query_of}
+use Rattle.lookup_core.specs.Sealed.{Accepts}
+use Rattle.lookup_core.specs.Timeouts.{deadline_of}
+use Rattle.lookup_core.specs.LookupSteps.{as_open, AsksNext}
+use Rattle.lookup_core.proofs.Lists.{map_append}
+use Rattle.lookup_core.proofs.Opens.{opens_kept, each_asked, asker_new}
+use Rattle.node_serve.specs.declared.setting.ServeSetting.{ServeSetting}
+use Rattle.node_serve.specs.Sealing.{Tags}
+use Rattle.serve_crew.specs.Hands.{Hands}
+use Rattle.look_many.specs.declared.seeker.Seeker.{Seeker}
+use Rattle.look_many.specs.declared.seeker.Line.{Line}
+use Rattle.look_many.specs.Mine.{Mine, driven, gives, SentGives, UnsentGives}
+use Rattle.look_many.specs.Many.{Frame, Reading, owned_by, and_then, OneMoves, Gives}
+use Rattle.look_many.specs.inner.Crowd.{whose, Holding, Longer, KeepsMine, framed, ManyShow, Advances, stand}
+use Rattle.look_many.specs.inner.ManySteps.{query_bytes, AsksOver, is_sent, is_unsent}
+use Rattle.look_many.proofs.Hosting.{ran_none}
+use Rattle.look_many.proofs.One.{driven_append}
+use Rattle.look_many.proofs.Telling.{same_longer, all_longer}
+use Rattle.look_many.proofs.Walking.{shows_more}
+
+query_back : (J : List Entry) (qs : List Query) → map query_of (map (as_open J) qs) ≡ qs
+query_back J [] = refl
+query_back J (q ∷ qs) = ap (λ l. q ∷ l) (query_back J qs)
+
+driven_ask : (J : List Entry) (p : ℕ) (c : Contact) → driven (J ++ Ask p c ∷ []) ≡ driven J ++ Ask p c ∷ []
+unfolding driven
+driven_ask J p c = driven_append J (Ask p c ∷ [])
+
+driven_lost : (J : List Entry) (p : ℕ) (c : Contact) → driven (J ++ Ask p c ∷ Lost p c SendFault ∷ []) ≡ driven J ++ Ask p c ∷ Lost p c SendFault ∷ []
+unfolding driven
+driven_lost J p c = driven_append J (Ask p c ∷ Lost p c SendFault ∷ [])
+
+-- ---- one lookup
+
+-- a step of one lookup's own
+record OneStep (G : Quest → Mine → Mine → Type 0) (old new : Seeker) (m : Mine) : Type 0 where
+  after : Mine
+  step : G new.quest m after
+  keeps : KeepsMine new after
+  longer : Longer old new
+
+sent_step : (drawn deadline path : ℕ) (old new : Seeker) (asked : Asked) (m : Mine) → new.quest ≡ old.quest → Holding old → KeepsMine old m → AsksNext drawn deadline path old.lookup new.lookup asked → OneStep (λ q m n. SentGives q drawn deadline m asked.contact.addr (query_bytes old asked.tx) n) old new m
+sent_step drawn deadline path old new asked m quest holds keeps a =
+    let J = old.lookup.book.journal in
+    let c = asked.contact in
+    let J' = J ++ Ask path c ∷ [] in
+    let qs = old.lookup.queries in
+    let q : Query = record { tx = asked.tx; contact = c; deadline = deadline } in
+    let oq : OpenQuery = record { path = path; contact = c; tx = asked.tx; deadline = deadline } in
+    let journal : new.lookup.book.journal ≡ J' = ap (λ (b : BookState). b.journal) a.book in
+    let new_path : as_open J' q ≡ oq = ap (λ n. record { path = n; contact = c; tx = asked.tx; deadline = deadline }) (asker_new path J c (may_ask_says old.lookup.book.setting path J c a.may).new) in
+    let after : Mine = record (gives m (Ask path c ∷ [])) { queries = m.queries ++ oq ∷ [] } in
+    record {
+      after = after;
+      step = subst (λ x. SentGives x drawn deadline m c.addr (query_bytes old asked.tx) after) (sym quest) (record {
+        path = path;
+        contact = c;
+        tx = asked.tx;
+        is_query = record { address = refl; id = subst (λ l. IsFirstFree l drawn asked.tx) (sym (ap (map query_of) keeps.queries ∙ query_back J qs)) a.id; form = refl };
+        after = refl;
+      });
+      keeps = record {
+        queries = ap (λ l. l ++ oq ∷ []) (keeps.queries ∙ sym (opens_kept J (Ask path c ∷ []) qs (each_asked J qs holds.is_open))) ∙ ap (λ x. map (as_open J') qs ++ x ∷ []) (sym new_path)
+            ∙ sym (map_append (as_open J') qs (q ∷ [])) ∙ ap (map (as_open J')) (sym a.queries) ∙ ap (λ K. map (as_open K) new.lookup.queries) (sym journal);
+        given = ap (λ l. l ++ Ask path c ∷ []) keeps.given ∙ sym (driven_ask J path c) ∙ ap driven (sym journal);
+      };
+      longer = record { more = Ask path c ∷ []; quest = quest; setting = ap (λ (b : BookState). b.setting) a.book; journal = journal };
+    }
+
+unsent_step : (drawn deadline path : ℕ) (old new : Seeker) (mid : Lookup) (asked : Asked) (m : Mine) → new.quest ≡ old.quest → Holding old → KeepsMine old m → AsksNext drawn deadline path old.lookup mid asked → new.lookup.queries ≡ old.lookup.queries
+    → new.lookup.book ≡ added mid.book (Lost (asker asked.contact mid.book.journal) asked.contact SendFault) → OneStep (λ q m n. UnsentGives q drawn m asked.contact.addr (query_bytes old asked.tx) n) old new m
+unsent_step drawn deadline path old new mid asked m quest holds keeps a queries book =
+    let J = old.lookup.book.journal in
+    let c = asked.contact in
+    let qs = old.lookup.queries in
+    let more = Ask path c ∷ Lost path c SendFault ∷ [] in
+    let between : mid.book.journal ≡ J ++ Ask path c ∷ [] = ap (λ (b : BookState). b.journal) a.book in
+    let by : asker c mid.book.journal ≡ path = ap (asker c) between ∙ asker_new path J c (may_ask_says old.lookup.book.setting path J c a.may).new in
+    let journal : new.lookup.book.journal ≡ J ++ more =
+    ap (λ (b : BookState). b.journal) book ∙ ap (λ p. mid.book.journal ++ Lost p c SendFault ∷ []) by ∙ ap (λ l. l ++ Lost path c SendFault ∷ []) between ∙ append_assoc J (Ask path c ∷ []) (Lost path c SendFault ∷ []) in
+    let after : Mine = gives m more in
+    record {
+      after = after;
+      step = subst (λ x. UnsentGives x drawn m c.addr (query_bytes old asked.tx) after) (sym quest) (record {
+        path = path;
+        contact = c;
+        tx = asked.tx;
+        is_query = record { address = refl; id = subst (λ l. IsFirstFree l drawn asked.tx) (sym (ap (map query_of) keeps.queries ∙ query_back J qs)) a.id; form = refl };
+        after = refl;
+      });
+      keeps = record {
+        queries = keeps.queries ∙ sym (opens_kept J more qs (each_asked J qs holds.is_open)) ∙ ap (λ K. map (as_open K) qs) (sym journal) ∙ ap (map (as_open new.lookup.book.journal)) (sym queries);
+        given = ap (λ l. l ++ more) keeps.given ∙ sym (driven_lost J path c) ∙ ap driven (sym journal);
+      };
+      longer = record { more = more; quest = quest; setting = ap (λ (b : BookState). b.setting) book ∙ ap (λ (b : BookState). b.setting) a.book; journal = journal };
+    }
+
+-- ---- several
+
+-- the i-th makes it, and all others are as they were
+record MovesOn (G : Quest → Mine → Mine → Type 0) (i : ℕ) (olds news : List Seeker) (ms : List Mine) : Type 0 where
+  each : List Mine
+  moves : OneMoves (λ w m n. G w.quest m n) i (map whose news) ms each
+  keeps : AllZip KeepsMine news each
+  longer : AllZip Longer olds news
+
+moves_on : (G : Quest → Mine → Mine → Type 0) (i : ℕ) (ks : List Seeker) (d new : Seeker) (ms : List Mine) → AllByRecursion Holding ks → AllZip KeepsMine ks ms → i < length ks → ((m : Mine) → Holding (get_or ks i d) → KeepsMine (get_or ks i d) m → OneStep G (get_or ks i d) new m) → MovesOn G i ks (set ks i new) ms
+moves_on G i [] d new ms h k lt step = absurd (omega (arith, lt))
+moves_on G i (x ∷ ks) d new [] h k lt step = absurd k
+moves_on G zero (x ∷ ks) d new (m ∷ ms) h k lt step =
+    let here = step m h.0 k.0 in
+    record { each = here.after ∷ ms; moves = (here.step, refl); keeps = (here.keeps, k.1); longer = (here.longer, all_longer ks) }
+moves_on G (suc i) (x ∷ ks) d new (m ∷ ms) h k lt step =
+    let rest = moves_on G i ks d new ms h.1 k.1 (omega (arith, lt)) step in
+    record { each = m ∷ rest.each; moves = (refl, rest.moves); keeps = (k.0, rest.keeps); longer = (same_longer x, rest.longer) }
+
+-- of all lookups' queries it is the next
+owned : (f : Frame) (count place i : ℕ) (read : Reading) (old new : List Seeker) (line : Line) (e : Event) (es : List Event) (h : ManyShow true f count old line place None read es) (G : Quest → Mine → Mine → Type 0) (moved : MovesOn G i old new h.end.each)
+    → Gives (framed true f) (map whose new) h.end e (owned_by i) (record h.end { sends = h.end.sends + 1; each = moved.each }) → ManyShow true f count new line (place + 1) None (and_then read (owned_by i)) (es ++ e ∷ [])
+owned f count place i read old new line e es h G moved gives_it =
+    let st = h.keeps_line in
+    shows_more true f count place (place + 1) None None read (owned_by i) old new line line e es h (record h.end { sends = h.end.sends + 1; each = moved.each }) moved.longer (λ idle. absurd cc) gives_it
+    (record { moment = st.moment; sends = (let e = st.sends in omega (arith, e)); foreign = st.foreign; receives = st.receives; left = st.left; owed_is = st.owed_is }) moved.keeps
+
+module _ (f : Frame) (count place i path : ℕ) (read : Reading) (old : List Seeker) (d new : Seeker) (line : Line) (asked : Asked) (es : List Event) where
+  sent_on : AllByRecursion Holding old → i < length old → new.quest ≡ (get_or old i d).quest → AsksNext (word f.seed place) (deadline_of line.moment (get_or old i d).quest.timeout) path (get_or old i d).lookup new.lookup asked → ManyShow true f count old line place None read es
+      → ManyShow true f count (set old i new) line (place + 1) None (and_then read (owned_by i)) (es ++ Sent asked.contact.addr (query_bytes (get_or old i d) asked.tx) ∷ [])
+  sent_on holds lt quest a h =
+      let st = h.keeps_line in
+      let s = h.end in
+      let one = get_or old i d in
+      let to = asked.contact.addr in
+      let bytes = query_bytes one asked.tx in
+      let drawn = word f.seed (f.place + s.sends) in
+      let a' : AsksNext drawn (deadline_of s.moment one.quest.timeout) path one.lookup new.lookup asked = subst (λ n. AsksNext (word f.seed n) (deadline_of s.moment one.quest.timeout) path one.lookup new.lookup asked) (sym st.sends) (subst (λ n. AsksNext (word f.seed place) (deadline_of n one.quest.timeout) path one.lookup new.lookup asked) (sym st.moment) a) in
+      let G = λ (q : Quest) (m n : Mine). SentGives q drawn (deadline_of s.moment q.timeout) m to bytes n in
+      let step : (m : Mine) → Holding one → KeepsMine one m → OneStep G one new m = (λ m hm km.
+      let x = sent_step drawn (deadline_of s.moment one.quest.timeout) path one new asked m quest hm km a' in
+      record { after = x.after; step = subst (λ (q : Quest). SentGives new.quest drawn (deadline_of s.moment q.timeout) m to bytes x.after) (sym quest) x.step; keeps = x.keeps; longer = x.longer }) in
+      let moved = moves_on G i old d new s.each holds h.keeps_each lt step in
+      owned f count place i read old (set old i new) line (Sent to bytes) es h G moved (inl (record { owner = i; owns = refl; none_owed = st.owed_is; each = moved.each; moves = moved.moves; after = refl }))
+
+  unsent_on : (mid : Lookup) → AllByRecursion Holding old → i < length old → new.quest ≡ (get_or old i d).quest → AsksNext (word f.seed place) (deadline_of line.moment (get_or old i d).quest.timeout) path (get_or old i d).lookup mid asked → new.lookup.queries ≡ (get_or old i d).lookup.queries
+      → new.lookup.book ≡ added mid.book (Lost (asker asked.contact mid.book.journal) asked.contact SendFault) → ManyShow true f count old line place None read es
+      → ManyShow true f count (set old i new) line (place + 1) None (and_then read (owned_by i)) (es ++ Unsent asked.contact.addr (query_bytes (get_or old i d) asked.tx) ∷ [])
+  unsent_on mid holds lt quest a queries book h =
+      let st = h.keeps_line in
+      let s = h.end in
+      let one = get_or old i d in
+      let to = asked.contact.addr in
+      let bytes = query_bytes one asked.tx in
+      let drawn = word f.seed (f.place + s.sends) in
+      let a' : AsksNext drawn (deadline_of line.moment one.quest.timeout) path one.lookup mid asked = subst (λ n. AsksNext (word f.seed n) (deadline_of line.moment one.quest.timeout) path one.lookup mid asked) (sym st.sends) a in
+      let G = λ (q : Quest) (m n : Mine). UnsentGives q drawn m to bytes n in
+      let moved = moves_on G i old d new s.each holds h.keeps_each lt (λ m hm km. unsent_step drawn (deadline_of line.moment one.quest.timeout) path one new mid asked m quest hm km a' queries book) in
+      owned f count place i read old (set old i new) line (Unsent to bytes) es h G moved (inl (record { owner = i; owns = refl; none_owed = st.owed_is; each = moved.each; moves = moved.moves; after = refl }))
+
+-- whatever was told since any beginning
+pub ask_advances : (accepts : Accepts) (tags : Tags) (server : ServeSetting) (host : Hands) (i path : ℕ) (words words' : WordsState) (old : List Seeker) (d new : Seeker) (line : Line) (told told' : Option (List Event)) → AllByRecursion Holding old → i < length old → new.quest ≡ (get_or old i d).quest → words' ≡ record words { place = words.place + 1 }
+    → AsksOver line.moment words path (get_or old i d) new told told' → Advances true accepts tags server (stand old line words host told) (stand (set old i new) line words' host told')
+ask_advances accepts tags server host i path words words' old d new line told told' holds lt quest next (is_sent asked a grows) =
+    let one = get_or old i d in
+    record {
+      more = owned_by i;
+      goes = λ f count read began is h. grows_then began told told' _ _ _ h grows (λ es fs shows e.
+          subst (λ n. ManyShow true f count (set old i new) line n None (and_then read (owned_by i)) (es ++ fs)) (sym (ap (λ (w : WordsState). w.place) next))
+          (subst (λ l. ManyShow true f count (set old i new) line (words.place + 1) None (and_then read (owned_by i)) (es ++ l)) (sym e)
+          (sent_on f count words.place i path read old d new line asked es holds lt quest (subst (λ b. AsksNext (word b words.place) (deadline_of line.moment one.quest.timeout) path one.lookup new.lookup asked) (sym is.seed_is) a) shows)));
+      ran = ran_none host;
+      seed = ap (λ (w : WordsState). w.seed) next;
+    }
+ask_advances accepts tags server host i path words words' old d new line told told' holds lt quest next (is_unsent asked mid a queries book grows) =
+    let one = get_or old i d in
+    record {
+      more = owned_by i;
+      goes = λ f count read began is h. grows_then began told told' _ _ _ h grows (λ es fs shows e.
+          subst (λ n. ManyShow true f count (set old i new) line n None (and_then read (owned_by i)) (es ++ fs)) (sym (ap (λ (w : WordsState). w.place) next))
+          (subst (λ l. ManyShow true f count (set old i new) line (words.place + 1) None (and_then read (owned_by i)) (es ++ l)) (sym e)
+          (unsent_on f count words.place i path read old d new line asked es mid holds lt quest (subst (λ b. AsksNext (word b words.place) (deadline_of line.moment one.quest.timeout) path one.lookup mid asked) (sym is.seed_is) a) queries book shows)));
+      ran = ran_none host;
+      seed = ap (λ (w : WordsState). w.seed) next;
+    }
+
+-- and each still holds
+pub hold_set : (ks : List Seeker) (i : ℕ) (new : Seeker) → AllByRecursion Holding ks → Holding new → AllByRecursion Holding (set ks i new)
+hold_set [] i new h one = tt
+hold_set (k ∷ ks) zero new h one = (one, h.1)
+hold_set (k ∷ ks) (suc i) new h one = (h.0, hold_set ks i new h.1 one)

@@ -1,0 +1,100 @@
+-- The receives of a round of all lookups, one after another.
+use Rattle.std.proofs.Common.{◌≡◌, ◌≢◌, ◌⊎◌, ℕ, zero, suc, ◌+◌, ◌-◌, ◌<◌, List, [], ◌∷◌, ◌++◌, Option, None, Bool, true, inl, inr, refl, sym, ap, subst, ◌∙◌, arith}
+use Rattle.std.specs.Prelude.{map}
+use Rattle.std.specs.List.{AllZip}
+use Rattle.std.proofs.lemmas.List.{append_assoc}
+use Rattle.kad_base.specs.declared.types.Event.{Event}
+use Rattle.kad_base.specs.Limits.{max_round_receives}
+use Rattle.kad_base.specs.Outside.{Grows}
+use Rattle.query_book.specs.declared.Query.{Query}
+use Rattle.lookup_core.specs.Sealed.{Accepts}
+use Rattle.node_serve.specs.declared.setting.ServeSetting.{ServeSetting}
+use Rattle.node_serve.specs.Sealing.{Tags}
+use Rattle.serve_crew.specs.Hands.{SameHands}
+use Rattle.look_many.specs.declared.seeker.Seeker.{Seeker}
+use Rattle.look_many.specs.declared.seeker.Line.{Line}
+use Rattle.look_many.specs.Many.{nothing_read, and_then, WaitsUntil}
+use Rattle.look_many.specs.inner.Crowd.{Longer, queries_of, ManyShow, Stand, Advances}
+use Rattle.look_many.specs.inner.ManySteps.{for_replies, MayReceive, MayAwait, Received, ReceivedAll, Stops, EndsByForeign, EndsEarly, EndsLast}
+use Rattle.look_many.proofs.Hosting.{ran_none, ran_then}
+use Rattle.look_many.proofs.Walking.{nothing_after, then_assoc}
+
+pub may_receive : (ks : List Seeker) (line : Line) (until : ℕ) → MayAwait ks line → WaitsUntil line.receives line.moment (map (λ (q : Query). q.deadline) (queries_of ks)) until → MayReceive ks line until true
+may_receive ks line until may waits = record {
+  holds = may.holds;
+  waits = for_replies refl may.some_open waits may.few_foreign;
+  in_turn = may.in_turn;
+  few_receives = may.few_receives;
+  room = (let few = may.few_foreign in omega (arith, few));
+}
+
+-- the next of the round
+pub may_go_on : (old new : List Seeker) (line line' : Line) → Received true old new line line' → line'.receives ≢ 0 → MayAwait new line'
+may_go_on old new line line' r some = record { holds = r.holds; some_open = r.still some; in_turn = λ z. absurd (some z); few_receives = r.few_receives; few_foreign = r.few_foreign refl }
+
+-- ---- one after the other
+
+longer_one : (a b c : Seeker) → Longer a b → Longer b c → Longer a c
+longer_one a b c g h = record {
+  more = g.more ++ h.more;
+  quest = h.quest ∙ g.quest;
+  setting = h.setting ∙ g.setting;
+  journal = h.journal ∙ ap (λ J. J ++ h.more) g.journal ∙ append_assoc a.lookup.book.journal g.more h.more;
+}
+
+pub longer_then : (olds mids news : List Seeker) → AllZip Longer olds mids → AllZip Longer mids news → AllZip Longer olds news
+longer_then [] [] [] g h = tt
+longer_then [] [] (n ∷ news) g h = absurd h
+longer_then [] (m ∷ mids) news g h = absurd g
+longer_then (o ∷ olds) [] news g h = absurd g
+longer_then (o ∷ olds) (m ∷ mids) [] g h = absurd h
+longer_then (o ∷ olds) (m ∷ mids) (n ∷ news) g h = (longer_one o m n g.0 h.0, longer_then olds mids news g.1 h.1)
+
+pub received_first : (old new : List Seeker) (line line' : Line) → Received true old new line line' → ReceivedAll old new line line'
+received_first old new line line' r = record { holds = r.holds; longer = r.longer; left = (let l = r.left in omega (arith, l)); few_foreign = r.few_foreign refl }
+
+pub received_next : (old mid new : List Seeker) (line between line' : Line) → ReceivedAll old mid line between → Received true mid new between line' → ReceivedAll old new line line'
+received_next old mid new line between line' a r = record { holds = r.holds; longer = longer_then old mid new a.longer r.longer; left = (let l = r.left in let m = a.left in omega (arith, l, m)); few_foreign = r.few_foreign refl }
+
+pub advances_none : (busy : Bool) (accepts : Accepts) (tags : Tags) (server : ServeSetting) (s : Stand) → Advances busy accepts tags server s s
+advances_none busy accepts tags server s = record {
+  more = nothing_read;
+  goes = λ f count read began is h. subst (λ r. Grows began s.told (λ events. ManyShow busy f count s.seekers s.line s.words.place None r events)) (sym (nothing_after read)) h;
+  ran = ran_none s.host;
+  seed = refl;
+}
+
+pub advances_then : (busy : Bool) (accepts : Accepts) (tags : Tags) (server : ServeSetting) (a b c : Stand) → SameHands a.host b.host → Advances busy accepts tags server a b → Advances busy accepts tags server b c → Advances busy accepts tags server a c
+advances_then busy accepts tags server a b c same g h = record {
+  more = and_then g.more h.more;
+  goes = λ f count read began is x.
+      subst (λ r. Grows began c.told (λ events. ManyShow busy f count c.seekers c.line c.words.place None r events)) (then_assoc read g.more h.more)
+      (h.goes f count (and_then read g.more) began (record { accepts_is = is.accepts_is; tags_is = is.tags_is; server_is = is.server_is; seed_is = is.seed_is ∙ sym g.seed }) (g.goes f count read began is x));
+  ran = ran_then a.host b.host c.host g.more.did g.more.lost h.more.did h.more.lost same g.ran h.ran;
+  seed = h.seed ∙ g.seed;
+}
+
+-- ---- ended early
+
+pub ends_now : (busy : Bool) (accepts : Accepts) (tags : Tags) (server : ServeSetting) (s : Stand) (told' : Option (List Event)) → Stops busy accepts tags server s told' → EndsEarly busy accepts tags server s told'
+ends_now busy accepts tags server s told' stops = record { last = s; advances = advances_none busy accepts tags server s; stops = stops }
+
+pub ends_last_now : (accepts : Accepts) (tags : Tags) (server : ServeSetting) (s : Stand) (told' : Option (List Event)) → EndsByForeign true accepts tags server s told' → EndsLast accepts tags server s told'
+ends_last_now accepts tags server s told' ends = record { last = s; advances = advances_none true accepts tags server s; ends = ends }
+
+pub ends_after : (busy : Bool) (accepts : Accepts) (tags : Tags) (server : ServeSetting) (s t : Stand) (told' : Option (List Event)) → SameHands s.host t.host → Advances busy accepts tags server s t → EndsEarly busy accepts tags server t told' → EndsEarly busy accepts tags server s told'
+ends_after busy accepts tags server s t told' same a e = record { last = e.last; advances = advances_then busy accepts tags server s t e.last same a e.advances; stops = e.stops }
+
+pub ends_last_after : (accepts : Accepts) (tags : Tags) (server : ServeSetting) (s t : Stand) (told' : Option (List Event)) → SameHands s.host t.host → Advances true accepts tags server s t → EndsLast accepts tags server t told' → EndsLast accepts tags server s told'
+ends_last_after accepts tags server s t told' same a e = record { last = e.last; advances = advances_then true accepts tags server s t e.last same a e.advances; ends = e.ends }
+
+-- ---- how many receives a round may still have
+
+abbrev pub still_to : ℕ → ℕ
+still_to zero = 0
+still_to (suc n) = max_round_receives - suc n
+
+pub fewer_left : (n m : ℕ) → n ≢ 0 → n < max_round_receives → (m ≡ 0) ⊎ (m ≡ n + 1) → still_to m < still_to n
+fewer_left zero m some few next = absurd (some refl)
+fewer_left (suc n) m some few (inl z) = subst (λ k. still_to k < still_to (suc n)) (sym z) (omega (arith, few))
+fewer_left (suc n) m some few (inr e) = (let is : m ≡ suc (suc n) = omega (arith, e) in subst (λ k. still_to k < still_to (suc n)) (sym is) (omega (arith, few)))

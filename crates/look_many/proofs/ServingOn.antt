@@ -1,0 +1,50 @@
+-- The receives that wait for others than the lookups, which are over.
+use Rattle.std.proofs.Common.{◌≡◌, ℕ, ◌<◌, List, [], ◌∷◌, false, refl, sym, subst, arith}
+use Rattle.std.specs.Prelude.{map, None}
+use Rattle.std.specs.List.{AllByRecursion}
+use Rattle.claim_book.specs.Journal.{may_ask}
+use Rattle.claim_book.specs.RunOut.{RunOut}
+use Rattle.node_serve.specs.Receives.{waits_until}
+use Rattle.look_many.specs.declared.seeker.Seeker.{Seeker}
+use Rattle.look_many.specs.declared.seeker.Line.{Line}
+use Rattle.look_many.specs.Mine.{Whose}
+use Rattle.look_many.specs.inner.Crowd.{whose, NoneAsks}
+use Rattle.look_many.specs.inner.ManySteps.{IsRunOut, for_others, MayReceive, MayServe, Received}
+
+pub may_serve : (ks : List Seeker) (line : Line) (until : ℕ) → MayServe ks line → 0 < line.left → until ≡ waits_until line.moment → MayReceive ks line until false
+may_serve ks line until may left waits = record {
+  holds = may.holds;
+  waits = for_others refl may.none_open may.over left waits;
+  in_turn = λ z. may.none_asks;
+  few_receives = may.few_receives;
+  room = (let room = may.room in omega (arith, room, left));
+}
+
+-- lookups that are read alike are over alike, and ask alike
+over_same : (olds news : List Seeker) → map whose news ≡ map whose olds → AllByRecursion IsRunOut olds → AllByRecursion IsRunOut news
+over_same [] [] same h = tt
+over_same [] (n ∷ news) same h = absurd cc
+over_same (o ∷ olds) [] same h = absurd cc
+over_same (o ∷ olds) (n ∷ news) same h =
+    let head : whose n ≡ whose o = cc in
+    let tail : map whose news ≡ map whose olds = cc in
+    (record { run_out = subst (λ (w : Whose). (p : ℕ) → p < w.setting.paths → RunOut w.setting p w.journal) (sym head) h.0.run_out }, over_same olds news tail h.1)
+
+none_same : (olds news : List Seeker) → map whose news ≡ map whose olds → AllByRecursion NoneAsks olds → AllByRecursion NoneAsks news
+none_same [] [] same h = tt
+none_same [] (n ∷ news) same h = absurd cc
+none_same (o ∷ olds) [] same h = absurd cc
+none_same (o ∷ olds) (n ∷ news) same h =
+    let head : whose n ≡ whose o = cc in
+    let tail : map whose news ≡ map whose olds = cc in
+    (subst (λ (w : Whose). (p : ℕ) → p < w.setting.paths → may_ask w.setting p w.journal ≡ None) (sym head) h.0, none_same olds news tail h.1)
+
+pub serve_next : (old new : List Seeker) (line line' : Line) → MayServe old line → 0 < line.left → Received false old new line line' → MayServe new line'
+serve_next old new line line' may some r = record {
+  holds = r.holds;
+  none_open = r.none_open refl;
+  over = over_same old new (r.same refl) may.over;
+  none_asks = none_same old new (r.same refl) may.none_asks;
+  few_receives = r.few_receives;
+  room = (let room = may.room in let left = r.left in let foreign = r.foreign in omega (arith, room, left, foreign, some));
+}

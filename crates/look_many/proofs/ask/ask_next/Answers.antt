@@ -1,0 +1,19 @@
+use Rattle.kad_base.specs.Words.{word}
+use Rattle.lookup_core.specs.Timeouts.{deadline_of}
+use Rattle.lookup_core.proofs.Opening.{last_opened}
+use Rattle.look_many.specs.inner.ManySteps.{is_sent, is_unsent}
+use Rattle.look_many.proofs.ask.ask_next.Goals as goal
+
+pub returns-then-send_query-clause-some : goal.returns-then-send_query-clause-some
+returns-then-send_query-clause-some g c asked = is_sent c.in-Some.asked c.in-Some.ensures.some (c.send_query.ensures.sent c.if-send_query.true)
+
+pub unsent-requires : goal.unsent-requires
+unsent-requires g c =
+    let k = c.args.seeker.now in
+    (k.lookup.queries, last_opened (word c.args.words.now.seed c.args.words.now.place) (deadline_of c.args.moment k.quest.timeout) c.args.path k.lookup c.ask.new.self c.in-Some.asked c.in-Some.ensures.some)
+
+pub returns-clause-some : goal.returns-clause-some
+returns-clause-some g c asked =
+    let k = c.args.seeker.now in
+    let last = last_opened (word c.args.words.now.seed c.args.words.now.place) (deadline_of c.args.moment k.quest.timeout) c.args.path k.lookup c.ask.new.self c.in-Some.asked c.in-Some.ensures.some in
+    is_unsent c.in-Some.asked c.ask.new.self c.in-Some.ensures.some (c.unsent.ensures.queries k.lookup.queries last) c.unsent.ensures.book (c.send_query.ensures.unsent c.if-send_query.false)

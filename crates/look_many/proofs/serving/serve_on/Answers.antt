@@ -1,0 +1,40 @@
+use Rattle.std.proofs.Common.{rules, refl, false, ◌∙◌}
+use Rattle.serve_crew.proofs.Growing.{same_none, same_more}
+use Rattle.look_many.specs.inner.Crowd.{stand}
+use Rattle.look_many.proofs.Rounding.{advances_none, advances_then, ends_after}
+use Rattle.look_many.proofs.serving.serve_on.Goals as goal
+
+pub serving-init : goal.serving-init
+serving-init g c = record {
+  may = c.requires.may;
+  journals = refl;
+  goes = λ words. advances_none false (g.G.SealCheck.accepted c.args.seal.now) (g.G.Seal.tag_of c.args.seal.now) c.args.desk.now.setting.now (stand c.args.seekers.now c.args.line.now words c.args.host.now (g.L.Link.told c.args.link.now));
+  same = same_none c.args.host.now;
+  room = search rules;
+  moment = search rules;
+  faults = search rules;
+  kept = search rules;
+}
+
+pub serving-preserved : goal.serving-preserved
+serving-preserved g c =
+    let h = c.serving.invariant in
+    let new = c.serve_one.new in
+    let r = c.in-Ok.ensures in
+    record {
+      may = r.may;
+      journals = r.journals ∙ h.journals;
+      goes = λ words. advances_then false (g.G.SealCheck.accepted c.args.seal.now) (g.G.Seal.tag_of c.args.seal.now) c.args.desk.now.setting.now (stand c.args.seekers.now c.args.line.now words c.args.host.now (g.L.Link.told c.args.link.now))
+          (stand c.serving.seekers c.serving.line words c.serving.host (g.L.Link.told c.serving.link)) (stand new.seekers new.line words new.host (g.L.Link.told new.link)) h.same (h.goes words) (r.goes words);
+      same = same_more c.args.host.now c.serving.host new.host h.same r.same;
+      room = search rules;
+      moment = search rules;
+      faults = search rules;
+      kept = search rules;
+    }
+
+pub returns-in-Err-clause-stops : goal.returns-in-Err-clause-stops
+returns-in-Err-clause-stops g c words =
+    let h = c.serving.invariant in
+    ends_after false (g.G.SealCheck.accepted c.args.seal.now) (g.G.Seal.tag_of c.args.seal.now) c.args.desk.now.setting.now (stand c.args.seekers.now c.args.line.now words c.args.host.now (g.L.Link.told c.args.link.now))
+    (stand c.serving.seekers c.serving.line words c.serving.host (g.L.Link.told c.serving.link)) (g.L.Link.told c.serve_one.new.link) h.same (h.goes words) (c.in-Err.ensures.stops words)

@@ -1,0 +1,115 @@
+//! The receives of a round, while a query of a lookup is open.
+ghost use Rattle.std.specs.Prelude.{◌≡◌, ◌≤◌, ◌+◌, length, true, OnOk, OnErr, IsErrOf};
+ghost use Rattle.kad_base.specs.Limits.{max_datagram};
+ghost use Rattle.kad_base.specs.Outside.{Rose};
+ghost use Rattle.id_puzzles.specs.Drawn.{WordsState};
+ghost use Rattle.node_serve.specs.Calls.{IsSetting};
+ghost use Rattle.serve_crew.specs.Hands.{SameHands};
+ghost use Rattle.look_many.specs.inner.Crowd.{Advances, stand};
+ghost use Rattle.look_many.specs.inner.ManySteps.{IsOfDesk, MayAwait, Received, ReceivedAll, EndsEarly, EndsLast};
+
+use crate::host::Desk;
+use crate::receive::receive_until;
+use crate::seeker::{Line, ManyFault, Seeker};
+use crate::wait::wait_until;
+use kad_base::Link;
+use seal_tags::{Seal, SealCheck};
+use serve_crew::ServeWorker;
+use std::alloc::Global;
+use std::sync::Wait;
+
+/// Makes one receive call for all lookups, of which a query is open: it waits to the earliest deadline of all where it
+/// begins a round, and else not at all.
+fn receive<R: Wait, L: Link, G: Seal + SealCheck>(
+    rt: &R,
+    alloc: Global,
+    link: &mut L,
+    desk: &Desk,
+    host: &mut ServeWorker,
+    seekers: &mut [Seeker],
+    line: &mut Line,
+    seal: &G,
+    buf: &mut [u8],
+    out: &mut [u8; 4096],
+) -> Result<(), ManyFault>
+    requires setting { IsSetting desk.now.setting.now }
+    requires own { IsOfDesk desk.now host.old }
+    requires may { MayAwait seekers.old line.old }
+    requires room { length buf.old ≡ max_datagram + 1 }
+    requires moment { L.moment link.old ≡ line.old.moment }
+    ensures same { SameHands host.old host.new }
+    ensures goes { OnOk result ((words : WordsState) → Advances true (G.accepted seal.now)
+        (G.tag_of seal.now) desk.now.setting.now
+        (stand seekers.old line.old words host.old (L.told link.old))
+        (stand seekers.new line.new words host.new (L.told link.new))) }
+    ensures received { OnOk result (Received true seekers.old seekers.new line.old line.new) }
+    ensures moment { OnOk result (L.moment link.new ≡ line.new.moment) }
+    ensures stops { OnErr result ((words : WordsState) → EndsEarly true (G.accepted seal.now)
+        (G.tag_of seal.now) desk.now.setting.now
+        (stand seekers.old line.old words host.old (L.told link.old)) (L.told link.new)) }
+    ensures strays { IsErrOf result ManyFault.Strays → (words : WordsState)
+        → EndsLast (G.accepted seal.now) (G.tag_of seal.now) desk.now.setting.now
+        (stand seekers.old line.old words host.old (L.told link.old)) (L.told link.new) }
+    ensures link { IsErrOf result ManyFault.LinkFault
+        → Rose (L.recv_faults link.old) (L.recv_faults link.new) }
+    ensures recv_faults { L.recv_faults link.old ≤ L.recv_faults link.new }
+    ensures kept { L.kept link.new ≡ L.kept link.old }
+{
+    let until = wait_until(line, seekers);
+    match receive_until(
+        rt, alloc, link, desk, host, seekers, line, seal, true, until, buf, out,
+    ) {
+        Ok(()) => Ok(()),
+        Err(fault) => Err(fault),
+    }
+}
+
+/// Makes the receives of a round: one that waits to the earliest deadline of all, and up to 31 more that wait for nothing.
+pub(crate) fn receive_round<R: Wait, L: Link, G: Seal + SealCheck>(
+    rt: &R,
+    alloc: Global,
+    link: &mut L,
+    desk: &Desk,
+    host: &mut ServeWorker,
+    seekers: &mut [Seeker],
+    line: &mut Line,
+    seal: &G,
+    buf: &mut [u8],
+    out: &mut [u8; 4096],
+) -> Result<(), ManyFault>
+    requires setting { IsSetting desk.now.setting.now }
+    requires own { IsOfDesk desk.now host.old }
+    requires may { MayAwait seekers.old line.old }
+    requires room { length buf.old ≡ max_datagram + 1 }
+    requires moment { L.moment link.old ≡ line.old.moment }
+    ensures same { SameHands host.old host.new }
+    ensures goes { OnOk result ((words : WordsState) → Advances true (G.accepted seal.now)
+        (G.tag_of seal.now) desk.now.setting.now
+        (stand seekers.old line.old words host.old (L.told link.old))
+        (stand seekers.new line.new words host.new (L.told link.new))) }
+    ensures received { OnOk result (ReceivedAll seekers.old seekers.new line.old line.new) }
+    ensures over { OnOk result (line.new.receives ≡ 0) }
+    ensures moment { OnOk result (L.moment link.new ≡ line.new.moment) }
+    ensures stops { OnErr result ((words : WordsState) → EndsEarly true (G.accepted seal.now)
+        (G.tag_of seal.now) desk.now.setting.now
+        (stand seekers.old line.old words host.old (L.told link.old)) (L.told link.new)) }
+    ensures strays { IsErrOf result ManyFault.Strays → (words : WordsState)
+        → EndsLast (G.accepted seal.now) (G.tag_of seal.now) desk.now.setting.now
+        (stand seekers.old line.old words host.old (L.told link.old)) (L.told link.new) }
+    ensures link { IsErrOf result ManyFault.LinkFault
+        → Rose (L.recv_faults link.old) (L.recv_faults link.new) }
+    ensures recv_faults { L.recv_faults link.old ≤ L.recv_faults link.new }
+    ensures kept { L.kept link.new ≡ L.kept link.old }
+{
+    match receive(rt, alloc, link, desk, host, seekers, line, seal, buf, out) {
+        Ok(()) => {}
+        Err(fault) => return Err(fault),
+    }
+    'receiving: while line.receives != 0 {
+        match receive(rt, alloc, link, desk, host, seekers, line, seal, buf, out) {
+            Ok(()) => {}
+            Err(fault) => return Err(fault),
+        }
+    }
+    Ok(())
+}

@@ -1,0 +1,113 @@
+//! Serving on, where all lookups are over.
+ghost use Rattle.std.specs.Prelude.{◌≡◌, ◌≤◌, ◌<◌, ◌+◌, ◌-◌, length, map, false, OnOk, OnErr, IsErrOf};
+ghost use Rattle.kad_base.specs.Limits.{max_datagram};
+ghost use Rattle.kad_base.specs.Outside.{Rose};
+ghost use Rattle.id_puzzles.specs.Drawn.{WordsState};
+ghost use Rattle.node_serve.specs.Calls.{IsSetting};
+ghost use Rattle.serve_crew.specs.Hands.{SameHands};
+ghost use Rattle.look_many.specs.inner.Crowd.{whose, Advances, stand};
+ghost use Rattle.look_many.specs.inner.ManySteps.{IsOfDesk, MayServe, EndsEarly};
+
+use crate::host::Desk;
+use crate::receive::receive_until;
+use crate::seeker::{Line, ManyFault, Seeker};
+use kad_base::Link;
+use seal_tags::{Seal, SealCheck};
+use serve_crew::ServeWorker;
+use std::alloc::Global;
+use std::sync::Wait;
+
+/// How long a receive call waits for others than the lookups, in milliseconds.
+const PATIENCE: u64 = 60_000;
+
+/// Makes one receive call that waits a minute for others than the lookups, and answers what came.
+fn serve_one<R: Wait, L: Link, G: Seal + SealCheck>(
+    rt: &R,
+    alloc: Global,
+    link: &mut L,
+    desk: &Desk,
+    host: &mut ServeWorker,
+    seekers: &mut [Seeker],
+    line: &mut Line,
+    seal: &G,
+    buf: &mut [u8],
+    out: &mut [u8; 4096],
+) -> Result<(), ManyFault>
+    requires setting { IsSetting desk.now.setting.now }
+    requires own { IsOfDesk desk.now host.old }
+    requires may { MayServe seekers.old line.old }
+    requires left { 0 < line.old.left }
+    requires room { length buf.old ≡ max_datagram + 1 }
+    requires moment { L.moment link.old ≡ line.old.moment }
+    ensures same { SameHands host.old host.new }
+    ensures goes { OnOk result ((words : WordsState) → Advances false (G.accepted seal.now)
+        (G.tag_of seal.now) desk.now.setting.now
+        (stand seekers.old line.old words host.old (L.told link.old))
+        (stand seekers.new line.new words host.new (L.told link.new))) }
+    ensures may { OnOk result (MayServe seekers.new line.new) }
+    ensures journals { OnOk result (map whose seekers.new ≡ map whose seekers.old) }
+    ensures left { OnOk result (line.new.left ≡ line.old.left - 1) }
+    ensures moment { OnOk result (L.moment link.new ≡ line.new.moment) }
+    ensures stops { OnErr result ((words : WordsState) → EndsEarly false (G.accepted seal.now)
+        (G.tag_of seal.now) desk.now.setting.now
+        (stand seekers.old line.old words host.old (L.told link.old)) (L.told link.new)) }
+    ensures strays { ¬ IsErrOf result ManyFault.Strays }
+    ensures link { IsErrOf result ManyFault.LinkFault
+        → Rose (L.recv_faults link.old) (L.recv_faults link.new) }
+    ensures recv_faults { L.recv_faults link.old ≤ L.recv_faults link.new }
+    ensures kept { L.kept link.new ≡ L.kept link.old }
+{
+    let until = line.moment.saturating_add(PATIENCE);
+    match receive_until(
+        rt, alloc, link, desk, host, seekers, line, seal, false, until, buf, out,
+    ) {
+        Ok(()) => Ok(()),
+        Err(fault) => Err(fault),
+    }
+}
+
+/// Serves on where all lookups are over, until as many receives were made as are wanted. However many datagrams come, that
+/// is no fault.
+pub(crate) fn serve_on<R: Wait, L: Link, G: Seal + SealCheck>(
+    rt: &R,
+    alloc: Global,
+    link: &mut L,
+    desk: &Desk,
+    host: &mut ServeWorker,
+    seekers: &mut [Seeker],
+    line: &mut Line,
+    seal: &G,
+    buf: &mut [u8],
+    out: &mut [u8; 4096],
+) -> Result<(), ManyFault>
+    requires setting { IsSetting desk.now.setting.now }
+    requires own { IsOfDesk desk.now host.old }
+    requires may { MayServe seekers.old line.old }
+    requires room { length buf.old ≡ max_datagram + 1 }
+    requires moment { L.moment link.old ≡ line.old.moment }
+    ensures same { SameHands host.old host.new }
+    ensures goes { OnOk result ((words : WordsState) → Advances false (G.accepted seal.now)
+        (G.tag_of seal.now) desk.now.setting.now
+        (stand seekers.old line.old words host.old (L.told link.old))
+        (stand seekers.new line.new words host.new (L.told link.new))) }
+    ensures may { OnOk result (MayServe seekers.new line.new) }
+    ensures journals { OnOk result (map whose seekers.new ≡ map whose seekers.old) }
+    ensures over { OnOk result (line.new.left ≡ 0) }
+    ensures moment { OnOk result (L.moment link.new ≡ line.new.moment) }
+    ensures stops { OnErr result ((words : WordsState) → EndsEarly false (G.accepted seal.now)
+        (G.tag_of seal.now) desk.now.setting.now
+        (stand seekers.old line.old words host.old (L.told link.old)) (L.told link.new)) }
+    ensures strays { ¬ IsErrOf result ManyFault.Strays }
+    ensures link { IsErrOf result ManyFault.LinkFault
+        → Rose (L.recv_faults link.old) (L.recv_faults link.new) }
+    ensures recv_faults { L.recv_faults link.old ≤ L.recv_faults link.new }
+    ensures kept { L.kept link.new ≡ L.kept link.old }
+{
+    'serving: while line.left != 0 {
+        match serve_one(rt, alloc, link, desk, host, seekers, line, seal, buf, out) {
+            Ok(()) => {}
+            Err(fault) => return Err(fault),
+        }
+    }
+    Ok(())
+}
