@@ -8,3 +8,4 @@ pub mod Telling
 pub mod Rounding
 pub mod Asking
 pub mod ServingOn
+pub mod Whole

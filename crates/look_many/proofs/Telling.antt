@@ -61,7 +61,7 @@ same_count ks ms h =
 pub some_shown : (ks : List Seeker) (ms : List Mine) → AllZip KeepsMine ks ms → queries_of ks ≢ [] → open_of ms ≢ []
 some_shown ks ms h some none = some (nil_from_length (queries_of ks) (sym (same_count ks ms h) ∙ ap length none))
 
-none_shown : (ks : List Seeker) (ms : List Mine) → AllZip KeepsMine ks ms → queries_of ks ≡ [] → open_of ms ≡ []
+pub none_shown : (ks : List Seeker) (ms : List Mine) → AllZip KeepsMine ks ms → queries_of ks ≡ [] → open_of ms ≡ []
 none_shown ks ms h none = nil_from_length (open_of ms) (same_count ks ms h ∙ ap length none)
 
 one_asked : (k l : Seeker) (m : Mine) → NoneAsks k → KeepsMine k m → Longer k l → HaveAsked (whose l) m

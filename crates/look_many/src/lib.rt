@@ -4,6 +4,7 @@
 
 mod ask;
 mod host;
+mod laws;
 mod receive;
 mod round;
 mod seeker;

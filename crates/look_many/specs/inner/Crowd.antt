@@ -1,6 +1,6 @@
 -- Where several lookups stand between two calls on their link: what the events showed, what each keeps, and what the node that
 -- serves has done.
-use Rattle.std.specs.Prelude.{◌≡◌, ℕ, ◌+◌, ◌-◌, ◌<◌, List, [], ◌∷◌, ◌++◌, map, Option, None, Bool, cond}
+use Rattle.std.specs.Prelude.{◌≡◌, ℕ, ◌+◌, ◌-◌, ◌<◌, List, [], ◌∷◌, ◌++◌, length, map, Option, None, Bool, cond}
 use Rattle.std.specs.List.{AllZip, flat_map}
 use Rattle.kad_base.specs.declared.types.Contact.{Contact}
 use Rattle.kad_base.specs.declared.types.Event.{Event}
@@ -82,6 +82,15 @@ pub record ManyShow (busy : Bool) (f : Frame) (count : ℕ) (ks : List Seeker) (
   pub walk : GivesFrom (framed busy f) (map whose ks) (begun count at) rest end read
   pub keeps_line : KeepsLine f line place owed end
   pub keeps_each : AllZip KeepsMine ks end.each
+
+-- a lookup of which no event told yet
+pub record IsFresh (k : Seeker) : Type 0 where
+  pub none_open : k.lookup.queries ≡ []
+  pub none_driven : driven k.lookup.book.journal ≡ []
+
+-- how many lookups there are
+abbrev pub count_of : List Seeker → ℕ
+count_of ks = length (map whose ks)
 
 -- ---- the node that serves
 

@@ -1,0 +1,98 @@
+-- From where all lookups stand to what the events tell of their journals.
+use Rattle.std.proofs.Common.{◌≡◌, ◌⊎◌, ℕ, List, [], ◌∷◌, None, Bool, true, false, inl, inr, refl, sym, ap, subst, arith}
+use Rattle.std.specs.Prelude.{map, replicate}
+use Rattle.std.specs.List.{AllByRecursion, AllZip}
+use Rattle.kad_base.specs.declared.types.Event.{Event}
+use Rattle.kad_base.specs.declared.types.Event.TheVariants.{Now, Sent, Unsent, Got, Quiet}
+use Rattle.lookup_core.specs.LookupSteps.{as_open}
+use Rattle.look_many.specs.declared.seeker.Seeker.{Seeker}
+use Rattle.look_many.specs.declared.seeker.Line.{Line}
+use Rattle.look_many.specs.Mine.{Mine, Whose, driven}
+use Rattle.look_many.specs.Many.{Frame, Shown, Reading, nothing_read, MayWait, for_replies, for_others, Receives, IsTaken, IsAnsweredFor, Gives, GivesFrom, fresh, begun, ManyTellSoFar, ManyTell, EndsAtForeign}
+use Rattle.look_many.specs.inner.Crowd.{whose, queries_of, KeepsMine, IsFresh, framed, ManyShow, Stand, count_of}
+use Rattle.look_many.specs.inner.ManySteps.{ShowsForeign}
+use Rattle.look_many.proofs.Telling.{none_shown}
+
+-- ---- the beginning
+
+each_fresh : (ks : List Seeker) → AllByRecursion IsFresh ks → AllZip KeepsMine ks (replicate (count_of ks) fresh)
+each_fresh [] h = tt
+each_fresh (k ∷ ks) h = (record { queries = sym (ap (map (as_open k.lookup.book.journal)) h.0.none_open); given = sym h.0.none_driven }, each_fresh ks h.1)
+
+pub begins : (f : Frame) (at : ℕ) (ks : List Seeker) → AllByRecursion IsFresh ks → ManyShow true f (count_of ks) ks (record { moment = at; receives = 0; foreign = 0; left = f.wanted }) f.place None nothing_read (Now at ∷ [])
+begins f at ks h = record {
+  at = at;
+  rest = [];
+  first = refl;
+  end = begun (count_of ks) at;
+  walk = (refl, refl);
+  keeps_line = record { moment = refl; sends = omega arith; foreign = refl; receives = refl; left = omega arith; owed_is = refl };
+  keeps_each = each_fresh ks h;
+}
+
+-- ---- more receives may be wanted
+
+waits_more : (wanted : ℕ) (ws : List Whose) (s : Shown) (until : ℕ) → MayWait 0 ws s until → MayWait wanted ws s until
+waits_more wanted ws s until (for_replies some waits) = for_replies some waits
+waits_more wanted ws s until (for_others none over fewer is) = absurd (omega (arith, fewer))
+
+receives_more : (wanted : ℕ) (ws : List Whose) (s : Shown) (until : ℕ) → Receives 0 ws s until → Receives wanted ws s until
+receives_more wanted ws s until h = record { none_owed = h.none_owed; waits = waits_more wanted ws s until h.waits; asked = h.asked }
+
+gives_more : (f : Frame) (ws : List Whose) (s t : Shown) (e : Event) (read : Reading) → Gives (framed true f) ws s e read t → Gives f ws s e read t
+gives_more f ws s t (Now at) read h = h
+gives_more f ws s t (Sent to bytes) read h = h
+gives_more f ws s t (Unsent to bytes) read h = h
+gives_more f ws s t (Got from bytes until at) read h = (receives_more f.wanted ws s until h.0, again h.1)
+  where
+    again : IsTaken (framed true f) ws s from bytes at read t ⊎ IsAnsweredFor (framed true f) ws s from bytes at read t → IsTaken f ws s from bytes at read t ⊎ IsAnsweredFor f ws s from bytes at read t
+    again (inl x) = inl (record { each = x.each; first = x.first; read_is = x.read_is; after = x.after })
+    again (inr x) = inr (record { foreign = x.foreign; did = x.did; read_is = x.read_is; owed = x.owed; owes = x.owes; after = x.after })
+gives_more f ws s t (Quiet until at) read h = (receives_more f.wanted ws s until h.0, h.1, h.2)
+
+walk_more : (f : Frame) (ws : List Whose) (s : Shown) (es : List Event) (t : Shown) (read : Reading) → GivesFrom (framed true f) ws s es t read → GivesFrom f ws s es t read
+walk_more f ws s [] t read h = h
+walk_more f ws s (e ∷ es) t read h = (h.0, h.1, h.2, gives_more f ws s h.0 e h.1 h.3, walk_more f ws h.0 es t h.2 h.4, h.5)
+
+walk_whole : (busy : Bool) (f : Frame) (ws : List Whose) (s : Shown) (es : List Event) (t : Shown) (read : Reading) → GivesFrom (framed busy f) ws s es t read → GivesFrom f ws s es t read
+walk_whole true f ws s es t read h = walk_more f ws s es t read h
+walk_whole false f ws s es t read h = h
+
+pub goes_on_with : (f : Frame) (count place : ℕ) (ks : List Seeker) (line : Line) (read : Reading) (events : List Event) → ManyShow true f count ks line place None read events → ManyShow false f count ks line place None read events
+goes_on_with f count place ks line read events h = record { at = h.at; rest = h.rest; first = h.first; end = h.end; walk = walk_more f (map whose ks) (begun count h.at) h.rest h.end read h.walk; keeps_line = h.keeps_line; keeps_each = h.keeps_each }
+
+-- ---- the ends
+
+each_given : (ks : List Seeker) (ms : List Mine) → AllZip KeepsMine ks ms → AllZip (λ (w : Whose) (m : Mine). m.given ≡ driven w.journal) (map whose ks) ms
+each_given [] [] h = tt
+each_given [] (m ∷ ms) h = absurd h
+each_given (k ∷ ks) [] h = absurd h
+each_given (k ∷ ks) (m ∷ ms) h = (h.0.given, each_given ks ms h.1)
+
+pub tells_so_far : (busy : Bool) (f : Frame) (place : ℕ) (ks : List Seeker) (line : Line) (read : Reading) (events : List Event) (h : ManyShow busy f (count_of ks) ks line place None read events) → ManyTellSoFar f (map whose ks) events read h.end
+tells_so_far busy f place ks line read events h =
+    subst (λ l. ManyTellSoFar f (map whose ks) l read h.end) (sym h.first)
+    (walk_whole busy f (map whose ks) (begun (count_of ks) h.at) h.rest h.end read h.walk, each_given ks h.end.each h.keeps_each, h.keeps_line.owed_is)
+
+pub tells_whole : (f : Frame) (place : ℕ) (ks : List Seeker) (line : Line) (read : Reading) (events : List Event) → ManyShow false f (count_of ks) ks line place None read events → queries_of ks ≡ [] → line.left ≡ 0 → ManyTell f (map whose ks) events read
+tells_whole f place ks line read events h none over = record {
+  end = h.end;
+  so_far = tells_so_far false f place ks line read events h;
+  none_open = none_shown ks h.end.each h.keeps_each none;
+  enough = (let left = h.keeps_line.left in omega (arith, left, over));
+}
+
+pub ends_at_foreign : (busy : Bool) (f : Frame) (old : Stand) (read : Reading) (number : ℕ) (events : List Event) → ShowsForeign busy f (count_of old.seekers) old read number events → EndsAtForeign f (map whose old.seekers) events read number
+ends_at_foreign busy f old read number events h = record {
+  before = h.front;
+  end = h.shows.end;
+  from = h.from;
+  bytes = h.bytes;
+  until = h.until;
+  at = h.at;
+  so_far = tells_so_far busy f old.words.place old.seekers old.line read h.front h.shows;
+  last = h.last;
+  some_open = h.some_open;
+  foreign = h.foreign;
+  count = h.number_is;
+}
