@@ -3,6 +3,7 @@ pub mod One
 pub mod Several
 pub mod Waiting
 pub mod Hosting
+pub mod Heard
 pub mod Walking
 pub mod Telling
 pub mod Rounding

@@ -1,5 +1,5 @@
 -- The receives of a round of all lookups, one after another.
-use Rattle.std.proofs.Common.{◌≡◌, ◌≢◌, ◌⊎◌, ℕ, zero, suc, ◌+◌, ◌-◌, ◌<◌, List, [], ◌∷◌, ◌++◌, Option, None, Bool, true, inl, inr, refl, sym, ap, subst, ◌∙◌, arith}
+use Rattle.std.proofs.Common.{◌≡◌, ◌≢◌, ◌⊎◌, ℕ, zero, suc, ◌+◌, ◌-◌, ◌<◌, ◌≤◌, List, [], ◌∷◌, ◌++◌, Option, None, Bool, true, inl, inr, refl, sym, ap, subst, ◌∙◌, arith}
 use Rattle.std.specs.Prelude.{map}
 use Rattle.std.specs.List.{AllZip}
 use Rattle.std.proofs.lemmas.List.{append_assoc}
@@ -16,6 +16,7 @@ use Rattle.look_many.specs.declared.seeker.Line.{Line}
 use Rattle.look_many.specs.Many.{nothing_read, and_then, WaitsUntil}
 use Rattle.look_many.specs.inner.Crowd.{Longer, queries_of, ManyShow, Stand, Advances}
 use Rattle.look_many.specs.inner.ManySteps.{for_replies, MayReceive, MayAwait, Received, ReceivedAll, Stops, EndsByForeign, EndsEarly, EndsLast}
+use Rattle.look_many.proofs.Heard.{all_then}
 use Rattle.look_many.proofs.Hosting.{ran_none, ran_then}
 use Rattle.look_many.proofs.Walking.{nothing_after, then_assoc}
 
@@ -50,11 +51,11 @@ longer_then (o ∷ olds) [] news g h = absurd g
 longer_then (o ∷ olds) (m ∷ mids) [] g h = absurd h
 longer_then (o ∷ olds) (m ∷ mids) (n ∷ news) g h = (longer_one o m n g.0 h.0, longer_then olds mids news g.1 h.1)
 
-pub received_first : (old new : List Seeker) (line line' : Line) → Received true old new line line' → ReceivedAll old new line line'
-received_first old new line line' r = record { holds = r.holds; longer = r.longer; left = (let l = r.left in omega (arith, l)); few_foreign = r.few_foreign refl }
+pub received_first : (old new : List Seeker) (line line' : Line) → Received true old new line line' → line.moment ≤ line'.moment → ReceivedAll old new line line'
+received_first old new line line' r later = record { holds = r.holds; longer = r.longer; only_heard = r.only_heard; later = later; left = (let l = r.left in omega (arith, l)); few_foreign = r.few_foreign refl }
 
-pub received_next : (old mid new : List Seeker) (line between line' : Line) → ReceivedAll old mid line between → Received true mid new between line' → ReceivedAll old new line line'
-received_next old mid new line between line' a r = record { holds = r.holds; longer = longer_then old mid new a.longer r.longer; left = (let l = r.left in let m = a.left in omega (arith, l, m)); few_foreign = r.few_foreign refl }
+pub received_next : (old mid new : List Seeker) (line between line' : Line) → ReceivedAll old mid line between → Received true mid new between line' → between.moment ≤ line'.moment → ReceivedAll old new line line'
+received_next old mid new line between line' a r later = record { holds = r.holds; longer = longer_then old mid new a.longer r.longer; only_heard = all_then old mid new a.only_heard r.only_heard; later = (let before = a.later in omega (arith, before, later)); left = (let l = r.left in let m = a.left in omega (arith, l, m)); few_foreign = r.few_foreign refl }
 
 pub advances_none : (busy : Bool) (accepts : Accepts) (tags : Tags) (server : ServeSetting) (s : Stand) → Advances busy accepts tags server s s
 advances_none busy accepts tags server s = record {

@@ -32,9 +32,10 @@ use Rattle.look_many.specs.declared.seeker.Line.{Line}
 use Rattle.look_many.specs.declared.seeker.ManyFault.{ManyFault}
 use Rattle.look_many.specs.Mine.{Mine, Whose, HaveAsked, waited}
 use Rattle.look_many.specs.Many.{Frame, Owed, Shown, Reading, nothing_read, and_then, read_of, open_of, deadlines_of, WaitsUntil, IsOver, MayWait, for_replies, for_others, AllHaveAsked, Receives, FirstTakes, IsForeign, Owes, goes_on, after_got, after_quiet}
-use Rattle.look_many.specs.inner.Crowd.{whose, opens, Holding, NoneAsks, Longer, queries_of, KeepsMine, KeepsLine, ManyShow, Ran, Stand, Advances, stand}
+use Rattle.look_many.specs.inner.Crowd.{whose, opens, Holding, NoneAsks, Longer, OnlyHeard, queries_of, KeepsMine, KeepsLine, ManyShow, Ran, Stand, Advances, stand}
 use Rattle.look_many.specs.inner.ManySteps.{IsMatchFor, IsNotFor, TakesFirst, Expires, all_lapsed, IsRunOut, WaitsFor, for_replies as waits_replies, for_others as waits_others, MayReceive, Counts, Answers, Handles, is_taken, is_foreign, Comes, Passes, Pays, IsLastForeign, Received, ShowsEarly, Stops, EndsByForeign}
 use Rattle.look_many.proofs.Several.{all_wait, first_on, all_stray, first_holds, expired_hold}
+use Rattle.look_many.proofs.Heard.{all_same as only_same_all, all_then, all_expired, first_taken}
 use Rattle.look_many.proofs.Hosting.{ran_then, ran_answer}
 use Rattle.look_many.proofs.Walking.{same_reading, nothing_after, first_longer, foreign_longer, shows_more}
 
@@ -390,6 +391,10 @@ all_closed at (o ∷ olds) [] e none = absurd e
 all_closed at (o ∷ olds) (n ∷ news) e none =
     ap (λ l. l ++ queries_of news) (e.0.loses.queries ∙ ap (filter (λ (q : Query). nat_lt at q.deadline)) (none_front o.lookup.queries (queries_of olds) none)) ∙ all_closed at olds news e.1 (none_back o.lookup.queries (queries_of olds) none)
 
+handled_only : (accepts : Accepts) (tags : Tags) (server : ServeSetting) (busy : Bool) (from : Addr) (bytes : List ℕ) (at : ℕ) (old mid : List Seeker) (line counted : Line) (host between : Hands) (owed : Option Owed) → Handles accepts tags server busy from bytes at old mid line counted host between owed → AllZip OnlyHeard old mid
+handled_only accepts tags server busy from bytes at old mid line counted host between owed (is_taken t is b o) = first_taken accepts from bytes old mid t
+handled_only accepts tags server busy from bytes at old mid line counted host between owed (is_foreign none m counts answers) = subst (AllZip OnlyHeard old) (sym m) (only_same_all old)
+
 pub got_received : (accepts : Accepts) (tags : Tags) (server : ServeSetting) (busy : Bool) (from : Addr) (bytes : List ℕ) (until at : ℕ) (old new : List Seeker) (line line' : Line) (host host' : Hands) (owed : Option Owed) → MayReceive old line until busy → Comes accepts tags server busy from bytes at old new line line' host host' owed → Received busy old new line line'
 got_received accepts tags server busy from bytes until at old new line line' host host' owed may c =
     let n = line.receives in
@@ -403,6 +408,7 @@ got_received accepts tags server busy from bytes until at old new line line' hos
     record {
       holds = expired_hold at c.mid new c.expires;
       longer = mid_longer at old c.mid new (handled_longer accepts tags server busy from bytes at old c.mid line c.counted host c.between owed c.handles) c.expires;
+      only_heard = all_then old c.mid new (handled_only accepts tags server busy from bytes at old c.mid line c.counted host c.between owed c.handles) (all_expired at c.mid new c.expires);
       round = subst (λ m. (m ≡ 0) ⊎ (m ≡ n + 1)) (sym receives) (next_in n k);
       few_receives = subst (λ m. m < max_round_receives) (sym receives) (few_next n k);
       still = λ some none. (goes_more n k (λ z. some (receives ∙ z))).some (ap length none);
@@ -420,6 +426,7 @@ quiet_received busy until at old new line line' host host' may c =
     record {
       holds = expired_hold at old new c.expires;
       longer = mid_longer at old old new (all_longer old) c.expires;
+      only_heard = all_expired at old new c.expires;
       round = inl receives;
       few_receives = omega (arith, receives);
       still = λ some none. absurd (some receives);
@@ -429,6 +436,13 @@ quiet_received busy until at old new line line' host host' may c =
       same = λ idle. all_still at old new c.expires (none_open old line until busy may.waits idle);
       none_open = λ idle. all_closed at old new c.expires (none_open old line until busy may.waits idle);
     }
+
+-- no moment is before the last
+pub got_later : (accepts : Accepts) (tags : Tags) (server : ServeSetting) (busy : Bool) (from : Addr) (bytes : List ℕ) (at : ℕ) (old new : List Seeker) (line line' : Line) (host host' : Hands) (owed : Option Owed) → Comes accepts tags server busy from bytes at old new line line' host host' owed → line.moment ≤ at → line.moment ≤ line'.moment
+got_later accepts tags server busy from bytes at old new line line' host host' owed c later = subst (λ m. line.moment ≤ m) (sym (ap (λ (l : Line). l.moment) c.line_is)) later
+
+pub quiet_later : (at : ℕ) (old new : List Seeker) (line line' : Line) (host host' : Hands) → Passes at old new line line' host host' → line.moment ≤ at → line.moment ≤ line'.moment
+quiet_later at old new line line' host host' c later = subst (λ m. line.moment ≤ m) (sym (ap (λ (l : Line). l.moment) c.line_is)) later
 
 -- ---- ended early
 

@@ -190,6 +190,7 @@ pub(crate) fn receive_until<R: Wait, L: Link, G: Seal + SealCheck>(
         (stand seekers.old line.old words host.old (L.told link.old))
         (stand seekers.new line.new words host.new (L.told link.new))) }
     ensures received { OnOk result (Received busy seekers.old seekers.new line.old line.new) }
+    ensures later { OnOk result (line.old.moment ≤ line.new.moment) }
     ensures moment { OnOk result (L.moment link.new ≡ line.new.moment) }
     ensures stops { OnErr result ((words : WordsState) → Stops busy (G.accepted seal.now)
         (G.tag_of seal.now) desk.now.setting.now

@@ -1,6 +1,6 @@
 -- Where several lookups stand between two calls on their link: what the events showed, what each keeps, and what the node that
 -- serves has done.
-use Rattle.std.specs.Prelude.{◌≡◌, ℕ, ◌+◌, ◌-◌, ◌<◌, List, [], ◌∷◌, ◌++◌, length, map, Option, None, Bool, cond}
+use Rattle.std.specs.Prelude.{◌≡◌, ℕ, ◌+◌, ◌-◌, ◌<◌, List, [], ◌∷◌, ◌++◌, Contains, length, map, Option, None, Bool, cond}
 use Rattle.std.specs.List.{AllZip, flat_map}
 use Rattle.kad_base.specs.declared.types.Contact.{Contact}
 use Rattle.kad_base.specs.declared.types.Event.{Event}
@@ -9,7 +9,7 @@ use Rattle.kad_base.specs.Outside.{Grows}
 use Rattle.id_puzzles.specs.Drawn.{WordsState}
 use Rattle.query_book.specs.declared.Query.{Query}
 use Rattle.claim_book.specs.declared.types.Entry.{Entry}
-use Rattle.claim_book.specs.Journal.{may_ask}
+use Rattle.claim_book.specs.Journal.{asked, may_ask}
 use Rattle.contact_table.specs.declared.calls.TableCall.TheVariants.{Failed}
 use Rattle.contact_table.specs.declared.calls.TableReply.{TableReply}
 use Rattle.lookup_core.specs.LookupSteps.{as_open, Holds}
@@ -48,6 +48,11 @@ pub record Longer (old new : Seeker) : Type 0 where
   pub quest : new.quest ≡ old.quest
   pub setting : new.lookup.book.setting ≡ old.lookup.book.setting
   pub journal : new.lookup.book.journal ≡ old.lookup.book.journal ++ more
+
+-- no query more is open, and nobody more was asked
+pub record OnlyHeard (old new : Seeker) : Type 0 where
+  pub fewer : (q : Query) → Contains new.lookup.queries q → Contains old.lookup.queries q
+  pub same_asks : asked new.lookup.book.journal ≡ asked old.lookup.book.journal
 
 -- the open queries of all
 abbrev pub queries_of : List Seeker → List Query

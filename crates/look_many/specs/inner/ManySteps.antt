@@ -32,7 +32,7 @@ use Rattle.look_many.specs.declared.host.Desk.{Desk}
 use Rattle.look_many.specs.declared.seeker.Seeker.{Seeker}
 use Rattle.look_many.specs.declared.seeker.Line.{Line}
 use Rattle.look_many.specs.Many.{Frame, Owed, Reading, Owes, IsEarliest, WaitsUntil, IsForeign, goes_on, open_of}
-use Rattle.look_many.specs.inner.Crowd.{whose, opens, Holding, NoneAsks, Longer, queries_of, ManyShow, Ran, Stand, IsFrame, Advances}
+use Rattle.look_many.specs.inner.Crowd.{whose, opens, Holding, NoneAsks, Longer, OnlyHeard, queries_of, ManyShow, Ran, Stand, IsFrame, Advances}
 
 -- ---- a datagram
 
@@ -176,6 +176,7 @@ pub record IsLastForeign (accepts : Accepts) (from : Addr) (bytes : List ℕ) (b
 pub record Received (busy : Bool) (old new : List Seeker) (line line' : Line) : Type 0 where
   pub holds : AllByRecursion Holding new
   pub longer : AllZip Longer old new
+  pub only_heard : AllZip OnlyHeard old new
   pub round : (line'.receives ≡ 0) ⊎ (line'.receives ≡ line.receives + 1)
   pub few_receives : line'.receives < max_round_receives
   pub still : line'.receives ≢ 0 → queries_of new ≢ []
@@ -253,6 +254,8 @@ pub record MayServe (ks : List Seeker) (line : Line) : Type 0 where
 pub record ReceivedAll (old new : List Seeker) (line line' : Line) : Type 0 where
   pub holds : AllByRecursion Holding new
   pub longer : AllZip Longer old new
+  pub only_heard : AllZip OnlyHeard old new
+  pub later : line.moment ≤ line'.moment
   pub left : line'.left ≤ line.left
   pub few_foreign : line'.foreign < max_strays
 

@@ -1,9 +1,9 @@
-use Rattle.std.proofs.Common.{take, inl, inr}
+use Rattle.std.proofs.Common.{◌≤◌, take, inl, inr, subst}
 use Rattle.kad_base.proofs.Grown.{grows_weaker}
 use Rattle.look_many.specs.inner.Crowd.{stand}
 use Rattle.look_many.specs.inner.ManySteps.{owed_in}
 use Rattle.look_many.specs.declared.seeker.ManyFault.TheVariants.{Strays}
-use Rattle.look_many.proofs.Telling.{got_on, got_advances, got_received, quiet_advances, quiet_received, stops_early, ends_by_foreign, err_moved}
+use Rattle.look_many.proofs.Telling.{got_on, got_advances, got_received, got_later, quiet_advances, quiet_received, quiet_later, stops_early, ends_by_foreign, err_moved}
 use Rattle.look_many.proofs.receive.receive_until.Goals as goal
 
 pub returns-in-Ok-clause-goes : goal.returns-in-Ok-clause-goes
@@ -51,3 +51,15 @@ returns-in-Err-clause-stops g c words =
 
 pub returns-in-Err-came-clause-busy : goal.returns-in-Err-came-clause-busy
 returns-in-Err-came-clause-busy g c is = (c.in-Err-came.ensures.strays (err_moved c.in-Err-came.fault Strays is)).is_open
+
+pub returns-in-Ok-clause-later : goal.returns-in-Ok-clause-later
+returns-in-Ok-clause-later g c =
+    let p = c.in-Ok-Packet in
+    let came = rw p.field-0-is at p.ensures.came in
+    got_later (g.G.SealCheck.accepted c.args.seal.now) (g.G.Seal.tag_of c.args.seal.now) c.args.desk.now.setting.now c.args.busy p.from (take p.len c.recv.new.buf) p.at c.args.seekers.now c.came.new.seekers c.args.line.now c.came.new.line c.args.host.now c.came.new.host (owed_in c.in-Ok.reply p.from c.came.new.out) c.in-Ok.ensures.ok (subst (λ m. m ≤ p.at) c.requires.moment came.1)
+
+pub returns-in-Ok-Quiet-clause-later : goal.returns-in-Ok-Quiet-clause-later
+returns-in-Ok-Quiet-clause-later g c =
+    let p = c.in-Ok-Quiet in
+    let came = rw p.field-0-is at p.ensures.came in
+    quiet_later p.at c.args.seekers.now c.pass.new.seekers c.args.line.now c.pass.new.line c.args.host.now c.pass.new.host c.pass.ensures.passes (subst (λ m. m ≤ p.at) c.requires.moment came.1)

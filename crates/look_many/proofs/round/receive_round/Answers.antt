@@ -11,7 +11,7 @@ receiving-preserved g c =
     let r = c.in-Ok-receive.ensures in
     record {
       may = may_go_on c.receiving.seekers new.seekers c.receiving.line new.line r.received;
-      received = received_next c.args.seekers.now c.receiving.seekers new.seekers c.args.line.now c.receiving.line new.line h.received r.received;
+      received = received_next c.args.seekers.now c.receiving.seekers new.seekers c.args.line.now c.receiving.line new.line h.received r.received r.later;
       goes = λ words. advances_then true (g.G.SealCheck.accepted c.args.seal.now) (g.G.Seal.tag_of c.args.seal.now) c.args.desk.now.setting.now (stand c.args.seekers.now c.args.line.now words c.args.host.now (g.L.Link.told c.args.link.now))
           (stand c.receiving.seekers c.receiving.line words c.receiving.host (g.L.Link.told c.receiving.link)) (stand new.seekers new.line words new.host (g.L.Link.told new.link)) h.same (h.goes words) (r.goes words);
       same = same_more c.args.host.now c.receiving.host new.host h.same r.same;
