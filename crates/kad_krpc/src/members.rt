@@ -38,25 +38,17 @@ fn fill<'a>(slot: &mut Option<Piece<'a>>, wanted: &[u8], key: &[u8], value: &Pie
 
 /// Slots for the values of keys, one behind another.
 pub(crate) trait Slots<'a>: Drop {
-    ghost use Rattle.std.specs.Prelude.{◌≡◌, ℕ, List, None, false};
-    ghost use Rattle.kad_bencode.specs.declared.value.Value.{Value};
+    ghost use Rattle.std.specs.Prelude.{ℕ, List, None};
     ghost use Rattle.kad_krpc.specs.Fields.{Look};
     ghost use Rattle.kad_krpc.specs.Gathering.{behind, before};
 
     /// What the slots are once the pairs with these values were looked at.
     ghost filled: { Self → Look → Self → Type 0 };
 
-    /// Keeps a value in each slot whose key it stands behind, and that is not filled. Which keys the other slots have is
-    /// known where the call is inlined, so that none is looked at behind the one that the key has.
+    /// Keeps a value in each slot whose key it stands behind, and that is not filled.
     fn keep(&mut self, key: &[u8], value: &Piece<'a>)
         ensures { (look : Look) (end : Self) → filled self.new look end
             → filled self.old (before (behind key.now value.now) look) end };
-
-    /// Whether a slot is that of this key. Where none is, no value of the key changes the slots.
-    fn wants(&self, key: &[u8]) -> bool
-        ensures { result ≡ false → (value : Value) (look : Look) (end : Self)
-            → filled self.now look end
-            → filled self.now (before (behind key.now value) look) end };
 
     /// Where no pair is left to look at, the slots stay as they are. The call changes nothing.
     fn tell_done(&self)
@@ -72,11 +64,6 @@ impl<'a> Slots<'a> for End {
 
     #[inline(always)]
     fn keep(&mut self, _key: &[u8], _value: &Piece<'a>) {}
-
-    #[inline(always)]
-    fn wants(&self, _key: &[u8]) -> bool {
-        false
-    }
 
     #[inline(always)]
     fn tell_done(&self) {}
@@ -100,20 +87,7 @@ impl<'a, R: Slots<'a>> Slots<'a> for Slot<'a, R> {
     #[inline(always)]
     fn keep(&mut self, key: &[u8], value: &Piece<'a>) {
         fill(&mut self.found, self.wanted, key, value);
-        if equal(key, self.wanted) {
-            if !self.rest.wants(self.wanted) {
-                return;
-            }
-        }
         self.rest.keep(key, value);
-    }
-
-    #[inline(always)]
-    fn wants(&self, key: &[u8]) -> bool {
-        if same(key, self.wanted) {
-            return true;
-        }
-        self.rest.wants(key)
     }
 
     #[inline(always)]
