@@ -3,6 +3,8 @@
 #![tactic(auto)]
 
 #[cfg(test)]
+mod at_once;
+#[cfg(test)]
 mod items;
 #[cfg(test)]
 mod kept;
@@ -22,3 +24,5 @@ mod table;
 mod two_networks;
 #[cfg(test)]
 mod whole;
+#[cfg(test)]
+mod workers;
