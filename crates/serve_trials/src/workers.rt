@@ -79,7 +79,12 @@ const FOUND_5: &[u8] =
 #[test]
 fn a_batch_is_answered_in_its_order(rt: HostRuntime) -> Result<(), Fail> {
     let alloc = rt.alloc();
-    let link = link_at(alloc, &[(10, 7000, PING), (10, 7001, SECOND_PING)], &[], &[])?;
+    let link = link_at(
+        alloc,
+        &[(10, 7000, PING), (10, 7001, SECOND_PING)],
+        &[],
+        &[],
+    )?;
     let played = play(&rt, TWO, "", link)?;
     let events = [
         Event::Now { at: 0 },
@@ -114,7 +119,12 @@ fn a_batch_is_answered_in_its_order(rt: HostRuntime) -> Result<(), Fail> {
 #[test]
 fn a_later_batch_names_who_asked_before(rt: HostRuntime) -> Result<(), Fail> {
     let alloc = rt.alloc();
-    let link = link_at(alloc, &[(1, 7005, FIND_BY_5), (10, 7006, FIND_BY_6)], &[], &[])?;
+    let link = link_at(
+        alloc,
+        &[(1, 7005, FIND_BY_5), (10, 7006, FIND_BY_6)],
+        &[],
+        &[],
+    )?;
     let played = play(&rt, FOUR, "", link)?;
     let sent = sent(alloc, &played.link)?;
     assert_eq!(rt; played.text.as_str(), "received 2 replied 2\n");
@@ -141,7 +151,12 @@ fn more_than_a_batch_is_answered(rt: HostRuntime) -> Result<(), Fail> {
 #[test]
 fn a_reply_that_is_refused_is_passed_over(rt: HostRuntime) -> Result<(), Fail> {
     let alloc = rt.alloc();
-    let link = link_at(alloc, &[(10, 7000, PING), (10, 7001, SECOND_PING)], &[0], &[])?;
+    let link = link_at(
+        alloc,
+        &[(10, 7000, PING), (10, 7001, SECOND_PING)],
+        &[0],
+        &[],
+    )?;
     let played = play(&rt, TWO, "", link)?;
     let sent = sent(alloc, &played.link)?;
     assert_eq!(rt; played.status, 0);
@@ -155,7 +170,12 @@ fn a_reply_that_is_refused_is_passed_over(rt: HostRuntime) -> Result<(), Fail> {
 #[test]
 fn a_failed_receive_ends_it_without_the_replies_of_its_batch(rt: HostRuntime) -> Result<(), Fail> {
     let alloc = rt.alloc();
-    let link = link_at(alloc, &[(10, 7000, PING), (10, 7001, SECOND_PING)], &[], &[2])?;
+    let link = link_at(
+        alloc,
+        &[(10, 7000, PING), (10, 7001, SECOND_PING)],
+        &[],
+        &[2],
+    )?;
     let played = play(&rt, FOUR, "", link)?;
     let sent = sent(alloc, &played.link)?;
     assert_eq!(rt; played.status, 4);
@@ -168,7 +188,12 @@ fn a_failed_receive_ends_it_without_the_replies_of_its_batch(rt: HostRuntime) ->
 #[test]
 fn two_workers_of_a_batch_are_at_work_at_once(rt: HostRuntime) -> Result<(), Fail> {
     let alloc = rt.alloc();
-    let link = link_at(alloc, &[(10, 7000, PING), (10, 7001, SECOND_PING)], &[], &[])?;
+    let link = link_at(
+        alloc,
+        &[(10, 7000, PING), (10, 7001, SECOND_PING)],
+        &[],
+        &[],
+    )?;
     let words = words(alloc, GROUPED)?;
     let seal = MeetingSeal::new([0; 32], 2);
     let played = play_under(&rt, &words, "", link, &Sha1Check, &seal)?;
