@@ -57,7 +57,11 @@ fn two_checks_run_at_once(rt: HostRuntime) -> Result<(), Fail> {
     let meeting = Meeting::new(3, 2);
     let hasher = RandomState::new(&rt)?;
     let mut link = two_answers(rt.alloc(), 3, 4)?;
-    let (_table, _result) = play(&rt, rt.alloc(), &[1, 2], 2, &mut link, &meeting, hasher)?;
+    let (_table, result) = play(&rt, rt.alloc(), &[1, 2], 2, &mut link, &meeting, hasher)?;
+    let (outcome, asked) = found(result)?;
+    let all = [contact(1), contact(2), contact(3), contact(4)];
+    assert_eq!(rt; outcome.found.as_slice(), all.as_slice());
+    assert_eq!(rt; asked, 4);
     assert!(rt; meeting.is_met());
     Ok(())
 }
