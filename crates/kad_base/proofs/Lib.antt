@@ -3,3 +3,4 @@ pub mod Runs
 pub mod Contacts
 pub mod Xors
 pub mod Zeros
+pub mod Happening

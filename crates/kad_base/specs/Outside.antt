@@ -20,6 +20,12 @@ Grows old new P = IfSome new (λ after. Added old after P)
 abbrev pub Shrinks : {A : Type 0} → Option (List A) → Option (List A) → List A → Type 0
 Shrinks old new front = IfSome new (λ rest. old ≡ Some (front ++ rest))
 
+-- These events happened, whether the link tells them or not: where it does, it told these and no others.
+pub record Happens (told told' : Option (List Event)) (P : List Event → Type 0) : Type 0 where
+  pub events : List Event
+  pub told_are : Grows told told' (λ es. es ≡ events)
+  pub holds : P events
+
 -- the count rose, or stands at its last value
 abbrev pub Rose : ℕ → ℕ → Type 0
 Rose old new = (old < new) ⊎ (2 ^ 64 ≤ new + 1)

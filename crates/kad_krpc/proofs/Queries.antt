@@ -1,5 +1,5 @@
 -- The queries of a lookup, spelled out: an identifier has 20 bytes, and a transaction id four.
-use Rattle.std.proofs.Common.{◌≡◌, ℕ, ◌+◌, ◌<◌, true, false, List, [], ◌∷◌, ◌++◌, length, pos, ap, sym, ◌∙◌, append-nil, append_assoc}
+use Rattle.std.proofs.Common.{◌≡◌, ℕ, ◌+◌, ◌<◌, Bool, true, false, cond, List, [], ◌∷◌, ◌++◌, length, pos, ap, sym, ◌∙◌, append-nil, append_assoc}
 use Rattle.std.specs.Prelude.{codes}
 use Rattle.kad_base.specs.declared.types.Id.{Id}
 use Rattle.kad_bencode.specs.Spelling.{numeral, string_text, pairs_text, text_of}
@@ -21,8 +21,11 @@ three_joined k v l w m x e = simp (append_assoc, append-nil)
 five_joined : (j u k v l w m x n y e : List ℕ) → ((j ++ u) ++ ((k ++ v) ++ ((l ++ w) ++ ((m ++ x) ++ ((n ++ y) ++ []))))) ++ e ≡ j ++ (u ++ (k ++ (v ++ (l ++ (w ++ (m ++ (x ++ (n ++ (y ++ e)))))))))
 five_joined j u k v l w m x n y e = simp (append_assoc, append-nil)
 
-whole_joined : (a k c b w e m n r t z : List ℕ) → (a ++ (k ++ (c ++ (b ++ (w ++ e))))) ++ (m ++ (n ++ (r ++ (t ++ z)))) ≡ a ++ k ++ c ++ b ++ w ++ (e ++ m) ++ n ++ r ++ t ++ z
-whole_joined a k c b w e m n r t z = simp append_assoc
+four_joined : (j u k v m x n y e : List ℕ) → ((j ++ u) ++ ((k ++ v) ++ ((m ++ x) ++ ((n ++ y) ++ [])))) ++ e ≡ j ++ (u ++ (k ++ (v ++ (m ++ (x ++ (n ++ (y ++ e)))))))
+four_joined j u k v m x n y e = simp (append_assoc, append-nil)
+
+whole_joined : (a k c b w e m n o r t z : List ℕ) → (a ++ (k ++ (c ++ (b ++ (w ++ e))))) ++ (m ++ (n ++ (o ++ (r ++ (t ++ z))))) ≡ a ++ k ++ c ++ b ++ w ++ (e ++ m) ++ n ++ o ++ r ++ t ++ z
+whole_joined a k c b w e m n o r t z = simp append_assoc
 
 -- two bytes in front of a text
 pub two_before : (a : List ℕ) (x y : ℕ) (text : List ℕ) → (a ++ x ∷ y ∷ []) ++ text ≡ a ++ x ∷ y ∷ text
@@ -63,11 +66,11 @@ pub ids_alone_text : (id other : Id) (key : List ℕ) → length id.0 ≡ 20 →
     → text_of (Dict (two_ids id key other ++ want_pair (only false))) ≡ codes "d2:id20:" ++ (id.0 ++ (string_text key ++ (codes "20:" ++ (other.0 ++ ([] ++ codes "e")))))
 ids_alone_text id other key a b = ids_text id other key a b
 
--- a read-only query with these arguments
-query_text : (tx args : List ℕ) (ask : Ask) → length tx ≡ 4 → text_of (Dict (arguments_of ask)) ≡ args
-    → form (message.Query tx true ask) ≡ codes "d1:a" ++ (args ++ (codes "1:q" ++ (string_text (name_of ask) ++ (codes "2:roi1e1:t4:" ++ (tx ++ codes "1:y1:qe")))))
+-- a query with these arguments
+query_text : (tx args : List ℕ) (read_only : Bool) (ask : Ask) → length tx ≡ 4 → text_of (Dict (arguments_of ask)) ≡ args
+    → form (message.Query tx read_only ask) ≡ codes "d1:a" ++ (args ++ (codes "1:q" ++ (string_text (name_of ask) ++ (cond read_only (codes "2:roi1e") [] ++ (codes "1:t4:" ++ (tx ++ codes "1:y1:qe"))))))
 unfolding form
-query_text tx args ask t a =
+query_text tx args true ask t a =
     text_of-dict (message_pairs (message.Query tx true ask))
     ∙ (λ i. codes "d" ++ pairs_text (
     record { key = codes "a"; value = a i }
@@ -77,13 +80,22 @@ query_text tx args ask t a =
     ∷ record { key = codes "y"; value = text_of-text (codes "q") i }
     ∷ []) ++ codes "e")
     ∙ ap (λ l. codes "d" ++ l) (five_joined (codes "1:a") args (codes "1:q") (string_text (name_of ask)) (codes "2:ro") (codes "i1e") (codes "1:t") (codes "4:" ++ tx) (codes "1:y") (codes "1:q") (codes "e"))
+query_text tx args false ask t a =
+    text_of-dict (message_pairs (message.Query tx false ask))
+    ∙ (λ i. codes "d" ++ pairs_text (
+    record { key = codes "a"; value = a i }
+    ∷ record { key = codes "q"; value = text_of-text (name_of ask) i }
+    ∷ record { key = codes "t"; value = text_long tx 4 t i }
+    ∷ record { key = codes "y"; value = text_of-text (codes "q") i }
+    ∷ []) ++ codes "e")
+    ∙ ap (λ l. codes "d" ++ l) (four_joined (codes "1:a") args (codes "1:q") (string_text (name_of ask)) (codes "1:t") (codes "4:" ++ tx) (codes "1:y") (codes "1:q") (codes "e"))
 
--- a read-only query whose arguments are two identifiers, and what stands behind them
-pub two_ids_query : (own other : Id) (key behind name tx : List ℕ) (ask : Ask) → length tx ≡ 4
+-- a query whose arguments are two identifiers, and what stands behind them
+pub two_ids_query : (own other : Id) (key behind name tx : List ℕ) (read_only : Bool) (ask : Ask) → length tx ≡ 4
     → text_of (Dict (arguments_of ask)) ≡ codes "d2:id20:" ++ (own.0 ++ (string_text key ++ (codes "20:" ++ (other.0 ++ (behind ++ codes "e"))))) → name_of ask ≡ name
-    → form (message.Query tx true ask)
-    ≡ codes "d1:ad2:id20:" ++ own.0 ++ string_text key ++ codes "20:" ++ other.0 ++ behind ++ codes "e1:q" ++ string_text name ++ codes "2:roi1e1:t4:" ++ tx ++ codes "1:y1:qe"
-two_ids_query own other key behind name tx ask t arguments named =
-    query_text tx _ ask t arguments
-    ∙ ap (λ l. codes "d1:ad2:id20:" ++ l) (whole_joined own.0 (string_text key) (codes "20:") other.0 behind (codes "e") (codes "1:q") (string_text (name_of ask)) (codes "2:roi1e1:t4:") tx (codes "1:y1:qe"))
-    ∙ ap (λ n. codes "d1:ad2:id20:" ++ own.0 ++ string_text key ++ codes "20:" ++ other.0 ++ behind ++ codes "e1:q" ++ string_text n ++ codes "2:roi1e1:t4:" ++ tx ++ codes "1:y1:qe") named
+    → form (message.Query tx read_only ask)
+    ≡ codes "d1:ad2:id20:" ++ own.0 ++ string_text key ++ codes "20:" ++ other.0 ++ behind ++ codes "e1:q" ++ string_text name ++ cond read_only (codes "2:roi1e") [] ++ codes "1:t4:" ++ tx ++ codes "1:y1:qe"
+two_ids_query own other key behind name tx read_only ask t arguments named =
+    query_text tx _ read_only ask t arguments
+    ∙ ap (λ l. codes "d1:ad2:id20:" ++ l) (whole_joined own.0 (string_text key) (codes "20:") other.0 behind (codes "e") (codes "1:q") (string_text (name_of ask)) (cond read_only (codes "2:roi1e") []) (codes "1:t4:") tx (codes "1:y1:qe"))
+    ∙ ap (λ n. codes "d1:ad2:id20:" ++ own.0 ++ string_text key ++ codes "20:" ++ other.0 ++ behind ++ codes "e1:q" ++ string_text n ++ cond read_only (codes "2:roi1e") [] ++ codes "1:t4:" ++ tx ++ codes "1:y1:qe") named

@@ -60,15 +60,14 @@ IsWritable (message.Fault tx code text) = Unit {0}
 abbrev pub only : Bool → Want
 only six = record { four = false; six = six }
 
--- the read-only find_node query (`ro` is BEP 43's), whose transaction id is the bytes of a word, in the network of IPv6 or
--- not
-abbrev pub find_node_query : Id → Id → Bool → ℕ → Message
-find_node_query own target six tx = message.Query (word_bytes tx) true (FindNode own target (only six))
+-- the find_node query, whose transaction id is the bytes of a word, in the network of IPv6 or not, read-only or not (BEP 43)
+abbrev pub find_node_query : Id → Id → Bool → Bool → ℕ → Message
+find_node_query own target six read_only tx = message.Query (word_bytes tx) read_only (FindNode own target (only six))
 
--- the read-only get_peers query, whose transaction id is the bytes of a word, in the network of IPv6 or not
-abbrev pub get_peers_query : Id → Id → Bool → ℕ → Message
-get_peers_query own info_hash six tx = message.Query (word_bytes tx) true (GetPeers own info_hash (only six))
+-- the get_peers query, in the same way
+abbrev pub get_peers_query : Id → Id → Bool → Bool → ℕ → Message
+get_peers_query own info_hash six read_only tx = message.Query (word_bytes tx) read_only (GetPeers own info_hash (only six))
 
--- the read-only get query (BEP 44), whose transaction id is the bytes of a word, in the network of IPv6 or not
-abbrev pub get_query : Id → Id → Bool → ℕ → Message
-get_query own target six tx = message.Query (word_bytes tx) true (Get own target (only six))
+-- the get query (BEP 44), in the same way
+abbrev pub get_query : Id → Id → Bool → Bool → ℕ → Message
+get_query own target six read_only tx = message.Query (word_bytes tx) read_only (Get own target (only six))

@@ -1,5 +1,5 @@
 //! The queries of a lookup, written without memory.
-ghost use Rattle.std.specs.Prelude.{◌≡◌, ◌+◌, ◌≤◌, ◌++◌, true, cond, codes, length, take};
+ghost use Rattle.std.specs.Prelude.{◌≡◌, ◌+◌, ◌≤◌, ◌++◌, [], cond, codes, length, take};
 ghost use Rattle.kad_base.specs.Words.{word_bytes};
 ghost use Rattle.kad_bencode.specs.Spelling.{string_text};
 ghost use Rattle.kad_krpc.specs.Form.{form, arguments_of, name_of, two_ids, only, want_pair, find_node_query, get_peers_query, get_query};
@@ -21,7 +21,7 @@ fn put_name(buf: &mut [u8; 160], at: usize, name: &[u8]) -> usize
     put_bytes(buf, at, name)
 }
 
-/// Writes the text of a read-only query of two identifiers in front of `buf`, with what stands behind these.
+/// Writes the text of a query of two identifiers in front of `buf`, with what stands behind these and behind the method.
 #[inline(always)]
 fn text_into(
     buf: &mut [u8; 160],
@@ -30,17 +30,20 @@ fn text_into(
     sought: &Id,
     behind: &[u8],
     method: &[u8],
+    ro: &[u8],
     tx: u32,
 ) -> usize
     requires key { length key.now ≤ 9 }
     requires behind { length behind.now ≤ 12 }
     requires method { length method.now ≤ 9 }
+    requires ro { length ro.now ≤ 7 }
     ensures own { length own.now.0 ≡ 20 }
     ensures sought { length sought.now.0 ≡ 20 }
-    ensures length { result ≡ 86 + length key.now + length behind.now + length method.now }
+    ensures length { result ≡ 79 + length key.now + length behind.now + length method.now
+        + length ro.now }
     ensures text { take result buf.new ≡ codes "d1:ad2:id20:" ++ own.now.0
         ++ string_text key.now ++ codes "20:" ++ sought.now.0 ++ behind.now ++ codes "e1:q"
-        ++ string_text method.now ++ codes "2:roi1e1:t4:" ++ word_bytes tx ++ codes "1:y1:qe" }
+        ++ string_text method.now ++ ro.now ++ codes "1:t4:" ++ word_bytes tx ++ codes "1:y1:qe" }
 {
     let at = put_bytes(buf, 0, b"d1:ad2:id20:");
     let at = put_bytes(buf, at, &own.0);
@@ -50,14 +53,45 @@ fn text_into(
     let at = put_bytes(buf, at, behind);
     let at = put_bytes(buf, at, b"e1:q");
     let at = put_name(buf, at, method);
-    let at = put_bytes(buf, at, b"2:roi1e1:t4:");
+    let at = put_bytes(buf, at, ro);
+    let at = put_bytes(buf, at, b"1:t4:");
     let at = put_bytes(buf, at, &tx.to_le_bytes());
     put_bytes(buf, at, b"1:y1:qe")
 }
 
-/// Writes a read-only query (BEP 5, BEP 43) whose arguments are two identifiers, the second under `key`, and where the
-/// contacts of IPv6 are wanted the word that says so (BEP 32), in front of `buf`. The calls are inlined, since the names
-/// are known there.
+/// Writes the text of a query of two identifiers in front of `buf`, which says where it is read-only (BEP 43).
+#[inline(always)]
+fn said_into(
+    buf: &mut [u8; 160],
+    own: &Id,
+    key: &[u8],
+    sought: &Id,
+    behind: &[u8],
+    method: &[u8],
+    read_only: bool,
+    tx: u32,
+) -> usize
+    requires key { length key.now ≤ 9 }
+    requires behind { length behind.now ≤ 12 }
+    requires method { length method.now ≤ 9 }
+    ensures own { length own.now.0 ≡ 20 }
+    ensures sought { length sought.now.0 ≡ 20 }
+    ensures length { result ≡ 79 + length key.now + length behind.now + length method.now
+        + cond read_only 7 0 }
+    ensures text { take result buf.new ≡ codes "d1:ad2:id20:" ++ own.now.0
+        ++ string_text key.now ++ codes "20:" ++ sought.now.0 ++ behind.now ++ codes "e1:q"
+        ++ string_text method.now ++ cond read_only (codes "2:roi1e") [] ++ codes "1:t4:" ++ word_bytes tx
+        ++ codes "1:y1:qe" }
+{
+    if read_only {
+        return text_into(buf, own, key, sought, behind, method, b"2:roi1e", tx);
+    }
+    text_into(buf, own, key, sought, behind, method, b"", tx)
+}
+
+/// Writes a query (BEP 5) whose arguments are two identifiers, the second under `key`, and where the contacts of IPv6 are
+/// wanted the word that says so (BEP 32), in front of `buf`; it says where it is read-only (BEP 43). The calls are inlined,
+/// since the names are known there.
 #[inline(always)]
 fn query_into(
     buf: &mut [u8; 160],
@@ -66,44 +100,97 @@ fn query_into(
     sought: &Id,
     six: bool,
     method: &[u8],
+    read_only: bool,
     tx: u32,
 ) -> usize
     requires key { length key.now ≤ 9 }
     requires method { length method.now ≤ 9 }
-    ensures length { result ≡ 86 + length key.now + cond six 12 0 + length method.now }
+    ensures length { result ≡ 79 + length key.now + cond six 12 0 + length method.now
+        + cond read_only 7 0 }
     ensures form { (ask : Ask) → arguments_of ask ≡ two_ids own.now key.now sought.now ++ want_pair (only six)
         → name_of ask ≡ method.now
-        → take result buf.new ≡ form (Message.Query (word_bytes tx) true ask) }
+        → take result buf.new ≡ form (Message.Query (word_bytes tx) read_only ask) }
 {
     if six {
-        return text_into(buf, own, key, sought, b"4:wantl2:n6e", method, tx);
+        return said_into(
+            buf,
+            own,
+            key,
+            sought,
+            b"4:wantl2:n6e",
+            method,
+            read_only,
+            tx,
+        );
     }
-    text_into(buf, own, key, sought, b"", method, tx)
+    said_into(buf, own, key, sought, b"", method, read_only, tx)
 }
 
-/// Writes the read-only `find_node` query (BEP 5, BEP 43) in front of `buf`, and answers its length: 101 bytes, or 113
-/// where it asks for contacts of IPv6 by `want` (BEP 32). The transaction id is the four bytes of `tx`, the lowest first.
-pub fn find_node_into(buf: &mut [u8; 160], own: &Id, target: &Id, six: bool, tx: u32) -> usize
-    ensures length { result ≡ cond six 113 101 }
-    ensures form { take result buf.new ≡ form (find_node_query own.now target.now six tx) }
+/// Writes the `find_node` query (BEP 5) in front of `buf`, and answers its length: 94 bytes, 7 more where it is read-only
+/// (BEP 43), and 12 more where it asks for contacts of IPv6 by `want` (BEP 32). The transaction id is the four bytes of `tx`,
+/// the lowest first.
+pub fn find_node_into(
+    buf: &mut [u8; 160],
+    own: &Id,
+    target: &Id,
+    six: bool,
+    read_only: bool,
+    tx: u32,
+) -> usize
+    ensures length { result ≡ 94 + cond six 12 0 + cond read_only 7 0 }
+    ensures form { take result buf.new ≡ form (find_node_query own.now target.now six read_only tx) }
 {
-    query_into(buf, own, b"target", target, six, b"find_node", tx)
+    query_into(
+        buf,
+        own,
+        b"target",
+        target,
+        six,
+        b"find_node",
+        read_only,
+        tx,
+    )
 }
 
-/// Writes the read-only `get_peers` query (BEP 5, BEP 43) in front of `buf`, and answers its length: 104 bytes, or 116
-/// where it asks for contacts of IPv6 by `want` (BEP 32). The transaction id is the four bytes of `tx`, the lowest first.
-pub fn get_peers_into(buf: &mut [u8; 160], own: &Id, info_hash: &Id, six: bool, tx: u32) -> usize
-    ensures length { result ≡ cond six 116 104 }
-    ensures form { take result buf.new ≡ form (get_peers_query own.now info_hash.now six tx) }
+/// Writes the `get_peers` query (BEP 5) in front of `buf`, and answers its length: 97 bytes, 7 more where it is read-only
+/// (BEP 43), and 12 more where it asks for contacts of IPv6 by `want` (BEP 32). The transaction id is the four bytes of `tx`,
+/// the lowest first.
+pub fn get_peers_into(
+    buf: &mut [u8; 160],
+    own: &Id,
+    info_hash: &Id,
+    six: bool,
+    read_only: bool,
+    tx: u32,
+) -> usize
+    ensures length { result ≡ 97 + cond six 12 0 + cond read_only 7 0 }
+    ensures form { take result buf.new ≡ form (get_peers_query own.now info_hash.now six read_only tx) }
 {
-    query_into(buf, own, b"info_hash", info_hash, six, b"get_peers", tx)
+    query_into(
+        buf,
+        own,
+        b"info_hash",
+        info_hash,
+        six,
+        b"get_peers",
+        read_only,
+        tx,
+    )
 }
 
-/// Writes the read-only `get` query (BEP 44, BEP 43) in front of `buf`, and answers its length: 95 bytes, or 107 where it
-/// asks for contacts of IPv6 by `want` (BEP 32). The transaction id is the four bytes of `tx`, the lowest first.
-pub fn get_into(buf: &mut [u8; 160], own: &Id, target: &Id, six: bool, tx: u32) -> usize
-    ensures length { result ≡ cond six 107 95 }
-    ensures form { take result buf.new ≡ form (get_query own.now target.now six tx) }
+/// Writes the `get` query (BEP 44) in front of `buf`, and answers its length: 88 bytes, 7 more where it is read-only
+/// (BEP 43), and 12 more where it asks for contacts of IPv6 by `want` (BEP 32). The transaction id is the four bytes of `tx`,
+/// the lowest first.
+pub fn get_into(
+    buf: &mut [u8; 160],
+    own: &Id,
+    target: &Id,
+    six: bool,
+    read_only: bool,
+    tx: u32,
+) -> usize
+    ensures length { result ≡ 88 + cond six 12 0 + cond read_only 7 0 }
+    ensures form { take result buf.new ≡ form (get_query own.now target.now six read_only tx) }
 {
-    query_into(buf, own, b"target", target, six, b"get", tx)
+    query_into(buf, own, b"target", target, six, b"get", read_only, tx)
 }

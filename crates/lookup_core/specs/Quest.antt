@@ -20,15 +20,16 @@ abbrev pub is_six : Family → Bool
 is_six Four = false
 is_six Six = true
 
--- the query of each kind (BEP 5, BEP 44), read-only (BEP 43), which asks for contacts of IPv6 or says nothing of whose (BEP 32)
-abbrev pub message_of : AskKind → Id → Id → Bool → ℕ → Message
-message_of FindNode own target six tx = find_node_query own target six tx
-message_of GetPeers own target six tx = get_peers_query own target six tx
-message_of GetItem own target six tx = get_query own target six tx
+-- the query of each kind (BEP 5, BEP 44), which asks for contacts of IPv6 or says nothing of whose (BEP 32), and is read-only
+-- or not (BEP 43)
+abbrev pub message_of : AskKind → Id → Id → Bool → Bool → ℕ → Message
+message_of FindNode own target six read_only tx = find_node_query own target six read_only tx
+message_of GetPeers own target six read_only tx = get_peers_query own target six read_only tx
+message_of GetItem own target six read_only tx = get_query own target six read_only tx
 
 -- the query that a lookup sends
 abbrev pub query_message : Quest → ℕ → Message
-query_message quest tx = message_of quest.kind quest.own quest.target (is_six quest.family) tx
+query_message quest tx = message_of quest.kind quest.own quest.target (is_six quest.family) quest.read_only tx
 
 -- a contact as a report without a proof
 abbrev pub bare : Contact → Report

@@ -21,8 +21,8 @@ pub enum AskKind {
 }
 
 /// What a lookup asks, and what it believes: `own` asks for `target` in the network of `family`, `policy` says which
-/// reports may be believed, `timeout` how long to wait for an answer, in milliseconds, and `sealed` whether a reply has to
-/// carry a tag that is accepted.
+/// reports may be believed, `timeout` how long to wait for an answer, in milliseconds, `sealed` whether a reply has to
+/// carry a tag that is accepted, and `read_only` whether the node answers no queries, and says so (BEP 43).
 #[derive(Clone, Copy, Debug, PartialEq, Eq)]
 pub struct Quest {
     pub own: Id,
@@ -32,6 +32,7 @@ pub struct Quest {
     pub family: Family,
     pub timeout: u32,
     pub sealed: bool,
+    pub read_only: bool,
 }
 
 /// Whether it is the network of IPv6.
@@ -100,9 +101,13 @@ impl Quest {
     {
         let six = is_six(self.family);
         match self.kind {
-            AskKind::FindNode => find_node_into(buf, &self.own, &self.target, six, tx),
-            AskKind::GetPeers => get_peers_into(buf, &self.own, &self.target, six, tx),
-            AskKind::GetItem => get_into(buf, &self.own, &self.target, six, tx),
+            AskKind::FindNode => {
+                find_node_into(buf, &self.own, &self.target, six, self.read_only, tx)
+            }
+            AskKind::GetPeers => {
+                get_peers_into(buf, &self.own, &self.target, six, self.read_only, tx)
+            }
+            AskKind::GetItem => get_into(buf, &self.own, &self.target, six, self.read_only, tx),
         }
     }
 

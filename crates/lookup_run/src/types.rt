@@ -54,6 +54,7 @@ impl LookSetting {
             family: self.family,
             timeout: self.timeout,
             sealed: self.sealed,
+            read_only: true,
         }
     }
 }

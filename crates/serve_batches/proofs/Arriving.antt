@@ -5,7 +5,7 @@ use Rattle.std.proofs.lemmas.List.{get_or-map, get_or-set_same, get_or-set_other
 use Rattle.std.proofs.lemmas.Bool.{cases_eq}
 use Rattle.kad_base.specs.declared.types.Event.{Event}
 use Rattle.kad_base.specs.declared.types.Event.TheVariants.{Got, Quiet}
-use Rattle.kad_base.specs.Outside.{Grows}
+use Rattle.kad_base.specs.Outside.{Grows, Happens}
 use Rattle.kad_base.proofs.Grown.{grows_then, grows_none}
 use Rattle.deal_ring.specs.declared.place.Place.{Place}
 use Rattle.deal_ring.specs.Ring.{ring, behind, in_order}
@@ -13,10 +13,9 @@ use Rattle.deal_ring.proofs.Rings.{ring_within, length_in_order}
 use Rattle.node_serve.specs.Receives.{waits_until}
 use Rattle.serve_batches.specs.Batches.{Datagram, quiet, full, IsCutOff, max_batch, receives_of, waits_after}
 use Rattle.serve_batches.specs.Crew.{slots_of, datagrams_of, batch_datagrams, slot_at, no_slot, no_datagram, HasSlots, AreRoomy, SameCrew, PutAt, IsReceived}
-use Rattle.serve_batches.specs.ManyServed.{Happens}
 use Rattle.serve_batches.specs.Slots.{datagram_in}
 use Rattle.serve_batches.specs.declared.shift.Shift.{Shift}
-use Rattle.serve_batches.proofs.Happening.{happens_these}
+use Rattle.kad_base.proofs.Happening.{happens_these}
 use Rattle.serve_batches.proofs.Rounds.{room_at, in_order_kept, in_order_put}
 
 -- ---- a crew

@@ -6,7 +6,7 @@ use Rattle.std.proofs.lemmas.Grind.{flat_map-append}
 use Rattle.std.proofs.lemmas.List.Elements.{All-nil, All-push}
 use Rattle.kad_base.specs.declared.types.Event.{Event}
 use Rattle.kad_base.specs.declared.types.Event.TheVariants.{Quiet}
-use Rattle.kad_base.specs.Outside.{Rose}
+use Rattle.kad_base.specs.Outside.{Rose, Happens}
 use Rattle.turn_book.specs.Turns.{TurnState}
 use Rattle.contact_table.specs.TableState.{TableState}
 use Rattle.peer_store.specs.Peers.{Held}
@@ -23,14 +23,14 @@ use Rattle.serve_crew.specs.Hands.{SameHands, Grew}
 use Rattle.serve_crew.proofs.Growing.{grew_none, grew_more, same_none, same_more}
 use Rattle.serve_batches.specs.Batches.{Datagram, Receives, quiet, full, Done, IsDone, IsBatch, IsUnanswered, Batches, receives_of, waits_after, calls_for}
 use Rattle.serve_batches.specs.Crew.{SameCrew, CanWork, AllWorked, SendsAll, IsReceived, batch_datagrams, batch_slots, datagrams_of, no_datagram}
-use Rattle.serve_batches.specs.ManyServed.{Happens, EndsEarly}
+use Rattle.serve_batches.specs.ManyServed.{EndsEarly}
 use Rattle.serve_batches.specs.Serving.{SameRoles, GrewSome, ServesBatch, ServesBatches, StopsServing}
 use Rattle.serve_batches.specs.Slots.{Handled}
 use Rattle.serve_batches.specs.declared.batch.Progress.{Progress}
 use Rattle.serve_batches.specs.declared.receiving.Received.{Received}
 use Rattle.serve_batches.specs.declared.shift.Shift.{Shift}
 use Rattle.serve_batches.proofs.Answering.{Answered_batch}
-use Rattle.serve_batches.proofs.Happening.{happens_then, happens_none, happens_weaker}
+use Rattle.kad_base.proofs.Happening.{happens_then, happens_none, happens_weaker}
 use Rattle.serve_batches.proofs.Sending.{got_then}
 
 -- ---- what the receives of a batch are

@@ -10,6 +10,7 @@ use Rattle.std.proofs.lemmas.Bool.{eqb-true}
 use Rattle.kad_base.specs.declared.types.Event.{Event}
 use Rattle.kad_base.specs.declared.serial.Made.{Made}
 use Rattle.kad_base.specs.Serial.{made, calls_of, left_by, IsRun}
+use Rattle.kad_base.specs.Outside.{Happens}
 use Rattle.deal_ring.specs.Deal.{dealt_from, dealt}
 use Rattle.turn_book.specs.Turns.{TurnState, PassState, Closed, fresh, all_fresh, mine}
 use Rattle.contact_table.specs.TableState.{TableState}
@@ -33,13 +34,14 @@ use Rattle.node_serve.specs.declared.service.ServeFault.TheVariants.{NoMemory as
 use Rattle.node_serve.specs.declared.setting.ServeSetting.{ServeSetting}
 use Rattle.serve_crew.specs.Hands.{Grew, TablePass, PeersPass, ItemsPass, at_table, at_peers, at_items}
 use Rattle.serve_batches.specs.Batches.{Datagram, Done, IsAnsweredBy, IsDone, calls_for}
-use Rattle.serve_batches.specs.ManyServed.{Happens, Ran, HadAllMemory, AreCalls, AreFirstCalls, ManyServed, ManyBegun}
+use Rattle.serve_crew.specs.Runs.{Ran, HadAllMemory, AreCalls, AreFirstCalls}
+use Rattle.serve_batches.specs.ManyServed.{ManyServed, ManyBegun}
 use Rattle.serve_batches.specs.Passes.{new_hands}
 use Rattle.serve_batches.specs.Serving.{Rows, AreBack, ServedBack, StoppedBack}
 use Rattle.serve_batches.specs.declared.shift.Shift.{Shift}
 use Rattle.serve_batches.proofs.Dealing.{all_reverse}
 use Rattle.serve_batches.proofs.Answering.{first_of}
-use Rattle.serve_batches.proofs.Happening.{happens_weaker}
+use Rattle.kad_base.proofs.Happening.{happens_weaker}
 
 -- ---- one turn
 

@@ -5,7 +5,6 @@ pub mod Circling
 pub mod Closing
 pub mod Crossing
 pub mod Dealing
-pub mod Happening
 pub mod Listing
 pub mod Parting
 pub mod Returning

@@ -3,6 +3,7 @@ use Rattle.std.proofs.Common.{◌≡◌, ℕ, ◌<◌, List, map, length, Option
 use Rattle.std.specs.Prelude.{slice_index_or}
 use Rattle.std.specs.List.{range_with_len}
 use Rattle.kad_base.specs.declared.types.Event.{Event}
+use Rattle.kad_base.specs.Outside.{Happens}
 use Rattle.turn_book.specs.Turns.{TurnState}
 use Rattle.contact_table.specs.TableState.{TableState}
 use Rattle.peer_store.specs.Peers.{Held}
@@ -13,13 +14,12 @@ use Rattle.node_serve.specs.declared.setting.ServeSetting.{ServeSetting}
 use Rattle.serve_crew.specs.Hands.{Hands, SameHands, Grew, TablePass, PeersPass, ItemsPass}
 use Rattle.serve_batches.specs.Batches.{Batches, calls_for}
 use Rattle.serve_batches.specs.Crew.{HasSlots, AreRoomy, CanWork}
-use Rattle.serve_batches.specs.ManyServed.{Happens}
 use Rattle.serve_batches.specs.Passes.{new_hands, workers_of, table_passes, peers_passes, items_passes}
 use Rattle.serve_batches.specs.Serving.{SameRoles, ServesBatches, StopsServing, GrewFirst, Rows, rows, AreBack, ServedBack, StoppedBack, begun}
 use Rattle.serve_batches.specs.declared.batch.Progress.{Progress}
 use Rattle.serve_batches.specs.declared.shift.Shift.{Shift}
 use Rattle.serve_batches.proofs.Dealing.{crew_count, start_at}
-use Rattle.serve_batches.proofs.Happening.{happens_weaker}
+use Rattle.kad_base.proofs.Happening.{happens_weaker}
 
 pub crew_roomy : (tables : TurnState TableState) (stores : TurnState (List Held)) (shelves : TurnState (List HeldItem)) (n : ℕ) (crew : List Shift) → workers_of crew ≡ map (new_hands tables stores shelves) (range_with_len 0 n) → All (HasSlots n) crew → AreRoomy crew
 crew_roomy tables stores shelves n crew is h = subst (λ k. All (HasSlots k) crew) (sym (crew_count tables stores shelves n crew is)) h

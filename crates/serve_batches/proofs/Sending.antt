@@ -5,7 +5,7 @@ use Rattle.std.proofs.lemmas.List.{length-append}
 use Rattle.std.proofs.lemmas.List.Elements.{filter-append, All-nil, All-push, All-same}
 use Rattle.kad_base.specs.declared.types.Addr.{Addr}
 use Rattle.kad_base.specs.declared.types.Event.{Event}
-use Rattle.kad_base.specs.Outside.{Grows}
+use Rattle.kad_base.specs.Outside.{Grows, Happens}
 use Rattle.deal_ring.specs.declared.place.Place.{Place}
 use Rattle.deal_ring.specs.Ring.{ring}
 use Rattle.deal_ring.proofs.Rings.{in_order_more}
@@ -13,10 +13,9 @@ use Rattle.node_serve.specs.Receives.{is_got, got_in, sent_in}
 use Rattle.node_serve.proofs.Receiving.{sent_then}
 use Rattle.serve_batches.specs.Batches.{sent_for}
 use Rattle.serve_batches.specs.Crew.{AllWent, SendsFor, SendsAll, batch_slots, slot_at, slots_of, no_slot}
-use Rattle.serve_batches.specs.ManyServed.{Happens}
 use Rattle.serve_batches.specs.Slots.{SlotState, Went, reply_in, sends_of}
 use Rattle.serve_batches.specs.declared.shift.Shift.{Shift}
-use Rattle.serve_batches.proofs.Happening.{happens_then, happens_these, happens_none}
+use Rattle.kad_base.proofs.Happening.{happens_then, happens_these, happens_none}
 
 pub got_then : (es fs : List Event) → got_in (es ++ fs) ≡ got_in es + got_in fs
 got_then es fs = ap (λ (l : List Event). length l) (filter-append is_got es fs) ∙ length-append (filter is_got es) (filter is_got fs)

@@ -2,11 +2,11 @@
 //! another.
 ghost use Rattle.std.specs.Prelude.{◌≡◌, ◌≢◌, ◌+◌, ◌≤◌, ◌<◌, ◌^◌, length, IfErr, OnOk};
 ghost use Rattle.std.specs.List.{All};
-ghost use Rattle.kad_base.specs.Outside.{Rose};
+ghost use Rattle.kad_base.specs.Outside.{Rose, Happens};
 ghost use Rattle.node_serve.specs.Calls.{IsSetting};
 ghost use Rattle.node_serve.specs.declared.service.ServeFault.{ServeFault};
 ghost use Rattle.serve_batches.specs.Crew.{AreRoomy, CanWork};
-ghost use Rattle.serve_batches.specs.ManyServed.{EndsEarly, Happens};
+ghost use Rattle.serve_batches.specs.ManyServed.{EndsEarly};
 ghost use Rattle.serve_batches.specs.Serving.{GrewSome, SameRoles, ServesBatch, ServesBatches, StopsServing};
 
 use crate::crew::work_all;

@@ -1,11 +1,11 @@
 //! Serving by workers: the three turns are opened for it and closed at its end.
 ghost use Rattle.std.specs.Prelude.{◌≡◌, ◌≢◌, ◌*◌, ◌<◌, ◌≤◌, [], length, IfOk, IfErr, vec_capacity};
 ghost use Rattle.std.specs.List.{All};
-ghost use Rattle.kad_base.specs.Outside.{Rose};
+ghost use Rattle.kad_base.specs.Outside.{Rose, Happens};
 ghost use Rattle.turn_book.specs.Turns.{all_fresh, AreAll};
 ghost use Rattle.node_serve.specs.Calls.{IsSetting};
 ghost use Rattle.node_serve.specs.declared.service.ServeFault.{ServeFault};
-ghost use Rattle.serve_batches.specs.ManyServed.{Happens, ManyServed, ManyBegun};
+ghost use Rattle.serve_batches.specs.ManyServed.{ManyServed, ManyBegun};
 ghost use Rattle.serve_batches.specs.Serving.{ServedBack, StoppedBack, rows};
 
 use crate::batch::{Progress, serve_each};

@@ -1,9 +1,8 @@
 //! The receive calls of a batch.
 ghost use Rattle.std.specs.Prelude.{◌≡◌, ◌≤◌, ◌<◌, [], min, length, IfOk, OnErr};
-ghost use Rattle.kad_base.specs.Outside.{Grows, Rose};
+ghost use Rattle.kad_base.specs.Outside.{Grows, Rose, Happens};
 ghost use Rattle.deal_ring.specs.Ring.{ring};
 ghost use Rattle.serve_batches.specs.Batches.{IsCutOff};
-ghost use Rattle.serve_batches.specs.ManyServed.{Happens};
 ghost use Rattle.serve_batches.specs.Crew.{AreRoomy, SameCrew, PutAt, IsReceived, slot_at, slots_of};
 ghost use Rattle.serve_batches.specs.Slots.{Took, datagram_in, took_event};
 

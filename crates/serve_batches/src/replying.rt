@@ -1,9 +1,8 @@
 //! The replies of a batch, in the order in which its datagrams came.
 ghost use Rattle.std.specs.Prelude.{◌≡◌, ◌≤◌, ◌<◌, length, IsTrue};
-ghost use Rattle.kad_base.specs.Outside.{Grows};
+ghost use Rattle.kad_base.specs.Outside.{Grows, Happens};
 ghost use Rattle.node_serve.specs.Receives.{sent_in};
 ghost use Rattle.serve_batches.specs.Crew.{AreRoomy, AllWent, SendsAll, batch_slots, slot_at, slots_of};
-ghost use Rattle.serve_batches.specs.ManyServed.{Happens};
 ghost use Rattle.serve_batches.specs.Slots.{Went, sends_of};
 
 use crate::shift::Shift;

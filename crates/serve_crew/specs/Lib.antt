@@ -1,3 +1,4 @@
 pub mod Answered
 pub mod Hands
 pub mod Serving
+pub mod Runs

@@ -1,6 +1,5 @@
 pub mod Pinging
 pub mod Replying
-pub mod Happening
 pub mod Walking
 pub mod Receiving
 pub mod Trying

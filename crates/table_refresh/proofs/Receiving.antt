@@ -5,7 +5,7 @@ use Rattle.kad_base.specs.declared.types.Addr.{Addr}
 use Rattle.kad_base.specs.declared.types.Contact.{Contact}
 use Rattle.kad_base.specs.declared.types.Event.{Event}
 use Rattle.kad_base.specs.declared.types.Event.TheVariants.{Got, Quiet}
-use Rattle.kad_base.specs.Outside.{Grows}
+use Rattle.kad_base.specs.Outside.{Grows, Happens}
 use Rattle.query_book.specs.declared.Query.{Query}
 use Rattle.lookup_core.specs.Sealed.{Accepts}
 use Rattle.table_refresh.specs.declared.pong.Pong.{Pong}
@@ -15,9 +15,9 @@ use Rattle.table_refresh.specs.declared.types.RefreshFault.{RefreshFault}
 use Rattle.table_refresh.specs.declared.types.RefreshFault.TheVariants.{LinkFault, Strays, NoMemory}
 use Rattle.table_refresh.specs.declared.types.Setting.{Setting}
 use Rattle.table_refresh.specs.declared.types.Tried.{Tried}
-use Rattle.table_refresh.specs.Refreshed.{Given, left_after, over, is_kept, Fails, NoReply, GotGives, Gives, Stops, Happens}
+use Rattle.table_refresh.specs.Refreshed.{Given, left_after, over, is_kept, Fails, NoReply, GotGives, Gives, Stops}
 use Rattle.table_refresh.specs.inner.Steps.{given_of, waiting, tried, after, IsPong, FailsAt, TakesNone, TakesPong, TakesDatagram, StopsGot, Takes}
-use Rattle.table_refresh.proofs.Happening.{happens_these}
+use Rattle.kad_base.proofs.Happening.{happens_these}
 use Rattle.table_refresh.proofs.Walking.{tells_one}
 
 -- where a try stands that is over

@@ -5,7 +5,7 @@ use Rattle.kad_base.specs.declared.types.Contact.{Contact}
 use Rattle.kad_base.specs.declared.types.Event.{Event}
 use Rattle.kad_base.specs.declared.types.Event.TheVariants.{Sent, Unsent}
 use Rattle.kad_base.specs.Limits.{max_strays}
-use Rattle.kad_base.specs.Outside.{Grows}
+use Rattle.kad_base.specs.Outside.{Grows, Happens}
 use Rattle.kad_base.specs.Words.{word}
 use Rattle.kad_krpc.specs.Form.{form}
 use Rattle.query_book.specs.declared.Query.{Query}
@@ -18,9 +18,9 @@ use Rattle.table_refresh.specs.declared.types.RefreshFault.{RefreshFault}
 use Rattle.table_refresh.specs.declared.types.Setting.{Setting}
 use Rattle.table_refresh.specs.declared.types.Tried.{Tried}
 use Rattle.table_refresh.specs.declared.types.Tried.TheVariants.{Waits}
-use Rattle.table_refresh.specs.Refreshed.{Given, ping, Standing, left_after, over, is_kept, Pings, SentGives, UnsentGives, TellsFrom, Stops, EndsBy, Happens}
+use Rattle.table_refresh.specs.Refreshed.{Given, ping, Standing, left_after, over, is_kept, Pings, SentGives, UnsentGives, TellsFrom, Stops, EndsBy}
 use Rattle.table_refresh.specs.inner.Steps.{given_of, FailsKept, stands, waiting, tried, after, Takes, Awaits, AwaitEnds, Tries, TryEnds, PingsThese, TheseEnd}
-use Rattle.table_refresh.proofs.Happening.{happens_then, happens_these, happens_weaker}
+use Rattle.kad_base.proofs.Happening.{happens_then, happens_these, happens_weaker}
 use Rattle.table_refresh.proofs.Walking.{tells_one, tells_then, ends_then}
 
 -- ---- receives

@@ -7,16 +7,16 @@ use Rattle.kad_base.specs.declared.types.Contact.{Contact}
 use Rattle.kad_base.specs.declared.types.Event.{Event}
 use Rattle.kad_base.specs.declared.types.Event.TheVariants.{Now}
 use Rattle.kad_base.specs.Limits.{max_strays}
-use Rattle.kad_base.specs.Outside.{Grows}
+use Rattle.kad_base.specs.Outside.{Grows, Happens}
 use Rattle.id_puzzles.specs.Drawn.{WordsState}
 use Rattle.contact_table.specs.TableState.{TableState}
 use Rattle.lookup_core.specs.Sealed.{Accepts}
 use Rattle.table_refresh.specs.declared.types.Progress.{Progress}
 use Rattle.table_refresh.specs.declared.types.RefreshFault.{RefreshFault}
 use Rattle.table_refresh.specs.declared.types.Setting.{Setting}
-use Rattle.table_refresh.specs.Refreshed.{goes_by, heads_of, TellsFrom, EndsBy, begun, EndsEarly, Refreshed, Unfinished, Happens}
+use Rattle.table_refresh.specs.Refreshed.{goes_by, heads_of, TellsFrom, EndsBy, begun, EndsEarly, Refreshed, Unfinished}
 use Rattle.table_refresh.specs.inner.Steps.{given_of, stands, PingsThese, TheseEnd}
-use Rattle.table_refresh.proofs.Happening.{happens_then, happens_these}
+use Rattle.kad_base.proofs.Happening.{happens_then, happens_these}
 use Rattle.table_refresh.proofs.Walking.{tells_then, ends_then}
 
 -- ---- heads

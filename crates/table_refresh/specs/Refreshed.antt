@@ -8,7 +8,6 @@ use Rattle.kad_base.specs.declared.types.Contact.{Contact}
 use Rattle.kad_base.specs.declared.types.Event.{Event}
 use Rattle.kad_base.specs.declared.types.Event.TheVariants.{Now, Sent, Unsent, Got, Quiet}
 use Rattle.kad_base.specs.Limits.{max_datagram, max_strays}
-use Rattle.kad_base.specs.Outside.{Grows}
 use Rattle.kad_base.specs.Words.{word, word_bytes}
 use Rattle.kad_krpc.specs.declared.message.Message.{Message}
 use Rattle.kad_krpc.specs.declared.message.Message.TheVariants as message
@@ -283,11 +282,3 @@ pub record IsUntouched (table : TableState) (place : ℕ) (fault : RefreshFault)
 
 abbrev pub Unfinished : Given → TableState → ℕ → RefreshFault → TableState → ℕ → List Event → Type 0
 Unfinished g table place fault table' place' events = IsUntouched table place fault table' place' events ⊎ EndsEarly g table place fault table' place' events
-
--- ---- events
-
--- These events happened, whether the link tells them or not: where it does, it told these and no others.
-pub record Happens (told told' : Option (List Event)) (P : List Event → Type 0) : Type 0 where
-  pub events : List Event
-  pub told_are : Grows told told' (λ es. es ≡ events)
-  pub holds : P events

@@ -1,8 +1,7 @@
 //! The one or two tries of a head.
 ghost use Rattle.std.specs.Prelude.{◌≡◌, ◌≤◌, ◌<◌, ◌+◌, ◌^◌, ◌∷◌, [], length, IfOk, IfErr, OnOk, IsErrOf};
 ghost use Rattle.kad_base.specs.Limits.{max_datagram, max_strays};
-ghost use Rattle.kad_base.specs.Outside.{Rose};
-ghost use Rattle.table_refresh.specs.Refreshed.{Happens};
+ghost use Rattle.kad_base.specs.Outside.{Rose, Happens};
 ghost use Rattle.table_refresh.specs.inner.Steps.{Awaits, AwaitEnds, Tries, TryEnds, PingsThese, TheseEnd};
 
 use crate::ping::{open_ping, send_ping};

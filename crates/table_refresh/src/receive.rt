@@ -1,9 +1,9 @@
 //! One receive while a ping waits for its reply, and what it gave.
 ghost use Rattle.std.specs.Prelude.{◌≡◌, ◌≤◌, ◌<◌, ◌+◌, length, Ok, IfOk, IfErr, OnOk, OnErr, IsErrOf};
 ghost use Rattle.kad_base.specs.Limits.{max_datagram, max_strays};
-ghost use Rattle.kad_base.specs.Outside.{Rose};
+ghost use Rattle.kad_base.specs.Outside.{Rose, Happens};
 ghost use Rattle.table_refresh.specs.declared.types.Tried.TheVariants as Tried;
-ghost use Rattle.table_refresh.specs.Refreshed.{Happens, Stops};
+ghost use Rattle.table_refresh.specs.Refreshed.{Stops};
 ghost use Rattle.table_refresh.specs.inner.Steps.{FailsAt, TakesNone, TakesStray, TakesDatagram, StopsGot, Takes};
 
 use crate::pong::{Pong, pong_of};

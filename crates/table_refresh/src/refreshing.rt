@@ -1,8 +1,8 @@
 //! A whole refresh.
 ghost use Rattle.std.specs.Prelude.{◌≡◌, ◌≤◌, ◌<◌, ◌+◌, ◌*◌, ◌^◌, length, IfErr, OnOk, IsErrOf};
 ghost use Rattle.kad_base.specs.Limits.{max_strays};
-ghost use Rattle.kad_base.specs.Outside.{Rose};
-ghost use Rattle.table_refresh.specs.Refreshed.{Happens, Refreshed, Unfinished, goes_by};
+ghost use Rattle.kad_base.specs.Outside.{Rose, Happens};
+ghost use Rattle.table_refresh.specs.Refreshed.{Refreshed, Unfinished, goes_by};
 ghost use Rattle.table_refresh.specs.inner.Steps.{PingsThese, TheseEnd};
 
 use crate::head::ping_head;

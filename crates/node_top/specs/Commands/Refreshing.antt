@@ -3,12 +3,13 @@
 -- results. Which text a table has, and that all buckets are pinged in one call, is this project's own.
 use Rattle.std.specs.Prelude.{◌≡◌, ◌⊎◌, ℕ, List, [], ◌∷◌, Bool, true, None}
 use Rattle.kad_base.specs.declared.types.Event.{Event}
+use Rattle.kad_base.specs.Outside.{Happens}
 use Rattle.contact_table.specs.SavedState.{state_of}
 use Rattle.contact_table.specs.TableState.{SoundTable, TableState}
 use Rattle.contact_table.specs.declared.saved.Saved.{Saved}
 use Rattle.table_file.specs.Reading.{IsBadLine as IsBadSavedLine}
 use Rattle.table_file.specs.SavedText.{IsSavedText}
-use Rattle.table_refresh.specs.Refreshed.{Given, Happens, Refreshed, Unfinished, goes_by}
+use Rattle.table_refresh.specs.Refreshed.{Given, Refreshed, Unfinished, goes_by}
 use Rattle.table_refresh.specs.declared.types.RefreshFault.{RefreshFault}
 use Rattle.table_refresh.specs.declared.types.RefreshFault.TheVariants as fault
 use Rattle.node_top.specs.declared.status.Status.{Status}

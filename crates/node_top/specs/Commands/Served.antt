@@ -7,7 +7,7 @@ use Rattle.kad_base.specs.declared.types.Contact.{Contact}
 use Rattle.kad_base.specs.declared.types.Event.{Event}
 use Rattle.kad_base.specs.declared.types.Event.TheVariants.{Now}
 use Rattle.kad_base.specs.declared.types.Report.{Report}
-use Rattle.kad_base.specs.Outside.{Grows}
+use Rattle.kad_base.specs.Outside.{Grows, Happens}
 use Rattle.contact_table.specs.TableState.{TableState}
 use Rattle.contact_table.specs.Told.{new_table}
 use Rattle.lookup_run.specs.Lookup.{TableTold}
@@ -22,7 +22,7 @@ use Rattle.node_top.specs.Promise.{Promise, host_aim, reading}
 use Rattle.node_top.specs.Shown.{Shown}
 use Rattle.node_top.specs.Called.{Called}
 use Rattle.node_top.specs.Started.{AreTableBounds, own_of, seen_call}
-use Rattle.serve_batches.specs.ManyServed.{Happens, ManyServed, ManyBegun}
+use Rattle.serve_batches.specs.ManyServed.{ManyServed, ManyBegun}
 
 -- ---- the node that it begins with
 

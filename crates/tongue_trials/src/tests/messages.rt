@@ -457,16 +457,27 @@ fn a_record_of_either_length_is_split(rt: HostRuntime) {
     assert!(&rt; split_record::<16>(record, 1).is_none());
 }
 
+/// The query of a lookup whose node answers others, with the transaction id 0x1aed8da0: it doesn't say that it is read-only.
+#[test]
+fn a_query_of_a_node_that_answers_is_written(rt: HostRuntime) {
+    let mut buf = [0u8; 160];
+    let len = find_node_into(&mut buf, &ABC, &MNO, false, false, 0x1aed8da0);
+    assert_eq!(&rt;
+        &buf[..len],
+        b"d1:ad2:id20:abcdefghij01234567896:target20:mnopqrstuvwxyz123456e1:q9:find_node1:t4:\xa0\x8d\xed\x1a1:y1:qe".as_slice()
+    );
+}
+
 /// The two queries of a lookup, with the transaction id 0x1aed8da0.
 #[test]
 fn queries_are_written(rt: HostRuntime) {
     let mut buf = [0u8; 160];
-    let len = find_node_into(&mut buf, &ABC, &MNO, false, 0x1aed8da0);
+    let len = find_node_into(&mut buf, &ABC, &MNO, false, true, 0x1aed8da0);
     assert_eq!(&rt;
         &buf[..len],
         b"d1:ad2:id20:abcdefghij01234567896:target20:mnopqrstuvwxyz123456e1:q9:find_node2:roi1e1:t4:\xa0\x8d\xed\x1a1:y1:qe".as_slice()
     );
-    let len = get_peers_into(&mut buf, &ABC, &MNO, false, 0x1aed8da0);
+    let len = get_peers_into(&mut buf, &ABC, &MNO, false, true, 0x1aed8da0);
     assert_eq!(&rt;
         &buf[..len],
         b"d1:ad2:id20:abcdefghij01234567899:info_hash20:mnopqrstuvwxyz123456e1:q9:get_peers2:roi1e1:t4:\xa0\x8d\xed\x1a1:y1:qe".as_slice()

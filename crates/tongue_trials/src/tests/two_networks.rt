@@ -45,13 +45,13 @@ fn queries_for_contacts_of_ipv6_are_written(rt: HostRuntime) {
     let own = Id([0xff; 20]);
     let sought = Id([0; 20]);
     let mut buf = [0u8; 160];
-    let len = find_node_into(&mut buf, &own, &sought, true, 0x1aed8da0);
+    let len = find_node_into(&mut buf, &own, &sought, true, true, 0x1aed8da0);
     assert_eq!(&rt; len, 113);
     assert_eq!(&rt;
         &buf[..len],
         b"d1:ad2:id20:\xff\xff\xff\xff\xff\xff\xff\xff\xff\xff\xff\xff\xff\xff\xff\xff\xff\xff\xff\xff6:target20:\x00\x00\x00\x00\x00\x00\x00\x00\x00\x00\x00\x00\x00\x00\x00\x00\x00\x00\x00\x004:wantl2:n6ee1:q9:find_node2:roi1e1:t4:\xa0\x8d\xed\x1a1:y1:qe".as_slice()
     );
-    let len = get_peers_into(&mut buf, &own, &sought, true, 0x1aed8da0);
+    let len = get_peers_into(&mut buf, &own, &sought, true, true, 0x1aed8da0);
     assert_eq!(&rt; len, 116);
     assert_eq!(&rt;
         &buf[..len],

@@ -13,9 +13,9 @@ returns-then-six-clause-form c = λ ask arguments named.
     let own = c.args.own.now in
     let sought = c.args.sought.now in
     let key = c.args.key.now in
-    let said = c.text_into.ensures in
+    let said = c.said_into.ensures in
     said.text
-    ∙ sym (two_ids_query own sought key (codes "4:wantl2:n6e") c.args.method.now (word_bytes c.args.tx) ask refl
+    ∙ sym (two_ids_query own sought key (codes "4:wantl2:n6e") c.args.method.now (word_bytes c.args.tx) c.args.read_only ask refl
     (ap (λ ps. text_of (Dict ps)) arguments ∙ ap (λ (six : Bool). text_of (Dict (two_ids own key sought ++ want_pair (only six)))) c.if-six.true ∙ ids_six_text own sought key said.own said.sought) named)
 
 pub returns-clause-form : goal.returns-clause-form
@@ -24,7 +24,7 @@ returns-clause-form c = λ ask arguments named.
     let own = c.args.own.now in
     let sought = c.args.sought.now in
     let key = c.args.key.now in
-    let said = c.text_into-2.ensures in
+    let said = c.said_into-2.ensures in
     said.text
-    ∙ sym (two_ids_query own sought key [] c.args.method.now (word_bytes c.args.tx) ask refl
+    ∙ sym (two_ids_query own sought key [] c.args.method.now (word_bytes c.args.tx) c.args.read_only ask refl
     (ap (λ ps. text_of (Dict ps)) arguments ∙ ap (λ (six : Bool). text_of (Dict (two_ids own key sought ++ want_pair (only six)))) c.if-six.false ∙ ids_alone_text own sought key said.own said.sought) named)

@@ -1,5 +1,5 @@
 use Rattle.std.proofs.Common.{subst, ◌∙◌, refl, arith, rules}
-use Rattle.serve_batches.specs.ManyServed.{Happens}
+use Rattle.kad_base.specs.Outside.{Happens}
 use Rattle.serve_batches.specs.Serving.{ServesBatch}
 use Rattle.serve_batches.proofs.Batching.{served_none, served_more, served_stops, roles_none, roles_more, can_by_roles}
 use Rattle.serve_batches.proofs.batch.serve_each.Goals as goal

@@ -1,6 +1,6 @@
 use Rattle.std.proofs.Common.{◌≡◌, ◌+◌, ◌<◌, ◌≤◌, ◌^◌, length}
+use Rattle.kad_base.specs.Outside.{Happens}
 use Rattle.serve_batches.specs.Crew.{AreRoomy}
-use Rattle.serve_batches.specs.ManyServed.{Happens}
 use Rattle.serve_batches.specs.Serving.{SameRoles, ServesBatches}
 use Rattle.serve_batches.proofs.batch.serve_each.Given as goal
 

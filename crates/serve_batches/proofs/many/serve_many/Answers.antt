@@ -4,7 +4,7 @@ use Rattle.node_serve.specs.declared.service.ServeFault.TheVariants.{NoMemory}
 use Rattle.serve_batches.specs.ManyServed.{ManyBegun}
 use Rattle.serve_batches.specs.Serving.{rows}
 use Rattle.serve_batches.proofs.Closing.{nothing_begun, opened_alone, ok_served, err_begun}
-use Rattle.serve_batches.proofs.Happening.{happens_none}
+use Rattle.kad_base.proofs.Happening.{happens_none}
 use Rattle.serve_batches.proofs.many.serve_many.Goals as goal
 
 pub returns-in_default-clause-begun : goal.returns-in_default-clause-begun

@@ -1,7 +1,7 @@
 use Rattle.std.proofs.Common.{◌≡◌, ◌-◌, ◌<◌, ◌≤◌, ◌+◌, length}
 use Rattle.kad_base.specs.Limits.{max_datagram, max_strays}
+use Rattle.kad_base.specs.Outside.{Happens}
 use Rattle.table_refresh.specs.declared.types.Tried.TheVariants.{Waits}
-use Rattle.table_refresh.specs.Refreshed.{Happens}
 use Rattle.table_refresh.specs.inner.Steps.{Takes}
 use Rattle.table_refresh.proofs.head.await_reply.Given as goal
 

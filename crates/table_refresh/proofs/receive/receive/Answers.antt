@@ -1,5 +1,5 @@
 use Rattle.std.proofs.Common.{take}
-use Rattle.table_refresh.proofs.Happening.{happens_these}
+use Rattle.kad_base.proofs.Happening.{happens_these}
 use Rattle.table_refresh.proofs.Receiving.{got_ok, got_err, takes_quiet}
 use Rattle.table_refresh.proofs.receive.receive.Goals as goal
 

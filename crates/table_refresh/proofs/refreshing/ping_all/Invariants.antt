@@ -1,6 +1,6 @@
 use Rattle.std.proofs.Common.{◌≡◌, ◌+◌, ◌*◌, ◌<◌, ◌≤◌, take}
 use Rattle.kad_base.specs.Limits.{max_strays}
-use Rattle.table_refresh.specs.Refreshed.{Happens}
+use Rattle.kad_base.specs.Outside.{Happens}
 use Rattle.table_refresh.specs.inner.Steps.{PingsThese}
 use Rattle.table_refresh.proofs.refreshing.ping_all.Given as goal
 

@@ -1,9 +1,8 @@
 -- Events that happened, one after another.
 use Rattle.std.proofs.Common.{◌≡◌, List, [], ◌++◌, Option, refl, ap, ◌∙◌}
 use Rattle.kad_base.specs.declared.types.Event.{Event}
-use Rattle.kad_base.specs.Outside.{Grows}
+use Rattle.kad_base.specs.Outside.{Grows, Happens}
 use Rattle.kad_base.proofs.Grown.{grows_then, grows_none}
-use Rattle.table_refresh.specs.Refreshed.{Happens}
 
 both_are : (t u v w : List Event) → t ≡ v → u ≡ w → t ++ u ≡ v ++ w
 both_are t u v w a b = ap (λ (l : List Event). l ++ u) a ∙ ap (λ (l : List Event). v ++ l) b
