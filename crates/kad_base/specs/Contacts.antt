@@ -11,6 +11,11 @@ use Rattle.kad_base.specs.declared.types.Family.{Family}
 use Rattle.kad_base.specs.declared.types.Family.TheVariants.{Four, Six}
 use Rattle.kad_base.specs.declared.types.Contact.{Contact}
 
+-- the bytes of an address alone
+abbrev pub octets : Ip → List ℕ
+octets (V4 bytes) = bytes
+octets (V6 bytes) = bytes
+
 -- an address as bytes: those of IPv4 come before those of IPv6, and each by its bytes
 abbrev pub address_bytes : Ip → List ℕ
 address_bytes (V4 bytes) = 4 ∷ bytes

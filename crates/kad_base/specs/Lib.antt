@@ -1,5 +1,6 @@
 pub mod Outside
 pub mod Contacts
+pub mod Hashes
 pub mod Bits
 pub mod Words
 pub mod Puzzles

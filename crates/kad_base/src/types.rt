@@ -1,19 +1,50 @@
 //! Plain data: identifiers, addresses, contacts, and what a link did.
-ghost use Rattle.std.specs.Prelude.{◌≡◌, ◌↔◌, IsTrue};
-ghost use Rattle.kad_base.specs.Contacts.{IsUsable, family, of_family, same};
+ghost use Rattle.std.specs.Prelude.{◌≡◌, ◌↔◌, [], ◌∷◌, IsTrue};
+ghost use Rattle.kad_base.specs.Contacts.{IsUsable, family, octets, of_family, same};
 
 use crate::list::Bytes;
 use std::alloc::{AllocError, AllocFailed};
+use std::hash::{Hash, Hasher};
 
 /// A Kademlia identifier: 160 bits as 20 bytes, the highest bit first.
-#[derive(Clone, Copy, Debug, PartialEq, Eq, PartialOrd, Ord, Hash)]
+#[derive(Clone, Copy, Debug, PartialEq, Eq, PartialOrd, Ord)]
 pub struct Id(pub [u8; 20]);
 
+/// Feeds all bytes at once, where the derived one would feed their number and then each by itself.
+impl Hash for Id {
+    ghost use Rattle.std.specs.Cmp.Rules.{hashing};
+    ghost use Rattle.std.proofs.Common.{rules};
+
+    ghost hash_input = { λ id. id.0 ∷ [] };
+
+    ghost respects_eq = { Prim.search (hashing, rules) };
+
+    fn hash<H: Hasher>(&self, state: &mut H) {
+        state.write(&self.0);
+    }
+}
+
 /// An address of IPv4 or IPv6, in network order. Those of IPv4 come first.
-#[derive(Clone, Copy, Debug, PartialEq, Eq, PartialOrd, Ord, Hash)]
+#[derive(Clone, Copy, Debug, PartialEq, Eq, PartialOrd, Ord)]
 pub enum Ip {
     V4([u8; 4]),
     V6([u8; 16]),
+}
+
+/// Feeds all bytes at once. Their number tells which of the two it is.
+impl Hash for Ip {
+    ghost use Rattle.kad_base.specs.Hashes.{ip_alike};
+
+    ghost hash_input = { λ ip. octets ip ∷ [] };
+
+    ghost respects_eq = { ip_alike };
+
+    fn hash<H: Hasher>(&self, state: &mut H) {
+        match self {
+            Ip::V4(bytes) => state.write(bytes),
+            Ip::V6(bytes) => state.write(bytes),
+        }
+    }
 }
 
 /// Which of the two networks: that of IPv4 or that of IPv6, which BEP 32 keeps apart.
