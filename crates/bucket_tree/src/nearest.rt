@@ -20,6 +20,7 @@ use kad_distance::put_closest;
 use std::alloc::Global;
 
 /// Whether one identifier is nearer to the target than another: by the first byte in which their distances differ.
+#[inline(always)]
 fn is_nearer(target: &Id, a: &Id, b: &Id) -> bool
     ensures { IsTrue result → slice_cmp nat_cmp (xor_bytes target.now.0 a.now.0)
         (xor_bytes target.now.0 b.now.0) ≡ Less }
@@ -37,7 +38,8 @@ fn is_nearer(target: &Id, a: &Id, b: &Id) -> bool
     false
 }
 
-/// Whether there are k, of which the last is nearer than the contact.
+/// Whether there are k, of which the last is nearer than the contact. It is asked of most contacts of a table, and inlined.
+#[inline(always)]
 fn is_beyond(near: &[Contact], target: &Id, k: usize, contact: &Contact) -> bool
     requires sorted { IsStrictlySortedBy (closeness target.now) near.now }
     ensures full { IsTrue result → length near.now ≡ k }
@@ -54,6 +56,7 @@ fn is_beyond(near: &[Contact], target: &Id, k: usize, contact: &Contact) -> bool
 }
 
 /// Puts a contact among the k closest. One that is beyond them is passed over at once.
+#[inline(always)]
 fn offer(near: &mut Vec<Contact>, target: &Id, k: usize, contact: &Contact)
     requires sorted { IsStrictlySortedBy (closeness target.now) near.old.items }
     requires few { vec_len near.old ≤ k }

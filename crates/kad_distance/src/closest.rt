@@ -11,6 +11,7 @@ use std::alloc::Global;
 
 /// How many contacts of a sorted list are closer to the target, which is the contact's own place where the list has
 /// it. Takes no memory.
+#[inline(always)]
 pub fn place(target: &Id, list: &[Contact], contact: &Contact) -> usize
     requires { IsStrictlySortedBy (closeness target.now) list.now }
     ensures within { result ≤ length list.now }

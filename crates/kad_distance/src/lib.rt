@@ -34,6 +34,7 @@ pub fn shared_bits(a: &Id, b: &Id) -> u8
 
 /// Which of two identifiers is nearer to the target: by the first byte in which their distances differ. It is mostly one
 /// of the first, so that neither distance is made whole.
+#[inline(always)]
 fn compare_distances(target: &Id, a: &Id, b: &Id) -> Ordering
     ensures { result ≡ slice_cmp nat_cmp (xor_bytes target.now.0 a.now.0)
         (xor_bytes target.now.0 b.now.0) }
@@ -51,7 +52,9 @@ fn compare_distances(target: &Id, a: &Id, b: &Id) -> Ordering
     Ordering::Equal
 }
 
-/// Which of two contacts is closer to the target: by distance, then by address, IPv4 before IPv6, then by port.
+/// Which of two contacts is closer to the target: by distance, then by address, IPv4 before IPv6, then by port. Mostly one
+/// byte tells, so that a call would cost more than what it does: it is inlined.
+#[inline(always)]
 pub fn compare(target: &Id, a: &Contact, b: &Contact) -> Ordering
     ensures { result ≡ closeness target.now a.now b.now }
 {
