@@ -2,4 +2,5 @@ pub mod Orders
 pub mod Least
 pub mod Members
 pub mod Chosen
+pub mod Stays
 pub mod ByByte

@@ -1,11 +1,11 @@
 //! The k closest contacts of a list, as a sorted list that each contact is put into.
-ghost use Rattle.std.specs.Prelude.{◌≡◌, ◌≤◌, ◌<◌, [], ◌∷◌, ◌++◌, length, take, insert, filter, IfOk, vec_len, vec_capacity};
+ghost use Rattle.std.specs.Prelude.{◌≡◌, ◌≤◌, ◌<◌, [], ◌∷◌, ◌++◌, length, take, insert, filter, IfOk, IsTrue, vec_len, vec_capacity};
 ghost use Rattle.std.specs.List.Sorted.{IsStrictlySortedBy};
 ghost use Rattle.std.specs.Ordering.{is_lt};
 ghost use Rattle.kad_distance.specs.Order.{closeness};
 ghost use Rattle.kad_distance.specs.KClosest.{new_at, k_closest};
 
-use crate::compare;
+use crate::{closer, compare};
 use kad_base::{Contact, Contacts, Id, List, NoMemory};
 use std::alloc::Global;
 
@@ -32,6 +32,9 @@ pub fn put_closest(near: &mut Vec<Contact>, target: &Id, k: usize, contact: &Con
     ensures few { vec_len near.new ≤ k }
     ensures room { k ≤ vec_capacity near.new }
 {
+    if is_past(target, near.as_slice(), k, contact) {
+        return;
+    }
     let at = place(target, near.as_slice(), contact);
     if at >= k {
         return;
@@ -51,6 +54,21 @@ pub fn k_least(alloc: Global, target: &Id, k: u8, list: &[Contact]) -> Result<Co
         put_closest(&mut found, target, k as usize, contact);
     }
     Ok(List::from_vec(found))
+}
+
+/// Whether there are k, of which the last is closer than the contact, as of a long list most contacts are.
+#[inline(always)]
+fn is_past(target: &Id, near: &[Contact], k: usize, contact: &Contact) -> bool
+    requires { IsStrictlySortedBy (closeness target.now) near.now }
+    ensures { IsTrue result → near.now ≡ k_closest target.now k (near.now ++ contact.now ∷ []) }
+{
+    if k == 0 {
+        return false;
+    }
+    if near.len() != k {
+        return false;
+    }
+    closer(target, &near[near.len() - 1], contact)
 }
 
 /// The contact isn't the one at that place.

@@ -66,6 +66,7 @@ pub fn compare(target: &Id, a: &Contact, b: &Contact) -> Ordering
 }
 
 /// Whether `a` is closer to the target than `b`. No contact is closer than itself.
+#[inline(always)]
 pub fn closer(target: &Id, a: &Contact, b: &Contact) -> bool
     ensures { IsTrue result ↔ IsCloser target.now a.now b.now }
 {

@@ -5,7 +5,7 @@
 
 ghost use Rattle.std.specs.Prelude.{◌≡◌, ◌↔◌, [], not, IfOk, IsTrue, MatchOption};
 ghost use Rattle.std.specs.Str.{bytes_eq};
-ghost use Rattle.kad_base.specs.Contacts.{same};
+ghost use Rattle.kad_base.specs.Contacts.{among, same};
 ghost use Rattle.sibling_list.specs.Siblings.{IsSiblings, with_one, without_one};
 
 use kad_base::limits::MAX_SIBLINGS;
@@ -83,6 +83,9 @@ impl Siblings {
         if is_own(&contact.id, &self.own) {
             return;
         }
+        if is_there(self.contacts.as_slice(), &contact) {
+            return;
+        }
         put_closest(&mut self.contacts, &self.own, MAX_SIBLINGS, &contact);
     }
 
@@ -100,6 +103,13 @@ fn is_own(id: &Id, own: &Id) -> bool
     ensures { result ≡ bytes_eq id.now.0 own.now.0 }
 {
     id.0 == own.0
+}
+
+/// Whether the contact is one of those: each time that a sibling is seen it is.
+fn is_there(contacts: &[Contact], contact: &Contact) -> bool
+    ensures { result ≡ among contacts.now contact.now }
+{
+    contacts.iter().any(|other| is_same(contact, other))
 }
 
 /// Whether the two lists have the same contacts, in the same order.

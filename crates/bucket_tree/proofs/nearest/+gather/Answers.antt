@@ -5,7 +5,8 @@ use Rattle.bucket_tree.specs.Rows.{live_of}
 use Rattle.bucket_tree.specs.declared.node.Node.{Node}
 use Rattle.bucket_tree.specs.Trees.{rows_of}
 use Rattle.bucket_tree.proofs.Ways.{hangs_short, falls}
-use Rattle.bucket_tree.proofs.Stops.{closest_full, closest_swapped, closest_in_turn}
+use Rattle.kad_distance.proofs.Stays.{closest_full}
+use Rattle.bucket_tree.proofs.Stops.{closest_swapped, closest_in_turn}
 use Rattle.bucket_tree.proofs.Gathered.{Ready, low_ready, high_ready, low_closer, high_closer, low_nearer, high_nearer, then_closer, gathered_sorted, gathered_few, fork_lives}
 use Rattle.bucket_tree.proofs.nearest.+gather.Goals as goal
 

@@ -3,7 +3,7 @@ use Rattle.std.specs.List.{All}
 use Rattle.kad_base.specs.declared.types.Contact.{Contact}
 use Rattle.kad_distance.specs.Order.{IsCloser}
 use Rattle.bucket_tree.proofs.Every.{all-one}
-use Rattle.bucket_tree.proofs.Stops.{closest_full}
+use Rattle.kad_distance.proofs.Stays.{closest_full}
 use Rattle.bucket_tree.proofs.nearest.offer.Goals as goal
 
 pub returns-then-is_beyond-clause-items : goal.returns-then-is_beyond-clause-items

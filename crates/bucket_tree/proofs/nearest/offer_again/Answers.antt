@@ -4,7 +4,7 @@ use Rattle.kad_base.specs.declared.types.Contact.{Contact}
 use Rattle.kad_base.specs.Contacts.{among}
 use Rattle.kad_distance.specs.Order.{IsCloser}
 use Rattle.bucket_tree.proofs.Every.{all-one}
-use Rattle.bucket_tree.proofs.Stops.{closest_full, closest_there}
+use Rattle.kad_distance.proofs.Stays.{closest_full, closest_there}
 use Rattle.bucket_tree.proofs.nearest.offer_again.Goals as goal
 
 pub returns-then-is_beyond-clause-items : goal.returns-then-is_beyond-clause-items
