@@ -12,6 +12,7 @@ use Rattle.kad_base.specs.declared.serial.Made.{Made}
 use Rattle.kad_base.specs.Serial.{made, calls_of, left_by, IsRun}
 use Rattle.kad_base.specs.Outside.{Happens}
 use Rattle.deal_ring.specs.Deal.{dealt_from, dealt}
+use Rattle.turn_book.proofs.Ended.{all_in_row, each_in_row, mine_few, all_run, none_made}
 use Rattle.turn_book.specs.Turns.{TurnState, PassState, Closed, fresh, all_fresh, mine}
 use Rattle.contact_table.specs.TableState.{TableState}
 use Rattle.contact_table.specs.TableStep.{TableMay, TableStep, table_after}
@@ -32,6 +33,7 @@ use Rattle.node_serve.specs.declared.service.ServeCounts.{ServeCounts}
 use Rattle.node_serve.specs.declared.service.ServeFault.{ServeFault}
 use Rattle.node_serve.specs.declared.service.ServeFault.TheVariants.{NoMemory as Out_of_memory}
 use Rattle.node_serve.specs.declared.setting.ServeSetting.{ServeSetting}
+use Rattle.serve_crew.proofs.Remembering.{did_table, did_peers, did_items}
 use Rattle.serve_crew.specs.Hands.{Grew, TablePass, PeersPass, ItemsPass, at_table, at_peers, at_items}
 use Rattle.serve_batches.specs.Batches.{Datagram, Done, IsAnsweredBy, IsDone, calls_for}
 use Rattle.serve_crew.specs.Runs.{Ran, HadAllMemory, AreCalls, AreFirstCalls}
@@ -39,88 +41,27 @@ use Rattle.serve_batches.specs.ManyServed.{ManyServed, ManyBegun}
 use Rattle.serve_batches.specs.Passes.{new_hands}
 use Rattle.serve_batches.specs.Serving.{Rows, AreBack, ServedBack, StoppedBack}
 use Rattle.serve_batches.specs.declared.shift.Shift.{Shift}
-use Rattle.serve_batches.proofs.Dealing.{all_reverse}
 use Rattle.serve_batches.proofs.Answering.{first_of}
 use Rattle.kad_base.proofs.Happening.{happens_weaker}
 
 -- ---- one turn
 
-module _ {C R : Type 0} where
-  all_mine : (P : Made C R → Type 0) (row : List (PassState C R)) → All (λ (p : PassState C R). All P (mine p)) row → All P (flat_map mine row)
-  all_mine P [] each = All-nil P
-  all_mine P (p ∷ row) each = All-append P (mine p) (flat_map mine row) (All-head (λ (q : PassState C R). All P (mine q)) p row each) (all_mine P row (All-tail (λ (q : PassState C R). All P (mine q)) p row each))
-
-  mine_few : (n : ℕ) (p : PassState C R) → p.role < n → All (λ (m : Made C R). m.role < n) (mine p)
-  mine_few n p lt = All-weaker (λ (m : Made C R). eqb m.role p.role ≡ true) (λ (m : Made C R). m.role < n) (λ m is. (let same : m.role ≡ p.role = eqb-true m.role p.role is in omega (arith, same, lt))) (mine p)
-      (filter_passes (λ (m : Made C R). eqb m.role p.role) p.seen)
-
 module _ {S C R : Type 0} (may : ℕ → C → Type 0) (step : S → ℕ → C → R → Type 0) (after : S → ℕ → C → R → S) (turn : TurnState S) (row : List (PassState C R)) (state : S) (calls : ℕ) (closed : Closed may step after turn row state calls) where
-  -- what holds of each pass's own calls holds of all
-  all_run : (P : Made C R → Type 0) → All (λ (p : PassState C R). All P (mine p)) row → All P closed.run
-  all_run P each = All-permutation P (flat_map mine row) closed.run (IsPermutation-sym closed.run (flat_map mine row) closed.each_once) (all_mine P row each)
-
   module _ (pass_of : Shift → PassState C R) (crew : List Shift) (is : row ≡ map pass_of (reverse crew)) where
     all_crew : (P : Made C R → Type 0) → All (λ (x : Shift). All P (mine (pass_of x))) crew → All P closed.run
-    all_crew P each =
-        all_run P (All-same (λ (p : PassState C R). All P (mine p)) row (map pass_of (reverse crew)) is
-        (All-map (λ (p : PassState C R). All P (mine p)) pass_of (reverse crew) (all_reverse (λ (x : Shift). All P (mine (pass_of x))) crew each)))
+    all_crew P each = all_run may step after turn row state calls closed P (All-same (λ (p : PassState C R). All P (mine p)) row (map pass_of (reverse crew)) is (all_in_row pass_of crew (λ (p : PassState C R). All P (mine p)) each))
 
     crew_few : (n : ℕ) → All (λ (x : Shift). (pass_of x).role < n) crew → All (λ (m : Made C R). m.role < n) closed.run
     crew_few n few = all_crew (λ (m : Made C R). m.role < n) (λ w d lt. mine_few n (pass_of (get_or crew w d)) (few w d lt))
 
     in_order_at : (w : ℕ) (d : Shift) → w < length crew → calls_of (pass_of (get_or crew w d)).role closed.run ≡ mine (pass_of (get_or crew w d))
-    in_order_at w d lt =
-        let P : PassState C R → Type 0 = λ p. calls_of p.role closed.run ≡ mine p in
-        let k : ℕ = length crew - 1 - w in
-        let r = length-reverse crew in
-        let m = length-map (reverse crew) pass_of in
-        let below : length crew - 1 - w < length crew = omega (arith, lt) in
-        let there : length crew - 1 - w < length (reverse crew) = omega (arith, r, lt) in
-        let mapped : length crew - 1 - w < length (map pass_of (reverse crew)) = omega (arith, r, m, lt) in
-        let back : length crew - 1 - (length crew - 1 - w) ≡ w = omega (arith, lt) in
-        let at : P (get_or (map pass_of (reverse crew)) k (pass_of d)) = (subst (All P) is closed.in_order) k (pass_of d) mapped in
-        let e : get_or (map pass_of (reverse crew)) k (pass_of d) ≡ pass_of (get_or crew w d) =
-        get_or-map pass_of (reverse crew) k d (pass_of d) there ∙ ap pass_of (get_or-reverse crew k d below ∙ ap (λ i. get_or crew i d) back) in
-        subst P e at
+    in_order_at w d lt = each_in_row pass_of crew (λ (p : PassState C R). calls_of p.role closed.run ≡ mine p) (subst (All (λ (p : PassState C R). calls_of p.role closed.run ≡ mine p)) is closed.in_order) w d lt
 
     -- the calls of a worker
     calls_at : (w : ℕ) (d : Shift) → w < length crew → (pass_of (get_or crew w d)).role ≡ w → calls_of w closed.run ≡ mine (pass_of (get_or crew w d))
     calls_at w d lt role = ap (λ r. calls_of r closed.run) (sym role) ∙ in_order_at w d lt
 
-  -- passes that made no call
-  none_made : (n : ℕ) → n ≡ turn.roles → row ≡ all_fresh turn → (P : Made C R → Type 0) → All P closed.run
-  none_made n roles is P =
-      all_run P (All-same (λ (p : PassState C R). All P (mine p)) row (all_fresh turn) is
-      (All-map (λ (p : PassState C R). All P (mine p)) (fresh turn.id) (range_with_len 0 turn.roles) (λ k d lt. All-nil P)))
-
 -- ---- memory
-
-did_table : (w : ℕ) (ds : List Did) → All HadMemory ds → All (λ (m : Made TableCall TableReply). HasMemory m.reply) (flat_map (at_table w) ds)
-did_table w [] h = All-nil (λ (m : Made TableCall TableReply). HasMemory m.reply)
-did_table w (d ∷ ds) h = All-append (λ (m : Made TableCall TableReply). HasMemory m.reply) (at_table w d) (flat_map (at_table w) ds) (one d (All-head HadMemory d ds h)) (did_table w ds (All-tail HadMemory d ds h))
-  where
-    one : (x : Did) → HadMemory x → All (λ (m : Made TableCall TableReply). HasMemory m.reply) (at_table w x)
-    one (on_table call reply) h = All-cons (λ (m : Made TableCall TableReply). HasMemory m.reply) (made w call reply) [] h (All-nil (λ (m : Made TableCall TableReply). HasMemory m.reply))
-    one (on_peers call reply) h = All-nil (λ (m : Made TableCall TableReply). HasMemory m.reply)
-    one (on_items call reply) h = All-nil (λ (m : Made TableCall TableReply). HasMemory m.reply)
-
-did_peers : (w : ℕ) (ds : List Did) → All HadMemory ds → All (λ (m : Made PeerCall PeerReply). HasRoom m.reply) (flat_map (at_peers w) ds)
-did_peers w [] h = All-nil (λ (m : Made PeerCall PeerReply). HasRoom m.reply)
-did_peers w (d ∷ ds) h = All-append (λ (m : Made PeerCall PeerReply). HasRoom m.reply) (at_peers w d) (flat_map (at_peers w) ds) (one d (All-head HadMemory d ds h)) (did_peers w ds (All-tail HadMemory d ds h))
-  where
-    one : (x : Did) → HadMemory x → All (λ (m : Made PeerCall PeerReply). HasRoom m.reply) (at_peers w x)
-    one (on_table call reply) h = All-nil (λ (m : Made PeerCall PeerReply). HasRoom m.reply)
-    one (on_peers call reply) h = All-cons (λ (m : Made PeerCall PeerReply). HasRoom m.reply) (made w call reply) [] h (All-nil (λ (m : Made PeerCall PeerReply). HasRoom m.reply))
-    one (on_items call reply) h = All-nil (λ (m : Made PeerCall PeerReply). HasRoom m.reply)
-
-did_items : (w : ℕ) (ds : List Did) → All HadMemory ds → All (λ (m : Made ItemCall ItemReply). HasItemRoom m.reply) (flat_map (at_items w) ds)
-did_items w [] h = All-nil (λ (m : Made ItemCall ItemReply). HasItemRoom m.reply)
-did_items w (d ∷ ds) h = All-append (λ (m : Made ItemCall ItemReply). HasItemRoom m.reply) (at_items w d) (flat_map (at_items w) ds) (one d (All-head HadMemory d ds h)) (did_items w ds (All-tail HadMemory d ds h))
-  where
-    one : (x : Did) → HadMemory x → All (λ (m : Made ItemCall ItemReply). HasItemRoom m.reply) (at_items w x)
-    one (on_table call reply) h = All-nil (λ (m : Made ItemCall ItemReply). HasItemRoom m.reply)
-    one (on_peers call reply) h = All-nil (λ (m : Made ItemCall ItemReply). HasItemRoom m.reply)
-    one (on_items call reply) h = All-cons (λ (m : Made ItemCall ItemReply). HasItemRoom m.reply) (made w call reply) [] h (All-nil (λ (m : Made ItemCall ItemReply). HasItemRoom m.reply))
 
 module _ (tag_of : Tags) (s : ServeSetting) where
   had_memory : (d : Datagram) (did : List Did) (reply : Option (List ℕ)) → IsAnsweredBy tag_of s d did reply → All HadMemory did

@@ -5,6 +5,7 @@ use Rattle.std.specs.List.{range_with_len}
 use Rattle.std.proofs.lemmas.List.{length-append, map-append, reverse-append, length-reverse, length-map, get_or-map}
 use Rattle.std.proofs.lemmas.List.FromFn.{map-range_with_len_more, length-map-range_with_len, get_or-map-range_with_len}
 use Rattle.std.proofs.lemmas.List.Elements.{All-same, All-push, All-map}
+use Rattle.turn_book.proofs.Ended.{all_reverse}
 use Rattle.turn_book.specs.Turns.{TurnState, PassState, AreAll, fresh}
 use Rattle.contact_table.specs.TableState.{TableState}
 use Rattle.peer_store.specs.Peers.{Held}
@@ -49,12 +50,6 @@ pub map_reverse : {A B : Type 0} (f : A → B) (xs : List A) → map f (reverse 
 map_reverse f [] = refl
 map_reverse f (x ∷ xs) =
     ap (map f) (reverse-append (x ∷ []) xs) ∙ map-append f (reverse xs) (x ∷ []) ∙ ap (λ l. l ++ f x ∷ []) (map_reverse f xs) ∙ sym (reverse-append (f x ∷ []) (map f xs))
-
-pub all_reverse : {A : Type 0} (P : A → Type 0) (xs : List A) → All P xs → All P (reverse xs)
-all_reverse P [] a = a
-all_reverse P (x ∷ xs) a =
-    All-same P (reverse (x ∷ xs)) (reverse xs ++ x ∷ []) (reverse-append (x ∷ []) xs)
-    (All-push P (reverse xs) x (all_reverse P xs (λ k d lt. a (suc k) d (omega arith))) (a 0 x (omega arith)))
 
 module _ (tables : TurnState TableState) (stores : TurnState (List Held)) (shelves : TurnState (List HeldItem)) (n : ℕ) (crew : List Shift) (is : workers_of crew ≡ map (new_hands tables stores shelves) (range_with_len 0 n)) where
   pub crew_count : length crew ≡ n

@@ -1,3 +1,4 @@
 pub mod Gathering
 pub mod Growing
 pub mod Responding
+pub mod Remembering

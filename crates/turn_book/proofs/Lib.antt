@@ -3,3 +3,4 @@ pub mod Shares
 pub mod TurnSteps
 pub mod Uses
 pub mod Views
+pub mod Ended

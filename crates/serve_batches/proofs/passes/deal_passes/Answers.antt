@@ -6,7 +6,8 @@ use Rattle.std.proofs.lemmas.List.Elements.{All-same}
 use Rattle.serve_batches.specs.Crew.{HasSlots}
 use Rattle.serve_batches.specs.Passes.{new_hands, workers_of}
 use Rattle.serve_batches.specs.declared.shift.Shift.{Shift}
-use Rattle.serve_batches.proofs.Dealing.{map_reverse, all_reverse}
+use Rattle.turn_book.proofs.Ended.{all_reverse}
+use Rattle.serve_batches.proofs.Dealing.{map_reverse}
 use Rattle.serve_batches.proofs.passes.deal_passes.Goals as goal
 
 pub returns-clause-crew : goal.returns-clause-crew
