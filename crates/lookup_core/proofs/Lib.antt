@@ -1,5 +1,6 @@
 pub mod Lists
 pub mod Opens
+pub mod Others
 pub mod Room
 pub mod Nexts
 pub mod Replying

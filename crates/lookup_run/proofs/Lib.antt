@@ -1,5 +1,4 @@
 pub mod Walking
-pub mod Others
 pub mod Driven
 pub mod Asking
 pub mod Quiet
