@@ -1,8 +1,8 @@
 -- A lookup opens a query, or closes the last that it opened.
-use Rattle.std.proofs.Common.{◌≡◌, ℕ, zero, suc, ◌<◌, List, [], ◌∷◌, ◌++◌, length, Option, Some, None, refl, sym, ap, subst, ◌∙◌, arith, ◌^◌}
+use Rattle.std.proofs.Common.{◌≡◌, ℕ, zero, suc, ◌<◌, List, [], ◌∷◌, ◌++◌, length, Option, Some, None, refl, sym, ap, subst, ◌∙◌, arith, ◌+◌, ◌^◌}
 use Rattle.std.specs.Prelude.{slice_get, remove, IfSome, IsNone, ◌↔◌, map}
 use Rattle.std.specs.List.{All, AllByRecursion}
-use Rattle.std.proofs.lemmas.List.{length-map, append-nil}
+use Rattle.std.proofs.lemmas.List.{length-map, length-append, append-nil}
 use Rattle.std.proofs.lemmas.List.Elements.{recursion_from_All}
 use Rattle.kad_base.specs.declared.types.Contact.{Contact}
 use Rattle.kad_base.specs.Contacts.{among}
@@ -10,19 +10,21 @@ use Rattle.kad_base.specs.Limits.{max_open}
 use Rattle.query_book.specs.declared.Query.{Query}
 use Rattle.query_book.specs.Queries.{HasId, IsOf, Closes, IsFirstFree}
 use Rattle.id_puzzles.specs.Drawn.{WordsState}
-use Rattle.claim_book.specs.Journal.{open_any, may_ask}
+use Rattle.claim_book.specs.declared.types.Entry.{Entry}
+use Rattle.claim_book.specs.Journal.{open_any, asked, may_ask}
 use Rattle.claim_book.specs.Legal.{Legal}
 use Rattle.claim_book.specs.State.{BookState, added}
 use Rattle.claim_book.proofs.Among.{among_itself}
-use Rattle.claim_book.proofs.Claims.{among_right}
+use Rattle.claim_book.proofs.Claims.{among_right, may_ask_says}
+use Rattle.claim_book.proofs.More.{asked_more}
 use Rattle.lookup_core.specs.declared.ask.Asked.{Asked}
 use Rattle.lookup_core.specs.declared.quest.Quest.{Quest}
 use Rattle.lookup_core.specs.declared.state.Lookup.{Lookup}
 use Rattle.lookup_core.specs.LookupSteps.{CanAsk, AsksNext, IsLastOpened, Holds}
-use Rattle.lookup_core.proofs.Opens.{opens_ask, opens_lost, opens_distinct}
+use Rattle.lookup_core.proofs.Opens.{opens_ask, opens_lost, opens_distinct, asker_new}
 use Rattle.lookup_core.proofs.Room.{room_to_ask}
 use Rattle.claim_book.specs.declared.types.Cause.TheVariants.{SendFault}
-use Rattle.claim_book.specs.declared.types.Entry.TheVariants.{Lost}
+use Rattle.claim_book.specs.declared.types.Entry.TheVariants.{Ask, Lost}
 use Rattle.claim_book.specs.Calls.{asker}
 use Rattle.lookup_core.proofs.Lists.{map_append, all_append}
 use Rattle.lookup_core.proofs.Holding.{one_closed}
@@ -99,3 +101,20 @@ unsent_holds asked before old new legal last queries book holds =
           (ap (λ (b : BookState). open_any b.journal) book ∙ opens_lost (asker c J) J c SendFault);
       ids = subst (AllByRecursion (λ (x : Query). x.tx < 2 ^ 32)) (sym queries) (all_front (λ (x : Query). x.tx < 2 ^ 32) before (q ∷ []) (subst (AllByRecursion (λ (x : Query). x.tx < 2 ^ 32)) last.last holds.ids));
     }
+
+-- ---- what an ask adds to the book
+
+-- the query was sent
+pub ask_counts : (p : ℕ) (J : List Entry) (c : Contact) → length (asked (J ++ Ask p c ∷ [])) ≡ length (asked J) + 1
+ask_counts p J c = ap length (asked_more J (Ask p c)) ∙ length-append (asked J) (c ∷ [])
+
+-- or it wasn't
+pub lost_counts : (p q : ℕ) (J : List Entry) (c d : Contact) → length (asked ((J ++ Ask p c ∷ []) ++ Lost q d SendFault ∷ [])) ≡ length (asked J) + 1
+lost_counts p q J c d = ap length (asked_more (J ++ Ask p c ∷ []) (Lost q d SendFault) ∙ append-nil (asked (J ++ Ask p c ∷ []))) ∙ ask_counts p J c
+
+-- what could not be sent was asked by this path, and is lost
+pub lost_added : (drawn deadline p : ℕ) (old mid new : Lookup) (asked : Asked) → AsksNext drawn deadline p old mid asked → new.book ≡ added mid.book (Lost (asker asked.contact mid.book.journal) asked.contact SendFault) → new.book ≡ added (added old.book (Ask p asked.contact)) (Lost p asked.contact SendFault)
+lost_added drawn deadline p old mid new asked a lost =
+    let c = asked.contact in
+    let by : asker c mid.book.journal ≡ p = ap (λ (b : BookState). asker c b.journal) a.book ∙ asker_new p old.book.journal c (may_ask_says old.book.setting p old.book.journal c a.may).new in
+    lost ∙ ap (λ n. added mid.book (Lost n c SendFault)) by ∙ ap (λ (b : BookState). added b (Lost p c SendFault)) a.book

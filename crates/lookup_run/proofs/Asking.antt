@@ -23,8 +23,7 @@ use Rattle.claim_book.specs.declared.types.Entry.TheVariants.{Ask, Lost}
 use Rattle.claim_book.specs.Journal.{seeds, path, asked, may_ask}
 use Rattle.claim_book.specs.Legal.{Legal}
 use Rattle.claim_book.specs.State.{BookState, added}
-use Rattle.claim_book.specs.Calls.{asker}
-use Rattle.claim_book.proofs.More.{asked_more, path_more, legal_more}
+use Rattle.claim_book.proofs.More.{path_more, legal_more}
 use Rattle.claim_book.proofs.Bounds.{asked_few}
 use Rattle.claim_book.proofs.Claims.{may_ask_says, may_ask_on_path}
 use Rattle.lookup_run.specs.declared.types.LookSetting.{LookSetting}
@@ -40,6 +39,7 @@ use Rattle.lookup_core.specs.LookupSteps.{as_open, AsksNext, CanAsk, Holds}
 use Rattle.lookup_run.specs.inner.DriverInvariant.{IsBare, Keeps, HasWords, max_asks, weight_of, KeepsSeen}
 use Rattle.lookup_run.specs.inner.RoundSteps.{Asks, AsksNone}
 use Rattle.lookup_run.proofs.Walking.{OneEvent, NextStep, along_next, along_later, table_same}
+use Rattle.lookup_core.proofs.Opening.{ask_counts, lost_counts}
 use Rattle.lookup_core.proofs.Opens.{opens_kept, each_asked, asker_new}
 use Rattle.lookup_core.proofs.Others.{none_after_ask, none_after_lost, settled_after_ask, settled_after_lost}
 use Rattle.lookup_run.proofs.Driven.{driven_more, keeps_none, query_back, map_push, all_push}
@@ -72,12 +72,6 @@ query_bytes look tx = form (query_message (quest_of look) tx)
 
 abbrev the_query : LookSetting → Contact → ℕ → LookupState → Query
 the_query look c tx old = record { tx = tx; contact = c; deadline = deadline_of old.progress.moment look.timeout }
-
-ask_counts : (p : ℕ) (J : List Entry) (c : Contact) → length (asked (J ++ Ask p c ∷ [])) ≡ length (asked J) + 1
-ask_counts p J c = ap length (asked_more J (Ask p c)) ∙ length-append (asked J) (c ∷ [])
-
-lost_counts : (p q : ℕ) (J : List Entry) (c d : Contact) → length (asked ((J ++ Ask p c ∷ []) ++ Lost q d SendFault ∷ [])) ≡ length (asked J) + 1
-lost_counts p q J c d = ap length (asked_more (J ++ Ask p c ∷ []) (Lost q d SendFault) ∙ append-nil (asked (J ++ Ask p c ∷ []))) ∙ ask_counts p J c
 
 no_seeds_asked : (p : ℕ) (c : Contact) → seeds (Ask p c ∷ []) ≡ []
 unfolding seeds
@@ -296,13 +290,6 @@ asking_of look p words words' old mid asked limits lt keeps has begins settled n
   id = a.id;
   drawn = drawn;
 }
-
--- what could not be sent was asked by this path, and is lost
-pub lost_added : (drawn deadline p : ℕ) (old mid new : Lookup) (asked : Asked) → AsksNext drawn deadline p old mid asked → new.book ≡ added mid.book (Lost (asker asked.contact mid.book.journal) asked.contact SendFault) → new.book ≡ added (added old.book (Ask p asked.contact)) (Lost p asked.contact SendFault)
-lost_added drawn deadline p old mid new asked a lost =
-    let c = asked.contact in
-    let by : asker c mid.book.journal ≡ p = ap (λ (b : BookState). asker c b.journal) a.book ∙ asker_new p old.book.journal c (may_ask_says old.book.setting p old.book.journal c a.may).new in
-    lost ∙ ap (λ n. added mid.book (Lost n c SendFault)) by ∙ ap (λ (b : BookState). added b (Lost p c SendFault)) a.book
 
 -- the lookup can be asked for more
 pub can_ask : (look : LookSetting) (words : WordsState) (old : LookupState) → IsWithinLimits look → Keeps look old → HasWords words old.lookup.book.journal → Legal old.lookup.book.setting old.lookup.book.journal → CanAsk (quest_of look) old.progress.moment words old.lookup
