@@ -10,3 +10,4 @@ pub mod Opening
 pub mod Holding
 pub mod Expiring
 pub mod Tags
+pub mod Seeds

@@ -11,11 +11,12 @@ use Rattle.claim_book.specs.declared.types.Setting.{Setting}
 use Rattle.claim_book.specs.declared.types.Cause.{Cause}
 use Rattle.claim_book.specs.declared.types.Entry.{Entry}
 use Rattle.claim_book.specs.declared.types.Entry.TheVariants.{Ask, Lost}
-use Rattle.claim_book.specs.Journal.{on_path, path, asked, asked_on, answered, failed, open_on, alive, unsettled, may_ask}
+use Rattle.claim_book.specs.Journal.{on_path, path, asked, asked_on, answered, failed, open_any, open_on, alive, unsettled, may_ask}
 use Rattle.claim_book.specs.Legal.{Legal}
 use Rattle.claim_book.proofs.More.{path_more, asked_more, asked_on_more, answered_more, failed_more}
 use Rattle.claim_book.proofs.Claims.{one_path, asked_on_path}
-use Rattle.claim_book.proofs.Kept.{off_this}
+use Rattle.claim_book.proofs.Kept.{off_this, open_on_any}
+use Rattle.claim_book.proofs.Among.{none_among, among_none}
 use Rattle.claim_book.proofs.Unsettled.{unsettled_kept}
 
 no_true : (b : Bool) → (b ≡ true → ⊥) → b ≡ false
@@ -108,3 +109,7 @@ settled_after_ask s p q J c l = unsettled_kept s q J (Ask p c) l refl refl
 
 pub settled_after_lost : (s : Setting) (p q : ℕ) (J : List Entry) (c : Contact) (cause : Cause) → Legal s J → unsettled q (J ++ Lost p c cause ∷ []) ≡ unsettled q J
 settled_after_lost s p q J c cause l = unsettled_kept s q J (Lost p c cause) l refl refl
+
+-- where no contact is open, none is on a path
+pub none_on : (p : ℕ) (J : List Entry) → open_any J ≡ [] → open_on p J ≡ []
+none_on p J none = none_among (open_on p J) (λ c. no_true (among (open_on p J) c) (λ h. (let on = open_on_any p J c h in let off = among_none (open_any J) none c in absurd cc)))

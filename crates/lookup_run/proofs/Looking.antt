@@ -32,9 +32,7 @@ use Rattle.claim_book.specs.RunOut.{RunOut}
 use Rattle.claim_book.specs.Result.{result_of}
 use Rattle.claim_book.specs.State.{BookState}
 use Rattle.claim_book.specs.Calls.{Counted, IsFound}
-use Rattle.claim_book.proofs.Among.{none_among, among_none}
 use Rattle.claim_book.proofs.Ends.{over_or_ask}
-use Rattle.claim_book.proofs.Kept.{open_on_any}
 use Rattle.claim_book.proofs.Seeding.{legal_seeded}
 use Rattle.lookup_core.specs.declared.quest.AskKind.TheVariants.{FindNode}
 use Rattle.lookup_run.specs.declared.types.LookSetting.{LookSetting}
@@ -60,6 +58,8 @@ use Rattle.lookup_core.specs.declared.quest.AskKind.{AskKind}
 use Rattle.lookup_core.specs.declared.quest.AskKind.TheVariants.{FindNode, GetPeers, GetItem}
 use Rattle.lookup_run.proofs.Refusing.{refused_seeded}
 use Rattle.lookup_core.specs.Sealed.{Accepts}
+use Rattle.lookup_core.proofs.Others.{none_on}
+use Rattle.lookup_core.proofs.Seeds.{seeds_stand, seeds_ask, seeds_settled, seeds_open}
 
 -- ---- a journal of seeds alone
 
@@ -68,36 +68,9 @@ unfolding driven
 seeds_quiet paths i [] = refl
 seeds_quiet paths i (c ∷ cs) = seeds_quiet paths (i + 1) cs
 
-seeds_stand : (paths i : ℕ) (cs : List Contact) → seeds (seeded_from paths i cs) ≡ cs
-unfolding seeds
-seeds_stand paths i [] = refl
-seeds_stand paths i (c ∷ cs) = ap (λ l. c ∷ l) (seeds_stand paths (i + 1) cs)
-
-seeds_ask : (paths i : ℕ) (cs : List Contact) → asked (seeded_from paths i cs) ≡ []
-unfolding asked
-seeds_ask paths i [] = refl
-seeds_ask paths i (c ∷ cs) = seeds_ask paths (i + 1) cs
-
 seeds_tell : (paths i : ℕ) (cs : List Contact) → flat_map told_of (seeded_from paths i cs) ≡ []
 seeds_tell paths i [] = refl
 seeds_tell paths i (c ∷ cs) = seeds_tell paths (i + 1) cs
-
-seeds_learn : (p paths i : ℕ) (cs : List Contact) → things p (seeded_from paths i cs) ≡ []
-unfolding things
-seeds_learn p paths i [] = refl
-seeds_learn p paths i (c ∷ cs) = seeds_learn p paths (i + 1) cs
-
-none_dropped : {A : Type 0} (n : ℕ) → drop {A = A} n [] ≡ []
-none_dropped zero = refl
-none_dropped (suc n) = refl
-
-seeds_settled : (p paths : ℕ) (cs : List Contact) → unsettled p (seeded paths cs) ≡ []
-unfolding unsettled
-seeds_settled p paths cs = ap (drop (length (settled p (seeded paths cs)))) (seeds_learn p paths 0 cs) ∙ none_dropped (length (settled p (seeded paths cs)))
-
-seeds_open : (paths : ℕ) (cs : List Contact) → open_any (seeded paths cs) ≡ []
-unfolding open_any
-seeds_open paths cs = ap (λ l. without l (answered (seeded paths cs) ++ failed (seeded paths cs))) (seeds_ask paths 0 cs)
 
 -- ---- the beginning
 
@@ -228,14 +201,6 @@ rounds_of scheduling g J P s (e ∷ es) t Q behind heard h is settles = (
 hears_of : (scheduling : Scheduling) (g : Given) (J P : List Entry) (s : Seen) (es : List Event) (t : Seen) (Q : List Entry) (heard : List Answered) → Walk scheduling g J P s es t Q heard → HearsFrom g J s es t heard
 hears_of scheduling g J P s [] t Q heard h = (h.0, h.2)
 hears_of scheduling g J P s (e ∷ es) t Q heard h = (record { mid = h.0.mid; gives = h.0.gives; found = h.0.found; hears = h.0.hears }, h.1, hears_of scheduling g J ((P ++ h.0.between) ++ h.0.gave) h.0.mid es t Q h.1 h.2, h.3)
-
--- where no contact is open, none is on a path
-none_on : (p : ℕ) (J : List Entry) → open_any J ≡ [] → open_on p J ≡ []
-none_on p J none = none_among (open_on p J) (λ c. no_true (among (open_on p J) c) (λ h. (let on = open_on_any p J c h in let off = among_none (open_any J) none c in absurd cc)))
-  where
-    no_true : (b : Bool) → (b ≡ true → ⊥) → b ≡ false
-    no_true true n = absurd (n refl)
-    no_true false n = refl
 
 -- every path has run out
 pub all_over : (scheduling : Scheduling) (look : LookSetting) (accepts : Accepts) (words words' : WordsState) (old new : LookupState) (told told' : Option (List Event)) → IsWithinLimits look → IsOver scheduling look accepts words words' old new told told' → Legal new.lookup.book.setting new.lookup.book.journal → (p : ℕ) → p < new.lookup.book.setting.paths → RunOut new.lookup.book.setting p new.lookup.book.journal
