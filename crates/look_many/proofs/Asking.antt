@@ -6,6 +6,7 @@ use Rattle.std.proofs.lemmas.List.{append_assoc}
 use Rattle.kad_base.specs.declared.types.Contact.{Contact}
 use Rattle.kad_base.specs.declared.types.Event.{Event}
 use Rattle.kad_base.specs.declared.types.Event.TheVariants.{Sent, Unsent}
+use Rattle.kad_base.specs.Outside.{Grows}
 use Rattle.kad_base.specs.Words.{word}
 use Rattle.kad_base.proofs.Grown.{grows_then}
 use Rattle.id_puzzles.specs.Drawn.{WordsState}
@@ -28,15 +29,13 @@ use Rattle.lookup_core.proofs.Lists.{map_append}
 use Rattle.lookup_core.proofs.Opens.{opens_kept, each_asked, asker_new}
 use Rattle.node_serve.specs.declared.setting.ServeSetting.{ServeSetting}
 use Rattle.node_serve.specs.Sealing.{Tags}
-use Rattle.serve_crew.specs.Hands.{Hands}
 use Rattle.look_many.specs.declared.seeker.Seeker.{Seeker}
 use Rattle.look_many.specs.declared.seeker.Line.{Line}
 use Rattle.look_many.specs.Mine.{Mine, driven, gives, SentGives, UnsentGives}
 use Rattle.look_many.specs.Many.{Frame, Reading, owned_by, and_then, OneMoves, Gives}
-use Rattle.look_many.specs.inner.Crowd.{whose, Holding, Longer, KeepsMine, framed, ManyShow, Advances, stand}
+use Rattle.look_many.specs.inner.Crowd.{whose, Holding, Longer, KeepsMine, framed, ManyShow, IsFrame}
 use Rattle.look_many.specs.inner.ManySteps.{query_bytes, AsksOver, is_sent, is_unsent}
-use Rattle.look_many.proofs.Hosting.{ran_none}
-use Rattle.look_many.proofs.One.{driven_append}
+use Rattle.look_many.proofs.OneReceive.{driven_append}
 use Rattle.look_many.proofs.Telling.{same_longer, all_longer}
 use Rattle.look_many.proofs.Walking.{shows_more}
 
@@ -142,7 +141,7 @@ owned : (f : Frame) (count place i : ℕ) (read : Reading) (old new : List Seeke
 owned f count place i read old new line e es h G moved gives_it =
     let st = h.keeps_line in
     shows_more true f count place (place + 1) None None read (owned_by i) old new line line e es h (record h.end { sends = h.end.sends + 1; each = moved.each }) moved.longer (λ idle. absurd cc) gives_it
-    (record { moment = st.moment; sends = (let e = st.sends in omega (arith, e)); foreign = st.foreign; receives = st.receives; left = st.left; owed_is = st.owed_is }) moved.keeps
+    (record { moment = st.moment; sends = (let e = st.sends in omega (arith, e)); got = st.got; foreign = st.foreign; replied = st.replied; receives = st.receives; left = st.left; owed_is = st.owed_is }) moved.keeps
 
 module _ (f : Frame) (count place i path : ℕ) (read : Reading) (old : List Seeker) (d new : Seeker) (line : Line) (asked : Asked) (es : List Event) where
   sent_on : AllByRecursion Holding old → i < length old → new.quest ≡ (get_or old i d).quest → AsksNext (word f.seed place) (deadline_of line.moment (get_or old i d).quest.timeout) path (get_or old i d).lookup new.lookup asked → ManyShow true f count old line place None read es
@@ -178,33 +177,18 @@ module _ (f : Frame) (count place i path : ℕ) (read : Reading) (old : List See
       owned f count place i read old (set old i new) line (Unsent to bytes) es h G moved (inl (record { owner = i; owns = refl; none_owed = st.owed_is; each = moved.each; moves = moved.moves; after = refl }))
 
 -- whatever was told since any beginning
-pub ask_advances : (accepts : Accepts) (tags : Tags) (server : ServeSetting) (host : Hands) (i path : ℕ) (words words' : WordsState) (old : List Seeker) (d new : Seeker) (line : Line) (told told' : Option (List Event)) → AllByRecursion Holding old → i < length old → new.quest ≡ (get_or old i d).quest → words' ≡ record words { place = words.place + 1 }
-    → AsksOver line.moment words path (get_or old i d) new told told' → Advances true accepts tags server (stand old line words host told) (stand (set old i new) line words' host told')
-ask_advances accepts tags server host i path words words' old d new line told told' holds lt quest next (is_sent asked a grows) =
+pub ask_goes : (accepts : Accepts) (tags : Tags) (server : ServeSetting) (i path : ℕ) (words words' : WordsState) (old : List Seeker) (d new : Seeker) (line : Line) (told told' : Option (List Event)) → AllByRecursion Holding old → i < length old → new.quest ≡ (get_or old i d).quest → words' ≡ record words { place = words.place + 1 }
+    → AsksOver line.moment words path (get_or old i d) new told told' → (f : Frame) (count : ℕ) (read : Reading) (began : Option (List Event)) → IsFrame accepts tags server words.seed f
+    → Grows began told (λ events. ManyShow true f count old line words.place None read events) → Grows began told' (λ events. ManyShow true f count (set old i new) line words'.place None (and_then read (owned_by i)) events)
+ask_goes accepts tags server i path words words' old d new line told told' holds lt quest next (is_sent asked a grows) f count read began is h =
     let one = get_or old i d in
-    record {
-      more = owned_by i;
-      goes = λ f count read began is h. grows_then began told told' _ _ _ h grows (λ es fs shows e.
-          subst (λ n. ManyShow true f count (set old i new) line n None (and_then read (owned_by i)) (es ++ fs)) (sym (ap (λ (w : WordsState). w.place) next))
-          (subst (λ l. ManyShow true f count (set old i new) line (words.place + 1) None (and_then read (owned_by i)) (es ++ l)) (sym e)
-          (sent_on f count words.place i path read old d new line asked es holds lt quest (subst (λ b. AsksNext (word b words.place) (deadline_of line.moment one.quest.timeout) path one.lookup new.lookup asked) (sym is.seed_is) a) shows)));
-      ran = ran_none host;
-      seed = ap (λ (w : WordsState). w.seed) next;
-    }
-ask_advances accepts tags server host i path words words' old d new line told told' holds lt quest next (is_unsent asked mid a queries book grows) =
+    grows_then began told told' _ _ _ h grows (λ es fs shows e.
+    subst (λ n. ManyShow true f count (set old i new) line n None (and_then read (owned_by i)) (es ++ fs)) (sym (ap (λ (w : WordsState). w.place) next))
+    (subst (λ l. ManyShow true f count (set old i new) line (words.place + 1) None (and_then read (owned_by i)) (es ++ l)) (sym e)
+    (sent_on f count words.place i path read old d new line asked es holds lt quest (subst (λ b. AsksNext (word b words.place) (deadline_of line.moment one.quest.timeout) path one.lookup new.lookup asked) (sym is.seed_is) a) shows)))
+ask_goes accepts tags server i path words words' old d new line told told' holds lt quest next (is_unsent asked mid a queries book grows) f count read began is h =
     let one = get_or old i d in
-    record {
-      more = owned_by i;
-      goes = λ f count read began is h. grows_then began told told' _ _ _ h grows (λ es fs shows e.
-          subst (λ n. ManyShow true f count (set old i new) line n None (and_then read (owned_by i)) (es ++ fs)) (sym (ap (λ (w : WordsState). w.place) next))
-          (subst (λ l. ManyShow true f count (set old i new) line (words.place + 1) None (and_then read (owned_by i)) (es ++ l)) (sym e)
-          (unsent_on f count words.place i path read old d new line asked es mid holds lt quest (subst (λ b. AsksNext (word b words.place) (deadline_of line.moment one.quest.timeout) path one.lookup mid asked) (sym is.seed_is) a) queries book shows)));
-      ran = ran_none host;
-      seed = ap (λ (w : WordsState). w.seed) next;
-    }
-
--- and each still holds
-pub hold_set : (ks : List Seeker) (i : ℕ) (new : Seeker) → AllByRecursion Holding ks → Holding new → AllByRecursion Holding (set ks i new)
-hold_set [] i new h one = tt
-hold_set (k ∷ ks) zero new h one = (one, h.1)
-hold_set (k ∷ ks) (suc i) new h one = (h.0, hold_set ks i new h.1 one)
+    grows_then began told told' _ _ _ h grows (λ es fs shows e.
+    subst (λ n. ManyShow true f count (set old i new) line n None (and_then read (owned_by i)) (es ++ fs)) (sym (ap (λ (w : WordsState). w.place) next))
+    (subst (λ l. ManyShow true f count (set old i new) line (words.place + 1) None (and_then read (owned_by i)) (es ++ l)) (sym e)
+    (unsent_on f count words.place i path read old d new line asked es mid holds lt quest (subst (λ b. AsksNext (word b words.place) (deadline_of line.moment one.quest.timeout) path one.lookup mid asked) (sym is.seed_is) a) queries book shows)))

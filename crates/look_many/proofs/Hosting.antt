@@ -1,8 +1,9 @@
 -- What the node that serves has done: first the one, and then the other.
-use Rattle.std.proofs.Common.{◌≡◌, ℕ, List, [], ◌∷◌, ◌++◌, Some, None, refl, sym, ap, subst, ◌∙◌}
+use Rattle.std.proofs.Common.{◌≡◌, ℕ, List, [], ◌∷◌, ◌++◌, Option, Some, None, refl, sym, ap, subst, ◌∙◌}
 use Rattle.std.specs.Prelude.{map, filter, ◌<◌}
 use Rattle.std.specs.List.{All, flat_map}
 use Rattle.std.proofs.lemmas.List.Concat.{flat_map-append}
+use Rattle.std.proofs.lemmas.List.Elements.{All-nil, All-append}
 use Rattle.kad_base.specs.declared.types.Addr.{Addr}
 use Rattle.kad_base.specs.declared.types.Contact.{Contact}
 use Rattle.query_book.specs.declared.Query.{Query}
@@ -17,17 +18,19 @@ use Rattle.lookup_core.proofs.Lists.{map_append}
 use Rattle.lookup_core.proofs.Expiring.{Expiring as ExpiringOne, lost_so_far, none_expired, none_lost, oldest_expires, all_expired, closed_all}
 use Rattle.node_serve.specs.declared.node.Answered.TheVariants as answered
 use Rattle.node_serve.specs.declared.setting.ServeSetting.{ServeSetting}
-use Rattle.node_serve.specs.Calls.{Did}
+use Rattle.node_serve.specs.Calls.{Did, HadMemory}
 use Rattle.node_serve.specs.Sealing.{Tags}
 use Rattle.serve_crew.specs.Hands.{Hands, SameHands, Grew}
 use Rattle.serve_crew.specs.Serving.{Answers as ServeAnswers, TellsLost}
 use Rattle.serve_crew.proofs.Growing.{grew_none, grew_more, same_none, same_more}
 use Rattle.look_many.specs.declared.seeker.Seeker.{Seeker}
-use Rattle.look_many.specs.inner.Crowd.{Holding, opens, answering, losing, did_of, answer_in, loss_in, Ran}
-use Rattle.look_many.specs.inner.ManySteps.{Answers, Expires, lapsed, owed_in}
+use Rattle.look_many.specs.ManyLooked.{answering, losing, did_of, answer_in, loss_in}
+use Rattle.look_many.specs.Many.{Owed, Owes}
+use Rattle.look_many.specs.inner.Crowd.{Holding, opens, SameSeat, Ran}
+use Rattle.look_many.specs.inner.ManySteps.{Answers, Expires, lapsed, owed_in, RanOn}
 
 pub ran_none : (h : Hands) → Ran h h [] []
-ran_none h = record { errands = []; grew = grew_none h; answers = refl; losses = refl }
+ran_none h = record { errands = []; grew = grew_none h; answers = refl; losses = refl; memory = All-nil HadMemory }
 
 pub ran_then : (old mid new : Hands) (d : List Did) (l : List Contact) (d' : List Did) (l' : List Contact) → SameHands old mid → Ran old mid d l → Ran mid new d' l' → Ran old new (d ++ d') (l ++ l')
 ran_then old mid new d l d' l' same a b = record {
@@ -35,6 +38,7 @@ ran_then old mid new d l d' l' same a b = record {
   grew = subst (Grew old new) (sym (map_append did_of a.errands b.errands)) (grew_more old mid new (map did_of a.errands) (map did_of b.errands) same a.grew b.grew);
   answers = flat_map-append answer_in a.errands b.errands ∙ ap (λ x. x ++ flat_map answer_in b.errands) a.answers ∙ ap (λ x. d ++ x) b.answers;
   losses = flat_map-append loss_in a.errands b.errands ∙ ap (λ x. x ++ flat_map loss_in b.errands) a.losses ∙ ap (λ x. l ++ x) b.losses;
+  memory = All-append HadMemory d d' a.memory b.memory;
 }
 
 same_did : (did : List Did) → map did_of (map answering did) ≡ did
@@ -50,12 +54,17 @@ no_losses [] = refl
 no_losses (d ∷ did) = no_losses did
 
 -- what was done for a foreign datagram
-pub ran_answer : (old new : Hands) (did : List Did) → Grew old new did → Ran old new did []
-ran_answer old new did grew = record { errands = map answering did; grew = subst (Grew old new) (sym (same_did did)) grew; answers = all_answers did; losses = no_losses did }
+pub ran_answer : (old new : Hands) (did : List Did) → Grew old new did → All HadMemory did → Ran old new did []
+ran_answer old new did grew memory = record { errands = map answering did; grew = subst (Grew old new) (sym (same_did did)) grew; answers = all_answers did; losses = no_losses did; memory = memory }
+
+-- no reply was want of memory, where none is owed as where one is
+pub had_memory : (tags : Tags) (server : ServeSetting) (from : Addr) (bytes : List ℕ) (at : ℕ) (did : List Did) (owed : Option Owed) → Owes tags server from bytes at did owed → All HadMemory did
+had_memory tags server from bytes at did None owes = subst (All HadMemory) (sym owes.1) (All-nil HadMemory)
+had_memory tags server from bytes at did (Some owed) owes = owes.1.memory
 
 -- the table was told of one that was lost
 ran_lost : (old new : Hands) (c : Contact) → TellsLost c old new → Ran old new [] (c ∷ [])
-ran_lost old new c t = record { errands = losing c t.reply ∷ []; grew = t.grew; answers = refl; losses = refl }
+ran_lost old new c t = record { errands = losing c t.reply ∷ []; grew = t.grew; answers = refl; losses = refl; memory = All-nil HadMemory }
 
 -- ---- a foreign datagram
 
@@ -64,6 +73,14 @@ replied tags server from bytes at n out old new h same = record { did = h.did; o
 
 pub not_replied : (tags : Tags) (server : ServeSetting) (from : Addr) (bytes : List ℕ) (at : ℕ) (out : List ℕ) (old new : Hands) → ServeAnswers tags server from bytes at answered.Silent out old new → SameHands old new → Answers tags server from bytes at (owed_in None from out) old new
 not_replied tags server from bytes at out old new h same = record { did = h.did; owes = h.answer; grew = h.grew; same = same }
+
+-- there was no memory to go on
+pub not_answered : (tags : Tags) (server : ServeSetting) (from : Addr) (bytes : List ℕ) (at : ℕ) (out : List ℕ) (old new : Hands) → ServeAnswers tags server from bytes at answered.NoMemory out old new → RanOn old new
+not_answered tags server from bytes at out old new h = (h.did, h.grew)
+
+-- nothing was done
+pub ran_on_none : (h : Hands) → RanOn h h
+ran_on_none h = ([], grew_none h)
 
 -- ---- one lookup's overdue queries
 
@@ -80,6 +97,7 @@ losses_closed (q ∷ qs) = ap (λ l. q.contact ∷ l) (losses_closed qs)
 pub record ExpiringBy (at : ℕ) (old now : Seeker) (h g : Hands) : Type 0 where
   pub one : ExpiringOne at old.lookup now.lookup
   pub quest : now.quest ≡ old.quest
+  pub seat : SameSeat old now
   pub same : SameHands h g
   pub ran : Ran h g [] (flat_map loss_of (lost_so_far at old.lookup now.lookup one))
 
@@ -87,6 +105,7 @@ pub expires_none : (at : ℕ) (k : Seeker) (h : Hands) → Holding k → Expirin
 expires_none at k h holds = record {
   one = none_expired at k.lookup holds;
   quest = refl;
+  seat = refl;
   same = same_none h;
   ran = subst (λ l. Ran h h [] (flat_map loss_of l)) (sym (none_lost at k.lookup holds)) (ran_none h);
 }
@@ -98,13 +117,14 @@ expires_one at c old now after h g k x loses same told =
     record {
       one = more.expiring;
       quest = x.quest;
+      seat = x.seat;
       same = same_more h g k x.same same;
       ran = subst (λ l. Ran h k [] (flat_map loss_of l)) (sym more.lost) (subst (Ran h k []) (sym (flat_map-append loss_of so_far (Lost more.path c Timeout ∷ [])))
           (ran_then h g k [] (flat_map loss_of so_far) [] (c ∷ []) x.same x.ran (ran_lost g k c told)));
     }
 
 pub expires_all : (at : ℕ) (old now : Seeker) (h g : Hands) → ExpiringBy at old now h g → All (λ (q : Query). at < q.deadline) now.lookup.queries → Expires at old now
-expires_all at old now h g x none = record { loses = all_expired at old.lookup now.lookup x.one none; quest = x.quest; holds = x.one.holds }
+expires_all at old now h g x none = record { loses = all_expired at old.lookup now.lookup x.one none; quest = x.quest; holds = x.one.holds; seat = x.seat }
 
 pub expires_ran : (at : ℕ) (old now : Seeker) (h g : Hands) → ExpiringBy at old now h g → All (λ (q : Query). at < q.deadline) now.lookup.queries → Ran h g [] (lapsed at old)
 expires_ran at old now h g x none =

@@ -1,9 +1,10 @@
 -- Small facts of lists.
-use Rattle.std.proofs.Common.{◌≡◌, ℕ, zero, suc, ◌<◌, List, [], ◌∷◌, ◌++◌, length, get_or, take, drop, inl, inr, sym, subst, arith}
+use Rattle.std.proofs.Common.{◌≡◌, ℕ, zero, suc, ◌+◌, ◌<◌, ◌≤◌, List, [], ◌∷◌, ◌++◌, length, get_or, take, drop, inl, inr, sym, subst, arith}
 use Rattle.std.specs.Prelude.{Contains}
 use Rattle.std.specs.List.{AllByRecursion}
 use Rattle.std.proofs.lemmas.Option.{slice_get-get_or}
-use Rattle.lookup_core.proofs.Lists.{in_cons, in_first, in_rest, none_in, split_at}
+use Rattle.std.proofs.lemmas.List.{take_more, take_all}
+use Rattle.lookup_core.proofs.Lists.{all_append, in_cons, in_first, in_rest, none_in, split_at}
 
 pub all_front : {A : Type 0} (P : A → Type 0) (xs ys : List A) → AllByRecursion P (xs ++ ys) → AllByRecursion P xs
 all_front P [] ys h = tt
@@ -33,6 +34,13 @@ in_left (x ∷ xs) ys y h =
 pub in_right : {A : Type 0} (xs ys : List A) (y : A) → Contains ys y → Contains (xs ++ ys) y
 in_right [] ys y h = h
 in_right (x ∷ xs) ys y h = in_rest x (xs ++ ys) y (in_right xs ys y h)
+
+-- what holds of the first holds of one more, and in the end of all
+pub all_more : {A : Type 0} (P : A → Type 0) (i : ℕ) (xs : List A) (d : A) → i < length xs → AllByRecursion P (take i xs) → P (get_or xs i d) → AllByRecursion P (take (i + 1) xs)
+all_more P i xs d lt h one = subst (AllByRecursion P) (sym (take_more xs i d lt)) (all_append P (take i xs) (get_or xs i d ∷ []) h (one, tt))
+
+pub all_taken : {A : Type 0} (P : A → Type 0) (i : ℕ) (xs : List A) → length xs ≤ i → AllByRecursion P (take i xs) → AllByRecursion P xs
+all_taken P i xs le h = subst (AllByRecursion P) (take_all i xs le) h
 
 -- a list taken apart at a place
 pub apart_at : {A : Type 0} (xs : List A) (n : ℕ) (d : A) → n < length xs → xs ≡ take n xs ++ get_or xs n d ∷ drop (suc n) xs

@@ -1,7 +1,7 @@
 -- The receives of a round of all lookups, one after another.
 use Rattle.std.proofs.Common.{◌≡◌, ◌≢◌, ◌⊎◌, ℕ, zero, suc, ◌+◌, ◌-◌, ◌<◌, ◌≤◌, List, [], ◌∷◌, ◌++◌, Option, None, Bool, true, inl, inr, refl, sym, ap, subst, ◌∙◌, arith}
 use Rattle.std.specs.Prelude.{map}
-use Rattle.std.specs.List.{AllZip}
+use Rattle.std.specs.List.{AllByRecursion, AllZip}
 use Rattle.std.proofs.lemmas.List.{append_assoc}
 use Rattle.kad_base.specs.declared.types.Event.{Event}
 use Rattle.kad_base.specs.Limits.{max_round_receives}
@@ -10,14 +10,17 @@ use Rattle.query_book.specs.declared.Query.{Query}
 use Rattle.lookup_core.specs.Sealed.{Accepts}
 use Rattle.node_serve.specs.declared.setting.ServeSetting.{ServeSetting}
 use Rattle.node_serve.specs.Sealing.{Tags}
-use Rattle.serve_crew.specs.Hands.{SameHands}
+use Rattle.serve_crew.specs.Hands.{Hands, SameHands}
+use Rattle.serve_crew.proofs.Growing.{same_none, same_more}
 use Rattle.look_many.specs.declared.seeker.Seeker.{Seeker}
 use Rattle.look_many.specs.declared.seeker.Line.{Line}
+use Rattle.look_many.specs.declared.seeker.ManyFault.{ManyFault}
 use Rattle.look_many.specs.Many.{nothing_read, and_then, WaitsUntil}
-use Rattle.look_many.specs.inner.Crowd.{Longer, queries_of, ManyShow, Stand, Advances}
-use Rattle.look_many.specs.inner.ManySteps.{for_replies, MayReceive, MayAwait, Received, ReceivedAll, Stops, EndsByForeign, EndsEarly, EndsLast}
-use Rattle.look_many.proofs.Heard.{all_then}
+use Rattle.look_many.specs.inner.Crowd.{IsLegal, Longer, DrivenOn, SameSeat, queries_of, ManyShow, Stand, Advances}
+use Rattle.look_many.specs.inner.ManySteps.{for_replies, MayReceive, MayAwait, Received, ReceivedAll, Stops, EndsByForeign, RanOn, EndsEarly, EndsLast}
+use Rattle.look_many.proofs.Heard.{all_then, same_driven, driven_then, same_seats, seats_then}
 use Rattle.look_many.proofs.Hosting.{ran_none, ran_then}
+use Rattle.look_many.proofs.Telling.{all_longer}
 use Rattle.look_many.proofs.Walking.{nothing_after, then_assoc}
 
 pub may_receive : (ks : List Seeker) (line : Line) (until : ℕ) → MayAwait ks line → WaitsUntil line.receives line.moment (map (λ (q : Query). q.deadline) (queries_of ks)) until → MayReceive ks line until true
@@ -27,11 +30,12 @@ may_receive ks line until may waits = record {
   in_turn = may.in_turn;
   few_receives = may.few_receives;
   room = (let few = may.few_foreign in omega (arith, few));
+  counted = may.counted;
 }
 
 -- the next of the round
 pub may_go_on : (old new : List Seeker) (line line' : Line) → Received true old new line line' → line'.receives ≢ 0 → MayAwait new line'
-may_go_on old new line line' r some = record { holds = r.holds; some_open = r.still some; in_turn = λ z. absurd (some z); few_receives = r.few_receives; few_foreign = r.few_foreign refl }
+may_go_on old new line line' r some = record { holds = r.holds; some_open = r.still some; in_turn = λ z. absurd (some z); few_receives = r.few_receives; few_foreign = r.few_foreign refl; counted = r.counted }
 
 -- ---- one after the other
 
@@ -52,22 +56,24 @@ longer_then (o ∷ olds) (m ∷ mids) [] g h = absurd h
 longer_then (o ∷ olds) (m ∷ mids) (n ∷ news) g h = (longer_one o m n g.0 h.0, longer_then olds mids news g.1 h.1)
 
 pub received_first : (old new : List Seeker) (line line' : Line) → Received true old new line line' → line.moment ≤ line'.moment → ReceivedAll old new line line'
-received_first old new line line' r later = record { holds = r.holds; longer = r.longer; only_heard = r.only_heard; later = later; left = (let l = r.left in omega (arith, l)); few_foreign = r.few_foreign refl }
+received_first old new line line' r later = record { holds = r.holds; longer = r.longer; only_heard = r.only_heard; driven_on = r.driven_on; seats = r.seats; counted = r.counted; later = later; left = (let l = r.left in omega (arith, l)); few_foreign = r.few_foreign refl }
 
 pub received_next : (old mid new : List Seeker) (line between line' : Line) → ReceivedAll old mid line between → Received true mid new between line' → between.moment ≤ line'.moment → ReceivedAll old new line line'
-received_next old mid new line between line' a r later = record { holds = r.holds; longer = longer_then old mid new a.longer r.longer; only_heard = all_then old mid new a.only_heard r.only_heard; later = (let before = a.later in omega (arith, before, later)); left = (let l = r.left in let m = a.left in omega (arith, l, m)); few_foreign = r.few_foreign refl }
+received_next old mid new line between line' a r later = record { holds = r.holds; longer = longer_then old mid new a.longer r.longer; only_heard = all_then old mid new a.only_heard r.only_heard; driven_on = driven_then old mid new a.driven_on r.driven_on; seats = seats_then old mid new a.seats r.seats; counted = r.counted; later = (let before = a.later in omega (arith, before, later)); left = (let l = r.left in let m = a.left in omega (arith, l, m)); few_foreign = r.few_foreign refl }
 
-pub advances_none : (busy : Bool) (accepts : Accepts) (tags : Tags) (server : ServeSetting) (s : Stand) → Advances busy accepts tags server s s
+pub advances_none : (busy : Bool) (accepts : Accepts) (tags : Tags) (server : ServeSetting) (s : Stand) → Advances busy [] accepts tags server s s
 advances_none busy accepts tags server s = record {
   more = nothing_read;
+  owners_are = refl;
   goes = λ f count read began is h. subst (λ r. Grows began s.told (λ events. ManyShow busy f count s.seekers s.line s.words.place None r events)) (sym (nothing_after read)) h;
   ran = ran_none s.host;
   seed = refl;
 }
 
-pub advances_then : (busy : Bool) (accepts : Accepts) (tags : Tags) (server : ServeSetting) (a b c : Stand) → SameHands a.host b.host → Advances busy accepts tags server a b → Advances busy accepts tags server b c → Advances busy accepts tags server a c
-advances_then busy accepts tags server a b c same g h = record {
+pub advances_then : (busy : Bool) (m n : List ℕ) (accepts : Accepts) (tags : Tags) (server : ServeSetting) (a b c : Stand) → SameHands a.host b.host → Advances busy m accepts tags server a b → Advances busy n accepts tags server b c → Advances busy (m ++ n) accepts tags server a c
+advances_then busy m n accepts tags server a b c same g h = record {
   more = and_then g.more h.more;
+  owners_are = ap (λ l. l ++ h.more.owners) g.owners_are ∙ ap (λ l. m ++ l) h.owners_are;
   goes = λ f count read began is x.
       subst (λ r. Grows began c.told (λ events. ManyShow busy f count c.seekers c.line c.words.place None r events)) (then_assoc read g.more h.more)
       (h.goes f count (and_then read g.more) began (record { accepts_is = is.accepts_is; tags_is = is.tags_is; server_is = is.server_is; seed_is = is.seed_is ∙ sym g.seed }) (g.goes f count read began is x));
@@ -77,17 +83,41 @@ advances_then busy accepts tags server a b c same g h = record {
 
 -- ---- ended early
 
-pub ends_now : (busy : Bool) (accepts : Accepts) (tags : Tags) (server : ServeSetting) (s : Stand) (told' : Option (List Event)) → Stops busy accepts tags server s told' → EndsEarly busy accepts tags server s told'
-ends_now busy accepts tags server s told' stops = record { last = s; advances = advances_none busy accepts tags server s; stops = stops }
+-- what stayed of the lookups as far as their last stand
+pub record Stays (old new : List Seeker) : Type 0 where
+  pub longer : AllZip Longer old new
+  pub driven_on : AllZip DrivenOn old new
+  pub seats : AllZip SameSeat old new
 
-pub ends_last_now : (accepts : Accepts) (tags : Tags) (server : ServeSetting) (s : Stand) (told' : Option (List Event)) → EndsByForeign true accepts tags server s told' → EndsLast accepts tags server s told'
-ends_last_now accepts tags server s told' ends = record { last = s; advances = advances_none true accepts tags server s; ends = ends }
+stays_none : (ks : List Seeker) → Stays ks ks
+stays_none ks = record { longer = all_longer ks; driven_on = same_driven ks; seats = same_seats ks }
 
-pub ends_after : (busy : Bool) (accepts : Accepts) (tags : Tags) (server : ServeSetting) (s t : Stand) (told' : Option (List Event)) → SameHands s.host t.host → Advances busy accepts tags server s t → EndsEarly busy accepts tags server t told' → EndsEarly busy accepts tags server s told'
-ends_after busy accepts tags server s t told' same a e = record { last = e.last; advances = advances_then busy accepts tags server s t e.last same a e.advances; stops = e.stops }
+stays_then : (olds mids news : List Seeker) → Stays olds mids → Stays mids news → Stays olds news
+stays_then olds mids news g h = record { longer = longer_then olds mids news g.longer h.longer; driven_on = driven_then olds mids news g.driven_on h.driven_on; seats = seats_then olds mids news g.seats h.seats }
 
-pub ends_last_after : (accepts : Accepts) (tags : Tags) (server : ServeSetting) (s t : Stand) (told' : Option (List Event)) → SameHands s.host t.host → Advances true accepts tags server s t → EndsLast accepts tags server t told' → EndsLast accepts tags server s told'
-ends_last_after accepts tags server s t told' same a e = record { last = e.last; advances = advances_then true accepts tags server s t e.last same a e.advances; ends = e.ends }
+-- after receives of a round
+pub stays_received : (old new : List Seeker) (line line' : Line) → ReceivedAll old new line line' → Stays old new
+stays_received old new line line' r = record { longer = r.longer; driven_on = r.driven_on; seats = r.seats }
+
+pub ends_now : (busy : Bool) (fault : ManyFault) (accepts : Accepts) (tags : Tags) (server : ServeSetting) (s : Stand) (host' : Hands) (told' : Option (List Event)) → AllByRecursion IsLegal s.seekers → Stops busy fault accepts tags server s told' → RanOn s.host host' → EndsEarly busy fault accepts tags server s host' told'
+ends_now busy fault accepts tags server s host' told' legal stops ran =
+    let k = stays_none s.seekers in
+    record { last = s; advances = advances_none busy accepts tags server s; same = same_none s.host; legal = legal; longer = k.longer; driven_on = k.driven_on; seats = k.seats; stops = stops; ran_on = ran }
+
+pub ends_last_now : (accepts : Accepts) (tags : Tags) (server : ServeSetting) (s : Stand) (host' : Hands) (told' : Option (List Event)) → AllByRecursion IsLegal s.seekers → EndsByForeign true accepts tags server s told' → RanOn s.host host' → EndsLast accepts tags server s host' told'
+ends_last_now accepts tags server s host' told' legal ends ran =
+    let k = stays_none s.seekers in
+    record { last = s; advances = advances_none true accepts tags server s; same = same_none s.host; legal = legal; longer = k.longer; driven_on = k.driven_on; seats = k.seats; ends = ends; ran_on = ran }
+
+pub ends_after : (busy : Bool) (fault : ManyFault) (accepts : Accepts) (tags : Tags) (server : ServeSetting) (s t : Stand) (host' : Hands) (told' : Option (List Event)) → SameHands s.host t.host → Stays s.seekers t.seekers → Advances busy [] accepts tags server s t → EndsEarly busy fault accepts tags server t host' told' → EndsEarly busy fault accepts tags server s host' told'
+ends_after busy fault accepts tags server s t host' told' same stays a e =
+    let k = stays_then s.seekers t.seekers e.last.seekers stays (record { longer = e.longer; driven_on = e.driven_on; seats = e.seats }) in
+    record { last = e.last; advances = advances_then busy [] [] accepts tags server s t e.last same a e.advances; same = same_more s.host t.host e.last.host same e.same; legal = e.legal; longer = k.longer; driven_on = k.driven_on; seats = k.seats; stops = e.stops; ran_on = e.ran_on }
+
+pub ends_last_after : (accepts : Accepts) (tags : Tags) (server : ServeSetting) (s t : Stand) (host' : Hands) (told' : Option (List Event)) → SameHands s.host t.host → Stays s.seekers t.seekers → Advances true [] accepts tags server s t → EndsLast accepts tags server t host' told' → EndsLast accepts tags server s host' told'
+ends_last_after accepts tags server s t host' told' same stays a e =
+    let k = stays_then s.seekers t.seekers e.last.seekers stays (record { longer = e.longer; driven_on = e.driven_on; seats = e.seats }) in
+    record { last = e.last; advances = advances_then true [] [] accepts tags server s t e.last same a e.advances; same = same_more s.host t.host e.last.host same e.same; legal = e.legal; longer = k.longer; driven_on = k.driven_on; seats = k.seats; ends = e.ends; ran_on = e.ran_on }
 
 -- ---- how many receives a round may still have
 

@@ -1,15 +1,18 @@
 -- The receives that wait for others than the lookups, which are over.
-use Rattle.std.proofs.Common.{◌≡◌, ℕ, ◌<◌, List, [], ◌∷◌, false, refl, sym, subst, arith}
+use Rattle.std.proofs.Common.{◌≡◌, ℕ, ◌<◌, List, [], ◌∷◌, ◌++◌, false, refl, sym, ap, subst, ◌∙◌, arith}
 use Rattle.std.specs.Prelude.{map, None}
-use Rattle.std.specs.List.{AllByRecursion}
+use Rattle.std.specs.List.{AllByRecursion, AllZip}
+use Rattle.std.proofs.lemmas.List.{append-nil}
 use Rattle.claim_book.specs.Journal.{may_ask}
 use Rattle.claim_book.specs.RunOut.{RunOut}
 use Rattle.node_serve.specs.Receives.{waits_until}
 use Rattle.look_many.specs.declared.seeker.Seeker.{Seeker}
 use Rattle.look_many.specs.declared.seeker.Line.{Line}
 use Rattle.look_many.specs.Mine.{Whose}
-use Rattle.look_many.specs.inner.Crowd.{whose, NoneAsks}
+use Rattle.look_many.specs.inner.Crowd.{whose, NoneAsks, Longer, DrivenOn, SameSeat}
 use Rattle.look_many.specs.inner.ManySteps.{IsRunOut, for_others, MayReceive, MayServe, Received}
+use Rattle.look_many.proofs.OneReceive.{none_driven}
+use Rattle.look_many.proofs.Rounding.{Stays}
 
 pub may_serve : (ks : List Seeker) (line : Line) (until : ℕ) → MayServe ks line → 0 < line.left → until ≡ waits_until line.moment → MayReceive ks line until false
 may_serve ks line until may left waits = record {
@@ -18,6 +21,7 @@ may_serve ks line until may left waits = record {
   in_turn = λ z. may.none_asks;
   few_receives = may.few_receives;
   room = (let room = may.room in omega (arith, room, left));
+  counted = may.counted;
 }
 
 -- lookups that are read alike are over alike, and ask alike
@@ -39,6 +43,31 @@ none_same (o ∷ olds) (n ∷ news) same h =
     let tail : map whose news ≡ map whose olds = cc in
     (subst (λ (w : Whose). (p : ℕ) → p < w.setting.paths → may_ask w.setting p w.journal ≡ None) (sym head) h.0, none_same olds news tail h.1)
 
+-- they have the same journals, and the same passes
+pub stays_same : (olds news : List Seeker) → map whose news ≡ map whose olds → AllZip SameSeat olds news → Stays olds news
+stays_same olds news same seats = record { longer = longer_same olds news same; driven_on = driven_same olds news same; seats = seats }
+  where
+    nothing_more : (o n : Seeker) → whose n ≡ whose o → n.lookup.book.journal ≡ o.lookup.book.journal ++ []
+    nothing_more o n head = ap (λ (w : Whose). w.journal) head ∙ sym (append-nil o.lookup.book.journal)
+
+    longer_same : (olds news : List Seeker) → map whose news ≡ map whose olds → AllZip Longer olds news
+    longer_same [] [] same = tt
+    longer_same [] (n ∷ news) same = absurd cc
+    longer_same (o ∷ olds) [] same = absurd cc
+    longer_same (o ∷ olds) (n ∷ news) same =
+        let head : whose n ≡ whose o = cc in
+        let tail : map whose news ≡ map whose olds = cc in
+        (record { more = []; quest = ap (λ (w : Whose). w.quest) head; setting = ap (λ (w : Whose). w.setting) head; journal = nothing_more o n head }, longer_same olds news tail)
+
+    driven_same : (olds news : List Seeker) → map whose news ≡ map whose olds → AllZip DrivenOn olds news
+    driven_same [] [] same = tt
+    driven_same [] (n ∷ news) same = absurd cc
+    driven_same (o ∷ olds) [] same = absurd cc
+    driven_same (o ∷ olds) (n ∷ news) same =
+        let head : whose n ≡ whose o = cc in
+        let tail : map whose news ≡ map whose olds = cc in
+        (record { more = []; journal = nothing_more o n head; all_driven = none_driven }, driven_same olds news tail)
+
 pub serve_next : (old new : List Seeker) (line line' : Line) → MayServe old line → 0 < line.left → Received false old new line line' → MayServe new line'
 serve_next old new line line' may some r = record {
   holds = r.holds;
@@ -47,4 +76,5 @@ serve_next old new line line' may some r = record {
   none_asks = none_same old new (r.same refl) may.none_asks;
   few_receives = r.few_receives;
   room = (let room = may.room in let left = r.left in let foreign = r.foreign in omega (arith, room, left, foreign, some));
+  counted = r.counted;
 }

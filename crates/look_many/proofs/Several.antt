@@ -12,7 +12,7 @@ use Rattle.look_many.specs.Many.{FirstTakes, IsForeign}
 use Rattle.look_many.specs.inner.Crowd.{whose, Holding, Longer, KeepsMine}
 use Rattle.look_many.specs.inner.ManySteps.{IsMatchFor, IsNotFor, TakesFirst, Expires, all_lapsed}
 use Rattle.look_many.proofs.Lists.{all_front, all_back, apart_at}
-use Rattle.look_many.proofs.One.{waits_on, stray_for, matches_on}
+use Rattle.look_many.proofs.OneReceive.{waits_on, stray_for, matches_on}
 
 -- what goes on to hold of each, and whom all lost
 pub record EachOn (at : ℕ) (olds mids news : List Seeker) (ns : List Mine) : Type 0 where

@@ -1,5 +1,5 @@
 -- One receive of all lookups: what its event gives goes with what they keep.
-use Rattle.std.proofs.Common.{◌≡◌, ◌≢◌, ◌⊎◌, ℕ, zero, suc, ◌+◌, ◌-◌, ◌<◌, ◌≤◌, List, [], ◌∷◌, ◌++◌, length, Option, Some, None, Bool, true, false, cond, inl, inr, refl, sym, ap, subst, ◌∙◌, arith, Result, Err}
+use Rattle.std.proofs.Common.{◌≡◌, ◌≢◌, ◌⊎◌, ℕ, zero, suc, ◌+◌, ◌-◌, ◌<◌, ◌≤◌, ◌^◌, List, [], ◌∷◌, ◌++◌, length, Option, Some, None, Bool, true, false, cond, inl, inr, refl, sym, ap, subst, ◌∙◌, arith, Result, Err}
 use Rattle.std.specs.Prelude.{map, filter, nat_lt, IsErrOf}
 use Rattle.std.specs.List.{AllByRecursion, AllZip, flat_map}
 use Rattle.std.proofs.lemmas.Bool.Decides.{nat_tests}
@@ -30,13 +30,15 @@ use Rattle.serve_crew.specs.Hands.{Hands}
 use Rattle.look_many.specs.declared.seeker.Seeker.{Seeker}
 use Rattle.look_many.specs.declared.seeker.Line.{Line}
 use Rattle.look_many.specs.declared.seeker.ManyFault.{ManyFault}
+use Rattle.look_many.specs.declared.seeker.ManyFault.TheVariants.{LinkFault}
 use Rattle.look_many.specs.Mine.{Mine, Whose, HaveAsked, waited}
 use Rattle.look_many.specs.Many.{Frame, Owed, Shown, Reading, nothing_read, and_then, read_of, open_of, deadlines_of, WaitsUntil, IsOver, MayWait, for_replies, for_others, AllHaveAsked, Receives, FirstTakes, IsForeign, Owes, goes_on, after_got, after_quiet}
-use Rattle.look_many.specs.inner.Crowd.{whose, opens, Holding, NoneAsks, Longer, OnlyHeard, queries_of, KeepsMine, KeepsLine, ManyShow, Ran, Stand, Advances, stand}
-use Rattle.look_many.specs.inner.ManySteps.{IsMatchFor, IsNotFor, TakesFirst, Expires, all_lapsed, IsRunOut, WaitsFor, for_replies as waits_replies, for_others as waits_others, MayReceive, Counts, Answers, Handles, is_taken, is_foreign, Comes, Passes, Pays, IsLastForeign, Received, ShowsEarly, Stops, EndsByForeign}
+use Rattle.look_many.specs.inner.Crowd.{whose, opens, Holding, NoneAsks, Longer, DrivenOn, OnlyHeard, queries_of, KeepsMine, KeepsLine, ManyShow, SameSeat, Ran, Stand, Advances, stand}
+use Rattle.look_many.specs.inner.ManySteps.{IsMatchFor, IsNotFor, TakesFirst, Expires, all_lapsed, IsRunOut, WaitsFor, for_replies as waits_replies, for_others as waits_others, MayReceive, Counts, Answers, Handles, is_taken, is_foreign, Comes, Passes, Pays, after_paid, IsLastForeign, Received, ShowsEarly, Stops, EndsByForeign}
 use Rattle.look_many.proofs.Several.{all_wait, first_on, all_stray, first_holds, expired_hold}
-use Rattle.look_many.proofs.Heard.{all_same as only_same_all, all_then, all_expired, first_taken}
-use Rattle.look_many.proofs.Hosting.{ran_then, ran_answer}
+use Rattle.look_many.proofs.Heard.{all_same as only_same_all, all_then, all_expired, first_taken, same_driven, driven_then, expired_driven, first_driven, same_seats, seats_then, expired_seats, first_seats}
+use Rattle.look_many.proofs.Counting.{fewer_expired, closes_one, same_asks, counts_on, may_count_reply, paid_received}
+use Rattle.look_many.proofs.Hosting.{ran_then, ran_answer, had_memory}
 use Rattle.look_many.proofs.Walking.{same_reading, nothing_after, first_longer, foreign_longer, shows_more}
 
 -- ---- how long a receive waits
@@ -112,7 +114,7 @@ receives_of busy f place ks ls line s until may st k g same = record {
   asked = subst (λ n. AllHaveAsked n (map whose ls) s.each) (sym st.receives) (all_asked line.receives ks ls s.each may.in_turn k g);
 }
 
--- ---- where idle query is open nothing of a lookup changes
+-- ---- where no query is open nothing of a lookup changes
 
 none_front : {A : Type 0} (xs ys : List A) → xs ++ ys ≡ [] → xs ≡ []
 none_front [] ys e = refl
@@ -142,7 +144,7 @@ none_open : (ks : List Seeker) (line : Line) (until : ℕ) (busy : Bool) → Wai
 none_open ks line until busy (waits_replies is some waits few) idle = (let t : true ≡ false = sym is ∙ idle in absurd cc)
 none_open ks line until busy (waits_others is none over left waits) idle = none
 
--- nobody takes a datagram where idle query is open
+-- nobody takes a datagram where no query is open
 none_taken : (accepts : Accepts) (from : Addr) (bytes : List ℕ) (old mid : List Seeker) → TakesFirst accepts from bytes old mid → queries_of old ≡ [] → ⊥
 none_taken accepts from bytes old mid t none = at_it t.before (subst (λ l. queries_of l ≡ []) t.were none)
   where
@@ -159,16 +161,17 @@ none_taken accepts from bytes old mid t none = at_it t.before (subst (λ l. quer
 -- what a step leaves: the lookups, and what is read of it
 pub record GotOn (accepts : Accepts) (tags : Tags) (server : ServeSetting) (busy : Bool) (from : Addr) (bytes : List ℕ) (at : ℕ) (old new : List Seeker) (line line' : Line) (until : ℕ) (host host' : Hands) (owed : Option Owed) : Type 0 where
   pub more : Reading
+  pub owners_are : more.owners ≡ []
   pub goes : (f : Frame) (count place : ℕ) (read : Reading) (events : List Event) → f.accepts ≡ accepts → f.tags ≡ tags → f.server ≡ server → ManyShow busy f count old line place None read events
       → ManyShow busy f count new line' place owed (and_then read more) (events ++ Got from bytes until at ∷ [])
   pub ran : Ran host host' more.did more.lost
 
-line_got : (f : Frame) (line line' : Line) (place at foreign foreign' : ℕ) (owed : Option Owed) (s : Shown) (ns : List Mine) (ls : List Seeker) → KeepsLine f line place None s → foreign ≡ foreign' → line' ≡ record { moment = at; receives = goes_on line.receives (length (queries_of ls)); foreign = foreign'; left = line.left - 1 } → AllZip KeepsMine ls ns
+line_got : (f : Frame) (line line' : Line) (place at foreign foreign' : ℕ) (owed : Option Owed) (s : Shown) (ns : List Mine) (ls : List Seeker) → KeepsLine f line place None s → foreign ≡ foreign' → line' ≡ record { moment = at; receives = goes_on line.receives (length (queries_of ls)); foreign = foreign'; left = line.left - 1; received = line.received + 1; replied = line.replied } → AllZip KeepsMine ls ns
     → KeepsLine f line' place owed (after_got s at foreign owed ns)
 line_got f line line' place at foreign foreign' owed s ns ls st same is k =
     let left = st.left in
     subst (λ (l : Line). KeepsLine f l place owed (after_got s at foreign owed ns)) (sym is)
-    (record { moment = refl; sends = st.sends; foreign = same; receives = ap (λ n. goes_on n (length (open_of ns))) st.receives ∙ ap (goes_on line.receives) (same_count ls ns k); left = omega (arith, left); owed_is = refl })
+    (record { moment = refl; sends = st.sends; got = ap (λ n. n + 1) st.got; foreign = same; replied = st.replied; receives = ap (λ n. goes_on n (length (open_of ns))) st.receives ∙ ap (goes_on line.receives) (same_count ls ns k); left = omega (arith, left); owed_is = refl })
 
 -- what is read of a receive
 lost_read : List Did → List Contact → Reading
@@ -178,12 +181,20 @@ read_is_of : (did : List Did) (lost : List Contact) (ns : List Mine) → flat_ma
 unfolding lost_read
 read_is_of did lost ns e = same_reading (lost_read did lost) (read_of did ns) refl refl (sym e)
 
+-- while a query is open the one more isn't the last that is taken
+few_more : (ks : List Seeker) (line counted : Line) (until : ℕ) (busy : Bool) → WaitsFor ks line until busy → Counts busy line counted → queries_of ks ≢ [] → line.foreign + 1 < max_strays
+few_more ks line counted until busy (waits_replies is some waits few) counts any =
+    let is_more : counted.foreign ≡ line.foreign + 1 = ap (λ (l : Line). l.foreign) counts.0 in
+    subst (λ n. n < max_strays) is_more (counts.1 is)
+few_more ks line counted until busy (waits_others is none over left waits) counts any = absurd (any none)
+
 module _ (accepts : Accepts) (tags : Tags) (server : ServeSetting) (busy : Bool) (from : Addr) (bytes : List ℕ) (until at : ℕ) (old new : List Seeker) (line line' : Line) (host host' : Hands) where
   -- where a lookup takes it
   got_taken : (c : Comes accepts tags server busy from bytes at old new line line' host host' None) → MayReceive old line until busy → TakesFirst accepts from bytes old c.mid → c.counted ≡ line → c.between ≡ host → GotOn accepts tags server busy from bytes at old new line line' until host host' None
   unfolding lost_read
   got_taken c may t counted between = record {
     more = lost_read [] (all_lapsed at c.mid);
+    owners_are = refl;
     goes = λ f count place read events ea et es h.
         let s = h.end in
         let st = h.keeps_line in
@@ -210,12 +221,14 @@ module _ (accepts : Accepts) (tags : Tags) (server : ServeSetting) (busy : Bool)
   unfolding lost_read
   got_foreign owed c may none mid counts answers = record {
     more = lost_read answers.did (all_lapsed at old);
+    owners_are = refl;
     goes = λ f count place read events ea et es h.
         let s = h.end in
         let st = h.keeps_line in
         let expires : AllZip (Expires at) old new = subst (λ l. AllZip (Expires at) l new) mid c.expires in
         let on = all_wait at old new s.each may.holds h.keeps_each expires in
         let same : busy ≡ false → map whose new ≡ map whose old = (λ idle. all_still at old new expires (none_open old line until busy may.waits idle)) in
+        let few : open_of s.each ≢ [] → s.foreign + 1 < max_strays = (λ some. subst (λ n. n + 1 < max_strays) (sym st.foreign) (few_more old line c.counted until busy may.waits counts (λ none. some (none_shown old s.each h.keeps_each none)))) in
         let more_foreign : s.foreign + 1 ≡ c.counted.foreign = ap (λ n. n + 1) st.foreign ∙ sym (ap (λ (l : Line). l.foreign) counts.0) in
         shows_more busy f count place place None owed read (lost_read answers.did (all_lapsed at old)) old new line line' (Got from bytes until at) events h (after_got s at (s.foreign + 1) owed (map (waited at) s.each)) on.longer same (
           receives_of busy f place old new line s until may st h.keeps_each on.longer same,
@@ -223,13 +236,14 @@ module _ (accepts : Accepts) (tags : Tags) (server : ServeSetting) (busy : Bool)
             foreign = subst (λ a. IsForeign a from bytes (map whose new) s.each) (sym ea) (foreign_longer accepts from bytes old new s.each on.longer (all_stray accepts from bytes old s.each h.keeps_each none));
             did = answers.did;
             read_is = read_is_of answers.did (all_lapsed at old) (map (waited at) s.each) on.lost;
+            few = few;
             owed = owed;
             owes = subst (λ t. Owes t f.server from bytes at answers.did owed) (sym et) (subst (λ v. Owes tags v from bytes at answers.did owed) (sym es) answers.owes);
             after = refl;
           }),
         )
         (line_got f line line' place at (s.foreign + 1) c.counted.foreign owed s (map (waited at) s.each) new st more_foreign c.line_is on.keeps) on.keeps;
-    ran = subst (λ d. Ran host host' d (all_lapsed at old)) (append-nil answers.did) (ran_then host c.between host' answers.did [] [] (all_lapsed at old) answers.same (ran_answer host c.between answers.did answers.grew) (subst (λ l. Ran c.between host' [] (all_lapsed at l)) mid c.ran));
+    ran = subst (λ d. Ran host host' d (all_lapsed at old)) (append-nil answers.did) (ran_then host c.between host' answers.did [] [] (all_lapsed at old) answers.same (ran_answer host c.between answers.did answers.grew (had_memory tags server from bytes at answers.did owed answers.owes)) (subst (λ l. Ran c.between host' [] (all_lapsed at l)) mid c.ran));
   }
 
   pub got_on : (owed : Option Owed) (c : Comes accepts tags server busy from bytes at old new line line' host host' owed) → MayReceive old line until busy → GotOn accepts tags server busy from bytes at old new line line' until host host' owed
@@ -250,40 +264,42 @@ all_longer [] = tt
 all_longer (k ∷ ks) = (same_longer k, all_longer ks)
 
 paid : (busy : Bool) (f : Frame) (count place : ℕ) (read : Reading) (ks : List Seeker) (line : Line) (owed : Owed) (es : List Event) (was_sent : Bool) → ManyShow busy f count ks line place (Some owed) read es
-    → ManyShow busy f count ks line place None (and_then read nothing_read) (es ++ tried was_sent owed.to owed.reply ∷ [])
+    → ManyShow busy f count ks (after_paid line was_sent) place None (and_then read nothing_read) (es ++ tried was_sent owed.to owed.reply ∷ [])
 paid busy f count place read ks line owed es true h =
     let st = h.keeps_line in
-    let t : Shown = record h.end { owed = None } in
-    shows_more busy f count place place (Some owed) None read nothing_read ks ks line line (Sent owed.to owed.reply) es h t (all_longer ks) (λ idle. refl) (inr (record { owes = st.owed_is; nothing = refl; after = refl }))
-    (record { moment = st.moment; sends = st.sends; foreign = st.foreign; receives = st.receives; left = st.left; owed_is = refl }) h.keeps_each
+    let t : Shown = record h.end { owed = None; replied = h.end.replied + 1 } in
+    shows_more busy f count place place (Some owed) None read nothing_read ks ks line (after_paid line true) (Sent owed.to owed.reply) es h t (all_longer ks) (λ idle. refl) (inr (record { owes = st.owed_is; nothing = refl; after = refl }))
+    (record { moment = st.moment; sends = st.sends; got = st.got; foreign = st.foreign; replied = ap (λ n. n + 1) st.replied; receives = st.receives; left = st.left; owed_is = refl }) h.keeps_each
 paid busy f count place read ks line owed es false h =
     let st = h.keeps_line in
     let t : Shown = record h.end { owed = None } in
     shows_more busy f count place place (Some owed) None read nothing_read ks ks line line (Unsent owed.to owed.reply) es h t (all_longer ks) (λ idle. refl) (inr (record { owes = st.owed_is; nothing = refl; after = refl }))
-    (record { moment = st.moment; sends = st.sends; foreign = st.foreign; receives = st.receives; left = st.left; owed_is = refl }) h.keeps_each
+    (record { moment = st.moment; sends = st.sends; got = st.got; foreign = st.foreign; replied = st.replied; receives = st.receives; left = st.left; owed_is = refl }) h.keeps_each
 
 -- the reply that is owed is sent, and then none is
-pays_on : (busy : Bool) (f : Frame) (count place : ℕ) (read : Reading) (ks : List Seeker) (line : Line) (owed : Option Owed) (es fs : List Event) → Pays owed fs → ManyShow busy f count ks line place owed read es → ManyShow busy f count ks line place None read (es ++ fs)
-pays_on busy f count place read ks line None es fs is h = subst (ManyShow busy f count ks line place None read) (sym (ap (λ l. es ++ l) is ∙ append-nil es)) h
-pays_on busy f count place read ks line (Some owed) es fs pays h =
-    subst (λ l. ManyShow busy f count ks line place None read (es ++ l)) (sym pays.1) (subst (λ r. ManyShow busy f count ks line place None r (es ++ tried pays.0 owed.to owed.reply ∷ [])) (nothing_after read) (paid busy f count place read ks line owed es pays.0 h))
+pays_on : (busy : Bool) (f : Frame) (count place : ℕ) (read : Reading) (ks : List Seeker) (line : Line) (owed : Option Owed) (was_sent : Bool) (es fs : List Event) → Pays owed was_sent fs → ManyShow busy f count ks line place owed read es → ManyShow busy f count ks (after_paid line was_sent) place None read (es ++ fs)
+pays_on busy f count place read ks line None was_sent es fs is h =
+    subst (λ b. ManyShow busy f count ks (after_paid line b) place None read (es ++ fs)) (sym is.0) (subst (ManyShow busy f count ks line place None read) (sym (ap (λ l. es ++ l) is.1 ∙ append-nil es)) h)
+pays_on busy f count place read ks line (Some owed) was_sent es fs is h =
+    subst (λ l. ManyShow busy f count ks (after_paid line was_sent) place None read (es ++ l)) (sym is) (subst (λ r. ManyShow busy f count ks (after_paid line was_sent) place None r (es ++ tried was_sent owed.to owed.reply ∷ [])) (nothing_after read) (paid busy f count place read ks line owed es was_sent h))
 
 -- ---- whatever was told since any beginning
 
 -- a datagram, and what it was owed
-pub got_advances : (accepts : Accepts) (tags : Tags) (server : ServeSetting) (busy : Bool) (from : Addr) (bytes : List ℕ) (until at : ℕ) (old new : List Seeker) (line line' : Line) (host host' : Hands) (owed : Option Owed) (words : WordsState) (told mid told' : Option (List Event))
-    → GotOn accepts tags server busy from bytes at old new line line' until host host' owed → Grows told mid (λ es. es ≡ Got from bytes until at ∷ []) → Grows mid told' (Pays owed) → Advances busy accepts tags server (stand old line words host told) (stand new line' words host' told')
-got_advances accepts tags server busy from bytes until at old new line line' host host' owed words told mid told' on got pays = record {
+pub got_advances : (accepts : Accepts) (tags : Tags) (server : ServeSetting) (busy : Bool) (from : Addr) (bytes : List ℕ) (until at : ℕ) (old new : List Seeker) (line line' after : Line) (host host' : Hands) (owed : Option Owed) (was_sent : Bool) (words : WordsState) (told mid told' : Option (List Event)) → after ≡ after_paid line' was_sent
+    → GotOn accepts tags server busy from bytes at old new line line' until host host' owed → Grows told mid (λ es. es ≡ Got from bytes until at ∷ []) → Grows mid told' (Pays owed was_sent) → Advances busy [] accepts tags server (stand old line words host told) (stand new after words host' told')
+got_advances accepts tags server busy from bytes until at old new line line' after host host' owed was_sent words told mid told' paid on got pays = record {
   more = on.more;
+  owners_are = on.owners_are;
   goes = λ f count read began is h.
       grows_then began mid told' _ _ _
       (grows_then began told mid _ _ _ h got (λ es fs shows e. subst (λ l. ManyShow busy f count new line' words.place owed (and_then read on.more) (es ++ l)) (sym e) (on.goes f count words.place read es is.accepts_is is.tags_is is.server_is shows)))
-      pays (λ es fs shows p. pays_on busy f count words.place (and_then read on.more) new line' owed es fs p shows);
+      pays (λ es fs shows p. subst (λ (l : Line). ManyShow busy f count new l words.place None (and_then read on.more) (es ++ fs)) (sym paid) (pays_on busy f count words.place (and_then read on.more) new line' owed was_sent es fs p shows));
   ran = on.ran;
   seed = refl;
 }
 
--- idle datagram
+-- no datagram
 quiet_on : (busy : Bool) (until at : ℕ) (old new : List Seeker) (line line' : Line) (host host' : Hands) (f : Frame) (count place : ℕ) (read : Reading) (es : List Event) → MayReceive old line until busy → Passes at old new line line' host host' → ManyShow busy f count old line place None read es
     → ManyShow busy f count new line' place None (and_then read (lost_read [] (all_lapsed at old))) (es ++ Quiet until at ∷ [])
 quiet_on busy until at old new line line' host host' f count place read es may c h =
@@ -294,13 +310,14 @@ quiet_on busy until at old new line line' host host' f count place read es may c
     let same : busy ≡ false → map whose new ≡ map whose old = (λ idle. all_still at old new c.expires (none_open old line until busy may.waits idle)) in
     shows_more busy f count place place None None read (lost_read [] (all_lapsed at old)) old new line line' (Quiet until at) es h (after_quiet s at) on.longer same
     (receives_of busy f place old new line s until may st h.keeps_each on.longer same, read_is_of [] (all_lapsed at old) (map (waited at) s.each) on.lost, refl)
-    (subst (λ (l : Line). KeepsLine f l place None (after_quiet s at)) (sym c.line_is) (record { moment = refl; sends = st.sends; foreign = st.foreign; receives = refl; left = omega (arith, left); owed_is = refl })) on.keeps
+    (subst (λ (l : Line). KeepsLine f l place None (after_quiet s at)) (sym c.line_is) (record { moment = refl; sends = st.sends; got = st.got; foreign = st.foreign; replied = st.replied; receives = refl; left = omega (arith, left); owed_is = refl })) on.keeps
 
 pub quiet_advances : (accepts : Accepts) (tags : Tags) (server : ServeSetting) (busy : Bool) (until at : ℕ) (old new : List Seeker) (line line' : Line) (host host' : Hands) (words : WordsState) (told told' : Option (List Event))
-    → MayReceive old line until busy → Passes at old new line line' host host' → Grows told told' (λ es. es ≡ Quiet until at ∷ []) → Advances busy accepts tags server (stand old line words host told) (stand new line' words host' told')
+    → MayReceive old line until busy → Passes at old new line line' host host' → Grows told told' (λ es. es ≡ Quiet until at ∷ []) → Advances busy [] accepts tags server (stand old line words host told) (stand new line' words host' told')
 unfolding lost_read
 quiet_advances accepts tags server busy until at old new line line' host host' words told told' may c quiet = record {
   more = lost_read [] (all_lapsed at old);
+  owners_are = refl;
   goes = λ f count read began is h. grows_then began told told' _ _ _ h quiet (λ es fs shows e. subst (λ l. ManyShow busy f count new line' words.place None (and_then read (lost_read [] (all_lapsed at old))) (es ++ l)) (sym e) (quiet_on busy until at old new line line' host host' f count words.place read es may c shows));
   ran = c.ran;
   seed = refl;
@@ -336,20 +353,23 @@ few_next n k = elim (next_in n k) [
 ]
 
 -- the count of foreign datagrams after it
-record Counted (busy : Bool) (line counted : Line) : Type 0 where
+record Counted (busy : Bool) (old mid : List Seeker) (line counted : Line) : Type 0 where
   most : counted.foreign ≤ line.foreign + 1
   few : busy ≡ true → counted.foreign < max_strays
+  closes : length (queries_of mid) + line.foreign + 1 ≡ length (queries_of old) + counted.foreign
 
 few_while : (ks : List Seeker) (line : Line) (until : ℕ) (busy : Bool) → WaitsFor ks line until busy → busy ≡ true → line.foreign < max_strays
 few_while ks line until busy (waits_replies is some waits few) is_busy = few
 few_while ks line until busy (waits_others is none over left waits) is_busy = (let t : true ≡ false = sym is_busy ∙ is in absurd cc)
 
-counted_of : (accepts : Accepts) (tags : Tags) (server : ServeSetting) (busy : Bool) (from : Addr) (bytes : List ℕ) (at : ℕ) (old mid : List Seeker) (line counted : Line) (host between : Hands) (owed : Option Owed) → (busy ≡ true → line.foreign < max_strays) → Handles accepts tags server busy from bytes at old mid line counted host between owed → Counted busy line counted
+counted_of : (accepts : Accepts) (tags : Tags) (server : ServeSetting) (busy : Bool) (from : Addr) (bytes : List ℕ) (at : ℕ) (old mid : List Seeker) (line counted : Line) (host between : Hands) (owed : Option Owed) → (busy ≡ true → line.foreign < max_strays) → Handles accepts tags server busy from bytes at old mid line counted host between owed → Counted busy old mid line counted
 counted_of accepts tags server busy from bytes at old mid line counted host between owed few (is_taken t is b o) =
-    subst (Counted busy line) (sym is) (record { most = omega arith; few = few })
+    let one = closes_one accepts from bytes old mid t in
+    subst (Counted busy old mid line) (sym is) (record { most = omega arith; few = few; closes = omega (arith, one) })
 counted_of accepts tags server busy from bytes at old mid line counted host between owed few (is_foreign none m counts answers) =
     let is : counted.foreign ≡ line.foreign + 1 = ap (λ (l : Line). l.foreign) counts.0 in
-    record { most = omega (arith, is); few = counts.1 }
+    let same : length (queries_of mid) ≡ length (queries_of old) = ap (λ l. length (queries_of l)) m in
+    record { most = omega (arith, is); few = counts.1; closes = omega (arith, is, same) }
 
 mid_longer : (at : ℕ) (olds mids news : List Seeker) → AllZip Longer olds mids → AllZip (Expires at) mids news → AllZip Longer olds news
 mid_longer at [] [] [] g e = tt
@@ -395,12 +415,25 @@ handled_only : (accepts : Accepts) (tags : Tags) (server : ServeSetting) (busy :
 handled_only accepts tags server busy from bytes at old mid line counted host between owed (is_taken t is b o) = first_taken accepts from bytes old mid t
 handled_only accepts tags server busy from bytes at old mid line counted host between owed (is_foreign none m counts answers) = subst (AllZip OnlyHeard old) (sym m) (only_same_all old)
 
-pub got_received : (accepts : Accepts) (tags : Tags) (server : ServeSetting) (busy : Bool) (from : Addr) (bytes : List ℕ) (until at : ℕ) (old new : List Seeker) (line line' : Line) (host host' : Hands) (owed : Option Owed) → MayReceive old line until busy → Comes accepts tags server busy from bytes at old new line line' host host' owed → Received busy old new line line'
-got_received accepts tags server busy from bytes until at old new line line' host host' owed may c =
+handled_driven : (accepts : Accepts) (tags : Tags) (server : ServeSetting) (busy : Bool) (from : Addr) (bytes : List ℕ) (at : ℕ) (old mid : List Seeker) (line counted : Line) (host between : Hands) (owed : Option Owed) → Handles accepts tags server busy from bytes at old mid line counted host between owed → AllZip DrivenOn old mid
+handled_driven accepts tags server busy from bytes at old mid line counted host between owed (is_taken t is b o) = first_driven accepts from bytes old mid t
+handled_driven accepts tags server busy from bytes at old mid line counted host between owed (is_foreign none m counts answers) = subst (AllZip DrivenOn old) (sym m) (same_driven old)
+
+handled_seats : (accepts : Accepts) (tags : Tags) (server : ServeSetting) (busy : Bool) (from : Addr) (bytes : List ℕ) (at : ℕ) (old mid : List Seeker) (line counted : Line) (host between : Hands) (owed : Option Owed) → Handles accepts tags server busy from bytes at old mid line counted host between owed → AllZip SameSeat old mid
+handled_seats accepts tags server busy from bytes at old mid line counted host between owed (is_taken t is b o) = first_seats accepts from bytes old mid t
+handled_seats accepts tags server busy from bytes at old mid line counted host between owed (is_foreign none m counts answers) = subst (AllZip SameSeat old) (sym m) (same_seats old)
+
+come_received : (accepts : Accepts) (tags : Tags) (server : ServeSetting) (busy : Bool) (from : Addr) (bytes : List ℕ) (until at : ℕ) (old new : List Seeker) (line line' : Line) (host host' : Hands) (owed : Option Owed) → MayReceive old line until busy → Comes accepts tags server busy from bytes at old new line line' host host' owed → Received busy old new line line'
+come_received accepts tags server busy from bytes until at old new line line' host host' owed may c =
     let n = line.receives in
     let k = length (queries_of new) in
     let counted = counted_of accepts tags server busy from bytes at old c.mid line c.counted host c.between owed (few_while old line until busy may.waits) c.handles in
     let most = counted.most in
+    let closes = counted.closes in
+    let fewer = fewer_expired at c.mid new c.expires in
+    let only = all_then old c.mid new (handled_only accepts tags server busy from bytes at old c.mid line c.counted host c.between owed c.handles) (all_expired at c.mid new c.expires) in
+    let more : line'.received ≡ line.received + 1 = ap (λ (l : Line). l.received) c.line_is in
+    let same_replied : line'.replied ≡ line.replied = ap (λ (l : Line). l.replied) c.line_is in
     let receives : line'.receives ≡ goes_on n k = ap (λ (l : Line). l.receives) c.line_is in
     let same_foreign : line'.foreign ≡ c.counted.foreign = ap (λ (l : Line). l.foreign) c.line_is in
     let expires_idle : busy ≡ false → AllZip (Expires at) old new =
@@ -408,7 +441,10 @@ got_received accepts tags server busy from bytes until at old new line line' hos
     record {
       holds = expired_hold at c.mid new c.expires;
       longer = mid_longer at old c.mid new (handled_longer accepts tags server busy from bytes at old c.mid line c.counted host c.between owed c.handles) c.expires;
-      only_heard = all_then old c.mid new (handled_only accepts tags server busy from bytes at old c.mid line c.counted host c.between owed c.handles) (all_expired at c.mid new c.expires);
+      only_heard = only;
+      driven_on = driven_then old c.mid new (handled_driven accepts tags server busy from bytes at old c.mid line c.counted host c.between owed c.handles) (expired_driven at c.mid new c.expires);
+      seats = seats_then old c.mid new (handled_seats accepts tags server busy from bytes at old c.mid line c.counted host c.between owed c.handles) (expired_seats at c.mid new c.expires);
+      counted = counts_on old new line line' may.counted (same_asks old new only) (omega (arith, closes, fewer, more, same_foreign)) same_replied (omega (arith, more));
       round = subst (λ m. (m ≡ 0) ⊎ (m ≡ n + 1)) (sym receives) (next_in n k);
       few_receives = subst (λ m. m < max_round_receives) (sym receives) (few_next n k);
       still = λ some none. (goes_more n k (λ z. some (receives ∙ z))).some (ap length none);
@@ -419,14 +455,33 @@ got_received accepts tags server busy from bytes until at old new line line' hos
       none_open = λ idle. all_closed at old new (expires_idle idle) (none_open old line until busy may.waits idle);
     }
 
+-- and after its reply
+pub got_received : (accepts : Accepts) (tags : Tags) (server : ServeSetting) (busy : Bool) (from : Addr) (bytes : List ℕ) (until at : ℕ) (old new : List Seeker) (line line' after : Line) (host host' : Hands) (owed : Option Owed) (was_sent : Bool) → after ≡ after_paid line' was_sent → MayReceive old line until busy → Comes accepts tags server busy from bytes at old new line line' host host' owed → Received busy old new line after
+got_received accepts tags server busy from bytes until at old new line line' after host host' owed was_sent paid may c =
+    let more : line'.received ≡ line.received + 1 = ap (λ (l : Line). l.received) c.line_is in
+    let same : line'.replied ≡ line.replied = ap (λ (l : Line). l.replied) c.line_is in
+    let replied = may.counted.replied in
+    subst (Received busy old new line) (sym paid) (paid_received busy old new line line' was_sent (omega (arith, more, same, replied)) (come_received accepts tags server busy from bytes until at old new line line' host host' owed may c))
+
+-- there is room to count it
+pub got_may_count : (accepts : Accepts) (tags : Tags) (server : ServeSetting) (busy : Bool) (from : Addr) (bytes : List ℕ) (until at : ℕ) (old new : List Seeker) (line line' : Line) (host host' : Hands) (owed : Option Owed) → MayReceive old line until busy → Comes accepts tags server busy from bytes at old new line line' host host' owed → line'.replied + 1 < 2 ^ 64
+got_may_count accepts tags server busy from bytes until at old new line line' host host' owed may c = may_count_reply old line line' until busy may (ap (λ (l : Line). l.replied) c.line_is)
+
 pub quiet_received : (busy : Bool) (until at : ℕ) (old new : List Seeker) (line line' : Line) (host host' : Hands) → MayReceive old line until busy → Passes at old new line line' host host' → Received busy old new line line'
 quiet_received busy until at old new line line' host host' may c =
     let receives : line'.receives ≡ 0 = ap (λ (l : Line). l.receives) c.line_is in
     let same_foreign : line'.foreign ≡ line.foreign = ap (λ (l : Line). l.foreign) c.line_is in
+    let same_received : line'.received ≡ line.received = ap (λ (l : Line). l.received) c.line_is in
+    let same_replied : line'.replied ≡ line.replied = ap (λ (l : Line). l.replied) c.line_is in
+    let fewer = fewer_expired at old new c.expires in
+    let only = all_expired at old new c.expires in
     record {
       holds = expired_hold at old new c.expires;
       longer = mid_longer at old old new (all_longer old) c.expires;
-      only_heard = all_expired at old new c.expires;
+      only_heard = only;
+      driven_on = expired_driven at old new c.expires;
+      seats = expired_seats at old new c.expires;
+      counted = counts_on old new line line' may.counted (same_asks old new only) (omega (arith, fewer, same_received, same_foreign)) same_replied (omega (arith, same_received));
       round = inl receives;
       few_receives = omega (arith, receives);
       still = λ some none. absurd (some receives);
@@ -437,24 +492,29 @@ quiet_received busy until at old new line line' host host' may c =
       none_open = λ idle. all_closed at old new c.expires (none_open old line until busy may.waits idle);
     }
 
+-- a reply changes no moment
+pub paid_moment : (line : Line) (was_sent : Bool) → (after_paid line was_sent).moment ≡ line.moment
+paid_moment line true = refl
+paid_moment line false = refl
+
 -- no moment is before the last
-pub got_later : (accepts : Accepts) (tags : Tags) (server : ServeSetting) (busy : Bool) (from : Addr) (bytes : List ℕ) (at : ℕ) (old new : List Seeker) (line line' : Line) (host host' : Hands) (owed : Option Owed) → Comes accepts tags server busy from bytes at old new line line' host host' owed → line.moment ≤ at → line.moment ≤ line'.moment
-got_later accepts tags server busy from bytes at old new line line' host host' owed c later = subst (λ m. line.moment ≤ m) (sym (ap (λ (l : Line). l.moment) c.line_is)) later
+pub got_later : (accepts : Accepts) (tags : Tags) (server : ServeSetting) (busy : Bool) (from : Addr) (bytes : List ℕ) (at : ℕ) (old new : List Seeker) (line line' after : Line) (host host' : Hands) (owed : Option Owed) (was_sent : Bool) → after ≡ after_paid line' was_sent → Comes accepts tags server busy from bytes at old new line line' host host' owed → line.moment ≤ at → line.moment ≤ after.moment
+got_later accepts tags server busy from bytes at old new line line' after host host' owed was_sent paid c later = subst (λ m. line.moment ≤ m) (sym (ap (λ (l : Line). l.moment) paid ∙ paid_moment line' was_sent ∙ ap (λ (l : Line). l.moment) c.line_is)) later
 
 pub quiet_later : (at : ℕ) (old new : List Seeker) (line line' : Line) (host host' : Hands) → Passes at old new line line' host host' → line.moment ≤ at → line.moment ≤ line'.moment
 quiet_later at old new line line' host host' c later = subst (λ m. line.moment ≤ m) (sym (ap (λ (l : Line). l.moment) c.line_is)) later
 
 -- ---- ended early
 
-abbrev pub IsEarly : List Event → Type 0
-IsEarly more = (more ≡ []) ⊎ ((from : Addr) × (bytes : List ℕ) × (until : ℕ) × (at : ℕ) × (more ≡ Got from bytes until at ∷ []))
+abbrev pub IsEarly : ManyFault → List Event → Type 0
+IsEarly fault more = (more ≡ []) ⊎ ((fault ≢ LinkFault) × (from : Addr) × (bytes : List ℕ) × (until : ℕ) × (at : ℕ) × (more ≡ Got from bytes until at ∷ []))
 
-early_of : (busy : Bool) (f : Frame) (count : ℕ) (old : Stand) (read : Reading) (es fs : List Event) → ManyShow busy f count old.seekers old.line old.words.place None read es → IsEarly fs → ShowsEarly busy f count old read (es ++ fs)
-early_of busy f count old read es fs h (inl is) = record { front = es; shows = h; whole = inl (ap (λ l. es ++ l) is ∙ append-nil es) }
-early_of busy f count old read es fs h (inr got) = record { front = es; shows = h; whole = inr (got.0, got.1, got.2, got.3, ap (λ l. es ++ l) got.4) }
+early_of : (busy : Bool) (fault : ManyFault) (f : Frame) (count : ℕ) (old : Stand) (read : Reading) (es fs : List Event) → ManyShow busy f count old.seekers old.line old.words.place None read es → IsEarly fault fs → ShowsEarly busy fault f count old read (es ++ fs)
+early_of busy fault f count old read es fs h (inl is) = record { front = es; shows = h; whole = inl (ap (λ l. es ++ l) is ∙ append-nil es) }
+early_of busy fault f count old read es fs h (inr got) = record { front = es; shows = h; whole = inr (got.0, got.1, got.2, got.3, got.4, ap (λ l. es ++ l) got.5) }
 
-pub stops_early : (busy : Bool) (accepts : Accepts) (tags : Tags) (server : ServeSetting) (old : Stand) (told' : Option (List Event)) → Grows old.told told' IsEarly → Stops busy accepts tags server old told'
-stops_early busy accepts tags server old told' grows f count read began is h = grows_then began old.told told' _ _ _ h grows (λ es fs shows e. early_of busy f count old read es fs shows e)
+pub stops_early : (busy : Bool) (fault : ManyFault) (accepts : Accepts) (tags : Tags) (server : ServeSetting) (old : Stand) (told' : Option (List Event)) → Grows old.told told' (IsEarly fault) → Stops busy fault accepts tags server old told'
+stops_early busy fault accepts tags server old told' grows f count read began is h = grows_then began old.told told' _ _ _ h grows (λ es fs shows e. early_of busy fault f count old read es fs shows e)
 
 pub ends_by_foreign : (busy : Bool) (accepts : Accepts) (tags : Tags) (server : ServeSetting) (from : Addr) (bytes : List ℕ) (until at : ℕ) (old : Stand) (told' : Option (List Event)) → MayReceive old.seekers old.line until busy → IsLastForeign accepts from bytes busy old.seekers old.line
     → Grows old.told told' (λ es. es ≡ Got from bytes until at ∷ []) → EndsByForeign busy accepts tags server old told'
@@ -488,3 +548,8 @@ err_moved {T} {U} x fault is =
     let same : x ≡ fault = cc in
     let here : ◌≡◌ {A = Result U ManyFault} (Err x) (Err fault) = cc in
     here
+
+pub not_fault : {T : Type 0} (x fault : ManyFault) → ¬ IsErrOf {T = T} {E = ManyFault} (Err x) fault → x ≢ fault
+not_fault {T} x fault is_not same =
+    let here : ◌≡◌ {A = Result T ManyFault} (Err x) (Err fault) = ap (λ (y : ManyFault). Err y) same in
+    is_not here

@@ -88,7 +88,7 @@ taken_longer : (f : Frame) (ks ls : List Seeker) (s t : Shown) (from : Addr) (by
 taken_longer f ks ls s t from bytes at read g h = record { each = h.each; first = first_longer f.accepts from bytes at ks ls s.each h.each g h.first; read_is = h.read_is; after = h.after }
 
 answered_longer : (f : Frame) (ks ls : List Seeker) (s t : Shown) (from : Addr) (bytes : List ℕ) (at : ℕ) (read : Reading) → AllZip Longer ks ls → IsAnsweredFor f (map whose ks) s from bytes at read t → IsAnsweredFor f (map whose ls) s from bytes at read t
-answered_longer f ks ls s t from bytes at read g h = record { foreign = foreign_longer f.accepts from bytes ks ls s.each g h.foreign; did = h.did; read_is = h.read_is; owed = h.owed; owes = h.owes; after = h.after }
+answered_longer f ks ls s t from bytes at read g h = record { foreign = foreign_longer f.accepts from bytes ks ls s.each g h.foreign; did = h.did; read_is = h.read_is; few = h.few; owed = h.owed; owes = h.owes; after = h.after }
 
 moves_longer : (G : Quest → Mine → Mine → Type 0) (i : ℕ) (ks ls : List Seeker) (ms ns : List Mine) → AllZip Longer ks ls → OneMoves (λ w m n. G w.quest m n) i (map whose ks) ms ns → OneMoves (λ w m n. G w.quest m n) i (map whose ls) ms ns
 moves_longer G i [] [] ms ns g h = h

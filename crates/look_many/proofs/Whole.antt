@@ -7,10 +7,12 @@ use Rattle.kad_base.specs.declared.types.Event.TheVariants.{Now, Sent, Unsent, G
 use Rattle.lookup_core.specs.LookupSteps.{as_open}
 use Rattle.look_many.specs.declared.seeker.Seeker.{Seeker}
 use Rattle.look_many.specs.declared.seeker.Line.{Line}
+use Rattle.look_many.specs.declared.seeker.ManyFault.{ManyFault}
 use Rattle.look_many.specs.Mine.{Mine, Whose, driven}
 use Rattle.look_many.specs.Many.{Frame, Shown, Reading, nothing_read, MayWait, for_replies, for_others, Receives, IsTaken, IsAnsweredFor, Gives, GivesFrom, fresh, begun, ManyTellSoFar, ManyTell, EndsAtForeign}
+use Rattle.look_many.specs.ManyLooked.{ManyTold, TellsEarly}
 use Rattle.look_many.specs.inner.Crowd.{whose, queries_of, KeepsMine, IsFresh, framed, ManyShow, Stand, count_of}
-use Rattle.look_many.specs.inner.ManySteps.{ShowsForeign}
+use Rattle.look_many.specs.inner.ManySteps.{ShowsEarly, ShowsForeign}
 use Rattle.look_many.proofs.Telling.{none_shown}
 
 -- ---- the beginning
@@ -19,14 +21,14 @@ each_fresh : (ks : List Seeker) → AllByRecursion IsFresh ks → AllZip KeepsMi
 each_fresh [] h = tt
 each_fresh (k ∷ ks) h = (record { queries = sym (ap (map (as_open k.lookup.book.journal)) h.0.none_open); given = sym h.0.none_driven }, each_fresh ks h.1)
 
-pub begins : (f : Frame) (at : ℕ) (ks : List Seeker) → AllByRecursion IsFresh ks → ManyShow true f (count_of ks) ks (record { moment = at; receives = 0; foreign = 0; left = f.wanted }) f.place None nothing_read (Now at ∷ [])
+pub begins : (f : Frame) (at : ℕ) (ks : List Seeker) → AllByRecursion IsFresh ks → ManyShow true f (count_of ks) ks (record { moment = at; receives = 0; foreign = 0; left = f.wanted; received = 0; replied = 0 }) f.place None nothing_read (Now at ∷ [])
 begins f at ks h = record {
   at = at;
   rest = [];
   first = refl;
   end = begun (count_of ks) at;
   walk = (refl, refl);
-  keeps_line = record { moment = refl; sends = omega arith; foreign = refl; receives = refl; left = omega arith; owed_is = refl };
+  keeps_line = record { moment = refl; sends = omega arith; got = refl; foreign = refl; replied = refl; receives = refl; left = omega arith; owed_is = refl };
   keeps_each = each_fresh ks h;
 }
 
@@ -47,7 +49,7 @@ gives_more f ws s t (Got from bytes until at) read h = (receives_more f.wanted w
   where
     again : IsTaken (framed true f) ws s from bytes at read t ⊎ IsAnsweredFor (framed true f) ws s from bytes at read t → IsTaken f ws s from bytes at read t ⊎ IsAnsweredFor f ws s from bytes at read t
     again (inl x) = inl (record { each = x.each; first = x.first; read_is = x.read_is; after = x.after })
-    again (inr x) = inr (record { foreign = x.foreign; did = x.did; read_is = x.read_is; owed = x.owed; owes = x.owes; after = x.after })
+    again (inr x) = inr (record { foreign = x.foreign; did = x.did; read_is = x.read_is; few = x.few; owed = x.owed; owes = x.owes; after = x.after })
 gives_more f ws s t (Quiet until at) read h = (receives_more f.wanted ws s until h.0, h.1, h.2)
 
 walk_more : (f : Frame) (ws : List Whose) (s : Shown) (es : List Event) (t : Shown) (read : Reading) → GivesFrom (framed true f) ws s es t read → GivesFrom f ws s es t read
@@ -81,6 +83,13 @@ tells_whole f place ks line read events h none over = record {
   none_open = none_shown ks h.end.each h.keeps_each none;
   enough = (let left = h.keeps_line.left in omega (arith, left, over));
 }
+
+pub told_whole : (f : Frame) (place : ℕ) (ks : List Seeker) (line : Line) (read : Reading) (events : List Event) → ManyShow false f (count_of ks) ks line place None read events → queries_of ks ≡ [] → line.left ≡ 0 → ManyTold f (map whose ks) read line.received line.replied events
+unfolding tells_whole
+told_whole f place ks line read events h none over = record { tell = tells_whole f place ks line read events h none over; received_are = sym h.keeps_line.got; replied_are = sym h.keeps_line.replied }
+
+pub tells_early : (busy : Bool) (fault : ManyFault) (f : Frame) (old : Stand) (read : Reading) (events : List Event) → ShowsEarly busy fault f (count_of old.seekers) old read events → TellsEarly fault f (map whose old.seekers) read events
+tells_early busy fault f old read events h = record { front = h.front; end = h.shows.end; so_far = tells_so_far busy f old.words.place old.seekers old.line read h.front h.shows; whole = h.whole }
 
 pub ends_at_foreign : (busy : Bool) (f : Frame) (old : Stand) (read : Reading) (number : ℕ) (events : List Event) → ShowsForeign busy f (count_of old.seekers) old read number events → EndsAtForeign f (map whose old.seekers) events read number
 ends_at_foreign busy f old read number events h = record {

@@ -1,3 +1,4 @@
 pub mod Mine
 pub mod Many
+pub mod ManyLooked
 pub mod inner

@@ -8,7 +8,7 @@ use Rattle.kad_base.specs.declared.types.Addr.{Addr}
 use Rattle.kad_base.specs.declared.types.Contact.{Contact}
 use Rattle.kad_base.specs.declared.types.Event.{Event}
 use Rattle.kad_base.specs.declared.types.Event.TheVariants.{Now, Sent, Unsent, Got, Quiet}
-use Rattle.kad_base.specs.Limits.{max_round_receives}
+use Rattle.kad_base.specs.Limits.{max_round_receives, max_strays}
 use Rattle.kad_base.specs.Words.{word}
 use Rattle.claim_book.specs.RunOut.{RunOut}
 use Rattle.lookup_core.specs.Matching.{OpenQuery, IsStray}
@@ -43,8 +43,11 @@ pub record Shown : Type 0 where
   pub moment : ℕ
   -- how many queries of lookups were sent, or failed to be
   pub sends : ℕ
-  -- how many datagrams were foreign
+  -- how many datagrams came, and how many of them were foreign
+  pub got : ℕ
   pub foreign : ℕ
+  -- how many replies were sent, those aside that the link refused
+  pub replied : ℕ
   -- how many receives the round has so far; 0 where the next one begins a round
   pub receives : ℕ
   -- how many receives there were in all
@@ -103,11 +106,11 @@ pub record AsksOne (R : Whose → Mine → Mine → Type 0) (ws : List Whose) (s
   pub moves : OneMoves R owner ws s.each each
   pub after : t ≡ record s { sends = s.sends + 1; each = each }
 
--- the reply that is owed
-pub record PaysOwed (s : Shown) (to : Addr) (bytes : List ℕ) (read : Reading) (t : Shown) : Type 0 where
+-- the reply that is owed, after which so many were sent
+pub record PaysOwed (s : Shown) (to : Addr) (bytes : List ℕ) (replied : ℕ) (read : Reading) (t : Shown) : Type 0 where
   pub owes : s.owed ≡ Some (record { to = to; reply = bytes })
   pub nothing : read ≡ nothing_read
-  pub after : t ≡ record s { owed = None }
+  pub after : t ≡ record s { owed = None; replied = replied }
 
 -- ---- receiving
 
@@ -168,11 +171,13 @@ goes_on n zero = 0
 goes_on n (suc k) = if nat_lt (n + 1) max_round_receives then n + 1 else 0
 
 -- what the events show after a receive
-abbrev pub after_receive : Shown → ℕ → ℕ → ℕ → Option Owed → List Mine → Shown
-after_receive s at foreign receives owed ns = record {
+abbrev pub after_receive : Shown → ℕ → ℕ → ℕ → ℕ → Option Owed → List Mine → Shown
+after_receive s at got foreign receives owed ns = record {
   moment = at;
   sends = s.sends;
+  got = got;
   foreign = foreign;
+  replied = s.replied;
   receives = receives;
   made = s.made + 1;
   owed = owed;
@@ -181,11 +186,11 @@ after_receive s at foreign receives owed ns = record {
 
 -- after a datagram
 abbrev pub after_got : Shown → ℕ → ℕ → Option Owed → List Mine → Shown
-after_got s at foreign owed ns = after_receive s at foreign (goes_on s.receives (length (open_of ns))) owed ns
+after_got s at foreign owed ns = after_receive s at (s.got + 1) foreign (goes_on s.receives (length (open_of ns))) owed ns
 
 -- after a receive that gave none: the round is over
 abbrev pub after_quiet : Shown → ℕ → Shown
-after_quiet s at = after_receive s at s.foreign 0 None (map (waited at) s.each)
+after_quiet s at = after_receive s at s.got s.foreign 0 None (map (waited at) s.each)
 
 -- one lookup takes the datagram
 pub record IsTaken (f : Frame) (ws : List Whose) (s : Shown) (from : Addr) (bytes : List ℕ) (at : ℕ) (read : Reading) (t : Shown) : Type 0 where
@@ -199,6 +204,8 @@ pub record IsAnsweredFor (f : Frame) (ws : List Whose) (s : Shown) (from : Addr)
   pub foreign : IsForeign f.accepts from bytes ws s.each
   pub did : List Did
   pub read_is : read ≡ read_of did (map (waited at) s.each)
+  -- while a query is open it isn't the last that is taken
+  pub few : open_of s.each ≢ [] → s.foreign + 1 < max_strays
   pub owed : Option Owed
   pub owes : Owes f.tags f.server from bytes at did owed
   pub after : t ≡ after_got s at (s.foreign + 1) owed (map (waited at) s.each)
@@ -209,9 +216,9 @@ pub record IsAnsweredFor (f : Frame) (ws : List Whose) (s : Shown) (from : Addr)
 abbrev pub Gives : Frame → List Whose → Shown → Event → Reading → Shown → Type 0
 Gives f ws s (Now at) read t = ⊥
 Gives f ws s (Sent to bytes) read t =
-    AsksOne (λ w m n. SentGives w.quest (word f.seed (f.place + s.sends)) (deadline_of s.moment w.quest.timeout) m to bytes n) ws s read t ⊎ PaysOwed s to bytes read t
+    AsksOne (λ w m n. SentGives w.quest (word f.seed (f.place + s.sends)) (deadline_of s.moment w.quest.timeout) m to bytes n) ws s read t ⊎ PaysOwed s to bytes (s.replied + 1) read t
 Gives f ws s (Unsent to bytes) read t =
-    AsksOne (λ w m n. UnsentGives w.quest (word f.seed (f.place + s.sends)) m to bytes n) ws s read t ⊎ PaysOwed s to bytes read t
+    AsksOne (λ w m n. UnsentGives w.quest (word f.seed (f.place + s.sends)) m to bytes n) ws s read t ⊎ PaysOwed s to bytes s.replied read t
 Gives f ws s (Got from bytes until at) read t = Receives f.wanted ws s until × (IsTaken f ws s from bytes at read t ⊎ IsAnsweredFor f ws s from bytes at read t)
 Gives f ws s (Quiet until at) read t = Receives f.wanted ws s until × (read ≡ read_of [] (map (waited at) s.each)) × (t ≡ after_quiet s at)
 
@@ -227,7 +234,7 @@ fresh = record { queries = []; given = []; since = []; lost = [] }
 
 -- after the first event, which tells the moment
 abbrev pub begun : ℕ → ℕ → Shown
-begun count at = record { moment = at; sends = 0; foreign = 0; receives = 0; made = 0; owed = None; each = replicate count fresh }
+begun count at = record { moment = at; sends = 0; got = 0; foreign = 0; replied = 0; receives = 0; made = 0; owed = None; each = replicate count fresh }
 
 -- The events tell the journals so far: they give exactly the driver's entries of each, in order, and no reply is owed.
 abbrev pub ManyTellSoFar : Frame → List Whose → List Event → Reading → Shown → Type 0

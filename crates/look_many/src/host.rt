@@ -4,7 +4,7 @@ ghost use Rattle.std.specs.List.{AllByRecursion, AllZip};
 ghost use Rattle.node_serve.specs.Calls.{IsSetting};
 ghost use Rattle.serve_crew.specs.Hands.{SameHands};
 ghost use Rattle.look_many.specs.inner.Crowd.{Holding, Ran};
-ghost use Rattle.look_many.specs.inner.ManySteps.{Expires, lapsed, all_lapsed, owed_in, Answers, IsOfDesk};
+ghost use Rattle.look_many.specs.inner.ManySteps.{Expires, lapsed, all_lapsed, owed_in, Answers, IsOfDesk, RanOn};
 
 use crate::seeker::Seeker;
 use contact_table::Table;
@@ -43,6 +43,7 @@ pub(crate) fn answer<R: Wait, G: Seal>(
     ensures ok { IfOk result (λ reply. Answers (G.tag_of seal.now) desk.now.setting.now from bytes.now at
         (owed_in reply from out.new) host.old host.new) }
     ensures room { IfOk result (λ reply. IfSome reply (λ n. n ≤ 4096)) }
+    ensures ran_on { OnErr result (RanOn host.old host.new) }
 {
     match host.answer(
         rt,

@@ -3,13 +3,21 @@
 #![tactic(auto)]
 
 mod ask;
+mod driver;
+mod finish;
+mod found;
 mod host;
-mod laws;
+mod legal;
+mod opening;
 mod receive;
 mod round;
+mod rounds;
 mod seeker;
 mod serving;
+mod settle;
 mod take;
 mod wait;
 
+pub use driver::look_many;
+pub use found::{Many, ManySetting, One, Ones};
 pub use seeker::ManyFault;

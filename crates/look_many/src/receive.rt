@@ -1,13 +1,13 @@
 //! One receive call for all lookups, and what it gave.
-ghost use Rattle.std.specs.Prelude.{◌≡◌, ◌≤◌, ◌<◌, ◌+◌, ◌^◌, length, true, IfOk, IfErr, IfSome, OnOk, OnErr, IsErrOf};
-ghost use Rattle.std.specs.List.{AllByRecursion};
+ghost use Rattle.std.specs.Prelude.{◌≡◌, ◌≤◌, ◌<◌, ◌+◌, ◌^◌, [], length, true, IfOk, IfErr, IfSome, OnOk, OnErr, IsErrOf};
+ghost use Rattle.std.specs.List.{AllByRecursion, AllZip};
 ghost use Rattle.kad_base.specs.Limits.{max_datagram, max_round_receives, max_strays};
 ghost use Rattle.kad_base.specs.Outside.{Grows, Rose};
 ghost use Rattle.id_puzzles.specs.Drawn.{WordsState};
 ghost use Rattle.node_serve.specs.Calls.{IsSetting};
 ghost use Rattle.serve_crew.specs.Hands.{SameHands};
-ghost use Rattle.look_many.specs.inner.Crowd.{Holding, Advances, stand};
-ghost use Rattle.look_many.specs.inner.ManySteps.{owed_in, IsOfDesk, Counts, Handles, Comes, Passes, Pays, IsLastForeign, MayReceive, Received, Stops, EndsByForeign};
+ghost use Rattle.look_many.specs.inner.Crowd.{Holding, SameSeat, Advances, stand};
+ghost use Rattle.look_many.specs.inner.ManySteps.{owed_in, IsOfDesk, Counts, Handles, Comes, Passes, Pays, after_paid, IsLastForeign, MayReceive, Received, Stops, EndsByForeign, RanOn};
 
 use crate::host::{Desk, answer, expire_all};
 use crate::seeker::{Line, ManyFault, Seeker};
@@ -23,13 +23,13 @@ use std::sync::Wait;
 /// Counts a foreign datagram. While a query is open, the last that is taken is a fault.
 fn count_foreign(line: &mut Line, busy: bool) -> Result<(), ManyFault>
     requires few { busy ≡ true → line.old.foreign < max_strays }
-    requires room { line.old.foreign + 1 < 2 ^ 32 }
+    requires room { line.old.foreign + 1 < 2 ^ 64 }
     ensures ok { OnOk result (Counts busy line.old line.new) }
     ensures err { IfErr result (λ fault. (fault ≡ ManyFault.Strays) × (busy ≡ true)
         × (line.old.foreign + 1 ≡ max_strays)) }
 {
     let foreign = line.foreign + 1;
-    if busy && foreign == MAX_STRAYS {
+    if busy && foreign == u64::from(MAX_STRAYS) {
         return Err(ManyFault::Strays);
     }
     line.foreign = foreign;
@@ -56,16 +56,19 @@ fn handle<R: Wait, G: Seal + SealCheck>(
     requires own { IsOfDesk desk.now host.old }
     requires holds { AllByRecursion Holding seekers.old }
     requires few { busy ≡ true → line.old.foreign < max_strays }
-    requires room { line.old.foreign + 1 < 2 ^ 32 }
+    requires room { line.old.foreign + 1 < 2 ^ 64 }
     ensures same { SameHands host.old host.new }
     ensures len { length seekers.new ≡ length seekers.old }
+    ensures seats { AllZip SameSeat seekers.old seekers.new }
     ensures ok { IfOk result (λ reply. Handles (G.accepted seal.now) (G.tag_of seal.now)
         desk.now.setting.now busy from bytes.now at seekers.old seekers.new line.old line.new host.old
         host.new (owed_in reply from out.new)) }
     ensures short { IfOk result (λ reply. IfSome reply (λ n. n ≤ 4096)) }
+    ensures received { OnOk result (line.new.received ≡ line.old.received) }
     ensures strays { IsErrOf result ManyFault.Strays
         → IsLastForeign (G.accepted seal.now) from bytes.now busy seekers.old line.old }
     ensures link { ¬ IsErrOf result ManyFault.LinkFault }
+    ensures ran_on { OnErr result (RanOn host.old host.new) }
 {
     match take(alloc, seekers, seal, from, bytes) {
         Ok(true) => return Ok(None),
@@ -101,9 +104,12 @@ fn came<R: Wait, G: Seal + SealCheck>(
     requires own { IsOfDesk desk.now host.old }
     requires holds { AllByRecursion Holding seekers.old }
     requires few { busy ≡ true → line.old.foreign < max_strays }
-    requires room { line.old.foreign + 1 < 2 ^ 32 }
+    requires room { line.old.foreign + 1 < 2 ^ 64 }
     requires few_receives { line.old.receives < max_round_receives }
+    requires few_received { line.old.received + 1 < 2 ^ 64 }
     ensures same { SameHands host.old host.new }
+    ensures len { length seekers.new ≡ length seekers.old }
+    ensures seats { AllZip SameSeat seekers.old seekers.new }
     ensures ok { IfOk result (λ reply. Comes (G.accepted seal.now) (G.tag_of seal.now)
         desk.now.setting.now busy from bytes.now at seekers.old seekers.new line.old line.new host.old
         host.new (owed_in reply from out.new)) }
@@ -111,6 +117,7 @@ fn came<R: Wait, G: Seal + SealCheck>(
     ensures strays { IsErrOf result ManyFault.Strays
         → IsLastForeign (G.accepted seal.now) from bytes.now busy seekers.old line.old }
     ensures link { ¬ IsErrOf result ManyFault.LinkFault }
+    ensures ran_on { OnErr result (RanOn host.old host.new) }
 {
     let reply = match handle(
         rt, alloc, desk, host, seekers, line, seal, busy, from, bytes, at, out,
@@ -122,6 +129,7 @@ fn came<R: Wait, G: Seal + SealCheck>(
     line.moment = at;
     line.receives = round_after(line.receives, seekers);
     line.left = line.left.saturating_sub(1);
+    line.received += 1;
     Ok(reply)
 }
 
@@ -137,6 +145,7 @@ fn pass<R: Wait>(
     requires own { IsOfDesk desk.now host.old }
     requires holds { AllByRecursion Holding seekers.old }
     ensures same { SameHands host.old host.new }
+    ensures len { length seekers.new ≡ length seekers.old }
     ensures passes { Passes at seekers.old seekers.new line.old line.new host.old host.new }
 {
     expire_all(rt, desk, host, seekers, at);
@@ -145,20 +154,31 @@ fn pass<R: Wait>(
     line.left = line.left.saturating_sub(1);
 }
 
-/// Sends the reply that a datagram is owed, if it is owed one: its first bytes of `out`.
-fn pay<L: Link>(link: &mut L, to: Addr, reply: Option<usize>, out: &[u8; 4096])
+/// Sends the reply that a datagram is owed, if it is owed one: its first bytes of `out`. Whether it was sent.
+fn pay<L: Link>(link: &mut L, to: Addr, reply: Option<usize>, out: &[u8; 4096]) -> bool
     requires { IfSome reply (λ n. n ≤ 4096) }
-    ensures pays { Grows (L.told link.old) (L.told link.new) (Pays (owed_in reply to out.now)) }
+    ensures pays { Grows (L.told link.old) (L.told link.new)
+        (Pays (owed_in reply to out.now) result) }
     ensures moment { L.moment link.new ≡ L.moment link.old }
     ensures recv_faults { L.recv_faults link.new ≡ L.recv_faults link.old }
     ensures kept { L.kept link.new ≡ L.kept link.old }
 {
     match reply {
         Some(length) => match link.send(to, &out[..length]) {
-            Ok(()) => {}
-            Err(_) => {}
+            Ok(()) => true,
+            Err(_) => false,
         },
-        None => {}
+        None => false,
+    }
+}
+
+/// Counts a reply that was sent.
+fn count_reply(line: &mut Line, was_sent: bool)
+    requires { line.old.replied + 1 < 2 ^ 64 }
+    ensures { line.new ≡ after_paid line.old was_sent }
+{
+    if was_sent {
+        line.replied += 1;
     }
 }
 
@@ -185,16 +205,19 @@ pub(crate) fn receive_until<R: Wait, L: Link, G: Seal + SealCheck>(
     requires room { length buf.old ≡ max_datagram + 1 }
     requires moment { L.moment link.old ≡ line.old.moment }
     ensures same { SameHands host.old host.new }
-    ensures goes { OnOk result ((words : WordsState) → Advances busy (G.accepted seal.now)
+    ensures len { length seekers.new ≡ length seekers.old }
+    ensures seats { AllZip SameSeat seekers.old seekers.new }
+    ensures goes { OnOk result ((words : WordsState) → Advances busy [] (G.accepted seal.now)
         (G.tag_of seal.now) desk.now.setting.now
         (stand seekers.old line.old words host.old (L.told link.old))
         (stand seekers.new line.new words host.new (L.told link.new))) }
     ensures received { OnOk result (Received busy seekers.old seekers.new line.old line.new) }
     ensures later { OnOk result (line.old.moment ≤ line.new.moment) }
     ensures moment { OnOk result (L.moment link.new ≡ line.new.moment) }
-    ensures stops { OnErr result ((words : WordsState) → Stops busy (G.accepted seal.now)
-        (G.tag_of seal.now) desk.now.setting.now
+    ensures stops { IfErr result (λ fault. (words : WordsState) → Stops busy fault
+        (G.accepted seal.now) (G.tag_of seal.now) desk.now.setting.now
         (stand seekers.old line.old words host.old (L.told link.old)) (L.told link.new)) }
+    ensures ran_on { OnErr result (RanOn host.old host.new) }
     ensures strays { IsErrOf result ManyFault.Strays → (words : WordsState)
         → EndsByForeign busy (G.accepted seal.now) (G.tag_of seal.now) desk.now.setting.now
         (stand seekers.old line.old words host.old (L.told link.old)) (L.told link.new) }
@@ -202,6 +225,8 @@ pub(crate) fn receive_until<R: Wait, L: Link, G: Seal + SealCheck>(
     ensures link { IsErrOf result ManyFault.LinkFault
         → Rose (L.recv_faults link.old) (L.recv_faults link.new) }
     ensures recv_faults { L.recv_faults link.old ≤ L.recv_faults link.new }
+    ensures well { ¬ IsErrOf result ManyFault.LinkFault
+        → L.recv_faults link.new ≡ L.recv_faults link.old }
     ensures kept { L.kept link.new ≡ L.kept link.old }
 {
     match link.recv(buf, until) {
@@ -221,7 +246,8 @@ pub(crate) fn receive_until<R: Wait, L: Link, G: Seal + SealCheck>(
                 out,
             ) {
                 Ok(reply) => {
-                    pay(link, from, reply, out);
+                    let was_sent = pay(link, from, reply, out);
+                    count_reply(line, was_sent);
                     Ok(())
                 }
                 Err(fault) => Err(fault),

@@ -1,14 +1,16 @@
 //! The receives of a round, while a query of a lookup is open.
-ghost use Rattle.std.specs.Prelude.{◌≡◌, ◌≤◌, ◌+◌, length, true, OnOk, OnErr, IsErrOf};
+ghost use Rattle.std.specs.Prelude.{◌≡◌, ◌≤◌, ◌+◌, [], length, true, OnOk, IfErr, IsErrOf};
+ghost use Rattle.std.specs.List.{AllZip};
 ghost use Rattle.kad_base.specs.Limits.{max_datagram};
 ghost use Rattle.kad_base.specs.Outside.{Rose};
 ghost use Rattle.id_puzzles.specs.Drawn.{WordsState};
 ghost use Rattle.node_serve.specs.Calls.{IsSetting};
 ghost use Rattle.serve_crew.specs.Hands.{SameHands};
-ghost use Rattle.look_many.specs.inner.Crowd.{Advances, stand};
+ghost use Rattle.look_many.specs.inner.Crowd.{SameSeat, Advances, stand};
 ghost use Rattle.look_many.specs.inner.ManySteps.{IsOfDesk, MayAwait, Received, ReceivedAll, EndsEarly, EndsLast};
 
 use crate::host::Desk;
+use crate::legal::all_legal;
 use crate::receive::receive_until;
 use crate::seeker::{Line, ManyFault, Seeker};
 use crate::wait::wait_until;
@@ -38,24 +40,29 @@ fn receive<R: Wait, L: Link, G: Seal + SealCheck>(
     requires room { length buf.old ≡ max_datagram + 1 }
     requires moment { L.moment link.old ≡ line.old.moment }
     ensures same { SameHands host.old host.new }
-    ensures goes { OnOk result ((words : WordsState) → Advances true (G.accepted seal.now)
+    ensures len { length seekers.new ≡ length seekers.old }
+    ensures seats { AllZip SameSeat seekers.old seekers.new }
+    ensures goes { OnOk result ((words : WordsState) → Advances true [] (G.accepted seal.now)
         (G.tag_of seal.now) desk.now.setting.now
         (stand seekers.old line.old words host.old (L.told link.old))
         (stand seekers.new line.new words host.new (L.told link.new))) }
     ensures received { OnOk result (Received true seekers.old seekers.new line.old line.new) }
     ensures later { OnOk result (line.old.moment ≤ line.new.moment) }
     ensures moment { OnOk result (L.moment link.new ≡ line.new.moment) }
-    ensures stops { OnErr result ((words : WordsState) → EndsEarly true (G.accepted seal.now)
-        (G.tag_of seal.now) desk.now.setting.now
-        (stand seekers.old line.old words host.old (L.told link.old)) (L.told link.new)) }
+    ensures stops { IfErr result (λ fault. (words : WordsState) → EndsEarly true fault
+        (G.accepted seal.now) (G.tag_of seal.now) desk.now.setting.now
+        (stand seekers.old line.old words host.old (L.told link.old)) host.new (L.told link.new)) }
     ensures strays { IsErrOf result ManyFault.Strays → (words : WordsState)
         → EndsLast (G.accepted seal.now) (G.tag_of seal.now) desk.now.setting.now
-        (stand seekers.old line.old words host.old (L.told link.old)) (L.told link.new) }
+        (stand seekers.old line.old words host.old (L.told link.old)) host.new (L.told link.new) }
     ensures link { IsErrOf result ManyFault.LinkFault
         → Rose (L.recv_faults link.old) (L.recv_faults link.new) }
     ensures recv_faults { L.recv_faults link.old ≤ L.recv_faults link.new }
+    ensures well { ¬ IsErrOf result ManyFault.LinkFault
+        → L.recv_faults link.new ≡ L.recv_faults link.old }
     ensures kept { L.kept link.new ≡ L.kept link.old }
 {
+    all_legal(seekers);
     let until = wait_until(line, seekers);
     match receive_until(
         rt, alloc, link, desk, host, seekers, line, seal, true, until, buf, out,
@@ -84,22 +91,26 @@ pub(crate) fn receive_round<R: Wait, L: Link, G: Seal + SealCheck>(
     requires room { length buf.old ≡ max_datagram + 1 }
     requires moment { L.moment link.old ≡ line.old.moment }
     ensures same { SameHands host.old host.new }
-    ensures goes { OnOk result ((words : WordsState) → Advances true (G.accepted seal.now)
+    ensures len { length seekers.new ≡ length seekers.old }
+    ensures seats { AllZip SameSeat seekers.old seekers.new }
+    ensures goes { OnOk result ((words : WordsState) → Advances true [] (G.accepted seal.now)
         (G.tag_of seal.now) desk.now.setting.now
         (stand seekers.old line.old words host.old (L.told link.old))
         (stand seekers.new line.new words host.new (L.told link.new))) }
     ensures received { OnOk result (ReceivedAll seekers.old seekers.new line.old line.new) }
     ensures over { OnOk result (line.new.receives ≡ 0) }
     ensures moment { OnOk result (L.moment link.new ≡ line.new.moment) }
-    ensures stops { OnErr result ((words : WordsState) → EndsEarly true (G.accepted seal.now)
-        (G.tag_of seal.now) desk.now.setting.now
-        (stand seekers.old line.old words host.old (L.told link.old)) (L.told link.new)) }
+    ensures stops { IfErr result (λ fault. (words : WordsState) → EndsEarly true fault
+        (G.accepted seal.now) (G.tag_of seal.now) desk.now.setting.now
+        (stand seekers.old line.old words host.old (L.told link.old)) host.new (L.told link.new)) }
     ensures strays { IsErrOf result ManyFault.Strays → (words : WordsState)
         → EndsLast (G.accepted seal.now) (G.tag_of seal.now) desk.now.setting.now
-        (stand seekers.old line.old words host.old (L.told link.old)) (L.told link.new) }
+        (stand seekers.old line.old words host.old (L.told link.old)) host.new (L.told link.new) }
     ensures link { IsErrOf result ManyFault.LinkFault
         → Rose (L.recv_faults link.old) (L.recv_faults link.new) }
     ensures recv_faults { L.recv_faults link.old ≤ L.recv_faults link.new }
+    ensures well { ¬ IsErrOf result ManyFault.LinkFault
+        → L.recv_faults link.new ≡ L.recv_faults link.old }
     ensures kept { L.kept link.new ≡ L.kept link.old }
 {
     match receive(rt, alloc, link, desk, host, seekers, line, seal, buf, out) {

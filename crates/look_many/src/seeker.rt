@@ -1,6 +1,9 @@
 //! What the driver of several lookups keeps.
+use contact_table::Table;
+use kad_base::NoMemory;
 use lookup_core::{Lookup, Quest};
 use thiserror::Error;
+use turn_book::Pass;
 
 /// Why several lookups ended early.
 #[derive(Clone, Copy, Debug, PartialEq, Eq, Error)]
@@ -15,19 +18,25 @@ pub enum ManyFault {
     NoMemory,
 }
 
-/// One of the lookups: what it asks and believes, and what it keeps.
+/// One of the lookups: what it asks and believes, what it keeps, by which pass it tells the table who answered, and how its
+/// last settling ended.
 #[derive(Drop)]
 pub(crate) struct Seeker {
     pub quest: Quest,
     pub lookup: Lookup,
+    pub pass: Pass<Table>,
+    pub settled: Result<(), NoMemory>,
 }
 
 /// Where the link stands between two calls: the last told moment, how many receives the round has had (0 where the next
-/// one begins a round), how many datagrams were for no lookup, and how many receives are still wanted.
+/// one begins a round), how many datagrams were for no lookup, how many receives are still wanted, how many datagrams came
+/// in all, and how many replies were sent.
 #[derive(Clone, Copy, Debug)]
 pub(crate) struct Line {
     pub moment: u64,
     pub receives: u32,
-    pub foreign: u32,
+    pub foreign: u64,
     pub left: u32,
+    pub received: u64,
+    pub replied: u64,
 }

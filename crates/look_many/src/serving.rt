@@ -1,14 +1,16 @@
 //! Serving on, where all lookups are over.
-ghost use Rattle.std.specs.Prelude.{◌≡◌, ◌≤◌, ◌<◌, ◌+◌, ◌-◌, length, map, false, OnOk, OnErr, IsErrOf};
+ghost use Rattle.std.specs.Prelude.{◌≡◌, ◌≤◌, ◌<◌, ◌+◌, ◌-◌, [], length, map, false, OnOk, IfErr, IsErrOf};
+ghost use Rattle.std.specs.List.{AllZip};
 ghost use Rattle.kad_base.specs.Limits.{max_datagram};
 ghost use Rattle.kad_base.specs.Outside.{Rose};
 ghost use Rattle.id_puzzles.specs.Drawn.{WordsState};
 ghost use Rattle.node_serve.specs.Calls.{IsSetting};
 ghost use Rattle.serve_crew.specs.Hands.{SameHands};
-ghost use Rattle.look_many.specs.inner.Crowd.{whose, Advances, stand};
+ghost use Rattle.look_many.specs.inner.Crowd.{whose, SameSeat, Advances, stand};
 ghost use Rattle.look_many.specs.inner.ManySteps.{IsOfDesk, MayServe, EndsEarly};
 
 use crate::host::Desk;
+use crate::legal::all_legal;
 use crate::receive::receive_until;
 use crate::seeker::{Line, ManyFault, Seeker};
 use kad_base::Link;
@@ -40,7 +42,9 @@ fn serve_one<R: Wait, L: Link, G: Seal + SealCheck>(
     requires room { length buf.old ≡ max_datagram + 1 }
     requires moment { L.moment link.old ≡ line.old.moment }
     ensures same { SameHands host.old host.new }
-    ensures goes { OnOk result ((words : WordsState) → Advances false (G.accepted seal.now)
+    ensures len { length seekers.new ≡ length seekers.old }
+    ensures seats { AllZip SameSeat seekers.old seekers.new }
+    ensures goes { OnOk result ((words : WordsState) → Advances false [] (G.accepted seal.now)
         (G.tag_of seal.now) desk.now.setting.now
         (stand seekers.old line.old words host.old (L.told link.old))
         (stand seekers.new line.new words host.new (L.told link.new))) }
@@ -48,15 +52,18 @@ fn serve_one<R: Wait, L: Link, G: Seal + SealCheck>(
     ensures journals { OnOk result (map whose seekers.new ≡ map whose seekers.old) }
     ensures left { OnOk result (line.new.left ≡ line.old.left - 1) }
     ensures moment { OnOk result (L.moment link.new ≡ line.new.moment) }
-    ensures stops { OnErr result ((words : WordsState) → EndsEarly false (G.accepted seal.now)
-        (G.tag_of seal.now) desk.now.setting.now
-        (stand seekers.old line.old words host.old (L.told link.old)) (L.told link.new)) }
+    ensures stops { IfErr result (λ fault. (words : WordsState) → EndsEarly false fault
+        (G.accepted seal.now) (G.tag_of seal.now) desk.now.setting.now
+        (stand seekers.old line.old words host.old (L.told link.old)) host.new (L.told link.new)) }
     ensures strays { ¬ IsErrOf result ManyFault.Strays }
     ensures link { IsErrOf result ManyFault.LinkFault
         → Rose (L.recv_faults link.old) (L.recv_faults link.new) }
     ensures recv_faults { L.recv_faults link.old ≤ L.recv_faults link.new }
+    ensures well { ¬ IsErrOf result ManyFault.LinkFault
+        → L.recv_faults link.new ≡ L.recv_faults link.old }
     ensures kept { L.kept link.new ≡ L.kept link.old }
 {
+    all_legal(seekers);
     let until = line.moment.saturating_add(PATIENCE);
     match receive_until(
         rt, alloc, link, desk, host, seekers, line, seal, false, until, buf, out,
@@ -86,7 +93,9 @@ pub(crate) fn serve_on<R: Wait, L: Link, G: Seal + SealCheck>(
     requires room { length buf.old ≡ max_datagram + 1 }
     requires moment { L.moment link.old ≡ line.old.moment }
     ensures same { SameHands host.old host.new }
-    ensures goes { OnOk result ((words : WordsState) → Advances false (G.accepted seal.now)
+    ensures len { length seekers.new ≡ length seekers.old }
+    ensures seats { AllZip SameSeat seekers.old seekers.new }
+    ensures goes { OnOk result ((words : WordsState) → Advances false [] (G.accepted seal.now)
         (G.tag_of seal.now) desk.now.setting.now
         (stand seekers.old line.old words host.old (L.told link.old))
         (stand seekers.new line.new words host.new (L.told link.new))) }
@@ -94,13 +103,15 @@ pub(crate) fn serve_on<R: Wait, L: Link, G: Seal + SealCheck>(
     ensures journals { OnOk result (map whose seekers.new ≡ map whose seekers.old) }
     ensures over { OnOk result (line.new.left ≡ 0) }
     ensures moment { OnOk result (L.moment link.new ≡ line.new.moment) }
-    ensures stops { OnErr result ((words : WordsState) → EndsEarly false (G.accepted seal.now)
-        (G.tag_of seal.now) desk.now.setting.now
-        (stand seekers.old line.old words host.old (L.told link.old)) (L.told link.new)) }
+    ensures stops { IfErr result (λ fault. (words : WordsState) → EndsEarly false fault
+        (G.accepted seal.now) (G.tag_of seal.now) desk.now.setting.now
+        (stand seekers.old line.old words host.old (L.told link.old)) host.new (L.told link.new)) }
     ensures strays { ¬ IsErrOf result ManyFault.Strays }
     ensures link { IsErrOf result ManyFault.LinkFault
         → Rose (L.recv_faults link.old) (L.recv_faults link.new) }
     ensures recv_faults { L.recv_faults link.old ≤ L.recv_faults link.new }
+    ensures well { ¬ IsErrOf result ManyFault.LinkFault
+        → L.recv_faults link.new ≡ L.recv_faults link.old }
     ensures kept { L.kept link.new ≡ L.kept link.old }
 {
     'serving: while line.left != 0 {

@@ -1,7 +1,7 @@
 //! Whose a datagram is.
 ghost use Rattle.std.specs.Prelude.{◌≡◌, length, IfOk, OnOk};
-ghost use Rattle.std.specs.List.{AllByRecursion};
-ghost use Rattle.look_many.specs.inner.Crowd.{Holding};
+ghost use Rattle.std.specs.List.{AllByRecursion, AllZip};
+ghost use Rattle.look_many.specs.inner.Crowd.{Holding, SameSeat};
 ghost use Rattle.look_many.specs.inner.ManySteps.{TakesOne, Takes};
 
 use crate::seeker::Seeker;
@@ -10,7 +10,8 @@ use lookup_core::Taken;
 use seal_tags::SealCheck;
 use std::alloc::Global;
 
-/// Hands the datagram to the lookup: whether it replied to one of its open queries.
+/// Hands the datagram to the lookup: whether it replied to one of its open queries. One that has none doesn't read it, so a
+/// lookup that is over costs nothing.
 fn take_one<G: SealCheck>(
     alloc: Global,
     seeker: &mut Seeker,
@@ -19,8 +20,12 @@ fn take_one<G: SealCheck>(
     bytes: &[u8],
 ) -> Result<bool, NoMemory>
     requires { Holding seeker.old }
-    ensures { IfOk result (TakesOne (G.accepted seal.now) from bytes.now seeker.old seeker.new) }
+    ensures seat { SameSeat seeker.old seeker.new }
+    ensures ok { IfOk result (TakesOne (G.accepted seal.now) from bytes.now seeker.old seeker.new) }
 {
+    if seeker.lookup.queries.is_empty() {
+        return Ok(false);
+    }
     match seeker.lookup.take(alloc, &seeker.quest, seal, from, bytes) {
         Ok(Taken::Stray) => Ok(false),
         Ok(Taken::Heard(_)) => Ok(true),
@@ -40,6 +45,7 @@ pub(crate) fn take<G: SealCheck>(
 ) -> Result<bool, NoMemory>
     requires { AllByRecursion Holding seekers.old }
     ensures len { length seekers.new ≡ length seekers.old }
+    ensures seats { AllZip SameSeat seekers.old seekers.new }
     ensures ok { IfOk result (Takes (G.accepted seal.now) from bytes.now seekers.old seekers.new) }
 {
     for i in 0..seekers.len() {

@@ -1,7 +1,7 @@
 -- Where several lookups stand between two calls on their link: what the events showed, what each keeps, and what the node that
 -- serves has done.
 use Rattle.std.specs.Prelude.{◌≡◌, ℕ, ◌+◌, ◌-◌, ◌<◌, List, [], ◌∷◌, ◌++◌, Contains, length, map, Option, None, Bool, cond}
-use Rattle.std.specs.List.{AllZip, flat_map}
+use Rattle.std.specs.List.{All, AllZip, flat_map}
 use Rattle.kad_base.specs.declared.types.Contact.{Contact}
 use Rattle.kad_base.specs.declared.types.Event.{Event}
 use Rattle.kad_base.specs.declared.types.Event.TheVariants.{Now}
@@ -9,19 +9,19 @@ use Rattle.kad_base.specs.Outside.{Grows}
 use Rattle.id_puzzles.specs.Drawn.{WordsState}
 use Rattle.query_book.specs.declared.Query.{Query}
 use Rattle.claim_book.specs.declared.types.Entry.{Entry}
-use Rattle.claim_book.specs.Journal.{asked, may_ask}
-use Rattle.contact_table.specs.declared.calls.TableCall.TheVariants.{Failed}
-use Rattle.contact_table.specs.declared.calls.TableReply.{TableReply}
+use Rattle.claim_book.specs.Legal.{Legal}
+use Rattle.claim_book.specs.Journal.{asked, may_ask, unsettled}
 use Rattle.lookup_core.specs.LookupSteps.{as_open, Holds}
 use Rattle.lookup_core.specs.Matching.{OpenQuery}
 use Rattle.lookup_core.specs.Sealed.{Accepts}
 use Rattle.node_serve.specs.declared.setting.ServeSetting.{ServeSetting}
-use Rattle.node_serve.specs.Calls.{Did, on_table}
+use Rattle.node_serve.specs.Calls.{Did, HadMemory}
 use Rattle.node_serve.specs.Sealing.{Tags}
 use Rattle.serve_crew.specs.Hands.{Hands, Grew}
 use Rattle.look_many.specs.declared.seeker.Seeker.{Seeker}
 use Rattle.look_many.specs.declared.seeker.Line.{Line}
 use Rattle.look_many.specs.Mine.{Mine, Whose, driven}
+use Rattle.look_many.specs.ManyLooked.{Errand, did_of, answer_in, loss_in}
 use Rattle.look_many.specs.Many.{Frame, Owed, Shown, Reading, and_then, GivesFrom, begun}
 
 -- ---- each lookup
@@ -49,10 +49,33 @@ pub record Longer (old new : Seeker) : Type 0 where
   pub setting : new.lookup.book.setting ≡ old.lookup.book.setting
   pub journal : new.lookup.book.journal ≡ old.lookup.book.journal ++ more
 
+-- its book's journal is legal
+abbrev pub IsLegal : Seeker → Type 0
+IsLegal k = Legal k.lookup.book.setting k.lookup.book.journal
+
+-- its journal has more entries of the driver alone
+pub record DrivenOn (old new : Seeker) : Type 0 where
+  pub more : List Entry
+  pub journal : new.lookup.book.journal ≡ old.lookup.book.journal ++ more
+  pub all_driven : driven more ≡ more
+
 -- no query more is open, and nobody more was asked
 pub record OnlyHeard (old new : Seeker) : Type 0 where
   pub fewer : (q : Query) → Contains new.lookup.queries q → Contains old.lookup.queries q
   pub same_asks : asked new.lookup.book.journal ≡ asked old.lookup.book.journal
+
+-- nothing is left to settle on any of its paths
+abbrev pub NothingLeft : Seeker → Type 0
+NothingLeft k = (p : ℕ) → p < k.lookup.book.setting.paths → unsettled p k.lookup.book.journal ≡ []
+
+-- it tells the table by the same pass, which made no call
+abbrev pub SameSeat : Seeker → Seeker → Type 0
+SameSeat old new = new.pass ≡ old.pass
+
+-- how many contacts all have asked
+abbrev pub asks_of : List Seeker → ℕ
+asks_of [] = 0
+asks_of (k ∷ ks) = length (asked k.lookup.book.journal) + asks_of ks
 
 -- the open queries of all
 abbrev pub queries_of : List Seeker → List Query
@@ -69,7 +92,9 @@ pub record KeepsMine (k : Seeker) (m : Mine) : Type 0 where
 pub record KeepsLine (f : Frame) (line : Line) (place : ℕ) (owed : Option Owed) (s : Shown) : Type 0 where
   pub moment : s.moment ≡ line.moment
   pub sends : f.place + s.sends ≡ place
+  pub got : s.got ≡ line.received
   pub foreign : s.foreign ≡ line.foreign
+  pub replied : s.replied ≡ line.replied
   pub receives : s.receives ≡ line.receives
   pub left : f.wanted - s.made ≡ line.left
   pub owed_is : s.owed ≡ owed
@@ -99,29 +124,13 @@ count_of ks = length (map whose ks)
 
 -- ---- the node that serves
 
--- a call for a foreign datagram, or one that tells the table whom a lookup lost, each with its reply
-pub data Errand : Type 0 where
-  answering : Did → Errand
-  losing : Contact → TableReply → Errand
-
-abbrev pub did_of : Errand → Did
-did_of (answering did) = did
-did_of (losing c reply) = on_table (Failed c) reply
-
-abbrev pub answer_in : Errand → List Did
-answer_in (answering did) = did ∷ []
-answer_in (losing c reply) = []
-
-abbrev pub loss_in : Errand → List Contact
-loss_in (answering did) = []
-loss_in (losing c reply) = c ∷ []
-
 -- its calls since were just these, in some order: those of the foreign datagrams, and one for each contact that was lost
 pub record Ran (old new : Hands) (did : List Did) (lost : List Contact) : Type 0 where
   pub errands : List Errand
   pub grew : Grew old new (map did_of errands)
   pub answers : flat_map answer_in errands ≡ did
   pub losses : flat_map loss_in errands ≡ lost
+  pub memory : All HadMemory did
 
 -- ---- going on
 
@@ -144,9 +153,10 @@ pub record IsFrame (accepts : Accepts) (tags : Tags) (server : ServeSetting) (se
   pub seed_is : f.seed ≡ seed
 
 -- Whatever the events showed since any beginning they go on to show; what is read of them grew by `more`, and so did the calls
--- of the node that serves.
-pub record Advances (busy : Bool) (accepts : Accepts) (tags : Tags) (server : ServeSetting) (old new : Stand) : Type 0 where
+-- of the node that serves. The queries that were sent since, or failed to be, have these owners.
+pub record Advances (busy : Bool) (made : List ℕ) (accepts : Accepts) (tags : Tags) (server : ServeSetting) (old new : Stand) : Type 0 where
   pub more : Reading
+  pub owners_are : more.owners ≡ made
   pub goes : (f : Frame) (count : ℕ) (read : Reading) (began : Option (List Event)) → IsFrame accepts tags server old.words.seed f
       → Grows began old.told (λ events. ManyShow busy f count old.seekers old.line old.words.place None read events)
       → Grows began new.told (λ events. ManyShow busy f count new.seekers new.line new.words.place None (and_then read more) events)

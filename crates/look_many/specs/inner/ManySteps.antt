@@ -1,18 +1,26 @@
 -- What each step of the driver owes.
-use Rattle.std.specs.Prelude.{◌≡◌, ◌≢◌, ◌⊎◌, ℕ, ◌+◌, ◌-◌, ◌^◌, ◌<◌, ◌≤◌, List, [], ◌∷◌, ◌++◌, length, map, filter, take, min, Option, Some, None, Bool, true, false}
-use Rattle.std.specs.List.{AllByRecursion, AllZip, flat_map}
+use Rattle.std.specs.Prelude.{◌≡◌, ◌≢◌, ◌⊎◌, ℕ, zero, suc, ◌+◌, ◌-◌, ◌*◌, ◌^◌, ◌<◌, ◌≤◌, List, [], ◌∷◌, ◌++◌, length, map, filter, take, min, Option, Some, None, Bool, true, false}
+use Rattle.std.specs.List.{All, AllByRecursion, AllZip, flat_map}
 use Rattle.kad_base.specs.declared.types.Addr.{Addr}
 use Rattle.kad_base.specs.declared.types.Contact.{Contact}
 use Rattle.kad_base.specs.declared.types.Event.{Event}
 use Rattle.kad_base.specs.declared.types.Event.TheVariants.{Got, Sent, Unsent}
-use Rattle.kad_base.specs.Limits.{max_strays, max_round_receives}
+use Rattle.kad_base.specs.declared.serial.Made.{Made}
+use Rattle.kad_base.specs.Limits.{max_strays, max_round_receives, max_open, max_paths, max_path_contacts}
 use Rattle.kad_base.specs.Outside.{Grows}
 use Rattle.kad_base.specs.Words.{word}
 use Rattle.kad_krpc.specs.Form.{form}
 use Rattle.id_puzzles.specs.Drawn.{WordsState}
 use Rattle.query_book.specs.declared.Query.{Query}
 use Rattle.claim_book.specs.declared.types.Cause.TheVariants.{SendFault}
+use Rattle.turn_book.specs.Turns.{TurnState, mine}
+use Rattle.contact_table.specs.TableState.{TableState}
+use Rattle.contact_table.specs.declared.calls.TableCall.{TableCall}
+use Rattle.contact_table.specs.declared.calls.TableReply.{TableReply}
+use Rattle.contact_table.specs.Told.{HasMemory, calls_in, seen_calls}
+use Rattle.claim_book.specs.declared.types.Entry.{Entry}
 use Rattle.claim_book.specs.declared.types.Entry.TheVariants.{Lost}
+use Rattle.claim_book.specs.Journal.{seeds, asked, may_ask}
 use Rattle.claim_book.specs.Calls.{asker}
 use Rattle.claim_book.specs.RunOut.{RunOut}
 use Rattle.claim_book.specs.State.{added}
@@ -27,12 +35,16 @@ use Rattle.node_serve.specs.declared.setting.ServeSetting.{ServeSetting}
 use Rattle.node_serve.specs.Calls.{Did}
 use Rattle.node_serve.specs.Receives.{waits_until, tried}
 use Rattle.node_serve.specs.Sealing.{Tags}
-use Rattle.serve_crew.specs.Hands.{Hands, Grew, SameHands}
+use Rattle.serve_crew.specs.Hands.{Hands, Grew, SameHands, SamePass}
 use Rattle.look_many.specs.declared.host.Desk.{Desk}
 use Rattle.look_many.specs.declared.seeker.Seeker.{Seeker}
 use Rattle.look_many.specs.declared.seeker.Line.{Line}
+use Rattle.look_many.specs.declared.seeker.ManyFault.{ManyFault}
+use Rattle.look_many.specs.declared.seeker.ManyFault.TheVariants.{LinkFault}
+use Rattle.look_many.specs.ManyLooked.{noted, max_lookups}
 use Rattle.look_many.specs.Many.{Frame, Owed, Reading, Owes, IsEarliest, WaitsUntil, IsForeign, goes_on, open_of}
-use Rattle.look_many.specs.inner.Crowd.{whose, opens, Holding, NoneAsks, Longer, OnlyHeard, queries_of, ManyShow, Ran, Stand, IsFrame, Advances}
+use Rattle.look_many.specs.Mine.{driven}
+use Rattle.look_many.specs.inner.Crowd.{whose, opens, Holding, IsLegal, NoneAsks, NothingLeft, Longer, DrivenOn, OnlyHeard, SameSeat, asks_of, queries_of, ManyShow, Ran, Stand, IsFrame, Advances}
 
 -- ---- a datagram
 
@@ -42,6 +54,7 @@ pub record IsMatchFor (accepts : Accepts) (from : Addr) (bytes : List ℕ) (old 
   pub matches : IsMatch old.quest accepts from bytes old.lookup new.lookup heard
   pub quest : new.quest ≡ old.quest
   pub holds : Holding new
+  pub seat : SameSeat old new
 
 -- it replies to none of the lookup's open queries
 abbrev pub IsNotFor : Accepts → Addr → List ℕ → Seeker → Type 0
@@ -75,6 +88,7 @@ pub record Expires (at : ℕ) (old new : Seeker) : Type 0 where
   pub loses : LosesOverdue at old.lookup new.lookup
   pub quest : new.quest ≡ old.quest
   pub holds : Holding new
+  pub seat : SameSeat old new
 
 -- whom the lookup loses
 abbrev pub lapsed : ℕ → Seeker → List Contact
@@ -106,13 +120,24 @@ pub data WaitsFor (ks : List Seeker) (line : Line) (until : ℕ) (busy : Bool) :
   for_replies : busy ≡ true → queries_of ks ≢ [] → WaitsUntil line.receives line.moment (map (λ q. q.deadline) (queries_of ks)) until → line.foreign < max_strays → WaitsFor ks line until busy
   for_others : busy ≡ false → queries_of ks ≡ [] → AllByRecursion IsRunOut ks → 0 < line.left → until ≡ waits_until line.moment → WaitsFor ks line until busy
 
+-- the most asks of all lookups: sixteen at most, each of which asks no contact twice, nor more than its paths have
+abbrev pub max_all_asks : ℕ
+max_all_asks = max_lookups * (max_paths * max_path_contacts)
+
+-- Each datagram that came was foreign or closed a query, and no reply was sent without one.
+pub record HasCounted (ks : List Seeker) (line : Line) : Type 0 where
+  pub received : line.received + length (queries_of ks) ≤ line.foreign + asks_of ks
+  pub replied : line.replied ≤ line.received
+  pub asks : asks_of ks ≤ max_all_asks
+
 -- a receive may be made until then
 pub record MayReceive (ks : List Seeker) (line : Line) (until : ℕ) (busy : Bool) : Type 0 where
   pub holds : AllByRecursion Holding ks
   pub waits : WaitsFor ks line until busy
   pub in_turn : line.receives ≡ 0 → AllByRecursion NoneAsks ks
   pub few_receives : line.receives < max_round_receives
-  pub room : line.foreign + 1 < 2 ^ 32
+  pub room : line.foreign + max_all_asks + 1 < 2 ^ 64
+  pub counted : HasCounted ks line
 
 -- ---- a receive
 
@@ -146,18 +171,23 @@ pub record Comes (accepts : Accepts) (tags : Tags) (server : ServeSetting) (busy
   pub handles : Handles accepts tags server busy from bytes at old mid line counted host between owed
   pub expires : AllZip (Expires at) mid new
   pub ran : Ran between host' [] (all_lapsed at mid)
-  pub line_is : line' ≡ record { moment = at; receives = goes_on line.receives (length (queries_of new)); foreign = counted.foreign; left = line.left - 1 }
+  pub line_is : line' ≡ record { moment = at; receives = goes_on line.receives (length (queries_of new)); foreign = counted.foreign; left = line.left - 1; received = line.received + 1; replied = line.replied }
 
 -- no datagram came: all lost who was overdue, and the round is over
 pub record Passes (at : ℕ) (old new : List Seeker) (line line' : Line) (host host' : Hands) : Type 0 where
   pub expires : AllZip (Expires at) old new
   pub ran : Ran host host' [] (all_lapsed at old)
-  pub line_is : line' ≡ record { moment = at; receives = 0; foreign = line.foreign; left = line.left - 1 }
+  pub line_is : line' ≡ record { moment = at; receives = 0; foreign = line.foreign; left = line.left - 1; received = line.received; replied = line.replied }
 
--- what is owed was sent, or the link refused it
-abbrev pub Pays : Option Owed → List Event → Type 0
-Pays None events = events ≡ []
-Pays (Some owed) events = (was_sent : Bool) × (events ≡ tried was_sent owed.to owed.reply ∷ [])
+-- what is owed was sent, or the link refused it; nothing is sent where nothing is owed
+abbrev pub Pays : Option Owed → Bool → List Event → Type 0
+Pays None was_sent events = (was_sent ≡ false) × (events ≡ [])
+Pays (Some owed) was_sent events = events ≡ tried was_sent owed.to owed.reply ∷ []
+
+-- one reply more, where it was sent
+abbrev pub after_paid : Line → Bool → Line
+after_paid line true = record line { replied = line.replied + 1 }
+after_paid line false = line
 
 -- the worker's passes are of the turns of the desk, in the role of the driver
 pub record IsOfDesk (desk : Desk) (host : Hands) : Type 0 where
@@ -177,6 +207,9 @@ pub record Received (busy : Bool) (old new : List Seeker) (line line' : Line) : 
   pub holds : AllByRecursion Holding new
   pub longer : AllZip Longer old new
   pub only_heard : AllZip OnlyHeard old new
+  pub driven_on : AllZip DrivenOn old new
+  pub seats : AllZip SameSeat old new
+  pub counted : HasCounted new line'
   pub round : (line'.receives ≡ 0) ⊎ (line'.receives ≡ line.receives + 1)
   pub few_receives : line'.receives < max_round_receives
   pub still : line'.receives ≢ 0 → queries_of new ≢ []
@@ -188,17 +221,17 @@ pub record Received (busy : Bool) (old new : List Seeker) (line line' : Line) : 
 
 -- ---- ending early
 
--- the events, without the last one where that is a datagram, show where all lookups stood
-pub record ShowsEarly (busy : Bool) (f : Frame) (count : ℕ) (old : Stand) (read : Reading) (events : List Event) : Type 0 where
+-- the events, without the last one where that is a datagram and no receive failed, show where all lookups stood
+pub record ShowsEarly (busy : Bool) (fault : ManyFault) (f : Frame) (count : ℕ) (old : Stand) (read : Reading) (events : List Event) : Type 0 where
   pub front : List Event
   pub shows : ManyShow busy f count old.seekers old.line old.words.place None read front
-  pub whole : (events ≡ front) ⊎ ((from : Addr) × (bytes : List ℕ) × (until : ℕ) × (at : ℕ) × (events ≡ front ++ Got from bytes until at ∷ []))
+  pub whole : (events ≡ front) ⊎ ((fault ≢ LinkFault) × (from : Addr) × (bytes : List ℕ) × (until : ℕ) × (at : ℕ) × (events ≡ front ++ Got from bytes until at ∷ []))
 
 -- where a step ends all early: what the events showed before it, and perhaps one datagram more
-abbrev pub Stops : Bool → Accepts → Tags → ServeSetting → Stand → Option (List Event) → Type 0
-Stops busy accepts tags server old told' =
+abbrev pub Stops : Bool → ManyFault → Accepts → Tags → ServeSetting → Stand → Option (List Event) → Type 0
+Stops busy fault accepts tags server old told' =
     (f : Frame) (count : ℕ) (read : Reading) (began : Option (List Event)) → IsFrame accepts tags server old.words.seed f
-    → Grows began old.told (λ events. ManyShow busy f count old.seekers old.line old.words.place None read events) → Grows began told' (λ events. ShowsEarly busy f count old read events)
+    → Grows began old.told (λ events. ManyShow busy f count old.seekers old.line old.words.place None read events) → Grows began told' (λ events. ShowsEarly busy fault f count old read events)
 
 -- the events end with the foreign datagram of this number, before which a query was open
 pub record ShowsForeign (busy : Bool) (f : Frame) (count : ℕ) (old : Stand) (read : Reading) (number : ℕ) (events : List Event) : Type 0 where
@@ -219,17 +252,33 @@ EndsByForeign busy accepts tags server old told' =
     (f : Frame) (count : ℕ) (read : Reading) (began : Option (List Event)) → IsFrame accepts tags server old.words.seed f
     → Grows began old.told (λ events. ManyShow busy f count old.seekers old.line old.words.place None read events) → Grows began told' (λ events. ShowsForeign busy f count old read max_strays events)
 
+-- the node that serves made these calls, and maybe more
+abbrev pub RanOn : Hands → Hands → Type 0
+RanOn old new = (did : List Did) × Grew old new did
+
 -- where the lookups stand when a step ends all early: the last stand that the events went on to show
-pub record EndsEarly (busy : Bool) (accepts : Accepts) (tags : Tags) (server : ServeSetting) (old : Stand) (told' : Option (List Event)) : Type 0 where
+pub record EndsEarly (busy : Bool) (fault : ManyFault) (accepts : Accepts) (tags : Tags) (server : ServeSetting) (old : Stand) (host' : Hands) (told' : Option (List Event)) : Type 0 where
   pub last : Stand
-  pub advances : Advances busy accepts tags server old last
-  pub stops : Stops busy accepts tags server last told'
+  pub advances : Advances busy [] accepts tags server old last
+  pub same : SameHands old.host last.host
+  pub legal : AllByRecursion IsLegal last.seekers
+  pub longer : AllZip Longer old.seekers last.seekers
+  pub driven_on : AllZip DrivenOn old.seekers last.seekers
+  pub seats : AllZip SameSeat old.seekers last.seekers
+  pub stops : Stops busy fault accepts tags server last told'
+  pub ran_on : RanOn last.host host'
 
 -- the same where the last foreign datagram that is taken ends all
-pub record EndsLast (accepts : Accepts) (tags : Tags) (server : ServeSetting) (old : Stand) (told' : Option (List Event)) : Type 0 where
+pub record EndsLast (accepts : Accepts) (tags : Tags) (server : ServeSetting) (old : Stand) (host' : Hands) (told' : Option (List Event)) : Type 0 where
   pub last : Stand
-  pub advances : Advances true accepts tags server old last
+  pub advances : Advances true [] accepts tags server old last
+  pub same : SameHands old.host last.host
+  pub legal : AllByRecursion IsLegal last.seekers
+  pub longer : AllZip Longer old.seekers last.seekers
+  pub driven_on : AllZip DrivenOn old.seekers last.seekers
+  pub seats : AllZip SameSeat old.seekers last.seekers
   pub ends : EndsByForeign true accepts tags server last told'
+  pub ran_on : RanOn last.host host'
 
 -- ---- rounds
 
@@ -240,6 +289,7 @@ pub record MayAwait (ks : List Seeker) (line : Line) : Type 0 where
   pub in_turn : line.receives ≡ 0 → AllByRecursion NoneAsks ks
   pub few_receives : line.receives < max_round_receives
   pub few_foreign : line.foreign < max_strays
+  pub counted : HasCounted ks line
 
 -- a receive may be made that waits for others than the lookups, which are over
 pub record MayServe (ks : List Seeker) (line : Line) : Type 0 where
@@ -248,13 +298,17 @@ pub record MayServe (ks : List Seeker) (line : Line) : Type 0 where
   pub over : AllByRecursion IsRunOut ks
   pub none_asks : AllByRecursion NoneAsks ks
   pub few_receives : line.receives < max_round_receives
-  pub room : line.foreign + line.left < 2 ^ 32
+  pub room : line.foreign + line.left + max_all_asks < 2 ^ 64
+  pub counted : HasCounted ks line
 
 -- what the receives of a round leave, beside what they told
 pub record ReceivedAll (old new : List Seeker) (line line' : Line) : Type 0 where
   pub holds : AllByRecursion Holding new
   pub longer : AllZip Longer old new
   pub only_heard : AllZip OnlyHeard old new
+  pub driven_on : AllZip DrivenOn old new
+  pub seats : AllZip SameSeat old new
+  pub counted : HasCounted new line'
   pub later : line.moment ≤ line'.moment
   pub left : line'.left ≤ line.left
   pub few_foreign : line'.foreign < max_strays
@@ -270,3 +324,72 @@ pub data AsksOver (moment : ℕ) (words : WordsState) (path : ℕ) (old new : Se
   is_sent : (asked : Asked) → AsksNext (word words.seed words.place) (deadline_of moment old.quest.timeout) path old.lookup new.lookup asked → Grows told told' (λ es. es ≡ Sent asked.contact.addr (query_bytes old asked.tx) ∷ []) → AsksOver moment words path old new told told'
   is_unsent : (asked : Asked) (mid : Lookup) → AsksNext (word words.seed words.place) (deadline_of moment old.quest.timeout) path old.lookup mid asked → new.lookup.queries ≡ old.lookup.queries
       → new.lookup.book ≡ added mid.book (Lost (asker asked.contact mid.book.journal) asked.contact SendFault) → Grows told told' (λ es. es ≡ Unsent asked.contact.addr (query_bytes old asked.tx) ∷ []) → AsksOver moment words path old new told told'
+
+-- the lookup is within its limits, what it believes is what its book settles by, no deadline is later than one of a query that
+-- is sent at the moment, and it asked no more contacts than its paths may have
+pub record IsReady (moment : ℕ) (k : Seeker) : Type 0 where
+  pub some_path : 0 < k.lookup.book.setting.paths
+  pub few_paths : k.lookup.book.setting.paths ≤ max_paths
+  pub few : k.lookup.book.setting.alpha * k.lookup.book.setting.paths ≤ max_open
+  pub small : k.lookup.book.setting.k < 256
+  pub policy : k.quest.policy ≡ k.lookup.book.setting.policy
+  pub deadlines : AllByRecursion (λ (q : Query). q.deadline ≤ deadline_of moment k.quest.timeout) k.lookup.queries
+  pub few_asks : length (asked k.lookup.book.journal) ≤ max_paths * max_path_contacts
+
+-- the lookups before the i-th may ask nothing, nor may the first paths of that one
+abbrev pub NoneBefore : ℕ → ℕ → List Seeker → Type 0
+NoneBefore i paths [] = Unit {0}
+NoneBefore zero paths (k ∷ ks) = (p : ℕ) → p < paths → may_ask k.lookup.book.setting p k.lookup.book.journal ≡ None
+NoneBefore (suc i) paths (k ∷ ks) = NoneAsks k × NoneBefore i paths ks
+
+-- there is a word for each contact that may still be asked
+abbrev pub HasWords : WordsState → List Seeker → Type 0
+HasWords words ks = words.place < 2 ^ 59 + asks_of ks
+
+-- where a round begins
+pub record MayAskAll (ks : List Seeker) (line : Line) (words : WordsState) : Type 0 where
+  pub holds : AllByRecursion Holding ks
+  pub ready : AllByRecursion (IsReady line.moment) ks
+  pub settled : AllByRecursion NothingLeft ks
+  pub few : length ks ≤ max_lookups
+  pub has_words : HasWords words ks
+  pub counted : HasCounted ks line
+
+-- contacts were asked, and their queries' owners were written down
+pub record AsksAll (accepts : Accepts) (tags : Tags) (server : ServeSetting) (old new : Stand) (owners owners' : List ℕ) : Type 0 where
+  pub made : List ℕ
+  pub advances : Advances true made accepts tags server old new
+  pub owners_are : owners' ≡ owners ++ made
+  pub longer : AllZip Longer old.seekers new.seekers
+  pub driven_on : AllZip DrivenOn old.seekers new.seekers
+  pub seats : AllZip SameSeat old.seekers new.seekers
+  pub may : MayAskAll new.seekers new.line new.words
+  pub line : new.line ≡ old.line
+  pub drawn : new.words ≡ record old.words { place = old.words.place + length made }
+
+-- ---- settling
+
+-- it tells the table of this turn
+abbrev pub IsSeated : TurnState TableState → Seeker → Type 0
+IsSeated turn k = k.pass.turn ≡ turn.id
+
+-- what the lookup has is settled, in part: its journal has more settling entries, and it made calls by its pass
+pub record SettlesSome (old new : Seeker) : Type 0 where
+  pub quest : new.quest ≡ old.quest
+  pub setting : new.lookup.book.setting ≡ old.lookup.book.setting
+  pub queries : new.lookup.queries ≡ old.lookup.queries
+  pub more : List Entry
+  pub journal : new.lookup.book.journal ≡ old.lookup.book.journal ++ more
+  pub none_driven : driven more ≡ []
+  pub no_seeds : seeds more ≡ []
+  pub holds : Holding new
+  pub same : SamePass old.pass new.pass
+
+-- all is settled, and the table was told of each contact that answered, in order
+pub record SettlesWhole (old new : Seeker) : Type 0 where
+  pub some : SettlesSome old new
+  pub left : NothingLeft new
+  pub told : List (Made TableCall TableReply)
+  pub grew : mine new.pass ≡ mine old.pass ++ told
+  pub calls : calls_in told ≡ seen_calls (noted some.more)
+  pub memory : All (λ m. HasMemory m.reply) told

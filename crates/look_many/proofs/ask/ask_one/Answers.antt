@@ -1,12 +1,36 @@
-use Rattle.look_many.proofs.Asking.{ask_advances, hold_set}
+use Rattle.std.proofs.Common.{◌+◌}
+use Rattle.look_many.proofs.AskingAll.{can_ask, leaves_all, asks_one, none_more, none_still}
 use Rattle.look_many.proofs.ask.ask_one.Goals as goal
 
 pub ask_next-requires : goal.ask_next-requires
-ask_next-requires g c = c.requires.can c.index-seekers-i.result
+ask_next-requires g c = can_ask c.args.seekers.now c.args.i c.index-seekers-i.result c.args.line.now c.args.words.now c.requires.may c.requires.within
 
-pub returns-clause-goes : goal.returns-clause-goes
-returns-clause-goes g c asked accepts tags server host =
-    ask_advances accepts tags server host c.args.i c.args.path c.args.words.now c.ask_next.new.words c.args.seekers.now c.index-seekers-i.result c.ask_next.new.seeker c.args.line.now _ _ c.requires.holds c.requires.within c.ask_next.ensures.quest (c.ask_next.ensures.drawn asked) (c.ask_next.ensures.some asked)
+pub returns-clause-asks : goal.returns-clause-asks
+returns-clause-asks g c asked accepts tags server host =
+    let r = c.requires in
+    let a = c.ask_next.ensures in
+    asks_one accepts tags server host c.args.i c.args.path c.args.words.now c.ask_next.new.words c.args.seekers.now c.index-seekers-i.result c.ask_next.new.seeker c.args.line.now _ _ r.may r.none_before r.within a.quest a.seat a.holds (a.drawn asked) (a.some asked)
 
-pub returns-clause-holds : goal.returns-clause-holds
-returns-clause-holds g c = hold_set c.args.seekers.now c.args.i c.ask_next.new.seeker c.requires.holds c.ask_next.ensures.holds
+pub returns-clause-one : goal.returns-clause-one
+returns-clause-one g c asked =
+    let r = c.requires in
+    let a = c.ask_next.ensures in
+    (leaves_all c.args.i c.args.path c.args.words.now c.ask_next.new.words c.args.seekers.now c.index-seekers-i.result c.ask_next.new.seeker c.args.line.now _ _ r.may r.none_before r.within a.quest a.seat a.holds (a.drawn asked) (a.some asked)).one
+
+pub returns-clause-may : goal.returns-clause-may
+returns-clause-may g c asked =
+    let r = c.requires in
+    let a = c.ask_next.ensures in
+    (leaves_all c.args.i c.args.path c.args.words.now c.ask_next.new.words c.args.seekers.now c.index-seekers-i.result c.ask_next.new.seeker c.args.line.now _ _ r.may r.none_before r.within a.quest a.seat a.holds (a.drawn asked) (a.some asked)).may
+
+pub returns-clause-none_before : goal.returns-clause-none_before
+returns-clause-none_before g c asked =
+    let r = c.requires in
+    let a = c.ask_next.ensures in
+    (leaves_all c.args.i c.args.path c.args.words.now c.ask_next.new.words c.args.seekers.now c.index-seekers-i.result c.ask_next.new.seeker c.args.line.now _ _ r.may r.none_before r.within a.quest a.seat a.holds (a.drawn asked) (a.some asked)).none
+
+pub returns-clause-none : goal.returns-clause-none
+returns-clause-none g c idle =
+    let r = c.requires in
+    let a = c.ask_next.ensures in
+    none_still c.args.i (c.args.path + 1) c.args.seekers.now c.index-seekers-i.result c.ask_next.new.seeker (a.same idle) (none_more c.args.i c.args.path c.args.seekers.now c.index-seekers-i.result r.none_before r.within (a.none idle))

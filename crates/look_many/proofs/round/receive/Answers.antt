@@ -8,8 +8,8 @@ receive_until-requires-clause-may g c = may_receive c.args.seekers.now c.args.li
 
 pub returns-in-Err-clause-stops : goal.returns-in-Err-clause-stops
 returns-in-Err-clause-stops g c words =
-    ends_now true (g.G.SealCheck.accepted c.args.seal.now) (g.G.Seal.tag_of c.args.seal.now) c.args.desk.now.setting.now (stand c.args.seekers.now c.args.line.now words c.args.host.now (g.L.Link.told c.args.link.now)) (g.L.Link.told c.receive_until.new.link) (c.in-Err.ensures.stops words)
+    ends_now true c.in-Err.fault (g.G.SealCheck.accepted c.args.seal.now) (g.G.Seal.tag_of c.args.seal.now) c.args.desk.now.setting.now (stand c.args.seekers.now c.args.line.now words c.args.host.now (g.L.Link.told c.args.link.now)) c.receive_until.new.host (g.L.Link.told c.receive_until.new.link) c.all_legal.ensures (c.in-Err.ensures.stops words) c.in-Err.ensures.ran_on
 
 pub returns-in-Err-clause-strays : goal.returns-in-Err-clause-strays
 returns-in-Err-clause-strays g c is words =
-    ends_last_now (g.G.SealCheck.accepted c.args.seal.now) (g.G.Seal.tag_of c.args.seal.now) c.args.desk.now.setting.now (stand c.args.seekers.now c.args.line.now words c.args.host.now (g.L.Link.told c.args.link.now)) (g.L.Link.told c.receive_until.new.link) (c.in-Err.ensures.strays is words)
+    ends_last_now (g.G.SealCheck.accepted c.args.seal.now) (g.G.Seal.tag_of c.args.seal.now) c.args.desk.now.setting.now (stand c.args.seekers.now c.args.line.now words c.args.host.now (g.L.Link.told c.args.link.now)) c.receive_until.new.host (g.L.Link.told c.receive_until.new.link) c.all_legal.ensures (c.in-Err.ensures.strays is words) c.in-Err.ensures.ran_on

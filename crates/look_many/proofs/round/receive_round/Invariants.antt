@@ -1,4 +1,4 @@
-use Rattle.std.proofs.Common.{◌≡◌, ◌≢◌, ◌≤◌, ◌+◌, length, true}
+use Rattle.std.proofs.Common.{◌≡◌, ◌≢◌, [], ◌+◌, length, true}
 use Rattle.kad_base.specs.Limits.{max_datagram}
 use Rattle.id_puzzles.specs.Drawn.{WordsState}
 use Rattle.serve_crew.specs.Hands.{SameHands}
@@ -11,11 +11,12 @@ abbrev pub invariant-receiving : goal.invariant-receiving
 invariant-receiving g l = record {
   may : l.line.receives ≢ 0 → MayAwait l.seekers l.line;
   received : ReceivedAll l.fn.seekers l.seekers l.fn.line l.line;
-  goes : (words : WordsState) → Advances true (g.G.SealCheck.accepted l.seal) (g.G.Seal.tag_of l.seal) l.desk.setting.now (stand l.fn.seekers l.fn.line words l.fn.host (g.L.Link.told l.fn.link)) (stand l.seekers l.line words l.host (g.L.Link.told l.link));
+  goes : (words : WordsState) → Advances true [] (g.G.SealCheck.accepted l.seal) (g.G.Seal.tag_of l.seal) l.desk.setting.now (stand l.fn.seekers l.fn.line words l.fn.host (g.L.Link.told l.fn.link)) (stand l.seekers l.line words l.host (g.L.Link.told l.link));
   same : SameHands l.fn.host l.host;
   room : length l.buf ≡ max_datagram + 1;
   moment : g.L.Link.moment l.link ≡ l.line.moment;
-  faults : g.L.Link.recv_faults l.fn.link ≤ g.L.Link.recv_faults l.link;
+  len : length l.seekers ≡ length l.fn.seekers;
+  faults : g.L.Link.recv_faults l.link ≡ g.L.Link.recv_faults l.fn.link;
   kept : g.L.Link.kept l.link ≡ g.L.Link.kept l.fn.link;
 }
 

@@ -1,8 +1,9 @@
-use Rattle.std.proofs.Common.{◌≡◌, ◌≤◌, ◌+◌, length, map, false}
+use Rattle.std.proofs.Common.{◌≡◌, [], ◌+◌, length, map, false}
+use Rattle.std.specs.List.{AllZip}
 use Rattle.kad_base.specs.Limits.{max_datagram}
 use Rattle.id_puzzles.specs.Drawn.{WordsState}
 use Rattle.serve_crew.specs.Hands.{SameHands}
-use Rattle.look_many.specs.inner.Crowd.{whose, Advances, stand}
+use Rattle.look_many.specs.inner.Crowd.{whose, SameSeat, Advances, stand}
 use Rattle.look_many.specs.inner.ManySteps.{MayServe}
 use Rattle.look_many.proofs.serving.serve_on.Given as goal
 
@@ -10,11 +11,13 @@ abbrev pub invariant-serving : goal.invariant-serving
 invariant-serving g l = record {
   may : MayServe l.seekers l.line;
   journals : map whose l.seekers ≡ map whose l.fn.seekers;
-  goes : (words : WordsState) → Advances false (g.G.SealCheck.accepted l.seal) (g.G.Seal.tag_of l.seal) l.desk.setting.now (stand l.fn.seekers l.fn.line words l.fn.host (g.L.Link.told l.fn.link)) (stand l.seekers l.line words l.host (g.L.Link.told l.link));
+  goes : (words : WordsState) → Advances false [] (g.G.SealCheck.accepted l.seal) (g.G.Seal.tag_of l.seal) l.desk.setting.now (stand l.fn.seekers l.fn.line words l.fn.host (g.L.Link.told l.fn.link)) (stand l.seekers l.line words l.host (g.L.Link.told l.link));
   same : SameHands l.fn.host l.host;
   room : length l.buf ≡ max_datagram + 1;
   moment : g.L.Link.moment l.link ≡ l.line.moment;
-  faults : g.L.Link.recv_faults l.fn.link ≤ g.L.Link.recv_faults l.link;
+  len : length l.seekers ≡ length l.fn.seekers;
+  seats : AllZip SameSeat l.fn.seekers l.seekers;
+  faults : g.L.Link.recv_faults l.link ≡ g.L.Link.recv_faults l.fn.link;
   kept : g.L.Link.kept l.link ≡ g.L.Link.kept l.fn.link;
 }
 

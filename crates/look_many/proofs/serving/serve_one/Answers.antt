@@ -12,7 +12,7 @@ returns-in-Ok-clause-may g c = serve_next c.args.seekers.now c.receive_until.new
 
 pub returns-in-Err-clause-stops : goal.returns-in-Err-clause-stops
 returns-in-Err-clause-stops g c words =
-    ends_now false (g.G.SealCheck.accepted c.args.seal.now) (g.G.Seal.tag_of c.args.seal.now) c.args.desk.now.setting.now (stand c.args.seekers.now c.args.line.now words c.args.host.now (g.L.Link.told c.args.link.now)) (g.L.Link.told c.receive_until.new.link) (c.in-Err.ensures.stops words)
+    ends_now false c.in-Err.fault (g.G.SealCheck.accepted c.args.seal.now) (g.G.Seal.tag_of c.args.seal.now) c.args.desk.now.setting.now (stand c.args.seekers.now c.args.line.now words c.args.host.now (g.L.Link.told c.args.link.now)) c.receive_until.new.host (g.L.Link.told c.receive_until.new.link) c.all_legal.ensures (c.in-Err.ensures.stops words) c.in-Err.ensures.ran_on
 
 pub returns-in-Err-clause-strays : goal.returns-in-Err-clause-strays
 returns-in-Err-clause-strays g c is = (let t : false ≡ true = c.in-Err.ensures.busy is in absurd cc)

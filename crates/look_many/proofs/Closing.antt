@@ -1,0 +1,84 @@
+-- What comes back once the three turns are closed, and where nothing was begun.
+use Rattle.std.proofs.Common.{◌≡◌, ℕ, ◌<◌, suc, List, [], length, Option, Result, Ok, Err, IfOk, inl, refl, ap, subst, ◌∙◌}
+use Rattle.std.specs.Prelude.{IfErr}
+use Rattle.std.proofs.lemmas.List.Elements.{All-nil}
+use Rattle.kad_base.specs.declared.types.Id.{Id}
+use Rattle.kad_base.specs.declared.types.Event.{Event}
+use Rattle.kad_base.specs.declared.serial.Made.{Made}
+use Rattle.kad_base.specs.Serial.{left_by, IsRun}
+use Rattle.kad_base.proofs.Grown.{grows_none}
+use Rattle.id_puzzles.specs.Drawn.{WordsState}
+use Rattle.turn_book.proofs.Ended.{none_made}
+use Rattle.turn_book.specs.Turns.{TurnState, Closed, all_fresh}
+use Rattle.contact_table.specs.TableState.{TableState}
+use Rattle.contact_table.specs.TableStep.{TableMay, TableStep, table_after}
+use Rattle.contact_table.specs.declared.calls.TableCall.{TableCall}
+use Rattle.contact_table.specs.declared.calls.TableReply.{TableReply}
+use Rattle.peer_store.specs.Peers.{Held}
+use Rattle.peer_store.specs.PeersStep.{PeersMay, PeersStep, peers_after}
+use Rattle.peer_store.specs.declared.calls.PeerCall.{PeerCall}
+use Rattle.peer_store.specs.declared.calls.PeerReply.{PeerReply}
+use Rattle.item_store.specs.Items.{Held as HeldItem}
+use Rattle.item_store.specs.ItemSteps.{ItemMay, ItemStep, item_after}
+use Rattle.item_store.specs.declared.calls.ItemCall.{ItemCall}
+use Rattle.item_store.specs.declared.calls.ItemReply.{ItemReply}
+use Rattle.serve_crew.specs.Hands.{TablePass}
+use Rattle.look_many.specs.declared.found.Many.{Many}
+use Rattle.look_many.specs.declared.seeker.ManyFault.{ManyFault}
+use Rattle.look_many.specs.declared.seeker.ManyFault.TheVariants.{NoMemory}
+use Rattle.look_many.specs.ManyLooked.{ManyLooked, ManyStopped, NoneBegan, IsWithinLimits}
+use Rattle.look_many.specs.inner.Seats.{Rows}
+use Rattle.look_many.specs.inner.Ends.{Task, FoundBack, StoppedBack}
+use Rattle.look_many.proofs.Promised.{many_looked, many_began}
+
+pub none_began : (targets : List Id) (before after : TableState) (words : WordsState) (told : Option (List Event)) → after ≡ before → NoneBegan targets before after words words told told NoMemory
+none_began targets before after words told is = record {
+  fault_is = refl;
+  no_events = grows_none told (λ events. events ≡ []) refl;
+  same_words = refl;
+  ran = record {
+    tables = [];
+    tables_legal = tt;
+    tables_roles = All-nil (λ (m : Made TableCall TableReply). m.role < suc (length targets));
+    leaves = is;
+    stores = [];
+    stores_legal = tt;
+    stores_roles = All-nil (λ (m : Made PeerCall PeerReply). m.role < suc (length targets));
+    shelves = [];
+    shelves_legal = tt;
+    shelves_roles = All-nil (λ (m : Made ItemCall ItemReply). m.role < suc (length targets));
+  };
+}
+
+-- the table's turn was opened, and closed again
+pub opened_alone : (targets : List Id) (turn : TurnState TableState) (row : List TablePass) (before after : TableState) (calls : ℕ) (words : WordsState) (told : Option (List Event)) → Closed TableMay TableStep table_after turn row after calls → turn.start ≡ before → row ≡ all_fresh turn
+    → NoneBegan targets before after words words told told NoMemory
+opened_alone targets turn row before after calls words told t start is = record {
+  fault_is = refl;
+  no_events = grows_none told (λ events. events ≡ []) refl;
+  same_words = refl;
+  ran = record {
+    tables = t.run;
+    tables_legal = subst (λ b. IsRun TableMay TableStep table_after b t.run) start t.legal;
+    tables_roles = none_made TableMay TableStep table_after turn row after calls t turn.roles refl is (λ (m : Made TableCall TableReply). m.role < suc (length targets));
+    leaves = t.left ∙ ap (λ b. left_by table_after b t.run) start;
+    stores = [];
+    stores_legal = tt;
+    stores_roles = All-nil (λ (m : Made PeerCall PeerReply). m.role < suc (length targets));
+    shelves = [];
+    shelves_legal = tt;
+    shelves_roles = All-nil (λ (m : Made ItemCall ItemReply). m.role < suc (length targets));
+  };
+}
+
+module _ (k : Task) (r : Rows) (before after : TableState) (table_calls : ℕ) (held : List Held) (peers_calls : ℕ) (shelf : List HeldItem) (items_calls : ℕ)
+    (t : Closed TableMay TableStep table_after r.tables r.table_row after table_calls) (p : Closed PeersMay PeersStep peers_after r.stores r.peers_row held peers_calls) (i : Closed ItemMay ItemStep item_after r.shelves r.items_row shelf items_calls)
+    (start : r.tables.start ≡ before) (no_peers : r.stores.start ≡ []) (no_items : r.shelves.start ≡ []) (limits : IsWithinLimits k.setting) (small : k.server.k < 256)
+    (words words' : WordsState) (told told' : Option (List Event)) where
+  pub ok_looked : (x : Result Many ManyFault) → IfOk x (FoundBack k r words words' told told') → IfOk x (ManyLooked k.accepts k.tags k.server k.setting k.targets k.receives before after words words' told told')
+  ok_looked (Ok many) h = many_looked k r before after table_calls held peers_calls shelf items_calls t p i start no_peers no_items limits small words words' told told' many h
+  ok_looked (Err fault) h = tt
+
+  pub err_stopped : (x : Result Many ManyFault) → IfErr x (StoppedBack k r words words' told told') → IfErr x (ManyStopped k.accepts k.tags k.server k.setting k.targets k.receives before after words words' told told')
+  err_stopped (Ok many) h = tt
+  err_stopped (Err fault) h = inl (many_began k r before after table_calls held peers_calls shelf items_calls t p i start no_peers no_items limits small words words' told told' fault h)

@@ -1,0 +1,196 @@
+-- What is known once the three turns of several lookups are closed.
+use Rattle.std.proofs.Common.{◌≡◌, ℕ, suc, zero, ◌+◌, ◌<◌, ◌==◌, cond, true, false, List, [], ◌∷◌, ◌++◌, map, length, get_or, refl, sym, ap, subst, ◌∙◌, arith, All}
+use Rattle.std.specs.Prelude.{reverse}
+use Rattle.std.specs.List.{flat_map}
+use Rattle.std.proofs.lemmas.Grind.{flat_map-append}
+use Rattle.std.proofs.lemmas.Bool.{eqb-true}
+use Rattle.std.proofs.lemmas.List.Elements.{All-nil, All-cons, All-head, All-tail, All-same, All-append, All-weaker, filter-append}
+use Rattle.kad_base.specs.declared.types.Id.{Id}
+use Rattle.kad_base.specs.declared.serial.Made.{Made}
+use Rattle.kad_base.specs.Serial.{made, calls_of, left_by, IsRun}
+use Rattle.turn_book.specs.Turns.{TurnState, PassState, Closed, mine}
+use Rattle.turn_book.proofs.Ended.{all_in_row, each_in_row, mine_few, all_run}
+use Rattle.contact_table.specs.TableState.{TableState}
+use Rattle.contact_table.specs.TableStep.{TableMay, TableStep, table_after}
+use Rattle.contact_table.specs.declared.calls.TableCall.{TableCall}
+use Rattle.contact_table.specs.Told.{HasMemory}
+use Rattle.contact_table.specs.declared.calls.TableCall.TheVariants.{Closest, Failed, Seen as Seen_call}
+use Rattle.contact_table.specs.declared.calls.TableReply.{TableReply}
+use Rattle.contact_table.specs.declared.calls.TableReply.TheVariants.{List as Listed, Gone as Gone_reply, Seen as Seen_reply, NoMemory}
+use Rattle.peer_store.specs.Peers.{Held}
+use Rattle.peer_store.specs.PeersStep.{PeersMay, PeersStep, peers_after}
+use Rattle.peer_store.specs.declared.calls.PeerCall.{PeerCall}
+use Rattle.peer_store.specs.declared.calls.PeerReply.{PeerReply}
+use Rattle.item_store.specs.Items.{Held as HeldItem}
+use Rattle.item_store.specs.ItemSteps.{ItemMay, ItemStep, item_after}
+use Rattle.item_store.specs.declared.calls.ItemCall.{ItemCall}
+use Rattle.item_store.specs.declared.calls.ItemReply.{ItemReply}
+use Rattle.node_serve.specs.Calls.{Did, HasRoom, HasItemRoom}
+use Rattle.node_serve.specs.declared.setting.ServeSetting.{ServeSetting}
+use Rattle.serve_crew.specs.Hands.{Hands, TablePass, at_table, at_peers, at_items}
+use Rattle.serve_crew.specs.Runs.{Ran, HadAllMemory, AreCalls}
+use Rattle.look_many.specs.declared.seeker.Seeker.{Seeker}
+use Rattle.look_many.specs.ManyLooked.{seeds_for, seeks}
+use Rattle.look_many.specs.inner.Seats.{RolesFrom, Rows, AreBack}
+
+-- ---- the calls for the seeds, before the turn is opened
+
+seek_made : ServeSetting → TableState → Id → Made TableCall TableReply
+seek_made server table target = made 0 (Closest target server.k) (Listed (seeds_for server table target))
+
+pub sought : ServeSetting → TableState → List Id → List (Made TableCall TableReply)
+sought server table targets = map (seek_made server table) targets
+
+-- they leave the table as it was
+sought_run : (server : ServeSetting) (table : TableState) (targets : List Id) (run : List (Made TableCall TableReply)) → IsRun TableMay TableStep table_after table run → IsRun TableMay TableStep table_after table (sought server table targets ++ run)
+unfolding sought seek_made
+sought_run server table [] run h = h
+sought_run server table (t ∷ ts) run h = (tt, refl, sought_run server table ts run h)
+
+sought_leaves : (server : ServeSetting) (table : TableState) (targets : List Id) (run : List (Made TableCall TableReply)) → left_by table_after table (sought server table targets ++ run) ≡ left_by table_after table run
+unfolding sought seek_made
+sought_leaves server table [] run = refl
+sought_leaves server table (t ∷ ts) run = sought_leaves server table ts run
+
+sought_all : (P : Made TableCall TableReply → Type 0) (server : ServeSetting) (table : TableState) (targets : List Id) → ((t : Id) → P (seek_made server table t)) → All P (sought server table targets)
+unfolding sought
+sought_all P server table [] h = All-nil P
+sought_all P server table (t ∷ ts) h = All-cons P (seek_made server table t) (sought server table ts) (h t) (sought_all P server table ts h)
+
+-- all are the driver's
+sought_driver : (server : ServeSetting) (table : TableState) (targets : List Id) → calls_of 0 (sought server table targets) ≡ flat_map (at_table 0) (map (seeks server table) targets)
+unfolding sought seek_made
+sought_driver server table [] = refl
+sought_driver server table (t ∷ ts) = ap (λ l. made 0 (Closest t server.k) (Listed (seeds_for server table t)) ∷ l) (sought_driver server table ts)
+
+zero_other : (r : ℕ) → (0 == suc r) ≡ false
+zero_other r = elim (0 == suc r) as (λ b. (0 == suc r) ≡ b → (0 == suc r) ≡ false) [
+  | true ↦ λ e. absurd (let is : 0 ≡ suc r = eqb-true 0 (suc r) e in omega (arith, is))
+  | false ↦ λ e. e
+] refl
+
+sought_other : (server : ServeSetting) (table : TableState) (targets : List Id) (r : ℕ) → calls_of (suc r) (sought server table targets) ≡ []
+unfolding sought seek_made
+sought_other server table [] r = refl
+sought_other server table (t ∷ ts) r = ap (λ b. cond b (seek_made server table t ∷ calls_of (suc r) (sought server table ts)) (calls_of (suc r) (sought server table ts))) (zero_other r) ∙ sought_other server table ts r
+
+-- ---- three turns
+
+-- the call tells who failed
+abbrev pub IsFailed : TableCall → Type 0
+IsFailed (Failed c) = Unit {0}
+IsFailed other = ⊥
+
+-- a call for which there was memory, or one that tells who failed
+abbrev pub Remembers : Made TableCall TableReply → Type 0
+Remembers m = (IsFailed m.call → HasMemory m.reply) → HasMemory m.reply
+
+-- a lookup's role
+role_at : (r : ℕ) (ks : List Seeker) → RolesFrom r ks → (i : ℕ) (d : Seeker) → i < length ks → (get_or ks i d).pass.role ≡ r + i
+role_at r [] h i d lt = absurd (omega (arith, lt))
+role_at r (k ∷ ks) h zero d lt = h.0 ∙ omega arith
+role_at r (k ∷ ks) h (suc i) d lt = role_at (suc r) ks h.1 i d (omega (arith, lt)) ∙ omega arith
+
+module _ {S C R : Type 0} (may : ℕ → C → Type 0) (step : S → ℕ → C → R → Type 0) (after : S → ℕ → C → R → S) (turn : TurnState S) (row : List (PassState C R)) (pass : PassState C R) (state : S) (calls : ℕ) (closed : Closed may step after turn row state calls) (is : row ≡ pass ∷ []) where
+  -- a turn that one pass alone called
+  all_of_one : (P : Made C R → Type 0) → All P (mine pass) → All P closed.run
+  all_of_one P one = all_run may step after turn row state calls closed P (All-same (λ (x : PassState C R). All P (mine x)) row (pass ∷ []) is (All-cons (λ (x : PassState C R). All P (mine x)) pass [] one (All-nil (λ (x : PassState C R). All P (mine x)))))
+
+  one_row : (n : ℕ) → pass.role < n → All (λ (m : Made C R). m.role < n) closed.run
+  one_row n few = all_of_one (λ (m : Made C R). m.role < n) (mine_few n pass few)
+
+  calls_of_one : calls_of pass.role closed.run ≡ mine pass
+  calls_of_one = All-head (λ (x : PassState C R). calls_of x.role closed.run ≡ mine x) pass [] (subst (All (λ (x : PassState C R). calls_of x.role closed.run ≡ mine x)) is closed.in_order)
+
+module _ (server : ServeSetting) (targets : List Id) (r : Rows) (before after : TableState) (table_calls : ℕ) (held : List Held) (peers_calls : ℕ) (shelf : List HeldItem) (items_calls : ℕ)
+    (t : Closed TableMay TableStep table_after r.tables r.table_row after table_calls) (p : Closed PeersMay PeersStep peers_after r.stores r.peers_row held peers_calls) (i : Closed ItemMay ItemStep item_after r.shelves r.items_row shelf items_calls)
+    (start : r.tables.start ≡ before) (no_peers : r.stores.start ≡ []) (no_items : r.shelves.start ≡ []) (host : Hands) (seekers : List Seeker) (back : AreBack r host seekers) (count : length seekers ≡ length targets) where
+  -- what holds of each pass's own calls holds of all calls on the table
+  all_tables : (P : Made TableCall TableReply → Type 0) → All P (mine host.table) → All (λ (k : Seeker). All P (mine k.pass)) seekers → All P t.run
+  all_tables P one each =
+      all_run TableMay TableStep table_after r.tables r.table_row after table_calls t P
+      (All-same (λ (x : TablePass). All P (mine x)) r.table_row (host.table ∷ map (λ (k : Seeker). k.pass) (reverse seekers)) back.tables
+      (All-cons (λ (x : TablePass). All P (mine x)) host.table (map (λ (k : Seeker). k.pass) (reverse seekers)) one
+      (all_in_row (λ (k : Seeker). k.pass) seekers (λ (x : TablePass). All P (mine x)) each)))
+
+  pub ended_ran : Ran (suc (length targets)) before after
+  unfolding seek_made
+  ended_ran = record {
+    tables = sought server before targets ++ t.run;
+    tables_legal = sought_run server before targets t.run (subst (λ b. IsRun TableMay TableStep table_after b t.run) start t.legal);
+    tables_roles = All-append (λ (m : Made TableCall TableReply). m.role < suc (length targets)) (sought server before targets) t.run
+        (sought_all (λ (m : Made TableCall TableReply). m.role < suc (length targets)) server before targets (λ x. omega arith))
+        (all_tables (λ (m : Made TableCall TableReply). m.role < suc (length targets)) (mine_few (suc (length targets)) host.table (let d = back.driver in omega (arith, d)))
+        (λ k d lt. mine_few (suc (length targets)) (get_or seekers k d).pass (let role = role_at 1 seekers back.roles k d lt in omega (arith, role, lt, count))));
+    leaves = t.left ∙ ap (λ b. left_by table_after b t.run) start ∙ sym (sought_leaves server before targets t.run);
+    stores = p.run;
+    stores_legal = subst (λ b. IsRun PeersMay PeersStep peers_after b p.run) no_peers p.legal;
+    stores_roles = one_row PeersMay PeersStep peers_after r.stores r.peers_row host.peers held peers_calls p back.peers (suc (length targets)) (let d = back.driver_peers in omega (arith, d));
+    shelves = i.run;
+    shelves_legal = subst (λ b. IsRun ItemMay ItemStep item_after b i.run) no_items i.legal;
+    shelves_roles = one_row ItemMay ItemStep item_after r.shelves r.items_row host.items shelf items_calls i back.items (suc (length targets)) (let d = back.driver_items in omega (arith, d));
+  }
+
+  -- the driver's calls
+  pub driver_calls_are : (did : List Did) → mine host.table ≡ flat_map (at_table 0) did → mine host.peers ≡ flat_map (at_peers 0) did → mine host.items ≡ flat_map (at_items 0) did → AreCalls (suc (length targets)) before after ended_ran 0 (map (seeks server before) targets ++ did)
+  unfolding ended_ran
+  driver_calls_are did at_t at_p at_i = record {
+    tables = filter-append (λ (m : Made TableCall TableReply). m.role == 0) (sought server before targets) t.run
+        ∙ ap (λ l. l ++ calls_of 0 t.run) (sought_driver server before targets)
+        ∙ ap (λ l. flat_map (at_table 0) (map (seeks server before) targets) ++ l) (driver_at ∙ at_t)
+        ∙ sym (flat_map-append (at_table 0) (map (seeks server before) targets) did);
+    stores = ap (λ n. calls_of n p.run) (sym back.driver_peers) ∙ calls_of_one PeersMay PeersStep peers_after r.stores r.peers_row host.peers held peers_calls p back.peers ∙ at_p
+        ∙ sym (flat_map-append (at_peers 0) (map (seeks server before) targets) did ∙ ap (λ l. l ++ flat_map (at_peers 0) did) (no_peers_sought targets));
+    shelves = ap (λ n. calls_of n i.run) (sym back.driver_items) ∙ calls_of_one ItemMay ItemStep item_after r.shelves r.items_row host.items shelf items_calls i back.items ∙ at_i
+        ∙ sym (flat_map-append (at_items 0) (map (seeks server before) targets) did ∙ ap (λ l. l ++ flat_map (at_items 0) did) (no_items_sought targets));
+  }
+    where
+      driver_at : calls_of 0 t.run ≡ mine host.table
+      driver_at = ap (λ n. calls_of n t.run) (sym back.driver)
+          ∙ All-head (λ (x : TablePass). calls_of x.role t.run ≡ mine x) host.table (map (λ (k : Seeker). k.pass) (reverse seekers)) (subst (All (λ (x : TablePass). calls_of x.role t.run ≡ mine x)) back.tables t.in_order)
+
+      no_peers_sought : (ts : List Id) → flat_map (at_peers 0) (map (seeks server before) ts) ≡ []
+      no_peers_sought [] = refl
+      no_peers_sought (x ∷ ts) = no_peers_sought ts
+
+      no_items_sought : (ts : List Id) → flat_map (at_items 0) (map (seeks server before) ts) ≡ []
+      no_items_sought [] = refl
+      no_items_sought (x ∷ ts) = no_items_sought ts
+
+  -- those of a lookup
+  pub lookup_calls : (k : ℕ) (d : Seeker) → k < length targets → calls_of (suc k) (ended_ran).tables ≡ mine (get_or seekers k d).pass
+  unfolding ended_ran
+  lookup_calls k d lt =
+      let there : k < length seekers = omega (arith, lt, count) in
+      filter-append (λ (m : Made TableCall TableReply). m.role == suc k) (sought server before targets) t.run
+      ∙ ap (λ l. l ++ calls_of (suc k) t.run) (sought_other server before targets k)
+      ∙ ap (λ n. calls_of n t.run) (sym (role_at 1 seekers back.roles k d there ∙ omega arith))
+      ∙ each_in_row (λ (x : Seeker). x.pass) seekers (λ (x : TablePass). calls_of x.role t.run ≡ mine x)
+      (All-tail (λ (x : TablePass). calls_of x.role t.run ≡ mine x) host.table (map (λ (x : Seeker). x.pass) (reverse seekers)) (subst (All (λ (x : TablePass). calls_of x.role t.run ≡ mine x)) back.tables t.in_order)) k d there
+
+  -- ---- memory
+
+  -- the table has memory for whoever failed
+  failed_has : (s : TableState) (run : List (Made TableCall TableReply)) → IsRun TableMay TableStep table_after s run → All (λ (m : Made TableCall TableReply). IsFailed m.call → HasMemory m.reply) run
+  failed_has s [] h = All-nil (λ (m : Made TableCall TableReply). IsFailed m.call → HasMemory m.reply)
+  failed_has s (m ∷ run) h = All-cons (λ (x : Made TableCall TableReply). IsFailed x.call → HasMemory x.reply) m run (one m.call m.reply h.1) (failed_has (table_after s m.role m.call m.reply) run h.2)
+    where
+      one : (c : TableCall) (y : TableReply) → TableStep s m.role c y → IsFailed c → HasMemory y
+      one (Seen_call x) y step fails = absurd fails
+      one (Closest target n) y step fails = absurd fails
+      one (Failed x) (Gone_reply gone) step is = tt
+      one (Failed x) (Seen_reply seen) step is = absurd step
+      one (Failed x) (Listed list) step is = absurd step
+      one (Failed x) NoMemory step is = absurd step
+
+  pub ended_memory : All Remembers (mine host.table) → All (λ (k : Seeker). All (λ (m : Made TableCall TableReply). HasMemory m.reply) (mine k.pass)) seekers
+      → All (λ (m : Made PeerCall PeerReply). HasRoom m.reply) (mine host.peers) → All (λ (m : Made ItemCall ItemReply). HasItemRoom m.reply) (mine host.items)
+      → HadAllMemory (suc (length targets)) before after ended_ran
+  unfolding ended_ran seek_made
+  ended_memory one each at_p at_i = record {
+    tables = All-append (λ (m : Made TableCall TableReply). HasMemory m.reply) (sought server before targets) t.run
+        (sought_all (λ (m : Made TableCall TableReply). HasMemory m.reply) server before targets (λ x. tt))
+        (λ k d lt. all_tables Remembers one (λ j e there. All-weaker (λ (m : Made TableCall TableReply). HasMemory m.reply) Remembers (λ m h f. h) (mine (get_or seekers j e).pass) (each j e there)) k d lt (failed_has r.tables.start t.run t.legal k d lt));
+    stores = all_of_one PeersMay PeersStep peers_after r.stores r.peers_row host.peers held peers_calls p back.peers (λ (m : Made PeerCall PeerReply). HasRoom m.reply) at_p;
+    shelves = all_of_one ItemMay ItemStep item_after r.shelves r.items_row host.items shelf items_calls i back.items (λ (m : Made ItemCall ItemReply). HasItemRoom m.reply) at_i;
+  }

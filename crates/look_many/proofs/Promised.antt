@@ -1,0 +1,361 @@
+-- What several lookups promise, from what they leave once the turns are closed.
+use Rattle.std.proofs.Common.{◌≡◌, ℕ, zero, suc, ◌+◌, ◌<◌, List, [], ◌∷◌, ◌++◌, length, get_or, Option, None, true, false, inl, refl, sym, ap, subst, ◌∙◌, arith, All}
+use Rattle.std.specs.Prelude.{map, slice_index_or}
+use Rattle.std.specs.List.{AllByRecursion, AllZip, flat_map, range_with_len}
+use Rattle.std.proofs.lemmas.List.{append-nil, append_assoc, length-map}
+use Rattle.std.proofs.lemmas.List.Elements.{All-nil, All-cons, All-head, All-tail, All-same, All-append}
+use Rattle.std.proofs.lemmas.List.Concat.{flat_map-append}
+use Rattle.kad_base.specs.declared.types.Id.{Id}
+use Rattle.kad_base.specs.declared.types.Contact.{Contact}
+use Rattle.kad_base.specs.declared.types.Event.{Event}
+use Rattle.kad_base.specs.declared.types.Event.TheVariants.{Now}
+use Rattle.kad_base.specs.declared.serial.Made.{Made}
+use Rattle.kad_base.specs.Limits.{max_strays}
+use Rattle.kad_base.specs.Outside.{Grows}
+use Rattle.kad_base.specs.Serial.{calls_of}
+use Rattle.kad_base.proofs.Grown.{grows_weaker}
+use Rattle.id_puzzles.specs.Drawn.{WordsState}
+use Rattle.turn_book.specs.Turns.{TurnState, Closed, fresh, mine}
+use Rattle.contact_table.specs.TableState.{TableState}
+use Rattle.contact_table.specs.TableStep.{TableMay, TableStep, table_after}
+use Rattle.contact_table.specs.Told.{HasMemory, calls_in, seen_calls}
+use Rattle.contact_table.specs.declared.calls.TableCall.{TableCall}
+use Rattle.contact_table.specs.declared.calls.TableReply.{TableReply}
+use Rattle.peer_store.specs.Peers.{Held}
+use Rattle.peer_store.specs.PeersStep.{PeersMay, PeersStep, peers_after}
+use Rattle.peer_store.specs.declared.calls.PeerCall.{PeerCall}
+use Rattle.peer_store.specs.declared.calls.PeerReply.{PeerReply}
+use Rattle.item_store.specs.Items.{Held as HeldItem}
+use Rattle.item_store.specs.ItemSteps.{ItemMay, ItemStep, item_after}
+use Rattle.item_store.specs.declared.calls.ItemCall.{ItemCall}
+use Rattle.item_store.specs.declared.calls.ItemReply.{ItemReply}
+use Rattle.claim_book.specs.declared.types.Setting.{Setting}
+use Rattle.claim_book.specs.declared.types.Entry.{Entry}
+use Rattle.claim_book.specs.Journal.{seed_of, seeds}
+use Rattle.claim_book.specs.Legal.{Legal, seeded_from}
+use Rattle.claim_book.specs.Result.{result_of}
+use Rattle.claim_book.specs.RunOut.{RunOut}
+use Rattle.claim_book.proofs.Descent.{own_answers}
+use Rattle.node_serve.specs.declared.setting.ServeSetting.{ServeSetting}
+use Rattle.node_serve.specs.Calls.{Did, HadMemory, HasRoom, HasItemRoom}
+use Rattle.serve_crew.specs.Hands.{Hands, SameHands, Grew, TablePass, at_table, at_peers, at_items}
+use Rattle.serve_crew.proofs.Remembering.{did_table, did_peers, did_items}
+use Rattle.look_many.specs.declared.found.ManySetting.{ManySetting}
+use Rattle.look_many.specs.declared.found.One.{One}
+use Rattle.look_many.specs.declared.found.Many.{Many}
+use Rattle.look_many.specs.declared.seeker.Seeker.{Seeker}
+use Rattle.look_many.specs.declared.seeker.Line.{Line}
+use Rattle.look_many.specs.declared.seeker.ManyFault.{ManyFault}
+use Rattle.look_many.specs.declared.seeker.ManyFault.TheVariants.{NoMemory}
+use Rattle.look_many.specs.Many.{Frame, nothing_read, EndsAtForeign}
+use Rattle.look_many.specs.ManyLooked.{setting_for, quest_for, seeds_for, reads_for, all_read, IsJournalFor, IsFound, frame_for, note_of, noted, seeks, Errand, answering, losing, did_of, answer_in, ManyTold, drawn_by, journals_of, ManyLooked, TellsEarly, ManyBegan, IsWithinLimits}
+use Rattle.look_many.specs.inner.Crowd.{whose, IsLegal, count_of, ManyShow, Stand, IsFrame}
+use Rattle.look_many.specs.inner.ManySteps.{ShowsEarly, ShowsForeign}
+use Rattle.look_many.specs.inner.Going.{Lives, Goes, WentWhole, EndsWhole}
+use Rattle.look_many.specs.inner.Seats.{IsSeekerFor, IsDone, Rows}
+use Rattle.look_many.specs.inner.Ends.{Task, Starts, FoundBack, StoppedBack}
+use Rattle.look_many.proofs.Starting.{begin_seeds, all_fresh_of}
+use Rattle.look_many.proofs.Whole.{begins, told_whole, tells_early, ends_at_foreign}
+use Rattle.look_many.proofs.Zips.{zip_length, zip_then, zip_weaker}
+use Rattle.look_many.proofs.Hosting.{ran_on_none}
+use Rattle.look_many.proofs.Ending.{Remembers, ended_ran, ended_memory, driver_calls_are, lookup_calls}
+
+-- ---- one lookup
+
+seeds_append : (J K : List Entry) → seeds (J ++ K) ≡ seeds J ++ seeds K
+unfolding seeds
+seeds_append J K = flat_map-append seed_of J K
+
+seeds_noted : (paths i : ℕ) (cs : List Contact) → noted (seeded_from paths i cs) ≡ []
+seeds_noted paths i [] = refl
+seeds_noted paths i (c ∷ cs) = seeds_noted paths (i + 1) cs
+
+module _ (server : ServeSetting) (setting : ManySetting) (table : TableState) (limits : IsWithinLimits setting) (small : server.k < 256) where
+  -- a lookup that lived on since it began
+  live_setting : (target : Id) (old new : Seeker) → IsSeekerFor server setting table target old → Lives old new → new.lookup.book.setting ≡ setting_for server setting target
+  live_setting target old new s l = l.setting ∙ s.book.setting_is
+
+  live_seeds : (target : Id) (old new : Seeker) → IsSeekerFor server setting table target old → Lives old new → seeds new.lookup.book.journal ≡ seeds_for server table target
+  live_seeds target old new s l = ap seeds l.journal ∙ seeds_append old.lookup.book.journal l.more ∙ ap (λ x. seeds old.lookup.book.journal ++ x) l.no_seeds ∙ append-nil (seeds old.lookup.book.journal) ∙ begin_seeds server setting table limits small target old s
+
+  live_notes : (target : Id) (old new : Seeker) → IsSeekerFor server setting table target old → (l : Lives old new) → noted new.lookup.book.journal ≡ noted l.more
+  live_notes target old new s l = ap noted l.journal ∙ flat_map-append note_of old.lookup.book.journal l.more ∙ ap (λ x. x ++ noted l.more) (ap noted s.book.journal ∙ seeds_noted setting.paths 0 (seeds_for server table target))
+
+  journal_for : (target : Id) (old new : Seeker) → IsSeekerFor server setting table target old → Lives old new → IsLegal new → IsJournalFor server setting table target new.lookup.book.journal
+  journal_for target old new s l legal = record {
+    legal = subst (λ (x : Setting). Legal x new.lookup.book.journal) (live_setting target old new s l) legal;
+    seeds_are = live_seeds target old new s l;
+  }
+
+  found_for : (target : Id) (old new : Seeker) (one : One) → IsSeekerFor server setting table target old → Lives old new → IsDone new.lookup.book one → IsFound server setting table target one
+  found_for target old new one s l d =
+      let at = live_setting target old new s l in
+      let legal : Legal (setting_for server setting target) one.journal = subst (λ (x : Setting). Legal x one.journal) at d.legal in
+      record {
+        journal = record { legal = legal; seeds_are = ap seeds d.journal ∙ live_seeds target old new s l };
+        run_out = λ p lt. subst (λ (x : Setting). RunOut x p one.journal) at (d.run_out p (subst (λ (x : Setting). p < x.paths) (sym at) lt));
+        found = d.found ∙ ap (λ (x : Setting). result_of x one.journal) at;
+        counted = d.counted;
+        own_answers = own_answers (setting_for server setting target) one.journal legal;
+      }
+
+  same_whose : (target : Id) (old new : Seeker) (J : List Entry) → IsSeekerFor server setting table target old → Lives old new → J ≡ new.lookup.book.journal → whose new ≡ reads_for server setting target J
+  same_whose target old new J s l is =
+      ap (λ (x : Setting). record { setting = x; quest = new.quest; journal = new.lookup.book.journal }) (live_setting target old new s l)
+      ∙ ap (λ q. record { setting = setting_for server setting target; quest = q; journal = new.lookup.book.journal }) (l.quest ∙ s.quest)
+      ∙ ap (λ j. record { setting = setting_for server setting target; quest = quest_for server setting target; journal = j }) (sym is)
+
+  -- ---- all of them
+
+  pub all_found : (ts : List Id) (olds news : List Seeker) (ones : List One) → AllZip (IsSeekerFor server setting table) ts olds → AllZip Goes olds news → AllZip (λ k one. IsDone k.lookup.book one) news ones → AllZip (IsFound server setting table) ts ones
+  all_found ts olds news ones s g d =
+      zip_then (λ t (k : Seeker). (old : Seeker) × IsSeekerFor server setting table t old × Lives old k) (λ (k : Seeker) (one : One). IsDone k.lookup.book one) (IsFound server setting table) (λ t k one x y. found_for t x.0 k one x.1 x.2 y) ts news ones
+      (zip_then (IsSeekerFor server setting table) Goes (λ t (k : Seeker). (old : Seeker) × IsSeekerFor server setting table t old × Lives old k) (λ t o k x y. (o, x, y.lives)) ts olds news s g) d
+
+  all_whose : (ts : List Id) (olds news : List Seeker) (ones : List One) → AllZip (IsSeekerFor server setting table) ts olds → AllZip Goes olds news → AllZip (λ k one. IsDone k.lookup.book one) news ones → map whose news ≡ all_read server setting ts (journals_of ones)
+  all_whose [] [] [] [] s g d = refl
+  all_whose [] [] [] (o ∷ ones) s g d = absurd d
+  all_whose [] [] (n ∷ news) ones s g d = absurd g
+  all_whose [] (k ∷ olds) news ones s g d = absurd s
+  all_whose (t ∷ ts) [] news ones s g d = absurd s
+  all_whose (t ∷ ts) (k ∷ olds) [] ones s g d = absurd g
+  all_whose (t ∷ ts) (k ∷ olds) (n ∷ news) [] s g d = absurd d
+  all_whose (t ∷ ts) (k ∷ olds) (n ∷ news) (o ∷ ones) s g d =
+      ap (λ w. w ∷ map whose news) (same_whose t k n o.journal s.0 g.0.lives d.0.journal) ∙ ap (λ ws. reads_for server setting t o.journal ∷ ws) (all_whose ts olds news ones s.1 g.1 d.1)
+
+  each_journal : (ts : List Id) (olds lasts : List Seeker) → AllZip (IsSeekerFor server setting table) ts olds → AllZip Lives olds lasts → AllByRecursion IsLegal lasts → AllZip (IsJournalFor server setting table) ts (map (λ (k : Seeker). k.lookup.book.journal) lasts)
+  each_journal [] [] [] s l legal = tt
+  each_journal [] [] (n ∷ lasts) s l legal = absurd l
+  each_journal [] (k ∷ olds) lasts s l legal = absurd s
+  each_journal (t ∷ ts) [] lasts s l legal = absurd s
+  each_journal (t ∷ ts) (k ∷ olds) [] s l legal = absurd l
+  each_journal (t ∷ ts) (k ∷ olds) (n ∷ lasts) s l legal = (journal_for t k n s.0 l.0 legal.0, each_journal ts olds lasts s.1 l.1 legal.1)
+
+  last_whose : (ts : List Id) (olds lasts : List Seeker) → AllZip (IsSeekerFor server setting table) ts olds → AllZip Lives olds lasts → map whose lasts ≡ all_read server setting ts (map (λ (k : Seeker). k.lookup.book.journal) lasts)
+  last_whose [] [] [] s l = refl
+  last_whose [] [] (n ∷ lasts) s l = absurd l
+  last_whose [] (k ∷ olds) lasts s l = absurd s
+  last_whose (t ∷ ts) [] lasts s l = absurd s
+  last_whose (t ∷ ts) (k ∷ olds) [] s l = absurd l
+  last_whose (t ∷ ts) (k ∷ olds) (n ∷ lasts) s l = ap (λ w. w ∷ map whose lasts) (same_whose t k n n.lookup.book.journal s.0 l.0 refl) ∙ ap (λ ws. reads_for server setting t n.lookup.book.journal ∷ ws) (last_whose ts olds lasts s.1 l.1)
+
+  -- whom the table was told of for the i-th lookup
+  pub worker_calls : (ts : List Id) (olds news : List Seeker) (ones : List One) → AllZip (IsSeekerFor server setting table) ts olds → AllByRecursion (λ (k : Seeker). mine k.pass ≡ []) olds → AllZip Goes olds news → AllZip (λ k one. IsDone k.lookup.book one) news ones
+      → (i : ℕ) (k : Seeker) (o : One) → i < length ts → calls_in (mine (get_or news i k).pass) ≡ seen_calls (noted (get_or ones i o).journal)
+  worker_calls [] olds news ones s m g d i k o lt = absurd (omega (arith, lt))
+  worker_calls (t ∷ ts) [] news ones s m g d i k o lt = absurd s
+  worker_calls (t ∷ ts) (x ∷ olds) [] ones s m g d i k o lt = absurd g
+  worker_calls (t ∷ ts) (x ∷ olds) (n ∷ news) [] s m g d i k o lt = absurd d
+  worker_calls (t ∷ ts) (x ∷ olds) (n ∷ news) (y ∷ ones) s m g d zero k o lt =
+      ap calls_in (g.0.grew ∙ ap (λ l. l ++ g.0.told) m.0) ∙ g.0.calls ∙ ap seen_calls (sym (live_notes t x n s.0 g.0.lives) ∙ ap noted (sym d.0.journal))
+  worker_calls (t ∷ ts) (x ∷ olds) (n ∷ news) (y ∷ ones) s m g d (suc i) k o lt = worker_calls ts olds news ones s.1 m.1 g.1 d.1 i k o (omega (arith, lt))
+
+-- ---- memory
+
+seat_memory : (olds news : List Seeker) → AllByRecursion (λ (k : Seeker). mine k.pass ≡ []) olds → AllZip Goes olds news → All (λ (k : Seeker). All (λ (m : Made TableCall TableReply). HasMemory m.reply) (mine k.pass)) news
+seat_memory [] [] m g = All-nil (λ (k : Seeker). All (λ (m : Made TableCall TableReply). HasMemory m.reply) (mine k.pass))
+seat_memory [] (n ∷ news) m g = absurd g
+seat_memory (k ∷ olds) [] m g = absurd g
+seat_memory (k ∷ olds) (n ∷ news) m g =
+    All-cons (λ (x : Seeker). All (λ (y : Made TableCall TableReply). HasMemory y.reply) (mine x.pass)) n news
+    (All-same (λ (y : Made TableCall TableReply). HasMemory y.reply) (mine n.pass) g.0.told (g.0.grew ∙ ap (λ l. l ++ g.0.told) m.0) g.0.memory) (seat_memory olds news m.1 g.1)
+
+pub errand_tables : (es : List Errand) → All HadMemory (flat_map answer_in es) → All Remembers (flat_map (at_table 0) (map did_of es))
+errand_tables [] h = All-nil Remembers
+errand_tables (answering d ∷ es) h =
+    All-append Remembers (at_table 0 d) (flat_map (at_table 0) (map did_of es)) (λ j e lt f. one_table d (All-head HadMemory d (flat_map answer_in es) h) j e lt) (errand_tables es (All-tail HadMemory d (flat_map answer_in es) h))
+  where
+    one_table : (x : Did) → HadMemory x → All (λ (m : Made TableCall TableReply). HasMemory m.reply) (at_table 0 x)
+    one_table x k = All-same (λ (m : Made TableCall TableReply). HasMemory m.reply) (at_table 0 x) (at_table 0 x ++ []) (sym (append-nil (at_table 0 x))) (did_table 0 (x ∷ []) (All-cons HadMemory x [] k (All-nil HadMemory)))
+errand_tables (losing c reply ∷ es) h = All-cons Remembers _ (flat_map (at_table 0) (map did_of es)) (λ f. f tt) (errand_tables es h)
+
+errand_peers : (es : List Errand) → All HadMemory (flat_map answer_in es) → All (λ (m : Made PeerCall PeerReply). HasRoom m.reply) (flat_map (at_peers 0) (map did_of es))
+errand_peers [] h = All-nil (λ (m : Made PeerCall PeerReply). HasRoom m.reply)
+errand_peers (answering d ∷ es) h =
+    All-append (λ (m : Made PeerCall PeerReply). HasRoom m.reply) (at_peers 0 d) (flat_map (at_peers 0) (map did_of es))
+    (All-same (λ (m : Made PeerCall PeerReply). HasRoom m.reply) (at_peers 0 d) (at_peers 0 d ++ []) (sym (append-nil (at_peers 0 d))) (did_peers 0 (d ∷ []) (All-cons HadMemory d [] (All-head HadMemory d (flat_map answer_in es) h) (All-nil HadMemory))))
+    (errand_peers es (All-tail HadMemory d (flat_map answer_in es) h))
+errand_peers (losing c reply ∷ es) h = errand_peers es h
+
+errand_items : (es : List Errand) → All HadMemory (flat_map answer_in es) → All (λ (m : Made ItemCall ItemReply). HasItemRoom m.reply) (flat_map (at_items 0) (map did_of es))
+errand_items [] h = All-nil (λ (m : Made ItemCall ItemReply). HasItemRoom m.reply)
+errand_items (answering d ∷ es) h =
+    All-append (λ (m : Made ItemCall ItemReply). HasItemRoom m.reply) (at_items 0 d) (flat_map (at_items 0) (map did_of es))
+    (All-same (λ (m : Made ItemCall ItemReply). HasItemRoom m.reply) (at_items 0 d) (at_items 0 d ++ []) (sym (append-nil (at_items 0 d))) (did_items 0 (d ∷ []) (All-cons HadMemory d [] (All-head HadMemory d (flat_map answer_in es) h) (All-nil HadMemory))))
+    (errand_items es (All-tail HadMemory d (flat_map answer_in es) h))
+errand_items (losing c reply ∷ es) h = errand_items es h
+
+fresh_seats : (turn : TurnState TableState) (r : ℕ) (ks : List Seeker) (ps : List TablePass) → map (λ (k : Seeker). k.pass) ks ≡ ps → AllByRecursion (λ (p : TablePass). mine p ≡ []) ps → AllByRecursion (λ (k : Seeker). mine k.pass ≡ []) ks
+fresh_seats turn r [] ps is h = tt
+fresh_seats turn r (k ∷ ks) [] is h = absurd cc
+fresh_seats turn r (k ∷ ks) (p ∷ ps) is h = (ap mine (first is) ∙ h.0, fresh_seats turn r ks ps (rest is) h.1)
+  where
+    first : {A : Type 0} {x y : A} {xs ys : List A} → x ∷ xs ≡ y ∷ ys → x ≡ y
+    first e = cc
+
+    rest : {A : Type 0} {x y : A} {xs ys : List A} → x ∷ xs ≡ y ∷ ys → xs ≡ ys
+    rest e = cc
+
+fresh_made : (turn : TurnState TableState) (r n : ℕ) → AllByRecursion (λ (p : TablePass). mine p ≡ []) (map (fresh turn.id) (range_with_len r n))
+fresh_made turn r zero = tt
+fresh_made turn r (suc n) = (refl, fresh_made turn (r + 1) n)
+
+-- ---- the whole
+
+module _ (k : Task) (r : Rows) (before after : TableState) (table_calls : ℕ) (held : List Held) (peers_calls : ℕ) (shelf : List HeldItem) (items_calls : ℕ)
+    (t : Closed TableMay TableStep table_after r.tables r.table_row after table_calls) (p : Closed PeersMay PeersStep peers_after r.stores r.peers_row held peers_calls) (i : Closed ItemMay ItemStep item_after r.shelves r.items_row shelf items_calls)
+    (start : r.tables.start ≡ before) (no_peers : r.stores.start ≡ []) (no_items : r.shelves.start ≡ []) (limits : IsWithinLimits k.setting) (small : k.server.k < 256)
+    (words words' : WordsState) (told told' : Option (List Event)) where
+  seekers_for : (s : Stand) → Starts k r words told s → AllZip (IsSeekerFor k.server k.setting before) k.targets s.seekers
+  seekers_for s b = subst (λ table. AllZip (IsSeekerFor k.server k.setting table) k.targets s.seekers) start b.seekers
+
+  no_calls : (s : Stand) → Starts k r words told s → AllByRecursion (λ (x : Seeker). mine x.pass ≡ []) s.seekers
+  no_calls s b = fresh_seats r.tables 1 s.seekers (map (fresh r.tables.id) (range_with_len 1 (length k.targets))) b.passes (fresh_made r.tables 1 (length k.targets))
+
+  frame : Frame
+  frame = frame_for k.accepts k.tags k.server words k.receives
+
+  is_frame : (s : Stand) → Starts k r words told s → IsFrame k.accepts k.tags k.server s.words.seed frame
+  unfolding frame
+  is_frame s b = record { accepts_is = refl; tags_is = refl; server_is = refl; seed_is = ap (λ (w : WordsState). w.seed) (sym b.words_are) }
+
+  -- the first event shows where they begin
+  shown_first : (s : Stand) → Starts k r words told s → Grows told s.told (λ events. ManyShow true frame (count_of s.seekers) s.seekers s.line s.words.place None nothing_read events)
+  unfolding frame
+  shown_first s b =
+      grows_weaker told s.told _ _ b.now_told (λ es e.
+      subst (λ l. ManyShow true frame (count_of s.seekers) s.seekers s.line s.words.place None nothing_read l) (sym e)
+      (subst (λ (w : WordsState). ManyShow true frame (count_of s.seekers) s.seekers s.line w.place None nothing_read (Now s.line.moment ∷ [])) (sym b.words_are)
+      (subst (λ (l : Line). ManyShow true frame (count_of s.seekers) s.seekers l words.place None nothing_read (Now s.line.moment ∷ [])) (sym b.line)
+      (begins frame s.line.moment s.seekers (all_fresh_of k.server k.setting before limits small k.targets s.seekers (seekers_for s b))))))
+
+  host_table : (s : Stand) → Starts k r words told s → mine s.host.table ≡ []
+  host_table s b = ap (λ (h : Hands). mine h.table) b.host
+
+  host_peers : (s : Stand) → Starts k r words told s → mine s.host.peers ≡ []
+  host_peers s b = ap (λ (h : Hands). mine h.peers) b.host
+
+  host_items : (s : Stand) → Starts k r words told s → mine s.host.items ≡ []
+  host_items s b = ap (λ (h : Hands). mine h.items) b.host
+
+  -- the driver's own calls, from none
+  made_table : (s : Stand) (h : Hands) (did : List Did) → Starts k r words told s → Grew s.host h did → mine h.table ≡ flat_map (at_table 0) did
+  made_table s h did b g = g.table ∙ ap (λ l. l ++ flat_map (at_table s.host.table.role) did) (host_table s b) ∙ ap (λ (x : Hands). flat_map (at_table x.table.role) did) b.host
+
+  made_peers : (s : Stand) (h : Hands) (did : List Did) → Starts k r words told s → Grew s.host h did → mine h.peers ≡ flat_map (at_peers 0) did
+  made_peers s h did b g = g.peers ∙ ap (λ l. l ++ flat_map (at_peers s.host.peers.role) did) (host_peers s b) ∙ ap (λ (x : Hands). flat_map (at_peers x.peers.role) did) b.host
+
+  made_items : (s : Stand) (h : Hands) (did : List Did) → Starts k r words told s → Grew s.host h did → mine h.items ≡ flat_map (at_items 0) did
+  made_items s h did b g = g.items ∙ ap (λ l. l ++ flat_map (at_items s.host.items.role) did) (host_items s b) ∙ ap (λ (x : Hands). flat_map (at_items x.items.role) did) b.host
+
+  grew_on : (a b c : Hands) (d e : List Did) → SameHands a b → Grew a b d → Grew b c e → Grew a c (d ++ e)
+  grew_on a b c d e same g h = record {
+    table = h.table ∙ ap (λ l. l ++ flat_map (at_table b.table.role) e) g.table ∙ append_assoc (mine a.table) (flat_map (at_table a.table.role) d) (flat_map (at_table b.table.role) e)
+        ∙ ap (λ n. mine a.table ++ (flat_map (at_table a.table.role) d ++ flat_map (at_table n) e)) same.table.role ∙ ap (λ l. mine a.table ++ l) (sym (flat_map-append (at_table a.table.role) d e));
+    peers = h.peers ∙ ap (λ l. l ++ flat_map (at_peers b.peers.role) e) g.peers ∙ append_assoc (mine a.peers) (flat_map (at_peers a.peers.role) d) (flat_map (at_peers b.peers.role) e)
+        ∙ ap (λ n. mine a.peers ++ (flat_map (at_peers a.peers.role) d ++ flat_map (at_peers n) e)) same.peers.role ∙ ap (λ l. mine a.peers ++ l) (sym (flat_map-append (at_peers a.peers.role) d e));
+    items = h.items ∙ ap (λ l. l ++ flat_map (at_items b.items.role) e) g.items ∙ append_assoc (mine a.items) (flat_map (at_items a.items.role) d) (flat_map (at_items b.items.role) e)
+        ∙ ap (λ n. mine a.items ++ (flat_map (at_items a.items.role) d ++ flat_map (at_items n) e)) same.items.role ∙ ap (λ l. mine a.items ++ l) (sym (flat_map-append (at_items a.items.role) d e));
+  }
+
+  pub many_looked : (many : Many) → FoundBack k r words words' told told' many → ManyLooked k.accepts k.tags k.server k.setting k.targets k.receives before after words words' told told' many
+  unfolding frame
+  many_looked many b =
+      let s = b.old in
+      let u = b.new in
+      let st = b.starts in
+      let w = b.went in
+      let olds = seekers_for s st in
+      let count = zip_length Goes s.seekers u.seekers w.each ∙ zip_length (IsSeekerFor k.server k.setting before) k.targets s.seekers olds in
+      let same_count : count_of s.seekers ≡ count_of u.seekers = length-map s.seekers whose ∙ sym (zip_length Goes s.seekers u.seekers w.each) ∙ sym (length-map u.seekers whose) in
+      let errands = w.ran.errands in
+      let grew = w.ran.grew in
+      let had : All HadMemory (flat_map answer_in errands) = subst (All HadMemory) (sym w.ran.answers) w.ran.memory in
+      let at_t = made_table s u.host (map did_of errands) st grew in
+      let at_p = made_peers s u.host (map did_of errands) st grew in
+      let at_i = made_items s u.host (map did_of errands) st grew in
+      record {
+        each = all_found k.server k.setting before limits small k.targets s.seekers u.seekers many.outcomes olds w.each b.found;
+        read = w.read;
+        owners_are = b.owners_are ∙ w.owners_are;
+        tells = subst (λ out. Grows told out (ManyTold frame (all_read k.server k.setting k.targets (journals_of many.outcomes)) w.read many.received many.replied)) b.told_is
+            (grows_weaker told u.told _ _ (w.shows frame (count_of s.seekers) told (is_frame s st) (shown_first s st)) (λ es x.
+            subst (λ ws. ManyTold frame ws w.read many.received many.replied es) (all_whose k.server k.setting before limits small k.targets s.seekers u.seekers many.outcomes olds w.each b.found)
+            (subst (λ n. ManyTold frame (map whose u.seekers) w.read n many.replied es) (sym b.received_are)
+            (subst (λ n. ManyTold frame (map whose u.seekers) w.read u.line.received n es) (sym b.replied_are)
+            (told_whole frame u.words.place u.seekers u.line w.read es (subst (λ n. ManyShow false frame n u.seekers u.line u.words.place None w.read es) same_count x) w.none_open w.enough)))));
+        drawn = sym b.words_are ∙ w.drawn ∙ ap (λ x. drawn_by x w.read.owners) st.words_are;
+        ran = ended_ran k.server k.targets r before after table_calls held peers_calls shelf items_calls t p i start no_peers no_items u.host u.seekers b.back count;
+        memory = ended_memory k.server k.targets r before after table_calls held peers_calls shelf items_calls t p i start no_peers no_items u.host u.seekers b.back count
+            (All-same Remembers (mine u.host.table) (flat_map (at_table 0) (map did_of errands)) at_t (errand_tables errands had))
+            (seat_memory s.seekers u.seekers (no_calls s st) w.each)
+            (All-same (λ (m : Made PeerCall PeerReply). HasRoom m.reply) (mine u.host.peers) (flat_map (at_peers 0) (map did_of errands)) at_p (errand_peers errands had))
+            (All-same (λ (m : Made ItemCall ItemReply). HasItemRoom m.reply) (mine u.host.items) (flat_map (at_items 0) (map did_of errands)) at_i (errand_items errands had));
+        errands = errands;
+        are = record { answers = w.ran.answers; losses = w.ran.losses };
+        driver = driver_calls_are k.server k.targets r before after table_calls held peers_calls shelf items_calls t p i start no_peers no_items u.host u.seekers b.back count (map did_of errands) at_t at_p at_i;
+        workers = λ n o lt. workers n o lt;
+      }
+    where
+      first_of : (ks : List Seeker) → 0 < length ks → Seeker
+      first_of [] lt = absurd (omega (arith, lt))
+      first_of (x ∷ ks) lt = x
+
+      workers : (n : ℕ) (o : One) → n < length k.targets → calls_in (calls_of (suc n) (ended_ran k.server k.targets r before after table_calls held peers_calls shelf items_calls t p i start no_peers no_items b.new.host b.new.seekers b.back (zip_length Goes b.old.seekers b.new.seekers b.went.each ∙ zip_length (IsSeekerFor k.server k.setting before) k.targets b.old.seekers (seekers_for b.old b.starts))).tables) ≡ seen_calls (noted (slice_index_or many.outcomes n o).journal)
+      workers n o lt =
+          let count = zip_length Goes b.old.seekers b.new.seekers b.went.each ∙ zip_length (IsSeekerFor k.server k.setting before) k.targets b.old.seekers (seekers_for b.old b.starts) in
+          let d : Seeker = first_of b.new.seekers (omega (arith, lt, count)) in
+          ap calls_in (lookup_calls k.server k.targets r before after table_calls held peers_calls shelf items_calls t p i start no_peers no_items b.new.host b.new.seekers b.back count n d lt)
+          ∙ worker_calls k.server k.setting before limits small k.targets b.old.seekers b.new.seekers many.outcomes (seekers_for b.old b.starts) (no_calls b.old b.starts) b.went.each b.found n d o lt
+
+  pub many_began : (fault : ManyFault) → StoppedBack k r words words' told told' fault → ManyBegan k.accepts k.tags k.server k.setting k.targets k.receives before after words words' told told' fault
+  unfolding frame
+  many_began fault b =
+      let s = b.old in
+      let st = b.starts in
+      let e = b.ends in
+      let l = e.last in
+      let olds = seekers_for s st in
+      let same_count : count_of s.seekers ≡ count_of l.seekers = length-map s.seekers whose ∙ sym (zip_length Lives s.seekers l.seekers e.each) ∙ sym (length-map l.seekers whose) in
+      let whose_are = last_whose k.server k.setting before limits small k.targets s.seekers l.seekers olds e.each in
+      let count = b.len ∙ zip_length (IsSeekerFor k.server k.setting before) k.targets s.seekers olds in
+      let did = map did_of e.ran.errands in
+      let on = e.ran_on.0 in
+      let grew : Grew s.host b.host (did ++ on) = grew_on s.host l.host b.host did on e.same e.ran.grew e.ran_on.1 in
+      let are = driver_calls_are k.server k.targets r before after table_calls held peers_calls shelf items_calls t p i start no_peers no_items b.host b.seekers b.back count (did ++ on) (made_table s b.host (did ++ on) st grew) (made_peers s b.host (did ++ on) st grew) (made_items s b.host (did ++ on) st grew) in
+      let calls = map (seeks k.server before) k.targets in
+      let split = sym (append_assoc calls did on) in
+      record {
+        journals = map (λ (x : Seeker). x.lookup.book.journal) l.seekers;
+        each = each_journal k.server k.setting before limits small k.targets s.seekers l.seekers olds e.each e.legal;
+        read = e.read;
+        tells = grows_weaker told told' _ _ (e.shows frame (count_of s.seekers) told (is_frame s st) (shown_first s st)) (λ es x.
+            subst (λ ws. TellsEarly fault frame ws e.read es) whose_are (tells_early e.busy fault frame l e.read es (subst (λ n. ShowsEarly e.busy fault frame n l e.read es) same_count x)));
+        strays = λ is. grows_weaker told told' _ _ (e.strays is frame (count_of s.seekers) told (is_frame s st) (shown_first s st)) (λ es x.
+            subst (λ ws. EndsAtForeign frame ws es e.read max_strays) whose_are (ends_at_foreign e.busy frame l e.read max_strays es (subst (λ n. ShowsForeign e.busy frame n l e.read max_strays es) same_count x)));
+        drawn = e.drawn ∙ ap (λ x. drawn_by x e.read.owners) st.words_are;
+        ran = ended_ran k.server k.targets r before after table_calls held peers_calls shelf items_calls t p i start no_peers no_items b.host b.seekers b.back count;
+        errands = e.ran.errands;
+        are = record { answers = e.ran.answers; losses = e.ran.losses };
+        driver = record {
+          tables = (flat_map (at_table 0) on, are.tables ∙ ap (flat_map (at_table 0)) split ∙ flat_map-append (at_table 0) (calls ++ did) on);
+          stores = (flat_map (at_peers 0) on, are.stores ∙ ap (flat_map (at_peers 0)) split ∙ flat_map-append (at_peers 0) (calls ++ did) on);
+          shelves = (flat_map (at_items 0) on, are.shelves ∙ ap (flat_map (at_items 0)) split ∙ flat_map-append (at_items 0) (calls ++ did) on);
+        };
+      }
+
+-- where all are over, and there was no memory to say what was found
+pub ends_finished : (k : Task) (s u : Stand) (owners : List ℕ) → SameHands s.host u.host → WentWhole k.accepts k.tags k.server s u owners → EndsWhole NoMemory k.accepts k.tags k.server s u.words u.host u.told
+ends_finished k s u owners same w = record {
+  busy = false;
+  last = u;
+  read = w.read;
+  shows = λ f count began is x. grows_weaker began u.told _ _ (w.shows f count began is x) (λ es y. record { front = es; shows = y; whole = inl refl });
+  strays = λ is. absurd cc;
+  drawn = w.drawn;
+  same = same;
+  ran = w.ran;
+  ran_on = ran_on_none u.host;
+  legal = w.legal;
+  each = zip_weaker Goes Lives (λ x y g. g.lives) s.seekers u.seekers w.each;
+}

@@ -1,0 +1,134 @@
+-- Lookups that are made one after another, and what they leave.
+use Rattle.std.proofs.Common.{◌≡◌, ℕ, zero, suc, ◌+◌, ◌<◌, ◌≤◌, List, [], ◌∷◌, ◌++◌, length, get_or, refl, sym, ap, subst, ◌∙◌, arith, Result}
+use Rattle.std.specs.Prelude.{map, drop, reverse}
+use Rattle.std.specs.List.{AllByRecursion, AllZip, range_with_len}
+use Rattle.std.proofs.lemmas.List.{append_assoc, reverse-append}
+use Rattle.std.proofs.lemmas.List.FromFn.{length-map-range_with_len}
+use Rattle.std.specs.List.{All}
+use Rattle.std.specs.List.Sorted.{IsStrictlySortedBy}
+use Rattle.kad_base.specs.declared.types.Id.{Id}
+use Rattle.kad_base.specs.declared.types.Contact.{Contact}
+use Rattle.kad_base.specs.Contacts.{IsUsable}
+use Rattle.kad_distance.specs.Order.{closeness}
+use Rattle.kad_distance.proofs.Chosen.{closest_few, closest_rises, closest_all}
+use Rattle.claim_book.specs.declared.types.Setting.{Setting}
+use Rattle.claim_book.specs.Calls.{Counted, IsFound as book_found}
+use Rattle.claim_book.specs.Legal.{Legal}
+use Rattle.claim_book.specs.Result.{result_of}
+use Rattle.claim_book.specs.RunOut.{RunOut}
+use Rattle.claim_book.specs.State.{BookState}
+use Rattle.contact_table.specs.TableState.{TableState}
+use Rattle.contact_table.specs.TableStep.{contacts_of}
+use Rattle.node_serve.specs.declared.setting.ServeSetting.{ServeSetting}
+use Rattle.look_many.specs.declared.found.ManySetting.{ManySetting}
+use Rattle.look_many.specs.declared.found.One.{One}
+use Rattle.kad_base.specs.declared.types.NoMemory.{NoMemory}
+use Rattle.turn_book.specs.Turns.{PassState}
+use Rattle.contact_table.specs.declared.calls.TableCall.{TableCall}
+use Rattle.contact_table.specs.declared.calls.TableReply.{TableReply}
+use Rattle.lookup_core.specs.declared.quest.Quest.{Quest}
+use Rattle.lookup_core.specs.declared.state.Lookup.{Lookup}
+use Rattle.look_many.specs.ManyLooked.{setting_for, quest_for, seeds_for}
+use Rattle.look_many.specs.inner.Seats.{IsBookFor, IsSeekerFor, IsDone, IsOverBook}
+
+-- ---- lists in step
+
+module _ {A B : Type 0} (R : A → B → Type 0) where
+  pub zip_more : (xs : List A) (ys : List B) (x : A) (y : B) → AllZip R xs ys → R x y → AllZip R (xs ++ x ∷ []) (ys ++ y ∷ [])
+  zip_more [] [] x y h r = (r, tt)
+  zip_more [] (z ∷ ys) x y h r = absurd h
+  zip_more (w ∷ xs) [] x y h r = absurd h
+  zip_more (w ∷ xs) (z ∷ ys) x y h r = (h.0, zip_more xs ys x y h.1 r)
+
+  pub zip_map : {C : Type 0} (f : C → B) (xs : List A) (cs : List C) → AllZip (λ a c. R a (f c)) xs cs → AllZip R xs (map f cs)
+  zip_map f [] [] h = tt
+  zip_map f [] (c ∷ cs) h = absurd h
+  zip_map f (x ∷ xs) [] h = absurd h
+  zip_map f (x ∷ xs) (c ∷ cs) h = (h.0, zip_map f xs cs h.1)
+
+-- ---- the seeds of a lookup
+
+few_of : (server : ServeSetting) (table : TableState) (target : Id) → length (seeds_for server table target) ≤ server.k
+few_of server table target = closest_few target server.k (contacts_of table)
+
+pub few_seeds : (server : ServeSetting) (setting : ManySetting) (table : TableState) (target : Id) (xs : List Contact) (s : Setting) → xs ≡ seeds_for server table target → s ≡ setting_for server setting target → length xs ≤ s.k
+few_seeds server setting table target xs s is set = (let few = few_of server table target in let n = ap length is in let k = ap (λ (x : Setting). x.k) set in omega (arith, few, n, k))
+
+pub ordered_seeds : (server : ServeSetting) (setting : ManySetting) (table : TableState) (target : Id) (xs : List Contact) (s : Setting) → xs ≡ seeds_for server table target → s ≡ setting_for server setting target → IsStrictlySortedBy (closeness s.target) xs
+ordered_seeds server setting table target xs s is set = subst (λ (x : Setting). IsStrictlySortedBy (closeness x.target) xs) (sym set) (subst (IsStrictlySortedBy (closeness target)) (sym is) (closest_rises target server.k (contacts_of table)))
+
+pub all_usable : (server : ServeSetting) (setting : ManySetting) (table : TableState) (target : Id) (xs : List Contact) (s : Setting) → All (IsUsable server.own) (contacts_of table) → xs ≡ seeds_for server table target → s ≡ setting_for server setting target → All (IsUsable s.own) xs
+all_usable server setting table target xs s usable is set = subst (λ (x : Setting). All (IsUsable x.own) xs) (sym set) (subst (All (IsUsable server.own)) (sym is) (closest_all target server.k (contacts_of table) (IsUsable server.own) usable))
+
+-- ---- the end of a lookup
+
+pub is_done : (book after : BookState) (o : One) → after ≡ book → book_found book.setting book.journal o.found o.counts → o.journal ≡ after.journal → Legal after.setting after.journal → IsDone book o
+is_done book after o same found journal legal =
+    let is : o.journal ≡ book.journal = journal ∙ ap (λ (b : BookState). b.journal) same in
+    record {
+      journal = is;
+      legal = subst (λ (s : Setting). Legal s o.journal) (ap (λ (b : BookState). b.setting) same) (subst (Legal after.setting) (sym journal) legal);
+      run_out = subst (λ J. (p : ℕ) → p < book.setting.paths → RunOut book.setting p J) (sym is) found.run_out;
+      found = found.is_result ∙ ap (result_of book.setting) (sym is);
+      counted = subst (λ J. Counted J o.counts) (sym is) found.counted;
+    }
+
+-- of the books that there were, these were finished, and the others are left
+pub record Finishing (all left : List BookState) (ones : List One) : Type 0 where
+  pub done : List BookState
+  pub are : reverse all ≡ done ++ reverse left
+  pub found : AllZip IsDone done ones
+  pub over : AllByRecursion IsOverBook (reverse left)
+
+-- ---- one after another
+
+module _ {A B : Type 0} (R : A → B → Type 0) where
+  -- where some are left on one side, so are there on the other
+  pub zip_left : (xs : List A) (ys : List B) (i : ℕ) → i < length xs → AllZip R (drop i xs) (reverse ys) → ys ≡ [] → ⊥
+  zip_left xs ys i lt h none = at_it xs i lt (subst (λ l. AllZip R (drop i xs) (reverse l)) none h)
+    where
+      at_it : (zs : List A) (j : ℕ) → j < length zs → AllZip R (drop j zs) [] → ⊥
+      at_it [] j l k = absurd (omega (arith, l))
+      at_it (z ∷ zs) zero l k = absurd k
+      at_it (z ∷ zs) (suc j) l k = at_it zs j (omega (arith, l)) k
+
+  -- the next of each go together, and so do those behind them
+  pub zip_next : (xs : List A) (ys : List B) (y : B) (i j : ℕ) (d : A) → suc i ≡ j → i < length xs → AllZip R (drop i xs) (y ∷ ys) → R (get_or xs i d) y × AllZip R (drop j xs) ys
+  zip_next [] ys y i j d e lt h = absurd (omega (arith, lt))
+  zip_next (x ∷ xs) ys y zero j d e lt h = subst (λ n. R x y × AllZip R (drop n (x ∷ xs)) ys) e h
+  zip_next (x ∷ xs) ys y (suc i) j d e lt h = subst (λ n. R (get_or xs i d) y × AllZip R (drop n (x ∷ xs)) ys) e (zip_next xs ys y i (suc i) d refl (omega (arith, lt)) h)
+
+module _ {B : Type 0} (f : ℕ → B) where
+  pub row_left : (ys : List B) (a n : ℕ) → 0 < n → reverse ys ≡ map f (range_with_len a n) → ys ≡ [] → ⊥
+  row_left ys a n some h none = (let e : 0 ≡ length (map f (range_with_len a n)) = ap (λ l. length (reverse l)) (sym none) ∙ ap length h in let l = length-map-range_with_len f a n in omega (arith, some, e, l))
+
+  pub row_next : (ys : List B) (y : B) (a b n m : ℕ) → suc m ≡ n → a + 1 ≡ b → y ∷ ys ≡ map f (range_with_len a n) → (y ≡ f a) × (ys ≡ map f (range_with_len b m))
+  row_next ys y a b n m e after h =
+      let both : y ∷ ys ≡ f a ∷ map f (range_with_len (a + 1) m) = h ∙ ap (λ k. map f (range_with_len a k)) (sym e) in
+      (first both, rest both ∙ ap (λ k. map f (range_with_len k m)) after)
+    where
+      first : {x z : B} {xs zs : List B} → x ∷ xs ≡ z ∷ zs → x ≡ z
+      first h = cc
+
+      rest : {x z : B} {xs zs : List B} → x ∷ xs ≡ z ∷ zs → xs ≡ zs
+      rest h = cc
+
+-- a lookup that is made of its book
+pub seeker_for : (server : ServeSetting) (setting : ManySetting) (table : TableState) (target : Id) (book : BookState) (quest : Quest) (lookup : Lookup) (pass : PassState TableCall TableReply) (settled : Result (Unit {0}) NoMemory) → IsBookFor server setting table target book → quest ≡ quest_for server setting target → lookup.book ≡ book → lookup.queries ≡ []
+    → IsSeekerFor server setting table target (record { quest = quest; lookup = lookup; pass = pass; settled = settled })
+seeker_for server setting table target book quest lookup pass settled h is same none = record { book = subst (IsBookFor server setting table target) (sym same) h; quest = is; none_open = none }
+
+turned : {A : Type 0} (xs rest : List A) (x : A) → xs ≡ rest ++ x ∷ [] → reverse xs ≡ x ∷ reverse rest
+turned xs rest x e = ap reverse e ∙ reverse-append rest (x ∷ [])
+
+-- the next book
+pub finishing_first : (all left rest : List BookState) (b : BookState) (ones : List One) → Finishing all left ones → left ≡ rest ++ b ∷ [] → IsOverBook b
+finishing_first all left rest b ones f e = (subst (AllByRecursion IsOverBook) (turned left rest b e) f.over).0
+
+pub finishing_next : (all left rest : List BookState) (b : BookState) (ones ones' : List One) (one : One) → Finishing all left ones → left ≡ rest ++ b ∷ [] → IsDone b one → ones' ≡ ones ++ one ∷ [] → Finishing all rest ones'
+finishing_next all left rest b ones ones' one f e done is = record {
+  done = f.done ++ b ∷ [];
+  are = f.are ∙ ap (λ l. f.done ++ l) (turned left rest b e) ∙ sym (append_assoc f.done (b ∷ []) (reverse rest));
+  found = subst (AllZip IsDone (f.done ++ b ∷ [])) (sym is) (zip_more IsDone f.done ones b one f.found done);
+  over = (subst (AllByRecursion IsOverBook) (turned left rest b e) f.over).1;
+}

@@ -1,0 +1,23 @@
+-- A lookup may go to another thread.
+use denote.Param.Send.{IsSend, sendable}
+use denote.Struct.Declared.{row}
+use Rattle.std.proofs.Crossing.{crosses}
+use Rattle.kad_base.proofs.types.NoMemory.TheSendSync.{the_send as no_memory_send}
+use Rattle.bucket_tree.proofs.bucket.Bucket.TheSendSync.{the_send as row_send}
+use Rattle.bucket_tree.proofs.node.Node.TheLaws.TheKnot.{send-Node as node_send}
+use Rattle.bucket_tree.specs.contracts.buckets.Buckets.{the_row as buckets_row}
+use Rattle.sibling_list.proofs.Siblings.TheSendSync.{the_send as siblings_send}
+use Rattle.contact_table.specs.contracts.table.Table.{the_row as table_row}
+use Rattle.claim_book.proofs.state.Book.TheSendSync.{the_send as book_send}
+use Rattle.query_book.proofs.Queries.TheSendSync.{the_send as queries_send}
+use Rattle.turn_book.proofs.row.Pass.TheSendSync.{the_send as pass_send}
+use Rattle.look_many.specs.contracts.seeker.Seeker.{the_type as seeker_type}
+
+buckets_send : IsSend buckets_row
+buckets_send = search (sendable, crosses, row_send, node_send) depth 14
+
+pub table_send : IsSend table_row
+table_send = search (sendable, siblings_send, buckets_send) depth 14
+
+pub seeker_send : IsSend (row seeker_type)
+seeker_send = search (sendable, crosses, no_memory_send, book_send, queries_send, pass_send, table_send) depth 20

@@ -1,0 +1,41 @@
+use Rattle.std.proofs.Common.{◌∙◌, refl}
+use Rattle.look_many.proofs.AskingAll.{asks_none, asks_then}
+use Rattle.look_many.proofs.ask.ask_path.Goals as goal
+
+pub asking-init : goal.asking-init
+asking-init g c =
+    let r = c.requires in
+    record {
+      len = refl;
+      asks = λ accepts tags server host. asks_none accepts tags server host c.args.words.now c.args.words.now c.args.seekers.now c.args.seekers.now c.args.line.now _ _ c.args.owners.now.items c.args.owners.now.items r.may refl refl refl refl;
+      may = r.may;
+      none_before = r.none_before;
+      moment = refl;
+      faults = refl;
+      kept = refl;
+    }
+
+pub asking-preserved : goal.asking-preserved
+asking-preserved g c =
+    let i = c.asking.invariant in
+    let e = c.ask_written.ensures in
+    let new = c.ask_written.new in
+    record {
+      len = e.len ∙ i.len;
+      asks = λ accepts tags server host. asks_then accepts tags server host c.args.words.now c.asking.words new.words c.args.seekers.now c.asking.seekers new.seekers c.args.line.now _ _ _ c.args.owners.now.items c.asking.owners.items new.owners.items (i.asks accepts tags server host) (e.asks accepts tags server host);
+      may = e.may;
+      none_before = e.none_before;
+      moment = e.moment ∙ i.moment;
+      faults = e.recv_faults ∙ i.faults;
+      kept = e.kept ∙ i.kept;
+    }
+
+pub returns-in-Ok-false-clause-asks : goal.returns-in-Ok-false-clause-asks
+returns-in-Ok-false-clause-asks g c accepts tags server host =
+    let new = c.ask_written.new in
+    asks_then accepts tags server host c.args.words.now c.asking.words new.words c.args.seekers.now c.asking.seekers new.seekers c.args.line.now _ _ _ c.args.owners.now.items c.asking.owners.items new.owners.items (c.asking.invariant.asks accepts tags server host) (c.ask_written.ensures.asks accepts tags server host)
+
+pub returns-in-Err-clause-asks : goal.returns-in-Err-clause-asks
+returns-in-Err-clause-asks g c accepts tags server host =
+    let new = c.ask_written.new in
+    asks_then accepts tags server host c.args.words.now c.asking.words new.words c.args.seekers.now c.asking.seekers new.seekers c.args.line.now _ _ _ c.args.owners.now.items c.asking.owners.items new.owners.items (c.asking.invariant.asks accepts tags server host) (c.ask_written.ensures.asks accepts tags server host)

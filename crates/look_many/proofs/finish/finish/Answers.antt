@@ -1,0 +1,5 @@
+use Rattle.look_many.proofs.Seating.{is_done}
+use Rattle.look_many.proofs.finish.finish.Goals as goal
+
+pub returns-in-Found : goal.returns-in-Found
+returns-in-Found c = is_done c.args.book c.apply.new.self _ c.in-Found.ensures.after c.in-Found.ensures.step c.into_journal.ensures.journal c.into_journal.ensures.legal

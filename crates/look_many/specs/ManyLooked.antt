@@ -1,0 +1,201 @@
+-- What is known of several lookups at the same time on one link, while the node answers what is for none of them: each has the
+-- promise of a lookup by its own journal, whatever the others meet (S/Kademlia, 2007, section 4.4), and the calls on what they
+-- share stand in legal runs.
+use Rattle.std.specs.Prelude.{◌≡◌, ◌≢◌, ◌⊎◌, ℕ, suc, ◌+◌, ◌<◌, ◌≤◌, List, [], ◌∷◌, ◌++◌, length, map, slice_index_or, Option, false}
+use Rattle.std.specs.List.{AllZip, flat_map}
+use Rattle.kad_base.specs.declared.types.Id.{Id}
+use Rattle.kad_base.specs.declared.types.Addr.{Addr}
+use Rattle.kad_base.specs.declared.types.Contact.{Contact}
+use Rattle.kad_base.specs.declared.types.Event.{Event}
+use Rattle.kad_base.specs.declared.types.Event.TheVariants.{Got}
+use Rattle.kad_base.specs.declared.types.Family.TheVariants.{Four}
+use Rattle.kad_base.specs.Limits.{max_paths, max_alpha, max_strays}
+use Rattle.kad_base.specs.Outside.{Grows}
+use Rattle.kad_base.specs.Serial.{calls_of}
+use Rattle.kad_distance.specs.KClosest.{k_closest}
+use Rattle.id_puzzles.specs.Drawn.{WordsState}
+use Rattle.claim_book.specs.declared.types.Setting.{Setting}
+use Rattle.claim_book.specs.declared.types.Entry.{Entry}
+use Rattle.claim_book.specs.declared.types.Entry.TheVariants.{Note}
+use Rattle.claim_book.specs.Calls.{Counted}
+use Rattle.claim_book.specs.Journal.{seeds}
+use Rattle.claim_book.specs.Legal.{Legal}
+use Rattle.claim_book.specs.Lineage.{GoesByOwnAnswers}
+use Rattle.claim_book.specs.Result.{result_of}
+use Rattle.claim_book.specs.RunOut.{RunOut}
+use Rattle.contact_table.specs.TableState.{TableState}
+use Rattle.contact_table.specs.TableStep.{contacts_of}
+use Rattle.contact_table.specs.Told.{calls_in, seen_calls}
+use Rattle.contact_table.specs.declared.calls.TableCall.TheVariants.{Closest, Failed}
+use Rattle.contact_table.specs.declared.calls.TableReply.{TableReply}
+use Rattle.contact_table.specs.declared.calls.TableReply.TheVariants.{List as Listed}
+use Rattle.lookup_core.specs.declared.quest.AskKind.TheVariants.{FindNode}
+use Rattle.lookup_core.specs.declared.quest.Quest.{Quest}
+use Rattle.lookup_core.specs.Sealed.{Accepts}
+use Rattle.node_serve.specs.declared.setting.ServeSetting.{ServeSetting}
+use Rattle.node_serve.specs.Calls.{Did, on_table}
+use Rattle.node_serve.specs.Sealing.{Tags}
+use Rattle.serve_crew.specs.Runs.{Ran, HadAllMemory, AreCalls, AreFirstCalls}
+use Rattle.look_many.specs.declared.seeker.ManyFault.{ManyFault}
+use Rattle.look_many.specs.declared.seeker.ManyFault.TheVariants.{LinkFault, Strays, NoMemory}
+use Rattle.look_many.specs.declared.found.ManySetting.{ManySetting}
+use Rattle.look_many.specs.declared.found.One.{One}
+use Rattle.look_many.specs.declared.found.Many.{Many}
+use Rattle.look_many.specs.Mine.{Whose}
+use Rattle.look_many.specs.Many.{Frame, Reading, Shown, ManyTell, ManyTellSoFar, EndsAtForeign}
+
+-- the most lookups at the same time
+abbrev pub max_lookups : ℕ
+max_lookups = 16
+
+-- the setting is within the limits
+pub record IsWithinLimits (setting : ManySetting) : Type 0 where
+  pub some_path : 1 ≤ setting.paths
+  pub few_paths : setting.paths ≤ max_paths
+  pub some_query : 1 ≤ setting.alpha
+  pub few_queries : setting.alpha ≤ max_alpha
+
+-- the contacts that a journal notes as having answered
+abbrev pub note_of : Entry → List Contact
+note_of (Note p c) = c ∷ []
+note_of other = []
+
+abbrev pub noted : List Entry → List Contact
+noted J = flat_map note_of J
+
+-- ---- each lookup
+
+-- what its book is set to
+abbrev pub setting_for : ServeSetting → ManySetting → Id → Setting
+setting_for server setting target = record { own = server.own; target = target; k = server.k; paths = setting.paths; alpha = setting.alpha; policy = server.policy }
+
+-- what it asks, and what it believes: the node answers others, so it isn't read-only (BEP 43)
+abbrev pub quest_for : ServeSetting → ManySetting → Id → Quest
+quest_for server setting target = record { own = server.own; target = target; policy = server.policy; kind = FindNode; family = Four; timeout = setting.timeout; sealed = server.sealed; read_only = false }
+
+-- the contacts that it begins with: the k closest of the table (Kademlia, 2002, section 2.3)
+abbrev pub seeds_for : ServeSetting → TableState → Id → List Contact
+seeds_for server table target = k_closest target server.k (contacts_of table)
+
+-- as events are read for it
+abbrev pub reads_for : ServeSetting → ManySetting → Id → List Entry → Whose
+reads_for server setting target journal = record { setting = setting_for server setting target; quest = quest_for server setting target; journal = journal }
+
+-- and all of them
+abbrev pub all_read : ServeSetting → ManySetting → List Id → List (List Entry) → List Whose
+all_read server setting [] journals = []
+all_read server setting (t ∷ ts) [] = []
+all_read server setting (t ∷ ts) (j ∷ js) = reads_for server setting t j ∷ all_read server setting ts js
+
+-- a legal journal that begins with these contacts
+pub record IsJournalFor (server : ServeSetting) (setting : ManySetting) (before : TableState) (target : Id) (journal : List Entry) : Type 0 where
+  pub legal : Legal (setting_for server setting target) journal
+  pub seeds_are : seeds journal ≡ seeds_for server before target
+
+-- what it found: all its paths have run out
+pub record IsFound (server : ServeSetting) (setting : ManySetting) (before : TableState) (target : Id) (one : One) : Type 0 where
+  pub journal : IsJournalFor server setting before target one.journal
+  pub run_out : (p : ℕ) → p < setting.paths → RunOut (setting_for server setting target) p one.journal
+  pub found : one.found ≡ result_of (setting_for server setting target) one.journal
+  pub counted : Counted one.journal one.counts
+  pub own_answers : GoesByOwnAnswers (setting_for server setting target) one.journal
+
+-- ---- all of them
+
+-- what they share
+abbrev pub frame_for : Accepts → Tags → ServeSetting → WordsState → ℕ → Frame
+frame_for accepts tags server words receives = record { accepts = accepts; tags = tags; server = server; seed = words.seed; place = words.place; wanted = receives }
+
+-- the call for the seeds of a lookup, and its reply
+abbrev pub seeks : ServeSetting → TableState → Id → Did
+seeks server table target = on_table (Closest target server.k) (Listed (seeds_for server table target))
+
+-- What the node did beside: a call for a foreign datagram, or one that tells the table whom a lookup lost, with its reply.
+pub data Errand : Type 0 where
+  answering : Did → Errand
+  losing : Contact → TableReply → Errand
+
+abbrev pub did_of : Errand → Did
+did_of (answering did) = did
+did_of (losing c reply) = on_table (Failed c) reply
+
+abbrev pub answer_in : Errand → List Did
+answer_in (answering did) = did ∷ []
+answer_in (losing c reply) = []
+
+abbrev pub loss_in : Errand → List Contact
+loss_in (answering did) = []
+loss_in (losing c reply) = c ∷ []
+
+-- all calls of the driver: first those for the seeds, in order; then, in some order, those that the foreign datagrams made and one
+-- for each contact that was lost by its deadline, both as the events are read
+abbrev pub driver_calls : ServeSetting → TableState → List Id → List Errand → List Did
+driver_calls server table targets errands = map (seeks server table) targets ++ map did_of errands
+
+-- these are what is read of the events
+pub record AreErrands (read : Reading) (errands : List Errand) : Type 0 where
+  pub answers : flat_map answer_in errands ≡ read.did
+  pub losses : flat_map loss_in errands ≡ read.lost
+
+-- the events tell all journals, and so many datagrams came and so many replies were sent
+pub record ManyTold (f : Frame) (ws : List Whose) (read : Reading) (received replied : ℕ) (events : List Event) : Type 0 where
+  pub tell : ManyTell f ws events read
+  pub received_are : received ≡ tell.end.got
+  pub replied_are : replied ≡ tell.end.replied
+
+-- a word for each query
+abbrev pub drawn_by : WordsState → List ℕ → WordsState
+drawn_by words owners = record words { place = words.place + length owners }
+
+abbrev pub journals_of : List One → List (List Entry)
+journals_of ones = map (λ one. one.journal) ones
+
+-- What several lookups did. Role 0 of the table's turn is the driver's, and role i + 1 that of the lookup i, which told it of the
+-- contacts that its journal notes, in order.
+pub record ManyLooked (accepts : Accepts) (tags : Tags) (server : ServeSetting) (setting : ManySetting) (targets : List Id) (receives : ℕ) (before after : TableState) (words words' : WordsState) (told told' : Option (List Event)) (many : Many) : Type 0 where
+  pub each : AllZip (IsFound server setting before) targets many.outcomes
+  pub read : Reading
+  pub owners_are : many.owners ≡ read.owners
+  pub tells : Grows told told' (ManyTold (frame_for accepts tags server words receives) (all_read server setting targets (journals_of many.outcomes)) read many.received many.replied)
+  pub drawn : words' ≡ drawn_by words read.owners
+  pub ran : Ran (suc (length targets)) before after
+  pub memory : HadAllMemory (suc (length targets)) before after ran
+  pub errands : List Errand
+  pub are : AreErrands read errands
+  pub driver : AreCalls (suc (length targets)) before after ran 0 (driver_calls server before targets errands)
+  pub workers : (i : ℕ) (d : One) → i < length targets → calls_in (calls_of (suc i) ran.tables) ≡ seen_calls (noted (slice_index_or many.outcomes i d).journal)
+
+-- ---- ended early
+
+-- The events tell the journals so far; or they do without the last one, where that is a datagram and no receive failed.
+pub record TellsEarly (fault : ManyFault) (f : Frame) (ws : List Whose) (read : Reading) (events : List Event) : Type 0 where
+  pub front : List Event
+  pub end : Shown
+  pub so_far : ManyTellSoFar f ws front read end
+  pub whole : (events ≡ front) ⊎ ((fault ≢ LinkFault) × (from : Addr) × (bytes : List ℕ) × (until : ℕ) × (at : ℕ) × (events ≡ front ++ Got from bytes until at ∷ []))
+
+-- some of it was done: there are legal journals with these seeds
+pub record ManyBegan (accepts : Accepts) (tags : Tags) (server : ServeSetting) (setting : ManySetting) (targets : List Id) (receives : ℕ) (before after : TableState) (words words' : WordsState) (told told' : Option (List Event)) (fault : ManyFault) : Type 0 where
+  pub journals : List (List Entry)
+  pub each : AllZip (IsJournalFor server setting before) targets journals
+  pub read : Reading
+  pub tells : Grows told told' (TellsEarly fault (frame_for accepts tags server words receives) (all_read server setting targets journals) read)
+  pub strays : fault ≡ Strays → Grows told told' (λ events. EndsAtForeign (frame_for accepts tags server words receives) (all_read server setting targets journals) events read max_strays)
+  pub drawn : words' ≡ drawn_by words read.owners
+  pub ran : Ran (suc (length targets)) before after
+  pub errands : List Errand
+  pub are : AreErrands read errands
+  pub driver : AreFirstCalls (suc (length targets)) before after ran 0 (driver_calls server before targets errands)
+
+-- there was no memory to begin
+pub record NoneBegan (targets : List Id) (before after : TableState) (words words' : WordsState) (told told' : Option (List Event)) (fault : ManyFault) : Type 0 where
+  pub fault_is : fault ≡ NoMemory
+  pub no_events : Grows told told' (λ events. events ≡ [])
+  pub same_words : words' ≡ words
+  pub ran : Ran (suc (length targets)) before after
+
+-- the lookups ended early
+abbrev pub ManyStopped : Accepts → Tags → ServeSetting → ManySetting → List Id → ℕ → TableState → TableState → WordsState → WordsState → Option (List Event) → Option (List Event) → ManyFault → Type 0
+ManyStopped accepts tags server setting targets receives before after words words' told told' fault =
+    ManyBegan accepts tags server setting targets receives before after words words' told told' fault
+    ⊎ NoneBegan targets before after words words' told told' fault

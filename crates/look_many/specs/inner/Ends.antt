@@ -1,0 +1,67 @@
+-- What several lookups leave, with all passes put back.
+use Rattle.std.specs.Prelude.{◌≡◌, ℕ, List, [], ◌∷◌, length, map, Option}
+use Rattle.std.specs.List.{AllZip, range_with_len}
+use Rattle.kad_base.specs.declared.types.Id.{Id}
+use Rattle.kad_base.specs.declared.types.Event.{Event}
+use Rattle.kad_base.specs.declared.types.Event.TheVariants.{Now}
+use Rattle.kad_base.specs.Outside.{Grows}
+use Rattle.id_puzzles.specs.Drawn.{WordsState}
+use Rattle.turn_book.specs.Turns.{fresh}
+use Rattle.lookup_core.specs.Sealed.{Accepts}
+use Rattle.node_serve.specs.declared.setting.ServeSetting.{ServeSetting}
+use Rattle.node_serve.specs.Sealing.{Tags}
+use Rattle.serve_crew.specs.Hands.{Hands, SameHands, hands}
+use Rattle.look_many.specs.declared.found.ManySetting.{ManySetting}
+use Rattle.look_many.specs.declared.found.Many.{Many}
+use Rattle.look_many.specs.declared.seeker.Seeker.{Seeker}
+use Rattle.look_many.specs.declared.seeker.ManyFault.{ManyFault}
+use Rattle.look_many.specs.inner.Crowd.{Stand}
+use Rattle.look_many.specs.inner.Going.{WentWhole, EndsWhole}
+use Rattle.look_many.specs.inner.Seats.{IsSeekerFor, IsDone, Rows, AreBack}
+
+-- what all were given
+pub record Task : Type 0 where
+  pub accepts : Accepts
+  pub tags : Tags
+  pub server : ServeSetting
+  pub setting : ManySetting
+  pub targets : List Id
+  pub receives : ℕ
+
+abbrev pub task : Accepts → Tags → ServeSetting → ManySetting → List Id → ℕ → Task
+task accepts tags server setting targets receives = record { accepts = accepts; tags = tags; server = server; setting = setting; targets = targets; receives = receives }
+
+-- where they begin: each with its book and a pass that made no call, the moment was told, and nothing else was done
+pub record Starts (k : Task) (r : Rows) (words : WordsState) (told : Option (List Event)) (s : Stand) : Type 0 where
+  pub seekers : AllZip (IsSeekerFor k.server k.setting r.tables.start) k.targets s.seekers
+  pub passes : map (λ x. x.pass) s.seekers ≡ map (fresh r.tables.id) (range_with_len 1 (length k.targets))
+  pub host : s.host ≡ hands (fresh r.tables.id 0) (fresh r.stores.id 0) (fresh r.shelves.id 0)
+  pub line : s.line ≡ record { moment = s.line.moment; receives = 0; foreign = 0; left = k.receives; received = 0; replied = 0 }
+  pub words_are : s.words ≡ words
+  pub now_told : Grows told s.told (λ events. events ≡ Now s.line.moment ∷ [])
+
+-- all are over, and this is what they found
+pub record FoundBack (k : Task) (r : Rows) (words words' : WordsState) (told told' : Option (List Event)) (many : Many) : Type 0 where
+  pub old : Stand
+  pub new : Stand
+  pub owners : List ℕ
+  pub starts : Starts k r words told old
+  pub went : WentWhole k.accepts k.tags k.server old new owners
+  pub same : SameHands old.host new.host
+  pub back : AreBack r new.host new.seekers
+  pub told_is : new.told ≡ told'
+  pub words_are : new.words ≡ words'
+  pub found : AllZip (λ x one. IsDone x.lookup.book one) new.seekers many.outcomes
+  pub owners_are : many.owners ≡ owners
+  pub received_are : many.received ≡ new.line.received
+  pub replied_are : many.replied ≡ new.line.replied
+
+-- they ended early
+pub record StoppedBack (k : Task) (r : Rows) (words words' : WordsState) (told told' : Option (List Event)) (fault : ManyFault) : Type 0 where
+  pub old : Stand
+  pub starts : Starts k r words told old
+  pub host : Hands
+  pub seekers : List Seeker
+  pub len : length seekers ≡ length old.seekers
+  pub ends : EndsWhole fault k.accepts k.tags k.server old words' host told'
+  pub back : AreBack r host seekers

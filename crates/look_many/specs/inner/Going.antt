@@ -1,0 +1,132 @@
+-- What the rounds of several lookups owe, from where they began.
+use Rattle.std.specs.Prelude.{◌≡◌, ℕ, ◌<◌, ◌≤◌, List, [], ◌++◌, length, Option, None, Bool, true, false}
+use Rattle.std.specs.List.{All, AllByRecursion, AllZip}
+use Rattle.kad_base.specs.declared.types.Event.{Event}
+use Rattle.kad_base.specs.declared.serial.Made.{Made}
+use Rattle.kad_base.specs.Limits.{max_strays}
+use Rattle.kad_base.specs.Outside.{Grows}
+use Rattle.id_puzzles.specs.Drawn.{WordsState}
+use Rattle.turn_book.specs.Turns.{mine}
+use Rattle.contact_table.specs.Told.{HasMemory, calls_in, seen_calls}
+use Rattle.contact_table.specs.declared.calls.TableCall.{TableCall}
+use Rattle.contact_table.specs.declared.calls.TableReply.{TableReply}
+use Rattle.claim_book.specs.declared.types.Entry.{Entry}
+use Rattle.claim_book.specs.Journal.{seeds}
+use Rattle.lookup_core.specs.Sealed.{Accepts}
+use Rattle.node_serve.specs.declared.setting.ServeSetting.{ServeSetting}
+use Rattle.node_serve.specs.Sealing.{Tags}
+use Rattle.serve_crew.specs.Hands.{Hands, SamePass, SameHands}
+use Rattle.look_many.specs.declared.seeker.Seeker.{Seeker}
+use Rattle.look_many.specs.declared.seeker.ManyFault.{ManyFault}
+use Rattle.look_many.specs.declared.seeker.ManyFault.TheVariants.{Strays}
+use Rattle.look_many.specs.Many.{Frame, Reading, nothing_read}
+use Rattle.look_many.specs.ManyLooked.{noted, drawn_by, max_lookups}
+use Rattle.look_many.specs.inner.Crowd.{Holding, IsLegal, NoneAsks, queries_of, ManyShow, Ran, Stand, IsFrame, Advances}
+use Rattle.look_many.specs.inner.ManySteps.{HasCounted, IsReady, MayAskAll, HasWords, IsRunOut, Stops, EndsByForeign, ShowsEarly, ShowsForeign, RanOn}
+
+-- ---- a lookup, since it began
+
+-- its journal is longer, and has no seed more; else it is the same, and calls by the same pass
+pub record Lives (old new : Seeker) : Type 0 where
+  pub quest : new.quest ≡ old.quest
+  pub setting : new.lookup.book.setting ≡ old.lookup.book.setting
+  pub more : List Entry
+  pub journal : new.lookup.book.journal ≡ old.lookup.book.journal ++ more
+  pub no_seeds : seeds more ≡ []
+  pub same : SamePass old.pass new.pass
+
+-- and the table was told of each contact that it notes as having answered, in order, and of no other
+pub record Goes (old new : Seeker) : Type 0 where
+  pub lives : Lives old new
+  pub told : List (Made TableCall TableReply)
+  pub grew : mine new.pass ≡ mine old.pass ++ told
+  pub calls : calls_in told ≡ seen_calls (noted lives.more)
+  pub memory : All (λ m. HasMemory m.reply) told
+
+-- ---- all of them
+
+-- what holds of all since they began
+pub record HaveGone (accepts : Accepts) (tags : Tags) (server : ServeSetting) (old new : Stand) (owners owners' : List ℕ) : Type 0 where
+  pub made : List ℕ
+  pub advances : Advances true made accepts tags server old new
+  pub owners_are : owners' ≡ owners ++ made
+  pub drawn : new.words ≡ drawn_by old.words made
+  pub same : SameHands old.host new.host
+  pub each : AllZip Goes old.seekers new.seekers
+
+-- where a round begins
+pub record Begins (s : Stand) : Type 0 where
+  pub may : MayAskAll s.seekers s.line s.words
+  pub round_over : s.line.receives ≡ 0
+  pub few_foreign : s.line.foreign < max_strays
+
+-- the receives of a round were made
+pub record HaveReceived (s : Stand) : Type 0 where
+  pub holds : AllByRecursion Holding s.seekers
+  pub ready : AllByRecursion (IsReady s.line.moment) s.seekers
+  pub few : length s.seekers ≤ max_lookups
+  pub has_words : HasWords s.words s.seekers
+  pub counted : HasCounted s.seekers s.line
+  pub round_over : s.line.receives ≡ 0
+  pub few_foreign : s.line.foreign < max_strays
+
+-- no query is open, and every path of each has run out
+pub record AreOver (s : Stand) : Type 0 where
+  pub begins : Begins s
+  pub none_open : queries_of s.seekers ≡ []
+  pub none_asks : AllByRecursion NoneAsks s.seekers
+
+-- ---- ended early
+
+-- they went on to a last stand that the events show, and the node that serves perhaps beyond it
+pub record EndGoing (fault : ManyFault) (accepts : Accepts) (tags : Tags) (server : ServeSetting) (old : Stand) (words' : WordsState) (host' : Hands) (told' : Option (List Event)) : Type 0 where
+  pub last : Stand
+  pub made : List ℕ
+  pub advances : Advances true made accepts tags server old last
+  pub drawn : words' ≡ drawn_by old.words made
+  pub same : SameHands old.host last.host
+  pub legal : AllByRecursion IsLegal last.seekers
+  pub each : AllZip Lives old.seekers last.seekers
+  pub stops : Stops true fault accepts tags server last told'
+  pub strays : fault ≡ Strays → EndsByForeign true accepts tags server last told'
+  pub ran_on : RanOn last.host host'
+
+-- the passes of all lookups are those that they had
+abbrev pub SameSeats : List Seeker → List Seeker → Type 0
+SameSeats olds news = AllZip (λ old new. SamePass old.pass new.pass) olds news
+
+-- ---- from the first event to the last
+
+-- what the events show of lookups since they began: from the beginning `began` on, read from nothing
+abbrev pub SinceBegun : Accepts → Tags → ServeSetting → Stand → Option (List Event) → (Frame → ℕ → List Event → Type 0) → Type 0
+SinceBegun accepts tags server old told' P =
+    (f : Frame) (count : ℕ) (began : Option (List Event)) → IsFrame accepts tags server old.words.seed f
+    → Grows began old.told (λ events. ManyShow true f count old.seekers old.line old.words.place None nothing_read events)
+    → Grows began told' (λ events. P f count events)
+
+-- all lookups are over, and then as many receives were made as are wanted
+pub record WentWhole (accepts : Accepts) (tags : Tags) (server : ServeSetting) (old new : Stand) (owners : List ℕ) : Type 0 where
+  pub read : Reading
+  pub shows : SinceBegun accepts tags server old new.told (λ f count events. ManyShow false f count new.seekers new.line new.words.place None read events)
+  pub owners_are : owners ≡ read.owners
+  pub drawn : new.words ≡ drawn_by old.words read.owners
+  pub ran : Ran old.host new.host read.did read.lost
+  pub each : AllZip Goes old.seekers new.seekers
+  pub legal : AllByRecursion IsLegal new.seekers
+  pub over : AllByRecursion IsRunOut new.seekers
+  pub none_open : queries_of new.seekers ≡ []
+  pub enough : new.line.left ≡ 0
+
+-- they ended early: the events, perhaps without the last, show a last stand, and the node that serves perhaps went beyond it
+pub record EndsWhole (fault : ManyFault) (accepts : Accepts) (tags : Tags) (server : ServeSetting) (old : Stand) (words' : WordsState) (host' : Hands) (told' : Option (List Event)) : Type 0 where
+  pub busy : Bool
+  pub last : Stand
+  pub read : Reading
+  pub shows : SinceBegun accepts tags server old told' (λ f count events. ShowsEarly busy fault f count last read events)
+  pub strays : fault ≡ Strays → SinceBegun accepts tags server old told' (λ f count events. ShowsForeign busy f count last read max_strays events)
+  pub drawn : words' ≡ drawn_by old.words read.owners
+  pub same : SameHands old.host last.host
+  pub ran : Ran old.host last.host read.did read.lost
+  pub ran_on : RanOn last.host host'
+  pub legal : AllByRecursion IsLegal last.seekers
+  pub each : AllZip Lives old.seekers last.seekers

@@ -1,0 +1,72 @@
+-- Where several lookups begin.
+use Rattle.std.specs.Prelude.{◌≡◌, ℕ, suc, ◌<◌, List, [], ◌∷◌, map, reverse}
+use Rattle.kad_base.specs.declared.types.Id.{Id}
+use Rattle.claim_book.specs.Legal.{Legal, seeded}
+use Rattle.claim_book.specs.Calls.{Counted}
+use Rattle.claim_book.specs.Result.{result_of}
+use Rattle.claim_book.specs.RunOut.{RunOut}
+use Rattle.claim_book.specs.State.{BookState}
+use Rattle.contact_table.specs.TableState.{TableState}
+use Rattle.turn_book.specs.Turns.{TurnState}
+use Rattle.peer_store.specs.Peers.{Held}
+use Rattle.item_store.specs.Items.{Held as HeldItem}
+use Rattle.serve_crew.specs.Hands.{Hands, TablePass, PeersPass, ItemsPass}
+use Rattle.node_serve.specs.declared.setting.ServeSetting.{ServeSetting}
+use Rattle.look_many.specs.declared.found.ManySetting.{ManySetting}
+use Rattle.look_many.specs.declared.found.One.{One}
+use Rattle.look_many.specs.declared.seeker.Seeker.{Seeker}
+use Rattle.look_many.specs.ManyLooked.{setting_for, quest_for, seeds_for}
+
+-- a book that begins with the closest contacts of the table
+pub record IsBookFor (server : ServeSetting) (setting : ManySetting) (table : TableState) (target : Id) (book : BookState) : Type 0 where
+  pub setting_is : book.setting ≡ setting_for server setting target
+  pub journal : book.journal ≡ seeded setting.paths (seeds_for server table target)
+  pub legal : Legal book.setting book.journal
+
+-- a lookup that has such a book, and asked nobody
+pub record IsSeekerFor (server : ServeSetting) (setting : ManySetting) (table : TableState) (target : Id) (k : Seeker) : Type 0 where
+  pub book : IsBookFor server setting table target k.lookup.book
+  pub quest : k.quest ≡ quest_for server setting target
+  pub none_open : k.lookup.queries ≡ []
+
+-- ---- where they end
+
+-- every path has run out
+abbrev pub IsOverBook : BookState → Type 0
+IsOverBook book = (p : ℕ) → p < book.setting.paths → RunOut book.setting p book.journal
+
+-- what the book of a lookup that is over found
+pub record IsDone (book : BookState) (one : One) : Type 0 where
+  pub journal : one.journal ≡ book.journal
+  pub legal : Legal book.setting one.journal
+  pub run_out : (p : ℕ) → p < book.setting.paths → RunOut book.setting p one.journal
+  pub found : one.found ≡ result_of book.setting one.journal
+  pub counted : Counted one.journal one.counts
+
+-- lookups in a row, the first of which calls in this role
+abbrev pub RolesFrom : ℕ → List Seeker → Type 0
+RolesFrom r [] = Unit {0}
+RolesFrom r (k ∷ ks) = (k.pass.role ≡ r) × RolesFrom (suc r) ks
+
+-- the three turns, and the passes that are back in their rows
+pub record Rows : Type 0 where
+  pub tables : TurnState TableState
+  pub stores : TurnState (List Held)
+  pub shelves : TurnState (List HeldItem)
+  pub table_row : List TablePass
+  pub peers_row : List PeersPass
+  pub items_row : List ItemsPass
+
+abbrev pub rows : TurnState TableState → TurnState (List Held) → TurnState (List HeldItem) → List TablePass → List PeersPass → List ItemsPass → Rows
+rows tables stores shelves table_row peers_row items_row =
+    record { tables = tables; stores = stores; shelves = shelves; table_row = table_row; peers_row = peers_row; items_row = items_row }
+
+-- the passes are those of the node that serves and of all lookups
+pub record AreBack (r : Rows) (host : Hands) (seekers : List Seeker) : Type 0 where
+  pub tables : r.table_row ≡ host.table ∷ map (λ k. k.pass) (reverse seekers)
+  pub peers : r.peers_row ≡ host.peers ∷ []
+  pub items : r.items_row ≡ host.items ∷ []
+  pub driver : host.table.role ≡ 0
+  pub driver_peers : host.peers.role ≡ 0
+  pub driver_items : host.items.role ≡ 0
+  pub roles : RolesFrom 1 seekers

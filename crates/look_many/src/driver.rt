@@ -1,0 +1,360 @@
+//! Several lookups and the node that serves meanwhile, from where they begin to where as many receives were made as are
+//! wanted.
+ghost use Rattle.std.specs.Prelude.{◌≡◌, ◌≤◌, ◌<◌, ◌+◌, ◌^◌, [], suc, length, map, reverse, vec_capacity, IfOk, IfErr, OnOk, IsErrOf, ◌∷◌};
+ghost use Rattle.std.specs.List.{All, AllByRecursion, AllZip, range_with_len};
+ghost use Rattle.kad_base.specs.Contacts.{IsUsable};
+ghost use Rattle.kad_base.specs.Outside.{Rose};
+ghost use Rattle.turn_book.specs.Turns.{fresh, AreAll};
+ghost use Rattle.contact_table.specs.TableStep.{contacts_of};
+ghost use Rattle.node_serve.specs.Calls.{IsSetting};
+ghost use Rattle.serve_crew.specs.Hands.{SameHands};
+ghost use Rattle.look_many.specs.ManyLooked.{IsWithinLimits, ManyLooked, ManyStopped, max_lookups};
+ghost use Rattle.look_many.specs.inner.Crowd.{stand};
+ghost use Rattle.look_many.specs.inner.ManySteps.{IsOfDesk, IsSeated};
+ghost use Rattle.look_many.specs.inner.Going.{Begins, EndsWhole, SameSeats, WentWhole};
+ghost use Rattle.look_many.specs.inner.Seats.{IsBookFor, rows};
+ghost use Rattle.look_many.specs.inner.Ends.{FoundBack, StoppedBack, task};
+
+use crate::finish::{finish_all, gather};
+use crate::found::{Many, ManySetting};
+use crate::host::Desk;
+use crate::legal::all_legal;
+use crate::opening::{next_pass, open_books, seat_all, stack_up};
+use crate::rounds::go_rounds;
+use crate::seeker::{Line, ManyFault, Seeker};
+use crate::serving::serve_on;
+use claim_book::Book;
+use contact_table::Table;
+use id_puzzles::Words;
+use item_store::Items;
+use kad_base::limits::RECEIVE_ROOM;
+use kad_base::{Check, Id, Link, NoMemory, Numbers, Serial};
+use node_serve::ServeSetting;
+use peer_store::Peers;
+use seal_tags::{Seal, SealCheck};
+use serve_crew::ServeWorker;
+use std::alloc::Global;
+use std::hash::RandomState;
+use std::sync::Wait;
+use std::thread::Threads;
+use turn_book::{Pass, Passes, Turn, TurnNoMemory};
+
+/// Goes all rounds of the lookups, and then serves on.
+fn go<R: Threads + Wait + Sync, L: Link, C: Check + Sync, G: Seal + SealCheck>(
+    rt: &R,
+    alloc: Global,
+    link: &mut L,
+    desk: &Desk,
+    host: &mut ServeWorker,
+    seekers: &mut [Seeker],
+    line: &mut Line,
+    words: &mut Words,
+    owners: &mut Vec<u64>,
+    check: &C,
+    seal: &G,
+) -> Result<(), ManyFault>
+    requires setting { IsSetting desk.now.setting.now }
+    requires own { IsOfDesk desk.now host.old }
+    requires seated { AllByRecursion (IsSeated desk.now.table.now) seekers.old }
+    requires begins { Begins (stand seekers.old line.old words.old host.old (L.told link.old)) }
+    requires some_query { AllByRecursion (λ k. 1 ≤ k.lookup.book.setting.alpha) seekers.old }
+    requires none_owned { owners.old.items ≡ [] }
+    requires moment { L.moment link.old ≡ line.old.moment }
+    ensures same { SameHands host.old host.new }
+    ensures len { length seekers.new ≡ length seekers.old }
+    ensures seats { SameSeats seekers.old seekers.new }
+    ensures went { OnOk result (WentWhole (G.accepted seal.now) (G.tag_of seal.now) desk.now.setting.now
+        (stand seekers.old line.old words.old host.old (L.told link.old))
+        (stand seekers.new line.new words.new host.new (L.told link.new)) owners.new.items) }
+    ensures ends { IfErr result (λ fault. EndsWhole fault (G.accepted seal.now) (G.tag_of seal.now)
+        desk.now.setting.now (stand seekers.old line.old words.old host.old (L.told link.old))
+        words.new host.new (L.told link.new)) }
+    ensures link { IsErrOf result ManyFault.LinkFault
+        → Rose (L.recv_faults link.old) (L.recv_faults link.new) }
+    ensures recv_faults { L.recv_faults link.old ≤ L.recv_faults link.new }
+    ensures well { ¬ IsErrOf result ManyFault.LinkFault
+        → L.recv_faults link.new ≡ L.recv_faults link.old }
+    ensures kept { L.kept link.new ≡ L.kept link.old }
+{
+    let mut out = [0u8; 4096];
+    match go_rounds(
+        rt, alloc, link, desk, host, seekers, line, words, owners, check, seal, &mut out,
+    ) {
+        Ok(()) => {}
+        Err(fault) => return Err(fault),
+    }
+    all_legal(seekers);
+    let _left = line.left;
+    let mut buf = [0u8; RECEIVE_ROOM];
+    match serve_on(
+        rt, alloc, link, desk, host, seekers, line, seal, &mut buf, &mut out,
+    ) {
+        Ok(()) => {
+            all_legal(seekers);
+            Ok(())
+        }
+        Err(fault) => Err(fault),
+    }
+}
+
+/// The room that the lookups need, taken before anything begins: their books, the last one's first; themselves; and their
+/// passes, while they are handed out.
+#[derive(Drop)]
+struct Room {
+    books: Vec<Book>,
+    seekers: Vec<Seeker>,
+    stack: Vec<Pass<Table>>,
+}
+
+/// Takes all room, and opens the books.
+fn take_room(
+    alloc: Global,
+    table: &mut Table,
+    server: &ServeSetting,
+    setting: &ManySetting,
+    targets: &[Id],
+    hasher: RandomState,
+) -> Result<Room, NoMemory>
+    requires limits { IsWithinLimits setting.now }
+    requires usable { All (IsUsable server.now.own) (contacts_of table.old) }
+    ensures books { IfOk result (λ room. AllZip (IsBookFor server.now setting.now table.old) targets.now
+        (reverse room.books.items)) }
+    ensures book_room { IfOk result (λ room. length targets.now ≤ vec_capacity room.books) }
+    ensures no_seekers { IfOk result (λ room. room.seekers.items ≡ []) }
+    ensures seeker_room { IfOk result (λ room. length targets.now ≤ vec_capacity room.seekers) }
+    ensures no_stack { IfOk result (λ room. room.stack.items ≡ []) }
+    ensures stack_room { IfOk result (λ room. length targets.now + 1 ≤ vec_capacity room.stack) }
+    ensures table { table.new ≡ table.old }
+{
+    let Ok(seekers) = Vec::with_capacity(alloc, targets.len()) else {
+        return Err(NoMemory);
+    };
+    let Ok(stack) = Vec::with_capacity(alloc, targets.len() + 1) else {
+        return Err(NoMemory);
+    };
+    match open_books(alloc, table, server, setting, targets, hasher) {
+        Ok(books) => Ok(Room {
+            books,
+            seekers,
+            stack,
+        }),
+        Err(NoMemory) => Err(NoMemory),
+    }
+}
+
+/// The only pass of a turn that has one.
+fn only_pass<S: Serial>(turn: &Turn<S>, row: &mut Passes<S>) -> Pass<S>
+    requires one { row.old.passes ≡ fresh turn.now.id 0 ∷ [] }
+    ensures pass { result ≡ fresh turn.now.id 0 }
+    ensures row { row.new.passes ≡ [] }
+    ensures room { row.new.room ≡ row.old.room }
+{
+    let _ = turn;
+    let Some(pass) = row.pop() else {
+        unreachable!()
+    };
+    pass
+}
+
+/// Makes the lookups and the node that serves of the passes of three turns, goes on with them, and puts all passes back.
+fn work<R: Threads + Wait + Sync, L: Link, C: Check + Sync, G: Seal + SealCheck>(
+    rt: &R,
+    alloc: Global,
+    link: &mut L,
+    words: &mut Words,
+    desk: &Desk,
+    targets: &[Id],
+    setting: &ManySetting,
+    receives: u32,
+    check: &C,
+    seal: &G,
+    table_row: &mut Passes<Table>,
+    peers_row: &mut Passes<Peers>,
+    items_row: &mut Passes<Items>,
+    mut room: Room,
+) -> Result<Many, ManyFault>
+    requires setting { IsSetting desk.now.setting.now }
+    requires few { length targets.now ≤ max_lookups }
+    requires limits { IsWithinLimits setting.now }
+    requires small { desk.now.setting.now.k < 256 }
+    requires place { words.old.place < 2 ^ 59 }
+    requires books { AllZip (IsBookFor desk.now.setting.now setting.now desk.now.table.now.start) targets.now
+        (reverse room.books.items) }
+    requires book_room { length targets.now ≤ vec_capacity room.books }
+    requires no_seekers { room.seekers.items ≡ [] }
+    requires seeker_room { length targets.now ≤ vec_capacity room.seekers }
+    requires no_stack { room.stack.items ≡ [] }
+    requires stack_room { length targets.now + 1 ≤ vec_capacity room.stack }
+    requires table_roles { desk.now.table.now.roles ≡ length targets.now + 1 }
+    requires peers_roles { desk.now.peers.now.roles ≡ 1 }
+    requires items_roles { desk.now.items.now.roles ≡ 1 }
+    requires tables { table_row.old.passes ≡ map (fresh desk.now.table.now.id) (range_with_len 0 (length targets.now + 1)) }
+    requires peers { peers_row.old.passes ≡ fresh desk.now.peers.now.id 0 ∷ [] }
+    requires items { items_row.old.passes ≡ fresh desk.now.items.now.id 0 ∷ [] }
+    requires table_room { table_row.old.room ≡ length targets.now + 1 }
+    requires peers_room { peers_row.old.room ≡ 1 }
+    requires items_room { items_row.old.room ≡ 1 }
+    ensures tables { AreAll desk.now.table.now table_row.new.passes }
+    ensures peers { AreAll desk.now.peers.now peers_row.new.passes }
+    ensures items { AreAll desk.now.items.now items_row.new.passes }
+    ensures ok { IfOk result (FoundBack (task (G.accepted seal.now) (G.tag_of seal.now) desk.now.setting.now setting.now targets.now receives)
+        (rows desk.now.table.now desk.now.peers.now desk.now.items.now table_row.new.passes peers_row.new.passes items_row.new.passes)
+        words.old words.new (L.told link.old) (L.told link.new)) }
+    ensures stopped { IfErr result (StoppedBack (task (G.accepted seal.now) (G.tag_of seal.now) desk.now.setting.now setting.now targets.now receives)
+        (rows desk.now.table.now desk.now.peers.now desk.now.items.now table_row.new.passes peers_row.new.passes items_row.new.passes)
+        words.old words.new (L.told link.old) (L.told link.new)) }
+    ensures link { IsErrOf result ManyFault.LinkFault
+        → Rose (L.recv_faults link.old) (L.recv_faults link.new) }
+    ensures recv_faults { L.recv_faults link.old ≤ L.recv_faults link.new }
+    ensures well { ¬ IsErrOf result ManyFault.LinkFault
+        → L.recv_faults link.new ≡ L.recv_faults link.old }
+    ensures kept { L.kept link.new ≡ L.kept link.old }
+{
+    stack_up(table_row, &mut room.stack);
+    let table_pass = next_pass(&mut room.stack);
+    let peers_pass = only_pass(desk.peers, peers_row);
+    let items_pass = only_pass(desk.items, items_row);
+    let mut host = ServeWorker::new(alloc, table_pass, peers_pass, items_pass);
+    seat_all(
+        desk.table,
+        &mut room.stack,
+        &mut room.books,
+        desk.setting,
+        setting,
+        targets,
+        &mut room.seekers,
+    );
+    let mut line = Line {
+        moment: link.now(),
+        receives: 0,
+        foreign: 0,
+        left: receives,
+        received: 0,
+        replied: 0,
+    };
+    let mut owners = Vec::new(alloc);
+    let ended = go(
+        rt,
+        alloc,
+        link,
+        desk,
+        &mut host,
+        room.seekers.as_mut_slice(),
+        &mut line,
+        words,
+        &mut owners,
+        check,
+        seal,
+    );
+    let (table_pass, peers_pass, items_pass) = host.into_passes();
+    table_row.push(table_pass);
+    peers_row.push(peers_pass);
+    items_row.push(items_pass);
+    gather(table_row, room.seekers, &mut room.books);
+    match ended {
+        Ok(()) => {}
+        Err(fault) => return Err(fault),
+    }
+    match finish_all(alloc, room.books) {
+        Ok(outcomes) => Ok(Many {
+            outcomes,
+            owners: Numbers::from_vec(owners),
+            received: line.received,
+            replied: line.replied,
+        }),
+        Err(NoMemory) => Err(ManyFault::NoMemory),
+    }
+}
+
+/// Looks up to sixteen targets up at the same time, each on its own disjoint paths (S/Kademlia, 2007, section 4.4) from the k
+/// closest contacts of the table, and answers meanwhile what comes for none of them (BEP 5); when all lookups are over it goes
+/// on answering until it has made `receives` receive calls in all, each of which waits for a minute. The node's identifier, k,
+/// policy and seal are the server's, so that its queries don't say that it is read-only (BEP 43). A datagram is that lookup's,
+/// the first in order, which has an open query that it replies to. The table comes back on every answer, after all calls that
+/// were made on it. Where a check says that it takes long, the lookups settle at once after a round, each on a thread of its
+/// own. Strangers choose the contacts, so the hasher of the books' indexes is handed in; no answer depends on it.
+/// `Strays` comes with the 1,000,000th datagram for no lookup while a query is open, `LinkFault` where a receive failed.
+pub fn look_many<R: Threads + Wait + Sync, L: Link, C: Check + Sync, G: Seal + SealCheck>(
+    rt: &R,
+    alloc: Global,
+    link: &mut L,
+    words: &mut Words,
+    table: Table,
+    server: &ServeSetting,
+    targets: &[Id],
+    setting: &ManySetting,
+    receives: u32,
+    check: &C,
+    seal: &G,
+    hasher: RandomState,
+) -> (Table, Result<Many, ManyFault>)
+    requires setting { IsSetting server.now }
+    requires limits { IsWithinLimits setting.now }
+    requires small { server.now.k < 256 }
+    requires few { length targets.now ≤ max_lookups }
+    requires usable { All (IsUsable server.now.own) (contacts_of table) }
+    requires place { words.old.place < 2 ^ 59 }
+    ensures ok { IfOk result.1 (ManyLooked (G.accepted seal.now) (G.tag_of seal.now) server.now setting.now targets.now
+        receives table result.0 words.old words.new (L.told link.old) (L.told link.new)) }
+    ensures stopped { IfErr result.1 (ManyStopped (G.accepted seal.now) (G.tag_of seal.now) server.now setting.now
+        targets.now receives table result.0 words.old words.new (L.told link.old) (L.told link.new)) }
+    ensures link { IsErrOf result.1 ManyFault.LinkFault
+        → Rose (L.recv_faults link.old) (L.recv_faults link.new) }
+    ensures recv_faults { L.recv_faults link.old ≤ L.recv_faults link.new }
+    ensures well { ¬ IsErrOf result.1 ManyFault.LinkFault
+        → L.recv_faults link.new ≡ L.recv_faults link.old }
+    ensures kept { L.kept link.new ≡ L.kept link.old }
+{
+    let mut table = table;
+    let room = match take_room(alloc, &mut table, server, setting, targets, hasher) {
+        Ok(room) => room,
+        Err(NoMemory) => return (table, Err(ManyFault::NoMemory)),
+    };
+    let roles = targets.len() as u8 + 1;
+    let (tables, mut table_row) = match Turn::new(alloc, table, roles) {
+        Ok(opened) => opened,
+        Err(TurnNoMemory { state }) => return (state, Err(ManyFault::NoMemory)),
+    };
+    let peers = Peers::new(alloc);
+    let (stores, mut peers_row) = match Turn::new(alloc, peers, 1) {
+        Ok(opened) => opened,
+        Err(TurnNoMemory { .. }) => {
+            let (table, _) = tables.close(table_row);
+            return (table, Err(ManyFault::NoMemory));
+        }
+    };
+    let items = Items::new(alloc);
+    let (shelves, mut items_row) = match Turn::new(alloc, items, 1) {
+        Ok(opened) => opened,
+        Err(TurnNoMemory { .. }) => {
+            let (table, _) = tables.close(table_row);
+            return (table, Err(ManyFault::NoMemory));
+        }
+    };
+    let desk = Desk {
+        setting: server,
+        table: &tables,
+        peers: &stores,
+        items: &shelves,
+    };
+    let answer = work(
+        rt,
+        alloc,
+        link,
+        words,
+        &desk,
+        targets,
+        setting,
+        receives,
+        check,
+        seal,
+        &mut table_row,
+        &mut peers_row,
+        &mut items_row,
+        room,
+    );
+    let (table, _) = tables.close(table_row);
+    let (_, _) = stores.close(peers_row);
+    let (_, _) = shelves.close(items_row);
+    (table, answer)
+}

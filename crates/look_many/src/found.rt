@@ -1,0 +1,32 @@
+//! What several lookups are given, and what they found.
+use claim_book::{Counts, Journal};
+use kad_base::{Contacts, List, Numbers};
+
+/// How each of several lookups goes: on how many disjoint paths, with how many queries at once on each, and how long it waits
+/// for an answer, in milliseconds.
+#[derive(Clone, Copy, Debug, PartialEq, Eq)]
+pub struct ManySetting {
+    pub paths: u8,
+    pub alpha: u8,
+    pub timeout: u32,
+}
+
+/// What one of several lookups found, nearest first, its numbers and its journal.
+#[derive(Debug, Drop)]
+pub struct One {
+    pub found: Contacts,
+    pub counts: Counts,
+    pub journal: Journal,
+}
+
+pub type Ones = List<One>;
+
+/// What several lookups found, in the order of their targets; the number of the lookup that each query was of, in the order in
+/// which they were sent, refused ones too; and how many datagrams came, and how many replies were sent to others.
+#[derive(Debug, Drop)]
+pub struct Many {
+    pub outcomes: Ones,
+    pub owners: Numbers,
+    pub received: u64,
+    pub replied: u64,
+}
