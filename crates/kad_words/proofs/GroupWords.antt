@@ -35,8 +35,9 @@ at_no_place command other (suc zero) lt e = other kind.Peers (sym e)
 at_no_place command other (suc (suc zero)) lt e = other kind.Get (sym e)
 at_no_place command other (suc (suc (suc zero))) lt e = other kind.Put (sym e)
 at_no_place command other (suc (suc (suc (suc zero)))) lt e = other kind.Serve (sym e)
-at_no_place command other (suc (suc (suc (suc (suc zero))))) lt e = other kind.Refresh (sym e)
-at_no_place command other (suc (suc (suc (suc (suc (suc i)))))) lt e = absurd (omega arith)
+at_no_place command other (suc (suc (suc (suc (suc zero))))) lt e = other kind.Node (sym e)
+at_no_place command other (suc (suc (suc (suc (suc (suc zero)))))) lt e = other kind.Refresh (sym e)
+at_no_place command other (suc (suc (suc (suc (suc (suc (suc i))))))) lt e = absurd (omega arith)
 
 pub no_group : (command : Word) → ((k : CommandKind) → command ≡ kind_word k → ⊥) → HasGroup command → ⊥
 no_group command other h = at_no_place command other h.0 h.1 h.2

@@ -1,7 +1,7 @@
 -- Values that fit their options: those that are needed are there, and those that are there are of their kind.
 use Rattle.std.specs.Prelude.{◌≡◌, Bool, true, false, ◌&&◌, ℕ, List, ◌∷◌, drop, Option, Some, IfSome, bytes_eq, find, nat_lt}
 use Rattle.kad_words.specs.Table.{Entry, Word, options_of, Values, kind_word}
-use Rattle.kad_words.specs.Table.{alpha_option, bits_option, c1_option, c2_option, family_option, k_option, own_option, paths_option, timeout_option}
+use Rattle.kad_words.specs.Table.{alpha_option, bits_option, c1_option, c2_option, k_option, own_option, paths_option, timeout_option}
 use Rattle.kad_words.specs.Plain.{AreThere, InPairs, IsOfKind, IsThere, pairs_of}
 use Rattle.kad_words.specs.declared.command.CommandKind.{CommandKind}
 use Rattle.kad_words.specs.declared.choice.Kind.{Kind}
@@ -17,7 +17,7 @@ Fits e value = IsThere e.need value × IfSome value (IsOfKind e.kind)
 abbrev pub AllFit : List Entry → Values → Type 0
 AllFit entries value = (name : Word) (e : Entry) → find (λ (x : Entry). bytes_eq x.name name) entries ≡ Some e → Fits e (value name)
 
--- the values of the options of a lookup, apart from what names its target
+-- the values of the options of a lookup, apart from what names its target and its family
 pub record LookFits (value : Values) : Type 0 where
   pub own : Fits own_option.entry (value own_option.entry.name)
   pub k : Fits k_option.entry (value k_option.entry.name)
@@ -27,7 +27,6 @@ pub record LookFits (value : Values) : Type 0 where
   pub bits : Fits bits_option.entry (value bits_option.entry.name)
   pub c1 : Fits c1_option.entry (value c1_option.entry.name)
   pub c2 : Fits c2_option.entry (value c2_option.entry.name)
-  pub family : Fits family_option.entry (value family_option.entry.name)
 
 -- the words are of the plain form, for the command of this kind
 pub record IsPlainBy (kind : CommandKind) (words : List Word) : Type 0 where

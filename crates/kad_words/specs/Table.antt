@@ -1,8 +1,9 @@
 -- The commands and their options, which are this project's own: one line an option, with what its value is, whether it
 -- has to stand or what stands for it, and the commands that have it; and what the words of each command ask for.
-use Rattle.std.specs.Prelude.{◌≡◌, Bool, true, false, ℕ, List, [], ◌∷◌, ◌++◌, map, filter, codes, bytes_eq, find, option_map, is_some, Option, Some, None}
+use Rattle.std.specs.Prelude.{◌≡◌, Bool, true, false, ℕ, List, [], ◌∷◌, ◌++◌, map, filter, codes, bytes_eq, find, option_map, is_some, replicate, Option, Some, None}
 use Rattle.std.specs.List.{list_any}
 use Rattle.kad_base.specs.declared.types.Family.{Family}
+use Rattle.kad_base.specs.declared.types.Family.TheVariants.{Four}
 use Rattle.kad_base.specs.declared.types.Id.{Id}
 use Rattle.kad_base.specs.declared.types.Policy.{Policy}
 use Rattle.kad_base.specs.declared.types.Policy.TheVariants as policy
@@ -10,7 +11,7 @@ use Rattle.kad_base.specs.Puzzles.{hash}
 use Rattle.kad_words.specs.Text.{SpellsBytes, SpellsHex, SpellsId}
 use Rattle.kad_words.specs.Values.{FamilyBy, IsGiven, MayBeGiven, MayNumberBy, NumberBy}
 use Rattle.kad_words.specs.declared.command.Command.{Command}
-use Rattle.kad_words.specs.declared.command.Command.TheVariants.{Lookup, Peers, Get, Put, Serve, Table, Refresh, Check, Mint, Sim}
+use Rattle.kad_words.specs.declared.command.Command.TheVariants.{Lookup, Peers, Get, Put, Serve, Node, Table, Refresh, Check, Mint, Sim}
 use Rattle.kad_words.specs.declared.command.CommandKind.{CommandKind}
 use Rattle.kad_words.specs.declared.command.CommandKind.TheVariants as kind
 use Rattle.kad_words.specs.declared.command.LookWords.{LookWords}
@@ -56,6 +57,9 @@ put = codes "put"
 abbrev pub serve : Word
 serve = codes "serve"
 
+abbrev pub node : Word
+node = codes "node"
+
 abbrev pub table : Word
 table = codes "table"
 
@@ -78,6 +82,7 @@ kind_word kind.Peers = peers
 kind_word kind.Get = get
 kind_word kind.Put = put
 kind_word kind.Serve = serve
+kind_word kind.Node = node
 kind_word kind.Table = table
 kind_word kind.Refresh = refresh
 kind_word kind.Check = check
@@ -91,6 +96,7 @@ links kind.Peers = true
 links kind.Get = true
 links kind.Put = true
 links kind.Serve = true
+links kind.Node = true
 links kind.Refresh = true
 links other = false
 
@@ -107,43 +113,47 @@ abbrev pub value_option : Choice
 value_option = choice (codes "value") AnyBytes Required (put ∷ [])
 
 abbrev pub own_option : Choice
-own_option = choice (codes "own") Identifier Optional (lookup ∷ peers ∷ get ∷ put ∷ serve ∷ table ∷ [])
+own_option = choice (codes "own") Identifier Optional (lookup ∷ peers ∷ get ∷ put ∷ serve ∷ node ∷ table ∷ [])
 
 abbrev pub k_option : Choice
-k_option = choice (codes "k") (Number 1 20) (OrElse 8) (lookup ∷ peers ∷ get ∷ put ∷ serve ∷ table ∷ sim ∷ [])
+k_option = choice (codes "k") (Number 1 20) (OrElse 8) (lookup ∷ peers ∷ get ∷ put ∷ serve ∷ node ∷ table ∷ sim ∷ [])
 
 abbrev pub paths_option : Choice
-paths_option = choice (codes "paths") (Number 1 8) (OrElse 4) (lookup ∷ peers ∷ get ∷ put ∷ sim ∷ [])
+paths_option = choice (codes "paths") (Number 1 8) (OrElse 4) (lookup ∷ peers ∷ get ∷ put ∷ node ∷ sim ∷ [])
 
 abbrev pub alpha_option : Choice
-alpha_option = choice (codes "alpha") (Number 1 4) (OrElse 3) (lookup ∷ peers ∷ get ∷ put ∷ sim ∷ [])
+alpha_option = choice (codes "alpha") (Number 1 4) (OrElse 3) (lookup ∷ peers ∷ get ∷ put ∷ node ∷ sim ∷ [])
 
 abbrev pub timeout_option : Choice
-timeout_option = choice (codes "timeout") (Number 1 60000) (OrElse 2000) (lookup ∷ peers ∷ get ∷ put ∷ refresh ∷ sim ∷ [])
+timeout_option = choice (codes "timeout") (Number 1 60000) (OrElse 2000) (lookup ∷ peers ∷ get ∷ put ∷ node ∷ refresh ∷ sim ∷ [])
 
 abbrev pub bits_option : Choice
-bits_option = choice (codes "bits") (Number 1 5) (OrElse 1) (lookup ∷ peers ∷ get ∷ put ∷ serve ∷ table ∷ [])
+bits_option = choice (codes "bits") (Number 1 5) (OrElse 1) (lookup ∷ peers ∷ get ∷ put ∷ serve ∷ node ∷ table ∷ [])
 
 abbrev pub c1_option : Choice
-c1_option = choice (codes "c1") (Number 0 32) (OrElse 0) (lookup ∷ peers ∷ get ∷ put ∷ serve ∷ table ∷ check ∷ mint ∷ [])
+c1_option = choice (codes "c1") (Number 0 32) (OrElse 0) (lookup ∷ peers ∷ get ∷ put ∷ serve ∷ node ∷ table ∷ check ∷ mint ∷ [])
 
 abbrev pub c2_option : Choice
-c2_option = choice (codes "c2") (Number 0 32) (OrElse 0) (lookup ∷ peers ∷ get ∷ put ∷ serve ∷ table ∷ check ∷ mint ∷ [])
+c2_option = choice (codes "c2") (Number 0 32) (OrElse 0) (lookup ∷ peers ∷ get ∷ put ∷ serve ∷ node ∷ table ∷ check ∷ mint ∷ [])
 
 abbrev pub family_option : Choice
 family_option = choice (codes "family") IpVersion (OrElse 4) (lookup ∷ peers ∷ get ∷ put ∷ [])
 
 abbrev pub bind_option : Choice
-bind_option = choice (codes "bind") Address Optional (lookup ∷ peers ∷ get ∷ put ∷ serve ∷ refresh ∷ [])
+bind_option = choice (codes "bind") Address Optional (lookup ∷ peers ∷ get ∷ put ∷ serve ∷ node ∷ refresh ∷ [])
 
 abbrev pub group_option : Choice
-group_option = choice (codes "group") Bytes32 Optional (lookup ∷ peers ∷ get ∷ put ∷ serve ∷ refresh ∷ [])
+group_option = choice (codes "group") Bytes32 Optional (lookup ∷ peers ∷ get ∷ put ∷ serve ∷ node ∷ refresh ∷ [])
 
 abbrev pub announce_option : Choice
 announce_option = choice (codes "announce") (Number 0 65535) Optional (peers ∷ [])
 
 abbrev pub receives_option : Choice
 receives_option = choice (codes "receives") (Number 1 1000000000) (OrElse 1000000000) (serve ∷ [])
+
+-- the same option of `node`, which may want none
+abbrev pub node_receives_option : Choice
+node_receives_option = choice (codes "receives") (Number 0 1000000000) (OrElse 0) (node ∷ [])
 
 abbrev pub workers_option : Choice
 workers_option = choice (codes "workers") (Number 1 8) (OrElse 1) (serve ∷ [])
@@ -163,7 +173,7 @@ hostile_option = choice (codes "hostile") (Number 0 100) (OrElse 0) (sim ∷ [])
 -- all of them
 abbrev pub every_option : List Choice
 every_option = target_option ∷ key_option ∷ value_option ∷ own_option ∷ k_option ∷ paths_option ∷ alpha_option ∷ timeout_option ∷ bits_option ∷ c1_option ∷ c2_option ∷ family_option ∷ bind_option ∷ group_option ∷ announce_option ∷ receives_option
-    ∷ workers_option ∷ seed_option ∷ tries_option ∷ nodes_option ∷ hostile_option ∷ []
+    ∷ node_receives_option ∷ workers_option ∷ seed_option ∷ tries_option ∷ nodes_option ∷ hostile_option ∷ []
 
 -- the options of a command
 abbrev pub options_of : Word → List Entry
@@ -220,7 +230,11 @@ PolicyOf value p = PolicyBy (value c1_option.entry.name) (value c2_option.entry.
 abbrev pub key_of : List ℕ → Id
 key_of item = record { 0 = hash item }
 
--- the options of a lookup with this target
+-- the target where the words name none: 20 zero bytes
+abbrev pub no_target : Id
+no_target = record { 0 = replicate 20 0 }
+
+-- the options of a lookup with this target, but for its family
 pub record IsLookAt (goal : Id) (value : Values) (look : LookWords) : Type 0 where
   pub target : look.target ≡ goal
   pub own : MayIdOf own_option value look.own
@@ -230,19 +244,23 @@ pub record IsLookAt (goal : Id) (value : Values) (look : LookWords) : Type 0 whe
   pub timeout : NumberOf timeout_option value look.timeout
   pub bits : NumberOf bits_option value look.bits
   pub policy : PolicyOf value look.policy
-  pub family : FamilyOf family_option value look.family
   pub sealed : StandsOf group_option value look.sealed
 
--- the same, where the target is the value of `goal`
+-- the same, where the target is the value of `goal`, and the family is that of the words
 abbrev pub IsLook : Entry → Values → LookWords → Type 0
-IsLook goal value look = IsGiven SpellsId (value goal.name) look.target × IsLookAt look.target value look
+IsLook goal value look = (IsGiven SpellsId (value goal.name) look.target × FamilyOf family_option value look.family) × IsLookAt look.target value look
 
 -- the same, where the target is the key of an item, which is the value of an option
 abbrev pub IsLookOf : Entry → Values → List ℕ → LookWords → Type 0
-IsLookOf goal value item look = IsGiven SpellsBytes (value goal.name) item × IsLookAt (key_of item) value look
+IsLookOf goal value item look = (IsGiven SpellsBytes (value goal.name) item × FamilyOf family_option value look.family) × IsLookAt (key_of item) value look
+
+-- the same of lookups over IPv4, whose targets the words don't name
+abbrev pub AreLooks : Values → LookWords → Type 0
+AreLooks value look = (look.family ≡ Four) × IsLookAt no_target value look
 
 -- a part of a command, and the option that gives it: an identifier, a seed, a number, a number that may be left out,
--- whether it stands; or a policy, a lookup with the option that names its target, or an item and the lookup of its key
+-- whether it stands; or a policy, a lookup with the option that names its target, an item and the lookup of its key, or
+-- lookups whose targets no option names
 pub data Part : Type 0 where
   gives_id : Choice → Option Id → Part
   gives_seed : Choice → Option (List ℕ) → Part
@@ -252,6 +270,7 @@ pub data Part : Type 0 where
   gives_policy : Policy → Part
   gives_look : Choice → LookWords → Part
   gives_item : Choice → List ℕ → LookWords → Part
+  gives_looks : LookWords → Part
 
 -- the values give this part
 abbrev pub IsSaid : Values → Part → Type 0
@@ -263,6 +282,7 @@ IsSaid value (says_whether c stands) = StandsOf c value stands
 IsSaid value (gives_policy policy) = PolicyOf value policy
 IsSaid value (gives_look c look) = IsLook c.entry value look
 IsSaid value (gives_item c item look) = IsLookOf c.entry value item look
+IsSaid value (gives_looks look) = AreLooks value look
 
 -- each of these
 abbrev pub AreSaid : Values → List Part → Type 0
@@ -277,6 +297,7 @@ parts_of (Get look) = gives_look key_option look ∷ []
 parts_of (Put look item) = gives_item value_option item look ∷ []
 parts_of (Serve own k bits policy receives workers sealed) =
     gives_id own_option own ∷ gives_number k_option k ∷ gives_number bits_option bits ∷ gives_policy policy ∷ gives_number receives_option receives ∷ gives_number workers_option workers ∷ says_whether group_option sealed ∷ []
+parts_of (Node look receives) = gives_looks look ∷ gives_number node_receives_option receives ∷ []
 parts_of (Table own k bits policy) = gives_id own_option own ∷ gives_number k_option k ∷ gives_number bits_option bits ∷ gives_policy policy ∷ []
 parts_of (Refresh timeout sealed) = gives_number timeout_option timeout ∷ says_whether group_option sealed ∷ []
 parts_of (Check policy) = gives_policy policy ∷ []
@@ -295,6 +316,7 @@ kind_of (Peers look announce) = kind.Peers
 kind_of (Get look) = kind.Get
 kind_of (Put look item) = kind.Put
 kind_of (Serve own k bits policy receives workers sealed) = kind.Serve
+kind_of (Node look receives) = kind.Node
 kind_of (Table own k bits policy) = kind.Table
 kind_of (Refresh timeout sealed) = kind.Refresh
 kind_of (Check policy) = kind.Check

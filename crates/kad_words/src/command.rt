@@ -1,6 +1,6 @@
 //! The commands: what each asks for, its word, its options, and how it is made of their values.
 ghost use Rattle.std.specs.Prelude.{◌≡◌, IfOk, MatchOption};
-ghost use Rattle.kad_words.specs.Table.{check, get, lookup, mint, peers, put, refresh, serve, sim, table, kind_word, key_of, links, options_of, word_of, IsLook, IsLookAt, Says};
+ghost use Rattle.kad_words.specs.Table.{check, get, lookup, mint, node, peers, put, refresh, serve, sim, table, family_option, kind_word, key_of, links, options_of, word_of, IsLook, IsLookAt, Says};
 ghost use Rattle.kad_words.specs.Listed.{entries_of, entry_of};
 ghost use Rattle.kad_words.specs.Taken.{taken_of};
 ghost use Rattle.kad_words.specs.Fitting.{AllFit, Fits, LookFits};
@@ -8,8 +8,8 @@ ghost use Rattle.kad_words.specs.declared.command.CommandKind.{CommandKind};
 
 use crate::choice::{Choice, Kind, Need};
 use crate::options::{
-    ALPHA, ANNOUNCE, BIND, BITS, C1, C2, FAMILY, GROUP, HOSTILE, K, KEY, NODES, OWN, PATHS,
-    RECEIVES, SEED, TARGET, TIMEOUT, TRIES, VALUE, WORKERS,
+    ALPHA, ANNOUNCE, BIND, BITS, C1, C2, FAMILY, GROUP, HOSTILE, K, KEY, NODE_RECEIVES, NODES, OWN,
+    PATHS, RECEIVES, SEED, TARGET, TIMEOUT, TRIES, VALUE, WORKERS,
 };
 use crate::values::{
     family, id, needed_bytes, needed_id, number, policy, port, seed, small, stands,
@@ -52,6 +52,12 @@ pub enum Command {
         receives: u32,
         workers: u8,
         sealed: bool,
+    },
+    /// Look for several identifiers at once, which the input names, and answer queries meanwhile, and on until that many
+    /// receive calls were made at least. The target in `look` is 20 zero bytes, and the family is that of IPv4.
+    Node {
+        look: LookWords,
+        receives: u32,
     },
     /// Make the routing table of the IPv4 contacts of contact lines, and print it as a saved text.
     Table {
@@ -136,6 +142,20 @@ static PUT: [Choice; 12] = [
 
 static SERVE: [Choice; 9] = [OWN, K, BITS, C1, C2, BIND, GROUP, RECEIVES, WORKERS];
 
+static NODE: [Choice; 11] = [
+    OWN,
+    K,
+    PATHS,
+    ALPHA,
+    TIMEOUT,
+    BITS,
+    C1,
+    C2,
+    BIND,
+    GROUP,
+    NODE_RECEIVES,
+];
+
 static TABLE: [Choice; 5] = [OWN, K, BITS, C1, C2];
 
 static REFRESH: [Choice; 3] = [TIMEOUT, BIND, GROUP];
@@ -154,6 +174,7 @@ pub enum CommandKind {
     Get,
     Put,
     Serve,
+    Node,
     Table,
     Refresh,
     Check,
@@ -172,6 +193,7 @@ pub(crate) fn kind_named(word: &str) -> Option<CommandKind>
         "get" => Some(CommandKind::Get),
         "put" => Some(CommandKind::Put),
         "serve" => Some(CommandKind::Serve),
+        "node" => Some(CommandKind::Node),
         "table" => Some(CommandKind::Table),
         "refresh" => Some(CommandKind::Refresh),
         "check" => Some(CommandKind::Check),
@@ -192,6 +214,7 @@ pub(crate) fn links(kind: CommandKind) -> bool
             | CommandKind::Get
             | CommandKind::Put
             | CommandKind::Serve
+            | CommandKind::Node
             | CommandKind::Refresh
     )
 }
@@ -206,6 +229,7 @@ pub(crate) fn options(kind: CommandKind) -> &'static [Choice]
         CommandKind::Get => &GET,
         CommandKind::Put => &PUT,
         CommandKind::Serve => &SERVE,
+        CommandKind::Node => &NODE,
         CommandKind::Table => &TABLE,
         CommandKind::Refresh => &REFRESH,
         CommandKind::Check => &CHECK,
@@ -230,6 +254,7 @@ pub(crate) fn command_for(
         CommandKind::Get => Ok(get(matches)),
         CommandKind::Put => put(alloc, matches),
         CommandKind::Serve => Ok(serve(matches)),
+        CommandKind::Node => Ok(node(matches)),
         CommandKind::Table => Ok(table(matches)),
         CommandKind::Refresh => Ok(refresh(matches)),
         CommandKind::Check => Ok(check(matches)),
@@ -243,16 +268,18 @@ fn look(matches: &ArgMatches, goal: &Choice) -> LookWords
     requires target { Fits (entry_of goal.now) (taken_of matches.now goal.now.name.now) }
     requires kind { goal.now.kind ≡ Kind.Identifier }
     requires need { goal.now.need ≡ Need.Required }
+    requires family { Fits family_option.entry (taken_of matches.now family_option.entry.name) }
     requires fits { LookFits (taken_of matches.now) }
     ensures { IsLook (entry_of goal.now) (taken_of matches.now) result }
 {
-    look_at(matches, needed_id(matches, goal))
+    look_at(matches, needed_id(matches, goal), family(matches, &FAMILY))
 }
 
-/// The options of a lookup with this target.
-fn look_at(matches: &ArgMatches, target: Id) -> LookWords
+/// The options of a lookup with this target, in the network of this family.
+fn look_at(matches: &ArgMatches, target: Id, family: Family) -> LookWords
     requires { LookFits (taken_of matches.now) }
-    ensures { IsLookAt target (taken_of matches.now) result }
+    ensures look { IsLookAt target (taken_of matches.now) result }
+    ensures family { result.family ≡ family }
 {
     LookWords {
         target,
@@ -263,7 +290,7 @@ fn look_at(matches: &ArgMatches, target: Id) -> LookWords
         timeout: number(matches, &TIMEOUT),
         bits: small(matches, &BITS),
         policy: policy(matches),
-        family: family(matches, &FAMILY),
+        family,
         sealed: stands(matches, &GROUP),
     }
 }
@@ -306,7 +333,7 @@ fn put(alloc: Global, matches: &ArgMatches) -> Result<Command, NoMemory>
 {
     let value = needed_bytes(alloc, matches, &VALUE)?;
     Ok(Command::Put {
-        look: look_at(matches, key_of(value.as_slice())),
+        look: look_at(matches, key_of(value.as_slice()), family(matches, &FAMILY)),
         value,
     })
 }
@@ -332,6 +359,17 @@ fn serve(matches: &ArgMatches) -> Command
         receives: number(matches, &RECEIVES),
         workers: small(matches, &WORKERS),
         sealed: stands(matches, &GROUP),
+    }
+}
+
+fn node(matches: &ArgMatches) -> Command
+    requires { AllFit (options_of node) (taken_of matches.now) }
+    ensures says { Says (taken_of matches.now) result }
+    ensures word { word_of result ≡ node }
+{
+    Command::Node {
+        look: look_at(matches, Id([0; 20]), Family::Four),
+        receives: number(matches, &NODE_RECEIVES),
     }
 }
 

@@ -72,6 +72,9 @@ pub(crate) const ANNOUNCE: Choice = choice!("announce", 0, 65_535);
 
 pub(crate) const RECEIVES: Choice = choice!("receives", 1, 1_000_000_000, 1_000_000_000);
 
+/// The same option of `node`, which may want none.
+pub(crate) const NODE_RECEIVES: Choice = choice!("receives", 0, 1_000_000_000, 0);
+
 pub(crate) const WORKERS: Choice = choice!("workers", 1, 8, 1);
 
 pub(crate) const SEED: Choice = choice!("seed", Bytes32, Optional);

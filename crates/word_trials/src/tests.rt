@@ -320,6 +320,42 @@ fn words_of_serve(rt: HostRuntime) {
 }
 
 #[test]
+fn words_of_node(rt: HostRuntime) {
+    let target = Id([0; 20]);
+    let look = LookWords { target, ..look() };
+    let greatest = LookWords {
+        target,
+        family: Family::Four,
+        ..greatest()
+    };
+    for (line, look, receives) in [
+        ("node", look, 0),
+        ("node --receives 0", look, 0),
+        ("node --receives 1000000000", look, 1_000_000_000),
+        (
+            "node --bind [0000:0000:0000:0000:0000:0000:0000:0001]:1 --c2 0 --paths 1",
+            LookWords {
+                policy: Policy::Puzzled { c1: 0, c2: 0 },
+                paths: 1,
+                ..look
+            },
+            0,
+        ),
+        (
+            "node --own ID --k 20 --paths 8 --alpha 4 --timeout 60000 --bits 5 --c1 32 --c2 32 --bind 1.2.3.4:5 --group SEED --receives 1",
+            greatest,
+            1,
+        ),
+    ] {
+        assert_eq!(rt;
+            read_line(rt.alloc(), line),
+            Ok(Command::Node { look, receives }),
+            "at {line}"
+        );
+    }
+}
+
+#[test]
 fn words_of_table_and_check(rt: HostRuntime) {
     let puzzled = Policy::Puzzled { c1: 8, c2: 0 };
     for (line, own, k, bits, policy) in [
@@ -492,8 +528,23 @@ fn words_that_are_refused(rt: HostRuntime) {
         "serve --workers 0",
         "serve --workers 9",
         "lookup --target ID --workers 1",
+        "lookup --target ID --receives 1",
         "serve --paths 1",
         "serve --family 4",
+        "node --receives 1000000001",
+        "node --receives 00",
+        "node --receives",
+        "node --receives 1 --receives 1",
+        "node --target ID",
+        "node --key ID",
+        "node --value 35",
+        "node --family 4",
+        "node --announce 1",
+        "node --workers 1",
+        "node --k 0",
+        "node --paths 9",
+        "node ID",
+        "nodes",
         "table --target ID",
         "table --group SEED",
         "table --bind 127.0.0.1:1",
@@ -630,6 +681,9 @@ fn the_address_to_bind(rt: HostRuntime) {
         ("lookup --target ID --family 6", chosen_six, true),
         ("get --key ID --bind 127.0.0.1:7000", local, true),
         ("put --value 35 --family 6", chosen_six, true),
+        ("node", chosen, true),
+        ("node --bind 127.0.0.1:7000 --k 3", local, true),
+        ("nodes", chosen, false),
         ("lookup --target ID --family 4", chosen, true),
         ("peers --family 5 --family 6", chosen, true),
         ("peers --family 6 --family 4", chosen_six, true),
@@ -667,6 +721,8 @@ fn the_key_of_a_group(rt: HostRuntime) {
         ("lookup --target ID", None, true),
         ("peers", None, true),
         ("serve --receives 1", None, true),
+        ("node", None, true),
+        ("node --group SEED", key, false),
         ("table", None, false),
         ("check", None, false),
         ("mint --seed SEED", None, false),
