@@ -1,5 +1,5 @@
 -- A node that several workers serve, from the first look at the link's clock to its end.
-use Rattle.std.proofs.Common.{◌≡◌, ℕ, ◌≤◌, List, [], ◌∷◌, ◌++◌, Option, inl, refl, sym, ap, subst, arith, ◌∙◌}
+use Rattle.std.proofs.Common.{◌≡◌, ℕ, List, [], ◌∷◌, ◌++◌, Option, inl, refl, sym, ap, subst, arith, ◌∙◌}
 use Rattle.std.proofs.lemmas.List.{append-nil}
 use Rattle.kad_base.specs.declared.types.Event.{Event}
 use Rattle.kad_base.specs.declared.types.Event.TheVariants.{Now}
@@ -15,7 +15,7 @@ use Rattle.node_serve.specs.declared.setting.ServeSetting.{ServeSetting}
 use Rattle.serve_batches.specs.ManyServed.{ManyServed, ManyBegun}
 use Rattle.node_top.specs.declared.commands.serve.Service.{Service}
 use Rattle.node_top.specs.Called.{Called}
-use Rattle.node_top.specs.Commands.Served.{begun_at, setting_of, Served, ServedSome, ServedAtOnce, ServedSomeAtOnce, HasServed, HasServedSome, alone, at_once, some_alone, some_at_once}
+use Rattle.node_top.specs.Commands.Served.{setting_of, Served, ServedSome, ServedAtOnce, ServedSomeAtOnce, HasServed, HasServedSome, alone, at_once, some_alone, some_at_once}
 use Rattle.node_top.specs.Shown.{Shown}
 use Rattle.node_top.specs.Started.{own_of}
 

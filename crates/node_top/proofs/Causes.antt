@@ -1,5 +1,5 @@
 -- The ends of the top calls, whatever the command is. Nothing here names one.
-use Rattle.std.proofs.Common.{◌≡◌, ◌≢◌, ◌⊎◌, ℕ, List, Option, Result, Ok, Err, IfOk, IfErr, IsTrue, inl, inr, refl, sym, subst, arith}
+use Rattle.std.proofs.Common.{◌≡◌, ◌≢◌, ◌⊎◌, ℕ, List, Result, Ok, Err, IfOk, IfErr, IsTrue, inl, inr, refl, sym, subst, arith}
 use Rattle.kad_base.specs.declared.types.Event.{Event}
 use Rattle.kad_base.specs.Outside.{Grows, Rose}
 use Rattle.kad_words.specs.Table.{Word}
@@ -9,8 +9,6 @@ use Rattle.kad_words.proofs.OneCommand.{command_once}
 use Rattle.node_top.specs.declared.status.Status.{Status}
 use Rattle.node_top.specs.declared.status.Status.TheVariants.{Usage, BadLine, LinkFault, SourceFault, Strays, NoSeeds, NoMemory, Unminted, TooLong, BadValue, Unsound}
 use Rattle.node_top.specs.Asked.{Asks}
-use Rattle.node_top.specs.Looked.{GivesNoSeeds}
-use Rattle.node_top.specs.Promise.{Sought}
 use Rattle.node_top.specs.Shown.{Shown, IsTold, HasFailed, nowhere}
 use Rattle.node_top.specs.Input.{ReadsTooMuch}
 use Rattle.node_top.specs.Commands.{EndsInStrays, promise_of, HasText, IsCaused, HasCause, HasBegun, HasStart, HasNoSeeds, HasStrays, HasBadLine, HasBadValue, HasUnsound, HasNoLastStray, HasNothing, ReadsInput, GoesWell, IsDone}
@@ -94,7 +92,7 @@ linkless command n called source Unsound c = absurd ((lawful command).restores n
 linkless command n called source BadValue c = absurd ((lawful command).refuses n ((lawful command).means called source nowhere BadValue c))
 linkless command n called source NoSeeds c =
     let none_ = (lawful command).means called source nowhere NoSeeds c in
-    absurd (subst (λ (o : Option Sought). GivesNoSeeds o called.random source) ((lawful command).seeks n) none_.1)
+    absurd ((lawful command).seeks n called source none_.1)
 linkless command n called source other c = ((λ e. absurd cc), (λ e. absurd cc), (λ e. absurd cc), (λ e. absurd cc), (λ e. absurd cc))
 
 -- no command's cause is that of words which ask for none

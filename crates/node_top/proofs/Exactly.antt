@@ -16,8 +16,7 @@ use Rattle.lookup_run.specs.Tells.{Given, EndsAtStray}
 use Rattle.node_top.specs.Lines.{lines, Reporting, IsBad, IsFirstBad}
 use Rattle.node_top.specs.Shown.{Shown}
 use Rattle.node_top.specs.Input.{ReadsAll, ReadsFew, ReadsTooMuch, Admits, Reads, ReadsSome, ReadsAs, IsGood, IsBadLine, AreGoodLines, IsBadContactLine}
-use Rattle.node_top.specs.Looked.{NeverInStrays, IsInStrays, GivesNoSeeds, ShowsLastStray}
-use Rattle.node_top.specs.Promise.{Sought}
+use Rattle.node_top.specs.Looked.{NeverInStrays, IsInStrays, GivesNoSeeds, Sought}
 use Rattle.node_top.specs.Started.{own_of, lookup_of}
 use Rattle.node_top.proofs.TextLaws.{read_or_bad, reading_once}
 use Rattle.node_top.specs.Called.{Called}
@@ -73,7 +72,7 @@ unread_not_bad source number told same bad =
 
 -- ---- what it gives
 
-admits_once : (own : Id) (family : Family) (policy : Policy) (rs : List Report) (xs ys : List Contact) → Admits own family policy rs xs → Admits own family policy rs ys → xs ≡ ys
+pub admits_once : (own : Id) (family : Family) (policy : Policy) (rs : List Report) (xs ys : List Contact) → Admits own family policy rs xs → Admits own family policy rs ys → xs ≡ ys
 admits_once own family policy [] xs ys s t = s ∙ sym t
 admits_once own family policy (r ∷ rs) xs ys s t =
     elim s [
@@ -118,14 +117,13 @@ good_few good source g = all_few source.before source.after g.input g.read
 pub some_not_none : (own : Id) (family : Family) (policy : Policy) (source : Shown ℕ) → source.after ≢ None → ReadsSome own family policy source → Reads own family policy source [] → ⊥
 some_not_none own family policy source told some_ none_ = some_.some_one (reads_once own family policy source some_.contacts [] told some_.reads none_)
 
-pub none_good : (sought : Option Sought) (random : List ℕ) (source : Shown ℕ) → GivesNoSeeds sought random source → ReadsAs AreGoodLines source
-none_good None random source n = absurd n
-none_good (Some sought) random source n = reads_good (own_of sought.look.own random) sought.look.family sought.look.policy source [] n
+pub none_good : (sought : Sought) (random : List ℕ) (source : Shown ℕ) → GivesNoSeeds sought random source → ReadsAs AreGoodLines source
+none_good sought random source n = reads_good (own_of sought.look.own random) sought.look.family sought.look.policy source [] n
 
 -- ---- whether the last stray came
 
 -- where the content is told, one list was added
-added_once : {A : Type 0} (old new : Option (List A)) (P : List A → Type 0) → new ≢ None → Grows old new P → Grows old new (λ t. P t → ⊥) → ⊥
+pub added_once : {A : Type 0} (old new : Option (List A)) (P : List A → Type 0) → new ≢ None → Grows old new P → Grows old new (λ t. P t → ⊥) → ⊥
 added_once old None P told g h = told refl
 added_once {A} old (Some after) P told g h =
     let before : g.before ≡ h.before = (let e = g.was in let f = h.was in cc) in
@@ -145,9 +143,8 @@ none_last g number e = nothing_more e.1.before (Got e.1.from e.1.bytes e.1.until
     nothing_more (y ∷ es) x e = cc
 
 -- where nothing was told it didn't
-pub uncalled_not_last : (sought : Option Sought) (called : Called) (link : Shown Event) → link.after ≢ None → link.after ≡ link.before → ShowsLastStray sought called link → ⊥
-uncalled_not_last None called link told same t = t
-uncalled_not_last (Some sought) called link told same t =
+pub uncalled_not_last : (sought : Sought) (called : Called) (link : Shown Event) → link.after ≢ None → link.after ≡ link.before → IsInStrays sought.kind sought.look called link → ⊥
+uncalled_not_last sought called link told same t =
     let g = lookup_of sought.kind sought.look called in
     let Last : List Event → Type 0 = (λ events. (J : List Entry) × EndsAtStray g J events max_strays) in
     let none_ : Grows link.before link.after (λ events. Last events → ⊥) = subst (λ (o : Option (List Event)). Grows link.before o (λ events. Last events → ⊥)) (sym same) (grows_none link.before (λ events. Last events → ⊥) (none_last g max_strays)) in

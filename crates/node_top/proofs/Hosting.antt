@@ -40,11 +40,12 @@ module _ (ranges : Type 0) (text : Called → Shown ℕ → Shown Event → List
     sound = λ called source link written told t unsound. unsound;
     seeded = λ called source link written told t none_. none_;
     few = λ called source link written told t last. last;
+    uncalled = λ called link told same last. last;
     behind = λ called source link s c. behind called source link s c;
     well = λ called source link n. (n.told, n.reads, lines_good source n.good);
     needed = λ called source link s n c. needed source link (begun called source link) s n c;
     in_ends = λ called source link s c. in_ends source link (begun called source link) s c;
-    seeks = λ none_. refl;
+    seeks = λ none_ called source no_one. no_one;
     counts = λ none_ called source link last. last;
     restores = λ none_ source unsound. unsound;
   })
@@ -58,11 +59,12 @@ judging_lawful ranges text good = reading_lawful (judge_aim ranges text) (record
   sound = λ called source link written told t unsound. unsound;
   seeded = λ called source link written told t none_. none_;
   few = λ called source link written told t last. last;
+  uncalled = λ called link told same last. last;
   behind = λ called source link s c. absurd c;
   well = λ called source link n. (n.told, n.reads, lines_good source (record { reports = n.reports; lists = n.lists }));
   needed = λ called source link s n c. c;
   in_ends = λ called source link s c. absurd c;
-  seeks = λ none_. refl;
+  seeks = λ none_ called source no_one. no_one;
   counts = λ none_ called source link last. last;
   restores = λ none_ source unsound. unsound;
 })

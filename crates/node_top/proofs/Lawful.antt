@@ -1,11 +1,10 @@
 -- What every promise keeps: its ends exclude each other, and each status says the same of whatever command it ends.
-use Rattle.std.proofs.Common.{◌≡◌, ℕ, List, IsTrue, None}
+use Rattle.std.proofs.Common.{◌≡◌, ℕ, List, IsTrue}
 use Rattle.kad_base.specs.declared.types.Event.{Event}
 use Rattle.node_top.specs.declared.status.Status.{Status}
 use Rattle.node_top.specs.declared.status.Status.TheVariants.{Usage, BadLine, LinkFault, SourceFault, Strays, NoSeeds, NoMemory, Unminted, TooLong, BadValue, Unsound}
 use Rattle.node_top.specs.Endings.{number_of, EndsUnasked, MayEnd, OrNoMemory}
 use Rattle.node_top.specs.Input.{ReadsTooMuch, IsBadLine}
-use Rattle.node_top.specs.Looked.{GivesNoSeeds, ShowsLastStray}
 use Rattle.node_top.specs.Promise.{Promise}
 use Rattle.node_top.specs.Shown.{Shown, IsTold, HasFailed}
 use Rattle.node_top.specs.Called.{Called}
@@ -13,8 +12,8 @@ use Rattle.node_top.specs.Called.{Called}
 -- what brings a status, whatever else holds
 abbrev pub Sign : Promise → Called → Shown ℕ → Shown Event → Status → Type 0
 Sign p called source link (BadLine line) = IsBadLine p.bad source line
-Sign p called source link NoSeeds = (¬ p.refused) × GivesNoSeeds p.sought called.random source
-Sign p called source link Strays = ShowsLastStray p.sought called link
+Sign p called source link NoSeeds = (¬ p.refused) × p.no_seeds called source
+Sign p called source link Strays = p.last_stray called link
 Sign p called source link Unminted = p.nothing called.random
 Sign p called source link TooLong = ReadsTooMuch source.before source.after
 Sign p called source link BadValue = p.refused
@@ -37,7 +36,7 @@ Means p called source link (BadLine line) = IsTrue p.reads × IsBadLine p.bad so
 Means p called source link LinkFault = HasFailed link × p.started called source × p.begun called source link × p.few called source link
 Means p called source link SourceFault = IsTrue p.reads × HasFailed source
 Means p called source link Strays = p.strays called source link × p.started called source × p.begun called source link
-Means p called source link NoSeeds = (¬ p.refused) × GivesNoSeeds p.sought called.random source
+Means p called source link NoSeeds = (¬ p.refused) × p.no_seeds called source
 Means p called source link NoMemory = Unit {0}
 Means p called source link Unminted = p.nothing called.random
 Means p called source link TooLong = IsTrue p.reads × ReadsTooMuch source.before source.after
@@ -59,7 +58,7 @@ pub record Lawful (p : Promise) : Type 0 where
   pub means : (called : Called) (source : Shown ℕ) (link : Shown Event) (s : Status) → p.cause called source link s → Means p called source link s
   -- what is looked up is so over the link, and so is who counts strays, what is restored and whose value may be refused; and
   -- a search needs none
-  pub seeks : ¬ IsTrue p.links → p.sought ≡ None
+  pub seeks : ¬ IsTrue p.links → (called : Called) (source : Shown ℕ) → ¬ p.no_seeds called source
   pub counts : ¬ IsTrue p.links → (called : Called) (source : Shown ℕ) (link : Shown Event) → ¬ p.strays called source link
   pub restores : ¬ IsTrue p.links → (source : Shown ℕ) → ¬ p.unsound source
   pub refuses : ¬ IsTrue p.links → ¬ p.refused

@@ -2,6 +2,7 @@ pub mod LineSpelling
 pub mod LineLaws
 pub mod Printing
 pub mod TextLaws
+pub mod FindLaws
 pub mod Parts
 pub mod Ranges
 pub mod Starting
@@ -29,6 +30,7 @@ pub mod Serving
 pub mod AtOnce
 pub mod Tabling
 pub mod Refreshing
+pub mod Severally
 pub mod Unstrayed
 pub mod OneTable
 pub mod OneSim

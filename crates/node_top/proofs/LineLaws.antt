@@ -42,7 +42,7 @@ turn_of input n i line h =
       is = ap (λ (p : ℕ × List ℕ). p.1) e;
     }
 
-turned : (input : List (List ℕ)) (n i : ℕ) (line : List ℕ) → IsTurn input n i line → take (n + 1) input ≡ take n input ++ line ∷ []
+pub turned : (input : List (List ℕ)) (n i : ℕ) (line : List ℕ) → IsTurn input n i line → take (n + 1) input ≡ take n input ++ line ∷ []
 turned input n i line t = let lt = t.inside in take_more input n line t.inside ∙ ap (λ (l : List ℕ). take n input ++ l ∷ []) (sym t.is)
 
 pub turn_none : (input : List (List ℕ)) (reports : List Report) (n m i : ℕ) (line : List ℕ) → IsTurn input n i line → m ≡ n + 1 → Reporting (take n input) reports → Tells line None → Reporting (take m input) reports

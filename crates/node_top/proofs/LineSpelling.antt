@@ -123,7 +123,7 @@ not_passed (b ∷ rest) n c p = c p
 
 -- ---- a contact line is ASCII
 
-ascii_of : (xs : List ℕ) → All IsVisible xs → All (λ c. c < 128) xs
+pub ascii_of : (xs : List ℕ) → All IsVisible xs → All (λ c. c < 128) xs
 ascii_of xs h k d lt = (h k d lt).1
 
 proof_ascii : (text : List ℕ) (proof : Proof) → SpellsProof text proof → All (λ c. c < 128) text

@@ -1,12 +1,12 @@
 -- What a command does behind its input that looks up keeps the laws of what is done there. Nothing here names one.
-use Rattle.std.proofs.Common.{ℕ, List, [], ◌∷◌, Some, inl, inr, refl}
+use Rattle.std.proofs.Common.{ℕ, List, [], ◌∷◌, inl, inr, refl}
 use Rattle.kad_base.specs.declared.types.Event.{Event}
 use Rattle.node_top.specs.declared.status.Status.{Status}
 use Rattle.node_top.specs.declared.status.Status.TheVariants.{LinkFault, Strays, NoSeeds}
 use Rattle.node_top.specs.Endings.{number_of}
 use Rattle.node_top.specs.Input.{AreGoodLines, ReadsAs, ReadsSome}
-use Rattle.node_top.specs.Looked.{LookupBegun, NeverInStrays, SeekCause, SeeksWell, seek_aim}
-use Rattle.node_top.specs.Promise.{Sought, IsOneOf, reading}
+use Rattle.node_top.specs.Looked.{LookupBegun, NeverInStrays, SeekCause, SeeksWell, Sought, seek_aim}
+use Rattle.node_top.specs.Promise.{IsOneOf, reading}
 use Rattle.node_top.specs.Shown.{Shown, IsTold, HasFailed}
 use Rattle.node_top.specs.Started.{own_of, Start}
 use Rattle.node_top.proofs.Exactly.{lines_apart, none_good, reads_good, some_not_none, few_not_last, uncalled_not_last}
@@ -58,7 +58,7 @@ module _ (sought : Sought) (text : Called → Shown ℕ → Shown Event → List
     reads_good (own_of sought.look.own called.random) sought.look.family sought.look.policy source [] c,
     ((λ refused. refused), c),
     λ told none_. inl refl,
-    λ told early last. absurd (uncalled_not_last (Some sought) called link told (early (inr (inr (inr (inl refl))))) last),
+    λ told early last. absurd (uncalled_not_last sought called link told (early (inr (inr (inr (inl refl))))) last),
     λ told unsound. absurd unsound,
   )
   behind called source link other c = absurd c
@@ -67,16 +67,17 @@ module _ (sought : Sought) (text : Called → Shown ℕ → Shown Event → List
   seeking_lawful = reading_lawful (seek_aim sought text begun) (record {
     good = λ called source link written x. let s = starts called source link written x in reads_good (own_of sought.look.own called.random) sought.look.family sought.look.policy source s.contacts s.reads;
     apart = lines_apart;
-    seedless = λ called source none_. none_good (Some sought) called.random source none_;
+    seedless = λ called source none_. none_good sought called.random source none_;
     unrestored = λ source unsound. absurd unsound;
     sound = λ called source link written told x unsound. unsound;
     seeded = λ called source link written told x none_. some_not_none (own_of sought.look.own called.random) sought.look.family sought.look.policy source told (start_seeds sought called source link (starts called source link written x)) none_;
     few = λ called source link written told x last. few_not_last sought called link told (few called source link written x) last;
+    uncalled = λ called link told same last. uncalled_not_last sought called link told same last;
     behind = λ called source link s c. behind called source link s c;
     well = λ called source link n. well sought called source link n;
     needed = λ called source link s n c. needed sought called source link s n c;
     in_ends = λ called source link s c. in_ends sought called source link s c;
-    seeks = λ none_. absurd (none_ refl);
+    seeks = λ none_ called source no_one. none_ refl;
     counts = λ none_ called source link last. none_ refl;
     restores = λ none_ source unsound. unsound;
   })

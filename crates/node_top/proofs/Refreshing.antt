@@ -85,11 +85,12 @@ refreshing_lawful timeout sealed = reading_lawful (refresh_aim timeout sealed) (
   sound = λ called source link written told t n. sound_or_not source t.refreshes.table told t.refreshes.restores n;
   seeded = λ called source link written told t none_. none_;
   few = λ called source link written told t last. last;
+  uncalled = λ called link told same last. last;
   behind = λ called source link s c. behind timeout sealed called source link s c;
   well = λ called source link n. (n.told, n.reads, restored source n.table n.restores);
   needed = λ called source link s n c. needed timeout sealed called source link s n c;
   in_ends = λ called source link s c. in_ends timeout sealed called source link s c;
-  seeks = λ none_. refl;
+  seeks = λ none_ called source no_one. no_one;
   counts = λ none_ called source link last. none_ refl;
   restores = λ none_ source n. none_ refl;
 })

@@ -1,15 +1,14 @@
 -- What a command does behind its input keeps laws of its own; then the command that reads it keeps those of every promise.
 -- So does a command that reads nothing.
-use Rattle.std.proofs.Common.{◌≡◌, ℕ, List, [], IsTrue, None, inl, inr, refl, true≢false, sym}
+use Rattle.std.proofs.Common.{◌≡◌, ℕ, List, [], IsTrue, inl, inr, refl, true≢false, sym}
 use Rattle.kad_base.specs.declared.types.Event.{Event}
 use Rattle.node_top.specs.declared.status.Status.{Status}
 use Rattle.node_top.specs.declared.status.Status.TheVariants.{BadLine, SourceFault, Strays, NoSeeds, NoMemory, Unminted, TooLong, Unsound}
 use Rattle.node_top.specs.Endings.{number_of, MayEnd, OrNoMemory}
 use Rattle.node_top.specs.Input.{ReadsAs}
-use Rattle.node_top.specs.Looked.{GivesNoSeeds, ShowsLastStray}
 use Rattle.node_top.specs.Promise.{Aim, IsOneOf, ReadingCause, reading, UnreadCause, unread}
 use Rattle.node_top.specs.Shown.{Shown, IsTold, HasFailed}
-use Rattle.node_top.proofs.Exactly.{all_few, unread_few, few_not_much, unread_not_bad, good_not_bad, good_few, uncalled_not_last}
+use Rattle.node_top.proofs.Exactly.{all_few, unread_few, few_not_much, unread_not_bad, good_not_bad, good_few}
 use Rattle.node_top.proofs.Lawful.{Sign, IsJudged, Means, IsUncalled, Lawful}
 use Rattle.node_top.specs.Called.{Called}
 
@@ -20,23 +19,25 @@ use Rattle.node_top.specs.Called.{Called}
 abbrev pub Behind : Aim → Called → Shown ℕ → Shown Event → Status → Type 0
 Behind aim called source link status =
     ReadsAs aim.good source × Means (reading aim) called source link status
-    × (IsTold source → GivesNoSeeds aim.sought called.random source → OrNoMemory (number_of status) 8)
-    × (IsTold link → IsUncalled link status → ShowsLastStray aim.sought called link → OrNoMemory (number_of status) 7)
+    × (IsTold source → aim.no_seeds called source → OrNoMemory (number_of status) 8)
+    × (IsTold link → IsUncalled link status → aim.last_stray called link → OrNoMemory (number_of status) 7)
     × (IsTold source → aim.unsound source → OrNoMemory (number_of status) 13)
 
 pub record LawfulAim (aim : Aim) : Type 0 where
   pub good : (called : Called) (source : Shown ℕ) (link : Shown Event) (text : List ℕ) → aim.text called source link text → ReadsAs aim.good source
   pub apart : (input : List ℕ) (number : ℕ) → aim.good input → aim.bad input number → ⊥
-  pub seedless : (called : Called) (source : Shown ℕ) → GivesNoSeeds aim.sought called.random source → ReadsAs aim.good source
+  pub seedless : (called : Called) (source : Shown ℕ) → aim.no_seeds called source → ReadsAs aim.good source
   pub unrestored : (source : Shown ℕ) → aim.unsound source → ReadsAs aim.good source
   pub sound : (called : Called) (source : Shown ℕ) (link : Shown Event) (text : List ℕ) → IsTold source → aim.text called source link text → ¬ aim.unsound source
-  pub seeded : (called : Called) (source : Shown ℕ) (link : Shown Event) (text : List ℕ) → IsTold source → aim.text called source link text → ¬ GivesNoSeeds aim.sought called.random source
-  pub few : (called : Called) (source : Shown ℕ) (link : Shown Event) (text : List ℕ) → IsTold link → aim.text called source link text → ¬ ShowsLastStray aim.sought called link
+  pub seeded : (called : Called) (source : Shown ℕ) (link : Shown Event) (text : List ℕ) → IsTold source → aim.text called source link text → ¬ aim.no_seeds called source
+  pub few : (called : Called) (source : Shown ℕ) (link : Shown Event) (text : List ℕ) → IsTold link → aim.text called source link text → ¬ aim.last_stray called link
+  -- nor where nothing was told
+  pub uncalled : (called : Called) (link : Shown Event) → IsTold link → link.after ≡ link.before → ¬ aim.last_stray called link
   pub behind : (called : Called) (source : Shown ℕ) (link : Shown Event) (s : Status) → aim.cause called source link s → Behind aim called source link s
   pub well : (called : Called) (source : Shown ℕ) (link : Shown Event) → aim.needs called source link → IsTold source × (¬ HasFailed source) × ReadsAs aim.good source
   pub needed : (called : Called) (source : Shown ℕ) (link : Shown Event) (s : Status) → aim.needs called source link → ¬ aim.cause called source link s
   pub in_ends : (called : Called) (source : Shown ℕ) (link : Shown Event) (s : Status) → aim.cause called source link s → IsOneOf aim.ends (number_of s)
-  pub seeks : ¬ IsTrue aim.links → aim.sought ≡ None
+  pub seeks : ¬ IsTrue aim.links → (called : Called) (source : Shown ℕ) → ¬ aim.no_seeds called source
   pub counts : ¬ IsTrue aim.links → (called : Called) (source : Shown ℕ) (link : Shown Event) → ¬ aim.strays called source link
   pub restores : ¬ IsTrue aim.links → (source : Shown ℕ) → ¬ aim.unsound source
 
@@ -59,18 +60,18 @@ module _ (aim : Aim) (law : LawfulAim aim) (called : Called) (source : Shown ℕ
   with_bad line TooLong j c d = absurd (few_not_much source.before source.after j.0 (all_few source.before source.after d.input d.read) c)
   with_bad line s j c d = let b = law.behind called source link s c in absurd (not_bad line j.0 b.0 d)
 
-  with_none : (s : Status) → IsJudged source link NoSeeds → ReadingCause aim.bad (aim.cause called source link) source s → GivesNoSeeds aim.sought called.random source → OrNoMemory (number_of s) 8
+  with_none : (s : Status) → IsJudged source link NoSeeds → ReadingCause aim.bad (aim.cause called source link) source s → aim.no_seeds called source → OrNoMemory (number_of s) 8
   with_none (BadLine line) j c d = absurd (not_bad line j.0 (law.seedless called source d) c)
   with_none SourceFault j c d = absurd (j.1 c.0)
   with_none NoMemory j c d = inr refl
   with_none TooLong j c d = absurd (few_not_much source.before source.after j.0 (good_few aim.good source (law.seedless called source d)) c)
   with_none s j c d = let b = law.behind called source link s c in b.2 j.0 d
 
-  with_strays : (s : Status) → IsTold link → IsUncalled link s → ReadingCause aim.bad (aim.cause called source link) source s → ShowsLastStray aim.sought called link → OrNoMemory (number_of s) 7
-  with_strays (BadLine line) j early c d = absurd (uncalled_not_last aim.sought called link j (early (inr (inl refl))) d)
-  with_strays SourceFault j early c d = absurd (uncalled_not_last aim.sought called link j (early (inr (inr (inl refl)))) d)
+  with_strays : (s : Status) → IsTold link → IsUncalled link s → ReadingCause aim.bad (aim.cause called source link) source s → aim.last_stray called link → OrNoMemory (number_of s) 7
+  with_strays (BadLine line) j early c d = absurd (law.uncalled called link j (early (inr (inl refl))) d)
+  with_strays SourceFault j early c d = absurd (law.uncalled called link j (early (inr (inr (inl refl)))) d)
   with_strays NoMemory j early c d = inr refl
-  with_strays TooLong j early c d = absurd (uncalled_not_last aim.sought called link j (early (inr (inr (inr (inr (inr (inl refl))))))) d)
+  with_strays TooLong j early c d = absurd (law.uncalled called link j (early (inr (inr (inr (inr (inr (inl refl))))))) d)
   with_strays s j early c d = let b = law.behind called source link s c in b.3 j early d
 
   with_much : (s : Status) → IsTold source → ReadingCause aim.bad (aim.cause called source link) source s → Sign (reading aim) called source link TooLong → OrNoMemory (number_of s) 11
@@ -173,7 +174,7 @@ unread_lawful ends ranges text nothing apart ended = record {
   needed = λ called source link s n c. unread_needed ends ranges text nothing apart ended called source link s n c;
   may_end = λ called source link s c. unread_end ends ranges text nothing apart ended called source link s c;
   means = λ called source link s c. unread_means ends ranges text nothing apart ended called source link s c;
-  seeks = λ none_. refl;
+  seeks = λ none_ called source no_one. no_one;
   counts = λ none_ called source link last. last;
   restores = λ none_ source unsound. unsound;
   refuses = λ none_ refused. refused;

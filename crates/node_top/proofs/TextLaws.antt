@@ -45,7 +45,7 @@ ends_once x y p q a b (Some c) (Some d) e s t hp hq =
     let cut = cut_once 32 x y hp.0 hq.0 (no_space x (spelled_visible x a s)) (no_space y (spelled_visible y b t)) joined in
     (addr_once y a b (subst (λ (l : List ℕ). SpellsAddr l a) cut.0 s) t, ap (λ (z : Proof). Some z) (proof_once hq.0 c d (subst (λ (l : List ℕ). SpellsProof l c) cut.1 hp.2) hq.2))
 
-whole : (line id address rest : List ℕ) → line ≡ id ++ codes " " ++ address ++ rest → line ≡ id ++ (32 ∷ (address ++ rest))
+pub whole : (line id address rest : List ℕ) → line ≡ id ++ codes " " ++ address ++ rest → line ≡ id ++ (32 ∷ (address ++ rest))
 whole line id address rest e = e ∙ append_assoc (id ++ codes " ") address rest ∙ append_assoc id (codes " ") (address ++ rest)
 
 report_of : Id → Addr → Option Proof → Report
@@ -70,7 +70,7 @@ digit_first (c ∷ id) rest len d p =
     let test : is_hex_digit 35 ≡ true = ap is_hex_digit (sym p) ∙ one in
     cc test
 
-not_passed_over : (line : List ℕ) (report : Report) → IsContactLine line report → IsPassedOver line → ⊥
+pub not_passed_over : (line : List ℕ) (report : Report) → IsContactLine line report → IsPassedOver line → ⊥
 not_passed_over line report s p =
     let d = spells_digits 20 s.id report.contact.id.0 s.spells_id in
     digit_first s.id (32 ∷ (s.address ++ s.rest)) d.0 d.1 (subst IsPassedOver (whole line s.id s.address s.rest s.spelled) p)

@@ -8,11 +8,12 @@ use Rattle.node_top.specs.Endings.{number_of, MayEnd, OrNoMemory}
 use Rattle.node_top.specs.Input.{IsBadLine}
 use Rattle.node_top.specs.Promise.{Aim, ReadingCause, ValueCause, reading, valued}
 use Rattle.node_top.specs.Shown.{Shown, IsTold}
-use Rattle.node_top.proofs.Exactly.{few_not_much, uncalled_not_last, unread_few}
+use Rattle.node_top.proofs.Exactly.{few_not_much, unread_few}
 use Rattle.node_top.proofs.Lawful.{Sign, IsJudged, Means, IsUncalled, Lawful}
 
 module _ (good : Type 0) (aim : Aim) (law : Lawful (reading aim)) (over : IsTrue aim.links)
-    (unbad : (source : Shown ℕ) (number : ℕ) → IsTold source → source.after ≡ source.before → ¬ IsBadLine aim.bad source number) (sound : (source : Shown ℕ) → ¬ aim.unsound source) where
+    (unbad : (source : Shown ℕ) (number : ℕ) → IsTold source → source.after ≡ source.before → ¬ IsBadLine aim.bad source number)
+    (uncalled : (called : Called) (link : Shown Event) → IsTold link → link.after ≡ link.before → ¬ aim.last_stray called link) (sound : (source : Shown ℕ) → ¬ aim.unsound source) where
   module _ (called : Called) (source : Shown ℕ) (link : Shown Event) where
     abbrev Cause : Status → Type 0
     Cause s = ValueCause good (λ t. ReadingCause aim.bad (aim.cause called source link) source t) source s
@@ -37,7 +38,7 @@ module _ (good : Type 0) (aim : Aim) (law : Lawful (reading aim)) (over : IsTrue
     one_sign : (s t : Status) → IsJudged source link t → IsUncalled link s → Cause s → Sign (valued good aim) called source link t → OrNoMemory (number_of s) (number_of t)
     one_sign s (BadLine line) j early c d = through s (BadLine line) j early c d (λ bad same quiet. unbad source line j.0 same d)
     one_sign s NoSeeds j early c d = through s NoSeeds j early c ((λ refused. refused), d.1) (λ bad same quiet. d.0 bad)
-    one_sign s Strays j early c d = through s Strays j early c d (λ bad same quiet. uncalled_not_last aim.sought called link j quiet d)
+    one_sign s Strays j early c d = through s Strays j early c d (λ bad same quiet. uncalled called link j quiet d)
     one_sign s TooLong j early c d = through s TooLong j early c d (λ bad same quiet. few_not_much source.before source.after j (unread_few source.before source.after same) d)
     one_sign s Unsound j early c d = absurd (sound source d)
     one_sign s BadValue j early c d = with_value s c d

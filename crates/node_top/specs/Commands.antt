@@ -6,6 +6,7 @@ pub mod Minted
 pub mod Peered
 pub mod Refreshing
 pub mod Served
+pub mod Several
 pub mod Simulated
 pub mod Stored
 pub mod Tabled
@@ -17,7 +18,7 @@ use Rattle.kad_base.specs.Outside.{Grows}
 use Rattle.kad_words.specs.Table.{Word}
 use Rattle.kad_words.specs.Plain.{CommandOf}
 use Rattle.kad_words.specs.declared.command.Command.{Command}
-use Rattle.kad_words.specs.declared.command.Command.TheVariants.{Lookup, Peers, Get, Put, Serve, Table, Refresh, Check, Mint, Sim}
+use Rattle.kad_words.specs.declared.command.Command.TheVariants.{Lookup, Peers, Get, Put, Serve, Node, Table, Refresh, Check, Mint, Sim}
 use Rattle.node_top.specs.declared.commands.serve.Service.{Service}
 use Rattle.node_top.specs.declared.commands.sim.Simulation.{Simulation}
 use Rattle.node_top.specs.declared.status.Status.{Status}
@@ -26,7 +27,8 @@ use Rattle.node_top.specs.Asked.{AsksPlain}
 use Rattle.node_top.specs.Commands.Checked.{check_promise}
 use Rattle.node_top.specs.Commands.Got.{get_promise}
 use Rattle.node_top.specs.Commands.Served.{serve_promise}
-use Rattle.node_top.specs.Looked.{lookup_promise, GivesNoSeeds, ShowsLastStray}
+use Rattle.node_top.specs.Commands.Several.{node_promise}
+use Rattle.node_top.specs.Looked.{lookup_promise}
 use Rattle.node_top.specs.Commands.Minted.{seed_of, mint_promise}
 use Rattle.node_top.specs.Commands.Peered.{peers_promise}
 use Rattle.node_top.specs.Commands.Refreshing.{refresh_promise}
@@ -60,6 +62,7 @@ promise_of (Peers look announce) = peers_promise look announce
 promise_of (Get look) = get_promise look
 promise_of (Put look item) = put_promise look item
 promise_of (Serve own k bits policy receives workers sealed) = serve_promise (service_of own k bits policy receives workers sealed)
+promise_of (Node look receives) = node_promise look receives
 promise_of (Table own k bits policy) = table_promise own k bits policy
 promise_of (Refresh timeout sealed) = refresh_promise timeout sealed
 promise_of (Check policy) = check_promise policy
@@ -116,13 +119,13 @@ pub record HasUnsound (words : List Word) (source : Shown ℕ) : Type 0 where
   pub asked : CommandOf words command
   pub unsound : (promise_of command).unsound source
 
--- the words ask for a lookup, and have no value that it refuses; the input was read to its end, its lines are good, and none
--- gives a contact that is usable and passes
+-- the words ask for a command that looks something up, and have no value that it refuses; the input was read to its end, its
+-- lines are good, and none gives a contact that is usable and passes
 pub record HasNoSeeds (words : List Word) (called : Called) (source : Shown ℕ) : Type 0 where
   pub command : Command
   pub asked : CommandOf words command
   pub accepted : ¬ (promise_of command).refused
-  pub no_seeds : GivesNoSeeds (promise_of command).sought called.random source
+  pub no_seeds : (promise_of command).no_seeds called source
 
 -- the words ask for a command that counts strays, and the link's events end with the last that it takes: a lookup's by a
 -- journal of its own
@@ -137,11 +140,12 @@ pub record HasNoLastStray (words : List Word) (called : Called) (source : Shown 
   pub asked : CommandOf words command
   pub few : (promise_of command).few called source link
 
--- the words ask for a lookup that isn't sealed, and the link's events end with that stray, by whatever journal
+-- the words ask for a command that counts strays, and the link's events show by themselves that they end with that stray:
+-- those of a lookup that isn't sealed, by whatever journal
 pub record EndsInStrays (words : List Word) (called : Called) (link : Shown Event) : Type 0 where
   pub command : Command
   pub asked : CommandOf words command
-  pub strays : ShowsLastStray (promise_of command).sought called link
+  pub strays : (promise_of command).last_stray called link
 
 -- the words ask for a command, and have a value that it refuses
 pub record HasBadValue (words : List Word) : Type 0 where

@@ -1,5 +1,6 @@
 pub mod Asked
 pub mod Lines
+pub mod FindLines
 pub mod Printed
 pub mod Shown
 pub mod Called

@@ -1,6 +1,6 @@
 -- What the command `lookup` promises: that its text is that of the journal of a lookup that has run out, which the link's
 -- events tell (S/Kademlia, 2007, section 4.4, over Kademlia, 2002, section 2.3); and what any lookup is that ended early.
-use Rattle.std.specs.Prelude.{◌≡◌, ℕ, List, [], ◌∷◌, length, true, false, Option, Some, None}
+use Rattle.std.specs.Prelude.{◌≡◌, ℕ, List, [], ◌∷◌, length, true, false}
 use Rattle.std.specs.List.{IsDistinct}
 use Rattle.kad_base.specs.declared.types.Id.{Id}
 use Rattle.kad_base.specs.declared.types.Policy.{Policy}
@@ -28,9 +28,14 @@ use Rattle.node_top.specs.Printed.{printed}
 use Rattle.node_top.specs.Shown.{Shown, IsTold, HasFailed}
 use Rattle.node_top.specs.Called.{Called}
 use Rattle.node_top.specs.Input.{Reads, ReadsSome, AreGoodLines, IsBadContactLine}
-use Rattle.node_top.specs.Promise.{Promise, Sought, Aim, ReadingCause, reading}
+use Rattle.node_top.specs.Promise.{Promise, Aim, ReadingCause, reading}
 use Rattle.node_top.specs.Reached.{HasRunOut}
 use Rattle.node_top.specs.Started.{own_of, look_of, book_of, drawn_of, lookup_of, IsInRange, Start}
+
+-- the query that a lookup asks by, and its options
+pub record Sought : Type 0 where
+  pub kind : AskKind
+  pub look : LookWords
 
 -- the text of a journal
 abbrev pub printed_of : Setting → List Entry → List ℕ
@@ -103,14 +108,8 @@ InputCause own family policy source other = ReportsCause source other
 -- ---- what is looked up, if something is
 
 -- the input was read to its end, its lines are good, and none gives a contact of the network that is usable and passes
-abbrev pub GivesNoSeeds : Option Sought → List ℕ → Shown ℕ → Type 0
-GivesNoSeeds None random source = ⊥
-GivesNoSeeds (Some sought) random source = Reads (own_of sought.look.own random) sought.look.family sought.look.policy source []
-
--- the lookup isn't sealed, and the link's events end with the last stray that it takes, by whatever journal
-abbrev pub ShowsLastStray : Option Sought → Called → Shown Event → Type 0
-ShowsLastStray None called link = ⊥
-ShowsLastStray (Some sought) called link = IsInStrays sought.kind sought.look called link
+abbrev pub GivesNoSeeds : Sought → List ℕ → Shown ℕ → Type 0
+GivesNoSeeds sought random source = Reads (own_of sought.look.own random) sought.look.family sought.look.policy source []
 
 -- ---- what a command that looks up promises
 
@@ -129,7 +128,8 @@ seek_aim sought text begun = record {
   good = AreGoodLines;
   bad = IsBadContactLine;
   unsound = λ source. ⊥;
-  sought = Some sought;
+  no_seeds = λ called source. GivesNoSeeds sought called.random source;
+  last_stray = λ called link. IsInStrays sought.kind sought.look called link;
   strays = λ called source link. EndsByLastStray sought.kind sought.look called source link;
   few = λ called source link. MeetsFew sought.kind sought.look called source link;
   ends = 4 ∷ 7 ∷ 8 ∷ [];

@@ -45,6 +45,10 @@ printed_item item found asked failed turned = line_of (item_text item) ++ line_o
 abbrev pub key_text : Id → List ℕ
 key_text key = codes "key " ++ encode_lower key.0
 
+-- a target that was looked for, in lower-case hex
+abbrev pub find_text : Id → List ℕ
+find_text target = codes "find " ++ encode_lower target.0
+
 -- the last line of storing an item: the counts of its lookup, and how many puts were sent
 abbrev pub stored_text : ℕ → ℕ → ℕ → ℕ → ℕ → List ℕ
 stored_text found asked failed turned stored = counts_text found asked failed turned ++ codes " stored " ++ decimal stored

@@ -1,19 +1,12 @@
 -- What a command promises: one record of predicates, by what it is called with and by what the source and the link showed.
 -- Each command's own stands in its spec, and `promise_of` (`Commands`) is the table of all.
-use Rattle.std.specs.Prelude.{◌≡◌, ◌⊎◌, ℕ, List, [], ◌∷◌, Bool, true, false, Option, None}
+use Rattle.std.specs.Prelude.{◌≡◌, ◌⊎◌, ℕ, List, [], ◌∷◌, Bool, true, false}
 use Rattle.kad_base.specs.declared.types.Event.{Event}
-use Rattle.lookup_core.specs.declared.quest.AskKind.{AskKind}
-use Rattle.kad_words.specs.declared.command.LookWords.{LookWords}
 use Rattle.node_top.specs.declared.status.Status.{Status}
 use Rattle.node_top.specs.declared.status.Status.TheVariants.{BadLine, LinkFault, SourceFault, NoMemory, Unminted, TooLong, BadValue}
 use Rattle.node_top.specs.Input.{ReadsFew, ReadsTooMuch, ReadsWell, IsBadLine, IsGood, AreGoodLines, IsBadContactLine}
 use Rattle.node_top.specs.Shown.{Shown, IsTold, HasFailed}
 use Rattle.node_top.specs.Called.{Called}
-
--- the query that a lookup asks by, and its options
-pub record Sought : Type 0 where
-  pub kind : AskKind
-  pub look : LookWords
 
 pub record Promise : Type 1 where
   -- whether it reads the input, and takes the link
@@ -23,8 +16,10 @@ pub record Promise : Type 1 where
   pub bad : List ℕ → ℕ → Type 0
   -- an input without a bad line is a saved table that isn't sound
   pub unsound : Shown ℕ → Type 0
-  -- what it looks up, if it does
-  pub sought : Option Sought
+  -- an input without a bad line gives it nobody to begin with, where it looks something up
+  pub no_seeds : Called → Shown ℕ → Type 0
+  -- the link's events show by themselves that they end with the last stray that it takes
+  pub last_stray : Called → Shown Event → Type 0
   -- the link's events end with the last stray that it takes; and there were fewer
   pub strays : Called → Shown ℕ → Shown Event → Type 0
   pub few : Called → Shown ℕ → Shown Event → Type 0
@@ -62,7 +57,8 @@ pub record Aim : Type 1 where
   pub good : List ℕ → Type 0
   pub bad : List ℕ → ℕ → Type 0
   pub unsound : Shown ℕ → Type 0
-  pub sought : Option Sought
+  pub no_seeds : Called → Shown ℕ → Type 0
+  pub last_stray : Called → Shown Event → Type 0
   pub strays : Called → Shown ℕ → Shown Event → Type 0
   pub few : Called → Shown ℕ → Shown Event → Type 0
   pub ends : List ℕ
@@ -94,7 +90,8 @@ reading aim = record {
   links = aim.links;
   bad = aim.bad;
   unsound = aim.unsound;
-  sought = aim.sought;
+  no_seeds = aim.no_seeds;
+  last_stray = aim.last_stray;
   strays = aim.strays;
   few = aim.few;
   ends = 3 ∷ 6 ∷ 11 ∷ aim.ends;
@@ -115,7 +112,8 @@ judge_aim ranges text = record {
   good = AreGoodLines;
   bad = IsBadContactLine;
   unsound = λ source. ⊥;
-  sought = None;
+  no_seeds = λ called source. ⊥;
+  last_stray = λ called link. ⊥;
   strays = λ called source link. ⊥;
   few = λ called source link. Unit {0};
   ends = [];
@@ -146,7 +144,8 @@ host_aim ranges text begun = record {
   good = AreGoodLines;
   bad = IsBadContactLine;
   unsound = λ source. ⊥;
-  sought = None;
+  no_seeds = λ called source. ⊥;
+  last_stray = λ called link. ⊥;
   strays = λ called source link. ⊥;
   few = λ called source link. Unit {0};
   ends = 4 ∷ [];
@@ -173,7 +172,8 @@ valued good aim = record {
   links = aim.links;
   bad = aim.bad;
   unsound = aim.unsound;
-  sought = aim.sought;
+  no_seeds = aim.no_seeds;
+  last_stray = aim.last_stray;
   strays = aim.strays;
   few = aim.few;
   ends = 12 ∷ 3 ∷ 6 ∷ 11 ∷ aim.ends;
@@ -202,7 +202,8 @@ unread ends ranges text nothing = record {
   links = false;
   bad = IsBadContactLine;
   unsound = λ source. ⊥;
-  sought = None;
+  no_seeds = λ called source. ⊥;
+  last_stray = λ called link. ⊥;
   strays = λ called source link. ⊥;
   few = λ called source link. Unit {0};
   ends = ends;

@@ -14,6 +14,7 @@ pub(crate) mod check;
 pub(crate) mod get;
 pub(crate) mod lookup;
 pub(crate) mod mint;
+pub(crate) mod node;
 pub(crate) mod peers;
 pub(crate) mod put;
 pub(crate) mod refresh;
@@ -99,6 +100,9 @@ fn output_of<
                 sealed,
             };
             serve::serve(rt, alloc, &service, source, link, call)
+        }
+        Command::Node { look, receives } => {
+            node::node(rt, alloc, &look, receives, source, link, call)
         }
         Command::Refresh { timeout, sealed } => {
             refresh::refresh(alloc, timeout, sealed, source, link, call)

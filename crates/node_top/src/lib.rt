@@ -7,6 +7,7 @@ mod asked;
 mod bootstrap;
 mod call;
 mod commands;
+mod finds;
 mod input;
 mod item;
 mod laws;
@@ -17,6 +18,7 @@ mod run_lookup;
 mod status;
 mod top;
 
+pub use finds::{one_bad_find, one_naming};
 pub use laws::one_text;
 pub use lines::{one_bad_line, one_reading};
 pub use top::{run, run_plain};

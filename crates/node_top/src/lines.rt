@@ -30,7 +30,7 @@ impl From<NoMemory> for LinesFault {
 
 /// A line that is neither passed over nor a contact line.
 #[derive(Clone, Copy, Debug, PartialEq, Eq)]
-struct BadLine;
+pub(crate) struct BadLine;
 
 /// Reads the contact lines of an input, in order. Each of its lines is one of these: empty; a comment, which begins with
 /// `#`; `ID ADDRESS`; or `ID ADDRESS KEY X`. The address is `A.B.C.D:PORT`, or `[H:H:H:H:H:H:H:H]:PORT` where each H is
@@ -54,7 +54,7 @@ pub(crate) fn read_lines(alloc: Global, bytes: &[u8]) -> Result<Reports, LinesFa
 }
 
 /// Reads one line: the report of a contact line, or nothing where the line is passed over.
-fn read_line(line: &[u8]) -> Result<Option<Report>, BadLine>
+pub(crate) fn read_line(line: &[u8]) -> Result<Option<Report>, BadLine>
     ensures { MatchResult result (λ told. Tells line.now told) (λ _. IsBad line.now) }
 {
     let line = without_return(line);
@@ -71,7 +71,7 @@ fn read_line(line: &[u8]) -> Result<Option<Report>, BadLine>
 }
 
 /// A line without a carriage return at its end.
-fn without_return(line: &[u8]) -> &[u8]
+pub(crate) fn without_return(line: &[u8]) -> &[u8]
     ensures { result.now ≡ strip_carriage_return line.now }
 {
     match line {

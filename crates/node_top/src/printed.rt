@@ -5,7 +5,7 @@ ghost use Rattle.kad_base.specs.declared.types.Contact.{Contact};
 ghost use Rattle.kad_base.specs.declared.types.Ip.TheVariants.{V6};
 ghost use Rattle.kad_words.specs.Text.{FitsAddr, addr_text, ip_text};
 ghost use Rattle.node_top.specs.Lines.{IsContactLine};
-ghost use Rattle.node_top.specs.Printed.{printed, contact_text, counts_text, item_text, key_text, line_of, peers_text, printed_item, printed_peers, printed_stored, stored_text};
+ghost use Rattle.node_top.specs.Printed.{printed, contact_text, counts_text, item_text, key_text, line_of, peers_text, printed_item, printed_peers, printed_stored, find_text, served_text, stored_text};
 
 use claim_book::Counts;
 use kad_base::{Addr, Bytes, Contact, Id, Ip, List, NoMemory};
@@ -179,6 +179,21 @@ fn stored_line(
 {
     let counts = print_counts(alloc, found, counts.asked, counts.failed, counts.turned)?;
     format!(in alloc; "{counts} stored {stored}")
+}
+
+/// A target that was looked for, as it is printed.
+pub(crate) fn find_line(alloc: Global, target: &Id) -> Result<String, AllocError>
+    ensures { IfOk result (λ text. string_bytes text ≡ find_text target.now) }
+{
+    let digits = hex::encode(alloc, target.0)?;
+    format!(in alloc; "find {digits}")
+}
+
+/// The line of a node that served.
+pub(crate) fn served_line(alloc: Global, received: u64, replied: u64) -> Result<String, AllocError>
+    ensures { IfOk result (λ text. string_bytes text ≡ served_text received replied) }
+{
+    format!(in alloc; "received {received} replied {replied}")
 }
 
 /// Adds a text to an output, as a line.

@@ -51,8 +51,8 @@ pub fn run<
     seal: &G,
 ) -> u8
     // The text that was written is the command's own: a lookup's is that of a legal journal which the link's events tell
-    // and whose paths have run out, that of a node which served counts what they tell, and that of a refresh is the saved
-    // text of the table which they leave of the input's.
+    // and whose paths have run out, that of several lookups at once has one such journal for each, that of a node which
+    // served counts what they tell, and that of a refresh is the saved text of the table which they leave of the input's.
     ensures done { result ≡ 0 → IsDone (bytes_of words.now)
         (called_with random.now (G.accepted seal.now) (G.tag_of seal.now))
         (shown S.left S.faults source.old source.new)

@@ -1,7 +1,7 @@
 -- What the command `refresh` promises: that the input was the saved text of a sound table, that the link's events are those
 -- of the eviction pings of that table (Kademlia, 2002, section 2.2), and that the text is the saved text of the table that
 -- results. Which text a table has, and that all buckets are pinged in one call, is this project's own.
-use Rattle.std.specs.Prelude.{◌≡◌, ◌⊎◌, ℕ, List, [], ◌∷◌, Bool, true, None}
+use Rattle.std.specs.Prelude.{◌≡◌, ◌⊎◌, ℕ, List, [], ◌∷◌, Bool, true}
 use Rattle.kad_base.specs.declared.types.Event.{Event}
 use Rattle.kad_base.specs.Outside.{Happens}
 use Rattle.contact_table.specs.SavedState.{state_of}
@@ -111,7 +111,8 @@ refresh_aim timeout sealed = record {
   good = IsSaved;
   bad = IsBadSavedLine;
   unsound = λ source. RestoresNone source;
-  sought = None;
+  no_seeds = λ called source. ⊥;
+  last_stray = λ called link. ⊥;
   strays = λ called source link. RefreshEnds timeout sealed called source link fault.Strays;
   few = λ called source link. RefreshEnds timeout sealed called source link fault.LinkFault;
   ends = 4 ∷ 7 ∷ 13 ∷ [];

@@ -1,6 +1,6 @@
 //! The command `serve`: a node that answers queries, alone or by several workers at once, and in the end the text of how
 //! many datagrams came and how many replies it sent.
-ghost use Rattle.std.specs.Prelude.{◌≡◌, ◌≢◌, ◌≤◌, ◌⊎◌, Err, IfOk, IfErr, IsErrOf, string_bytes};
+ghost use Rattle.std.specs.Prelude.{◌≡◌, ◌≢◌, ◌≤◌, ◌⊎◌, Err, IfOk, IfErr, IsErrOf};
 ghost use Rattle.std.specs.List.{All};
 ghost use Rattle.kad_base.specs.Puzzles.{Passes};
 ghost use Rattle.node_serve.specs.declared.service.ServeFault.{ServeFault};
@@ -8,7 +8,7 @@ ghost use Rattle.node_top.specs.Called.{called_with};
 ghost use Rattle.node_top.specs.Input.{ReadsAtMost};
 ghost use Rattle.node_top.specs.Endings.{EndsUnasked, number_of};
 ghost use Rattle.node_top.specs.Looked.{ReportsCause};
-ghost use Rattle.node_top.specs.Printed.{printed_served, served_text};
+ghost use Rattle.node_top.specs.Printed.{printed_served};
 ghost use Rattle.node_top.specs.Commands.Served.{AreServiceBounds, HasServed, HasServedSome, Hosts, ServeBegun, ServeText, serve_promise};
 ghost use Rattle.node_top.specs.Started.{AreTableBounds, own_of};
 ghost use Rattle.node_top.specs.Shown.{shown, shown_link, HasFailed};
@@ -16,7 +16,7 @@ ghost use Rattle.node_top.specs.Shown.{shown, shown_link, HasFailed};
 use crate::bootstrap::{own_id, table_of};
 use crate::call::Call;
 use crate::input::{admitted, kept, read_reports};
-use crate::printed::add_line;
+use crate::printed::{add_line, served_line};
 use crate::status::Status;
 use contact_table::Table;
 use kad_base::{Bytes, Check, Family, Id, Link, List, NoMemory, Policy, Reports, Source};
@@ -24,7 +24,7 @@ use node_serve::{Node, ServeCounts, ServeFault, ServeSetting, serve_loop};
 use peer_store::Tokens;
 use seal_tags::{Seal, SealCheck};
 use serve_batches::serve_many;
-use std::alloc::{AllocError, Global};
+use std::alloc::Global;
 use std::sync::Wait;
 use std::thread::Threads;
 
@@ -73,19 +73,12 @@ fn read_host<S: Source, C: Check, G: Seal + SealCheck>(
     Ok(Host { table, proofs })
 }
 
-/// The one line of a node that served.
-fn print_served(alloc: Global, received: u32, replied: u32) -> Result<String, AllocError>
-    ensures { IfOk result (λ text. string_bytes text ≡ served_text received replied) }
-{
-    format!(in alloc; "received {received} replied {replied}")
-}
-
 /// The output of a node that served.
 fn text_of(alloc: Global, received: u32, replied: u32) -> Result<Bytes, NoMemory>
     ensures { IfOk result (λ text. text ≡ printed_served received replied) }
 {
     let mut output = List::new(alloc);
-    let Ok(line) = print_served(alloc, received, replied) else {
+    let Ok(line) = served_line(alloc, u64::from(received), u64::from(replied)) else {
         return Err(NoMemory);
     };
     add_line(&mut output, line.as_str())?;

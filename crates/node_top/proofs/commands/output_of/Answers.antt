@@ -1,5 +1,5 @@
 use Rattle.std.proofs.Common.{sym, ap, rules, ◌∙◌}
-use Rattle.kad_words.specs.declared.command.Command.TheVariants.{Lookup, Peers, Get, Put, Serve, Refresh}
+use Rattle.kad_words.specs.declared.command.Command.TheVariants.{Lookup, Peers, Get, Put, Serve, Node, Refresh}
 use Rattle.node_top.specs.Shown.{nowhere}
 use Rattle.node_top.proofs.Lawfully.{lawful}
 use Rattle.node_top.proofs.Causes.{begun_at, cause_at, text_at, unrefused}
@@ -26,6 +26,12 @@ returns-in-Put-clause-no_memory g c = begun_at c.put.result _ _ _ _ _ _ (ap (Put
 pub returns-in-Serve-clause-cause : goal.returns-in-Serve-clause-cause
 returns-in-Serve-clause-cause g c = cause_at c.serve.result _ _ _ _ _ (sym c.in-Serve.is) c.serve.ensures.cause
 
+pub returns-in-Node-clause-cause : goal.returns-in-Node-clause-cause
+returns-in-Node-clause-cause g c = cause_at c.node.result _ _ _ _ _ (sym c.in-Node.is) c.node.ensures.cause
+
+pub returns-in-Node-clause-no_memory : goal.returns-in-Node-clause-no_memory
+returns-in-Node-clause-no_memory g c = begun_at c.node.result _ _ _ _ _ _ (sym c.in-Node.is) c.node.ensures.no_memory
+
 pub returns-in-Refresh-clause-cause : goal.returns-in-Refresh-clause-cause
 returns-in-Refresh-clause-cause g c = cause_at c.refresh.result _ _ _ _ _ (sym c.in-Refresh.is) c.refresh.ensures.cause
 
@@ -45,6 +51,9 @@ returns-in-Get-clause-unread g c = unrefused c.get.result _ (Get c.in-Get.look) 
 
 pub returns-in-Serve-clause-unread : goal.returns-in-Serve-clause-unread
 returns-in-Serve-clause-unread g c = unrefused c.serve.result _ (Serve c.in-Serve.own c.in-Serve.k c.in-Serve.bits c.in-Serve.policy c.in-Serve.receives c.in-Serve.workers c.in-Serve.sealed) (λ refused. refused) _ _ _ c.serve.ensures.cause
+
+pub returns-in-Node-clause-unread : goal.returns-in-Node-clause-unread
+returns-in-Node-clause-unread g c = unrefused c.node.result _ (Node c.in-Node.look c.in-Node.receives) (λ refused. refused) _ _ _ c.node.ensures.cause
 
 pub returns-in-Refresh-clause-unread : goal.returns-in-Refresh-clause-unread
 returns-in-Refresh-clause-unread g c = unrefused c.refresh.result _ (Refresh c.in-Refresh.timeout c.in-Refresh.sealed) (λ refused. refused) _ _ _ c.refresh.ensures.cause

@@ -1,5 +1,3 @@
-use Rattle.std.specs.Prelude.{ℕ}
-use Rattle.node_serve.specs.declared.service.ServeFault.{ServeFault}
 use Rattle.node_top.specs.Called.{called_with}
 use Rattle.node_top.specs.Commands.Served.{some_alone}
 use Rattle.node_top.proofs.Begun.{err_then}
