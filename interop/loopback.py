@@ -390,6 +390,79 @@ class Ours:
         return self.process.stop(signal.SIGINT)
 
 
+class Looker:
+    """A node that `node` runs: it looks for what its input names, while it answers. It is there from the start, and begins
+    with its input; what it is asked before waits in its socket."""
+
+    kind = "nolzavirt"
+
+    def __init__(self, program, address, own=None, more=()):
+        self.address, self.name = address, own or os.urandom(20)
+        words = [program, "node", "--bind", words_of(address), "--own", self.name.hex(), *more]
+        self.process = Process(words, stdin=subprocess.PIPE, stdout=None)
+        if not wait_for(20, self.is_bound, 0.002):
+            raise Refusal("`node` binds no socket; it says: %s" % (self.process.said() or "nothing"))
+
+    def is_bound(self):
+        host, port = self.address
+        words = "%s:%04X" % (socket.inet_aton(host)[::-1].hex().upper(), port)
+        with open("/proc/net/udp") as table:
+            return any(line.split()[1] == words for line in table)
+
+    def begin(self, contacts, targets):
+        lines = "".join(["find %s\n" % target.hex() for target in targets])
+        self.process.child.stdin.write((contacts + lines).encode())
+        self.process.child.stdin.close()
+        self.process.child.stdin = None
+
+    def line(self):
+        return contact_line(self.name, self.address)
+
+    def output(self):
+        with open(self.process.log.name, "rb") as log:
+            return log.read().decode(errors="replace")
+
+    def end(self, seconds=60):
+        """Pings it until it has made its receive calls, and gives its output and its status."""
+        until, asker = time.monotonic() + seconds, Asker(self.address[0])
+        while self.process.child.poll() is None and time.monotonic() < until:
+            for _ in range(20):
+                asker.socket.sendto(query(b"end", b"ping", {b"id": asker.name}, True), self.address)
+            time.sleep(0.001)
+        asker.close()
+        return self.output(), self.process.child.poll()
+
+    def stop(self):
+        return self.process.stop(signal.SIGINT)
+
+
+Found = collections.namedtuple("Found", "target lines found asked failed turned")
+
+
+def finds_of(output):
+    """What `node` printed of each target, and how many datagrams it received and replies it sent; ValueError where the
+    output is none of `node`."""
+    lines, ones = output.splitlines(), []
+    while lines and lines[0].startswith("find "):
+        target, contacts = lines.pop(0).split()[1], []
+        while lines and not lines[0].startswith("found "):
+            contacts.append(lines.pop(0) + "\n")
+        counts = lines.pop(0).split() if lines else []
+        if counts[::2] != ["found", "asked", "failed", "turned"]:
+            raise ValueError("no counts behind the contacts of %s" % target)
+        ones.append(Found(bytes.fromhex(target), contacts, *map(int, counts[1::2])))
+    last = lines[0].split() if len(lines) == 1 else []
+    if last[::2] != ["received", "replied"]:
+        raise ValueError("no line of what was received: %r" % lines[:2])
+    return ones, int(last[1]), int(last[3])
+
+
+def closest_lines(contacts, target, many=8):
+    """The lines of the contacts (address by identifier) that are closest to the target, nearest first."""
+    nearest = sorted(contacts, key=lambda name: distance(name, target))[:many]
+    return [contact_line(name, contacts[name]) for name in nearest]
+
+
 def first_answer(node, began, seconds=20):
     """Seconds from its start to its first answer to a ping. It sets the node's identifier, where it has none yet."""
     asker = Asker(node.address[0])
