@@ -1,11 +1,8 @@
 //! A node that looks for several identifiers at once: what it asks, prints and answers meanwhile. The bytes were written from
 //! BEP 5 by a script of their own, under the words that the generator of 32 zero bytes gives from the sixth on.
-ghost use Rattle.std.specs.Prelude.{◌<◌, All, IfOk};
-ghost use Rattle.fake_net.specs.Scripts.{IsWritableEvent};
 
 use crate::tests::ANSWER_1;
 use crate::tests::sending::{is_at, sends};
-use fake_net::{Script, ScriptEvent};
 use kad_base::{Event, List};
 use run_kit::{play, play_with, shows};
 use std::alloc::Global;
@@ -13,10 +10,7 @@ use std::random::RandomSource;
 use std::sync::Wait;
 use std::test::Fail;
 use std::thread::Threads;
-use trial_kit::{
-    LINE_1, Meeting, PROVED_LINES, contact, lines, link_at, link_over, link_with, local, number,
-    port, tells,
-};
+use trial_kit::{LINE_1, Meeting, PROVED_LINES, contact, link_at, link_with, local, tells};
 
 /// The node of ones, whose lookups have one path each.
 const NODE: &[&str] = &[
@@ -481,67 +475,6 @@ fn a_member_believes_tags_and_tags_what_it_says(rt: HostRuntime) -> Result<(), F
     assert!(rt; is_at(&sent, 0, QUERY_0));
     assert!(rt; is_at(&sent, 1, TAGGED_PONG));
     Ok(())
-}
-
-/// The words that the generator gives from the sixth on, each four bytes.
-const WORDS: &[u8; 128] =
-    b"\xa0\x8d\xed\x1a\xa86\xef\xcc\x8bw\x0d\xc7\xdaAY|QWH\x8dw$\xe0?\xb8\xd8J7jC\xb8\xf4\x15\x18\xa1\x1c\xc3\x87\xb6i\xb2\xeee\x86\x9f\x07\xe7\xbeUQ8z\x98\xba\x97|s-\x08\x0d\xcb\x0f)\xa0H\xe3ei\x12\xc6S>2\xeez\xed)\xb7!v\x9c\xe6NC\xd5q3\xb0t\xd89\xd51\xed\x1f(Q\x0a\xfbE\xac\xe1\x0a\x1fKyMo-\x09\xa0\xe6c&l\xe1\xae~\xd1\x08\x19h\xa0u\x8eq\x8e\x99";
-
-/// Contact 1 or 2 answers the query of this place, and names nobody.
-fn answer_at(alloc: Global, place: usize) -> Result<ScriptEvent, Fail>
-    requires { place < 32 }
-    ensures { IfOk result IsWritableEvent }
-{
-    let n = (place % 2) as u8 + 1;
-    let mut bytes = List::from_slice(alloc, b"d1:rd2:id20:")?;
-    bytes.extend(&number(n).0)?;
-    bytes.extend(b"e1:t4:")?;
-    bytes.extend(&WORDS[4 * place..4 * place + 4])?;
-    bytes.extend(b"1:y1:re")?;
-    Ok(ScriptEvent::Deliver {
-        at: 10,
-        from: local(port(n)),
-        bytes,
-        times: 1,
-    })
-}
-
-/// Both contacts answer each of 32 queries.
-fn answers(alloc: Global) -> Result<Script, Fail>
-    ensures { IfOk result (All IsWritableEvent) }
-{
-    let mut script = List::new(alloc);
-    for place in 0..32 {
-        let event = answer_at(alloc, place)?;
-        script.push(event)?;
-    }
-    Ok(script)
-}
-
-/// What sixteen lookups print that found contacts 1 and 2, in that order: the identifiers have the second bit of contact 1.
-fn sixteen_found(alloc: Global) -> Result<String, Fail> {
-    let mut text = String::new(alloc);
-    for i in 0..16u8 {
-        let last = i.wrapping_mul(4);
-        let line = format!(in alloc; "find 00000000000000000000000000000000000000{last:02x}\n")?;
-        text.push_str(line.as_str())?;
-        let contacts = lines(alloc, 1, 2)?;
-        text.push_str(contacts.as_str())?;
-        text.push_str("found 2 asked 2 failed 0 turned 0\n")?;
-    }
-    text.push_str("received 32 replied 0\n")?;
-    Ok(text)
-}
-
-#[test]
-fn sixteen_lookups_go_at_once(rt: HostRuntime) -> Result<(), Fail> {
-    let alloc = rt.alloc();
-    let mut input = finds(alloc, 16)?;
-    let contacts = lines(alloc, 1, 2)?;
-    input.push_str(contacts.as_str())?;
-    let text = sixteen_found(alloc)?;
-    let link = link_over(alloc, answers(alloc)?);
-    shows(&rt, NODE, input.as_str(), link, 0, text.as_str())
 }
 
 #[test]
