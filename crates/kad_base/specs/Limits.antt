@@ -49,6 +49,14 @@ max_strays = 1000000
 abbrev pub max_round_receives : ℕ
 max_round_receives = 32
 
+-- the longest that a node which serves waits in one receive, in milliseconds
+abbrev pub max_wait : ℕ
+max_wait = 60000
+
+-- the most lookups that a node makes at the same time
+abbrev pub max_lookups : ℕ
+max_lookups = 16
+
 -- the longest input, in bytes
 abbrev pub max_input : ℕ
 max_input = 1048576

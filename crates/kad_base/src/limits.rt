@@ -54,6 +54,12 @@ pub const MAX_STRAYS: u32 = 1_000_000;
 /// The most receive calls of one round.
 pub const MAX_ROUND_RECEIVES: u32 = 32;
 
+/// The longest that a node which serves waits in one receive call, in milliseconds.
+pub const MAX_WAIT: u64 = 60_000;
+
+/// The most lookups that a node makes at the same time.
+pub const MAX_LOOKUPS: usize = 16;
+
 /// The longest input, in bytes.
 pub const MAX_INPUT: usize = 1_048_576;
 
