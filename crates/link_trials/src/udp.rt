@@ -1,7 +1,7 @@
-//! What no clause says: datagrams cross between the link and another socket of this machine, a longer one is cut, and a
-//! receive to a moment that has passed takes what is there and doesn't wait.
+//! What no clause says: datagrams cross between the link and another socket of this machine, a longer one is cut, a
+//! receive to a moment that has passed takes what is there and doesn't wait, and what comes while the link sends isn't lost.
 use kad_base::{Addr, Came, Ip, Link};
-use std::net::UdpSocket;
+use std::net::{SocketAddr, UdpSocket};
 use std::time::Duration;
 use udp_link::UdpLink;
 
@@ -67,4 +67,43 @@ fn datagrams_cross_the_loopback(rt: HostRuntime) {
     let until = link.now().saturating_add(20);
     let came = link.recv(&mut buf, until);
     assert!(rt; matches!(came, Ok(Came::Quiet { at: _ })), "{came:?}");
+}
+
+/// So many datagrams of this length are more than a socket has room for.
+const ANSWERS: u32 = 320;
+
+/// One datagram of a thousand bytes, which begins with its number.
+fn answer(peer: &UdpSocket, to: SocketAddr, number: u32) -> bool {
+    let mut bytes = [0u8; 1_000];
+    bytes[..4].copy_from_slice(&number.to_be_bytes());
+    matches!(peer.send_to(&bytes, to), Ok(1_000))
+}
+
+/// The number that the next datagram begins with.
+fn number(link: &mut UdpLink<HostRuntime>, buf: &mut [u8; 4097]) -> Option<u32> {
+    match link.recv(buf, 0) {
+        Ok(Came::Packet { len: 1_000, .. }) => {
+            Some(u32::from_be_bytes([buf[0], buf[1], buf[2], buf[3]]))
+        }
+        _ => None,
+    }
+}
+
+#[test]
+fn what_comes_while_the_link_sends_is_received_in_its_order(rt: HostRuntime) {
+    let peer = UdpSocket::bind(&rt, "127.0.0.1:0").expect(&rt, "a socket");
+    let port = peer.local_addr().expect(&rt, "its address").port();
+    let mut link = UdpLink::bind(&rt, local(0)).expect(&rt, "a link");
+    let mut buf = [0u8; 4097];
+    assert_eq!(rt; link.send(local(port), b"ping"), Ok(()));
+    let (_, from) = peer.recv_from(&mut buf).expect(&rt, "a datagram");
+
+    for count in 0..ANSWERS {
+        assert_eq!(rt; link.send(local(port), b"ping"), Ok(()));
+        assert!(rt; answer(&peer, from, count));
+    }
+    for count in 0..ANSWERS {
+        assert_eq!(rt; number(&mut link, &mut buf), Some(count));
+    }
+    assert_eq!(rt; number(&mut link, &mut buf), None);
 }

@@ -1,3 +1,4 @@
 pub mod Endpoint
+pub mod Held
 pub mod LinkState
 pub mod Waking

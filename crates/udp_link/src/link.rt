@@ -5,8 +5,10 @@ ghost use Rattle.kad_base.specs.Outside.{Arrives, came_at};
 ghost use Rattle.udp_link.specs.Waking.{IsWake};
 
 use crate::addresses::{addr_of, socket_addr};
+use crate::room::Room;
 use crate::timed_socket::{TimedSocket, time_left};
 use kad_base::{Addr, Came, Failed, Link};
+use std::alloc::Global;
 use std::io;
 use std::io::{Error, ErrorKind};
 use std::marker::Model;
@@ -24,12 +26,23 @@ const STANDARD_INPUT: RawFd = 0;
 /// How often a receive that the system ended before its time is tried again.
 const EARLY_WAKES: u32 = 1_000;
 
+/// After so many sends without a receive between, what has come meanwhile is taken into the room, and then after as many again.
+const SENDS_AT_ONCE: u32 = 16;
+
 /// An unconnected UDP socket. Its moment is the milliseconds since it was made, at most 2^62 - 1, and never before the
 /// last one that it told. It tells no transcript. A receive to a moment that has passed asks the socket without waiting.
+///
+/// What a socket has no room for is lost, and many queries at once bring as many answers. So a link that sends much without a
+/// receive between takes what has come, up to 512 datagrams of at most 4,097 bytes, into a room of its own, from which it is
+/// received first, in the order in which it came.
 #[derive(Drop)]
 pub struct UdpLink<'a, R: Clock> {
     rt: &'a R,
+    alloc: Global,
     socket: TimedSocket,
+    room: Room,
+    /// How many sends there were since the last receive, or since something was taken into the room.
+    sends: u32,
     began: Instant,
     last: u64,
     send_faults: u64,
@@ -47,7 +60,7 @@ impl<'a, R: Clock> Model for UdpLink<'a, R> {
     ghost invariant = { λ l. l.last < 2 ^ 62 };
 }
 
-impl<'a, R: Clock + Net> UdpLink<'a, R> {
+impl<'a, R: Clock + Net + AllocGlobal> UdpLink<'a, R> {
     /// Fails where the system binds no socket to the address, or its clock can't be read. A process that was started
     /// with standard input closed fails too: the socket would have its place, and datagrams be read as the input.
     pub fn bind(rt: &'a R, addr: Addr) -> Result<Self, Failed>
@@ -64,7 +77,10 @@ impl<'a, R: Clock + Net> UdpLink<'a, R> {
         let began = Instant::now(rt).map_err(|_| Failed)?;
         Ok(UdpLink {
             rt,
+            alloc: rt.alloc(),
             socket: TimedSocket::new(socket),
+            room: Room::new(rt.alloc()),
+            sends: 0,
             began,
             last: 0,
             send_faults: 0,
@@ -121,6 +137,39 @@ impl<'a, R: Clock> UdpLink<'a, R> {
         }
         Err(Failed)
     }
+
+    /// Gives the oldest datagram of the room, or where there is none what the socket gives.
+    fn next(&mut self, buf: &mut [u8], until: u64) -> Result<Came, Failed>
+        ensures came { IfOk result (λ came. Arrives came until self.old.moment (length buf.old)) }
+        ensures ends { IfOk result (λ came. came_at came < 2 ^ 62) }
+        ensures same { self.new ≡ self.old }
+    {
+        if self.room.is_empty() {
+            return self.wait(buf, until);
+        }
+        let Ok(at) = self.read_clock() else {
+            return Err(Failed);
+        };
+        match self.room.give(buf) {
+            Some((len, from)) => Ok(Came::Packet { from, len, at }),
+            None => self.wait(buf, until),
+        }
+    }
+
+    /// Counts a send, and takes what has come into the room where there were enough of them. Afterwards sends wait, as they
+    /// did before.
+    fn take_meanwhile(&mut self)
+        ensures { self.new ≡ self.old }
+    {
+        self.sends = self.sends.saturating_add(1);
+        if self.sends < SENDS_AT_ONCE {
+            return;
+        }
+        self.sends = 0;
+        self.room.take_all(self.alloc, &mut self.socket);
+        // Where this fails, the next receive says it again.
+        let _ = self.socket.set_waits(true);
+    }
 }
 
 impl<'a, R: Clock> Link for UdpLink<'a, R> {
@@ -142,6 +191,7 @@ impl<'a, R: Clock> Link for UdpLink<'a, R> {
     }
 
     fn send(&mut self, to: Addr, bytes: &[u8]) -> Result<(), Failed> {
+        self.take_meanwhile();
         match self.socket.send_to(bytes, socket_addr(to)) {
             Ok(n) if n == bytes.len() => Ok(()),
             _ => {
@@ -152,7 +202,8 @@ impl<'a, R: Clock> Link for UdpLink<'a, R> {
     }
 
     fn recv(&mut self, buf: &mut [u8], until: u64) -> Result<Came, Failed> {
-        match self.wait(buf, until) {
+        self.sends = 0;
+        match self.next(buf, until) {
             Ok(came) => {
                 self.last = moment_of(&came);
                 Ok(came)

@@ -44,8 +44,8 @@ impl TimedSocket {
         self.socket.recv_from(buf)
     }
 
-    /// Says whether receives wait, where that isn't said already.
-    fn set_waits(&mut self, waits: bool) -> io::Result<()>
+    /// Says whether receives wait, and sends where the system has no room for more, where that isn't said already.
+    pub(crate) fn set_waits(&mut self, waits: bool) -> io::Result<()>
         ensures waits { OnOk result (self.new.waits ≡ waits) }
         ensures same { self.new.timeout ≡ self.old.timeout }
     {
