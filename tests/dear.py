@@ -1,0 +1,367 @@
+"""Datagrams that may cost whoever reads them much, and nodes that are sent them while their processor time is measured.
+
+tests/growth, bench/dearest, bench/soak and interop/node take from here. A datagram has at most 4,096 bytes, and in one of its
+places many keys that stand in no order, or in none that is theirs. A plain one has its length, and one long string in
+their place. It needs Python 3 and Linux."""
+
+import os
+import random
+import socket
+import struct
+import subprocess
+import tempfile
+import time
+from importlib.machinery import SourceFileLoader
+from importlib.util import module_from_spec, spec_from_loader
+
+LOADER = SourceFileLoader("edge", os.path.join(os.path.dirname(os.path.realpath(__file__)), "edge"))
+edge = module_from_spec(spec_from_loader("edge", LOADER))
+LOADER.exec_module(edge)
+bencode, check, identifier = edge.bencode, edge.check, edge.identifier
+
+LONGEST = 4096
+DEEPEST = 16  # dictionaries and lists one in another
+OWN = b"\xff" * 20
+ASKER = identifier(7)
+KEY = edge.KEY  # of a group
+HASH = "e28910ea0adb94dd45ced75fbff3e135c01bc437"  # of the value 5:hello
+MANY, LONG_ENOUGH = 64, 0.2  # datagrams of one measurement, and the seconds of processor time after which it ends
+
+
+# ----------------------------------------------------------------------------------------------------------- the keys
+
+
+def names(count, size):
+    """So many keys of this many bytes, ascending. Each is above those that a message of KRPC has."""
+    return [bytes([122 + number // 256, number % 256]).ljust(size, b".") for number in range(count)]
+
+
+def falling(keys):
+    return keys[::-1]
+
+
+def shuffled(keys):
+    mixed = keys[:]
+    random.Random(55).shuffle(mixed)
+    return mixed
+
+
+def pairs(keys):
+    return b"".join(b"%d:" % len(key) + key + b"0:" for key in keys)
+
+
+# How a dictionary may be filled: the order of its keys, and how long they are.
+ORDERS = {
+    "falling": (falling, 2),
+    "any order": (shuffled, 2),
+    "falling, long": (falling, 30),
+    "any order, long": (shuffled, 30),
+}
+
+
+def fills(room):
+    """Pairs of about so many bytes, by each of the orders: as they stand, and ascending."""
+    made = []
+    for order, size in ORDERS.values():
+        keys = names(room // len(pairs(names(1, size))), size)
+        made.append((pairs(order(keys)), pairs(keys)))
+    return made
+
+
+# --------------------------------------------------------------------------------------------------------- the places
+
+
+def text(value):
+    return b"%d:" % len(value) + value
+
+
+def put_in(place, fill, parts, front=b"", behind=b""):
+    """A message with pairs in one of its places. `parts` has its own dictionary, by `front` its key and by `behind` what
+    stands after it."""
+    key, inner = parts
+    own, more, top = b"", b"", b""
+    if place == "top":
+        top = fill
+    elif place == "e" and key == b"r":
+        front += b"1:ed" + fill + b"e"
+    elif place == key.decode():
+        own = fill
+    elif place == key.decode() + "'s v":
+        own = b"1:vd" + fill + b"e"
+    elif place == "v":
+        more = b"1:vd" + fill + b"e"
+    elif place == "nested":
+        more = b"1:v" + b"d1:k" * (DEEPEST - 2) + b"d" + fill + b"e" * (DEEPEST - 1)
+    elif place == "plain":
+        more = b"1:v" + text(fill)
+    else:
+        more = text(place.encode()) + b"d" + fill + b"e"
+    return b"d" + front + text(key) + b"d" + inner + own + b"e" + behind + more + b"1:y" + text(KINDS[key]) + top + b"e"
+
+
+KINDS = {b"a": b"q", b"r": b"r"}
+QUERY_PLACES = ("top", "a", "v", "a's v", "r", "e", "nested")
+REPLY_PLACES = ("top", "r", "v", "r's v", "e", "nested")
+
+
+def asking(place, fill, tx=b"aa", method=b"find_node", arguments=b"6:target20:" + bytes(20)):
+    """A query with pairs in one of its places."""
+    inner = b"2:id20:" + ASKER + arguments
+    return put_in(place, fill, (b"a", inner), behind=b"1:q" + text(method) + b"1:t" + text(tx))
+
+
+def saying(place, fill, tx, name, more=b"", tag=b""):
+    """An answer of the node `name` with pairs in one of its places."""
+    sealed = b"2:sg" + text(tag) if tag else b""
+    return put_in(place, fill, (b"r", b"2:id20:" + name + more), behind=sealed + b"1:t" + text(tx))
+
+
+def tagged(place, fill, ascending, tx, name, more=b""):
+    """The same with the tag of the group, which is of the written form, whose keys ascend."""
+    return saying(place, fill, tx, name, more, edge.tag(KEY, name, saying(place, ascending, tx, name, more)))
+
+
+def putting(fill, token, plain=False):
+    """A `put` whose value has these pairs, or is one string of this length."""
+    value = text(fill) if plain else b"d" + fill + b"e"
+    return asking("top", b"", method=b"put", arguments=b"5:token" + text(token) + b"1:v" + value)
+
+
+def within(make, part=1):
+    """A datagram for each of the orders, with so many keys as 4,096 bytes have room for, or with a part of them."""
+    frame = len(make(b"x" * 3000, b"")) - 3000
+    return [make(fill, ascending) for fill, ascending in fills((LONGEST - frame) // part)]
+
+
+def plain_ones(make, plain):
+    """Plain datagrams of the lengths that those have."""
+    frame = len(plain(b"x" * 3000, b"")) - 3000
+    return [plain(b"x" * max(len(datagram) - frame, 0), b"") for datagram in within(make)]
+
+
+# ---------------------------------------------------------------------------------------------------------- the nodes
+
+
+class Contacts(edge.Crowd):
+    """Contacts that are asked and answer nobody: what they were asked is in `asked`, with who asked."""
+
+    def __init__(self):
+        self.asked, self.asker = {}, None
+        super().__init__(lambda host, query: None)
+
+    def listen(self):
+        while not self.closed:
+            try:
+                data, info, _, source = self.socket.recvmsg(65536, 64)
+                self.asked.setdefault(edge.bdecode(data)[0][b"t"], info[0][2][8:12])
+                self.asker = source
+            except (OSError, IndexError, ValueError, KeyError):
+                pass  # it was closed, or this is noise
+
+    def send(self, host, datagram):
+        sent_from = (socket.IPPROTO_IP, self.PACKET_INFO, struct.pack("=i4s4s", 0, host, bytes(4)))
+        self.socket.sendmsg([datagram], [sent_from], 0, self.asker)
+
+
+def lines_of(crowd, count):
+    """The lines of so many contacts, and their names by their hosts."""
+    names_of = {bytes([127, 90, 0, number + 1]): identifier(number + 1) for number in range(count)}
+    return "".join(crowd.line(name, host) for host, name in names_of.items()), names_of
+
+
+WORDS = {
+    "serve": [],
+    "node": ["--receives", "1000000000", "--timeout", "60000"],
+    "lookup": ["--target", edge.TARGET, "--timeout", "60000"],
+    "get": ["--key", HASH, "--timeout", "60000"],
+    "put": ["--value", "353a68656c6c6f", "--timeout", "60000"],
+    "peers": ["--key", edge.TARGET, "--timeout", "60000"],
+}
+COMMANDS = list(WORDS)
+ASKED = 8  # contacts that a node has asked and that are silent
+FINDS = 16
+
+
+class Measured:
+    """A running command whose lookups, if it has some, wait for their contacts. It is sent datagrams, and the processor
+    time is read that it took for them."""
+
+    def __init__(self, command, sealed=False, environment=None):
+        edge.OPEN.append(self)
+        self.command, self.port = command, edge.free_port()
+        self.crowd, self.names = None, {}
+        lines, queries = "", 0
+        if command != "serve":
+            self.crowd = Contacts()
+            lines, self.names = lines_of(self.crowd, ASKED)
+            queries = ASKED
+        if command == "node":
+            lines += "".join(edge.find(identifier(number << 80)) for number in range(FINDS))
+            queries = FINDS * ASKED
+        words = [edge.PROGRAM, command, "--own", OWN.hex(), "--bind", "127.0.0.1:%d" % self.port, *WORDS[command]]
+        with tempfile.TemporaryFile() as file:
+            file.write(lines.encode())
+            file.seek(0)
+            env = {**(edge.in_group(KEY) if sealed else os.environ), **(environment or {})}
+            quiet = dict(stdout=subprocess.DEVNULL, stderr=subprocess.DEVNULL)
+            self.child = subprocess.Popen(words, stdin=file, env=env, **quiet)
+        self.socket = socket.socket(socket.AF_INET, socket.SOCK_DGRAM)
+        self.socket.bind(("127.0.0.1", 0))
+        self.until(lambda: edge.bound(self.port) is not None, "it binds no socket")
+        self.socket.connect(("127.0.0.1", self.port))
+        if queries:
+            self.until(lambda: len(self.crowd.asked) == queries, "it asks %d of %d" % (len(self.crowd.asked), queries))
+
+    def until(self, holds, what):
+        patience = time.monotonic() + 20
+        while not holds():
+            check(self.child.poll() is None, "it ended with status %s" % self.child.poll())
+            check(time.monotonic() < patience, what)
+            time.sleep(0.002)
+
+    def spent(self):
+        """Its processor time, in seconds."""
+        total = 0
+        tasks = "/proc/%d/task" % self.child.pid
+        for task in os.listdir(tasks):
+            with open("%s/%s/schedstat" % (tasks, task)) as file:
+                total += int(file.read().split()[0])
+        return total / 1e9
+
+    def is_waiting(self):
+        row = edge.bound(self.port)
+        check(row, "it has no socket any more, status %s" % self.child.poll())
+        return int(row[4].split(":")[1], 16) == 0 and edge.state(self.child) == "S"
+
+    def rest(self):
+        patience = time.monotonic() + 60
+        while not self.is_waiting():
+            check(time.monotonic() < patience, "it doesn't get through what it was sent")
+            time.sleep(0.0001)
+
+    def empty(self):
+        """Reads what it replied, so that the socket has room."""
+        self.socket.setblocking(False)
+        try:
+            while True:
+                self.socket.recv(65536)
+        except OSError:
+            pass
+        self.socket.setblocking(True)
+
+    def send(self, datagram, host=None):
+        if host is None:
+            self.socket.send(datagram)
+        else:
+            self.crowd.send(host, datagram)
+
+    def spends(self, act):
+        """The processor time that it takes until it has done what this asks of it, in seconds."""
+        self.rest()
+        began = self.spent()
+        act()
+        self.rest()
+        return self.spent() - began
+
+    def ask_all(self, queries):
+        """Asks these, some ahead of their replies."""
+        self.empty()
+        self.socket.settimeout(20)
+        for at in range(0, len(queries), 32):
+            some = queries[at : at + 32]
+            for query in some:
+                self.socket.send(query)
+            for _ in some:
+                self.socket.recv(65536)
+
+    def takes(self, datagrams, host=None, many=MANY, at_once=1):
+        """The processor time that one of these takes, in seconds, as the mean over many: each comes once those before it
+        are done with, or so many come together, as far as they have a place in its socket."""
+        self.rest()
+        began, sent = self.spent(), 0
+        while sent < many and self.spent() < began + LONG_ENOUGH:
+            for at in range(sent, sent + at_once):
+                self.send(datagrams[at % len(datagrams)], host)
+            sent += at_once
+            self.rest()
+            self.empty()
+        return (self.spent() - began) / sent
+
+    def ask(self, query):
+        self.empty()
+        self.socket.settimeout(20)
+        self.socket.send(query)
+        return self.socket.recv(65536)
+
+    def token(self):
+        return edge.bdecode(self.ask(edge.asks(b"get", target=bytes(20))))[0][b"r"][b"token"]
+
+    def open_query(self):
+        """An id of a query that is open, the host that was asked, and its name."""
+        tx, host = next(iter(self.crowd.asked.items()))
+        return tx, host, self.names[host]
+
+    def close(self):
+        edge.OPEN.remove(self)
+        self.socket.close()
+        if self.child.poll() is None:
+            self.child.kill()
+        self.child.wait()
+        if self.crowd and not self.crowd.closed:
+            self.crowd.close()
+
+
+class Walk(edge.Crowd):
+    """Contacts that answer, on eight paths: on each whoever is asked names one that is nearer to the key. `says(number,
+    tx, name, parts)` writes the answer of this number, whose `r` has these parts besides."""
+
+    def __init__(self, key, steps, says):
+        self.key, self.steps, self.says, self.number, self.hosts = int.from_bytes(key, "big"), steps, says, 0, {}
+        super().__init__(self.answers)
+
+    def contact(self, path, step):
+        host = bytes([127, 64 + path, step // 256, step % 256])
+        self.hosts[host] = identifier(self.key ^ ((1000 - step) * 2**16 + path))
+        return self.hosts[host], host
+
+    def answers(self, host, query):
+        step, self.number = host[2] * 256 + host[3], self.number + 1
+        near = self.record(*self.contact(host[1] - 64, min(step + 1, self.steps - 1)))
+        parts = b"5:nodes" + text(near) + b"5:token8:xxxxxxxx"
+        return self.says(self.number, edge.bdecode(query)[0].get(b"t", b""), self.hosts[host], parts)
+
+    def lines(self):
+        return "".join(self.line(*self.contact(path, 0)) for path in range(8))
+
+
+def strays(node, sealed):
+    """What anybody may send the node: a name of each kind, how one is made from its pairs and the same ascending, one that is
+    plain, and the host that it comes from, if that is one which was asked."""
+    rows = []
+    if node.command in ("serve", "node"):
+        plain = lambda fill, _: asking("plain", fill)
+        for place in QUERY_PLACES:
+            rows.append(("a query, %s" % place, lambda fill, _, place=place: asking(place, fill), plain, None))
+        token = node.token()
+        rows.append(("a put, a's v", lambda fill, _: putting(fill, token), plain, None))
+        rows.append(("a put with a wrong token, a's v", lambda fill, _: putting(fill, b"x" * 8), plain, None))
+    if node.command == "serve":
+        senders = [("an answer to nobody", b"none", None, ASKER)]
+    else:
+        tx, host, name = node.open_query()
+        senders = [("an answer with another id", b"none", host, name), ("an answer from elsewhere", tx, None, name)]
+    for kind, tx_said, host, name in senders:
+        plain = lambda fill, _, tx=tx_said, name=name: saying("plain", fill, tx, name)
+        for place in REPLY_PLACES:
+            make = lambda fill, _, place=place, tx=tx_said, name=name: saying(place, fill, tx, name)
+            rows.append(("%s, %s" % (kind, place), make, plain, host))
+            if sealed:
+                make = lambda fill, up, place=place, tx=tx_said, name=name: tagged(place, fill, up, tx, name)
+                rows.append(("%s, tagged, %s" % (kind, place), make, plain, host))
+    if sealed and node.command != "serve":
+        tx, host, name = node.open_query()
+        plain = lambda fill, _: saying("plain", fill, tx, name, tag=bytes(20))
+        for place in REPLY_PLACES:
+            make = lambda fill, _, place=place: saying(place, fill, tx, name, tag=bytes(20))
+            rows.append(("an answer with a wrong tag, %s" % place, make, plain, host))
+    return rows
