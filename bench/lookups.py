@@ -1,0 +1,339 @@
+"""A second simulator of lookups on disjoint paths, written from docs/RULES.md and apart from the crates: the words that a
+seed draws, the network that crates/path_study makes of them, and lookups in it. The programs beside it measure by it, and
+bench/second_lookup lays it beside the product's own lookup. It needs Python 3 and nothing else.
+
+A contact of a lookup is the distance of its identifier to the target, a number: no two contacts of one lookup have the
+same."""
+
+import bisect
+import hashlib
+import heapq
+import math
+import struct
+
+TIMEOUT = 2_000  # milliseconds that a node has to answer
+REPORTS = 16  # contacts of an answer that a lookup reads
+CAPACITY = 256  # contacts that a path may have
+ROUND = 32  # receives of a round
+KNOWN = 8  # nodes of each of its buckets that a node knows
+ATTACKS = ("misroute", "silent", "dead")
+
+# ------------------------------------------------------------------------------------------------------- drawn words
+
+
+def quarter(lines, a, b, c, d):
+    for left, right, far, by in ((a, b, d, 16), (c, d, b, 12), (a, b, d, 8), (c, d, b, 7)):
+        lines.append("x%d=(x%d+x%d)&M" % (left, left, right))
+        lines.append("x%d^=x%d" % (far, left))
+        lines.append("x%d=((x%d<<%d)|(x%d>>%d))&M" % (far, far, by, far, 32 - by))
+
+
+def block_maker():
+    """A function of the sixteen words that ChaCha20 (RFC 8439) begins a block with, made without loops so that it is quick."""
+    lines = []
+    for a, b, c, d in ((0, 4, 8, 12), (1, 5, 9, 13), (2, 6, 10, 14), (3, 7, 11, 15)):
+        quarter(lines, a, b, c, d)
+    for a, b, c, d in ((0, 5, 10, 15), (1, 6, 11, 12), (2, 7, 8, 13), (3, 4, 9, 14)):
+        quarter(lines, a, b, c, d)
+    names = ["x%d" % i for i in range(16)]
+    text = ["def block(start):", " M=0xffffffff", " %s=start" % ",".join(names), " for _ in range(10):"]
+    text += ["  " + line for line in lines]
+    text += [" return [%s]" % ",".join("(x%d+start[%d])&M" % (i, i) for i in range(16))]
+    made = {}
+    exec("\n".join(text), made)
+    return made["block"]
+
+
+block = block_maker()
+
+
+class Draws:
+    """The words of a seed, one after the other: the key stream of ChaCha20 with a block number of 64 bits from 0 on."""
+
+    def __init__(self, seed):
+        self.key = struct.unpack("<8I", seed)
+        self.number = 0
+        self.words = []
+
+    def word(self):
+        if not self.words:
+            number = (self.number & 0xFFFFFFFF, self.number >> 32, 0, 0)
+            self.words = block((0x61707865, 0x3320646E, 0x79622D32, 0x6B206574) + self.key + number)
+            self.words.reverse()
+            self.number += 1
+        return self.words.pop()
+
+    def below(self, count):
+        return self.word() % count
+
+    def identifier(self):
+        return int.from_bytes(struct.pack("<5I", *[self.word() for _ in range(5)]), "big")
+
+    def some_below(self, count, wanted):
+        """So many different numbers below `count`, or all (Floyd's algorithm: Bentley and Floyd, 1987)."""
+        if count <= wanted:
+            return list(range(count))
+        chosen = []
+        for last in range(count - wanted, count):
+            drawn = self.below(last + 1)
+            chosen.append(last if drawn in chosen else drawn)
+        return chosen
+
+
+# --------------------------------------------------------------------------------------------------------- the network
+
+
+class Network:
+    """Nodes in the order of their identifiers, whom each knows, how long each takes to answer, and in which order they turn
+    hostile: at a share of s in a hundred the first s hundredths of `turning`."""
+
+    def __init__(self, draws, count):
+        self.ids = sorted(draws.identifier() for _ in range(count))
+        self.number = {identifier: number for number, identifier in enumerate(self.ids)}
+        self.delays = [20 + draws.below(180) for _ in range(count)]
+        # The hostile flags stand in front and are shuffled, so the place from which a node's flag came says when it turns.
+        came = list(range(count))
+        for at in range(count):
+            other = at + draws.below(count - at)
+            came[at], came[other] = came[other], came[at]
+        self.came = came
+        self.known = [self.buckets(draws, identifier) for identifier in self.ids]
+
+    def buckets(self, draws, own):
+        """Of each bucket, from the farthest on, up to eight nodes."""
+        low, high, known = 0, len(self.ids), []
+        for bit in range(160):
+            if high - low <= 1:
+                break
+            # The nodes from `low` to `high` share `bit` leading bits with the node's own.
+            middle = bisect.bisect_left(self.ids, (own >> (160 - bit) << 1 | 1) << (159 - bit), low, high)
+            if own >> (159 - bit) & 1:
+                bucket, low = (low, middle), middle
+            else:
+                bucket, high = (middle, high), middle
+            places = draws.some_below(bucket[1] - bucket[0], KNOWN)
+            known.append([self.ids[bucket[0] + place] for place in places])
+        return known
+
+    def hostile(self, share):
+        count = len(self.ids) * share // 100
+        return [place < count for place in self.came]
+
+
+def nearest(count, known, own, target):
+    """The distances of the `count` closest to the target of those that a node knows, nearest first. Of its buckets that of the
+    target is closest, then come those with more bits of its own, and then each with fewer."""
+    shared = 160 - (own ^ target).bit_length()
+    found = []
+    if shared < len(known):
+        found = sorted([identifier ^ target for identifier in known[shared]])
+        if len(found) < count:
+            found += sorted([identifier ^ target for bucket in known[shared + 1 :] for identifier in bucket])
+    for bucket in reversed(known[:shared]):
+        if len(found) >= count:
+            break
+        found += sorted([identifier ^ target for identifier in bucket])
+    return found[:count]
+
+
+class Field:
+    """What a lookup of one target meets at one share of hostile nodes under one attack."""
+
+    def __init__(self, network, target, k, hostile, attack, answers):
+        self.network, self.target, self.k = network, target, k
+        self.hostile, self.attack, self.answers = hostile, attack, answers
+        self.snare = []
+        if attack == "misroute":
+            ids = network.ids
+            self.snare = heapq.nsmallest(
+                REPORTS, [ids[n] ^ target for n in range(len(ids)) if hostile[n]]
+            )
+
+    def answer(self, contact):
+        """After how many milliseconds a contact answers, and whom it names; None where it answers nothing."""
+        number = self.network.number.get(contact ^ self.target)
+        if number is None:
+            return None
+        if not self.hostile[number]:
+            named = self.answers.get(number)
+            if named is None:
+                network = self.network
+                named = nearest(self.k, network.known[number], network.ids[number], self.target)[:REPORTS]
+                self.answers[number] = named
+        elif self.attack == "silent":
+            return None
+        elif self.attack == "misroute":
+            named = self.snare
+        else:
+            named = [number * REPORTS + at for at in range(1, REPORTS + 1)]
+        return self.network.delays[number], named
+
+    def misleads(self, contact):
+        number = self.network.number.get(contact ^ self.target)
+        return number is None or self.hostile[number]
+
+
+# ------------------------------------------------------------------------------------------------------------ a lookup
+
+FRESH, OPEN, ANSWERED, FAILED = range(4)
+
+
+class Path:
+    """A path's contacts that didn't fail, nearest first, and how many of its queries are open."""
+
+    def __init__(self):
+        self.alive, self.count, self.open, self.heard = [], 0, 0, []
+
+
+class Lookup:
+    """A lookup from these seeds, which are distances, on so many disjoint paths. `answered` has who answered, `asked` counts
+    the queries, `hostile` those to hostile nodes and to contacts that they invented."""
+
+    def __init__(self, field, own, seeds, k, paths, alpha):
+        self.field, self.own, self.k, self.alpha = field, own, k, alpha
+        self.paths = [Path() for _ in range(paths)]
+        self.states = {}
+        self.answered = set()
+        self.asked = self.hostile = self.sent = 0
+        self.moment, self.waiting, self.deadlines = 0, [], []
+        for rank, seed in enumerate(sorted(seeds)):
+            self.take(self.paths[rank % paths], seed)
+        self.run()
+
+    def take(self, path, contact):
+        self.states[contact] = FRESH
+        bisect.insort(path.alive, contact)
+        path.count += 1
+
+    def may_ask(self, path):
+        """The closest contact that was never asked among the k closest of the path's that didn't fail, while fewer than
+        alpha of its queries are open."""
+        if path.open < self.alpha:
+            states = self.states
+            for contact in path.alive[: self.k]:
+                if states[contact] == FRESH:
+                    return contact
+        return None
+
+    def ask(self, path):
+        while (contact := self.may_ask(path)) is not None:
+            self.states[contact] = OPEN
+            path.open += 1
+            self.asked += 1
+            self.hostile += self.field.misleads(contact)
+            self.deadlines.append((self.moment + TIMEOUT, contact, path))
+            answer = self.field.answer(contact)
+            if answer is not None:
+                self.sent += 1
+                heapq.heappush(self.waiting, (self.moment + answer[0], self.sent, contact, path, answer[1]))
+
+    def expire(self):
+        """Loses the queries whose deadline has come: they have one timeout, so the oldest are due first."""
+        while self.deadlines and self.deadlines[0][0] <= self.moment:
+            _, contact, path = self.deadlines.pop(0)
+            if self.states[contact] == OPEN:
+                self.states[contact] = FAILED
+                path.open -= 1
+                del path.alive[bisect.bisect_left(path.alive, contact)]
+                self.changed.add(path)
+
+    def receive(self, until):
+        """One receive: the answer that comes first, where it comes by then; False where none does."""
+        if not self.waiting or self.waiting[0][0] > until:
+            self.moment = max(self.moment, until)
+            self.expire()
+            return False
+        at, _, contact, path, named = heapq.heappop(self.waiting)
+        self.moment = max(self.moment, at)
+        if self.states[contact] == OPEN:
+            self.states[contact] = ANSWERED
+            self.answered.add(contact)
+            path.open -= 1
+            path.heard.append(named)
+            self.changed.add(path)
+        self.expire()
+        return True
+
+    def settle(self, path):
+        for named in path.heard:
+            for contact in named:
+                if contact not in self.states and contact != self.own and path.count < CAPACITY:
+                    self.take(path, contact)
+        path.heard = []
+
+    def run(self):
+        self.changed = set(self.paths)
+        while True:
+            for path in self.paths:
+                if path in self.changed:
+                    self.ask(path)
+            if not any(path.open for path in self.paths):
+                return
+            self.changed = set()
+            while self.deadlines[0][0] <= self.moment or self.states[self.deadlines[0][1]] != OPEN:
+                self.deadlines.pop(0)
+            receives = 1
+            came = self.receive(self.deadlines[0][0])
+            while came and receives < ROUND and any(path.open for path in self.paths):
+                receives += 1
+                came = self.receive(self.moment)
+            for path in self.paths:
+                self.settle(path)
+
+    def found(self, count):
+        """The closest of all that the paths have and that didn't fail."""
+        return heapq.nsmallest(count, [contact for path in self.paths for contact in path.alive])
+
+
+# ------------------------------------------------------------------------------------------------- ways of looking up
+
+
+class Way:
+    """How one who looks a target up spends his queries. `united` has who is found, nearest first."""
+
+    def __init__(self, lookups, k):
+        self.united = sorted({contact for lookup in lookups for contact in lookup.found(k)})[:k]
+        self.answered = set().union(*[lookup.answered for lookup in lookups])
+        self.asked = sum(lookup.asked for lookup in lookups)
+        self.hostile = sum(lookup.hostile for lookup in lookups)
+        self.time = max(lookup.moment for lookup in lookups)
+
+
+def disjoint(field, own, seeds, k, paths, alpha):
+    """One lookup on so many disjoint paths."""
+    return Way([Lookup(field, own, seeds, k, paths, alpha)], k)
+
+
+def wide(field, own, seeds, k, look, alpha):
+    """One path that goes on until the `look` closest have answered; of these the k closest count."""
+    return Way([Lookup(field, own, seeds, look, 1, alpha)], k)
+
+
+def apart(field, own, seeds, k, paths, alpha):
+    """So many lookups on one path each that know nothing of one another. Each begins with the seeds that a path would."""
+    seeds = sorted(seeds)
+    return Way([Lookup(field, own, seeds[place::paths], k, 1, alpha) for place in range(paths) if seeds[place::paths]], k)
+
+
+# ----------------------------------------------------------------------------------------------------------- intervals
+
+STUDENT = {1: 12.706, 2: 4.303, 3: 3.182, 4: 2.776, 5: 2.571, 6: 2.447, 7: 2.365, 8: 2.306, 9: 2.262}
+
+
+def mean_and_reach(values):
+    """The mean of what several networks gave, and how far its 95 % interval reaches (Student, 1908)."""
+    mean = math.fsum(values) / len(values)
+    if len(values) < 2:
+        return mean, 0.0
+    spread = math.fsum((value - mean) ** 2 for value in values) / (len(values) - 1)
+    return mean, STUDENT[len(values) - 1] * math.sqrt(spread / len(values))
+
+
+def seed_of(number):
+    """The seed of the network with that number: its byte, 32 times."""
+    return bytes([number]) * 32
+
+
+def drawn_bytes(count, *words):
+    """Bytes that are drawn by words (SHAKE-128, FIPS 202)."""
+    return hashlib.shake_128(repr(words).encode()).digest(count)
