@@ -6,6 +6,7 @@ A contact of a lookup is the distance of its identifier to the target, a number:
 same."""
 
 import bisect
+import collections
 import hashlib
 import heapq
 import math
@@ -16,7 +17,8 @@ REPORTS = 16  # contacts of an answer that a lookup reads
 CAPACITY = 256  # contacts that a path may have
 ROUND = 32  # receives of a round
 KNOWN = 8  # nodes of each of its buckets that a node knows
-ATTACKS = ("misroute", "silent", "dead")
+SIXTEENS = 4  # of hostile nodes, one of which a hostile node names where they scatter
+ATTACKS = ("misroute", "silent", "dead", "scatter")
 
 # ------------------------------------------------------------------------------------------------------- drawn words
 
@@ -143,11 +145,9 @@ class Field:
         self.network, self.target, self.k = network, target, k
         self.hostile, self.attack, self.answers = hostile, attack, answers
         self.snare = []
-        if attack == "misroute":
-            ids = network.ids
-            self.snare = heapq.nsmallest(
-                REPORTS, [ids[n] ^ target for n in range(len(ids)) if hostile[n]]
-            )
+        if attack in ("misroute", "scatter"):
+            traitors = [identifier ^ target for identifier, is_hostile in zip(network.ids, hostile) if is_hostile]
+            self.snare = heapq.nsmallest(REPORTS * (SIXTEENS if attack == "scatter" else 1), traitors)
 
     def answer(self, contact):
         """After how many milliseconds a contact answers, and whom it names; None where it answers nothing."""
@@ -164,6 +164,9 @@ class Field:
             return None
         elif self.attack == "misroute":
             named = self.snare
+        elif self.attack == "scatter":
+            place = number % SIXTEENS * REPORTS
+            named = self.snare[place : place + REPORTS]
         else:
             named = [number * REPORTS + at for at in range(1, REPORTS + 1)]
         return self.network.delays[number], named
@@ -179,26 +182,31 @@ FRESH, OPEN, ANSWERED, FAILED = range(4)
 
 
 class Path:
-    """A path's contacts that didn't fail, nearest first, and how many of its queries are open."""
+    """A path's contacts that didn't fail, nearest first; how many it had, how many of its queries are open, and what its
+    answers named that is not settled."""
+
+    __slots__ = ("alive", "count", "open", "heard", "changed")
 
     def __init__(self):
-        self.alive, self.count, self.open, self.heard = [], 0, 0, []
+        self.alive, self.count, self.open, self.heard, self.changed = [], 0, 0, [], True
 
 
 class Lookup:
     """A lookup from these seeds, which are distances, on so many disjoint paths. `answered` has who answered, `asked` counts
-    the queries, `hostile` those to hostile nodes and to contacts that they invented."""
+    the queries, `hostile` those to hostile nodes and to contacts that they invented, and `moment` says when it ended."""
 
-    def __init__(self, field, own, seeds, k, paths, alpha):
-        self.field, self.own, self.k, self.alpha = field, own, k, alpha
+    def __init__(self, field, own, seeds, k, paths, alpha, capacity=CAPACITY):
+        self.field, self.k, self.alpha, self.capacity = field, k, alpha, capacity
         self.paths = [Path() for _ in range(paths)]
-        self.states = {}
+        self.states = {own: FAILED}  # so that no path takes it
         self.answered = set()
-        self.asked = self.hostile = self.sent = 0
-        self.moment, self.waiting, self.deadlines = 0, [], []
+        self.asked = self.hostile = self.open = 0
+        self.moment, self.waiting, self.deadlines = 0, [], collections.deque()
         for rank, seed in enumerate(sorted(seeds)):
             self.take(self.paths[rank % paths], seed)
-        self.run()
+        while self.ask_all():
+            self.receive_round()
+            self.settle_all()
 
     def take(self, path, contact):
         self.states[contact] = FRESH
@@ -215,70 +223,74 @@ class Lookup:
                     return contact
         return None
 
-    def ask(self, path):
-        while (contact := self.may_ask(path)) is not None:
-            self.states[contact] = OPEN
-            path.open += 1
-            self.asked += 1
-            self.hostile += self.field.misleads(contact)
-            self.deadlines.append((self.moment + TIMEOUT, contact, path))
-            answer = self.field.answer(contact)
-            if answer is not None:
-                self.sent += 1
-                heapq.heappush(self.waiting, (self.moment + answer[0], self.sent, contact, path, answer[1]))
+    def ask_all(self):
+        """Asks all that the paths may ask, path by path; whether a query is open then. A path on which nothing came and
+        nothing was lost has nothing new to ask."""
+        for path in self.paths:
+            if path.changed:
+                path.changed = False
+                while (contact := self.may_ask(path)) is not None:
+                    self.ask(path, contact)
+        return self.open > 0
+
+    def ask(self, path, contact):
+        self.states[contact] = OPEN
+        path.open += 1
+        self.open += 1
+        self.asked += 1
+        self.hostile += self.field.misleads(contact)
+        self.deadlines.append((self.moment + TIMEOUT, contact, path))
+        answer = self.field.answer(contact)
+        if answer is not None:
+            heapq.heappush(self.waiting, (self.moment + answer[0], self.asked, contact, path, answer[1]))
+
+    def end(self, path, contact, state):
+        self.states[contact] = state
+        path.open -= 1
+        self.open -= 1
+        path.changed = True
 
     def expire(self):
         """Loses the queries whose deadline has come: they have one timeout, so the oldest are due first."""
-        while self.deadlines and self.deadlines[0][0] <= self.moment:
-            _, contact, path = self.deadlines.pop(0)
+        deadlines = self.deadlines
+        while deadlines and (deadlines[0][0] <= self.moment or self.states[deadlines[0][1]] != OPEN):
+            _, contact, path = deadlines.popleft()
             if self.states[contact] == OPEN:
-                self.states[contact] = FAILED
-                path.open -= 1
+                self.end(path, contact, FAILED)
                 del path.alive[bisect.bisect_left(path.alive, contact)]
-                self.changed.add(path)
 
     def receive(self, until):
-        """One receive: the answer that comes first, where it comes by then; False where none does."""
-        if not self.waiting or self.waiting[0][0] > until:
+        """One receive: the answer that comes first, where it comes by then; whether one did."""
+        came = bool(self.waiting) and self.waiting[0][0] <= until
+        if came:
+            at, _, contact, path, named = heapq.heappop(self.waiting)
+            self.moment = max(self.moment, at)
+            if self.states[contact] == OPEN:
+                self.end(path, contact, ANSWERED)
+                self.answered.add(contact)
+                path.heard += named
+        else:
             self.moment = max(self.moment, until)
-            self.expire()
-            return False
-        at, _, contact, path, named = heapq.heappop(self.waiting)
-        self.moment = max(self.moment, at)
-        if self.states[contact] == OPEN:
-            self.states[contact] = ANSWERED
-            self.answered.add(contact)
-            path.open -= 1
-            path.heard.append(named)
-            self.changed.add(path)
         self.expire()
-        return True
+        return came
 
-    def settle(self, path):
-        for named in path.heard:
-            for contact in named:
-                if contact not in self.states and contact != self.own and path.count < CAPACITY:
-                    self.take(path, contact)
-        path.heard = []
+    def receive_round(self):
+        """A receive that waits until the earliest deadline, and further ones that wait for nothing."""
+        self.expire()
+        came = self.receive(self.deadlines[0][0])
+        receives = 1
+        while came and receives < ROUND and self.open:
+            came = self.receive(self.moment)
+            receives += 1
 
-    def run(self):
-        self.changed = set(self.paths)
-        while True:
-            for path in self.paths:
-                if path in self.changed:
-                    self.ask(path)
-            if not any(path.open for path in self.paths):
-                return
-            self.changed = set()
-            while self.deadlines[0][0] <= self.moment or self.states[self.deadlines[0][1]] != OPEN:
-                self.deadlines.pop(0)
-            receives = 1
-            came = self.receive(self.deadlines[0][0])
-            while came and receives < ROUND and any(path.open for path in self.paths):
-                receives += 1
-                came = self.receive(self.moment)
-            for path in self.paths:
-                self.settle(path)
+    def settle_all(self):
+        states = self.states
+        for path in self.paths:
+            if path.heard:
+                for contact in path.heard:
+                    if contact not in states and path.count < self.capacity:
+                        self.take(path, contact)
+                path.heard = []
 
     def found(self, count):
         """The closest of all that the paths have and that didn't fail."""
@@ -304,15 +316,15 @@ def disjoint(field, own, seeds, k, paths, alpha):
     return Way([Lookup(field, own, seeds, k, paths, alpha)], k)
 
 
-def wide(field, own, seeds, k, look, alpha):
+def wide(field, own, seeds, k, look, alpha, capacity=CAPACITY):
     """One path that goes on until the `look` closest have answered; of these the k closest count."""
-    return Way([Lookup(field, own, seeds, look, 1, alpha)], k)
+    return Way([Lookup(field, own, seeds, look, 1, alpha, capacity)], k)
 
 
 def apart(field, own, seeds, k, paths, alpha):
     """So many lookups on one path each that know nothing of one another. Each begins with the seeds that a path would."""
     seeds = sorted(seeds)
-    return Way([Lookup(field, own, seeds[place::paths], k, 1, alpha) for place in range(paths) if seeds[place::paths]], k)
+    return Way([Lookup(field, own, seeds[path::paths], k, 1, alpha) for path in range(paths)], k)
 
 
 # ----------------------------------------------------------------------------------------------------------- intervals
