@@ -23,3 +23,5 @@ pub mod Parting
 pub mod Added
 pub mod Kept
 pub mod Formed
+pub mod Sorting
+pub mod Forming

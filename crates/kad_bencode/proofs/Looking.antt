@@ -176,7 +176,7 @@ module _ {V : Type 0} where
           only_equal Equal h = refl
           only_equal Greater h = absurd cc
 
-  no_value : (ps : List (Pair V)) (key : List ℕ) → has_key (keys_of ps) key ≡ false → value_of ps key ≡ None
+  pub no_value : (ps : List (Pair V)) (key : List ℕ) → has_key (keys_of ps) key ≡ false → value_of ps key ≡ None
   no_value [] key h = refl
   no_value (p ∷ ps) key h = ap (λ b. cond b (Some p.value) (value_of ps key)) (or_left (is_eq (key_cmp key p.key)) (has_key (keys_of ps) key) h) ∙ no_value ps key (or_right (is_eq (key_cmp key p.key)) (has_key (keys_of ps) key) h)
 
@@ -192,6 +192,14 @@ module _ {V : Type 0} where
       joined true v o f h = ap (λ x. either x (Some v)) (h refl)
       joined false v o f h = refl
 
+  -- of pairs that were put in one after another, where no key is there twice
+  pub value_filed : (ps : List (Pair V)) (key : List ℕ) → each_once (keys_of ps) ≡ true → value_of (put_all [] ps) key ≡ value_of ps key
+  value_filed ps key h = value_put_all [] ps key h ∙ alone (value_of ps key)
+    where
+      alone : (o : Option V) → either o None ≡ o
+      alone (Some v) = refl
+      alone None = refl
+
 pub value_ordered : (ps : List (Pair Value)) (key : List ℕ) → value_of (ordered_pairs ps) key ≡ option_map in_order (value_of ps key)
 value_ordered [] key = refl
 value_ordered (p ∷ ps) key = ap (cond (is_eq (key_cmp key p.key)) (Some (in_order p.value))) (value_ordered ps key) ∙ inside (is_eq (key_cmp key p.key)) p.value (value_of ps key)
@@ -202,12 +210,7 @@ value_ordered (p ∷ ps) key = ap (cond (is_eq (key_cmp key p.key)) (Some (in_or
 
 -- whatever the order of the pairs, where no key is there twice
 pub value_named : (ps : List (Pair Value)) (key : List ℕ) → each_once (keys_of ps) ≡ true → value_of (put_all [] (ordered_pairs ps)) key ≡ option_map in_order (value_of ps key)
-value_named ps key h =
-    value_put_all [] (ordered_pairs ps) key (ap each_once (keys_mapped in_order ps) ∙ h) ∙ alone (value_of (ordered_pairs ps) key) ∙ value_ordered ps key
-  where
-    alone : (o : Option Value) → either o None ≡ o
-    alone (Some v) = refl
-    alone None = refl
+value_named ps key h = value_filed (ordered_pairs ps) key (ap each_once (keys_mapped in_order ps) ∙ h) ∙ value_ordered ps key
 
 -- the tree of a text that names a dictionary
 abbrev IsTreeOf : Value → Type 0

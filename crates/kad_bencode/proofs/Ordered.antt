@@ -26,16 +26,17 @@ module _ {V : Type 0} (P : V → Type 0) where
   values_put_all filed [] f a = f
   values_put_all filed (p ∷ ps) f a = values_put_all (put filed p.key p.value) ps (values_put filed p.key p.value a.0 f) a.1
 
-ascending_put_all : (filed ps : List (Pair Value)) → IsAscending filed → IsAscending (put_all filed ps)
-ascending_put_all filed [] h = h
-ascending_put_all filed (p ∷ ps) h = ascending_put_all (put filed p.key p.value) ps (put_ascending Value filed p.key p.value h)
+module _ (V : Type 0) where
+  pub ascending_put_all : (filed ps : List (Pair V)) → IsAscending filed → IsAscending (put_all filed ps)
+  ascending_put_all filed [] h = h
+  ascending_put_all filed (p ∷ ps) h = ascending_put_all (put filed p.key p.value) ps (put_ascending V filed p.key p.value h)
 
-none_ascending : IsAscending {V = Value} []
-unfolding IsStrictlySortedBy
-none_ascending = tt
+  pub none_ascending : IsAscending {V = V} []
+  unfolding IsStrictlySortedBy
+  none_ascending = tt
 
 pub ordered_ascending : (ps : List (Pair Value)) → IsAscending (put_all [] (ordered_pairs ps))
-ordered_ascending ps = ascending_put_all [] (ordered_pairs ps) none_ascending
+ordered_ascending ps = ascending_put_all Value [] (ordered_pairs ps) (none_ascending Value)
 
 -- ---- ascending pairs
 
@@ -61,7 +62,7 @@ put_all_ascending filed (p ∷ ps) h =
 less_not_equal : (a b : List ℕ) → key_cmp a b ≡ Less → is_eq (key_cmp a b) ≡ false
 less_not_equal a b h = ap is_eq h
 
-none_below : (k : List ℕ) (ks : List (List ℕ)) → AllByRecursion (λ j. key_cmp k j ≡ Less) ks → has_key ks k ≡ false
+pub none_below : (k : List ℕ) (ks : List (List ℕ)) → AllByRecursion (λ j. key_cmp k j ≡ Less) ks → has_key ks k ≡ false
 none_below k [] h = refl
 none_below k (j ∷ ks) h = (λ i. less_not_equal k j h.0 i || none_below k ks h.1 i)
 

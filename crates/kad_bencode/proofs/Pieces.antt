@@ -38,17 +38,17 @@ shown_none (Some v) h = absurd h
 
 -- ---- the first byte tells the kind
 
-abbrev first_byte : Value → ℕ
+abbrev pub first_byte : Value → ℕ
 first_byte t = get_or (text_of t) 0 0
 
-abbrev Starts : Value → Type 0
+abbrev pub Starts : Value → Type 0
 Starts t =
     ((z : ℤ) × (t ≡ value.Int z) × (first_byte t ≡ 105))
     ⊎ (((s : List ℕ) × (t ≡ value.Text s) × (is_digit (first_byte t) ≡ true))
     ⊎ (((vs : List Value) × (t ≡ value.List vs) × (first_byte t ≡ 108))
     ⊎ ((ps : List (Pair Value)) × (t ≡ value.Dict ps) × (first_byte t ≡ 100))))
 
-starts : (t : Value) → Starts t
+pub starts : (t : Value) → Starts t
 starts = by_value Starts
     (λ z. inl (z, refl, ap (λ l. get_or l 0 0) (text_of-int z) ∙ letter z))
     (λ s. inr (inl (s, refl, ap (λ l. is_digit (get_or l 0 0)) (text_of-text s) ∙ digit_first (length s) (length s) (omega arith) (58 ∷ s))))

@@ -104,7 +104,7 @@ module _ (V : Type 0) where
   all_without P (p ∷ ps) key a =
       elim (is_eq (key_cmp key p.key)) as (λ b. AllByRecursion P (keys_of (cond b ps (p ∷ without ps key)))) [ true ↦ a.1 | false ↦ (a.0, all_without P ps key a.1) ]
 
-  all_above : (a b : List ℕ) (ks : List (List ℕ)) → key_cmp a b ≡ Less → AllByRecursion (λ k. key_cmp b k ≡ Less) ks → AllByRecursion (λ k. key_cmp a k ≡ Less) ks
+  pub all_above : (a b : List ℕ) (ks : List (List ℕ)) → key_cmp a b ≡ Less → AllByRecursion (λ k. key_cmp b k ≡ Less) ks → AllByRecursion (λ k. key_cmp a k ≡ Less) ks
   all_above a b [] h r = tt
   all_above a b (k ∷ ks) h r = (nat_list_cmp_total.trans a b k h r.0, all_above a b ks h r.1)
 

@@ -8,6 +8,7 @@ pub mod Parts
 pub mod Scanning
 pub mod Finding
 pub mod Filing
+pub mod Forming
 pub mod Naming
 pub mod Placing
 pub mod formers

@@ -6,6 +6,7 @@ mod built;
 pub mod entries;
 mod filed;
 mod find;
+mod form;
 pub mod into;
 pub mod laws;
 pub mod pairs;

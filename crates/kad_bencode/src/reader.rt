@@ -7,9 +7,11 @@ ghost use Rattle.kad_bencode.specs.declared.value.Bad.{Bad};
 ghost use Rattle.kad_bencode.specs.declared.value.Value.{Value};
 ghost use Rattle.kad_bencode.specs.Machine.{Awaits, Outcome, ReadsInteger, ReadsString, AwaitsString, Place, AwaitsInteger, ReadsValue, Reached, Ready, Keyless, FitsOpen};
 
+use crate::form::form;
 use crate::scan::{self, has_byte};
 use crate::value::{Bad, BenFault, Entries, Value, Values};
-use kad_base::Bytes;
+use crate::verify::check;
+use kad_base::{Bytes, NoMemory};
 use std::alloc::Global;
 
 /// The most lists and dictionaries that are open at once (this project's limit; BEP 3 has none).
@@ -31,6 +33,32 @@ pub fn read(alloc: Global, bytes: &[u8]) -> Result<Value, BenFault>
 
 /// The value, and nothing behind it.
 fn whole(alloc: Global, bytes: &[u8]) -> Result<Value, BenFault>
+    ensures { Outcome bytes.now result (Spells bytes.now) }
+{
+    match check(bytes) {
+        Ok(()) => {
+            let form = form(alloc, bytes)?;
+            let value = spelled(alloc, form.as_slice())?;
+            Ok(value)
+        }
+        Err(bad) => Err(BenFault::Bad(bad)),
+    }
+}
+
+/// The value that bytes spell.
+fn spelled(alloc: Global, bytes: &[u8]) -> Result<Value, NoMemory>
+    requires { (v : Value) × Spells bytes.now v }
+    ensures { (v : Value) → Spells bytes.now v → IfOk result (λ x. x ≡ v) }
+{
+    match parsed(alloc, bytes) {
+        Ok(value) => Ok(value),
+        Err(BenFault::NoMemory) => Err(NoMemory),
+        Err(BenFault::Bad(_)) => unreachable!(),
+    }
+}
+
+/// The value, where it takes all of the bytes.
+fn parsed(alloc: Global, bytes: &[u8]) -> Result<Value, BenFault>
     ensures { Outcome bytes.now result (Spells bytes.now) }
 {
     let (value, next) = value_at(alloc, bytes, 0, 0)?;

@@ -209,6 +209,7 @@ fn part_at(bytes: &[u8], at: usize, depth: usize) -> Option<(usize, usize)>
 /// Where the value at the front ends.
 pub(crate) fn past(bytes: &[u8]) -> usize
     ensures within { result ≤ length bytes.now }
+    ensures moves { 0 < length bytes.now → 0 < result }
     ensures ends { (t : Value) → Begins bytes.now t → result ≡ length (text_of t) }
 {
     let mut at = 0;

@@ -117,6 +117,92 @@ fn examples_are_read_and_written(rt: HostRuntime) {
     );
 }
 
+/// The written form of a value where it stands, and that of the value that is read. Memory is ample.
+fn formed(rt: &impl Abort, alloc: Global, bytes: &[u8], form: &[u8]) {
+    written(rt, alloc, bytes, form);
+    match Piece::parse(bytes) {
+        Ok(piece) => match piece.written(alloc) {
+            Ok(text) => assert_eq!(rt; text.as_slice(), form),
+            Err(_) => assert!(rt; false, "no memory"),
+        },
+        Err(_) => assert!(rt; false, "refused"),
+    }
+}
+
+#[test]
+fn keys_in_any_order_are_written_ascending(rt: HostRuntime) {
+    let alloc = rt.alloc();
+    formed(&rt, alloc, b"d1:c0:1:b0:1:a0:e", b"d1:a0:1:b0:1:c0:e");
+    formed(&rt, alloc, b"d1:a0:1:c0:1:b0:e", b"d1:a0:1:b0:1:c0:e");
+    formed(
+        &rt,
+        alloc,
+        b"d2:ab0:1:b0:1:a0:0:0:e",
+        b"d0:0:1:a0:2:ab0:1:b0:e",
+    );
+    formed(
+        &rt,
+        alloc,
+        b"d1:bd1:bi1e1:ai2ee1:al1:xd1:dle1:cdeee0:i-3ee",
+        b"d0:i-3e1:al1:xd1:cde1:dleee1:bd1:ai2e1:bi1eee",
+    );
+    formed(
+        &rt,
+        alloc,
+        b"d26:abcdefghijklmnopqrstuvwxyz1:126:abcdefghijklmnopqrstuvwxya1:2e",
+        b"d26:abcdefghijklmnopqrstuvwxya1:226:abcdefghijklmnopqrstuvwxyz1:1e",
+    );
+    formed(
+        &rt,
+        alloc,
+        b"lllllllllllllld1:bd1:b0:1:a0:e1:a0:eeeeeeeeeeeeeee",
+        b"lllllllllllllld1:a0:1:bd1:a0:1:b0:eeeeeeeeeeeeeeee",
+    );
+}
+
+#[test]
+fn keys_in_any_order_are_refused_where_one_is_there_twice(rt: HostRuntime) {
+    let alloc = rt.alloc();
+    refused(&rt, alloc, b"d1:b0:1:a0:1:b0:e", Bad::KeyTwice { at: 11 });
+    refused(
+        &rt,
+        alloc,
+        b"d1:b0:1:ad1:d0:1:c0:1:d0:ee",
+        Bad::KeyTwice { at: 20 },
+    );
+    refused(
+        &rt,
+        alloc,
+        b"d1:ad1:ad1:ad1:ad1:ad1:ad1:ad1:ad1:ad1:ad1:ad1:ad1:ad1:ad1:ad1:ad",
+        Bad::Deep { at: 64 },
+    );
+}
+
+/// A dictionary of 640 keys, which rise or fall.
+fn many_keys(alloc: Global, falls: bool) -> Result<Vec<u8>, Fail> {
+    let mut text = Vec::new(alloc);
+    text.push(b'd')?;
+    for i in 0..640u32 {
+        let key = if falls { 639 - i } else { i };
+        text.extend_from_slice(b"2:")?;
+        text.push((key / 32) as u8)?;
+        text.push((key % 32) as u8)?;
+        text.extend_from_slice(b"0:")?;
+    }
+    text.push(b'e')?;
+    Ok(text)
+}
+
+#[test]
+fn falling_keys_of_a_whole_datagram_are_written_ascending(rt: HostRuntime) -> Result<(), Fail> {
+    let alloc = rt.alloc();
+    let falling = many_keys(alloc, true)?;
+    let rising = many_keys(alloc, false)?;
+    formed(&rt, alloc, falling.as_slice(), rising.as_slice());
+    formed(&rt, alloc, rising.as_slice(), rising.as_slice());
+    Ok(())
+}
+
 #[test]
 fn a_dictionary_keeps_its_keys(rt: HostRuntime) -> Result<(), Fail> {
     let alloc = rt.alloc();

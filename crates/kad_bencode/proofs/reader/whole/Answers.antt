@@ -1,15 +1,15 @@
-use Rattle.std.proofs.Common.{[], refl}
-use Rattle.std.proofs.lemmas.Result.{err_from_is_err_and}
-use Rattle.kad_bencode.proofs.Nested.{awaits_first, whole, trailing, passed}
+use Rattle.std.proofs.Common.{sym, ◌∙◌, subst}
+use Rattle.kad_bencode.specs.Spelling.{Spells}
+use Rattle.kad_bencode.proofs.Ordered.{text_spells, spelled_fits, spelled_in_order}
 use Rattle.kad_bencode.proofs.reader.whole.Goals as goal
 
-pub returns-in_err-value : goal.returns-in_err-value
-returns-in_err-value c =
-    let p = err_from_is_err_and c.from_residual.result c.from_residual.ensures.1 in
-    passed c.args.bytes.now c.from_residual.result _ p.0 _ _ p.1 p.2 (c.in_err-value.ensures.reads [] refl (awaits_first c.args.bytes.now))
+pub spelled-requires : goal.spelled-requires
+spelled-requires c =
+    let s = c.in-Ok.ensures.spells in
+    (s.0, subst (λ l. Spells l s.0) (sym (c.as_slice.ensures.value ∙ c.in_ok-form-in-Ok.ensures s.0 s.1)) (text_spells s.0 (spelled_fits c.args.bytes.now s.0 s.1) (spelled_in_order c.args.bytes.now s.0 s.1)))
 
-pub returns-then-next-bytes : goal.returns-then-next-bytes
-returns-then-next-bytes c = trailing c.args.bytes.now c.in_ok-value.value c.in_ok-value.next (c.in_ok-value.ensures.reads [] refl (awaits_first c.args.bytes.now)) c.if-next-bytes.true
-
-pub returns : goal.returns
-returns c = whole c.args.bytes.now c.in_ok-value.value c.in_ok-value.next (c.in_ok-value.ensures.reads [] refl (awaits_first c.args.bytes.now)) c.if-next-bytes.false
+pub returns-in_ok-value-in-Ok : goal.returns-in_ok-value-in-Ok
+returns-in_ok-value-in-Ok c =
+    let s = c.in-Ok.ensures.spells in
+    let again = subst (λ l. Spells l s.0) (sym (c.as_slice.ensures.value ∙ c.in_ok-form-in-Ok.ensures s.0 s.1)) (text_spells s.0 (spelled_fits c.args.bytes.now s.0 s.1) (spelled_in_order c.args.bytes.now s.0 s.1)) in
+    subst (Spells c.args.bytes.now) (sym (c.in_ok-value-in-Ok.ensures s.0 again)) s.1

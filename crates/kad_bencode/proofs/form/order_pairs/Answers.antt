@@ -1,0 +1,13 @@
+use Rattle.std.proofs.Common.{◌≡◌, sym, ap, ◌∙◌, subst}
+use Rattle.std.specs.List.{flat_map}
+use Rattle.kad_bencode.specs.Finding.{ArePairs}
+use Rattle.kad_bencode.specs.Forming.{row_text}
+use Rattle.kad_bencode.proofs.Forming.{in_place}
+use Rattle.kad_bencode.proofs.Putting.{puts_same}
+use Rattle.kad_bencode.proofs.form.order_pairs.Goals as goal
+
+pub returns : goal.returns
+returns c ps a h =
+    let same : c.as_slice.result.now ≡ c.args.pairs.now = c.as_slice.ensures.value ∙ c.in_ok-copy.ensures.items in
+    in_place c.in_ok-rows.rows.items c.sort_rows.new.rows.items ps a h (c.in_ok-rows.ensures ps (subst (λ l. ArePairs l ps) (sym same) a)) c.sort_rows.ensures.moved c.sort_rows.ensures.sorted
+    (puts_same (ap (flat_map row_text) (sym c.as_slice-2.ensures.value)) c.put_rows-end.ensures)

@@ -1,0 +1,138 @@
+//! Turns texts into written forms where they stand (BEP 3: the keys of a dictionary are sorted as raw strings). Nothing
+//! moves but the pairs of dictionaries, and a dictionary's pairs are sorted once.
+ghost use Rattle.std.specs.Prelude.{◌≡◌, ℕ, ◌<◌, ◌≤◌, List, [], ◌∷◌, ◌++◌, map, length, flat_map, IfOk, OnOk, true};
+ghost use Rattle.std.specs.List.{AllByRecursion, concat};
+ghost use Rattle.std.specs.List.Sorted.{IsPermutation, IsSortedBy};
+ghost use Rattle.kad_bencode.specs.Keys.{keys_of};
+ghost use Rattle.kad_bencode.specs.Spelling.{Fits, Spells, each_once, in_order, pairs_text, put_all, text_of};
+ghost use Rattle.kad_bencode.specs.Faults.{pairs_of};
+ghost use Rattle.kad_bencode.specs.Finding.{ArePairs};
+ghost use Rattle.kad_bencode.specs.Forming.{comes_before, row_text, AreRows};
+ghost use Rattle.kad_bencode.specs.Written.{Puts};
+ghost use Rattle.kad_bencode.specs.declared.entries.Pair.{Pair};
+ghost use Rattle.kad_bencode.specs.declared.value.Value.{Value};
+
+use crate::find::first_pair;
+use crate::into::{put_part, put_string};
+use crate::scan::{has_byte, past};
+use kad_base::NoMemory;
+use std::alloc::Global;
+
+/// A pair where it stands: its key, and the text of its value.
+#[derive(Clone, Copy)]
+struct Row<'a> {
+    key: &'a [u8],
+    text: &'a [u8],
+}
+
+/// The pairs, in the order of the text.
+fn rows_of(alloc: Global, pairs: &[u8]) -> Result<Vec<Row<'_>>, NoMemory>
+    ensures { (ps : List (Pair Value)) → ArePairs pairs.now ps
+        → IfOk result (λ rows. AreRows rows.items ps) }
+{
+    let mut rows = Vec::new(alloc);
+    let mut rest = pairs;
+    while rest.len() > 0 {
+        match first_pair(rest) {
+            Some((key, text, others)) => {
+                rows.push(Row { key, text })?;
+                rest = others;
+            }
+            None => return Ok(rows),
+        }
+    }
+    Ok(rows)
+}
+
+/// Sorts pairs by their keys.
+fn sort_rows(rows: &mut Vec<Row<'_>>)
+    ensures moved { IsPermutation rows.old.items rows.new.items }
+    ensures sorted { IsSortedBy comes_before rows.new.items }
+{
+    rows.sort_unstable_by(|a, b| a.key.cmp(b.key));
+}
+
+/// Puts a pair: the text of its key, and that of its value.
+fn put_row(text: &mut [u8], at: usize, row: &Row<'_>) -> usize
+    ensures { Puts text.old text.new at (row_text row.now) result }
+{
+    let at = put_string(text, at, row.key);
+    put_part(text, at, row.text)
+}
+
+/// Puts pairs one behind another, from the front on.
+fn put_rows(text: &mut [u8], rows: &[Row<'_>]) -> usize
+    ensures { Puts text.old text.new 0 (flat_map row_text rows.now) result }
+{
+    let mut at = 0;
+    for row in rows {
+        at = put_row(text, at, row);
+    }
+    at
+}
+
+/// Puts the pairs that stand there into the order of their keys.
+fn order_pairs(alloc: Global, pairs: &mut [u8]) -> Result<(), NoMemory>
+    ensures { (ps : List (Pair Value)) → ArePairs pairs.old ps → each_once (keys_of ps) ≡ true
+        → OnOk result (pairs.new ≡ pairs_text (pairs_of (put_all [] ps))) }
+{
+    let copy = Vec::from_slice(alloc, pairs)?;
+    let mut rows = rows_of(alloc, copy.as_slice())?;
+    sort_rows(&mut rows);
+    let _end = put_rows(pairs, rows.as_slice());
+    Ok(())
+}
+
+/// Turns the value at the front into its written form, and answers how long it is.
+#[cycle(forming)]
+fn form_value(alloc: Global, text: &mut [u8]) -> Result<usize, NoMemory>
+    ensures within { IfOk result (λ n. n ≤ length text.old) }
+    ensures moves { IfOk result (λ n. 0 < length text.old → 0 < n) }
+    ensures forms { (t : Value) (rest : List ℕ) → text.old ≡ text_of t ++ rest → Fits 0 t
+        → IfOk result (λ n. (n ≡ length (text_of t)) × (text.new ≡ text_of (in_order t) ++ rest)) }
+{
+    if has_byte(text, 0, b'l') {
+        return form_values(alloc, text);
+    }
+    if has_byte(text, 0, b'd') {
+        let end = form_values(alloc, text)?;
+        if end < 2 {
+            return Ok(end);
+        }
+        order_pairs(alloc, &mut text[1..end - 1])?;
+        return Ok(end);
+    }
+    Ok(past(text))
+}
+
+/// Turns the values between the first byte and the end of a list, or the keys and values of a dictionary, into their written
+/// forms, and answers where it ends.
+#[cycle(forming)]
+fn form_values(alloc: Global, text: &mut [u8]) -> Result<usize, NoMemory>
+    requires { 0 < length text.old }
+    ensures within { IfOk result (λ n. n ≤ length text.old) }
+    ensures moves { IfOk result (λ n. 0 < n) }
+    ensures forms { (b : ℕ) (ts : List Value) (rest : List ℕ)
+        → text.old ≡ (b ∷ concat (map text_of ts) ++ 101 ∷ []) ++ rest → AllByRecursion (Fits 0) ts
+        → IfOk result (λ n. (n ≡ length (b ∷ concat (map text_of ts) ++ 101 ∷ []))
+        × (text.new ≡ (b ∷ concat (map text_of (map in_order ts)) ++ 101 ∷ []) ++ rest)) }
+{
+    let mut at = 1;
+    'values: while at < text.len() {
+        if has_byte(text, at, b'e') {
+            return Ok(at + 1);
+        }
+        let size = form_value(alloc, &mut text[at..])?;
+        at += size;
+    }
+    Ok(at)
+}
+
+/// The written form of the value that bytes spell, in memory of its own.
+pub(crate) fn form(alloc: Global, bytes: &[u8]) -> Result<Vec<u8>, NoMemory>
+    ensures { (v : Value) → Spells bytes.now v → IfOk result (λ text. text.items ≡ text_of v) }
+{
+    let mut text = Vec::from_slice(alloc, bytes)?;
+    let _end = form_value(alloc, text.as_mut_slice())?;
+    Ok(text)
+}
