@@ -158,6 +158,10 @@ class Contacts(edge.Crowd):
             except (OSError, IndexError, ValueError, KeyError):
                 pass  # it was closed, or this is noise
 
+    def close(self):
+        if not self.closed:
+            super().close()
+
     def send(self, host, datagram):
         sent_from = (socket.IPPROTO_IP, self.PACKET_INFO, struct.pack("=i4s4s", 0, host, bytes(4)))
         self.socket.sendmsg([datagram], [sent_from], 0, self.asker)
@@ -178,7 +182,7 @@ WORDS = {
     "peers": ["--key", edge.TARGET, "--timeout", "60000"],
 }
 COMMANDS = list(WORDS)
-ASKED = 8  # contacts that a node has asked and that are silent
+ASKED, MOST_ASKED = 8, 20  # contacts that a node has asked and that are silent
 FINDS = 16
 
 
@@ -186,19 +190,20 @@ class Measured:
     """A running command whose lookups, if it has some, wait for their contacts. It is sent datagrams, and the processor
     time is read that it took for them."""
 
-    def __init__(self, command, sealed=False, environment=None):
+    def __init__(self, command, sealed=False, environment=None, asked=ASKED):
         edge.OPEN.append(self)
         self.command, self.port = command, edge.free_port()
         self.crowd, self.names = None, {}
         lines, queries = "", 0
         if command != "serve":
             self.crowd = Contacts()
-            lines, self.names = lines_of(self.crowd, ASKED)
-            queries = ASKED
+            lines, self.names = lines_of(self.crowd, asked)
+            queries = asked
         if command == "node":
             lines += "".join(edge.find(identifier(number << 80)) for number in range(FINDS))
-            queries = FINDS * ASKED
+            queries = FINDS * asked
         words = [edge.PROGRAM, command, "--own", OWN.hex(), "--bind", "127.0.0.1:%d" % self.port, *WORDS[command]]
+        words += ["--k", "20", "--paths", "8", "--alpha", "4"] if asked > ASKED else []
         with tempfile.TemporaryFile() as file:
             file.write(lines.encode())
             file.seek(0)
@@ -210,7 +215,7 @@ class Measured:
         self.until(lambda: edge.bound(self.port) is not None, "it binds no socket")
         self.socket.connect(("127.0.0.1", self.port))
         if queries:
-            self.until(lambda: len(self.crowd.asked) == queries, "it asks %d of %d" % (len(self.crowd.asked), queries))
+            self.until(lambda: len(self.crowd.asked) == queries, "it doesn't ask its contacts")
 
     def until(self, holds, what):
         patience = time.monotonic() + 20
@@ -307,7 +312,7 @@ class Measured:
         if self.child.poll() is None:
             self.child.kill()
         self.child.wait()
-        if self.crowd and not self.crowd.closed:
+        if self.crowd:
             self.crowd.close()
 
 
