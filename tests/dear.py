@@ -4,8 +4,10 @@ tests/growth, bench/dearest, bench/soak and interop/node take from here. A datag
 places many keys that stand in no order, or in none that is theirs. A plain one has its length, and one long string in
 their place. It needs Python 3 and Linux."""
 
+import mmap
 import os
 import random
+import shutil
 import socket
 import struct
 import subprocess
@@ -370,3 +372,72 @@ def strays(node, sealed):
             make = lambda fill, _, place=place: saying(place, fill, tx, name, tag=bytes(20))
             rows.append(("an answer with a wrong tag, %s" % place, make, plain, host))
     return rows
+
+
+# ---------------------------------------------------------------------------------------------------------- the clock
+
+# Stands before the C library's own: the clock of a program is ahead by the milliseconds that stand in a file, which is mapped.
+AHEAD = r"""
+extern void *dlsym(void *, const char *);
+extern char *getenv(const char *);
+extern int open(const char *, int, ...);
+extern void *mmap(void *, unsigned long, int, int, int, long);
+
+struct moment { long seconds, parts; };
+static int (*own)(int, struct moment *);
+static const volatile long *ahead;
+
+__attribute__((constructor)) static void begin(void) {
+    own = (int (*)(int, struct moment *))dlsym((void *)-1L, "clock_gettime");
+    ahead = mmap(0, 4096, 1, 1, open(getenv("CLOCK_AHEAD"), 0), 0);
+}
+
+int clock_gettime(int clock, struct moment *at) {
+    int status = own(clock, at);
+    at->seconds += *ahead / 1000;
+    at->parts += *ahead % 1000 * 1000000;
+    if (at->parts >= 1000000000) {
+        at->parts -= 1000000000;
+        at->seconds++;
+    }
+    return status;
+}
+"""
+
+
+def library(source, folder):
+    """A library to be loaded before the C library, built from this source."""
+    made, text_file = os.path.join(folder, "made.so"), os.path.join(folder, "made.c")
+    with open(text_file, "w") as file:
+        file.write(source)
+    kit = shutil.which("rt")
+    compilers = [shutil.which("cc"), shutil.which("clang")]
+    if kit:
+        compilers.append(os.path.join(os.path.dirname(os.path.realpath(kit)), "../toolchain/bin/clang"))
+    for compiler in filter(None, compilers):
+        words = [compiler, "-O1", "-w", "-fPIC", "-fno-builtin", "-shared", "-o", made, text_file]
+        if subprocess.run(words, stderr=subprocess.DEVNULL).returncode == 0:
+            return made
+    raise edge.Failure("no C compiler builds a library that stands before the C library")
+
+
+class Clock:
+    """A clock that is moved ahead for who is started under its environment."""
+
+    def __init__(self):
+        self.folder = tempfile.TemporaryDirectory()
+        path = os.path.join(self.folder.name, "ahead")
+        with open(path, "wb") as file:
+            file.write(bytes(4096))
+        with open(path, "r+b") as file:
+            self.page = mmap.mmap(file.fileno(), 4096)
+        self.ahead = 0
+        self.environment = {"LD_PRELOAD": library(AHEAD, self.folder.name), "CLOCK_AHEAD": path}
+
+    def move(self, milliseconds):
+        self.ahead += milliseconds
+        self.page[:8] = self.ahead.to_bytes(8, "little")
+
+    def close(self):
+        self.page.close()
+        self.folder.cleanup()
