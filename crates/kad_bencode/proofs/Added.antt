@@ -45,7 +45,7 @@ all_again [] = tt
 all_again (p ∷ ps) = ((ordered p.value).again, all_again ps)
 
 module _ (bytes : List ℕ) (pairs : List (Pair Value)) (s : Spells bytes (Dict pairs)) where
-  ascending : IsAscending pairs
+  pub ascending : IsAscending pairs
   ascending = let t = tree_pairs s.tree pairs s.names in subst IsAscending (sym t.2) (ordered_ascending t.0)
 
   again : AllByRecursion (λ v. in_order v ≡ v) (values_of pairs)

@@ -7,7 +7,7 @@ use Rattle.std.specs.Ordering.{is_eq}
 use Rattle.kad_bencode.specs.Faults.{Open}
 use Rattle.kad_bencode.specs.Keys.{key_cmp, value_of}
 use Rattle.kad_bencode.specs.Naming.{named}
-use Rattle.kad_bencode.specs.Parts.{dict_in, dict_of}
+use Rattle.kad_bencode.specs.Parts.{bytes_in, bytes_of, dict_in, dict_of, member_in, member_of}
 use Rattle.kad_bencode.specs.Spelling.{depth_of, is_plain, values_of, Fits, Spells, in_order, put_all, text_of}
 use Rattle.kad_bencode.specs.WrittenForm.{IsWrittenForm}
 use Rattle.kad_bencode.specs.declared.entries.Pair.{Pair}
@@ -84,3 +84,25 @@ member_sound os ps s key v e =
     let filed : put_all [] (ordered_pairs ps) ≡ ps = same_dict (put_all [] (ordered_pairs ps)) ps (sym (in_order-dict ps) ∙ s.ordered) in
     let named_v : Some v ≡ option_map in_order (Some v) = sym e ∙ sym (ap (λ l. value_of l key) filed) ∙ value_named ps key within.2 ∙ ap (option_map in_order) e in
     record { fits = found (Fits (suc (length os))) ps key v within.1 e; ordered = sym (some_same named_v) }
+
+-- a value that has a value under a key is the dictionary that has it
+abbrev HasMember : Value → Type 0
+HasMember v = (key : List ℕ) (w : Value) → member_of v key ≡ Some w → (ps : List (Pair Value)) × (v ≡ value.Dict ps) × (value_of ps key ≡ Some w)
+
+pub has_member : (v : Value) → HasMember v
+has_member = by_value HasMember
+    (λ n key w e. absurd (none_some (sym (int_is (λ y. member_in y key) n) ∙ e)))
+    (λ s key w e. absurd (none_some (sym (text_is (λ y. member_in y key) s) ∙ e)))
+    (λ vs _ key w e. absurd (none_some (sym (list_is (λ y. member_in y key) vs) ∙ e)))
+    (λ qs _ key w e. (qs, refl, sym (dict_is (λ y. member_in y key) qs) ∙ e))
+
+-- a value that is a string is the one of these bytes
+abbrev IsItsText : Value → Type 0
+IsItsText v = (s : List ℕ) → bytes_of v ≡ Some s → v ≡ value.Text s
+
+pub its_text : (v : Value) → IsItsText v
+its_text = by_value IsItsText
+    (λ n s e. absurd (none_some (sym (int_is bytes_in n) ∙ e)))
+    (λ t s e. ap value.Text (some_same (sym (text_is bytes_in t) ∙ e)))
+    (λ vs _ s e. absurd (none_some (sym (list_is bytes_in vs) ∙ e)))
+    (λ qs _ s e. absurd (none_some (sym (dict_is bytes_in qs) ∙ e)))

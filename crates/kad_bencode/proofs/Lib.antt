@@ -25,3 +25,4 @@ pub mod Kept
 pub mod Formed
 pub mod Sorting
 pub mod Forming
+pub mod Cutting

@@ -79,12 +79,12 @@ parted_last key rest pairs s h =
 
 -- ---- the text with the pair
 
-pairs_behind : (ps qs : List (Pair Value)) → pairs_text (pairs_of (ps ++ qs)) ≡ pairs_text (pairs_of ps) ++ pairs_text (pairs_of qs)
+pub pairs_behind : (ps qs : List (Pair Value)) → pairs_text (pairs_of (ps ++ qs)) ≡ pairs_text (pairs_of ps) ++ pairs_text (pairs_of qs)
 pairs_behind ps qs =
     ap pairs_text (map-append (λ (p : Pair Value). record { key = p.key; value = text_of p.value }) ps qs)
     ∙ flat_map-append (λ (p : Pair (List ℕ)). string_text p.key ++ p.value) (pairs_of ps) (pairs_of qs)
 
-value_front : (below others : List (Pair Value)) (key : List ℕ) → AllByRecursion (λ p. key_cmp key p.key ≡ Greater) below → value_of (below ++ others) key ≡ value_of others key
+pub value_front : (below others : List (Pair Value)) (key : List ℕ) → AllByRecursion (λ p. key_cmp key p.key ≡ Greater) below → value_of (below ++ others) key ≡ value_of others key
 value_front [] others key h = refl
 value_front (p ∷ ps) others key h = ap (λ o. cond (is_eq o) (Some p.value) (value_of (ps ++ others) key)) h.0 ∙ value_front ps others key h.1
 
@@ -125,14 +125,14 @@ module _ (bytes key : List ℕ) (pairs : List (Pair Value)) (text_is : bytes ≡
     abbrev back : List ℕ
     back = pairs_text (pairs_of parted.others) ++ 101 ∷ []
 
-    halves : bytes ≡ front ++ back
+    pub halves : bytes ≡ front ++ back
     halves =
         text_is ∙ text_of-dict pairs
         ∙ ap (λ l. 100 ∷ pairs_text (pairs_of l) ++ 101 ∷ []) parted.all
         ∙ ap (λ l. 100 ∷ l ++ 101 ∷ []) (pairs_behind parted.below parted.others)
         ∙ append_assoc front (pairs_text (pairs_of parted.others)) (101 ∷ [])
 
-    seam : (at : ℕ) → at ≡ length bytes - 1 - size → at ≡ length front
+    pub seam : (at : ℕ) → at ≡ length bytes - 1 - size → at ≡ length front
     seam at e =
         let l = ap length halves in
         let m = length-append front back in

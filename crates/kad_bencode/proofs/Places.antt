@@ -32,7 +32,7 @@ module _ (V : Type 0) where
   value_front [] back key h = refl
   value_front (p ∷ ps) back key h = ap (λ o. cond (is_eq o) (Some p.value) (value_of (ps ++ back) key)) h.0 ∙ value_front ps back key h.1
 
-  without_front : (front back : List (Pair V)) (key : List ℕ) → AllByRecursion (λ p. key_cmp key p.key ≡ Greater) front → without (front ++ back) key ≡ front ++ without back key
+  pub without_front : (front back : List (Pair V)) (key : List ℕ) → AllByRecursion (λ p. key_cmp key p.key ≡ Greater) front → without (front ++ back) key ≡ front ++ without back key
   without_front [] back key h = refl
   without_front (p ∷ ps) back key h = ap (λ o. cond (is_eq o) (ps ++ back) (p ∷ without (ps ++ back) key)) h.0 ∙ ap (λ l. p ∷ l) (without_front ps back key h.1)
 

@@ -90,7 +90,7 @@ module _ {V : Type 0} where
 
   -- ---- ascending pairs are known by their values
 
-  none_there : (key : List ℕ) (ps : List (Pair V)) → AllByRecursion (λ k. key_cmp key k ≡ Less) (keys_of ps) → value_of ps key ≡ None
+  pub none_there : (key : List ℕ) (ps : List (Pair V)) → AllByRecursion (λ k. key_cmp key k ≡ Less) (keys_of ps) → value_of ps key ≡ None
   none_there key ps a = no_value ps key (none_below key (keys_of ps) a)
 
   first_key : (p q : Pair V) (ps qs : List (Pair V)) → IsAscending (p ∷ ps) → IsAscending (q ∷ qs)

@@ -9,7 +9,7 @@ use crate::filed::is_above;
 use crate::find::first_pair;
 
 /// How long the texts are of the first pair that isn't below the key and of all behind it.
-fn length_behind(pairs: &[u8], key: &[u8]) -> usize
+pub(crate) fn length_behind(pairs: &[u8], key: &[u8]) -> usize
     ensures within { result ≤ length pairs.now }
     ensures parts { (ps : List (Pair Value)) → ArePairs pairs.now ps
         → IsParted ps key.now result }

@@ -1,16 +1,11 @@
 -- The pair of a tag in the text of a dictionary: taken out, put in, and both.
-use Rattle.std.proofs.Common.{◌≡◌, ℕ, ◌+◌, ◌-◌, ◌≤◌, true, false, cond, List, [], ◌∷◌, ◌++◌, map, length, take, drop, Option, Some, None, Result, Ok, Err, refl, sym, ap, ◌∙◌, subst, arith, append-nil}
+use Rattle.std.proofs.Common.{◌≡◌, ℕ, ◌-◌, true, false, List, ◌++◌, length, take, drop, Option, Some, None, Result, Ok, Err, refl, sym, ap, ◌∙◌, subst, arith, append-nil}
 use Rattle.std.specs.Prelude.{IfOk, MatchOption, codes}
-use Rattle.std.specs.List.{AllByRecursion}
 use Rattle.std.proofs.lemmas.List.{take_all, length-drop}
-use Rattle.std.specs.Ordering.{is_eq}
 use Rattle.kad_base.specs.declared.types.NoMemory.{NoMemory}
-use Rattle.kad_bencode.specs.Keys.{key_cmp, put, value_of, without}
-use Rattle.kad_bencode.specs.Spelling.{Fits, Spells, greatest, depth_of, values_of, string_text, text_of}
-use Rattle.kad_bencode.specs.Faults.{Answers}
-use Rattle.kad_bencode.specs.declared.value.Bad.{Bad}
-use Rattle.kad_bencode.specs.declared.value.BenFault.{BenFault}
-use Rattle.kad_bencode.specs.declared.value.BenFault.TheVariants as fault
+use Rattle.kad_bencode.specs.Keys.{put, value_of, without}
+use Rattle.kad_bencode.specs.Parts.{bytes_in, bytes_of, member_in, member_of}
+use Rattle.kad_bencode.specs.Spelling.{Spells, string_text, text_of}
 use Rattle.kad_bencode.specs.Placing.{IsPlaceFor}
 use Rattle.kad_bencode.specs.Written.{Puts, PutsPairs}
 use Rattle.kad_bencode.specs.declared.entries.Pair.{Pair}
@@ -19,8 +14,9 @@ use Rattle.kad_bencode.specs.declared.value.Value.TheVariants.{Text, Dict}
 use Rattle.kad_bencode.proofs.Added.{spelled_put, value_put_same, without_put}
 use Rattle.kad_bencode.proofs.Faults.{one_value}
 use Rattle.kad_bencode.proofs.Folds.{in_order-text}
-use Rattle.kad_bencode.proofs.Layers.{same_dict, text_no_dict}
-use Rattle.kad_bencode.proofs.Limits.{dict_fits, fits_each, fits_text, depth_of-pairs}
+use Rattle.kad_bencode.proofs.Formed.{has_member, its_text}
+use Rattle.kad_bencode.proofs.Layers.{dict_is, same_dict, text_is}
+use Rattle.kad_bencode.proofs.Limits.{fits_text}
 use Rattle.kad_bencode.proofs.Ordered.{spelled_fits}
 use Rattle.kad_bencode.proofs.Putting.{puts_then, puts_same}
 use Rattle.kad_krpc.specs.Fields.{pair}
@@ -28,49 +24,44 @@ use Rattle.kad_krpc.specs.declared.message.Message.{Message}
 use Rattle.kad_krpc.specs.declared.message.Message.TheVariants as message
 use Rattle.kad_krpc.specs.declared.seal.SealParts.{SealParts}
 use Rattle.kad_krpc.specs.Form.{HasForms, form, message_pairs}
-use Rattle.kad_krpc.specs.Seal.{HasNoTag, IsTagged, IsUntagged, body_of, tagged}
+use Rattle.kad_krpc.specs.Seal.{BearsTag, HasNoTag, IsBodyOf, IsTagged, IsUntagged, LacksTag, tagged}
 use Rattle.kad_krpc.specs.WellTyped.{IsWell}
 use Rattle.kad_krpc.proofs.Spelled.{spelled}
 
--- ---- what the bytes spell
+-- ---- taken apart
 
--- a string is no dictionary
-pub no_dict_text : (v : Value) (s : List ℕ) (pairs : List (Pair Value)) → v ≡ Text s → v ≡ Dict pairs → ⊥
-no_dict_text v s pairs e f = text_no_dict s pairs (sym e ∙ f)
+pub has_tag : (v value : Value) (tag : List ℕ) → Some value ≡ member_of v (codes "sg") → Some tag ≡ bytes_of value → BearsTag v tag
+has_tag v value tag e f = let m = has_member v (codes "sg") value (sym e) in (m.0, m.1, m.2 ∙ ap Some (its_text value tag (sym f)))
 
--- what is refused as bad spells nothing
-pub spells_nothing : (f : BenFault) (bad : Bad) (v : Value) → f ≡ fault.Bad bad → Answers (Err f) (Ok v) → ⊥
-spells_nothing f bad v e a = let h : ◌≡◌ {A = Result Value Bad} (Ok v) (Err bad) = subst (λ x. Answers (Err x) (Ok v)) e a in cc
+member_is : (v : Value) (pairs : List (Pair Value)) (tag : List ℕ) → v ≡ Dict pairs → value_of pairs (codes "sg") ≡ Some (Text tag) → member_of v (codes "sg") ≡ Some (Text tag)
+member_is v pairs tag e f = ap (λ u. member_of u (codes "sg")) e ∙ dict_is (λ y. member_in y (codes "sg")) pairs ∙ f
 
--- what was found is spelled
-pub some_spelled : (bytes : List ℕ) (o : Option (List (Pair Value))) (entries : List (Pair Value)) → o ≡ Some entries
-    → MatchOption o ((pairs : List (Pair Value)) → Spells bytes (Dict pairs) → ⊥) (λ pairs. Spells bytes (Dict pairs)) → Spells bytes (Dict entries)
-some_spelled bytes o entries e h = subst (λ x. MatchOption x ((pairs : List (Pair Value)) → Spells bytes (Dict pairs) → ⊥) (λ pairs. Spells bytes (Dict pairs))) e h
+pub no_member : (v : Value) → None ≡ member_of v (codes "sg") → LacksTag v
+no_member v n pairs tag e f = let g : None ≡ Some (Text tag) = n ∙ member_is v pairs tag e f in cc
 
--- the parts of the dictionary, or that it has no tag
-abbrev IsApart : List (Pair Value) → Result (Option SealParts) NoMemory → Type 0
-IsApart entries r = IfOk r (λ o. MatchOption o
-    ((tag : List ℕ) → value_of entries (codes "sg") ≡ Some (Text tag) → ⊥)
-    (λ parts. (value_of entries (codes "sg") ≡ Some (Text parts.tag)) × (parts.body ≡ body_of entries)))
+pub no_string : (v value : Value) → Some value ≡ member_of v (codes "sg") → None ≡ bytes_of value → LacksTag v
+no_string v value m n pairs tag e f =
+    let s : Some value ≡ Some (Text tag) = m ∙ member_is v pairs tag e f in
+    let t : value ≡ Text tag = cc in
+    let g : None ≡ Some tag = n ∙ ap bytes_of t ∙ text_is bytes_in tag in cc
 
-pub taken_apart : (bytes : List ℕ) (entries : List (Pair Value)) → Spells bytes (Dict entries) → (r : Result (Option SealParts) NoMemory) → IsApart entries r
+pub whole_parts : (v : Value) (tag copy body : List ℕ) → BearsTag v tag → copy ≡ tag
+    → ((pairs : List (Pair Value)) (w : Value) → v ≡ Dict pairs → value_of pairs (codes "sg") ≡ Some w → body ≡ text_of (Dict (without pairs (codes "sg"))))
+    → BearsTag v copy × IsBodyOf v body
+whole_parts v tag copy body b e put = (
+  (b.0, b.1, b.2 ∙ ap (λ s. Some (Text s)) (sym e)),
+  λ pairs d. put pairs (Text tag) d (ap (λ l. value_of l (codes "sg")) (same_dict pairs b.0 (sym d ∙ b.1)) ∙ b.2),
+)
+
+pub never_ok : {A E : Type 0} {e : E} {x : A} → ◌≡◌ {A = Result A E} (Err e) (Ok x) → ⊥
+never_ok f = cc
+
+pub taken_apart : (bytes : List ℕ) (v : Value) → Spells bytes v → (r : Result (Option SealParts) NoMemory)
+    → IfOk r (λ o. MatchOption o (LacksTag v) (λ parts. BearsTag v parts.tag × IsBodyOf v parts.body))
     → IfOk r (λ o. MatchOption o (HasNoTag bytes) (λ parts. IsTagged bytes parts.body parts.tag))
-taken_apart bytes entries s (Ok None) h = λ pairs tag t e. h tag (ap (λ l. value_of l (codes "sg")) (same_dict entries pairs (one_value bytes (Dict entries) (Dict pairs) s t)) ∙ e)
-taken_apart bytes entries s (Ok (Some parts)) h = record { pairs = entries; spelled = s; tag_is = h.0; body_is = h.1 }
-taken_apart bytes entries s (Err e) h = tt
-
--- ---- without the pair
-
-values_without : (P : Value → Type 0) (ps : List (Pair Value)) (key : List ℕ) → AllByRecursion P (values_of ps) → AllByRecursion P (values_of (without ps key))
-values_without P [] key a = tt
-values_without P (p ∷ ps) key a =
-    elim (is_eq (key_cmp key p.key)) as (λ b. AllByRecursion P (values_of (cond b ps (p ∷ without ps key)))) [ true ↦ a.1 | false ↦ (a.0, values_without P ps key a.1) ]
-
--- without a pair it nests no deeper
-pub depth_without : (ps : List (Pair Value)) (key : List ℕ) → Fits 0 (Dict ps) → depth_of (Dict (without ps key)) ≤ 16
-depth_without ps key f =
-    let d : 1 + greatest (map depth_of (values_of (without ps key))) ≤ 16 = (fits_each 1 (values_of (without ps key)) (omega arith) (values_without (Fits 1) ps key (dict_fits [] ps f).1)).0 in
-    omega (arith, d, depth_of-pairs (without ps key))
+taken_apart bytes v s (Ok None) h = λ pairs tag t e. h pairs tag (one_value bytes v (Dict pairs) s t) e
+taken_apart bytes v s (Ok (Some parts)) h = record { pairs = h.0.0; spelled = subst (Spells bytes) h.0.1 s; tag_is = h.0.2; body_is = h.1 h.0.0 h.0.1 }
+taken_apart bytes v s (Err e) h = tt
 
 -- ---- with the pair
 

@@ -1,5 +1,5 @@
 -- The one written form of a KRPC message (BEP 5): a dictionary with its keys in ascending order.
-use Rattle.std.specs.Prelude.{ℕ, Bool, true, false, List, [], ◌∷◌, ◌++◌, codes}
+use Rattle.std.specs.Prelude.{ℕ, Bool, false, List, [], ◌∷◌, ◌++◌, codes}
 use Rattle.kad_base.specs.declared.types.Id.{Id}
 use Rattle.kad_base.specs.Words.{word_bytes}
 use Rattle.kad_bencode.specs.Spelling.{text_of}

@@ -15,6 +15,18 @@ body_of pairs = text_of (Dict (without pairs (codes "sg")))
 abbrev pub tagged : List (Pair Value) → List ℕ → List ℕ
 tagged pairs tag = text_of (Dict (put pairs (codes "sg") (Text tag)))
 
+-- the value is a dictionary that has this tag
+abbrev pub BearsTag : Value → List ℕ → Type 0
+BearsTag v tag = (pairs : List (Pair Value)) × (v ≡ Dict pairs) × (value_of pairs (codes "sg") ≡ Some (Text tag))
+
+-- the value is no dictionary, or it has no `sg`, or that is no byte string
+abbrev pub LacksTag : Value → Type 0
+LacksTag v = (pairs : List (Pair Value)) (tag : List ℕ) → v ≡ Dict pairs → value_of pairs (codes "sg") ≡ Some (Text tag) → ⊥
+
+-- this is what is tagged of a dictionary
+abbrev pub IsBodyOf : Value → List ℕ → Type 0
+IsBodyOf v body = (pairs : List (Pair Value)) → v ≡ Dict pairs → body ≡ body_of pairs
+
 -- the bytes spell a dictionary that has this tag, and this is what is tagged
 pub record IsTagged (bytes body tag : List ℕ) : Type 0 where
   pub pairs : List (Pair Value)

@@ -1,21 +1,18 @@
 //! Tags of messages. A tag stands at the top of a datagram, as a byte string under the key `sg`, which is this project's
 //! own; the key's place among the others is that of BEP 3. What is tagged is the written form of the datagram without that
 //! pair. Nothing here makes or judges a tag.
-ghost use Rattle.std.specs.Prelude.{◌≡◌, ◌<◌, ◌≤◌, ◌↔◌, ℕ, List, Some, codes, length, take, IfOk, IfSome, IsNone, MatchOption};
-ghost use Rattle.kad_bencode.specs.Keys.{value_of};
-ghost use Rattle.kad_bencode.specs.Spelling.{Fits, Spells, depth_of, text_of};
+ghost use Rattle.std.specs.Prelude.{◌≡◌, ◌<◌, ◌≤◌, ◌↔◌, ℕ, List, length, take, IfOk, IfSome, IsNone, MatchOption};
 ghost use Rattle.kad_bencode.specs.Written.{Puts};
 ghost use Rattle.kad_bencode.specs.declared.entries.Pair.{Pair};
 ghost use Rattle.kad_bencode.specs.declared.value.Value.{Value};
-ghost use Rattle.kad_bencode.specs.declared.value.Value.TheVariants as value;
 ghost use Rattle.kad_krpc.specs.declared.message.Message.{Message};
 ghost use Rattle.kad_krpc.specs.Form.{HasForms, form, message_pairs};
 ghost use Rattle.kad_krpc.specs.WellTyped.{IsWell};
-ghost use Rattle.kad_krpc.specs.Seal.{HasNoTag, IsTagged, IsUntagged, body_of, tagged};
+ghost use Rattle.kad_krpc.specs.Seal.{BearsTag, HasNoTag, IsBodyOf, IsTagged, IsUntagged, LacksTag, tagged};
 
 use crate::fields::put_text;
 use kad_base::{Bytes, List, NoMemory};
-use kad_bencode::{BenFault, Entries, Value, place_for, put_part, read, write};
+use kad_bencode::{Piece, place_for, put_part};
 use std::alloc::Global;
 
 /// A tagged datagram, taken apart.
@@ -27,64 +24,45 @@ pub struct SealParts {
     pub tag: Bytes,
 }
 
-/// The dictionary that the bytes spell, if they spell one.
-fn dictionary_of(alloc: Global, bytes: &[u8]) -> Result<Option<Entries>, NoMemory>
-    ensures { IfOk result (λ o. MatchOption o
-        ((pairs : List (Pair Value)) → Spells bytes.now (value.Dict pairs) → ⊥)
-        (λ pairs. Spells bytes.now (value.Dict pairs))) }
+/// The tag of a value that is a dictionary and has one.
+fn tag_of<'a>(top: &Piece<'a>) -> Option<&'a [u8]>
+    ensures { MatchOption result (LacksTag top.now) (λ tag. BearsTag top.now tag.now) }
 {
-    match read(alloc, bytes) {
-        Ok(Value::Dict(entries)) => Ok(Some(entries)),
-        Ok(Value::Int(_)) => Ok(None),
-        Ok(Value::Text(_)) => Ok(None),
-        Ok(Value::List(_)) => Ok(None),
-        Err(BenFault::Bad(_)) => Ok(None),
-        Err(BenFault::NoMemory) => Err(NoMemory),
+    match top.get(b"sg") {
+        Some(value) => match value.as_bytes() {
+            Some(tag) => Some(tag),
+            None => None,
+        },
+        None => None,
     }
 }
 
-/// The written form of a dictionary.
-fn written(alloc: Global, entries: Entries) -> Result<Bytes, NoMemory>
-    requires { depth_of (value.Dict entries) ≤ 16 }
-    ensures { IfOk result (λ bytes. bytes ≡ text_of (value.Dict entries)) }
+/// Takes a value that was read where it stands apart: `None` where it is no dictionary, or has no `sg`, or that is no byte
+/// string. Its keys may stand in any order, so its body is put in order. The memory taken is in proportion to its text.
+pub fn parts_of(alloc: Global, top: &Piece<'_>) -> Result<Option<SealParts>, NoMemory>
+    ensures { IfOk result (λ o. MatchOption o (LacksTag top.now)
+        (λ parts. BearsTag top.now parts.tag × IsBodyOf top.now parts.body)) }
 {
-    let mut text = Vec::new(alloc);
-    write(&Value::Dict(entries), &mut text)?;
-    Ok(List::from_vec(text))
-}
-
-/// The tag of a dictionary, and the dictionary's text without it.
-fn parts_of(alloc: Global, entries: Entries) -> Result<Option<SealParts>, NoMemory>
-    requires { Fits 0 (value.Dict entries) }
-    ensures { IfOk result (λ o. MatchOption o
-        ((tag : List ℕ) → value_of entries (codes "sg") ≡ Some (value.Text tag) → ⊥)
-        (λ parts. (value_of entries (codes "sg") ≡ Some (value.Text parts.tag))
-        × (parts.body ≡ body_of entries))) }
-{
-    let mut others = entries;
-    match others.remove(b"sg") {
-        Some(Value::Text(tag)) => {
-            let body = written(alloc, others)?;
+    match tag_of(top) {
+        Some(tag) => {
+            let body = top.written_without(alloc, b"sg")?;
+            let tag = Bytes::from_slice(alloc, tag)?;
             Ok(Some(SealParts { body, tag }))
         }
-        Some(Value::Int(_)) => Ok(None),
-        Some(Value::List(_)) => Ok(None),
-        Some(Value::Dict(_)) => Ok(None),
         None => Ok(None),
     }
 }
 
 /// Takes a datagram of any length apart. `None` where it spells no dictionary, or the dictionary has no `sg`, or that is no
-/// byte string. The keys of the datagram may stand in any order, so its body is written again. The memory taken is in
+/// byte string. The keys of the datagram may stand in any order, so its body is put in order. The memory taken is in
 /// proportion to the datagram.
 pub fn seal_parts(alloc: Global, bytes: &[u8]) -> Result<Option<SealParts>, NoMemory>
     ensures { IfOk result (λ o. MatchOption o (HasNoTag bytes.now)
         (λ parts. IsTagged bytes.now parts.body parts.tag)) }
 {
-    let dictionary = dictionary_of(alloc, bytes)?;
-    match dictionary {
-        Some(entries) => parts_of(alloc, entries),
-        None => Ok(None),
+    match Piece::parse(bytes) {
+        Ok(top) => parts_of(alloc, &top),
+        Err(_) => Ok(None),
     }
 }
 
@@ -107,9 +85,6 @@ pub fn with_tag(alloc: Global, bytes: &[u8], tag: &[u8]) -> Result<Bytes, NoMemo
 {
     let mut nowhere = [0u8; 0];
     let length = put_tagged(&mut nowhere, bytes, tag);
-    if length == usize::MAX {
-        return Err(NoMemory);
-    }
     let mut text = vec![in alloc; 0u8; length]?;
     let _end = put_tagged(text.as_mut_slice(), bytes, tag);
     Ok(List::from_vec(text))

@@ -104,9 +104,6 @@ pub fn encode(alloc: Global, message: &Message) -> Result<Bytes, NoMemory>
     message_is_well_typed(message);
     let mut nowhere = [0u8; 0];
     let length = put_message(&mut nowhere, message);
-    if length == usize::MAX {
-        return Err(NoMemory);
-    }
     let mut bytes = vec![in alloc; 0u8; length]?;
     let _end = put_message(bytes.as_mut_slice(), message);
     Ok(List::from_vec(bytes))

@@ -1,8 +1,5 @@
-use Rattle.std.proofs.Common.{◌≤◌, sym, subst}
-use Rattle.kad_bencode.specs.Spelling.{depth_of}
-use Rattle.kad_bencode.specs.declared.value.Value.TheVariants.{Dict}
-use Rattle.kad_krpc.proofs.Sealing.{depth_without}
+use Rattle.kad_krpc.proofs.Sealing.{whole_parts}
 use Rattle.kad_krpc.proofs.seal.parts_of.Goals as goal
 
-pub written-requires : goal.written-requires
-written-requires c = subst (λ l. depth_of (Dict l) ≤ 16) (sym c.in-Some-Text.ensures.rest) (depth_without c.args.entries _ c.requires)
+pub returns-in_ok-tag-in-Some : goal.returns-in_ok-tag-in-Some
+returns-in_ok-tag-in-Some c = whole_parts c.args.top.now c.in-Some.tag.now c.in_ok-tag-in-Some.tag c.in_ok-body-in-Some.body c.in-Some.ensures c.in_ok-tag-in-Some.ensures c.in_ok-body-in-Some.ensures
