@@ -84,9 +84,13 @@ peer_in None = None
 peer_in (Some bytes) = peer_of bytes
 
 -- the peers of a list of values, in order
+abbrev pub peers_among : List Value → List Addr
+peers_among values = flat_map (λ v. option_to_list (peer_in (bytes_of v))) values
+
+-- the same of a list that may be missing
 abbrev pub peers_in : Option (List Value) → Option (List Addr)
 peers_in None = None
-peers_in (Some values) = Some (flat_map (λ v. option_to_list (peer_in (bytes_of v))) values)
+peers_in (Some values) = Some (peers_among values)
 
 -- ---- values that are carried as they are
 

@@ -22,6 +22,7 @@ pub use borrowed::View;
 pub use kad_records::split_record;
 pub use laws::{form_says, one_message, said_is_writable};
 pub use message::{Answer, Ask, Key, KrpcFault, Message, Port, Want};
+pub use owned::push_peers;
 pub use query::{find_node_into, get_into, get_peers_into};
 pub use reader::{decode, decode_view};
 pub use seal::{

@@ -1,8 +1,8 @@
 //! A message in memory of its own, made of a view.
-ghost use Rattle.std.specs.Prelude.{◌≡◌, ◌++◌, flat_map, option_copied, option_map, option_to_list, IfOk, OnOk, Some};
+ghost use Rattle.std.specs.Prelude.{◌≡◌, ◌++◌, option_copied, option_map, option_to_list, IfOk, OnOk};
 ghost use Rattle.kad_bencode.specs.Parts.{bytes_of};
 ghost use Rattle.kad_bencode.specs.Spelling.{text_of};
-ghost use Rattle.kad_krpc.specs.Fields.{peer_of, peer_in, peers_in};
+ghost use Rattle.kad_krpc.specs.Fields.{peer_of, peer_in, peers_among, peers_in};
 ghost use Rattle.kad_krpc.specs.Views.{message_seen};
 
 use crate::answer::own_answer;
@@ -41,14 +41,22 @@ fn push_peer(peers: &mut Addrs, value: &Piece) -> Result<(), NoMemory>
     }
 }
 
+/// Appends the peers among the values, in order: of each that is a string of 6 or 18 bytes one.
+pub fn push_peers(peers: &mut Addrs, mut values: Items) -> Result<(), NoMemory>
+    ensures { OnOk result (peers.new ≡ peers.old ++ peers_among values.entry) }
+{
+    while let Some(value) = values.next() {
+        push_peer(peers, &value)?;
+    }
+    Ok(())
+}
+
 /// The peers among the values, in order. There is room for as many as their text may hold.
-fn peers_of(alloc: Global, mut values: Items) -> Result<Addrs, NoMemory>
-    ensures { IfOk result (λ peers. Some peers ≡ peers_in (Some values.entry)) }
+fn peers_of(alloc: Global, values: Items) -> Result<Addrs, NoMemory>
+    ensures { IfOk result (λ peers. peers ≡ peers_among values.entry) }
 {
     let mut peers = with_room(alloc, values.text_len() / PEER)?;
-    while let Some(value) = values.next() {
-        push_peer(&mut peers, &value)?;
-    }
+    push_peers(&mut peers, values)?;
     Ok(peers)
 }
 

@@ -1,5 +1,5 @@
 //! Records that stay in their datagram.
-ghost use Rattle.std.specs.Prelude.{◌≡◌, ◌≢◌, ◌%◌, [], length, slice_get, IfOk, MatchOption};
+ghost use Rattle.std.specs.Prelude.{◌≡◌, ◌≢◌, ◌%◌, [], length, take, slice_get, IfOk, MatchOption};
 ghost use Rattle.kad_records.specs.Records.{records_in};
 
 use crate::kinds::Record;
@@ -59,11 +59,19 @@ impl<'a, R: Record> Records<'a, R> {
     pub fn to_list(&self, alloc: Global) -> Result<List<R::Item>, NoMemory>
         ensures { IfOk result (λ items. items ≡ self.now) }
     {
-        let mut items = with_room(alloc, self.len())?;
-        for i in 0..self.len() {
+        self.first(alloc, self.len())
+    }
+
+    /// What the first of them say, so many at most, in memory of their own.
+    pub fn first(&self, alloc: Global, most: usize) -> Result<List<R::Item>, NoMemory>
+        ensures { IfOk result (λ items. items ≡ take most self.now) }
+    {
+        let few = self.len().min(most);
+        let mut items = with_room(alloc, few)?;
+        for i in 0..few {
             match self.at(i) {
                 Some(item) => items.push(item)?,
-                None => return Ok(items),
+                None => unreachable!(),
             }
         }
         Ok(items)

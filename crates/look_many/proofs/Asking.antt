@@ -35,13 +35,9 @@ use Rattle.look_many.specs.Mine.{Mine, driven, gives, SentGives, UnsentGives}
 use Rattle.look_many.specs.Many.{Frame, Reading, owned_by, and_then, OneMoves, Gives}
 use Rattle.look_many.specs.inner.Crowd.{whose, Holding, Longer, KeepsMine, framed, ManyShow, IsFrame}
 use Rattle.look_many.specs.inner.ManySteps.{query_bytes, AsksOver, is_sent, is_unsent}
-use Rattle.look_many.proofs.OneReceive.{driven_append}
+use Rattle.lookup_core.proofs.Received.{driven_append, query_back}
 use Rattle.look_many.proofs.Telling.{same_longer, all_longer}
 use Rattle.look_many.proofs.Walking.{shows_more}
-
-query_back : (J : List Entry) (qs : List Query) → map query_of (map (as_open J) qs) ≡ qs
-query_back J [] = refl
-query_back J (q ∷ qs) = ap (λ l. q ∷ l) (query_back J qs)
 
 driven_ask : (J : List Entry) (p : ℕ) (c : Contact) → driven (J ++ Ask p c ∷ []) ≡ driven J ++ Ask p c ∷ []
 unfolding driven

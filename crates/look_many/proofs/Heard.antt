@@ -11,8 +11,8 @@ use Rattle.claim_book.specs.declared.types.Entry.TheVariants.{Heard, Lost}
 use Rattle.claim_book.specs.Journal.{ask_of, asked}
 use Rattle.claim_book.specs.State.{BookState}
 use Rattle.lookup_core.specs.declared.quest.Quest.{Quest}
-use Rattle.lookup_core.specs.declared.reply.Reply.{Reply}
-use Rattle.lookup_core.specs.declared.reply.Reply.TheVariants as reply
+use Rattle.lookup_core.specs.Reply.{Reply}
+use Rattle.lookup_core.specs.Reply as reply
 use Rattle.lookup_core.specs.Matching.{OpenQuery, ReplyGives}
 use Rattle.lookup_core.specs.Sealed.{Accepts}
 use Rattle.lookup_core.specs.Timeouts.{is_overdue, timed_out, closed_at}
@@ -23,49 +23,9 @@ use Rattle.look_many.specs.declared.seeker.Seeker.{Seeker}
 use Rattle.look_many.specs.Mine.{driven}
 use Rattle.look_many.specs.inner.Crowd.{opens, DrivenOn, OnlyHeard, SameSeat}
 use Rattle.look_many.specs.inner.ManySteps.{IsMatchFor, TakesFirst, Expires}
-use Rattle.look_many.proofs.OneReceive.{none_driven, driven_append, driven_closed, reply_driven}
+use Rattle.lookup_core.proofs.Received.{still_in, in_wider, none_driven, driven_append, driven_closed, reply_driven, asks_closed, asked_append, reply_asks}
 
 -- ---- one lookup
-
-still_in : (at : ℕ) (qs : List Query) (q : Query) → Contains (filter (λ (x : Query). nat_lt at x.deadline) qs) q → Contains qs q
-still_in at [] q h = h
-still_in at (x ∷ qs) q h = pick (nat_lt at x.deadline) (still_in at qs q) h
-  where
-    pick : (b : Bool) → (Contains (filter (λ (x : Query). nat_lt at x.deadline) qs) q → Contains qs q) → Contains (cond b (x ∷ filter (λ (x : Query). nat_lt at x.deadline) qs) (filter (λ (x : Query). nat_lt at x.deadline) qs)) q → Contains (x ∷ qs) q
-    pick true rest h = elim (in_cons x (filter (λ (x : Query). nat_lt at x.deadline) qs) q h) [
-      | inl e ↦ subst (λ y. Contains (x ∷ qs) y) (sym e) (in_first x qs)
-      | inr k ↦ in_rest x qs q (rest k)
-    ]
-    pick false rest h = in_rest x qs q (rest h)
-
-in_wider : (before : List Query) (x : Query) (behind : List Query) (q : Query) → Contains (before ++ behind) q → Contains (before ++ x ∷ behind) q
-in_wider [] x behind q h = in_rest x behind q h
-in_wider (y ∷ before) x behind q h = elim (in_cons y (before ++ behind) q h) [
-  | inl e ↦ subst (λ z. Contains (y ∷ (before ++ x ∷ behind)) z) (sym e) (in_first y (before ++ x ∷ behind))
-  | inr rest ↦ in_rest y (before ++ x ∷ behind) q (in_wider before x behind q rest)
-]
-
-asked_append : (J K : List Entry) → asked (J ++ K) ≡ asked J ++ asked K
-unfolding asked
-asked_append J K = flat_map-append ask_of J K
-
-asks_closed : (qs : List OpenQuery) → asked (map timed_out qs) ≡ []
-unfolding asked
-asks_closed [] = refl
-asks_closed (q ∷ qs) = asks_closed qs
-
-heard_asks : (p : ℕ) (c : _) (reports : _) → asked (Heard p c reports ∷ []) ≡ []
-unfolding asked
-heard_asks p c reports = refl
-
-lost_asks : (p : ℕ) (c : _) (cause : _) → asked (Lost p c cause ∷ []) ≡ []
-unfolding asked
-lost_asks p c cause = refl
-
-reply_asks : (quest : Quest) (q : OpenQuery) (what : Reply) (e : Entry) → ReplyGives quest q what e → asked (e ∷ []) ≡ []
-reply_asks quest q (reply.Answer answer) e (inl own) = subst (λ x. asked (x ∷ []) ≡ []) (sym own.1) (heard_asks q.path q.contact _)
-reply_asks quest q (reply.Answer answer) e (inr other) = subst (λ x. asked (x ∷ []) ≡ []) (sym other.1) (lost_asks q.path q.contact WrongId)
-reply_asks quest q (reply.Error code) e is = subst (λ x. asked (x ∷ []) ≡ []) (sym is) (lost_asks q.path q.contact (Error code))
 
 only_same : (k : Seeker) → OnlyHeard k k
 only_same k = record { fewer = λ q h. h; same_asks = refl }

@@ -15,6 +15,7 @@ use Rattle.claim_book.specs.declared.types.Entry.{Entry}
 use Rattle.claim_book.specs.declared.types.Entry.TheVariants.{Seed, Ask, Heard, Lost, Note, Taken, Held, Turned, Rejected, Skipped}
 use Rattle.claim_book.specs.Journal.{seed_of, seeds}
 use Rattle.serve_crew.specs.Hands.{SamePass}
+use Rattle.lookup_core.proofs.Received.{seeds_append}
 use Rattle.look_many.specs.declared.seeker.Seeker.{Seeker}
 use Rattle.look_many.specs.Mine.{is_driven, driven}
 use Rattle.look_many.specs.ManyLooked.{note_of, noted}
@@ -62,10 +63,6 @@ driven_notes K e = none_of note_of no_note K (all_driven K e)
 driven_seeds : (K : List Entry) → driven K ≡ K → seeds K ≡ []
 unfolding seeds
 driven_seeds K e = none_of seed_of no_seed K (all_driven K e)
-
-seeds_append : (J K : List Entry) → seeds (J ++ K) ≡ seeds J ++ seeds K
-unfolding seeds
-seeds_append J K = flat_map-append seed_of J K
 
 no_seeds_both : (J K : List Entry) → seeds J ≡ [] → seeds K ≡ [] → seeds (J ++ K) ≡ []
 no_seeds_both J K a b = seeds_append J K ∙ ap (λ l. l ++ seeds K) a ∙ b

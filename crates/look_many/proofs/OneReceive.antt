@@ -13,14 +13,15 @@ use Rattle.claim_book.specs.declared.types.Entry.TheVariants.{Heard, Lost}
 use Rattle.claim_book.specs.Journal.{asked}
 use Rattle.claim_book.specs.State.{BookState}
 use Rattle.lookup_core.specs.declared.quest.Quest.{Quest}
-use Rattle.lookup_core.specs.declared.reply.Reply.{Reply}
-use Rattle.lookup_core.specs.declared.reply.Reply.TheVariants as reply
+use Rattle.lookup_core.specs.Reply.{Reply}
+use Rattle.lookup_core.specs.Reply as reply
 use Rattle.lookup_core.specs.Matching.{OpenQuery, Replies, ReplyGives, IsStray}
 use Rattle.lookup_core.specs.Sealed.{Accepts}
 use Rattle.lookup_core.specs.Timeouts.{is_overdue, timed_out, closed_at, open_at}
 use Rattle.lookup_core.specs.LookupSteps.{as_open, query_to}
 use Rattle.lookup_core.proofs.Lists.{map_append, in_map}
 use Rattle.lookup_core.proofs.Opens.{opens_kept, each_asked}
+use Rattle.lookup_core.proofs.Received.{open_still, among_still, none_driven, driven_closed, driven_append, reply_driven, gives_of, among_dropped}
 use Rattle.look_many.specs.declared.seeker.Seeker.{Seeker}
 use Rattle.look_many.specs.Mine.{Mine, is_driven, driven, MatchGives, received, waited}
 use Rattle.look_many.specs.inner.Crowd.{opens, Holding, Longer, KeepsMine}
@@ -28,77 +29,7 @@ use Rattle.look_many.specs.inner.ManySteps.{IsMatchFor, IsNotFor, Expires, lapse
 
 -- ---- what is overdue
 
-open_still : (at : ℕ) (J : List Entry) (qs : List Query) → open_at at (map (as_open J) qs) ≡ map (as_open J) (filter (λ (q : Query). nat_lt at q.deadline) qs)
-open_still at J [] = refl
-open_still at J (q ∷ qs) = pick (nat_lt at q.deadline) (open_still at J qs)
-  where
-    pick : (b : Bool) → open_at at (map (as_open J) qs) ≡ map (as_open J) (filter (λ (q : Query). nat_lt at q.deadline) qs)
-        → cond (not (not b)) (as_open J q ∷ open_at at (map (as_open J) qs)) (open_at at (map (as_open J) qs)) ≡ map (as_open J) (cond b (q ∷ filter (λ (q : Query). nat_lt at q.deadline) qs) (filter (λ (q : Query). nat_lt at q.deadline) qs))
-    pick true h = ap (λ l. as_open J q ∷ l) h
-    pick false h = h
-
-among_still : (at : ℕ) (qs : List Query) (c : Contact) → among (map (λ (q : Query). q.contact) (filter (λ (q : Query). nat_lt at q.deadline) qs)) c ≡ true → among (map (λ (q : Query). q.contact) qs) c ≡ true
-among_still at [] c h = h
-among_still at (q ∷ qs) c h = pick (nat_lt at q.deadline) h (among_still at qs c)
-  where
-    pick : (b : Bool) → among (map (λ (q : Query). q.contact) (cond b (q ∷ filter (λ (q : Query). nat_lt at q.deadline) qs) (filter (λ (q : Query). nat_lt at q.deadline) qs))) c ≡ true
-        → (among (map (λ (q : Query). q.contact) (filter (λ (q : Query). nat_lt at q.deadline) qs)) c ≡ true → among (map (λ (q : Query). q.contact) qs) c ≡ true)
-        → (same c q.contact || among (map (λ (q : Query). q.contact) qs) c) ≡ true
-    pick true h f = both (same c q.contact) (among (map (λ (q : Query). q.contact) (filter (λ (q : Query). nat_lt at q.deadline) qs)) c) (among (map (λ (q : Query). q.contact) qs) c) h f
-      where
-        both : (a b d : Bool) → (a || b) ≡ true → (b ≡ true → d ≡ true) → (a || d) ≡ true
-        both true b d h f = refl
-        both false b d h f = f h
-    pick false h f = last (same c q.contact) (among (map (λ (q : Query). q.contact) qs) c) (f h)
-      where
-        last : (a b : Bool) → b ≡ true → (a || b) ≡ true
-        last true b h = refl
-        last false b h = h
-
 -- ---- the entries of the driver
-
-pub driven_closed : (qs : List OpenQuery) → driven (map timed_out qs) ≡ map timed_out qs
-unfolding driven
-driven_closed [] = refl
-driven_closed (q ∷ qs) = ap (λ l. timed_out q ∷ l) (driven_closed qs)
-
-pub driven_append : (J K : List Entry) → driven (J ++ K) ≡ driven J ++ driven K
-unfolding driven
-driven_append J K = filter-append is_driven J K
-
-pub none_driven : driven [] ≡ []
-unfolding driven
-none_driven = refl
-
-heard_driven : (p : ℕ) (c : Contact) (reports : _) → driven (Heard p c reports ∷ []) ≡ Heard p c reports ∷ []
-unfolding driven
-heard_driven p c reports = refl
-
-lost_driven : (p : ℕ) (c : Contact) (cause : _) → driven (Lost p c cause ∷ []) ≡ Lost p c cause ∷ []
-unfolding driven
-lost_driven p c cause = refl
-
--- what a reply gives is the driver's
-pub reply_driven : (quest : Quest) (q : OpenQuery) (what : Reply) (e : Entry) → ReplyGives quest q what e → driven (e ∷ []) ≡ e ∷ []
-reply_driven quest q (reply.Answer answer) e (inl own) = subst (λ x. driven (x ∷ []) ≡ x ∷ []) (sym own.1) (heard_driven q.path q.contact _)
-reply_driven quest q (reply.Answer answer) e (inr other) = subst (λ x. driven (x ∷ []) ≡ x ∷ []) (sym other.1) (lost_driven q.path q.contact WrongId)
-reply_driven quest q (reply.Error code) e is = subst (λ x. driven (x ∷ []) ≡ x ∷ []) (sym is) (lost_driven q.path q.contact (Error code))
-
-gives_of : (quest : Quest) (J : List Entry) (q : Query) (what : Reply) (e : Entry) → ReplyGives quest (query_to J q.contact) what e → ReplyGives quest (as_open J q) what e
-gives_of quest J q (reply.Answer answer) e h = h
-gives_of quest J q (reply.Error code) e h = h
-
-among_dropped : (before : List Query) (q : Query) (behind : List Query) (c : Contact) → among (map (λ (q : Query). q.contact) (before ++ behind)) c ≡ true → among (map (λ (q : Query). q.contact) (before ++ q ∷ behind)) c ≡ true
-among_dropped [] q behind c h = last (same c q.contact) (among (map (λ (q : Query). q.contact) behind) c) h
-  where
-    last : (a b : Bool) → b ≡ true → (a || b) ≡ true
-    last true b h = refl
-    last false b h = h
-among_dropped (x ∷ before) q behind c h = both (same c x.contact) (among (map (λ (q : Query). q.contact) (before ++ behind)) c) (among (map (λ (q : Query). q.contact) (before ++ q ∷ behind)) c) h (among_dropped before q behind c)
-  where
-    both : (a b d : Bool) → (a || b) ≡ true → (b ≡ true → d ≡ true) → (a || d) ≡ true
-    both true b d h f = refl
-    both false b d h f = f h
 
 -- ---- what a receive leaves
 

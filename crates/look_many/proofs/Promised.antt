@@ -40,6 +40,7 @@ use Rattle.node_serve.specs.declared.setting.ServeSetting.{ServeSetting}
 use Rattle.node_serve.specs.Calls.{Did, HadMemory, HasRoom, HasItemRoom}
 use Rattle.serve_crew.specs.Hands.{Hands, SameHands, Grew, TablePass, at_table, at_peers, at_items}
 use Rattle.serve_crew.proofs.Remembering.{did_table, did_peers, did_items}
+use Rattle.lookup_core.proofs.Received.{seeds_append}
 use Rattle.look_many.specs.declared.found.ManySetting.{ManySetting}
 use Rattle.look_many.specs.declared.found.One.{One}
 use Rattle.look_many.specs.declared.found.Many.{Many}
@@ -61,10 +62,6 @@ use Rattle.look_many.proofs.Hosting.{ran_on_none}
 use Rattle.look_many.proofs.Ending.{Remembers, ended_ran, ended_memory, driver_calls_are, lookup_calls}
 
 -- ---- one lookup
-
-seeds_append : (J K : List Entry) → seeds (J ++ K) ≡ seeds J ++ seeds K
-unfolding seeds
-seeds_append J K = flat_map-append seed_of J K
 
 seeds_noted : (paths i : ℕ) (cs : List Contact) → noted (seeded_from paths i cs) ≡ []
 seeds_noted paths i [] = refl

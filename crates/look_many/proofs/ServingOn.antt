@@ -11,7 +11,7 @@ use Rattle.look_many.specs.declared.seeker.Line.{Line}
 use Rattle.look_many.specs.Mine.{Whose}
 use Rattle.look_many.specs.inner.Crowd.{whose, NoneAsks, Longer, DrivenOn, SameSeat}
 use Rattle.look_many.specs.inner.ManySteps.{IsRunOut, for_others, MayReceive, MayServe, Received}
-use Rattle.look_many.proofs.OneReceive.{none_driven}
+use Rattle.lookup_core.proofs.Received.{none_driven}
 use Rattle.look_many.proofs.Rounding.{Stays}
 
 pub may_serve : (ks : List Seeker) (line : Line) (until : ℕ) → MayServe ks line → 0 < line.left → until ≡ waits_until line.moment → MayReceive ks line until false

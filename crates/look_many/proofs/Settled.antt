@@ -30,7 +30,8 @@ use Rattle.look_many.specs.inner.SettleSteps.{CanSettle, Settles, EachSettles}
 use Rattle.look_many.proofs.Hosting.{ran_none}
 use Rattle.look_many.proofs.Lists.{all_at}
 use Rattle.look_many.proofs.Walking.{nothing_after, walk_still}
-use Rattle.look_many.proofs.Settling.{asked_same, driven_same, whole_where}
+use Rattle.lookup_core.proofs.Settling.{asked_same, driven_same}
+use Rattle.look_many.proofs.Settling.{whole_where}
 
 -- ---- what the events show
 

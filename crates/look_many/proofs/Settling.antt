@@ -35,6 +35,8 @@ use Rattle.path_worker.specs.Settling.{seen_with}
 use Rattle.path_worker.specs.WorkerSteps.{SettlesReport}
 use Rattle.path_worker.proofs.WorkerSteps.{settle_one}
 use Rattle.serve_crew.specs.Hands.{TablePass, SamePass, ToldOf}
+use Rattle.lookup_core.proofs.Received.{none_driven}
+use Rattle.lookup_core.proofs.Settling.{IsSilent, open_same, driven_same, seeds_same, settles_silent, one_unseeded, unsettled_same}
 use Rattle.look_many.specs.declared.seeker.Seeker.{Seeker}
 use Rattle.look_many.specs.Mine.{is_driven, driven}
 use Rattle.look_many.specs.ManyLooked.{note_of, noted}
@@ -42,139 +44,15 @@ use Rattle.look_many.specs.inner.Crowd.{Holding}
 use Rattle.look_many.specs.inner.ManySteps.{SettlesSome, SettlesWhole}
 use Rattle.look_many.specs.inner.SettleSteps.{CanSettle, TellsNoted, SettlesOn, SettlesTo, Settles}
 
--- ---- entries that no event gives
-
-abbrev IsSilent : Entry → Type 0
-IsSilent e = is_driven e ≡ false
-
-no_ask : (e : Entry) → IsSilent e → ask_of e ≡ []
-no_ask (Ask p c) h = absurd (true≢false h)
-no_ask other h = refl
-
-no_answer : (e : Entry) → IsSilent e → answer_of e ≡ []
-no_answer (Heard p c reports) h = absurd (true≢false h)
-no_answer other h = refl
-
-no_fail : (e : Entry) → IsSilent e → fail_of e ≡ []
-no_fail (Lost p c cause) h = absurd (true≢false h)
-no_fail other h = refl
-
-no_things : (p : ℕ) (e : Entry) → IsSilent e → things_of p e ≡ []
-no_things p (Heard q c reports) h = absurd (true≢false h)
-no_things p other h = refl
-
-each_silent : (es : List Entry) → driven es ≡ [] → AllByRecursion IsSilent es
-unfolding driven
-each_silent [] h = tt
-each_silent (e ∷ es) h = by (is_driven e) refl h (each_silent es)
-  where
-    by : (b : Bool) → is_driven e ≡ b → cond b (e ∷ filter is_driven es) (filter is_driven es) ≡ [] → (filter is_driven es ≡ [] → AllByRecursion IsSilent es) → AllByRecursion IsSilent (e ∷ es)
-    by true is none rest = absurd cc
-    by false is none rest = (is, rest none)
-
-none_of : {A : Type 0} (f : Entry → List A) (es : List Entry) → ((e : Entry) → IsSilent e → f e ≡ []) → AllByRecursion IsSilent es → flat_map f es ≡ []
-none_of f [] g h = refl
-none_of f (e ∷ es) g h = ap (λ l. l ++ flat_map f es) (g e h.0) ∙ none_of f es g h.1
-
-more_of : {A : Type 0} (f : Entry → List A) (J es : List Entry) → ((e : Entry) → IsSilent e → f e ≡ []) → AllByRecursion IsSilent es → flat_map f (J ++ es) ≡ flat_map f J
-more_of f J es g h = flat_map-append f J es ∙ ap (λ l. flat_map f J ++ l) (none_of f es g h) ∙ append-nil (flat_map f J)
-
-asked_still : (J es : List Entry) → AllByRecursion IsSilent es → asked (J ++ es) ≡ asked J
-unfolding asked
-asked_still J es h = more_of ask_of J es no_ask h
-
-answered_still : (J es : List Entry) → AllByRecursion IsSilent es → answered (J ++ es) ≡ answered J
-unfolding answered
-answered_still J es h = more_of answer_of J es no_answer h
-
-failed_still : (J es : List Entry) → AllByRecursion IsSilent es → failed (J ++ es) ≡ failed J
-unfolding failed
-failed_still J es h = more_of fail_of J es no_fail h
-
-open_still : (J es : List Entry) → AllByRecursion IsSilent es → open_any (J ++ es) ≡ open_any J
-unfolding open_any
-open_still J es h =
-    ap (λ l. without l (answered (J ++ es) ++ failed (J ++ es))) (asked_still J es h)
-    ∙ ap (λ l. without (asked J) (l ++ failed (J ++ es))) (answered_still J es h) ∙ ap (λ l. without (asked J) (answered J ++ l)) (failed_still J es h)
-
--- they ask nobody
-pub asked_same : (J es : List Entry) → driven es ≡ [] → asked (J ++ es) ≡ asked J
-asked_same J es h = asked_still J es (each_silent es h)
-
--- and open and close no query
-pub open_same : (J es : List Entry) → driven es ≡ [] → open_any (J ++ es) ≡ open_any J
-open_same J es h = open_still J es (each_silent es h)
-
-pub none_driven : driven [] ≡ []
-unfolding driven
-none_driven = refl
-
-driven_both : (es fs : List Entry) → driven (es ++ fs) ≡ driven es ++ driven fs
-unfolding driven
-driven_both es fs = filter-append is_driven es fs
-
--- the events give as much as before
-pub driven_same : (J es : List Entry) → driven es ≡ [] → driven (J ++ es) ≡ driven J
-driven_same J es h = driven_both J es ∙ ap (λ l. driven J ++ l) h ∙ append-nil (driven J)
-
 pub none_seeded : seeds [] ≡ []
 unfolding seeds
 none_seeded = refl
 
-seeds_both : (es fs : List Entry) → seeds (es ++ fs) ≡ seeds es ++ seeds fs
-unfolding seeds
-seeds_both es fs = flat_map-append seed_of es fs
-
--- the lookup began with the same contacts
-pub seeds_same : (J es : List Entry) → seeds es ≡ [] → seeds (J ++ es) ≡ seeds J
-seeds_same J es h = seeds_both J es ∙ ap (λ l. seeds J ++ l) h ∙ append-nil (seeds J)
-
 -- ---- an entry that settles
-
-ne-eqb : (a b : ℕ) → a ≢ b → (a == b) ≡ false
-ne-eqb a b ne = here (eqb_tells a b)
-  where
-    here : ((eqb a b ≡ true) × (a ≡ b)) ⊎ ((eqb a b ≡ false) × (a ≢ b)) → (a == b) ≡ false
-    here (inl h) = absurd (ne h.1)
-    here (inr h) = h.0
-
-other_path : (p q r : ℕ) → (q == p) ≡ true → r ≢ p → (q == r) ≡ false
-other_path p q r h ne = ne-eqb q r (λ e. ne (sym e ∙ eqb-true q p h))
-
-settles_silent : (p : ℕ) (e : Entry) → settles_on p e ≡ true → IsSilent e
-settles_silent p (Seed q c) h = absurd (false≢true h)
-settles_silent p (Ask q c) h = absurd (false≢true h)
-settles_silent p (Heard q c reports) h = absurd (false≢true h)
-settles_silent p (Lost q c cause) h = absurd (false≢true h)
-settles_silent p other h = refl
-
-elsewhere : (p r : ℕ) (e : Entry) → settles_on p e ≡ true → r ≢ p → settles_on r e ≡ false
-elsewhere p r (Note q c) h ne = other_path p q r h ne
-elsewhere p r (Taken q c) h ne = other_path p q r h ne
-elsewhere p r (Held q c by) h ne = other_path p q r h ne
-elsewhere p r (Turned q c) h ne = other_path p q r h ne
-elsewhere p r (Rejected q x) h ne = other_path p q r h ne
-elsewhere p r (Skipped q x) h ne = other_path p q r h ne
-elsewhere p r other h ne = refl
 
 one_silent : (e : Entry) → IsSilent e → driven (e ∷ []) ≡ []
 unfolding driven
 one_silent e h = ap (λ b. cond b (e ∷ []) []) h
-
-no_seed : (p : ℕ) (e : Entry) → settles_on p e ≡ true → seed_of e ≡ []
-no_seed p (Seed q c) h = absurd (false≢true h)
-no_seed p other h = refl
-
-one_unseeded : (p : ℕ) (e : Entry) → settles_on p e ≡ true → seeds (e ∷ []) ≡ []
-unfolding seeds
-one_unseeded p e h = append-nil (seed_of e) ∙ no_seed p e h
-
--- another path has as much to settle as before
-others_same : (p q : ℕ) (J : List Entry) (e : Entry) → settles_on p e ≡ true → q ≢ p → unsettled q (J ++ e ∷ []) ≡ unsettled q J
-unfolding unsettled
-others_same p q J e h ne =
-    ap (λ l. drop (length l) (things q (J ++ e ∷ []))) (settled_more q J e ∙ ap (λ b. settled q J ++ cond b (e ∷ []) []) (elsewhere p q e h ne) ∙ append-nil (settled q J))
-    ∙ ap (λ l. drop (length (settled q J)) l) (things_more q J e ∙ ap (λ l. things q J ++ l) (no_things q e (settles_silent p e h)) ∙ append-nil (things q J))
 
 -- ---- some was settled
 
@@ -266,7 +144,7 @@ on_one path old new e holds quest queries book settles same tells =
     let journal : new.lookup.book.journal ≡ old.lookup.book.journal ++ e ∷ [] = ap (λ (b : BookState). b.journal) book in
     record {
       some = some_of old new (e ∷ []) holds quest (ap (λ (b : BookState). b.setting) book) queries journal (one_silent e (settles_silent path e settles)) (one_unseeded path e settles) same;
-      others = λ q ne. ap (unsettled q) journal ∙ others_same path q old.lookup.book.journal e settles ne;
+      others = λ q ne. ap (unsettled q) journal ∙ unsettled_same path q old.lookup.book.journal (e ∷ []) ne (settles, tt);
       tells = tells;
     }
 

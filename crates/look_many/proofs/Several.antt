@@ -2,15 +2,20 @@
 use Rattle.std.proofs.Common.{◌≡◌, ℕ, suc, ◌+◌, ◌<◌, List, [], ◌∷◌, ◌++◌, length, get_or, take, drop, set, inl, inr, refl, sym, ap, subst, ◌∙◌}
 use Rattle.std.specs.Prelude.{map}
 use Rattle.std.specs.List.{AllByRecursion, AllZip, flat_map}
+use Rattle.std.proofs.lemmas.Option.{slice_get_within, get_or_from_slice_get}
 use Rattle.std.proofs.lemmas.List.{set_split, take_more}
 use Rattle.kad_base.specs.declared.types.Addr.{Addr}
 use Rattle.lookup_core.specs.Sealed.{Accepts}
-use Rattle.lookup_core.proofs.Lists.{all_append}
+use Rattle.lookup_core.specs.LookupSteps.{handed}
+use Rattle.lookup_core.specs.Reply.{Said}
+use Rattle.lookup_core.specs.Says.{IsReply, IsNoReply}
+use Rattle.lookup_core.proofs.Lists.{all_append, split_at}
+use Rattle.lookup_core.proofs.Matching.{matched_at, silent, unknown}
 use Rattle.look_many.specs.declared.seeker.Seeker.{Seeker}
 use Rattle.look_many.specs.Mine.{Mine, waited}
 use Rattle.look_many.specs.Many.{FirstTakes, IsForeign}
-use Rattle.look_many.specs.inner.Crowd.{whose, Holding, Longer, KeepsMine}
-use Rattle.look_many.specs.inner.ManySteps.{IsMatchFor, IsNotFor, TakesFirst, Expires, all_lapsed}
+use Rattle.look_many.specs.inner.Crowd.{whose, Holding, Longer, KeepsMine, SameSeat}
+use Rattle.look_many.specs.inner.ManySteps.{IsMatchFor, IsNotFor, IsUnasked, FirstWaits, Hears, TakesFirst, Expires, all_lapsed}
 use Rattle.look_many.proofs.Lists.{all_front, all_back, apart_at}
 use Rattle.look_many.proofs.OneReceive.{waits_on, stray_for, matches_on}
 
@@ -92,20 +97,38 @@ expired_hold at [] (n ∷ new) e = absurd e
 expired_hold at (o ∷ old) [] e = absurd e
 expired_hold at (o ∷ old) (n ∷ new) e = (e.0.holds, expired_hold at old new e.1)
 
--- none before the i-th, which it replies to
-pub first_takes : (accepts : Accepts) (from : Addr) (bytes : List ℕ) (old now : List Seeker) (i : ℕ) (d after : Seeker) → now ≡ old → i < length old → AllByRecursion (λ k. IsNotFor accepts from bytes k) (take i old) → IsMatchFor accepts from bytes (get_or now i d) after → TakesFirst accepts from bytes old (set now i after)
-first_takes accepts from bytes old now i d after same lt none takes =
-    subst (λ l. TakesFirst accepts from bytes old (set l i after)) (sym same)
-    (record {
-      before = take i old;
-      one = get_or old i d;
-      behind = drop (suc i) old;
+-- what comes from where no query was sent is for none of them
+pub unasked_all : (accepts : Accepts) (from : Addr) (bytes : List ℕ) (ks : List Seeker) → AllByRecursion (IsUnasked from) ks → AllByRecursion (λ k. IsNotFor accepts from bytes k) ks
+unasked_all accepts from bytes [] h = tt
+unasked_all accepts from bytes (k ∷ ks) h = (unknown k.quest accepts k.lookup from bytes h.0, unasked_all accepts from bytes ks h.1)
+
+-- nor is what is no reply
+pub silent_all : (accepts : Accepts) (from : Addr) (bytes : List ℕ) (ks : List Seeker) → AllByRecursion Holding ks → IsNoReply bytes → AllByRecursion (λ k. IsNotFor accepts from bytes k) ks
+silent_all accepts from bytes [] h none = tt
+silent_all accepts from bytes (k ∷ ks) h none = (silent k.quest accepts k.lookup from bytes h.0 none, silent_all accepts from bytes ks h.1 none)
+
+-- the first that waits hears it
+pub first_hears : (accepts : Accepts) (from : Addr) (bytes : List ℕ) (said : Said) (old : List Seeker) (found : ℕ × ℕ) (d after : Seeker) → IsReply bytes said → FirstWaits accepts from bytes said old found → Hears found.1 said.reply (get_or old found.0 d) after → SameSeat (get_or old found.0 d) after → TakesFirst accepts from bytes old (set old found.0 after)
+first_hears accepts from bytes said old found d after reads w h seat =
+    let one : get_or old found.0 d ≡ w.one = get_or_from_slice_get old found.0 w.one d w.here in
+    let lt = slice_get_within old found.0 w.one w.here in
+    let hears = subst (λ k. Hears found.1 said.reply k after) one h in
+    record {
+      before = take found.0 old;
+      one = w.one;
+      behind = drop (suc found.0) old;
       after = after;
-      were = apart_at old i d lt;
-      none_before = none;
-      takes = subst (λ l. IsMatchFor accepts from bytes (get_or l i d) after) same takes;
-      are = set_split old i after lt;
-    })
+      were = split_at old found.0 w.one w.here;
+      none_before = w.none_before;
+      takes = record {
+        heard = handed hears.out;
+        matches = matched_at w.one.quest accepts from bytes said found.1 w.one.lookup after.lookup hears.out reads w.waits hears.hears;
+        quest = hears.quest;
+        holds = hears.holds;
+        seat = subst (λ k. SameSeat k after) one seat;
+      };
+      are = set_split old found.0 after lt;
+    }
 
 -- nor is it for the i-th
 pub none_more : (accepts : Accepts) (from : Addr) (bytes : List ℕ) (old now : List Seeker) (i : ℕ) (d : Seeker) → now ≡ old → i < length old → AllByRecursion (λ k. IsNotFor accepts from bytes k) (take i old) → IsNotFor accepts from bytes (get_or now i d) → AllByRecursion (λ k. IsNotFor accepts from bytes k) (take (i + 1) old)

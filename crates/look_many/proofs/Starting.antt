@@ -10,7 +10,7 @@ use Rattle.turn_book.specs.Turns.{TurnState, fresh}
 use Rattle.contact_table.specs.TableState.{TableState}
 use Rattle.claim_book.specs.declared.types.Setting.{Setting}
 use Rattle.claim_book.specs.Journal.{seeds, asked, open_any, unsettled}
-use Rattle.claim_book.specs.Legal.{seeded_from}
+use Rattle.lookup_core.proofs.Received.{seeds_quiet}
 use Rattle.lookup_core.specs.Timeouts.{deadline_of}
 use Rattle.lookup_core.proofs.Seeds.{seeds_stand, seeds_ask, seeds_settled, seeds_open}
 use Rattle.node_serve.specs.declared.setting.ServeSetting.{ServeSetting}
@@ -25,11 +25,6 @@ use Rattle.look_many.specs.inner.Seats.{IsSeekerFor, RolesFrom}
 use Rattle.look_many.proofs.Zips.{zip_length}
 
 -- ---- one lookup
-
-seeds_quiet : (paths i : ℕ) (cs : List Contact) → driven (seeded_from paths i cs) ≡ []
-unfolding driven
-seeds_quiet paths i [] = refl
-seeds_quiet paths i (c ∷ cs) = seeds_quiet paths (i + 1) cs
 
 module _ (server : ServeSetting) (setting : ManySetting) (table : TableState) (limits : IsWithinLimits setting) (small : server.k < 256) (target : Id) (k : Seeker) (s : IsSeekerFor server setting table target k) where
   at_setting : (P : Setting → Type 0) → P (setting_for server setting target) → P k.lookup.book.setting

@@ -12,14 +12,6 @@ use Rattle.claim_book.specs.Journal.{unsettled, first_unsettled}
 use Rattle.look_many.specs.declared.seeker.Seeker.{Seeker}
 use Rattle.look_many.specs.inner.SettleSteps.{HasSome, SeveralHaveSome}
 
--- who pulls a thing has something
-pub pulled_some : (J : List Entry) (p q : ℕ) (reply : BookReply) → q ≡ p → reply ≢ Idle → PullStep J q reply → unsettled p J ≢ []
-unfolding first_unsettled
-pulled_some J p q (Alive c) same other step none = (let first : slice_get (unsettled q J) 0 ≡ slice_get [] 0 = ap (λ n. slice_get (unsettled n J) 0) same ∙ ap (λ l. slice_get l 0) none in absurd cc)
-pulled_some J p q (Report_reply r) same other step none = (let first : slice_get (unsettled q J) 0 ≡ slice_get [] 0 = ap (λ n. slice_get (unsettled n J) 0) same ∙ ap (λ l. slice_get l 0) none in absurd cc)
-pulled_some J p q Idle same other step none = other refl
-pulled_some J p q else_ same other step none = absurd step
-
 -- none of the first paths has something
 abbrev pub NoneHas : ℕ → List Entry → Type 0
 NoneHas n J = (p : ℕ) → p < n → unsettled p J ≡ []

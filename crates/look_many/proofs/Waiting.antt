@@ -65,20 +65,6 @@ next_holds i old now d h len lt left = subst Holding (sym (next_same i old now d
 
 -- ---- the earliest deadline
 
-least_map : (d : ℕ) (qs : List Query) → AllByRecursion (λ (q : Query). d ≤ q.deadline) qs → AllByRecursion (λ (n : ℕ). d ≤ n) (map (λ (q : Query). q.deadline) qs)
-least_map d [] h = tt
-least_map d (q ∷ qs) h = (h.0, least_map d qs h.1)
-
-pub soonest_of : (o : Option ℕ) (qs : List Query) → o ≡ option_map (λ (q : Query). q.deadline) (slice_get qs 0) → IfSome o (λ d. All (λ (q : Query). d ≤ q.deadline) qs) → (IsNone o ↔ (qs ≡ [])) → IsSoonest o qs
-soonest_of None qs oldest least none = none.0 refl
-soonest_of (Some d) [] oldest least none = absurd cc
-soonest_of (Some d) (q ∷ qs) oldest least none =
-    let same : d ≡ q.deadline = cc in
-    record {
-      one = subst (λ n. Contains (map (λ (x : Query). x.deadline) (q ∷ qs)) n) (sym same) (in_first q.deadline (map (λ (x : Query). x.deadline) qs));
-      least = least_map d (q ∷ qs) (recursion_from_All (λ (x : Query). d ≤ x.deadline) (q ∷ qs) least);
-    }
-
 earlier : (a b : ℕ) (xs ys : List ℕ) → IsEarliest xs a → IsEarliest ys b → IsEarliest (xs ++ ys) (min a b)
 earlier a b xs ys h k = record {
   one = pick (which a b);

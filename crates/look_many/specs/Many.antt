@@ -11,6 +11,7 @@ use Rattle.kad_base.specs.declared.types.Event.TheVariants.{Now, Sent, Unsent, G
 use Rattle.kad_base.specs.Limits.{max_round_receives, max_strays}
 use Rattle.kad_base.specs.Words.{word}
 use Rattle.claim_book.specs.RunOut.{RunOut}
+pub use Rattle.lookup_core.specs.Receiving.{IsEarliest, WaitsUntil, goes_on}
 use Rattle.lookup_core.specs.Matching.{OpenQuery, IsStray}
 use Rattle.lookup_core.specs.Sealed.{Accepts}
 use Rattle.lookup_core.specs.Timeouts.{deadline_of}
@@ -114,16 +115,6 @@ pub record PaysOwed (s : Shown) (to : Addr) (bytes : List ℕ) (replied : ℕ) (
 
 -- ---- receiving
 
--- the earliest of these deadlines
-pub record IsEarliest (deadlines : List ℕ) (moment : ℕ) : Type 0 where
-  pub one : Contains deadlines moment
-  pub least : AllByRecursion (λ d. moment ≤ d) deadlines
-
--- how long a receive waits while queries are open: to the earliest deadline where it begins a round, and else not at all
-abbrev pub WaitsUntil : ℕ → ℕ → List ℕ → ℕ → Type 0
-WaitsUntil zero moment deadlines until = IsEarliest deadlines until
-WaitsUntil (suc n) moment deadlines until = until ≡ moment
-
 -- the events gave all that the driver has in the journal, and every path has run out
 pub record IsOver (w : Whose) (m : Mine) : Type 0 where
   pub all_given : m.given ≡ driven w.journal
@@ -164,11 +155,6 @@ IsForeign accepts from bytes ws ms = AllZip (λ w m. IsStray w.quest accepts m.q
 abbrev pub Owes : Tags → ServeSetting → Addr → List ℕ → ℕ → List Did → Option Owed → Type 0
 Owes tags server from bytes at did None = IsSilent from bytes × (did ≡ [])
 Owes tags server from bytes at did (Some owed) = (owed.to ≡ from) × IsReply tags server from bytes at owed.reply did
-
--- the round goes on after a datagram while a query is open and it has had fewer receives than a round may have
-abbrev pub goes_on : ℕ → ℕ → ℕ
-goes_on n zero = 0
-goes_on n (suc k) = if nat_lt (n + 1) max_round_receives then n + 1 else 0
 
 -- what the events show after a receive
 abbrev pub after_receive : Shown → ℕ → ℕ → ℕ → ℕ → Option Owed → List Mine → Shown

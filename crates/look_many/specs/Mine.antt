@@ -14,6 +14,8 @@ use Rattle.claim_book.specs.Legal.{is_of}
 use Rattle.lookup_core.specs.declared.quest.Quest.{Quest}
 use Rattle.lookup_core.specs.Matching.{OpenQuery, IsQuery, Matched}
 use Rattle.lookup_core.specs.Sealed.{Accepts}
+pub use Rattle.lookup_core.specs.Driven.{is_driven}
+unfoldable pub use Rattle.lookup_core.specs.Driven.{driven}
 use Rattle.lookup_core.specs.Timeouts.{is_overdue, closed_at, open_at}
 
 -- what the events so far show of a lookup: its open queries, oldest first; the entries that they gave to its journal, of these
@@ -29,17 +31,6 @@ pub record Whose : Type 0 where
   pub setting : Setting
   pub quest : Quest
   pub journal : List Entry
-
--- the driver's entries of a journal: what was asked, heard and lost
-abbrev pub is_driven : Entry → Bool
-is_driven (Ask p c) = true
-is_driven (Heard p c reports) = true
-is_driven (Lost p c cause) = true
-is_driven other = false
-
--- these alone, in order
-unfoldable pub driven : List Entry → List Entry
-driven J = filter is_driven J
 
 -- ---- asking
 

@@ -1,41 +1,71 @@
 //! Whose a datagram is.
-ghost use Rattle.std.specs.Prelude.{◌≡◌, length, IfOk, OnOk};
+ghost use Rattle.std.specs.Prelude.{◌≡◌, ◌<◌, length, MatchOption, IfOk, IsTrue, OnOk};
 ghost use Rattle.std.specs.List.{AllByRecursion, AllZip};
+ghost use Rattle.lookup_core.specs.Reply.{reply_seen, said_seen};
+ghost use Rattle.lookup_core.specs.Says.{IsReply};
 ghost use Rattle.look_many.specs.inner.Crowd.{Holding, SameSeat};
-ghost use Rattle.look_many.specs.inner.ManySteps.{TakesOne, Takes};
+ghost use Rattle.look_many.specs.inner.ManySteps.{IsUnasked, FirstWaits, IsNotFor, Hears, Takes};
 
 use crate::seeker::Seeker;
 use kad_base::{Addr, NoMemory};
-use lookup_core::Taken;
+use lookup_core::{ReplyView, SaidView, read_reply};
 use seal_tags::SealCheck;
 use std::alloc::Global;
 
-/// Hands the datagram to the lookup: whether it replied to one of its open queries. One that has none doesn't read it, so a
-/// lookup that is over costs nothing.
-fn take_one<G: SealCheck>(
+/// Whether no query of any lookup was sent to that address, so that what comes from there is for none of them.
+fn is_unasked(seekers: &[Seeker], from: Addr) -> bool
+    ensures { IsTrue result → AllByRecursion (IsUnasked from) seekers.now }
+{
+    for seeker in seekers {
+        if seeker.lookup.queries.is_asked(from) {
+            return false;
+        }
+    }
+    true
+}
+
+/// The first lookup that has an open query which the reply is to, and that query's place; `None` where none has.
+fn first_that_waits<G: SealCheck>(
     alloc: Global,
-    seeker: &mut Seeker,
+    seekers: &[Seeker],
     seal: &G,
     from: Addr,
     bytes: &[u8],
-) -> Result<bool, NoMemory>
-    requires { Holding seeker.old }
-    ensures seat { SameSeat seeker.old seeker.new }
-    ensures ok { IfOk result (TakesOne (G.accepted seal.now) from bytes.now seeker.old seeker.new) }
+    said: &SaidView,
+) -> Result<Option<(usize, usize)>, NoMemory>
+    requires holds { AllByRecursion Holding seekers.now }
+    requires reads { IsReply bytes.now (said_seen said.now) }
+    ensures { IfOk result (λ found. MatchOption found
+        (AllByRecursion (λ k. IsNotFor (G.accepted seal.now) from bytes.now k) seekers.now)
+        (FirstWaits (G.accepted seal.now) from bytes.now (said_seen said.now) seekers.now)) }
 {
-    if seeker.lookup.queries.is_empty() {
-        return Ok(false);
+    for i in 0..seekers.len() {
+        let seeker = &seekers[i];
+        match seeker
+            .lookup
+            .place_of(alloc, &seeker.quest, seal, from, bytes, said)
+        {
+            Ok(None) => {}
+            Ok(Some(place)) => return Ok(Some((i, place))),
+            Err(NoMemory) => return Err(NoMemory),
+        }
     }
-    match seeker.lookup.take(alloc, &seeker.quest, seal, from, bytes) {
-        Ok(Taken::Stray) => Ok(false),
-        Ok(Taken::Heard(_)) => Ok(true),
-        Ok(Taken::Lost) => Ok(true),
-        Err(NoMemory) => Err(NoMemory),
-    }
+    Ok(None)
 }
 
-/// Hands the datagram to the first lookup that has an open query to which it replies; false where it replies to none of
-/// all, and then nothing changes.
+/// The lookup hears the reply to its query at that place. What it gives beside contacts nobody keeps.
+fn hear(alloc: Global, seeker: &mut Seeker, place: usize, reply: ReplyView) -> Result<(), NoMemory>
+    requires holds { Holding seeker.old }
+    requires open { place < length seeker.old.lookup.queries }
+    ensures seat { SameSeat seeker.old seeker.new }
+    ensures ok { OnOk result (Hears place (reply_seen reply.entry) seeker.old seeker.new) }
+{
+    seeker.lookup.hear(alloc, &seeker.quest, place, reply)?;
+    Ok(())
+}
+
+/// Hands the datagram, which is read once, to the first lookup that has an open query to which it replies; false where it
+/// replies to none of all, and then nothing changes.
 pub(crate) fn take<G: SealCheck>(
     alloc: Global,
     seekers: &mut [Seeker],
@@ -48,12 +78,19 @@ pub(crate) fn take<G: SealCheck>(
     ensures seats { AllZip SameSeat seekers.old seekers.new }
     ensures ok { IfOk result (Takes (G.accepted seal.now) from bytes.now seekers.old seekers.new) }
 {
-    for i in 0..seekers.len() {
-        match take_one(alloc, &mut seekers[i], seal, from, bytes) {
-            Ok(false) => {}
-            Ok(true) => return Ok(true),
-            Err(NoMemory) => return Err(NoMemory),
-        }
+    if is_unasked(seekers, from) {
+        return Ok(false);
     }
-    Ok(false)
+    let said = match read_reply(bytes) {
+        Some(said) => said,
+        None => return Ok(false),
+    };
+    match first_that_waits(alloc, seekers, seal, from, bytes, &said) {
+        Ok(Some((i, place))) => {
+            hear(alloc, &mut seekers[i], place, said.reply)?;
+            Ok(true)
+        }
+        Ok(None) => Ok(false),
+        Err(NoMemory) => Err(NoMemory),
+    }
 }

@@ -1,4 +1,4 @@
-//! How long a receive waits, and whether its round goes on.
+//! How long a receive for all lookups waits, and whether its round goes on.
 ghost use Rattle.std.specs.Prelude.{◌≡◌, ◌≢◌, ◌<◌, [], length, map};
 ghost use Rattle.kad_base.specs.Limits.{max_round_receives};
 ghost use Rattle.look_many.specs.Many.{WaitsUntil, goes_on};
@@ -6,7 +6,6 @@ ghost use Rattle.look_many.specs.inner.Crowd.{queries_of};
 ghost use Rattle.look_many.specs.inner.ManySteps.{sooner_of, IsSoonest};
 
 use crate::seeker::{Line, Seeker};
-use kad_base::limits::MAX_ROUND_RECEIVES;
 
 /// The earlier of two moments that may be missing.
 fn sooner(one: Option<u64>, other: Option<u64>) -> Option<u64>
@@ -27,38 +26,27 @@ pub(crate) fn earliest(seekers: &[Seeker]) -> Option<u64>
 {
     let mut first = None;
     for seeker in seekers {
-        first = sooner(first, seeker.lookup.queries.next_deadline());
+        first = sooner(first, seeker.lookup.earliest());
     }
     first
 }
 
-/// How long the next receive waits while a query is open: to the earliest deadline where it begins a round, and else not at
-/// all.
+/// How long the next receive waits while a query is open.
 pub(crate) fn wait_until(line: &Line, seekers: &[Seeker]) -> u64
     requires { queries_of seekers.now ≢ [] }
     ensures { WaitsUntil line.now.receives line.now.moment
         (map (λ q. q.deadline) (queries_of seekers.now)) result }
 {
-    if line.receives != 0 {
-        return line.moment;
-    }
     match earliest(seekers) {
-        Some(deadline) => deadline,
+        Some(deadline) => lookup_core::wait_until(line.receives, line.moment, deadline),
         None => unreachable!(),
     }
 }
 
-/// The receives of the round after a datagram: none where it ends, as it does with no query open and at the 32nd.
+/// The receives of the round after a datagram.
 pub(crate) fn round_after(receives: u32, seekers: &[Seeker]) -> u32
     requires { receives < max_round_receives }
     ensures { result ≡ goes_on receives (length (queries_of seekers.now)) }
 {
-    match earliest(seekers) {
-        Some(_) => {}
-        None => return 0,
-    }
-    if receives + 1 < MAX_ROUND_RECEIVES {
-        return receives + 1;
-    }
-    0
+    lookup_core::round_after(receives, earliest(seekers))
 }

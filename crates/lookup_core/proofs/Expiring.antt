@@ -103,7 +103,7 @@ oldest_expires at c old w v h l =
 
 -- ---- its end
 
-late : (at d : ℕ) → d ≤ at → nat_lt at d ≡ false
+pub late : (at d : ℕ) → d ≤ at → nat_lt at d ≡ false
 late at d le = grind (arith, nat_tests)
 
 soon : (at d : ℕ) → at < d → nat_lt at d ≡ true

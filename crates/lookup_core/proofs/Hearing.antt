@@ -8,14 +8,16 @@ use Rattle.kad_base.specs.declared.types.Family.TheVariants.{Four, Six}
 use Rattle.kad_base.specs.declared.types.Policy.{Policy}
 use Rattle.kad_base.specs.declared.types.Policy.TheVariants.{Plain, Puzzled}
 use Rattle.kad_base.specs.Limits.{max_reports}
+use Rattle.kad_krpc.specs.declared.answer.AnswerView.{AnswerView}
 use Rattle.kad_krpc.specs.declared.message.Answer.{Answer}
+use Rattle.kad_krpc.specs.Views.{answer_seen}
 use Rattle.claim_book.specs.declared.types.Cause.TheVariants.{WrongId, Error}
 use Rattle.claim_book.specs.declared.types.Entry.TheVariants.{Heard, Lost}
 use Rattle.claim_book.specs.Calls.{asker}
 use Rattle.claim_book.specs.State.{BookState, added}
 use Rattle.lookup_core.specs.declared.on_reply.Taken.TheVariants as taken
 use Rattle.lookup_core.specs.declared.quest.Quest.{Quest}
-use Rattle.lookup_core.specs.declared.reply.Reply.TheVariants as reply
+use Rattle.lookup_core.specs.Reply as reply
 use Rattle.lookup_core.specs.Quest.{bare, part_of, reports_by, reports_of}
 use Rattle.lookup_core.specs.LookupSteps.{HearsReply}
 
@@ -36,11 +38,11 @@ pub few_reports : (quest : Quest) (answer : Answer) → length (reports_of quest
 few_reports quest answer = few_by quest.family quest.policy answer
 
 -- an answer in the contact's own name
-pub own_heard : (quest : Quest) (c : Contact) (answer : Answer) (reports : List Report) (old new : BookState) → answer.id ≡ c.id → reports ≡ reports_of quest answer → new ≡ added old (Heard (asker c old.journal) c reports)
-    → HearsReply quest c (reply.Answer answer) old new (taken.Heard (record { contact = c; answer = answer }))
-own_heard quest c answer reports old new own is after = record {
+pub own_heard : (quest : Quest) (c : Contact) (view : AnswerView) (reports : List Report) (old new : BookState) → view.id ≡ c.id → reports ≡ reports_of quest (answer_seen view) → new ≡ added old (Heard (asker c old.journal) c reports)
+    → HearsReply quest c (reply.Answer (answer_seen view)) old new (taken.Heard (record { contact = c; answer = view }))
+own_heard quest c view reports old new own is after = record {
   hears = record {
-    entry = Heard (asker c old.journal) c (reports_of quest answer);
+    entry = Heard (asker c old.journal) c (reports_of quest (answer_seen view));
     gives = inl (own, refl);
     after = after ∙ ap (λ (r : List Report). added old (Heard (asker c old.journal) c r)) is;
   };

@@ -1,8 +1,7 @@
 -- The open contacts are those of the open queries, whatever comes.
-use Rattle.std.proofs.Common.{◌≡◌, ℕ, ◌^◌, ◌<◌, List, [], ◌∷◌, ◌++◌, Bool, true, false, ◌||◌, Result, Ok, Err, inl, inr, sym, ap, subst, ◌∙◌, refl}
+use Rattle.std.proofs.Common.{◌≡◌, ℕ, suc, ◌^◌, ◌<◌, List, [], ◌∷◌, ◌++◌, take, drop, Bool, true, false, ◌||◌, Result, Ok, Err, inl, inr, sym, ap, subst, ◌∙◌, refl}
 use Rattle.std.specs.Prelude.{map, IfOk, OnOk}
 use Rattle.std.specs.List.{AllByRecursion, IsDistinct}
-use Rattle.kad_base.specs.declared.types.Addr.{Addr}
 use Rattle.kad_base.specs.declared.types.Contact.{Contact}
 use Rattle.kad_base.specs.declared.types.NoMemory.{NoMemory}
 use Rattle.kad_base.specs.Contacts.{same, among, without}
@@ -14,17 +13,14 @@ use Rattle.claim_book.specs.Journal.{open_any}
 use Rattle.claim_book.specs.Legal.{Legal}
 use Rattle.claim_book.specs.Calls.{asker}
 use Rattle.claim_book.specs.State.{BookState}
-use Rattle.lookup_core.specs.declared.on_reply.Answered.{Answered}
 use Rattle.lookup_core.specs.declared.on_reply.Taken.{Taken}
-use Rattle.lookup_core.specs.declared.on_reply.Taken.TheVariants as taken
 use Rattle.lookup_core.specs.declared.quest.Quest.{Quest}
-use Rattle.lookup_core.specs.declared.reply.Reply.{Reply}
-use Rattle.lookup_core.specs.declared.reply.Reply.TheVariants as reply
+use Rattle.lookup_core.specs.Reply.{Reply}
+use Rattle.lookup_core.specs.Reply as reply
 use Rattle.lookup_core.specs.declared.state.Lookup.{Lookup}
 use Rattle.lookup_core.specs.Matching.{ReplyGives}
-use Rattle.lookup_core.specs.LookupSteps.{Holds, query_to, IsMatch, Takes}
-use Rattle.lookup_core.specs.Sealed.{Accepts}
-use Rattle.lookup_core.proofs.Lists.{map_append}
+use Rattle.lookup_core.specs.LookupSteps.{Holds, query_to, HearsAt}
+use Rattle.lookup_core.proofs.Lists.{map_append, split_at}
 use Rattle.lookup_core.proofs.Opens.{opens_heard, opens_lost, opens_distinct, without_one}
 
 pub among_middle : (before : List Query) (q : Query) (behind : List Query) → among (map (λ (q : Query). q.contact) (before ++ q ∷ behind)) q.contact ≡ true
@@ -55,22 +51,19 @@ one_closed c J K before behind old new q is was closes opens distinct after =
     ap (map (λ (x : Query). x.contact)) closes ∙ map_append (λ (x : Query). x.contact) before behind
     ∙ sym (after ∙ ap (λ l. without l (c ∷ [])) were ∙ without_one c cs ds (subst (IsDistinct same) were distinct))
 
-match_holds : (quest : Quest) (accepts : Accepts) (from : Addr) (bytes : List ℕ) (old new : Lookup) (heard : List Answered) → Holds old → Legal old.book.setting old.book.journal → IsMatch quest accepts from bytes old new heard → Holds new
-match_holds quest accepts from bytes old new heard holds legal m =
+reply_holds : (quest : Quest) (place : ℕ) (r : Reply) (old new : Lookup) (out : Taken) → Holds old → Legal old.book.setting old.book.journal → HearsAt quest place r old new out → Holds new
+reply_holds quest place r old new out holds legal h =
     let J = old.book.journal in
-    let c = m.query.contact in
+    let q = h.query in
+    let before = take place old.queries in
+    let behind = drop (suc place) old.queries in
+    let was = split_at old.queries place q h.was_open in
     record {
-      is_open = one_closed c J new.book.journal m.before m.behind old.queries new.queries m.query refl m.was_open m.closes holds.is_open (opens_distinct old.book.setting J legal)
-          (ap (λ (b : BookState). open_any b.journal) m.hears.after ∙ closing_of quest J c m.what m.hears.entry m.hears.gives);
-      ids = subst (AllByRecursion (λ (q : Query). q.tx < 2 ^ 32)) (sym m.closes) (all_dropped (λ (q : Query). q.tx < 2 ^ 32) m.before m.query m.behind (subst (AllByRecursion (λ (q : Query). q.tx < 2 ^ 32)) m.was_open holds.ids));
+      is_open = one_closed q.contact J new.book.journal before behind old.queries new.queries q refl was h.closes holds.is_open (opens_distinct old.book.setting J legal)
+          (ap (λ (b : BookState). open_any b.journal) h.hears.hears.after ∙ closing_of quest J q.contact r h.hears.hears.entry h.hears.hears.gives);
+      ids = subst (AllByRecursion (λ (q : Query). q.tx < 2 ^ 32)) (sym h.closes) (all_dropped (λ (q : Query). q.tx < 2 ^ 32) before q behind (subst (AllByRecursion (λ (q : Query). q.tx < 2 ^ 32)) was holds.ids));
     }
 
--- whatever the datagram was
-pub take_holds : (quest : Quest) (accepts : Accepts) (from : Addr) (bytes : List ℕ) (old new : Lookup) (out : Taken) → Holds old → Legal old.book.setting old.book.journal → Takes quest accepts from bytes old new out → Holds new
-take_holds quest accepts from bytes old new taken.Stray holds legal t = subst Holds (sym t.1) holds
-take_holds quest accepts from bytes old new (taken.Heard answered) holds legal t = match_holds quest accepts from bytes old new (answered ∷ []) holds legal t
-take_holds quest accepts from bytes old new taken.Lost holds legal t = match_holds quest accepts from bytes old new [] holds legal t
-
-pub held_result : (quest : Quest) (accepts : Accepts) (from : Addr) (bytes : List ℕ) (old new : Lookup) (result : Result Taken NoMemory) → Holds old → Legal old.book.setting old.book.journal → IfOk result (Takes quest accepts from bytes old new) → OnOk result (Holds new)
-held_result quest accepts from bytes old new (Ok out) holds legal t = take_holds quest accepts from bytes old new out holds legal t
-held_result quest accepts from bytes old new (Err e) holds legal t = tt
+pub held_result : (quest : Quest) (place : ℕ) (r : Reply) (old new : Lookup) (result : Result Taken NoMemory) → Holds old → Legal old.book.setting old.book.journal → IfOk result (HearsAt quest place r old new) → OnOk result (Holds new)
+held_result quest place r old new (Ok out) holds legal h = reply_holds quest place r old new out holds legal h
+held_result quest place r old new (Err e) holds legal h = tt

@@ -9,5 +9,8 @@ pub mod Matching
 pub mod Opening
 pub mod Holding
 pub mod Expiring
+pub mod Received
+pub mod Settling
 pub mod Tags
+pub mod Waiting
 pub mod Seeds

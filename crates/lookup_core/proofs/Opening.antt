@@ -72,7 +72,7 @@ last_opened drawn deadline path old new asked a = record {
       ∙ among_right (open_any old.book.journal) (asked.contact ∷ []) asked.contact (among_itself asked.contact);
 }
 
-small_id : (qs : List Query) (w tx : ℕ) → IsFirstFree qs w tx → tx < 2 ^ 32
+pub small_id : (qs : List Query) (w tx : ℕ) → IsFirstFree qs w tx → tx < 2 ^ 32
 small_id qs w tx h = (let e = h.is_id in omega (arith, e))
 
 -- what is open once the path asked
@@ -86,7 +86,7 @@ ask_holds drawn deadline path old new asked holds a =
       ids = subst (AllByRecursion (λ (x : Query). x.tx < 2 ^ 32)) (sym a.queries) (all_append (λ (x : Query). x.tx < 2 ^ 32) old.queries (q ∷ []) holds.ids (small_id old.queries drawn asked.tx a.id, tt));
     }
 
-all_front : {A : Type 0} (P : A → Type 0) (xs ys : List A) → AllByRecursion P (xs ++ ys) → AllByRecursion P xs
+pub all_front : {A : Type 0} (P : A → Type 0) (xs ys : List A) → AllByRecursion P (xs ++ ys) → AllByRecursion P xs
 all_front P [] ys h = tt
 all_front P (x ∷ xs) ys h = (h.0, all_front P xs ys h.1)
 

@@ -1,19 +1,23 @@
 -- What a datagram says, and that it says nothing else.
-use Rattle.std.proofs.Common.{◌≡◌, ℕ, ◌+◌, ◌*◌, ◌^◌, ◌<◌, List, length, get_or, Option, Some, None, Result, Ok, Err, refl, sym, ap, subst, ◌∙◌, w32}
-use Rattle.std.specs.Prelude.{MatchOption, IfOk, ℤ}
+use Rattle.std.proofs.Common.{◌≡◌, ℕ, Bool, ◌+◌, ◌*◌, ◌^◌, ◌<◌, ◌≤◌, List, length, get_or, Option, Some, None, Result, Ok, Err, refl, sym, ap, subst, ◌∙◌, arith, w32}
+use Rattle.std.specs.Prelude.{MatchOption, ℤ}
 use Rattle.std.specs.Int.{from_le_bytes}
 use Rattle.std.proofs.lemmas.Nat.{from_le_bytes-to_le_bytes_4, le_bytes_4}
+use Rattle.kad_base.specs.Limits.{max_datagram}
 use Rattle.kad_base.specs.Words.{word_bytes}
 use Rattle.kad_krpc.specs.declared.message.Answer.{Answer}
 use Rattle.kad_krpc.specs.declared.message.Message.{Message}
 use Rattle.kad_krpc.specs.declared.message.Message.TheVariants as message
 use Rattle.kad_krpc.specs.declared.message.KrpcFault.{KrpcFault}
 use Rattle.kad_krpc.specs.Reading.{Says}
-use Rattle.lookup_core.specs.declared.reply.Reply.TheVariants as reply
-use Rattle.lookup_core.specs.declared.reply.Said.{Said}
-use Rattle.lookup_core.specs.declared.quest.Quest.{Quest}
-use Rattle.lookup_core.specs.Matching.{SaysTo}
-use Rattle.lookup_core.specs.Quest.{IsBelievable}
+use Rattle.kad_krpc.proofs.ReadBack.{one_said}
+use Rattle.query_book.specs.declared.Query.{Query}
+use Rattle.kad_base.specs.declared.types.Addr.{Addr}
+use Rattle.lookup_core.specs.Reply.{Reply, said_seen}
+use Rattle.lookup_core.specs.Reply as reply
+use Rattle.lookup_core.specs.Matching.{SaysTo, IsReplyTo}
+use Rattle.lookup_core.specs.Sealed.{Accepts}
+use Rattle.lookup_core.specs.declared.reply.SaidView.{SaidView}
 use Rattle.lookup_core.specs.Says.{SaysAll, SaysNothing, IsReply, IsNoReply}
 
 -- a word has its own four bytes
@@ -44,19 +48,30 @@ same_ok : (x y : Message) → ◌≡◌ {A = Result Message KrpcFault} (Ok x) (O
 same_ok x y e = cc
 
 -- what the message says the datagram says
-own_read : (quest : Quest) (bytes : List ℕ) (m : Message) (o : Option Said) → IsBelievable quest bytes → Says bytes m → ((other : Message) → Says bytes other → ◌≡◌ {A = Result Message KrpcFault} (Ok m) (Ok other)) → MatchOption o (SaysNothing m) (SaysAll m) → MatchOption o (IsNoReply quest bytes) (IsReply quest bytes)
-own_read quest bytes m None believable says once nothing = λ w r lt h. nothing w r lt (subst (λ x. SaysTo (word_bytes w) x r) (sym (same_ok m h.message (once h.message h.says))) h.to_query)
-own_read quest bytes m (Some said) believable says once all = record {
+pub view_read : (bytes : List ℕ) (m : Message) (o : Option SaidView) → length bytes ≤ max_datagram → Says bytes m → ((other : Message) → Says bytes other → ◌≡◌ {A = Result Message KrpcFault} (Ok m) (Ok other)) → MatchOption o (SaysNothing m) (λ said. SaysAll m (said_seen said)) → MatchOption o (IsNoReply bytes) (λ said. IsReply bytes (said_seen said))
+view_read bytes m None believable says once nothing = λ w r lt h. nothing w r lt (subst (λ x. SaysTo (word_bytes w) x r) (sym (same_ok m h.message (once h.message h.says))) h.to_query)
+view_read bytes m (Some said) believable says once all = record {
   replies = record { believable = believable; message = m; says = says; to_query = all.says_it };
   same_id = λ w r lt h. all.same_id w r lt (subst (λ x. SaysTo (word_bytes w) x r) (sym (same_ok m h.message (once h.message h.says))) h.to_query);
   same_reply = λ w r lt h. all.same_reply w r lt (subst (λ x. SaysTo (word_bytes w) x r) (sym (same_ok m h.message (once h.message h.says))) h.to_query);
 }
 
--- the same where memory may run out
-pub view_read : {F : Type 0} (quest : Quest) (bytes : List ℕ) (m : Message) (result : Result (Option Said) F) → IsBelievable quest bytes → Says bytes m → ((other : Message) → Says bytes other → ◌≡◌ {A = Result Message KrpcFault} (Ok m) (Ok other)) → IfOk result (λ o. MatchOption o (SaysNothing m) (SaysAll m)) → IfOk result (λ o. MatchOption o (IsNoReply quest bytes) (IsReply quest bytes))
-view_read quest bytes m (Ok o) believable says once h = own_read quest bytes m o believable says once h
-view_read quest bytes m (Err e) believable says once h = tt
-
 -- what is refused says nothing
-pub refused_read : (quest : Quest) (bytes : List ℕ) (fault : KrpcFault) → ((m : Message) → Says bytes m → ◌≡◌ {A = Result Message KrpcFault} (Err fault) (Ok m)) → IsNoReply quest bytes
-refused_read quest bytes fault only w r lt h = (let e = only h.message h.says in absurd cc)
+pub refused_read : (bytes : List ℕ) (fault : KrpcFault) → ((m : Message) → Says bytes m → ◌≡◌ {A = Result Message KrpcFault} (Err fault) (Ok m)) → IsNoReply bytes
+refused_read bytes fault only w r lt h = (let e = only h.message h.says in absurd cc)
+
+-- nor does what is too long
+pub too_long : (bytes : List ℕ) → max_datagram < length bytes → IsNoReply bytes
+too_long bytes long w r lt h = (let few = h.believable in absurd (omega (arith, few, long)))
+
+-- ---- a datagram says one thing, to one id
+
+said_once : (m : Message) (x y : List ℕ) (r t : Reply) → SaysTo x m r → SaysTo y m t → (x ≡ y) × (r ≡ t)
+said_once (message.Query tx read_only ask) x y r t h k = absurd h
+said_once (message.Answer tx answer) x y r t h k = (sym h.0 ∙ k.0, h.1 ∙ sym k.1)
+said_once (message.Fault tx code text) x y r t h k = (sym h.0 ∙ k.0, h.1 ∙ sym k.1)
+
+pub one_reply : (sealed : Bool) (accepts : Accepts) (bytes : List ℕ) (from : Addr) (p q : Query) (r t : Reply) → IsReplyTo sealed accepts bytes from p r → IsReplyTo sealed accepts bytes from q t → (word_bytes p.tx ≡ word_bytes q.tx) × (r ≡ t)
+one_reply sealed accepts bytes from p q r t h k =
+    let one = one_said bytes h.said k.said h.says k.says in
+    said_once k.said (word_bytes p.tx) (word_bytes q.tx) r t (subst (λ m. SaysTo (word_bytes p.tx) m r) one h.to_query) k.to_query

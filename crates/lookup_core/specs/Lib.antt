@@ -1,6 +1,9 @@
 pub mod Quest
+pub mod Reply
 pub mod Sealed
 pub mod Says
 pub mod Matching
 pub mod Timeouts
+pub mod Driven
+pub mod Receiving
 pub mod LookupSteps

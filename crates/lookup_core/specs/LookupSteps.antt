@@ -1,5 +1,5 @@
 -- What each call on a lookup owes.
-use Rattle.std.specs.Prelude.{◌≡◌, ◌≢◌, ◌⊎◌, ℕ, ◌*◌, ◌^◌, ◌<◌, ◌≤◌, Contains, List, [], ◌∷◌, ◌++◌, map, filter, Option, Some, None, true, nat_lt}
+use Rattle.std.specs.Prelude.{◌≡◌, ◌≢◌, ◌⊎◌, ℕ, ◌*◌, ◌^◌, ◌<◌, ◌≤◌, Contains, List, [], ◌∷◌, ◌++◌, map, filter, Option, Some, None, true, nat_lt, slice_get, remove}
 use Rattle.std.specs.List.{AllByRecursion}
 use Rattle.kad_base.specs.declared.types.Addr.{Addr}
 use Rattle.kad_base.specs.declared.types.Contact.{Contact}
@@ -7,7 +7,7 @@ use Rattle.kad_base.specs.Contacts.{among}
 use Rattle.kad_base.specs.Limits.{max_open}
 use Rattle.id_puzzles.specs.Drawn.{WordsState}
 use Rattle.query_book.specs.declared.Query.{Query}
-use Rattle.query_book.specs.Queries.{HasId, IsFirstFree, ClosesOldest}
+use Rattle.query_book.specs.Queries.{IsQueries, HasId, IsFirstFree, IsOf, ClosesOldest}
 use Rattle.claim_book.specs.declared.types.Cause.TheVariants.{Timeout}
 use Rattle.claim_book.specs.declared.types.Entry.{Entry}
 use Rattle.claim_book.specs.declared.types.Entry.TheVariants.{Ask, Lost}
@@ -16,16 +16,15 @@ use Rattle.claim_book.specs.Legal.{Legal}
 use Rattle.claim_book.specs.Calls.{asker}
 use Rattle.claim_book.specs.State.{BookState, added}
 use Rattle.lookup_core.specs.declared.ask.Asked.{Asked}
-use Rattle.lookup_core.specs.declared.on_reply.Answered.{Answered}
 use Rattle.lookup_core.specs.declared.on_reply.Taken.{Taken}
 use Rattle.lookup_core.specs.declared.on_reply.Taken.TheVariants as taken
 use Rattle.lookup_core.specs.declared.quest.Quest.{Quest}
-use Rattle.lookup_core.specs.declared.reply.Reply.{Reply}
-use Rattle.lookup_core.specs.declared.reply.Reply.TheVariants as reply
+use Rattle.lookup_core.specs.Reply.{Reply, Said, Answered, answered_seen}
+use Rattle.lookup_core.specs.Reply as reply
 use Rattle.lookup_core.specs.declared.state.Lookup.{Lookup}
 use Rattle.lookup_core.specs.Matching.{OpenQuery, Replies, ReplyGives}
 use Rattle.lookup_core.specs.Says.{IsReply}
-use Rattle.lookup_core.specs.Sealed.{Accepts}
+use Rattle.lookup_core.specs.Sealed.{Accepts, IsSealed, speaker}
 use Rattle.lookup_core.specs.Timeouts.{deadline_of, closed_at}
 
 -- an open query with its path, which is the one that asked its contact
@@ -92,14 +91,29 @@ HearsIn c (reply.Error code) heard = heard ≡ []
 -- what a datagram handed out
 abbrev pub handed : Taken → List Answered
 handed taken.Stray = []
-handed (taken.Heard answered) = answered ∷ []
+handed (taken.Heard answered) = answered_seen answered ∷ []
 handed taken.Lost = []
+
+-- the open query at that place is the one that the reply is to, and it is sealed as the lookup asks for
+pub record IsPlaceOf (quest : Quest) (accepts : Accepts) (from : Addr) (bytes : List ℕ) (said : Said) (k : Lookup) (place : ℕ) : Type 0 where
+  pub valid : IsQueries k.queries
+  pub query : Query
+  pub here : slice_get k.queries place ≡ Some query
+  pub answers : IsOf said.tx from query
+  pub sealed : IsSealed quest.sealed accepts bytes (speaker query.contact said.reply)
 
 -- the contact replied: the book has its entry, and its answer is handed out
 pub record HearsReply (quest : Quest) (c : Contact) (r : Reply) (old new : BookState) (out : Taken) : Type 0 where
   pub hears : HearsOne quest c r old new
   pub hears_in : HearsIn c r (handed out)
   pub taken : out ≢ taken.Stray
+
+-- the query at that place is closed, and the reply of its contact heard
+pub record HearsAt (quest : Quest) (place : ℕ) (r : Reply) (old new : Lookup) (out : Taken) : Type 0 where
+  pub query : Query
+  pub was_open : slice_get old.queries place ≡ Some query
+  pub closes : new.queries ≡ remove old.queries place
+  pub hears : HearsReply quest query.contact r old.book new.book out
 
 -- the datagram replies to one of the open queries and to no other, which is closed, and the reply is heard
 pub record IsMatch (quest : Quest) (accepts : Accepts) (from : Addr) (bytes : List ℕ) (old new : Lookup) (heard : List Answered) : Type 0 where
@@ -110,7 +124,7 @@ pub record IsMatch (quest : Quest) (accepts : Accepts) (from : Addr) (bytes : Li
   pub was_open : old.queries ≡ before ++ query ∷ behind
   pub alone : (q : Query) → Contains old.queries q → q.tx ≡ query.tx → q ≡ query
   pub replies : Replies quest accepts bytes from (as_open old.book.journal query) what
-  pub reads : IsReply quest bytes (record { tx = query.tx; reply = what })
+  pub reads : IsReply bytes (record { tx = query.tx; reply = what })
   pub closes : new.queries ≡ before ++ behind
   pub hears : HearsOne quest query.contact what old.book new.book
   pub hears_in : HearsIn query.contact what heard
@@ -122,7 +136,7 @@ RepliesToNone quest accepts from bytes k = (q : Query) → Contains k.queries q 
 -- what the datagram was to the lookup
 abbrev pub Takes : Quest → Accepts → Addr → List ℕ → Lookup → Lookup → Taken → Type 0
 Takes quest accepts from bytes old new taken.Stray = RepliesToNone quest accepts from bytes old × (new ≡ old)
-Takes quest accepts from bytes old new (taken.Heard answered) = IsMatch quest accepts from bytes old new (answered ∷ [])
+Takes quest accepts from bytes old new (taken.Heard answered) = IsMatch quest accepts from bytes old new (answered_seen answered ∷ [])
 Takes quest accepts from bytes old new taken.Lost = IsMatch quest accepts from bytes old new []
 
 -- ---- expiring

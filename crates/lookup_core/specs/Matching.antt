@@ -1,8 +1,9 @@
 -- Which datagrams reply to a lookup's open queries, and what a reply gives to its journal. Answers and error messages are
 -- matched to queries by transaction id and source address (BEP 5).
-use Rattle.std.specs.Prelude.{◌≡◌, ◌≢◌, ◌⊎◌, ℕ, List, ◌∷◌, ◌++◌, map, Contains}
+use Rattle.std.specs.Prelude.{◌≡◌, ◌≢◌, ◌⊎◌, ◌≤◌, ℕ, Bool, List, ◌∷◌, ◌++◌, length, map, Contains}
 use Rattle.kad_base.specs.declared.types.Addr.{Addr}
 use Rattle.kad_base.specs.declared.types.Contact.{Contact}
+use Rattle.kad_base.specs.Limits.{max_datagram}
 use Rattle.kad_base.specs.Words.{word_bytes}
 use Rattle.kad_krpc.specs.declared.message.Answer.{Answer}
 use Rattle.kad_krpc.specs.declared.message.Message.{Message}
@@ -15,9 +16,9 @@ use Rattle.claim_book.specs.declared.types.Cause.TheVariants.{WrongId, Error}
 use Rattle.claim_book.specs.declared.types.Entry.{Entry}
 use Rattle.claim_book.specs.declared.types.Entry.TheVariants.{Heard, Lost}
 use Rattle.lookup_core.specs.declared.quest.Quest.{Quest}
-use Rattle.lookup_core.specs.declared.reply.Reply.{Reply}
-use Rattle.lookup_core.specs.declared.reply.Reply.TheVariants as reply
-use Rattle.lookup_core.specs.Quest.{query_message, reports_of, IsBelievable}
+use Rattle.lookup_core.specs.Reply.{Reply}
+use Rattle.lookup_core.specs.Reply as reply
+use Rattle.lookup_core.specs.Quest.{query_message, reports_of}
 use Rattle.lookup_core.specs.Sealed.{Accepts, IsSealed, speaker}
 
 -- an open query: the path and the contact of its Ask, its transaction id and its deadline
@@ -45,15 +46,20 @@ SaysTo id (message.Query tx read_only ask) r = ⊥
 SaysTo id (message.Answer tx answer) r = (tx ≡ id) × (r ≡ reply.Answer answer)
 SaysTo id (message.Fault tx code text) r = (tx ≡ id) × (r ≡ reply.Error code)
 
--- What is accepted as a reply to an open query: it may be believed, says an answer or an error message with the query's
--- transaction id, and comes from the query's address (BEP 5); in a sealed lookup it carries a tag of who says it, too.
-pub record Replies (quest : Quest) (accepts : Accepts) (bytes : List ℕ) (from : Addr) (q : OpenQuery) (r : Reply) : Type 0 where
-  pub believable : IsBelievable quest bytes
+-- What is accepted as a reply to a query: it is short enough to be read (this project's own limit), says an answer or an error
+-- message with the query's transaction id, and comes from the query's address (BEP 5); where tags are asked for it carries one
+-- of who says it, too (this project's own).
+pub record IsReplyTo (asks_seal : Bool) (accepts : Accepts) (bytes : List ℕ) (from : Addr) (q : Query) (r : Reply) : Type 0 where
+  pub believable : length bytes ≤ max_datagram
   pub said : Message
   pub says : Says bytes said
   pub to_query : SaysTo (word_bytes q.tx) said r
   pub source : from ≡ q.contact.addr
-  pub sealed : IsSealed quest.sealed accepts bytes (speaker q.contact r)
+  pub sealed : IsSealed asks_seal accepts bytes (speaker q.contact r)
+
+-- what a lookup accepts as a reply to one of its open queries
+abbrev pub Replies : Quest → Accepts → List ℕ → Addr → OpenQuery → Reply → Type 0
+Replies quest accepts bytes from q r = IsReplyTo quest.sealed accepts bytes from (query_of q) r
 
 -- an answer in the contact's own name is heard, and one in another name loses the contact
 abbrev pub AnswerGives : Quest → OpenQuery → Answer → Entry → Type 0

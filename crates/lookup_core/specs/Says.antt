@@ -1,13 +1,11 @@
 -- What a datagram says, to whatever query.
-use Rattle.std.specs.Prelude.{◌≡◌, ◌≢◌, ℕ, ◌^◌, ◌<◌, List}
+use Rattle.std.specs.Prelude.{◌≡◌, ◌≢◌, ℕ, ◌^◌, ◌<◌, ◌≤◌, List, length}
+use Rattle.kad_base.specs.Limits.{max_datagram}
 use Rattle.kad_base.specs.Words.{word_bytes}
 use Rattle.kad_krpc.specs.declared.message.Message.{Message}
 use Rattle.kad_krpc.specs.Reading.{Says}
-use Rattle.lookup_core.specs.declared.reply.Reply.{Reply}
-use Rattle.lookup_core.specs.declared.reply.Said.{Said}
-use Rattle.lookup_core.specs.declared.quest.Quest.{Quest}
+use Rattle.lookup_core.specs.Reply.{Reply, Said}
 use Rattle.lookup_core.specs.Matching.{SaysTo}
-use Rattle.lookup_core.specs.Quest.{IsBelievable}
 
 -- no word has these four bytes
 abbrev pub IsNoId : List ℕ → Type 0
@@ -24,18 +22,18 @@ pub record SaysAll (m : Message) (said : Said) : Type 0 where
   pub same_reply : (w : ℕ) (r : Reply) → w < 2 ^ 32 → SaysTo (word_bytes w) m r → r ≡ said.reply
 
 -- the datagram replies to the query of this transaction id, whoever sent it
-pub record RepliesTo (quest : Quest) (bytes : List ℕ) (w : ℕ) (r : Reply) : Type 0 where
-  pub believable : IsBelievable quest bytes
+pub record RepliesTo (bytes : List ℕ) (w : ℕ) (r : Reply) : Type 0 where
+  pub believable : length bytes ≤ max_datagram
   pub message : Message
   pub says : Says bytes message
   pub to_query : SaysTo (word_bytes w) message r
 
 -- the datagram replies to no query, whatever its transaction id
-abbrev pub IsNoReply : Quest → List ℕ → Type 0
-IsNoReply quest bytes = (w : ℕ) (r : Reply) → w < 2 ^ 32 → ¬ RepliesTo quest bytes w r
+abbrev pub IsNoReply : List ℕ → Type 0
+IsNoReply bytes = (w : ℕ) (r : Reply) → w < 2 ^ 32 → ¬ RepliesTo bytes w r
 
 -- the datagram replies to this transaction id alone, and says this reply alone
-pub record IsReply (quest : Quest) (bytes : List ℕ) (said : Said) : Type 0 where
-  pub replies : RepliesTo quest bytes said.tx said.reply
-  pub same_id : (w : ℕ) (r : Reply) → w < 2 ^ 32 → RepliesTo quest bytes w r → w ≡ said.tx
-  pub same_reply : (w : ℕ) (r : Reply) → w < 2 ^ 32 → RepliesTo quest bytes w r → r ≡ said.reply
+pub record IsReply (bytes : List ℕ) (said : Said) : Type 0 where
+  pub replies : RepliesTo bytes said.tx said.reply
+  pub same_id : (w : ℕ) (r : Reply) → w < 2 ^ 32 → RepliesTo bytes w r → w ≡ said.tx
+  pub same_reply : (w : ℕ) (r : Reply) → w < 2 ^ 32 → RepliesTo bytes w r → r ≡ said.reply

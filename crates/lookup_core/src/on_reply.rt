@@ -1,38 +1,41 @@
 //! Hearing: what a datagram is to the open queries, and what a reply gives the book.
-ghost use Rattle.std.specs.Prelude.{◌≡◌, ◌≤◌, ◌↔◌, IsTrue, length, true, IfOk, OnOk, OnErr};
+ghost use Rattle.std.specs.Prelude.{◌≡◌, ◌≤◌, ◌<◌, ◌↔◌, IsTrue, length, true, MatchOption, IfOk, OnOk, OnErr};
 ghost use Rattle.kad_base.specs.Contacts.{among};
 ghost use Rattle.kad_base.specs.Limits.{max_reports};
+ghost use Rattle.kad_krpc.specs.Views.{answer_seen};
 ghost use Rattle.claim_book.specs.declared.types.Entry.TheVariants.{Heard, Lost};
 ghost use Rattle.claim_book.specs.Journal.{open_any};
 ghost use Rattle.claim_book.specs.Calls.{asker};
 ghost use Rattle.claim_book.specs.State.{added};
-ghost use Rattle.lookup_core.specs.declared.reply.Reply.{Reply};
-ghost use Rattle.lookup_core.specs.LookupSteps.{Holds, HearsReply, Takes};
+ghost use Rattle.lookup_core.specs.Reply as Reply;
+ghost use Rattle.lookup_core.specs.Reply.{reply_seen, said_seen};
+ghost use Rattle.lookup_core.specs.Says.{IsReply};
+ghost use Rattle.lookup_core.specs.LookupSteps.{Holds, HearsReply, HearsAt, IsPlaceOf, RepliesToNone, Takes};
 
 use crate::quest::Quest;
-use crate::reply::{Reply, read_reply};
+use crate::reply::{ReplyView, SaidView, read_reply};
 use crate::sealed::is_sealed;
 use crate::state::{DRIVER, Lookup};
 use claim_book::{Book, BookCall, BookReply, Cause};
 use kad_base::{Addr, Contact, Id, NoMemory, Reports, Serial};
-use kad_krpc::Answer;
+use kad_krpc::AnswerView;
 use seal_tags::SealCheck;
 use std::alloc::Global;
 
-/// A contact that answered in its own name, and its answer.
-#[derive(Debug, Drop)]
-pub struct Answered {
+/// A contact that answered in its own name, and its answer where it stands.
+#[derive(Drop)]
+pub struct Answered<'a> {
     pub contact: Contact,
-    pub answer: Answer,
+    pub answer: AnswerView<'a>,
 }
 
 /// What a datagram was to a lookup.
-#[derive(Debug, Drop)]
-pub enum Taken {
+#[derive(Drop)]
+pub enum Taken<'a> {
     /// It replied to no open query, and nothing changed.
     Stray,
     /// An answer that was heard. What it gives beside contacts is the caller's.
-    Heard(Answered),
+    Heard(Answered<'a>),
     /// An error message or an answer in another name: the contact is lost.
     Lost,
 }
@@ -70,15 +73,16 @@ fn tell_heard(book: &mut Book, contact: Contact, reports: Reports) -> Result<(),
 
 /// Tells the book what the contact answered: it is heard where it answers in its own name, and lost where the answer
 /// has another identifier.
-fn hear_answer(
+fn hear_answer<'a>(
     alloc: Global,
     book: &mut Book,
     quest: &Quest,
     contact: Contact,
-    answer: Answer,
-) -> Result<Taken, NoMemory>
+    answer: AnswerView<'a>,
+) -> Result<Taken<'a>, NoMemory>
     requires { among (open_any book.old.journal) contact ≡ true }
-    ensures { IfOk result (HearsReply quest.now contact (Reply.Answer answer) book.old book.new) }
+    ensures { IfOk result (HearsReply quest.now contact (Reply.Answer (answer_seen answer.entry))
+        book.old book.new) }
 {
     if !is_own(&answer.id, &contact.id) {
         lose(book, contact, Cause::WrongId);
@@ -90,19 +94,20 @@ fn hear_answer(
 }
 
 /// Tells the book the reply of the contact, whose query was open and is closed.
-fn on_reply(
+fn on_reply<'a>(
     alloc: Global,
     book: &mut Book,
     quest: &Quest,
     contact: Contact,
-    reply: Reply,
-) -> Result<Taken, NoMemory>
+    reply: ReplyView<'a>,
+) -> Result<Taken<'a>, NoMemory>
     requires { among (open_any book.old.journal) contact ≡ true }
-    ensures { IfOk result (HearsReply quest.now contact reply book.old book.new) }
+    ensures { IfOk result (HearsReply quest.now contact (reply_seen reply.entry) book.old
+        book.new) }
 {
     match reply {
-        Reply::Answer(answer) => hear_answer(alloc, book, quest, contact, answer),
-        Reply::Error { code } => {
+        ReplyView::Answer(answer) => hear_answer(alloc, book, quest, contact, answer),
+        ReplyView::Error { code } => {
             lose(book, contact, Cause::Error { code });
             Ok(Taken::Lost)
         }
@@ -110,43 +115,81 @@ fn on_reply(
 }
 
 impl Lookup {
-    /// Matches the datagram with the open query that it replies to, which is closed, and tells the book the reply; else
-    /// it is a stray. Tags are looked at last, and in a sealed lookup alone.
-    pub fn take<G: SealCheck>(
-        &mut self,
+    /// The place of the open query that the reply is to, where it is sealed as the lookup asks for; `None` where it is to none.
+    /// Tags are looked at last, and in a sealed lookup alone; only that takes memory.
+    pub fn place_of<G: SealCheck>(
+        &self,
         alloc: Global,
         quest: &Quest,
         seal: &G,
         from: Addr,
         bytes: &[u8],
-    ) -> Result<Taken, NoMemory>
+        said: &SaidView,
+    ) -> Result<Option<usize>, NoMemory>
+        requires holds { Holds self.now }
+        requires reads { IsReply bytes.now (said_seen said.now) }
+        ensures { IfOk result (λ place. MatchOption place
+            (RepliesToNone quest.now (G.accepted seal.now) from bytes.now self.now)
+            (IsPlaceOf quest.now (G.accepted seal.now) from bytes.now (said_seen said.now) self.now)) }
+    {
+        // No two open queries have one transaction id.
+        let _ = self.queries.len();
+        let place = match self.queries.position(said.tx, from) {
+            Some(place) => place,
+            None => return Ok(None),
+        };
+        let contact = self.queries.at(place).contact;
+        let sealed = is_sealed(alloc, quest.sealed, seal, &contact, &said.reply, bytes)?;
+        if !sealed {
+            return Ok(None);
+        }
+        Ok(Some(place))
+    }
+
+    /// Closes the query at that place, and tells the book the reply to it.
+    pub fn hear<'a>(
+        &mut self,
+        alloc: Global,
+        quest: &Quest,
+        place: usize,
+        reply: ReplyView<'a>,
+    ) -> Result<Taken<'a>, NoMemory>
+        requires holds { Holds self.old }
+        requires open { place < length self.old.queries }
+        ensures hears { IfOk result (HearsAt quest.now place (reply_seen reply.entry) self.old self.new) }
+        ensures holds { OnOk result (Holds self.new) }
+    {
+        self.book.legal();
+        let query = self.queries.remove(place);
+        on_reply(alloc, &mut self.book, quest, query.contact, reply)
+    }
+
+    /// Matches the datagram with the open query that it replies to, which is closed, and tells the book the reply; else
+    /// it is a stray. The cheapest test comes first: whether who sent it was asked, what it says, which takes no memory,
+    /// whether that is to an open query, and its tag in a sealed lookup alone.
+    pub fn take<'a, G: SealCheck>(
+        &mut self,
+        alloc: Global,
+        quest: &Quest,
+        seal: &G,
+        from: Addr,
+        bytes: &'a [u8],
+    ) -> Result<Taken<'a>, NoMemory>
         requires { Holds self.old }
         ensures takes { IfOk result (Takes quest.now (G.accepted seal.now) from bytes.now self.old
             self.new) }
         ensures holds { OnOk result (Holds self.new) }
     {
-        // No two open queries have one transaction id.
-        let _ = self.queries.len();
-        self.book.legal();
-        let said = match read_reply(alloc, quest, bytes) {
-            Ok(Some(said)) => said,
-            Ok(None) => return Ok(Taken::Stray),
-            Err(_) => return Err(NoMemory),
-        };
-        let asked = match self.queries.find(said.tx, from) {
-            Some(asked) => asked,
-            None => return Ok(Taken::Stray),
-        };
-        let sealed = match is_sealed(alloc, quest, seal, &asked, &said.reply, bytes) {
-            Ok(sealed) => sealed,
-            Err(NoMemory) => return Err(NoMemory),
-        };
-        if !sealed {
+        if !self.queries.is_asked(from) {
             return Ok(Taken::Stray);
         }
-        match self.queries.take(said.tx, from) {
-            Some(contact) => on_reply(alloc, &mut self.book, quest, contact, said.reply),
-            None => unreachable!(),
+        let said = match read_reply(bytes) {
+            Some(said) => said,
+            None => return Ok(Taken::Stray),
+        };
+        match self.place_of(alloc, quest, seal, from, bytes, &said)? {
+            Some(place) => self.hear(alloc, quest, place, said.reply),
+            None => Ok(Taken::Stray),
         }
     }
 }

@@ -1,12 +1,14 @@
 //! What a lookup asks, and what of an answer it believes: the one place that knows the kinds of queries and of reports.
-ghost use Rattle.std.specs.Prelude.{◌≡◌, ◌≤◌, ◌↔◌, take, map, IsTrue, IfOk};
+ghost use Rattle.std.specs.Prelude.{◌≡◌, ◌≤◌, take, map, IfOk};
 ghost use Rattle.kad_base.specs.Limits.{max_reports};
 ghost use Rattle.kad_krpc.specs.Form.{form};
-ghost use Rattle.lookup_core.specs.Quest.{query_message, bare, is_six, part_of, reports_of, IsBelievable};
+ghost use Rattle.kad_krpc.specs.Views.{answer_seen};
+ghost use Rattle.lookup_core.specs.Quest.{query_message, bare, is_six, part_of, reports_of};
 
-use kad_base::limits::{MAX_DATAGRAM, MAX_REPORTS};
-use kad_base::{Contact, Contacts, Family, Id, List, NoMemory, Policy, Report, Reports};
-use kad_krpc::{Answer, find_node_into, get_into, get_peers_into};
+use kad_base::limits::MAX_REPORTS;
+use kad_base::{Contact, Family, Id, List, NoMemory, Policy, Report, Reports};
+use kad_krpc::{AnswerView, find_node_into, get_into, get_peers_into};
+use kad_records::{Record, Records, with_room};
 use std::alloc::Global;
 
 /// What a lookup asks for (BEP 5, BEP 44).
@@ -45,55 +47,54 @@ fn is_six(family: Family) -> bool
     }
 }
 
-/// The contacts as reports without a proof.
-fn bare_reports(alloc: Global, contacts: &[Contact]) -> Result<Reports, NoMemory>
-    ensures { IfOk result (λ reports. reports ≡ map bare contacts.now) }
+/// The first contacts as reports without a proof, copied out of their datagram.
+fn bare_reports<R: Record<Item = Contact>>(
+    alloc: Global,
+    contacts: &Records<R>,
+) -> Result<Reports, NoMemory>
+    ensures { IfOk result (λ reports. reports ≡ map bare (take max_reports contacts.now)) }
 {
-    let mut reports = List::new(alloc);
-    for contact in contacts {
-        reports.push(Report {
-            contact: *contact,
-            proof: None,
-        })?;
+    let few = contacts.len().min(MAX_REPORTS);
+    let mut reports = with_room(alloc, few)?;
+    for i in 0..few {
+        match contacts.at(i) {
+            Some(contact) => reports.push(Report {
+                contact,
+                proof: None,
+            })?,
+            None => unreachable!(),
+        }
     }
     Ok(reports)
 }
 
 /// The first contacts of a part of an answer, as reports without a proof.
-fn first_contacts(alloc: Global, part: &Option<Contacts>) -> Result<Reports, NoMemory>
+fn first_contacts<R: Record<Item = Contact>>(
+    alloc: Global,
+    part: &Option<Records<R>>,
+) -> Result<Reports, NoMemory>
     ensures { IfOk result (λ reports. reports ≡ map bare (take max_reports (part_of part.now))) }
 {
     match part {
-        Some(contacts) => {
-            let few = contacts.len().min(MAX_REPORTS);
-            bare_reports(alloc, &contacts.as_slice()[..few])
-        }
+        Some(contacts) => bare_reports(alloc, contacts),
         None => Ok(List::new(alloc)),
     }
 }
 
 /// The first reports of a part of an answer, as they are.
-fn first_reports(alloc: Global, part: &Option<Reports>) -> Result<Reports, NoMemory>
+fn first_reports<R: Record<Item = Report>>(
+    alloc: Global,
+    part: &Option<Records<R>>,
+) -> Result<Reports, NoMemory>
     ensures { IfOk result (λ reports. reports ≡ take max_reports (part_of part.now)) }
 {
     match part {
-        Some(reports) => {
-            let few = reports.len().min(MAX_REPORTS);
-            List::from_slice(alloc, &reports.as_slice()[..few])
-        }
+        Some(reports) => reports.first(alloc, MAX_REPORTS),
         None => Ok(List::new(alloc)),
     }
 }
 
 impl Quest {
-    /// Whether a datagram may be believed, whatever it says: it has at most 4,096 bytes. What else of a datagram a lookup
-    /// comes to ask for stands here.
-    pub(crate) fn believes(&self, bytes: &[u8]) -> bool
-        ensures { IsTrue result ↔ IsBelievable self.now bytes.now }
-    {
-        bytes.len() <= MAX_DATAGRAM
-    }
-
     /// Writes the query under this transaction id in front of `buf`, and answers its length.
     pub fn query_into(&self, buf: &mut [u8; 160], tx: u32) -> usize
         ensures within { result ≤ 160 }
@@ -112,9 +113,9 @@ impl Quest {
     }
 
     /// The reports that the answer gives: the first 16 contacts of `nodes`, where no proof is wanted, and else of
-    /// `snodes`; in the network of IPv6 of `nodes6` and `snodes6`.
-    pub(crate) fn reports_in(&self, alloc: Global, answer: &Answer) -> Result<Reports, NoMemory>
-        ensures { IfOk result (λ reports. reports ≡ reports_of self.now answer.now) }
+    /// `snodes`; in the network of IPv6 of `nodes6` and `snodes6`. No other part of it is looked at.
+    pub(crate) fn reports_in(&self, alloc: Global, answer: &AnswerView) -> Result<Reports, NoMemory>
+        ensures { IfOk result (λ reports. reports ≡ reports_of self.now (answer_seen answer.now)) }
     {
         match (self.family, self.policy) {
             (Family::Four, Policy::Plain) => first_contacts(alloc, &answer.nodes),

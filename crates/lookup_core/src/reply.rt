@@ -1,28 +1,27 @@
-//! What a datagram says, and to the query of which transaction id.
-ghost use Rattle.std.specs.Prelude.{◌≡◌, ℕ, List, MatchOption, IfOk};
+//! What a datagram says, and to the query of which transaction id. It is read where it stands, and nothing is copied.
+ghost use Rattle.std.specs.Prelude.{◌≡◌, ℕ, List, MatchOption};
 ghost use Rattle.kad_base.specs.Words.{word_bytes};
 ghost use Rattle.kad_krpc.specs.Views.{answer_seen, message_seen};
 ghost use Rattle.kad_krpc.specs.declared.message.Message.TheVariants as Message;
+ghost use Rattle.lookup_core.specs.Reply.{said_seen};
 ghost use Rattle.lookup_core.specs.Says.{SaysAll, SaysNothing, IsReply, IsNoReply, IsNoId};
 
-use crate::quest::Quest;
-use kad_base::NoMemory;
-use kad_krpc::{Answer, AnswerView, View, decode_view, own_answer};
-use std::alloc::Global;
+use kad_base::limits::MAX_DATAGRAM;
+use kad_krpc::{AnswerView, View, decode_view};
 
 /// What a datagram says to an open query (BEP 5).
-#[derive(Debug, Drop)]
-pub enum Reply {
-    Answer(Answer),
-    /// An error message. Its text is not kept.
+#[derive(Drop)]
+pub enum ReplyView<'a> {
+    Answer(AnswerView<'a>),
+    /// An error message. Its text is passed over.
     Error { code: i64 },
 }
 
 /// A reply, and the transaction id of the query that it is to.
-#[derive(Debug, Drop)]
-pub struct Said {
+#[derive(Drop)]
+pub struct SaidView<'a> {
     pub tx: u32,
-    pub reply: Reply,
+    pub reply: ReplyView<'a>,
 }
 
 /// The word whose four bytes the transaction id is; `None` where it has another length.
@@ -35,65 +34,56 @@ fn id_of(bytes: &[u8]) -> Option<u32>
     }
 }
 
-/// An answer under this transaction id; `None` where no query of ours has it, and nothing is copied.
-fn own_answer_to(alloc: Global, tx: &[u8], answer: AnswerView) -> Result<Option<Said>, NoMemory>
-    ensures { IfOk result (λ o. MatchOption o
-        (SaysNothing (Message.Answer tx.now (answer_seen answer.entry)))
-        (SaysAll (Message.Answer tx.now (answer_seen answer.entry)))) }
+/// An answer under this transaction id; `None` where no query of ours has it.
+fn answer_to<'a>(tx: &[u8], answer: AnswerView<'a>) -> Option<SaidView<'a>>
+    ensures { MatchOption result (SaysNothing (Message.Answer tx.now (answer_seen answer.entry)))
+        (λ said. SaysAll (Message.Answer tx.now (answer_seen answer.entry)) (said_seen said)) }
 {
     match id_of(tx) {
-        Some(word) => match own_answer(alloc, answer) {
-            Ok(owned) => Ok(Some(Said {
-                tx: word,
-                reply: Reply::Answer(owned),
-            })),
-            Err(_) => Err(NoMemory),
-        },
-        None => Ok(None),
+        Some(word) => Some(SaidView {
+            tx: word,
+            reply: ReplyView::Answer(answer),
+        }),
+        None => None,
     }
 }
 
 /// An error message under this transaction id; `None` where no query of ours has it. Its text is passed over.
-fn error_to(tx: &[u8], code: i64) -> Option<Said>
+fn error_to<'a>(tx: &[u8], code: i64) -> Option<SaidView<'a>>
     ensures { (text : List ℕ) → MatchOption result (SaysNothing (Message.Fault tx.now code text))
-        (SaysAll (Message.Fault tx.now code text)) }
+        (λ said. SaysAll (Message.Fault tx.now code text) (said_seen said)) }
 {
     match id_of(tx) {
-        Some(word) => Some(Said {
+        Some(word) => Some(SaidView {
             tx: word,
-            reply: Reply::Error { code },
+            reply: ReplyView::Error { code },
         }),
         None => None,
     }
 }
 
 /// What a view says, and to whom; `None` where it is a query, or has a transaction id that no query of ours has.
-fn own_reply(alloc: Global, view: View) -> Result<Option<Said>, NoMemory>
-    ensures { IfOk result (λ o. MatchOption o (SaysNothing (message_seen view.entry))
-        (SaysAll (message_seen view.entry))) }
+fn reply_in<'a>(view: View<'a>) -> Option<SaidView<'a>>
+    ensures { MatchOption result (SaysNothing (message_seen view.entry))
+        (λ said. SaysAll (message_seen view.entry) (said_seen said)) }
 {
     match view {
-        View::Query { .. } => Ok(None),
-        View::Answer { tx, answer } => own_answer_to(alloc, tx, answer),
-        View::Fault { tx, code, .. } => Ok(error_to(tx, code)),
+        View::Query { .. } => None,
+        View::Answer { tx, answer } => answer_to(tx, answer),
+        View::Fault { tx, code, .. } => error_to(tx, code),
     }
 }
 
-/// What the datagram says; `None` where it is no reply to whomever, or may not be believed. It is read where it stands: a query, a refusal and an
-/// error message take no memory.
-pub(crate) fn read_reply(
-    alloc: Global,
-    quest: &Quest,
-    bytes: &[u8],
-) -> Result<Option<Said>, NoMemory>
-    ensures { IfOk result (λ o. MatchOption o (IsNoReply quest.now bytes.now)
-        (IsReply quest.now bytes.now)) }
+/// What the datagram says, whoever asks; `None` where it is no reply to whomever, or may not be believed. Takes no memory.
+pub fn read_reply<'a>(bytes: &'a [u8]) -> Option<SaidView<'a>>
+    ensures { MatchOption result (IsNoReply bytes.now)
+        (λ said. IsReply bytes.now (said_seen said)) }
 {
-    if !quest.believes(bytes) {
-        return Ok(None);
+    if bytes.len() > MAX_DATAGRAM {
+        return None;
     }
     match decode_view(bytes) {
-        Ok(view) => own_reply(alloc, view),
-        Err(_) => Ok(None),
+        Ok(view) => reply_in(view),
+        Err(_) => None,
     }
 }

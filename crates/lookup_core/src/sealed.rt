@@ -1,21 +1,21 @@
 //! What a sealed lookup asks of a reply: a tag of who says it.
 ghost use Rattle.std.specs.Prelude.{◌≡◌, ◌↔◌, IsTrue, IfOk};
+ghost use Rattle.lookup_core.specs.Reply.{reply_seen};
 ghost use Rattle.lookup_core.specs.Sealed.{HasTag, IsSealed, speaker};
 
-use crate::quest::Quest;
-use crate::reply::Reply;
+use crate::reply::ReplyView;
 use kad_base::{Contact, Id, NoMemory};
 use kad_krpc::seal_parts;
 use seal_tags::SealCheck;
 use std::alloc::Global;
 
 /// Who says the reply to a query that this contact was asked: an answer names its own identifier, an error message none.
-fn speaker(contact: &Contact, reply: &Reply) -> Id
-    ensures { result ≡ speaker contact.now reply.now }
+fn speaker(contact: &Contact, reply: &ReplyView) -> Id
+    ensures { result ≡ speaker contact.now (reply_seen reply.now) }
 {
     match reply {
-        Reply::Answer(answer) => answer.id,
-        Reply::Error { .. } => contact.id,
+        ReplyView::Answer(answer) => answer.id,
+        ReplyView::Error { .. } => contact.id,
     }
 }
 
@@ -31,20 +31,20 @@ fn has_tag<G: SealCheck>(alloc: Global, seal: &G, bytes: &[u8], id: &Id) -> Resu
     Ok(seal.accepts(id, parts.body.as_slice(), parts.tag.as_slice()))
 }
 
-/// Whether the datagram is sealed as the lookup asks for, where it says this reply to a query that the contact was asked.
-/// Costs nothing where the lookup isn't sealed.
-pub(crate) fn is_sealed<G: SealCheck>(
+/// Whether the datagram is sealed as is asked for, where it says this reply to a query that the contact was asked. Costs
+/// nothing where no tag is asked for.
+pub fn is_sealed<G: SealCheck>(
     alloc: Global,
-    quest: &Quest,
+    sealed: bool,
     seal: &G,
     contact: &Contact,
-    reply: &Reply,
+    reply: &ReplyView,
     bytes: &[u8],
 ) -> Result<bool, NoMemory>
-    ensures { IfOk result (λ is. IsTrue is ↔ IsSealed quest.now.sealed (G.accepted seal.now) bytes.now
-        (speaker contact.now reply.now)) }
+    ensures { IfOk result (λ is. IsTrue is ↔ IsSealed sealed (G.accepted seal.now) bytes.now
+        (speaker contact.now (reply_seen reply.now))) }
 {
-    if !quest.sealed {
+    if !sealed {
         return Ok(true);
     }
     has_tag(alloc, seal, bytes, &speaker(contact, reply))

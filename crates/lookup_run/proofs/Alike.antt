@@ -3,6 +3,7 @@ use Rattle.std.proofs.Common.{◌≡◌, ◌≢◌, ℕ, zero, suc, ◌+◌, ◌
 use Rattle.std.specs.Prelude.{map, Contains}
 use Rattle.std.specs.List.{AllByRecursion}
 use Rattle.std.proofs.lemmas.Bool.{cases_lt}
+use Rattle.std.proofs.lemmas.List.{map-append}
 use Rattle.kad_base.specs.declared.types.Addr.{Addr}
 use Rattle.kad_base.specs.declared.types.Event.{Event}
 use Rattle.kad_base.specs.declared.types.Event.TheVariants.{Now, Sent, Unsent, Got, Quiet}
@@ -10,7 +11,7 @@ use Rattle.kad_base.specs.Words.{word, word_bytes}
 use Rattle.query_book.specs.declared.Query.{Query}
 use Rattle.query_book.specs.Queries.{HasId, IsFirstFree}
 use Rattle.claim_book.specs.declared.types.Entry.{Entry}
-use Rattle.lookup_core.specs.declared.reply.Reply.{Reply}
+use Rattle.lookup_core.specs.Reply.{Reply}
 use Rattle.lookup_core.specs.Matching.{OpenQuery, query_of, SaysTo, Replies, IsStray}
 use Rattle.lookup_core.specs.Timeouts.{deadline_of, is_overdue, open_at}
 use Rattle.lookup_run.specs.Tells.{Given, Seen, SentGives, MatchGives, GotGives, receives_seen, after_stray, Gives, TellsFrom, begun, TellsSoFar, NeverEnds}
@@ -38,10 +39,6 @@ apart_ids x (q ∷ qs) h = (h.0, apart_ids x qs h.1)
 apart_bare : (qs : List OpenQuery) → Apart qs → Apart (map bare qs)
 apart_bare [] h = tt
 apart_bare (q ∷ qs) h = (h.0, apart_ids q.tx qs h.1, apart_bare qs h.2)
-
-map-append : {A B : Type 0} (f : A → B) (xs ys : List A) → map f (xs ++ ys) ≡ map f xs ++ map f ys
-map-append f [] ys = refl
-map-append f (x ∷ xs) ys = ap (λ l. f x ∷ l) (map-append f xs ys)
 
 -- ---- ids
 

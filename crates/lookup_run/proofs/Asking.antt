@@ -42,7 +42,8 @@ use Rattle.lookup_run.proofs.Walking.{OneEvent, NextStep, along_next, along_late
 use Rattle.lookup_core.proofs.Opening.{ask_counts, lost_counts}
 use Rattle.lookup_core.proofs.Opens.{opens_kept, each_asked, asker_new}
 use Rattle.lookup_core.proofs.Others.{none_after_ask, none_after_lost, settled_after_ask, settled_after_lost}
-use Rattle.lookup_run.proofs.Driven.{driven_more, keeps_none, query_back, map_push, all_push}
+use Rattle.lookup_core.proofs.Received.{query_back}
+use Rattle.lookup_run.proofs.Driven.{driven_more, keeps_none, map_push, all_push}
 use Rattle.lookup_core.specs.declared.state.Lookup.{Lookup}
 use Rattle.lookup_core.specs.declared.ask.Asked.{Asked}
 use Rattle.lookup_core.specs.Sealed.{Accepts}

@@ -3,21 +3,13 @@ use Rattle.std.proofs.Common.{◌≡◌, ℕ, ◌^◌, ◌<◌, List, [], ◌∷
 use Rattle.std.specs.Prelude.{map}
 use Rattle.std.specs.List.{AllByRecursion}
 use Rattle.std.proofs.lemmas.List.{append-nil}
-use Rattle.std.proofs.lemmas.List.Elements.{filter-append}
-use Rattle.query_book.specs.declared.Query.{Query}
-use Rattle.query_book.specs.Queries.{IsFirstFree}
 use Rattle.claim_book.specs.declared.types.Entry.{Entry}
 use Rattle.lookup_run.specs.declared.types.Gathered.{Gathered}
 use Rattle.lookup_core.specs.declared.quest.AskKind.{AskKind}
 use Rattle.lookup_core.specs.declared.quest.AskKind.TheVariants.{FindNode, GetPeers, GetItem}
-use Rattle.lookup_core.specs.Matching.{query_of}
 use Rattle.lookup_run.specs.Tells.{is_driven, driven}
-use Rattle.lookup_core.specs.LookupSteps.{as_open}
+use Rattle.lookup_core.proofs.Received.{driven_append}
 use Rattle.lookup_run.specs.inner.RoundSteps.{KeepsAlso, KeepsFor}
-
-pub driven_append : (J K : List Entry) → driven (J ++ K) ≡ driven J ++ driven K
-unfolding driven
-driven_append J K = filter-append is_driven J K
 
 pub driven_more : (J : List Entry) (e : Entry) → is_driven e ≡ true → driven (J ++ e ∷ []) ≡ driven J ++ e ∷ []
 unfolding driven
@@ -40,10 +32,6 @@ keeps_none FindNode old new is = is
 keeps_none GetPeers old new is = none_more old new is
 keeps_none GetItem old new is = none_more old new is
 
-pub query_back : (J : List Entry) (qs : List Query) → map query_of (map (as_open J) qs) ≡ qs
-query_back J [] = refl
-query_back J (q ∷ qs) = ap (λ l. q ∷ l) (query_back J qs)
-
 pub map_push : {A B : Type 0} (f : A → B) (xs : List A) (x : A) → map f (xs ++ x ∷ []) ≡ map f xs ++ f x ∷ []
 map_push f [] x = refl
 map_push f (y ∷ xs) x = ap (λ l. f y ∷ l) (map_push f xs x)
@@ -51,6 +39,3 @@ map_push f (y ∷ xs) x = ap (λ l. f y ∷ l) (map_push f xs x)
 pub all_push : {A : Type 0} (P : A → Type 0) (xs : List A) (x : A) → AllByRecursion P xs → P x → AllByRecursion P (xs ++ x ∷ [])
 all_push P [] x h p = (p, tt)
 all_push P (y ∷ xs) x h p = (h.0, all_push P xs x h.1 p)
-
-pub small_id : (qs : List Query) (w tx : ℕ) → IsFirstFree qs w tx → tx < 2 ^ 32
-small_id qs w tx h = (let e = h.is_id in omega (arith, e))

@@ -19,7 +19,7 @@ use Rattle.lookup_run.specs.declared.types.LookupState.{LookupState}
 use Rattle.lookup_core.specs.Matching.{IsStray}
 use Rattle.lookup_run.specs.Tells.{Given, Seen, TellsFrom, TellsSoFar, begun}
 use Rattle.lookup_run.specs.Rounds.{Scheduling}
-use Rattle.lookup_core.specs.declared.on_reply.Answered.{Answered}
+use Rattle.lookup_core.specs.Reply.{Answered}
 use Rattle.lookup_run.specs.Lookup.{setting_of, given_of, TellsEarly, Told, TableToldBy, TableRan, quest_of}
 use Rattle.lookup_core.specs.LookupSteps.{as_open}
 use Rattle.lookup_run.specs.inner.DriverInvariant.{Walk, Shows}

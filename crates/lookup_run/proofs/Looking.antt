@@ -28,6 +28,7 @@ use Rattle.claim_book.specs.declared.types.Setting.{Setting}
 use Rattle.claim_book.specs.declared.types.Entry.{Entry}
 use Rattle.claim_book.specs.Journal.{seeds, asked, answered, failed, open_any, open_on, things, settled, unsettled}
 use Rattle.claim_book.specs.Legal.{Legal, seeded_from, seeded}
+use Rattle.lookup_core.proofs.Received.{seeds_quiet}
 use Rattle.claim_book.specs.RunOut.{RunOut}
 use Rattle.claim_book.specs.Result.{result_of}
 use Rattle.claim_book.specs.State.{BookState}
@@ -45,7 +46,7 @@ use Rattle.lookup_run.specs.declared.types.LookupState.{LookupState}
 use Rattle.lookup_core.specs.Timeouts.{deadline_of}
 use Rattle.lookup_run.specs.Tells.{Given, Seen, driven, begun, Tells, HasFewStrays, NeverEnds}
 use Rattle.lookup_run.specs.Rounds.{Scheduling, SettlesIn, AllSettled, NoneAsks, RoundsFrom, Rounds}
-use Rattle.lookup_core.specs.declared.on_reply.Answered.{Answered}
+use Rattle.lookup_core.specs.Reply.{Answered}
 use Rattle.lookup_run.specs.Gathered.{HearsFrom, IsEachOnce, GathersOf, Gathers}
 use Rattle.lookup_run.specs.Lookup.{setting_of, given_of, seeds_in, drawn_for, IsWithinLimits, told_of, table_calls, Finished, Unfinished, TableTold, TableToldBy}
 use Rattle.lookup_core.specs.LookupSteps.{as_open}
@@ -62,11 +63,6 @@ use Rattle.lookup_core.proofs.Others.{none_on}
 use Rattle.lookup_core.proofs.Seeds.{seeds_stand, seeds_ask, seeds_settled, seeds_open}
 
 -- ---- a journal of seeds alone
-
-seeds_quiet : (paths i : ℕ) (cs : List Contact) → driven (seeded_from paths i cs) ≡ []
-unfolding driven
-seeds_quiet paths i [] = refl
-seeds_quiet paths i (c ∷ cs) = seeds_quiet paths (i + 1) cs
 
 seeds_tell : (paths i : ℕ) (cs : List Contact) → flat_map told_of (seeded_from paths i cs) ≡ []
 seeds_tell paths i [] = refl

@@ -18,8 +18,9 @@ use Rattle.claim_book.proofs.Claims.{may_ask_on_path}
 use Rattle.claim_book.proofs.Ends.{path_below}
 use Rattle.lookup_core.specs.Matching.{OpenQuery, query_of, IsQuery}
 use Rattle.lookup_core.specs.Quest.{query_message}
+use Rattle.lookup_core.proofs.Lists.{all_in}
 use Rattle.lookup_run.specs.LinkCalls.{LinkCall, sends, receives, call_of}
-use Rattle.lookup_run.specs.Tells.{Given, Seen, IsEarliest, WaitsUntil, Gives, TellsFrom, TellsSoFar, Tells, begun}
+use Rattle.lookup_run.specs.Tells.{Given, Seen, IsEarliest, Waits, Gives, TellsFrom, TellsSoFar, Tells, begun}
 use Rattle.lookup_run.specs.Rounds.{sequential, AllSettled, NoneAsks, AsksInTurn, WaitsInTurn, RoundStep, RoundsFrom, Rounds}
 use Rattle.lookup_run.proofs.OnceEvents.{Apart, apart_gives, free_once, Asks, asks_of, asks_once}
 use Rattle.lookup_run.proofs.Once.{LegalStep, legal_step, legal_split, between_once, between_steps, past}
@@ -64,23 +65,18 @@ asks_below s Q p c some legal may = path_below s Q p c some legal (may_ask_on_pa
 
 -- ---- a receive
 
-least_of : (qs : List OpenQuery) (x : ℕ) → Contains (map (λ q. q.deadline) qs) x → (m : ℕ) → AllByRecursion (λ (q : OpenQuery). m ≤ q.deadline) qs → m ≤ x
-least_of [] x c m h = (let lt = c.1 in absurd (omega (arith, lt)))
-least_of (q ∷ qs) x c m h = at_place c.0 c.1 c.2 (λ k. least_of qs x k m h.1)
-  where
-    at_place : (i : ℕ) → i < length (map (λ (q : OpenQuery). q.deadline) (q ∷ qs)) → get_or (map (λ (q : OpenQuery). q.deadline) (q ∷ qs)) i x ≡ x → (Contains (map (λ (q : OpenQuery). q.deadline) qs) x → m ≤ x) → m ≤ x
-    at_place zero lt is behind = subst (λ n. m ≤ n) is h.0
-    at_place (suc i) lt is behind = behind (i, omega (arith, lt), is)
+least_of : (ds : List ℕ) (x : ℕ) → Contains ds x → (m : ℕ) → AllByRecursion (λ d. m ≤ d) ds → m ≤ x
+least_of ds x c m h = all_in (λ d. m ≤ d) ds x h c
 
-earliest_once : (queries : List OpenQuery) (m n : ℕ) → IsEarliest queries m → IsEarliest queries n → m ≡ n
-earliest_once queries m n h k =
-    let le = least_of queries n k.one m h.least in
-    let ge = least_of queries m h.one n k.least in
+earliest_once : (ds : List ℕ) (m n : ℕ) → IsEarliest ds m → IsEarliest ds n → m ≡ n
+earliest_once ds m n h k =
+    let le = least_of ds n k.one m h.least in
+    let ge = least_of ds m h.one n k.least in
     omega (arith, le, ge)
 
-waits_once : (receives_ : ℕ) (s : Seen) (m n : ℕ) → WaitsUntil receives_ s m → WaitsUntil receives_ s n → m ≡ n
-waits_once zero s m n h k = earliest_once s.queries m n h k
-waits_once (suc r) s m n h k = h ∙ sym k
+waits_once : (n : ℕ) (s : Seen) (u v : ℕ) → Waits n s u → Waits n s v → u ≡ v
+waits_once zero s u v h k = earliest_once (map (λ (q : OpenQuery). q.deadline) s.queries) u v h k
+waits_once (suc r) s u v h k = h ∙ sym k
 
 -- no path may ask where a round's first receive waits, so that nothing is sent there
 sends_or_waits : (g : Given) (Q : List Entry) (s : Seen) (to : Addr) (bytes : List ℕ) → 0 < g.setting.paths → Legal g.setting Q → Sends g Q s to bytes → WaitsInTurn g.setting Q s.receives → ⊥
@@ -94,7 +90,7 @@ sends_or_waits g Q s to bytes some legal h waits =
 -- what a step calls, behind what is settled
 data Calls (g : Given) (Q : List Entry) (s : Seen) : LinkCall → Type 0 where
   to_send : (to : Addr) (bytes : List ℕ) → Sends g Q s to bytes → Calls g Q s (sends to bytes)
-  to_receive : (until : ℕ) → WaitsUntil s.receives s until → WaitsInTurn g.setting Q s.receives → Calls g Q s (receives until)
+  to_receive : (until : ℕ) → Waits s.receives s until → WaitsInTurn g.setting Q s.receives → Calls g Q s (receives until)
 
 calls_at : (g : Given) (J P : List Entry) (s : Seen) (e : Event) (step : RoundStep sequential g J P s e) → LegalAfter g.setting (P ++ step.between) step.gave → Calls g (P ++ step.between) s (call_of e)
 calls_at g J P s (Now at) step legal = absurd step.gives

@@ -14,7 +14,6 @@ use Rattle.kad_base.specs.declared.types.Event.TheVariants.{Now, Sent, Unsent, G
 use Rattle.kad_base.specs.Words.{word, word_bytes}
 use Rattle.kad_krpc.specs.declared.message.Message.{Message}
 use Rattle.kad_krpc.specs.declared.message.Message.TheVariants as message
-use Rattle.kad_krpc.proofs.ReadBack.{one_said}
 use Rattle.query_book.specs.declared.Query.{Query}
 use Rattle.query_book.specs.Queries.{HasId, IsFirstFree}
 use Rattle.claim_book.specs.declared.types.Setting.{Setting}
@@ -23,13 +22,15 @@ use Rattle.claim_book.specs.declared.types.Entry.{Entry}
 use Rattle.claim_book.specs.declared.types.Entry.TheVariants.{Ask, Lost}
 use Rattle.claim_book.specs.Journal.{may_ask}
 use Rattle.claim_book.specs.Legal.{LegalAfter}
-use Rattle.lookup_core.specs.declared.reply.Reply.{Reply}
-use Rattle.lookup_core.specs.declared.reply.Reply.TheVariants as reply
-use Rattle.lookup_core.specs.Matching.{OpenQuery, query_of, SaysTo, Replies, ReplyGives}
+use Rattle.lookup_core.specs.Reply.{Reply}
+use Rattle.lookup_core.specs.Reply as reply
+use Rattle.lookup_core.specs.Matching.{OpenQuery, query_of, Replies, ReplyGives}
 use Rattle.lookup_core.specs.Timeouts.{deadline_of, is_overdue}
 use Rattle.lookup_run.specs.Tells.{Given, Seen, gives, SentGives, UnsentGives, MatchGives, GotGives, after_match, Gives}
 use Rattle.lookup_run.specs.Rounds.{NoneAsks, AsksInTurn}
-use Rattle.lookup_run.proofs.Driven.{all_push, small_id}
+use Rattle.lookup_core.proofs.Opening.{small_id}
+use Rattle.lookup_core.proofs.Replying.{word_same, one_reply}
+use Rattle.lookup_run.proofs.Driven.{all_push}
 use Rattle.lookup_core.specs.declared.quest.Quest.{Quest}
 use Rattle.lookup_core.specs.Sealed.{Accepts}
 
@@ -103,20 +104,10 @@ one_query (z ∷ a) b (w ∷ c) d x y h e same =
 
 -- ---- a datagram says one thing to one id
 
-id_once : (a b : ℕ) → a < 2 ^ 32 → b < 2 ^ 32 → word_bytes a ≡ word_bytes b → a ≡ b
-unfolding word_bytes
-id_once a b la lb e = sym (from_le_bytes-to_le_bytes_4 a la) ∙ ap (from_le_bytes w32) e ∙ from_le_bytes-to_le_bytes_4 b lb
-
-said_once : (m : Message) (x y : List ℕ) (r t : Reply) → SaysTo x m r → SaysTo y m t → (x ≡ y) × (r ≡ t)
-said_once (message.Query tx read_only ask) x y r t h k = absurd h
-said_once (message.Answer tx answer) x y r t h k = (sym h.0 ∙ k.0, h.1 ∙ sym k.1)
-said_once (message.Fault tx code text) x y r t h k = (sym h.0 ∙ k.0, h.1 ∙ sym k.1)
-
 pub reply_once : (quest : Quest) (accepts : Accepts) (bytes : List ℕ) (from : Addr) (p q : OpenQuery) (r t : Reply) → p.tx < 2 ^ 32 → q.tx < 2 ^ 32 → Replies quest accepts bytes from p r → Replies quest accepts bytes from q t → (p.tx ≡ q.tx) × (r ≡ t)
 reply_once quest accepts bytes from p q r t lp lq h k =
-    let one = one_said bytes h.said k.said h.says k.says in
-    let both = said_once k.said (word_bytes p.tx) (word_bytes q.tx) r t (subst (λ m. SaysTo (word_bytes p.tx) m r) one h.to_query) k.to_query in
-    (id_once p.tx q.tx lp lq both.0, both.1)
+    let both = one_reply quest.sealed accepts bytes from (query_of p) (query_of q) r t h k in
+    (word_same p.tx q.tx lp lq both.0, both.1)
 
 pub entry_once : (quest : Quest) (q : OpenQuery) (r : Reply) (a b : Entry) → ReplyGives quest q r a → ReplyGives quest q r b → a ≡ b
 entry_once quest q (reply.Answer answer) a b h k =

@@ -26,13 +26,13 @@ use Rattle.lookup_run.specs.declared.types.LookSetting.{LookSetting}
 use Rattle.lookup_run.specs.declared.types.Gathered.{Gathered}
 use Rattle.lookup_run.specs.declared.types.Progress.{Progress}
 use Rattle.lookup_run.specs.declared.types.LookupState.{LookupState}
-use Rattle.lookup_core.specs.declared.reply.Reply.{Reply}
-use Rattle.lookup_core.specs.declared.reply.Reply.TheVariants as reply
+use Rattle.lookup_core.specs.Reply.{Reply}
+use Rattle.lookup_core.specs.Reply as reply
 use Rattle.lookup_core.specs.Matching.{OpenQuery, Replies, ReplyGives, IsStray}
 use Rattle.lookup_core.specs.Timeouts.{deadline_of, is_overdue, timed_out, closed_at, open_at}
-use Rattle.lookup_run.specs.Tells.{Given, Seen, is_driven, driven, IsEarliest, WaitsUntil, HaveAsked, Receives, Gives, received, receives_seen, after_match}
+use Rattle.lookup_run.specs.Tells.{Given, Seen, is_driven, driven, IsEarliest, WaitsUntil, goes_on, Waits, HaveAsked, Receives, Gives, received, receives_seen, after_match}
 use Rattle.lookup_run.specs.Rounds.{WaitsInTurn, InTurn}
-use Rattle.lookup_core.specs.declared.on_reply.Answered.{Answered}
+use Rattle.lookup_core.specs.Reply.{Answered}
 use Rattle.lookup_run.specs.Gathered.{HeardIn, Hears}
 use Rattle.lookup_run.specs.Lookup.{setting_of, given_of, told_of, TableTold, quest_of}
 use Rattle.lookup_run.specs.SendFaults.{unsent}
@@ -40,10 +40,11 @@ use Rattle.lookup_core.specs.Says.{IsReply}
 use Rattle.lookup_core.specs.LookupSteps.{as_open}
 use Rattle.lookup_run.specs.inner.DriverInvariant.{IsBare, Keeps, max_asks, KeepsSeen}
 use Rattle.lookup_core.specs.LookupSteps.{query_to, RepliesToNone, HearsIn}
-use Rattle.lookup_run.specs.inner.RoundSteps.{IsDue, WaitsFor, receives_kept, KeepsFor, Expires, IsStrayFor, IsMatchFor, TakesDatagram, MayReceive, ReceivesOne}
+use Rattle.lookup_run.specs.inner.RoundSteps.{WaitsFor, KeepsFor, Expires, IsStrayFor, IsMatchFor, TakesDatagram, MayReceive, ReceivesOne}
 use Rattle.lookup_run.proofs.Driven.{keeps_none}
+use Rattle.lookup_core.proofs.Received.{same_deadlines, open_still, all_still, fewer_still, one_less, among_still, driven_closed, driven_append, seeds_append, seeds_closed, asks_closed, asked_append, gives_of, among_dropped}
 use Rattle.lookup_run.proofs.Refusing.{unsent_left}
-use Rattle.lookup_run.proofs.Walking.{OneEvent, NextStep, along_next, seeds_append}
+use Rattle.lookup_run.proofs.Walking.{OneEvent, NextStep, along_next}
 use Rattle.lookup_core.proofs.Opens.{opens_kept, each_asked}
 use Rattle.lookup_core.proofs.Lists.{in_cons, in_map, map_in, in_middle, all_in, none_in}
 use Rattle.lookup_core.proofs.Matching.{to_reply}
@@ -57,18 +58,9 @@ use Rattle.lookup_core.specs.Sealed.{Accepts}
 
 -- ---- how long it waits
 
-same_deadlines : (J : List Entry) (qs : List Query) → map (λ (q : OpenQuery). q.deadline) (map (as_open J) qs) ≡ map (λ (q : Query). q.deadline) qs
-same_deadlines J [] = refl
-same_deadlines J (q ∷ qs) = ap (λ l. q.deadline ∷ l) (same_deadlines J qs)
-
-least_of : (J : List Entry) (until : ℕ) (qs : List Query) → AllByRecursion (λ (q : Query). until ≤ q.deadline) qs → AllByRecursion (λ (q : OpenQuery). until ≤ q.deadline) (map (as_open J) qs)
-least_of J until [] h = tt
-least_of J until (q ∷ qs) h = (h.0, least_of J until qs h.1)
-
-waits_of : (n : ℕ) (J : List Entry) (qs : List Query) (moment until : ℕ) (s : Seen) → s.queries ≡ map (as_open J) qs → s.moment ≡ moment → WaitsFor n moment qs until → WaitsUntil n s until
-waits_of zero J qs moment until s queries m due =
-    subst (λ l. IsEarliest l until) (sym queries) (record { one = subst (λ l. Contains l until) (sym (same_deadlines J qs)) due.one; least = least_of J until qs due.least })
-waits_of (suc n) J qs moment until s queries m is = is ∙ sym m
+waits_of : (n : ℕ) (J : List Entry) (qs : List Query) (moment until : ℕ) (s : Seen) → s.queries ≡ map (as_open J) qs → s.moment ≡ moment → WaitsFor n moment qs until → Waits n s until
+waits_of n J qs moment until s queries m h =
+    subst (λ x. WaitsUntil n x (map (λ (q : OpenQuery). q.deadline) s.queries) until) (sym m) (subst (λ l. WaitsUntil n moment (map (λ (q : OpenQuery). q.deadline) l) until) (sym queries) (subst (λ l. WaitsUntil n moment l until) (sym (same_deadlines J qs)) h))
 
 asked_of : (n : ℕ) (g : Given) (J more : List Entry) (s : Seen) → WaitsInTurn g.setting J n → s.given ≡ driven J → HaveAsked n g (J ++ more) s
 asked_of zero g J more s turn given = λ p lt. record {
@@ -92,7 +84,7 @@ receives_of : (look : LookSetting) (accepts : Accepts) (start : WordsState) (old
     → Receives (given_of look accepts start) (old.lookup.book.journal ++ more) s until
 receives_of look accepts start old more place s until may waits st = record {
   some_open = λ none. some_left old.lookup.book.journal old.lookup.queries may.some_open (sym st.queries ∙ none);
-  waits = subst (λ n. WaitsUntil n s until) (sym st.receives) (waits_of old.progress.receives old.lookup.book.journal old.lookup.queries old.progress.moment until s st.queries st.moment waits);
+  waits = subst (λ n. Waits n s until) (sym st.receives) (waits_of old.progress.receives old.lookup.book.journal old.lookup.queries old.progress.moment until s st.queries st.moment waits);
   asked = subst (λ n. HaveAsked n (given_of look accepts start) (old.lookup.book.journal ++ more) s) (sym st.receives) (asked_of old.progress.receives (given_of look accepts start) old.lookup.book.journal more s may.in_turn st.given);
 }
 
@@ -101,93 +93,7 @@ turn_of look accepts start old place s may st = subst (WaitsInTurn (setting_of l
 
 -- ---- what is overdue
 
-open_still : (at : ℕ) (J : List Entry) (qs : List Query) → open_at at (map (as_open J) qs) ≡ map (as_open J) (filter (λ (q : Query). nat_lt at q.deadline) qs)
-open_still at J [] = refl
-open_still at J (q ∷ qs) = pick (nat_lt at q.deadline) (open_still at J qs)
-  where
-    pick : (b : Bool) → open_at at (map (as_open J) qs) ≡ map (as_open J) (filter (λ (q : Query). nat_lt at q.deadline) qs)
-        → cond (not (not b)) (as_open J q ∷ open_at at (map (as_open J) qs)) (open_at at (map (as_open J) qs)) ≡ map (as_open J) (cond b (q ∷ filter (λ (q : Query). nat_lt at q.deadline) qs) (filter (λ (q : Query). nat_lt at q.deadline) qs))
-    pick true h = ap (λ l. as_open J q ∷ l) h
-    pick false h = h
-
-all_still : (P : Query → Type 0) (at : ℕ) (qs : List Query) → AllByRecursion P qs → AllByRecursion P (filter (λ (q : Query). nat_lt at q.deadline) qs)
-all_still P at [] h = tt
-all_still P at (q ∷ qs) h =
-    elim (nat_lt at q.deadline) as (λ b. AllByRecursion P (cond b (q ∷ filter (λ (q : Query). nat_lt at q.deadline) qs) (filter (λ (q : Query). nat_lt at q.deadline) qs))) [
-      | true ↦ (h.0, all_still P at qs h.1)
-      | false ↦ all_still P at qs h.1
-    ]
-
-fewer_still : (at : ℕ) (qs : List Query) → length (filter (λ (q : Query). nat_lt at q.deadline) qs) ≤ length qs
-fewer_still at [] = omega arith
-fewer_still at (q ∷ qs) =
-    let rest = fewer_still at qs in
-    elim (nat_lt at q.deadline) as (λ b. length (cond b (q ∷ filter (λ (q : Query). nat_lt at q.deadline) qs) (filter (λ (q : Query). nat_lt at q.deadline) qs)) ≤ length (q ∷ qs)) [
-      | true ↦ omega (arith, rest)
-      | false ↦ omega (arith, rest)
-    ]
-
-late : (at d : ℕ) → d ≤ at → nat_lt at d ≡ false
-late at d le = grind (arith, nat_tests)
-
-one_less : (at d : ℕ) (qs : List Query) → Contains (map (λ (q : Query). q.deadline) qs) d → d ≤ at → length (filter (λ (q : Query). nat_lt at q.deadline) qs) < length qs
-one_less at d [] has le = absurd (none_in d has)
-one_less at d (q ∷ qs) has le =
-    elim (in_cons q.deadline (map (λ (q : Query). q.deadline) qs) d has) [
-      | inl is ↦
-          let gone : nat_lt at q.deadline ≡ false = late at q.deadline (subst (λ n. n ≤ at) is le) in
-          let few = fewer_still at qs in
-          subst (λ b. length (cond b (q ∷ filter (λ (q : Query). nat_lt at q.deadline) qs) (filter (λ (q : Query). nat_lt at q.deadline) qs)) < length (q ∷ qs)) (sym gone) (omega (arith, few))
-      | inr rest ↦
-          let less = one_less at d qs rest le in
-          elim (nat_lt at q.deadline) as (λ b. length (cond b (q ∷ filter (λ (q : Query). nat_lt at q.deadline) qs) (filter (λ (q : Query). nat_lt at q.deadline) qs)) < length (q ∷ qs)) [
-            | true ↦ omega (arith, less)
-            | false ↦ omega (arith, less)
-          ]
-    ]
-
-among_still : (at : ℕ) (qs : List Query) (c : Contact) → among (map (λ (q : Query). q.contact) (filter (λ (q : Query). nat_lt at q.deadline) qs)) c ≡ true → among (map (λ (q : Query). q.contact) qs) c ≡ true
-among_still at [] c h = h
-among_still at (q ∷ qs) c h = pick (nat_lt at q.deadline) h (among_still at qs c)
-  where
-    pick : (b : Bool) → among (map (λ (q : Query). q.contact) (cond b (q ∷ filter (λ (q : Query). nat_lt at q.deadline) qs) (filter (λ (q : Query). nat_lt at q.deadline) qs))) c ≡ true
-        → (among (map (λ (q : Query). q.contact) (filter (λ (q : Query). nat_lt at q.deadline) qs)) c ≡ true → among (map (λ (q : Query). q.contact) qs) c ≡ true)
-        → (same c q.contact || among (map (λ (q : Query). q.contact) qs) c) ≡ true
-    pick true h f = both (same c q.contact) (among (map (λ (q : Query). q.contact) (filter (λ (q : Query). nat_lt at q.deadline) qs)) c) (among (map (λ (q : Query). q.contact) qs) c) h f
-      where
-        both : (a b d : Bool) → (a || b) ≡ true → (b ≡ true → d ≡ true) → (a || d) ≡ true
-        both true b d h f = refl
-        both false b d h f = f h
-    pick false h f = last (same c q.contact) (among (map (λ (q : Query). q.contact) qs) c) (f h)
-      where
-        last : (a b : Bool) → b ≡ true → (a || b) ≡ true
-        last true b h = refl
-        last false b h = h
-
 -- ---- the entries of the driver
-
-driven_closed : (qs : List OpenQuery) → driven (map timed_out qs) ≡ map timed_out qs
-unfolding driven
-driven_closed [] = refl
-driven_closed (q ∷ qs) = ap (λ l. timed_out q ∷ l) (driven_closed qs)
-
-driven_append : (J K : List Entry) → driven (J ++ K) ≡ driven J ++ driven K
-unfolding driven
-driven_append J K = filter-append is_driven J K
-
-seeds_closed : (qs : List OpenQuery) → seeds (map timed_out qs) ≡ []
-unfolding seeds
-seeds_closed [] = refl
-seeds_closed (q ∷ qs) = seeds_closed qs
-
-asks_closed : (qs : List OpenQuery) → asked (map timed_out qs) ≡ []
-unfolding asked
-asks_closed [] = refl
-asks_closed (q ∷ qs) = asks_closed qs
-
-asked_append : (J K : List Entry) → asked (J ++ K) ≡ asked J ++ asked K
-unfolding asked
-asked_append J K = flat_map-append ask_of J K
 
 -- entries that end a query at once
 pub record IsEnds (first : List Entry) : Type 0 where
@@ -219,23 +125,7 @@ reply_ends quest q (reply.Answer answer) e (inl own) = subst (λ x. IsEnds (x �
 reply_ends quest q (reply.Answer answer) e (inr other) = subst (λ x. IsEnds (x ∷ [])) (sym other.1) (ends_wrong q.path q.contact)
 reply_ends quest q (reply.Error code) e is = subst (λ x. IsEnds (x ∷ [])) (sym is) (ends_error q.path q.contact code)
 
-gives_of : (quest : Quest) (J : List Entry) (q : Query) (what : Reply) (e : Entry) → ReplyGives quest (query_to J q.contact) what e → ReplyGives quest (as_open J q) what e
-gives_of quest J q (reply.Answer answer) e h = h
-gives_of quest J q (reply.Error code) e h = h
-
 -- ---- what a receive leaves
-
-among_dropped : (before : List Query) (q : Query) (behind : List Query) (c : Contact) → among (map (λ (q : Query). q.contact) (before ++ behind)) c ≡ true → among (map (λ (q : Query). q.contact) (before ++ q ∷ behind)) c ≡ true
-among_dropped [] q behind c h = last (same c q.contact) (among (map (λ (q : Query). q.contact) behind) c) h
-  where
-    last : (a b : Bool) → b ≡ true → (a || b) ≡ true
-    last true b h = refl
-    last false b h = h
-among_dropped (x ∷ before) q behind c h = both (same c x.contact) (among (map (λ (q : Query). q.contact) (before ++ behind)) c) (among (map (λ (q : Query). q.contact) (before ++ q ∷ behind)) c) h (among_dropped before q behind c)
-  where
-    both : (a b d : Bool) → (a || b) ≡ true → (b ≡ true → d ≡ true) → (a || d) ≡ true
-    both true b d h f = refl
-    both false b d h f = f h
 
 -- the entries `first`, and then those of the queries `left` that are overdue
 pub record Left (look : LookSetting) (at : ℕ) (old new : LookupState) (first : List Entry) (left : List Query) : Type 0 where
@@ -305,12 +195,12 @@ stands_left look g place at old new first left strays receives s l st is_strays 
       given = ap (λ k. k ++ more) st.given ∙ sym (ap driven l.journal ∙ driven_append J more ∙ ap (λ k. driven J ++ k) (driven_left first (filter (is_overdue at) (map (as_open J) left)) l.ends));
     }
 
-round_is : (n : ℕ) (J : List Entry) (qs : List Query) → receives_seen n (map (as_open J) qs) ≡ receives_kept n qs
+round_is : (n : ℕ) (J : List Entry) (qs : List Query) → receives_seen n (map (as_open J) qs) ≡ goes_on n (length qs)
 round_is n J [] = refl
 round_is n J (q ∷ qs) = refl
 
-round_left : (n m at : ℕ) (J : List Entry) (left new : List Query) → n ≡ m → new ≡ filter (λ (q : Query). nat_lt at q.deadline) left → receives_seen n (open_at at (map (as_open J) left)) ≡ receives_kept m new
-round_left n m at J left new same is = ap (receives_seen n) (open_still at J left ∙ ap (map (as_open J)) (sym is)) ∙ round_is n J new ∙ ap (λ k. receives_kept k new) same
+round_left : (n m at : ℕ) (J : List Entry) (left new : List Query) → n ≡ m → new ≡ filter (λ (q : Query). nat_lt at q.deadline) left → receives_seen n (open_at at (map (as_open J) left)) ≡ goes_on m (length new)
+round_left n m at J left new same is = ap (receives_seen n) (open_still at J left ∙ ap (map (as_open J)) (sym is)) ∙ round_is n J new ∙ ap (λ k. goes_on k (length new)) same
 
 next_of : (look : LookSetting) (accepts : Accepts) (words : WordsState) (at : ℕ) (old new : LookupState) (first : List Entry) (left : List Query) (a : ℕ) (e : Event) → Left look at old new first left
     → ((start : WordsState) (s : Seen) → KeepsSeen (given_of look accepts start) old words.place s → OneEvent (given_of look accepts start) old new (first ++ closed_at at (map (as_open old.lookup.book.journal) left)) words.place 0 s e)
@@ -331,7 +221,7 @@ next_of look accepts words at old new first left a e l next =
 abbrev pub RoundGoes : Progress → Progress → List Query → Type 0
 RoundGoes from to queries = (to.receives ≡ 0) ⊎ ((to.receives ≡ from.receives + 1) × (to.receives < max_round_receives) × (queries ≢ []))
 
-round_goes : (n : ℕ) (from to : Progress) (qs : List Query) → from.receives ≡ n → to.receives ≡ receives_kept n qs → RoundGoes from to qs
+round_goes : (n : ℕ) (from to : Progress) (qs : List Query) → from.receives ≡ n → to.receives ≡ goes_on n (length qs) → RoundGoes from to qs
 round_goes n from to [] same is = inl is
 round_goes n from to (q ∷ qs) same is =
     elim (nat_lt (n + 1) max_round_receives) as (λ b. nat_lt (n + 1) max_round_receives ≡ b → to.receives ≡ cond b (n + 1) 0 → RoundGoes from to (q ∷ qs)) [
@@ -438,7 +328,7 @@ pub record Receiving (look : LookSetting) (old : LookupState) (until at : ℕ) :
 no_heard : (quest : Quest) (accepts : Accepts) (work : LookupState) (s : Seen) (from : Addr) (bytes : List ℕ) → s.queries ≡ map (as_open work.lookup.book.journal) work.lookup.queries → RepliesToNone quest accepts from bytes work.lookup → (a : Answered) → ¬ HeardIn quest accepts s from bytes a
 no_heard quest accepts work s from bytes queries none a h = stray_of quest accepts work s from bytes queries none h.query h.is_open (reply.Answer a.answer) h.replies
 
-stray_receives : (look : LookSetting) (accepts : Accepts) (from : Addr) (bytes : List ℕ) (until at n : ℕ) (old mid late : LookupState) (told told' : Option (List Event)) → Receiving look old until at → IsStrayFor look accepts from bytes old mid → Expires at mid late → n ≡ receives_kept late.progress.receives late.lookup.queries
+stray_receives : (look : LookSetting) (accepts : Accepts) (from : Addr) (bytes : List ℕ) (until at n : ℕ) (old mid late : LookupState) (told told' : Option (List Event)) → Receiving look old until at → IsStrayFor look accepts from bytes old mid → Expires at mid late → n ≡ goes_on late.progress.receives (length late.lookup.queries)
     → Grows told told' (λ es. es ≡ Got from bytes until at ∷ []) → ReceivesOne look accepts old (record late { progress = record { moment = at; receives = n; strays = late.progress.strays } }) told told'
 stray_receives look accepts from bytes until at n old mid late told told' r t e is grows =
     let keeps = r.may.keeps in
@@ -464,7 +354,7 @@ stray_receives look accepts from bytes until at n old mid late told told' r t e 
 
 quiet_light : (n at until x y : ℕ) (qs qs' : List Query) (moment : ℕ) → qs' ≡ filter (λ (q : Query). nat_lt at q.deadline) qs → x ≡ y → until ≤ at → n ≡ 0 → WaitsFor n moment qs until → length qs' + (max_strays - x) < length qs + (max_strays - y)
 quiet_light n at until x y qs qs' moment is strays le begins waits =
-    let due : IsDue qs until = subst (λ m. WaitsFor m moment qs until) begins waits in
+    let due : IsEarliest (map (λ (q : Query). q.deadline) qs) until = subst (λ m. WaitsFor m moment qs until) begins waits in
     let less = one_less at until qs due.one le in
     let few : length qs' < length qs = subst (λ l. length l < length qs) (sym is) less in
     omega (arith, few, strays)
@@ -489,7 +379,7 @@ quiet_receives look accepts until at old late told told' r le e grows =
 
 -- ---- a datagram that replies to one
 
-the_one : (quest : Quest) (accepts : Accepts) (J : List Entry) (qs : List Query) (q : Query) (from : Addr) (bytes : List ℕ) (what : Reply) (s : Seen) (a : Answered) → s.queries ≡ map (as_open J) qs → AllByRecursion (λ (x : Query). x.tx < 2 ^ 32) qs → IsReply quest bytes (record { tx = q.tx; reply = what }) → ((x : Query) → Contains qs x → x.tx ≡ q.tx → x ≡ q)
+the_one : (quest : Quest) (accepts : Accepts) (J : List Entry) (qs : List Query) (q : Query) (from : Addr) (bytes : List ℕ) (what : Reply) (s : Seen) (a : Answered) → s.queries ≡ map (as_open J) qs → AllByRecursion (λ (x : Query). x.tx < 2 ^ 32) qs → IsReply bytes (record { tx = q.tx; reply = what }) → ((x : Query) → Contains qs x → x.tx ≡ q.tx → x ≡ q)
     → (h : HeardIn quest accepts s from bytes a) → (h.query ≡ as_open J q) × (reply.Answer a.answer ≡ what)
 the_one quest accepts J qs q from bytes what s a queries ids reads alone h =
     let found = in_map (as_open J) qs h.query (subst (λ l. Contains l h.query) queries h.is_open) in
@@ -500,7 +390,7 @@ the_one quest accepts J qs q from bytes what s a queries ids reads alone h =
     (found.2 ∙ ap (as_open J) same, reads.same_reply x.tx (reply.Answer a.answer) small replies)
 
 hears_one : (quest : Quest) (accepts : Accepts) (J : List Entry) (qs : List Query) (q : Query) (from : Addr) (bytes : List ℕ) (until at : ℕ) (what : Reply) (heard : List Answered) (s : Seen) → s.queries ≡ map (as_open J) qs → Contains qs q → AllByRecursion (λ (x : Query). x.tx < 2 ^ 32) qs → Replies quest accepts bytes from (as_open J q) what
-    → IsReply quest bytes (record { tx = q.tx; reply = what }) → ((x : Query) → Contains qs x → x.tx ≡ q.tx → x ≡ q) → HearsIn q.contact what heard → Hears quest accepts s (Got from bytes until at) heard
+    → IsReply bytes (record { tx = q.tx; reply = what }) → ((x : Query) → Contains qs x → x.tx ≡ q.tx → x ≡ q) → HearsIn q.contact what heard → Hears quest accepts s (Got from bytes until at) heard
 hears_one quest accepts J qs q from bytes until at (reply.Answer answer) heard s queries has ids replies reads alone (inl own) = inl (
   record { contact = q.contact; answer = answer },
   record { query = as_open J q; is_open = subst (λ l. Contains l (as_open J q)) (sym queries) (map_in (as_open J) qs q has); replies = replies; own_name = own.0; contact_is = refl },
@@ -521,7 +411,7 @@ hears_one quest accepts J qs q from bytes until at (reply.Error code) heard s qu
   none,
 )
 
-match_receives : (look : LookSetting) (accepts : Accepts) (from : Addr) (bytes : List ℕ) (until at n : ℕ) (old mid late : LookupState) (told told' : Option (List Event)) → Receiving look old until at → IsMatchFor look accepts from bytes old mid → Expires at mid late → n ≡ receives_kept late.progress.receives late.lookup.queries
+match_receives : (look : LookSetting) (accepts : Accepts) (from : Addr) (bytes : List ℕ) (until at n : ℕ) (old mid late : LookupState) (told told' : Option (List Event)) → Receiving look old until at → IsMatchFor look accepts from bytes old mid → Expires at mid late → n ≡ goes_on late.progress.receives (length late.lookup.queries)
     → Grows told told' (λ es. es ≡ Got from bytes until at ∷ []) → ReceivesOne look accepts old (record late { progress = record { moment = at; receives = n; strays = late.progress.strays } }) told told'
 match_receives look accepts from bytes until at n old mid late told told' r m e is grows =
     let keeps = r.may.keeps in
@@ -581,7 +471,7 @@ match_receives look accepts from bytes until at n old mid late told told' r m e 
 
 -- ---- a datagram
 
-pub datagram_receives : (look : LookSetting) (accepts : Accepts) (from : Addr) (bytes : List ℕ) (until at n : ℕ) (old mid late : LookupState) (told told' : Option (List Event)) → Receiving look old until at → TakesDatagram look accepts from bytes old mid → Expires at mid late → n ≡ receives_kept late.progress.receives late.lookup.queries
+pub datagram_receives : (look : LookSetting) (accepts : Accepts) (from : Addr) (bytes : List ℕ) (until at n : ℕ) (old mid late : LookupState) (told told' : Option (List Event)) → Receiving look old until at → TakesDatagram look accepts from bytes old mid → Expires at mid late → n ≡ goes_on late.progress.receives (length late.lookup.queries)
     → Grows told told' (λ es. es ≡ Got from bytes until at ∷ []) → ReceivesOne look accepts old (record late { progress = record { moment = at; receives = n; strays = late.progress.strays } }) told told'
 datagram_receives look accepts from bytes until at n old mid late told told' r (inl m) e is grows = match_receives look accepts from bytes until at n old mid late told told' r m e is grows
 datagram_receives look accepts from bytes until at n old mid late told told' r (inr t) e is grows = stray_receives look accepts from bytes until at n old mid late told told' r t e is grows

@@ -15,6 +15,7 @@ use Rattle.claim_book.specs.State.{BookState, added}
 use Rattle.lookup_core.specs.Matching.{OpenQuery}
 use Rattle.lookup_core.specs.Timeouts.{timed_out}
 use Rattle.lookup_run.specs.SendFaults.{unsent_of, unsent, IsCounted, Refused, RefusedIn, Refuses}
+use Rattle.lookup_core.proofs.Settling.{no_fail}
 use Rattle.lookup_run.proofs.Quiet.{IsMute}
 
 -- ---- counts
@@ -112,7 +113,7 @@ mute_unsent (Skipped p r) h = refl
 none_unsent : (es : List Entry) → AllByRecursion IsMute es → unsent es ≡ []
 unfolding unsent
 none_unsent [] h = refl
-none_unsent (e ∷ es) h = ap (λ l. l ++ flat_map unsent_of es) (mute_unsent e h.0.no_fail) ∙ none_unsent es h.1
+none_unsent (e ∷ es) h = ap (λ l. l ++ flat_map unsent_of es) (mute_unsent e (no_fail e h.0.quiet)) ∙ none_unsent es h.1
 
 pub unsent_settled : (J es : List Entry) → AllByRecursion IsMute es → unsent (J ++ es) ≡ unsent J
 unsent_settled J es h = unsent_append J es ∙ ap (λ l. unsent J ++ l) (none_unsent es h) ∙ append-nil (unsent J)

@@ -33,11 +33,12 @@ use Rattle.lookup_run.specs.Lookup.{setting_of, given_of, drawn_for, Told, told_
 use Rattle.lookup_core.specs.LookupSteps.{as_open}
 use Rattle.lookup_run.specs.inner.DriverInvariant.{IsBare, Keeps, Keeping, Walk, Shows}
 use Rattle.lookup_run.specs.inner.RoundSteps.{SettlesPaths, Stops}
-use Rattle.lookup_run.proofs.Driven.{driven_append}
+use Rattle.lookup_core.proofs.Received.{driven_append}
 use Rattle.lookup_run.proofs.Early.{early_now}
 use Rattle.lookup_core.proofs.Opens.{opens_kept, each_asked}
-use Rattle.lookup_run.proofs.Quiet.{IsMute, IsQuiet, each_quiet, each_mute, no_seeds, none_driven, asked_same, open_same, unsettled_same, settles_from, below_more}
-use Rattle.lookup_run.proofs.Walking.{walk_longer, seeds_same, told_in_any, table_then, calls_more}
+use Rattle.lookup_core.proofs.Settling.{asked_same, open_same}
+use Rattle.lookup_run.proofs.Quiet.{IsMute, IsQuiet, each_quiet, each_mute, no_seeds, none_driven, others_same, settles_from, below_more}
+use Rattle.lookup_run.proofs.Walking.{walk_longer, seeds_same, told_in_any, table_then, calls_more, IsRun-append}
 use Rattle.lookup_run.specs.SendFaults.{unsent}
 use Rattle.lookup_run.proofs.Refusing.{unsent_settled}
 use Rattle.lookup_core.specs.Sealed.{Accepts}
@@ -80,10 +81,6 @@ settling_told p old new h = record {
   calls_are = told_run p h.run h.tells.roles ∙ ap (map (λ call. record { role = p + 1; call = call })) h.tells.calls ∙ told_entries p h.more h.settles;
   kept = h.tells.kept;
 }
-
-IsRun-append : (t : TableState) (xs ys : List (Made TableCall TableReply)) → IsRun TableMay TableStep table_after t xs → IsRun TableMay TableStep table_after (left_by table_after t xs) ys → IsRun TableMay TableStep table_after t (xs ++ ys)
-IsRun-append t [] ys r q = q
-IsRun-append t (x ∷ xs) ys r q = (r.0, r.1, IsRun-append (table_after t x.role x.call x.reply) xs ys r.2 q)
 
 pub ran_then : (t u v : TableState) → TableRan t u → TableRan u v → TableRan t v
 ran_then t u v h k = record {
@@ -165,8 +162,8 @@ settles_more scheduling look b b' old new more told k over m settled =
     let J = old.lookup.book.journal in
     let J' = new.lookup.book.journal in
     let mute = m.continues.mute in
-    let same_asked : asked J' ≡ asked J = ap asked m.journal ∙ asked_same J more mute in
-    let same_open : open_any J' ≡ open_any J = ap open_any m.journal ∙ open_same J more mute in
+    let same_asked : asked J' ≡ asked J = ap asked m.journal ∙ asked_same J more (none_driven more mute) in
+    let same_open : open_any J' ≡ open_any J = ap open_any m.journal ∙ open_same J more (none_driven more mute) in
     record {
       keeps = record {
         setting = m.setting ∙ k.setting;
@@ -195,7 +192,7 @@ settles_more scheduling look b b' old new more told k over m settled =
 
 settled_more : (p : ℕ) (J more J' : List Entry) → J' ≡ J ++ more → AllByRecursion (IsQuiet p) more → AllSettled p J → unsettled p J' ≡ [] → AllSettled (p + 1) J'
 settled_more p J more J' journal quiet below here q lt = elim (cases_lt q p) [
-  | inl less ↦ ap (unsettled q) journal ∙ unsettled_same p q J more (λ e. absurd (omega (arith, less, e))) quiet ∙ below q less
+  | inl less ↦ ap (unsettled q) journal ∙ others_same p q J more (λ e. absurd (omega (arith, less, e))) quiet ∙ below q less
   | inr more_than ↦ (let is : q ≡ p = omega (arith, lt, more_than) in ap (λ n. unsettled n J') is ∙ here)
 ]
 

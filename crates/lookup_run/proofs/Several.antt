@@ -9,14 +9,6 @@ use Rattle.claim_book.specs.Calls.{PullStep}
 use Rattle.claim_book.specs.Journal.{unsettled, first_unsettled}
 use Rattle.lookup_run.specs.Rounds.{AllSettled, HasSeveral}
 
--- who pulls a thing has something
-pub pulled_some : (J : List Entry) (p q : ℕ) (reply : BookReply) → q ≡ p → reply ≢ Idle → PullStep J q reply → unsettled p J ≢ []
-unfolding first_unsettled
-pulled_some J p q (Alive c) same other step none = (let first : slice_get (unsettled q J) 0 ≡ slice_get [] 0 = ap (λ n. slice_get (unsettled n J) 0) same ∙ ap (λ l. slice_get l 0) none in absurd cc)
-pulled_some J p q (Report_reply r) same other step none = (let first : slice_get (unsettled q J) 0 ≡ slice_get [] 0 = ap (λ n. slice_get (unsettled n J) 0) same ∙ ap (λ l. slice_get l 0) none in absurd cc)
-pulled_some J p q Idle same other step none = other refl
-pulled_some J p q else_ same other step none = absurd step
-
 -- one of the first n paths has something, and no other
 pub record HasOne (n : ℕ) (J : List Entry) : Type 0 where
   pub one : ℕ

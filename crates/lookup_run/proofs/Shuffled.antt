@@ -26,6 +26,7 @@ use Rattle.lookup_run.specs.Rounds.{concurrent, path_number}
 use Rattle.lookup_run.specs.Lookup.{Told, told_in, told_of, told_by, TableRan}
 use Rattle.lookup_run.specs.inner.DriverInvariant.{Keeps}
 use Rattle.lookup_run.specs.inner.RoundSteps.{SettlesPaths}
+use Rattle.lookup_core.proofs.Settling.{elsewhere}
 use Rattle.lookup_run.proofs.Quiet.{IsMute, quiet_entry, settles_mixed}
 use Rattle.lookup_run.proofs.Settled.{settles_more}
 
@@ -139,7 +140,7 @@ unfolding settled
 settled_none n p [] le h = refl
 settled_none n p (e ∷ es) le h =
     let one = All-head (IsSettling n) e es h in
-    let off = (quiet_entry one.0 e one.2).elsewhere p (λ k. (let lt = one.1 in absurd (omega (arith, k, lt, le)))) in
+    let off = elsewhere one.0 p e one.2 (λ k. (let lt = one.1 in absurd (omega (arith, k, lt, le)))) in
     left_one (settles_on p) e es off ∙ settled_none n p es le (All-tail (IsSettling n) e es h)
 
 -- ---- the calls of all workers

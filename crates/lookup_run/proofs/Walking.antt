@@ -2,7 +2,8 @@
 use Rattle.std.proofs.Common.{◌≡◌, ◌≢◌, ◌==◌, ℕ, zero, suc, ◌≤◌, List, [], ◌∷◌, ◌++◌, Option, refl, sym, ap, subst, ◌∙◌, arith}
 use Rattle.std.specs.Prelude.{map}
 use Rattle.std.specs.List.{AllByRecursion, flat_map}
-use Rattle.std.proofs.lemmas.List.{append-nil, append_assoc}
+use Rattle.std.proofs.lemmas.List.{append-nil, append_assoc, map-append}
+use Rattle.lookup_core.proofs.Received.{seeds_append}
 use Rattle.std.proofs.lemmas.List.Concat.{flat_map-append}
 use Rattle.std.proofs.lemmas.List.Elements.{All-append, filter-append}
 use Rattle.kad_base.specs.declared.types.Event.{Event}
@@ -26,7 +27,7 @@ use Rattle.lookup_run.specs.declared.types.Gathered.{Gathered}
 use Rattle.lookup_run.specs.declared.types.LookupState.{LookupState}
 use Rattle.lookup_run.specs.Tells.{Given, Seen, HasAsked, HaveAsked, Receives, Gives, begun}
 use Rattle.lookup_run.specs.Rounds.{Scheduling, sequential, concurrent, path_number, SettlesIn, InTurn}
-use Rattle.lookup_core.specs.declared.on_reply.Answered.{Answered}
+use Rattle.lookup_core.specs.Reply.{Answered}
 use Rattle.lookup_run.specs.Gathered.{Hears, values_of, token_of, item_of}
 use Rattle.lookup_run.specs.Lookup.{given_of, drawn_for, told_of, table_calls, told_in, told_by, Told, AreCalls, TableTold, TableToldBy}
 use Rattle.lookup_run.specs.inner.DriverInvariant.{Step, Walk, KeepsSeen, Keeping, Shows, TraceInvariant, Preserves}
@@ -111,10 +112,6 @@ pub record OneEvent (g : Given) (old new : LookupState) (more : List Entry) (pla
   pub hears : Hears g.quest g.accepts s e found
   pub keeps : KeepsFor g.quest.kind found old.gathered new.gathered
 
-pub seeds_append : (J K : List Entry) → seeds (J ++ K) ≡ seeds J ++ seeds K
-unfolding seeds
-seeds_append J K = flat_map-append seed_of J K
-
 pub seeds_same : (J more J' : List Entry) → J' ≡ J ++ more → seeds more ≡ [] → seeds J' ≡ seeds J
 seeds_same J more J' is none = ap seeds is ∙ seeds_append J more ∙ ap (λ l. seeds J ++ l) none ∙ append-nil (seeds J)
 
@@ -183,14 +180,6 @@ shows_next scheduling g old new more place place' b b' a a' e es fs journal no_s
 
 -- ---- the table
 
-IsRun-append : (t : TableState) (xs ys : List (Made TableCall TableReply)) → IsRun TableMay TableStep table_after t xs → IsRun TableMay TableStep table_after (left_by table_after t xs) ys → IsRun TableMay TableStep table_after t (xs ++ ys)
-IsRun-append t [] ys r q = q
-IsRun-append t (x ∷ xs) ys r q = (r.0, r.1, IsRun-append (table_after t x.role x.call x.reply) xs ys r.2 q)
-
-map-append : {A B : Type 0} (f : A → B) (xs ys : List A) → map f (xs ++ ys) ≡ map f xs ++ map f ys
-map-append f [] ys = refl
-map-append f (x ∷ xs) ys = ap (λ l. f x ∷ l) (map-append f xs ys)
-
 -- one run after another
 told_append : (role : ℕ) (xs ys : List Told) → told_by role (xs ++ ys) ≡ told_by role xs ++ told_by role ys
 told_append role xs ys = filter-append (λ t. t.role == role) xs ys
@@ -206,6 +195,10 @@ are_exactly concurrent calls made is = λ role. ap (told_by role) is
 -- what was told in an order was told in whatever scheduling
 pub told_in_any : (scheduling : Scheduling) (calls : List Told) (t u : TableState) → TableTold calls t u → TableToldBy scheduling calls t u
 told_in_any scheduling calls t u h = record { run = h.run; is_run = h.is_run; leaves = h.leaves; calls_are = are_exactly scheduling calls (map told_in h.run) h.calls_are; kept = h.kept }
+
+pub IsRun-append : (t : TableState) (xs ys : List (Made TableCall TableReply)) → IsRun TableMay TableStep table_after t xs → IsRun TableMay TableStep table_after (left_by table_after t xs) ys → IsRun TableMay TableStep table_after t (xs ++ ys)
+IsRun-append t [] ys r q = q
+IsRun-append t (x ∷ xs) ys r q = (r.0, r.1, IsRun-append (table_after t x.role x.call x.reply) xs ys r.2 q)
 
 pub table_then : (scheduling : Scheduling) (xs ys : List Told) (t u v : TableState) → TableToldBy scheduling xs t u → TableToldBy scheduling ys u v → TableToldBy scheduling (xs ++ ys) t v
 table_then scheduling xs ys t u v h k = record {

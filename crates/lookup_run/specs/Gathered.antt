@@ -13,14 +13,14 @@ use Rattle.kad_base.specs.Contacts.{address_bytes}
 use Rattle.claim_book.specs.declared.types.Entry.{Entry}
 use Rattle.lookup_run.specs.declared.types.Token.{Token}
 use Rattle.lookup_run.specs.declared.types.Item.{Item}
-use Rattle.lookup_core.specs.declared.reply.Reply.TheVariants as reply
+use Rattle.lookup_core.specs.Reply as reply
 use Rattle.lookup_core.specs.Matching.{OpenQuery, Replies}
 use Rattle.lookup_core.specs.Quest.{part_of}
 use Rattle.lookup_core.specs.declared.quest.AskKind.{AskKind}
 use Rattle.lookup_core.specs.declared.quest.AskKind.TheVariants.{FindNode, GetPeers, GetItem}
 use Rattle.lookup_run.specs.Tells.{Given, Seen, Gives, begun, driven}
 use Rattle.lookup_core.specs.declared.quest.Quest.{Quest}
-use Rattle.lookup_core.specs.declared.on_reply.Answered.{Answered}
+use Rattle.lookup_core.specs.Reply.{Answered}
 use Rattle.lookup_core.specs.Sealed.{Accepts}
 
 -- the datagram is the answer of a contact that was asked, in its own name

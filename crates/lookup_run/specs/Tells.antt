@@ -1,13 +1,12 @@
 -- What the transcript of a link tells of the journal of a lookup: which entries its events give, and when. Answers and
 -- error messages are matched to queries by transaction id and source address (BEP 5); who may be asked, and when a path
 -- waits, is Kademlia's (2002, section 2.3) on each of S/Kademlia's disjoint paths (2007, section 4.4).
-use Rattle.std.specs.Prelude.{◌≡◌, ◌≢◌, ◌⊎◌, ℕ, zero, suc, ◌+◌, ◌<◌, ◌≤◌, List, [], ◌∷◌, ◌++◌, map, filter, None, Bool, true, false, nat_lt, Contains, if◌then◌else◌}
+use Rattle.std.specs.Prelude.{◌≡◌, ◌≢◌, ◌⊎◌, ℕ, zero, suc, ◌+◌, ◌<◌, ◌≤◌, List, [], ◌∷◌, ◌++◌, length, map, None, false}
 use Rattle.std.specs.List.{AllByRecursion}
 use Rattle.kad_base.specs.declared.types.Addr.{Addr}
 use Rattle.kad_base.specs.declared.types.Contact.{Contact}
 use Rattle.kad_base.specs.declared.types.Event.{Event}
 use Rattle.kad_base.specs.declared.types.Event.TheVariants.{Now, Sent, Unsent, Got, Quiet}
-use Rattle.kad_base.specs.Limits.{max_round_receives}
 use Rattle.kad_base.specs.Words.{word}
 use Rattle.claim_book.specs.declared.types.Setting.{Setting}
 use Rattle.claim_book.specs.declared.types.Cause.TheVariants.{SendFault}
@@ -18,6 +17,9 @@ use Rattle.claim_book.specs.Legal.{is_of}
 use Rattle.lookup_core.specs.declared.quest.Quest.{Quest}
 use Rattle.lookup_core.specs.Matching.{OpenQuery, IsQuery, Matched, IsStray}
 use Rattle.lookup_core.specs.Sealed.{Accepts}
+pub use Rattle.lookup_core.specs.Driven.{is_driven}
+unfoldable pub use Rattle.lookup_core.specs.Driven.{driven}
+pub use Rattle.lookup_core.specs.Receiving.{IsEarliest, WaitsUntil, goes_on}
 use Rattle.lookup_core.specs.Timeouts.{deadline_of, closed_at, open_at}
 
 -- what a lookup is given: its setting, what it asks and believes, which tags it accepts, and the generator's seed and next
@@ -45,17 +47,6 @@ pub record Seen : Type 0 where
   pub given : List Entry
   pub since : List Entry
 
--- the driver's entries of a journal: what was asked, heard and lost
-abbrev pub is_driven : Entry → Bool
-is_driven (Ask p c) = true
-is_driven (Heard p c reports) = true
-is_driven (Lost p c cause) = true
-is_driven other = false
-
--- these alone, in order
-unfoldable pub driven : List Entry → List Entry
-driven J = filter is_driven J
-
 -- events that give these entries, at no receive
 abbrev pub gives : Seen → List Entry → Seen
 gives s entries = record s { given = s.given ++ entries; since = s.since ++ entries }
@@ -76,15 +67,9 @@ pub record UnsentGives (g : Given) (s : Seen) (to : Addr) (bytes : List ℕ) (t 
   pub is_query : IsQuery g.quest s.queries (word g.seed (g.place + s.sends)) to bytes contact tx
   pub after : t ≡ record (gives s (Ask path contact ∷ Lost path contact SendFault ∷ [])) { sends = s.sends + 1 }
 
--- the earliest deadline of the open queries
-pub record IsEarliest (queries : List OpenQuery) (moment : ℕ) : Type 0 where
-  pub one : Contains (map (λ q. q.deadline) queries) moment
-  pub least : AllByRecursion (λ (q : OpenQuery). moment ≤ q.deadline) queries
-
--- how long a receive waits: to the earliest deadline where it begins a round, and else not at all
-abbrev pub WaitsUntil : ℕ → Seen → ℕ → Type 0
-WaitsUntil zero s until = IsEarliest s.queries until
-WaitsUntil (suc n) s until = until ≡ s.moment
+-- how long a receive waits for the open queries
+abbrev pub Waits : ℕ → Seen → ℕ → Type 0
+Waits n s until = WaitsUntil n s.moment (map (λ q. q.deadline) s.queries) until
 
 -- Before a receive that begins a round the path may ask nothing: so it was at some point of the journal that has all
 -- that earlier receives gave and all that was asked and lost on the path, and nothing that comes later.
@@ -107,7 +92,7 @@ HaveAsked (suc n) g J s = Unit {0}
 -- a receive may be made, and waits as long as it has to
 pub record Receives (g : Given) (J : List Entry) (s : Seen) (until : ℕ) : Type 0 where
   pub some_open : s.queries ≢ []
-  pub waits : WaitsUntil s.receives s until
+  pub waits : Waits s.receives s until
   pub asked : HaveAsked s.receives g J s
 
 -- the state after a receive that first gave these entries and left these queries
@@ -122,10 +107,9 @@ received s at entries left strays receives = record {
   since = [];
 }
 
--- the round goes on after a datagram while a query is open and it has had fewer receives than a round may have
+-- the receives of the round after a datagram that left these queries
 abbrev pub receives_seen : ℕ → List OpenQuery → ℕ
-receives_seen n [] = 0
-receives_seen n (q ∷ queries) = if nat_lt (n + 1) max_round_receives then n + 1 else 0
+receives_seen n queries = goes_on n (length queries)
 
 -- what the events show after a datagram that replied to an open query
 abbrev pub after_match : Seen → ℕ → Entry → List OpenQuery → Seen

@@ -1,88 +1,108 @@
 //! What the answers give beside contacts: peers, tokens and items.
-ghost use Rattle.std.specs.Prelude.{◌≡◌, ◌∷◌, ◌++◌, [], true, OnOk, Contains, Any};
+ghost use Rattle.std.specs.Prelude.{◌≡◌, ◌∷◌, ◌++◌, [], true, option_copied, option_map, OnOk, Contains, Any};
 ghost use Rattle.std.specs.List.{flat_map};
 ghost use Rattle.std.specs.Ordering.{is_eq};
 ghost use Rattle.std.specs.List.Sorted.{IsStrictlySortedBy};
+ghost use Rattle.kad_bencode.specs.Spelling.{text_of};
+ghost use Rattle.kad_krpc.specs.Fields.{peers_in};
 ghost use Rattle.lookup_core.specs.Quest.{part_of};
+ghost use Rattle.lookup_core.specs.Reply.{answered_seen};
 ghost use Rattle.lookup_run.specs.Gathered.{tokens_in, items_in, values_of, item_of, IsEachOnce};
 ghost use Rattle.lookup_run.specs.inner.RoundSteps.{KeepsAlso, KeepsFor};
 
 use crate::types::{Gathered, Item, Token};
-use kad_base::{Addrs, Bytes, Contact, List, NoMemory};
+use kad_base::{Addrs, Contact, List, NoMemory};
+use kad_bencode::{Items, Piece};
+use kad_krpc::push_peers;
 use lookup_core::{Answered, AskKind};
 use std::alloc::Global;
 
 /// Keeps the peers that the answer names.
-fn keep_values(peers: &mut Addrs, values: &Option<Addrs>) -> Result<(), NoMemory>
-    ensures { OnOk result (peers.new ≡ peers.old ++ part_of values.now) }
+fn keep_values(peers: &mut Addrs, values: Option<Items>) -> Result<(), NoMemory>
+    ensures { OnOk result (peers.new ≡ peers.old ++ part_of (peers_in values.entry)) }
 {
     match values {
-        Some(values) => peers.extend(values.as_slice()),
+        Some(values) => push_peers(peers, values),
         None => Ok(()),
     }
 }
 
 /// Keeps the token that the answer gives.
 fn keep_token(
+    alloc: Global,
     gathered: &mut Gathered,
     contact: Contact,
-    token: Option<Bytes>,
+    token: Option<&[u8]>,
 ) -> Result<(), NoMemory>
     ensures peers { gathered.new.peers ≡ gathered.old.peers }
     ensures items { gathered.new.items ≡ gathered.old.items }
     ensures tokens { OnOk result (gathered.new.tokens
-        ≡ gathered.old.tokens ++ tokens_in contact token) }
+        ≡ gathered.old.tokens ++ tokens_in contact (option_copied token.entry)) }
 {
     match token {
-        Some(token) => gathered.tokens.push(Token { contact, token }),
+        Some(text) => {
+            let token = List::from_slice(alloc, text)?;
+            gathered.tokens.push(Token { contact, token })
+        }
         None => Ok(()),
     }
 }
 
-/// Keeps the item that the answer gives.
-fn keep_item(gathered: &mut Gathered, contact: Contact, v: Option<Bytes>) -> Result<(), NoMemory>
+/// Keeps the item that the answer gives, in its written form.
+fn keep_item(
+    alloc: Global,
+    gathered: &mut Gathered,
+    contact: Contact,
+    value: Option<Piece>,
+) -> Result<(), NoMemory>
     ensures peers { gathered.new.peers ≡ gathered.old.peers }
     ensures tokens { gathered.new.tokens ≡ gathered.old.tokens }
-    ensures items { OnOk result (gathered.new.items ≡ gathered.old.items ++ items_in contact v) }
+    ensures items { OnOk result (gathered.new.items
+        ≡ gathered.old.items ++ items_in contact (option_map text_of value.entry)) }
 {
-    match v {
-        Some(v) => gathered.items.push(Item { contact, v }),
+    match value {
+        Some(value) => {
+            let v = value.written(alloc)?;
+            gathered.items.push(Item { contact, v })
+        }
         None => Ok(()),
     }
 }
 
 /// Keeps the peers and the token that the answer gives.
-fn gather_peers(gathered: &mut Gathered, answered: Answered) -> Result<(), NoMemory>
-    ensures { OnOk result (KeepsAlso (answered ∷ []) (flat_map values_of (answered ∷ [])) []
-        gathered.old gathered.new) }
+fn gather_peers(alloc: Global, gathered: &mut Gathered, answered: Answered) -> Result<(), NoMemory>
+    ensures { OnOk result (KeepsAlso (answered_seen answered.entry ∷ [])
+        (flat_map values_of (answered_seen answered.entry ∷ [])) [] gathered.old gathered.new) }
 {
     let Answered { contact, answer } = answered;
-    keep_values(&mut gathered.peers, &answer.values)?;
-    keep_token(gathered, contact, answer.token)
+    keep_values(&mut gathered.peers, answer.values)?;
+    keep_token(alloc, gathered, contact, answer.token)
 }
 
 /// Keeps the item and the token that the answer gives.
-fn gather_items(gathered: &mut Gathered, answered: Answered) -> Result<(), NoMemory>
-    ensures { OnOk result (KeepsAlso (answered ∷ []) [] (flat_map item_of (answered ∷ []))
-        gathered.old gathered.new) }
+fn gather_items(alloc: Global, gathered: &mut Gathered, answered: Answered) -> Result<(), NoMemory>
+    ensures { OnOk result (KeepsAlso (answered_seen answered.entry ∷ []) []
+        (flat_map item_of (answered_seen answered.entry ∷ [])) gathered.old gathered.new) }
 {
     let Answered { contact, answer } = answered;
-    keep_item(gathered, contact, answer.v)?;
-    keep_token(gathered, contact, answer.token)
+    keep_item(alloc, gathered, contact, answer.v)?;
+    keep_token(alloc, gathered, contact, answer.token)
 }
 
-/// Keeps of an answer that was heard what the lookup asks for beside contacts.
+/// Copies of an answer that was heard what the lookup asks for beside contacts, and nothing else.
 pub(crate) fn keep(
+    alloc: Global,
     gathered: &mut Gathered,
     kind: AskKind,
     answered: Answered,
 ) -> Result<(), NoMemory>
-    ensures { OnOk result (KeepsFor kind (answered ∷ []) gathered.old gathered.new) }
+    ensures { OnOk result (KeepsFor kind (answered_seen answered.entry ∷ []) gathered.old
+        gathered.new) }
 {
     match kind {
         AskKind::FindNode => Ok(()),
-        AskKind::GetPeers => gather_peers(gathered, answered),
-        AskKind::GetItem => gather_items(gathered, answered),
+        AskKind::GetPeers => gather_peers(alloc, gathered, answered),
+        AskKind::GetItem => gather_items(alloc, gathered, answered),
     }
 }
 

@@ -1,49 +1,30 @@
 //! One receive call, and what it gave.
 ghost use Rattle.std.specs.Prelude.{◌≡◌, ◌≢◌, ◌≤◌, ◌<◌, ◌+◌, [], length, IfErr, OnOk, OnErr, IsErrOf};
-ghost use Rattle.kad_base.specs.Limits.{max_datagram, max_round_receives, max_strays};
+ghost use Rattle.kad_base.specs.Limits.{max_datagram, max_strays};
 ghost use Rattle.kad_base.specs.Outside.{Rose};
 ghost use Rattle.id_puzzles.specs.Drawn.{WordsState};
 ghost use Rattle.lookup_core.specs.LookupSteps.{Holds};
 ghost use Rattle.lookup_run.specs.Lookup.{IsWithinLimits};
 ghost use Rattle.lookup_run.specs.inner.DriverInvariant.{Keeps};
-ghost use Rattle.lookup_run.specs.inner.RoundSteps.{WaitsFor, receives_kept, TakesStray, TakesDatagram, IsLastStray, MayReceive, ReceivesOne, ReceivesAll, Stops, EndsByStray, FewStrays};
+ghost use Rattle.lookup_run.specs.inner.RoundSteps.{WaitsFor, TakesStray, TakesDatagram, IsLastStray, MayReceive, ReceivesOne, ReceivesAll, Stops, EndsByStray, FewStrays};
 
 use crate::gather::keep;
 use crate::on_reply::expire;
 use crate::types::{LookFault, LookSetting, LookupState, Progress};
-use kad_base::limits::{MAX_ROUND_RECEIVES, MAX_STRAYS};
 use kad_base::{Addr, Came, Link};
-use lookup_core::Taken;
-use query_book::Queries;
+use lookup_core::{Lookup, Taken, round_after, stray_more, wait_until};
 use seal_tags::SealCheck;
 use std::alloc::Global;
 
-/// How long the next receive waits: to the earliest deadline where it begins a round, and else not at all.
-fn wait_until(progress: &Progress, queries: &Queries) -> u64
-    requires { queries.now ≢ [] }
-    ensures { WaitsFor progress.now.receives progress.now.moment queries.now result }
+/// How long the next receive waits.
+fn wait_for(progress: &Progress, lookup: &Lookup) -> u64
+    requires { lookup.now.queries ≢ [] }
+    ensures { WaitsFor progress.now.receives progress.now.moment lookup.now.queries result }
 {
-    if progress.receives != 0 {
-        return progress.moment;
-    }
-    match queries.next_deadline() {
-        Some(deadline) => deadline,
+    match lookup.earliest() {
+        Some(deadline) => wait_until(progress.receives, progress.moment, deadline),
         None => unreachable!(),
     }
-}
-
-/// The receives of the round after a datagram: none where it ends, as it does with no query open and at the 32nd.
-fn round_after(receives: u32, queries: &Queries) -> u32
-    requires { receives < max_round_receives }
-    ensures { result ≡ receives_kept receives queries.now }
-{
-    if queries.is_empty() {
-        return 0;
-    }
-    if receives + 1 < MAX_ROUND_RECEIVES {
-        return receives + 1;
-    }
-    0
 }
 
 /// Takes a stray: only the last that a lookup takes is a fault.
@@ -53,12 +34,13 @@ fn take_stray(progress: &mut Progress) -> Result<(), LookFault>
     ensures err { IfErr result (λ fault. (fault ≡ LookFault.Strays)
         × (progress.old.strays + 1 ≡ max_strays)) }
 {
-    let strays = progress.strays + 1;
-    if strays == MAX_STRAYS {
-        return Err(LookFault::Strays);
+    match stray_more(progress.strays) {
+        Some(strays) => {
+            progress.strays = strays;
+            Ok(())
+        }
+        None => Err(LookFault::Strays),
     }
-    progress.strays = strays;
-    Ok(())
 }
 
 /// Hands the datagram to the lookup, and keeps what it heard; what replies to no open query is a stray.
@@ -83,7 +65,7 @@ fn take_datagram<G: SealCheck>(
     match taken {
         Taken::Stray => take_stray(&mut work.progress),
         Taken::Heard(answered) => {
-            keep(&mut work.gathered, look.kind, answered)?;
+            keep(alloc, &mut work.gathered, look.kind, answered)?;
             Ok(())
         }
         Taken::Lost => Ok(()),
@@ -122,13 +104,13 @@ pub(crate) fn receive<L: Link, G: SealCheck>(
     ensures kept { L.kept link.new ≡ L.kept link.old }
 {
     work.lookup.book.legal();
-    let until = wait_until(&work.progress, &work.lookup.queries);
+    let until = wait_for(&work.progress, &work.lookup);
     match link.recv(buf, until) {
         Ok(Came::Packet { from, len, at }) => {
             take_datagram(alloc, work, look, seal, from, &buf[..len])?;
             expire(work, at);
             work.progress.moment = at;
-            work.progress.receives = round_after(work.progress.receives, &work.lookup.queries);
+            work.progress.receives = round_after(work.progress.receives, work.lookup.earliest());
             Ok(())
         }
         Ok(Came::Quiet { at }) => {

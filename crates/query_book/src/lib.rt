@@ -4,7 +4,7 @@
 
 mod search;
 
-ghost use Rattle.std.specs.Prelude.{◌≡◌, ◌<◌, ◌≤◌, ◌↔◌, [], ◌∷◌, ◌++◌, length, All, Any, IfOk, OnErr, IsErr, IsTrue, IfSome, IfNone, IsNone, slice_get};
+ghost use Rattle.std.specs.Prelude.{◌≡◌, ◌<◌, ◌≤◌, ◌↔◌, [], ◌∷◌, ◌++◌, length, All, Any, IfOk, OnErr, IsErr, IsTrue, IfSome, IfNone, IsNone, Some, slice_get, remove};
 ghost use Rattle.std.specs.Option.{option_map};
 ghost use Rattle.kad_base.specs.Limits.{max_open};
 
@@ -63,7 +63,7 @@ impl Model for Queries {
 }
 
 impl Queries {
-    ghost use Rattle.query_book.specs.Queries.{IsQueries, IsFirstFree, IsOf, Closes, ClosesOldest};
+    ghost use Rattle.query_book.specs.Queries.{IsQueries, IsFirstFree, IsOf, IsOfAt, Closes, ClosesOldest};
 
     /// No query is open.
     pub fn new() -> Queries
@@ -107,6 +107,38 @@ impl Queries {
             deadline,
         });
         Ok(tx)
+    }
+
+    /// Whether a query was sent to that address.
+    pub fn is_asked(&self, from: Addr) -> bool
+        ensures { IsTrue result ↔ Any (λ q. q.contact.addr ≡ from) self.now }
+    {
+        search::is_asked(self.queries.as_slice(), &from)
+    }
+
+    /// The place of the query with that transaction id that was sent to that address.
+    pub fn position(&self, tx: u32, from: Addr) -> Option<usize>
+        ensures some { IfSome result (IsOfAt tx from self.now) }
+        ensures none { IsNone result ↔ All (λ q. ¬ IsOf tx from q) self.now }
+    {
+        search::position(self.queries.as_slice(), tx, &from)
+    }
+
+    /// The query at that place.
+    pub fn at(&self, place: usize) -> Query
+        requires { place < length self.now }
+        ensures { slice_get self.now place ≡ Some result }
+    {
+        self.queries.as_slice()[place]
+    }
+
+    /// Closes the query at that place.
+    pub fn remove(&mut self, place: usize) -> Query
+        requires { place < length self.old }
+        ensures query { slice_get self.old place ≡ Some result }
+        ensures others { self.new ≡ remove self.old place }
+    {
+        self.queries.remove(place)
     }
 
     /// Whom the query with that transaction id was sent to, if that is who answers.

@@ -1,5 +1,5 @@
 //! Searches among the open queries.
-ghost use Rattle.std.specs.Prelude.{◌≡◌, ◌<◌, ◌≤◌, ◌^◌, ◌↔◌, length, All, IfSome, IsNone, IsTrue};
+ghost use Rattle.std.specs.Prelude.{◌≡◌, ◌<◌, ◌≤◌, ◌^◌, ◌↔◌, length, All, Any, IfSome, IsNone, IsTrue};
 ghost use Rattle.query_book.specs.Queries.{HasId, IsFirstFree, IsOf, IsOfAt};
 
 use crate::Query;
@@ -22,6 +22,13 @@ fn is_of(query: &Query, tx: u32, from: &Addr) -> bool
     ensures { IsTrue result ↔ IsOf tx from.now query.now }
 {
     query.tx == tx && query.contact.addr == *from
+}
+
+/// Whether a query was sent to that address.
+pub(crate) fn is_asked(queries: &[Query], from: &Addr) -> bool
+    ensures { IsTrue result ↔ Any (λ q. q.contact.addr ≡ from.now) queries.now }
+{
+    queries.iter().any(|query| query.contact.addr == *from)
 }
 
 fn has_id(queries: &[Query], tx: u32) -> bool

@@ -5,8 +5,6 @@ use Rattle.kad_base.specs.declared.types.Contact.{Contact}
 use Rattle.kad_base.specs.declared.types.Event.{Event}
 use Rattle.kad_base.specs.declared.types.Event.TheVariants.{Now, Sent, Unsent, Got, Quiet}
 use Rattle.kad_base.specs.Words.{word}
-use Rattle.kad_krpc.specs.declared.message.Message.{Message}
-use Rattle.kad_krpc.proofs.ReadBack.{one_said}
 use Rattle.query_book.specs.declared.Query.{Query}
 use Rattle.bucket_tree.specs.declared.types.Seen.{Seen}
 use Rattle.bucket_tree.specs.declared.types.Gone.{Gone}
@@ -17,7 +15,9 @@ use Rattle.contact_table.specs.TableState.{TableState, SoundTable}
 use Rattle.contact_table.specs.TableStep.{table_after}
 use Rattle.contact_table.proofs.Outcome.{one-reply}
 use Rattle.contact_table.proofs.StaysSound.{step-sound}
+use Rattle.lookup_core.specs.Reply.{Reply}
 use Rattle.lookup_core.specs.Timeouts.{deadline_of}
+use Rattle.lookup_core.proofs.Replying.{one_reply}
 use Rattle.table_refresh.specs.Refreshed.{Given, Standing, is_kept, over, IsSeen, HasFailed, Succeeds, Fails, SentGives, UnsentGives, NoReply, ReplyGives, GotGives, Gives, TellsFrom, begun, Tells, Refreshed}
 
 -- ---- the step of a try
@@ -75,7 +75,7 @@ one_none s q at t u sound (inl h) (inr k) = absurd (let a = h.0 in let b = k.0 i
 one_none s q at t u sound (inr h) (inl k) = absurd (let a = h.0 in let b = k.0 in omega (arith, a, b))
 one_none s q at t u sound (inr h) (inr k) = one_failure s q.contact t u sound h.1 k.1
 
-one_answer : (s : Standing) (q : Query) (said : Message) (t u : Standing) → SoundTable s.table → ReplyGives s q said t → ReplyGives s q said u → t ≡ u
+one_answer : (s : Standing) (q : Query) (said : Reply) (t u : Standing) → SoundTable s.table → ReplyGives s q said t → ReplyGives s q said u → t ≡ u
 one_answer s q said t u sound (inl h) (inl k) = one_success s q.contact t u sound h.1 k.1
 one_answer s q said t u sound (inl h) (inr k) = absurd (k.0 h.0)
 one_answer s q said t u sound (inr h) (inl k) = absurd (h.0 k.0)
@@ -83,7 +83,7 @@ one_answer s q said t u sound (inr h) (inr k) = one_failure s q.contact t u soun
 
 one_got : (g : Given) (s : Standing) (q : Query) (from : Addr) (bytes : List ℕ) (at : ℕ) (t u : Standing) → SoundTable s.table → GotGives g s q from bytes at t → GotGives g s q from bytes at u → t ≡ u
 one_got g s q from bytes at t u sound (inl h) (inl k) =
-    let same = one_said bytes h.said k.said h.matched.says k.matched.says in
+    let same = (one_reply g.sealed g.accepts bytes from q q h.said k.said h.matched k.matched).1 in
     one_answer (record s { moment = at }) q h.said t u sound h.gives (subst (λ m. ReplyGives (record s { moment = at }) q m u) (sym same) k.gives)
 one_got g s q from bytes at t u sound (inl h) (inr k) = absurd (k.stray h.said h.matched)
 one_got g s q from bytes at t u sound (inr h) (inl k) = absurd (h.stray k.said k.matched)
@@ -104,7 +104,7 @@ none_sound : (s : Standing) (q : Query) (at : ℕ) (t : Standing) → SoundTable
 none_sound s q at t sound (inl h) = subst (λ (x : Standing). SoundTable x.table) (sym h.1) sound
 none_sound s q at t sound (inr h) = failed_sound s q.contact t sound h.1
 
-answer_sound : (s : Standing) (q : Query) (said : Message) (t : Standing) → SoundTable s.table → ReplyGives s q said t → SoundTable t.table
+answer_sound : (s : Standing) (q : Query) (said : Reply) (t : Standing) → SoundTable s.table → ReplyGives s q said t → SoundTable t.table
 answer_sound s q said t sound (inl h) = seen_sound s q.contact t sound h.1
 answer_sound s q said t sound (inr h) = failed_sound s q.contact t sound h.1
 

@@ -5,4 +5,3 @@ pub mod Receiving
 pub mod Trying
 pub mod Wholly
 pub mod Determined
-pub mod Matching

@@ -1,19 +1,18 @@
 -- Eviction pings of a whole routing table (Kademlia, 2002, section 2.2: a bucket's least recently seen contact is pinged,
 -- and who doesn't answer makes room): what the transcript of a link tells of the pings, and the table that results. That a
 -- head is pinged twice before it goes, and all buckets in one call, is this project's own.
-use Rattle.std.specs.Prelude.{◌≡◌, ◌⊎◌, ℕ, ◌+◌, ◌<◌, ◌≤◌, List, [], ◌∷◌, ◌++◌, length, take, drop, flat_map, Option, Some, None, Bool, true, false, not, ◌&&◌}
+use Rattle.std.specs.Prelude.{◌≡◌, ◌⊎◌, ℕ, ◌+◌, ◌<◌, ◌≤◌, List, [], ◌∷◌, ◌++◌, take, drop, flat_map, Option, Some, None, Bool, true, false, not, ◌&&◌}
 use Rattle.kad_base.specs.declared.types.Id.{Id}
 use Rattle.kad_base.specs.declared.types.Addr.{Addr}
 use Rattle.kad_base.specs.declared.types.Contact.{Contact}
 use Rattle.kad_base.specs.declared.types.Event.{Event}
 use Rattle.kad_base.specs.declared.types.Event.TheVariants.{Now, Sent, Unsent, Got, Quiet}
-use Rattle.kad_base.specs.Limits.{max_datagram, max_strays}
+use Rattle.kad_base.specs.Limits.{max_strays}
 use Rattle.kad_base.specs.Words.{word, word_bytes}
 use Rattle.kad_krpc.specs.declared.message.Message.{Message}
 use Rattle.kad_krpc.specs.declared.message.Message.TheVariants as message
 use Rattle.kad_krpc.specs.declared.message.Ask.TheVariants.{Ping}
 use Rattle.kad_krpc.specs.Form.{form}
-use Rattle.kad_krpc.specs.Reading.{Says}
 use Rattle.query_book.specs.declared.Query.{Query}
 use Rattle.bucket_tree.specs.declared.types.Seen.{Seen}
 use Rattle.bucket_tree.specs.declared.types.Gone.{Gone}
@@ -23,7 +22,10 @@ use Rattle.contact_table.specs.declared.calls.TableCall.TheVariants.{Seen as See
 use Rattle.contact_table.specs.declared.calls.TableReply.TheVariants.{Seen as Seen_reply, Gone as Gone_reply}
 use Rattle.contact_table.specs.TableState.{TableState}
 use Rattle.contact_table.specs.TableStep.{TableStep, table_after}
-use Rattle.lookup_core.specs.Sealed.{Accepts, IsSealed}
+use Rattle.lookup_core.specs.Matching.{IsReplyTo}
+use Rattle.lookup_core.specs.Reply.{Reply}
+use Rattle.lookup_core.specs.Reply as reply
+use Rattle.lookup_core.specs.Sealed.{Accepts}
 use Rattle.lookup_core.specs.Timeouts.{deadline_of}
 use Rattle.table_refresh.specs.declared.types.RefreshFault.{RefreshFault}
 use Rattle.table_refresh.specs.declared.types.RefreshFault.TheVariants.{LinkFault, Strays, NoMemory}
@@ -56,36 +58,18 @@ ping own tx = message.Query (word_bytes tx) true (Ping own)
 
 -- ---- what replies to a ping
 
--- an answer or an error message replies to the query whose transaction id it repeats (BEP 5)
-abbrev pub IsReply : List ℕ → Message → Type 0
-IsReply id (message.Query tx read_only ask) = ⊥
-IsReply id (message.Answer tx answer) = tx ≡ id
-IsReply id (message.Fault tx code text) = tx ≡ id
-
--- who says a reply: an answer names its own identifier, and an error message is that of the contact that was asked
-abbrev pub speaker : Contact → Message → Id
-speaker c (message.Query tx read_only ask) = c.id
-speaker c (message.Answer tx answer) = answer.id
-speaker c (message.Fault tx code text) = c.id
-
 -- the contact answers: an answer with its identifier
-abbrev pub Answers : Contact → Message → Type 0
-Answers c (message.Query tx read_only ask) = ⊥
-Answers c (message.Answer tx answer) = answer.id ≡ c.id
-Answers c (message.Fault tx code text) = ⊥
+abbrev pub Answers : Contact → Reply → Type 0
+Answers c (reply.Answer answer) = answer.id ≡ c.id
+Answers c (reply.Error code) = ⊥
 
--- The datagram is matched with the open ping: it is short enough to be read (this project's own limit), says a reply to it,
--- and comes from its address (BEP 5); where tags are asked for it carries one of who says it (this project's own).
-pub record IsMatched (sealed : Bool) (accepts : Accepts) (q : Query) (from : Addr) (bytes : List ℕ) (said : Message) : Type 0 where
-  pub short : length bytes ≤ max_datagram
-  pub says : Says bytes said
-  pub reply : IsReply (word_bytes q.tx) said
-  pub source : from ≡ q.contact.addr
-  pub has_seal : IsSealed sealed accepts bytes (speaker q.contact said)
+-- the datagram is matched with the open ping as a lookup matches one with an open query
+abbrev pub IsMatched : Bool → Accepts → Query → Addr → List ℕ → Reply → Type 0
+IsMatched sealed accepts q from bytes r = IsReplyTo sealed accepts bytes from q r
 
 -- any other is a stray
 abbrev pub IsStray : Bool → Accepts → Query → Addr → List ℕ → Type 0
-IsStray sealed accepts q from bytes = (said : Message) → ¬ IsMatched sealed accepts q from bytes said
+IsStray sealed accepts q from bytes = (r : Reply) → ¬ IsMatched sealed accepts q from bytes r
 
 -- ---- what the events show, and the table so far
 
@@ -170,12 +154,12 @@ abbrev pub NoReply : Standing → Query → ℕ → Standing → Type 0
 NoReply s q at t = ((at < q.deadline) × (t ≡ s)) ⊎ ((q.deadline ≤ at) × Fails s q.contact t)
 
 -- a reply ends the try
-abbrev pub ReplyGives : Standing → Query → Message → Standing → Type 0
+abbrev pub ReplyGives : Standing → Query → Reply → Standing → Type 0
 ReplyGives s q said t = (Answers q.contact said × Succeeds s q.contact t) ⊎ ((¬ Answers q.contact said) × Fails s q.contact t)
 
 -- a datagram that is matched
 pub record MatchGives (g : Given) (s : Standing) (q : Query) (from : Addr) (bytes : List ℕ) (at : ℕ) (t : Standing) : Type 0 where
-  pub said : Message
+  pub said : Reply
   pub matched : IsMatched g.sealed g.accepts q from bytes said
   pub gives : ReplyGives (record s { moment = at }) q said t
 

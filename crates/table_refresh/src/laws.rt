@@ -1,14 +1,8 @@
 //! What holds of every refresh. Each law is the clause of a function that does nothing.
-ghost use Rattle.std.specs.Prelude.{◌≡◌, ◌↔◌, ℕ, List};
-ghost use Rattle.kad_base.specs.declared.types.Addr.{Addr};
+ghost use Rattle.std.specs.Prelude.{◌≡◌, ℕ, List};
 ghost use Rattle.kad_base.specs.declared.types.Event.{Event};
-ghost use Rattle.kad_krpc.specs.declared.message.Message.{Message};
 ghost use Rattle.contact_table.specs.TableState.{TableState, SoundTable};
-ghost use Rattle.lookup_core.specs.declared.quest.Quest.{Quest};
-ghost use Rattle.lookup_core.specs.declared.reply.Reply.{Reply};
-ghost use Rattle.lookup_core.specs.Matching.{OpenQuery, Replies, query_of};
-ghost use Rattle.lookup_core.specs.Sealed.{Accepts};
-ghost use Rattle.table_refresh.specs.Refreshed.{Given, IsMatched, Standing, Tells, Refreshed};
+ghost use Rattle.table_refresh.specs.Refreshed.{Given, Standing, Tells, Refreshed};
 
 /// The events of a refresh determine what they show, and so the table that it leaves, which is sound.
 pub fn one_refresh()
@@ -20,12 +14,4 @@ pub fn one_refresh()
     ensures table { (g : Given) (table : TableState) (place : ℕ) (t u : TableState) (m n : ℕ)
         (events : List Event) → SoundTable table → Refreshed g table place t m events
         → Refreshed g table place u n events → t ≡ u }
-{}
-
-/// A datagram is matched with a ping exactly where a lookup that asks for tags as the refresh does would take it for a reply
-/// to the same query.
-pub fn matched_as_by_a_lookup()
-    ensures { (quest : Quest) (accepts : Accepts) (q : OpenQuery) (from : Addr) (bytes : List ℕ)
-        → ((said : Message) × IsMatched quest.sealed accepts (query_of q) from bytes said)
-        ↔ ((r : Reply) × Replies quest accepts bytes from q r) }
 {}

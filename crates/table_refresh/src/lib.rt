@@ -13,6 +13,6 @@ mod refreshing;
 mod tell;
 mod types;
 
-pub use laws::{matched_as_by_a_lookup, one_refresh};
+pub use laws::one_refresh;
 pub use refreshing::refresh;
 pub use types::RefreshFault;

@@ -9,8 +9,8 @@ ghost use Rattle.table_refresh.specs.inner.Steps.{FailsAt, TakesNone, TakesStray
 use crate::pong::{Pong, pong_of};
 use crate::tell::{tell_failed, tell_seen};
 use crate::types::{Progress, RefreshFault, Setting, Tried};
-use kad_base::limits::MAX_STRAYS;
 use kad_base::{Addr, Came, Link};
+use lookup_core::stray_more;
 use query_book::Query;
 use seal_tags::SealCheck;
 use std::alloc::Global;
@@ -43,12 +43,13 @@ fn take_stray(work: &mut Progress, query: &Query, at: u64) -> Result<Tried, Refr
         × (work.old.strays + 1 ≡ max_strays)) }
     ensures table { OnErr result (work.new.table ≡ work.old.table) }
 {
-    let strays = work.strays + 1;
-    if strays == MAX_STRAYS {
-        return Err(RefreshFault::Strays);
+    match stray_more(work.strays) {
+        Some(strays) => {
+            work.strays = strays;
+            Ok(take_none(work, query, at))
+        }
+        None => Err(RefreshFault::Strays),
     }
-    work.strays = strays;
-    Ok(take_none(work, query, at))
 }
 
 /// Takes a datagram: what replies to the ping ends the try, and what doesn't is a stray.

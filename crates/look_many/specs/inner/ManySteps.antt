@@ -1,5 +1,5 @@
 -- What each step of the driver owes.
-use Rattle.std.specs.Prelude.{◌≡◌, ◌≢◌, ◌⊎◌, ℕ, zero, suc, ◌+◌, ◌-◌, ◌*◌, ◌^◌, ◌<◌, ◌≤◌, List, [], ◌∷◌, ◌++◌, length, map, filter, take, min, Option, Some, None, Bool, true, false}
+use Rattle.std.specs.Prelude.{◌≡◌, ◌≢◌, ◌⊎◌, ℕ, zero, suc, ◌+◌, ◌-◌, ◌*◌, ◌^◌, ◌<◌, ◌≤◌, List, [], ◌∷◌, ◌++◌, length, map, filter, take, min, slice_get, Any, Option, Some, None, Bool, true, false}
 use Rattle.std.specs.List.{All, AllByRecursion, AllZip, flat_map}
 use Rattle.kad_base.specs.declared.types.Addr.{Addr}
 use Rattle.kad_base.specs.declared.types.Contact.{Contact}
@@ -27,8 +27,10 @@ use Rattle.claim_book.specs.State.{added}
 use Rattle.lookup_core.specs.declared.ask.Asked.{Asked}
 use Rattle.lookup_core.specs.declared.state.Lookup.{Lookup}
 use Rattle.lookup_core.specs.Quest.{query_message}
-use Rattle.lookup_core.specs.declared.on_reply.Answered.{Answered}
-use Rattle.lookup_core.specs.LookupSteps.{AsksNext, LosesOverdue, IsMatch, RepliesToNone}
+use Rattle.lookup_core.specs.Reply.{Reply, Said, Answered}
+use Rattle.lookup_core.specs.declared.on_reply.Taken.{Taken}
+use Rattle.lookup_core.specs.LookupSteps.{AsksNext, LosesOverdue, IsPlaceOf, HearsAt, IsMatch, RepliesToNone}
+pub use Rattle.lookup_core.specs.Receiving.{IsSoonest}
 use Rattle.lookup_core.specs.Sealed.{Accepts}
 use Rattle.lookup_core.specs.Timeouts.{deadline_of, is_overdue}
 use Rattle.node_serve.specs.declared.setting.ServeSetting.{ServeSetting}
@@ -42,7 +44,7 @@ use Rattle.look_many.specs.declared.seeker.Line.{Line}
 use Rattle.look_many.specs.declared.seeker.ManyFault.{ManyFault}
 use Rattle.look_many.specs.declared.seeker.ManyFault.TheVariants.{LinkFault}
 use Rattle.look_many.specs.ManyLooked.{noted, max_lookups}
-use Rattle.look_many.specs.Many.{Frame, Owed, Reading, Owes, IsEarliest, WaitsUntil, IsForeign, goes_on, open_of}
+use Rattle.look_many.specs.Many.{Frame, Owed, Reading, Owes, WaitsUntil, IsForeign, goes_on, open_of}
 use Rattle.look_many.specs.Mine.{driven}
 use Rattle.look_many.specs.inner.Crowd.{whose, opens, Holding, IsLegal, NoneAsks, NothingLeft, Longer, DrivenOn, OnlyHeard, SameSeat, asks_of, queries_of, ManyShow, Ran, Stand, IsFrame, Advances}
 
@@ -60,10 +62,23 @@ pub record IsMatchFor (accepts : Accepts) (from : Addr) (bytes : List ℕ) (old 
 abbrev pub IsNotFor : Accepts → Addr → List ℕ → Seeker → Type 0
 IsNotFor accepts from bytes k = RepliesToNone k.quest accepts from bytes k.lookup
 
--- whether it was for the lookup
-abbrev pub TakesOne : Accepts → Addr → List ℕ → Seeker → Seeker → Bool → Type 0
-TakesOne accepts from bytes old new true = IsMatchFor accepts from bytes old new
-TakesOne accepts from bytes old new false = IsNotFor accepts from bytes old × (new ≡ old)
+-- none of its queries was sent to that address
+abbrev pub IsUnasked : Addr → Seeker → Type 0
+IsUnasked from k = ¬ Any (λ q. q.contact.addr ≡ from) k.lookup.queries
+
+-- the first that has an open query which the reply is to, and that query's place
+pub record FirstWaits (accepts : Accepts) (from : Addr) (bytes : List ℕ) (said : Said) (ks : List Seeker) (found : ℕ × ℕ) : Type 0 where
+  pub one : Seeker
+  pub here : slice_get ks found.0 ≡ Some one
+  pub none_before : AllByRecursion (λ k. IsNotFor accepts from bytes k) (take found.0 ks)
+  pub waits : IsPlaceOf one.quest accepts from bytes said one.lookup found.1
+
+-- it hears the reply at that place
+pub record Hears (place : ℕ) (r : Reply) (old new : Seeker) : Type 0 where
+  pub out : Taken
+  pub hears : HearsAt old.quest place r old.lookup new.lookup out
+  pub quest : new.quest ≡ old.quest
+  pub holds : Holding new
 
 -- the first that it replies to takes it, and all others are as they were
 pub record TakesFirst (accepts : Accepts) (from : Addr) (bytes : List ℕ) (old new : List Seeker) : Type 0 where
@@ -105,11 +120,6 @@ abbrev pub sooner_of : Option ℕ → Option ℕ → Option ℕ
 sooner_of None b = b
 sooner_of (Some a) None = Some a
 sooner_of (Some a) (Some b) = Some (min a b)
-
--- the earliest deadline of the queries, where there is one
-abbrev pub IsSoonest : Option ℕ → List Query → Type 0
-IsSoonest None qs = qs ≡ []
-IsSoonest (Some d) qs = IsEarliest (map (λ q. q.deadline) qs) d
 
 -- the lookup asks and waits for nothing more
 pub record IsRunOut (k : Seeker) : Type 0 where

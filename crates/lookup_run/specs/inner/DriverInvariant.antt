@@ -17,7 +17,7 @@ use Rattle.lookup_run.specs.declared.types.LookupState.{LookupState}
 use Rattle.lookup_core.specs.Timeouts.{deadline_of}
 use Rattle.lookup_run.specs.Tells.{Given, Seen, driven, Gives, begun}
 use Rattle.lookup_run.specs.Rounds.{Scheduling, path_number, SettlesIn, InTurn}
-use Rattle.lookup_core.specs.declared.on_reply.Answered.{Answered}
+use Rattle.lookup_core.specs.Reply.{Answered}
 use Rattle.lookup_run.specs.Gathered.{Hears, values_of, token_of, item_of}
 use Rattle.lookup_run.specs.Lookup.{setting_of, given_of, seeds_in, drawn_for, table_calls, TableToldBy}
 use Rattle.lookup_core.specs.LookupSteps.{as_open}

@@ -25,9 +25,10 @@ use Rattle.lookup_run.specs.declared.types.Outcome.{Outcome}
 use Rattle.lookup_run.specs.declared.types.Progress.{Progress}
 use Rattle.lookup_run.specs.declared.types.LookupState.{LookupState}
 use Rattle.lookup_core.specs.Timeouts.{closed_at}
+use Rattle.lookup_core.specs.Receiving.{WaitsUntil}
 use Rattle.lookup_run.specs.Tells.{NeverEnds}
 use Rattle.lookup_run.specs.Rounds.{Scheduling, AllSettled, NoneAsks, WaitsInTurn}
-use Rattle.lookup_core.specs.declared.on_reply.Answered.{Answered}
+use Rattle.lookup_core.specs.Reply.{Answered}
 use Rattle.lookup_run.specs.Gathered.{values_of, token_of, item_of, IsEachOnce}
 use Rattle.lookup_run.specs.SendFaults.{unsent, RefusedIn}
 use Rattle.lookup_run.specs.Lookup.{IsWithinLimits, setting_of, given_of, seeds_in, told_of, Unfinished, EndsByStrays, MeetsFewStrays, TableRan, TableTold, Told, quest_of}
@@ -122,20 +123,9 @@ RoundFewStrays scheduling look accepts words old told told' =
 
 -- ---- receiving
 
--- how long a receive waits: to the earliest deadline where it begins a round, and else not at all
-pub record IsDue (queries : List Query) (moment : ℕ) : Type 0 where
-  pub one : Contains (map (λ q. q.deadline) queries) moment
-  pub least : AllByRecursion (λ (q : Query). moment ≤ q.deadline) queries
-
 -- until when a receive waits, by how many the round has had
 abbrev pub WaitsFor : ℕ → ℕ → List Query → ℕ → Type 0
-WaitsFor zero moment queries until = IsDue queries until
-WaitsFor (suc n) moment queries until = until ≡ moment
-
--- the receives of the round after a datagram: none where it is over
-abbrev pub receives_kept : ℕ → List Query → ℕ
-receives_kept n [] = 0
-receives_kept n (q ∷ queries) = if nat_lt (n + 1) max_round_receives then n + 1 else 0
+WaitsFor n moment queries until = WaitsUntil n moment (map (λ q. q.deadline) queries) until
 
 -- one stray more
 pub record TakesStray (old new : Progress) : Type 0 where

@@ -1,12 +1,9 @@
 -- What each call of a refresh owes.
-use Rattle.std.specs.Prelude.{◌≡◌, ◌⊎◌, ◌↔◌, ℕ, ◌+◌, ◌<◌, ◌≤◌, List, ◌∷◌, Option, Some, None, Bool, false, not, ◌&&◌, ◌++◌, IsTrue, MatchOption}
+use Rattle.std.specs.Prelude.{◌≡◌, ◌⊎◌, ℕ, ◌+◌, ◌<◌, ◌≤◌, List, ◌∷◌, Option, Some, None, Bool, false, not, ◌&&◌, ◌++◌}
 use Rattle.kad_base.specs.declared.types.Addr.{Addr}
 use Rattle.kad_base.specs.declared.types.Contact.{Contact}
 use Rattle.kad_base.specs.declared.types.Event.{Event}
 use Rattle.kad_base.specs.Limits.{max_strays}
-use Rattle.kad_base.specs.Words.{word_bytes}
-use Rattle.kad_krpc.specs.declared.message.Message.{Message}
-use Rattle.kad_krpc.specs.Reading.{Says}
 use Rattle.query_book.specs.declared.Query.{Query}
 use Rattle.bucket_tree.specs.declared.types.Gone.{Gone}
 use Rattle.contact_table.specs.TableState.{TableState}
@@ -18,45 +15,20 @@ use Rattle.table_refresh.specs.declared.types.Setting.{Setting}
 use Rattle.table_refresh.specs.declared.types.Progress.{Progress}
 use Rattle.table_refresh.specs.declared.types.Tried.{Tried}
 use Rattle.table_refresh.specs.declared.types.Tried.TheVariants.{Waits, Over}
-use Rattle.table_refresh.specs.declared.pong.Reply.{Reply}
+use Rattle.lookup_core.specs.Reply.{Reply}
 use Rattle.table_refresh.specs.declared.pong.Pong.{Pong}
 use Rattle.table_refresh.specs.declared.pong.Pong.TheVariants.{Stray, Answer, Refusal}
-use Rattle.table_refresh.specs.Refreshed.{Given, IsReply, speaker, Answers, IsMatched, IsStray, Standing, is_kept, left_after, IsSeen, HasFailed, TellsFrom, EndsBy}
+use Rattle.table_refresh.specs.Refreshed.{Given, Answers, IsMatched, IsStray, Standing, is_kept, left_after, IsSeen, HasFailed, TellsFrom, EndsBy}
 
 -- what the events of a refresh are read by
 abbrev pub given_of : Setting → Accepts → List ℕ → Given
 given_of setting accepts seed = record { own = setting.own; timeout = setting.timeout; sealed = setting.sealed; accepts = accepts; seed = seed }
 
--- ---- reading a reply
-
--- the message says nothing to the ping
-abbrev pub SaysNoReply : Query → Message → Type 0
-SaysNoReply q m = ¬ IsReply (word_bytes q.tx) m
-
--- it says this reply
-pub record SaysReply (q : Query) (m : Message) (r : Reply) : Type 0 where
-  pub reply : IsReply (word_bytes q.tx) m
-  pub speaker_is : r.speaker ≡ speaker q.contact m
-  pub answers : IsTrue r.answers ↔ Answers q.contact m
-
--- the datagram says this message, and no other
-pub record SaysOnly (bytes : List ℕ) (m : Message) : Type 0 where
-  pub says : Says bytes m
-  pub only : (other : Message) → Says bytes other → other ≡ m
-
--- a reply that the datagram says
-pub record IsRead (q : Query) (bytes : List ℕ) (r : Reply) : Type 0 where
-  pub message : Message
-  pub says : SaysOnly bytes message
-  pub reply : SaysReply q message r
-
--- the reply that the datagram says; else whatever it says is none
-abbrev pub IsReadAs : Query → List ℕ → Option Reply → Type 0
-IsReadAs q bytes o = MatchOption o ((m : Message) → Says bytes m → SaysNoReply q m) (IsRead q bytes)
+-- ---- a reply
 
 -- a reply that is matched
-pub record Replies (sealed : Bool) (accepts : Accepts) (q : Query) (from : Addr) (bytes : List ℕ) (P : Message → Type 0) : Type 0 where
-  pub said : Message
+pub record Replies (sealed : Bool) (accepts : Accepts) (q : Query) (from : Addr) (bytes : List ℕ) (P : Reply → Type 0) : Type 0 where
+  pub said : Reply
   pub matched : IsMatched sealed accepts q from bytes said
   pub what : P said
 

@@ -1,6 +1,6 @@
 use Rattle.std.proofs.Common.{◌+◌, arith}
 use Rattle.claim_book.specs.Calls.{path_of_role}
-use Rattle.look_many.proofs.Unsettled.{pulled_some}
+use Rattle.lookup_core.proofs.Settling.{pulled_some}
 use Rattle.look_many.proofs.settle.path_has_some.Goals as goal
 use Rattle.look_many.proofs.settle.path_has_some.Goals.{in-Idle, in_default}
 

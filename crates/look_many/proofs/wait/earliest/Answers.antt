@@ -2,12 +2,11 @@ use Rattle.std.proofs.Common.{◌+◌, take, sym, subst}
 use Rattle.std.specs.Prelude.{Option, ℕ}
 use Rattle.look_many.specs.inner.Crowd.{queries_of}
 use Rattle.look_many.specs.inner.ManySteps.{IsSoonest}
-use Rattle.look_many.proofs.Waiting.{soonest_of, soonest_next}
+use Rattle.look_many.proofs.Waiting.{soonest_next}
 use Rattle.look_many.proofs.wait.earliest.Goals as goal
 
 pub loop-seeker-preserved : goal.loop-seeker-preserved
 loop-seeker-preserved c =
     let k = c.seeker-item.result in
-    let here : IsSoonest c.next_deadline.result k.lookup.queries = soonest_of c.next_deadline.result k.lookup.queries c.next_deadline.ensures.oldest c.next_deadline.ensures.earliest c.next_deadline.ensures.none in
     subst (λ (o : Option ℕ). IsSoonest o (queries_of (take (c.loop-seeker.seeker-index + 1) c.args.seekers.now))) (sym c.sooner-first.ensures)
-    (soonest_next c.loop-seeker.first c.next_deadline.result c.loop-seeker.seeker-index c.args.seekers.now k c.loop-seeker-test.true c.seeker-item.is c.loop-seeker.invariant here)
+    (soonest_next c.loop-seeker.first c.earliest.result c.loop-seeker.seeker-index c.args.seekers.now k c.loop-seeker-test.true c.seeker-item.is c.loop-seeker.invariant c.earliest.ensures)

@@ -3,5 +3,5 @@ use Rattle.std.specs.Prelude.{map}
 use Rattle.lookup_core.specs.Quest.{bare}
 use Rattle.lookup_core.proofs.quest.bare_reports.Given as goal
 
-abbrev pub invariant-loop-contact : goal.invariant-loop-contact
-invariant-loop-contact l = l.reports ≡ map bare (take l.contact-index l.contacts)
+abbrev pub invariant-loop-i : goal.invariant-loop-i
+invariant-loop-i g l = l.reports ≡ map bare (take l.i l.contacts)

@@ -2,7 +2,7 @@ use Rattle.std.proofs.Common.{rules, arith, ◌≡◌, ◌<◌, subst, sym, w64,
 use Rattle.std.specs.Prelude.{ℤ}
 use Rattle.kad_base.specs.Words.{word_bytes}
 use Rattle.kad_krpc.specs.declared.message.Message.TheVariants as message
-use Rattle.lookup_core.specs.declared.reply.Reply.TheVariants as reply
+use Rattle.lookup_core.specs.Reply as reply
 use Rattle.lookup_core.specs.Says.{SaysAll}
 use Rattle.lookup_core.proofs.Replying.{says_fault}
 use Rattle.lookup_core.proofs.reply.error_to.Goals as goal

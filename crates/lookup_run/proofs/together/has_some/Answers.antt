@@ -1,6 +1,6 @@
 use Rattle.std.proofs.Common.{◌+◌, arith}
 use Rattle.claim_book.specs.Calls.{path_of_role}
-use Rattle.lookup_run.proofs.Several.{pulled_some}
+use Rattle.lookup_core.proofs.Settling.{pulled_some}
 use Rattle.lookup_run.proofs.together.has_some.Goals as goal
 use Rattle.lookup_run.proofs.together.has_some.Goals.{in-Idle, in_default}
 

@@ -1,6 +1,6 @@
 use Rattle.std.proofs.Common.{ap, ◌∙◌, sym, ◌++◌, ◌∷◌, []}
 use Rattle.kad_records.proofs.Places.{one_longer}
-use Rattle.kad_records.proofs.records.Records.to_list.Goals as goal
+use Rattle.kad_records.proofs.records.Records.first.Goals as goal
 
 pub loop-i-preserved : goal.loop-i-preserved
 loop-i-preserved g c =

@@ -1,0 +1,7 @@
+use Rattle.std.proofs.Common.{take}
+use Rattle.std.specs.List.{AllByRecursion}
+use Rattle.look_many.specs.inner.ManySteps.{IsNotFor}
+use Rattle.look_many.proofs.take.first_that_waits.Given as goal
+
+abbrev pub invariant-loop-i : goal.invariant-loop-i
+invariant-loop-i g l = AllByRecursion (λ k. IsNotFor (g.G.SealCheck.accepted l.seal) l.from l.bytes k) (take l.i l.seekers)
