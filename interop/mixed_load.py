@@ -5,12 +5,17 @@ It needs Python 3 on Linux and nothing else."""
 
 import collections
 import hashlib
+import os
 import random
 import select
 import socket
+import sys
 import time
 
-from loopback import address_of, bdecode, bencode, compact, contact_line, nodes_of, query
+sys.path.insert(0, os.path.join(os.path.dirname(os.path.dirname(os.path.realpath(__file__))), "tests"))
+
+import dear  # noqa: E402
+from loopback import address_of, bdecode, bencode, compact, contact_line, nodes_of, query  # noqa: E402
 
 ASKERS = 8  # sockets, at addresses of their own
 WATCHED, WATCHED_PEERS = 200, 12  # keys whose peers are held against what get_peers gives, and peers of each
@@ -232,12 +237,22 @@ class Load:
         elif way == 6:
             datagram = query(self.random.randbytes(draw(33, 3000)), kind, arguments)
         elif way == 7:
-            keys = [b"4:%04d0:" % number for number in range(450, 0, -1)]
-            datagram = b"d" + b"".join(keys) + b"e"
+            datagram = self.in_no_order()
         else:
             datagram = b"d1:ai%de1:q99999999999999999999:ping1:t2:aa1:y1:qe" % draw(1 << 70)
         self.damaged += 1
         self.noise.socket.sendto(datagram, self.node.address)
+
+    def in_no_order(self):
+        """A query, an answer to nobody or a value that is put, with keys in no order in one of its places."""
+        order, size = self.random.choice(list(dear.ORDERS.values()))
+        keys = order(dear.names(self.random.randrange(1, 3_600 // len(dear.pairs(dear.names(1, size)))), size))
+        fill, name = dear.pairs(keys), self.noise.next()
+        if self.random.random() < 0.2:
+            return dear.putting(fill, self.noise.token or self.random.randbytes(8))
+        if self.random.random() < 0.5:
+            return dear.asking(self.random.choice(dear.QUERY_PLACES), fill, self.random.randbytes(4))
+        return dear.saying(self.random.choice(dear.REPLY_PLACES), fill, self.random.randbytes(4), name)
 
     # ---- going on
 
