@@ -104,8 +104,17 @@ class Panel:
             self.out.append('<line class="bar s%d" x1="%.1f" y1="%.1f" x2="%.1f" y2="%.1f"/>' % (kind, x, low, x, high))
             self.out.append(mark(kind, x, y))
 
+    def labels(self, kind, points, words, above):
+        """A label at each point, above it or below."""
+        for (place, mean, _), word in zip(points, words):
+            y = self.down(mean) + (-11 if above and mean < 90 else 20)
+            self.word(kind, self.across(place), y, word, "middle")
+
     def word(self, kind, x, y, text, anchor="start"):
         self.out.append('<text class="label f%d" x="%.1f" y="%.1f" text-anchor="%s">%s</text>' % (kind, x, y, anchor, text))
+
+
+PATHS = ("1", "2", "4", "8")
 
 
 def spread(places, apart):
@@ -138,66 +147,63 @@ def share_of(rows, name, of):
 # ---------------------------------------------------------------------------------------------------------- same price
 
 WAYS = {"disjoint": (4, "disjoint paths"), "wide": (1, "one wide path"), "apart": (2, "lookups apart")}
-SHORT = {"misroute": "Hostile nodes misroute", "scatter": "Hostile nodes misroute, and name different nodes"}
+NAMED = {"misroute": "each names the same 16 hostile nodes", "scatter": "each names 16 of 64 hostile nodes"}
 
 
-def draw_prices(table, path, attack, shares):
-    """Found beside queries, for each way to spend them, at two shares of hostile nodes."""
+def draw_prices(table, path, share):
+    """Found beside queries, for each way to spend them, where hostile nodes misroute."""
     points = by_point(table, ("attack", "share", "way", "paths"))
-    one = points[attack, str(shares[0]), "disjoint", "1"]
+    one = points["misroute", str(share), "disjoint", "1"]
     about = "2,000 nodes, k 8; %d networks of %s lookups; bars are 95 %% intervals over networks. A label is a number of paths"
-    picture = Picture(SHORT[attack] + ": what the same queries find", about % (len(one), one[0]["lookups"]))
-    for share, (left, right) in zip(shares, ((58, 406), (500, 848))):
+    title = "Lookups that found the closest honest node for their queries, %d %% hostile" % share
+    picture = Picture(title, about % (len(one), one[0]["lookups"]))
+    for (attack, heading), (left, right) in zip(NAMED.items(), ((58, 406), (500, 848))):
         lines = {}
         for way in WAYS:
-            found = []
-            for paths in ("1", "2", "4", "8"):
-                rows = points.get((attack, str(share), way, paths)) or points[attack, str(share), "disjoint", "1"]
-                mean, reach = share_of(rows, "closest", "lookups")
-                found.append((share_of(rows, "asked", "lookups")[0] / 100, mean, reach, paths))
-            lines[way] = found
+            lines[way] = []
+            for paths in PATHS:
+                rows = points[attack, str(share), way if paths != "1" else "disjoint", paths]
+                lines[way].append((share_of(rows, "asked", "lookups")[0] / 100, *share_of(rows, "closest", "lookups")))
         step, most = step_of(max(point[0] for found in lines.values() for point in found))
         places = [(place * step, "%d" % (place * step)) for place in range(round(most / step) + 1)]
-        heading = "Lookups that found the closest honest node, %d %% hostile" % share
-        panel = Panel(picture, left, right, heading, "queries of a lookup, on average", places, most)
+        panel = Panel(picture, left, right, heading[0].upper() + heading[1:], "queries of a lookup, on average", places, most)
         for place, (way, found) in enumerate(lines.items()):
             kind, word = WAYS[way]
-            panel.line(kind, [point[:3] for point in found])
-            for at, mean, _, paths in found:
-                if way == "disjoint":
-                    panel.word(kind, panel.across(at), panel.down(mean) - 11, paths, "middle")
-                elif way == "apart" and paths != "1":
-                    panel.word(kind, panel.across(at), panel.down(mean) + 20, paths, "middle")
+            panel.line(kind, found)
+            if way != "wide":
+                panel.labels(kind, found[way == "apart" :], PATHS[way == "apart" :], way == "disjoint")
             panel.word(kind, right - 8, BOTTOM - 48 + 16 * place, word, "end")
     picture.write(path)
 
 
 # -------------------------------------------------------------------------------------------------------------- values
 
-CASES = {"drawn 50": (8, "half are hostile, drawn"), "at key": (1, "32 at the key"), "at key c1 16": (4, "the same, 16 bits")}
+CASES = {
+    "drawn 50": (8, "as many hostile as honest, drawn"),
+    "at key c1 16": (4, "32 at the key, by a puzzle of 16 bits"),
+    "at key": (1, "32 at the key, of free choice"),
+}
 
 
 def draw_values(table, path):
-    """How often a value is got, and how often a new one is kept, by number of paths."""
+    """How often a value is got, and how often a new one is kept, beside the queries."""
     points = by_point(table, ("nodes", "case", "paths"))
-    nodes = sorted({int(key[0]) for key in points})[0]
-    one = points[str(nodes), "at key", "1"]
-    about = "{:,} honest nodes, k 8; {} networks of {} values; bars are 95 % intervals over networks".format(
-        nodes, len(one), one[0]["values"]
-    )
-    picture = Picture("Values where hostile nodes join: %s" % "drawn, or round the key", about)
-    panels = (("got", 58, 336, "Got: it was put before they came"), ("kept", 476, 754, "Kept: it is put after they came"))
-    places = [(place + 0.5, word) for place, word in enumerate(("1", "2", "4", "8"))]
+    nodes = str(min(int(key[0]) for key in points))
+    one = points[nodes, "at key", "1"]
+    about = "{:,} honest nodes, k 8; {} networks of {} values; bars are 95 % intervals over networks. A label is a number of paths"
+    about = about.format(int(nodes), len(one), one[0]["values"])
+    picture = Picture("Values, where hostile nodes join a network", about)
+    panels = (("got", 58, 406, "Got: values put before they came"), ("kept", 500, 848, "Got: values put after they came"))
     for name, left, right, heading in panels:
-        panel = Panel(picture, left, right, heading, "disjoint paths", places, 4)
-        ends = []
+        places = [(value, "%d" % value) for value in range(0, 101, 20)]
+        panel = Panel(picture, left, right, heading, "queries of a get, on average", places, 100)
         for place, (case, (kind, word)) in enumerate(CASES.items()):
             line = []
-            for at, (middle, paths) in enumerate(places):
-                rows = points[str(nodes), case, paths]
-                line.append((middle + 0.04 * (place - 1), *share_of(rows, name, "values")))
+            for paths in PATHS:
+                rows = points[nodes, case, paths]
+                line.append((share_of(rows, "asked", "values")[0] / 100, *share_of(rows, name, "values")))
             panel.line(kind, line)
-            ends.append(((kind, word), panel.down(line[-1][1])))
-        for (kind, word), y in spread(ends, 15).items():
-            panel.word(kind, right - 20, y + 4, word)
+            if case == "at key":
+                panel.labels(kind, line, PATHS, True)
+            panel.word(kind, right - 8, panel.down(50) + 16 * place, word, "end")
     picture.write(path)
