@@ -7,7 +7,7 @@ use Rattle.std.specs.Ordering.{is_eq}
 use Rattle.kad_bencode.specs.Faults.{Open}
 use Rattle.kad_bencode.specs.Keys.{key_cmp, value_of}
 use Rattle.kad_bencode.specs.Naming.{named}
-use Rattle.kad_bencode.specs.Parts.{bytes_in, bytes_of, dict_in, dict_of, member_in, member_of}
+use Rattle.kad_bencode.specs.Parts.{bytes_in, bytes_of, dict_in, dict_of, list_in, list_of, member_in, member_of}
 use Rattle.kad_bencode.specs.Spelling.{depth_of, is_plain, values_of, Fits, Spells, in_order, put_all, text_of}
 use Rattle.kad_bencode.specs.WrittenForm.{IsWrittenForm}
 use Rattle.kad_bencode.specs.declared.entries.Pair.{Pair}
@@ -106,3 +106,14 @@ its_text = by_value IsItsText
     (λ t s e. ap value.Text (some_same (sym (text_is bytes_in t) ∙ e)))
     (λ vs _ s e. absurd (none_some (sym (list_is bytes_in vs) ∙ e)))
     (λ qs _ s e. absurd (none_some (sym (dict_is bytes_in qs) ∙ e)))
+
+-- a value that is a list is the one of these values
+abbrev IsItsList : Value → Type 0
+IsItsList v = (vs : List Value) → list_of v ≡ Some vs → v ≡ value.List vs
+
+pub its_list : (v : Value) → IsItsList v
+its_list = by_value IsItsList
+    (λ n vs e. absurd (none_some (sym (int_is list_in n) ∙ e)))
+    (λ s vs e. absurd (none_some (sym (text_is list_in s) ∙ e)))
+    (λ ws _ vs e. ap value.List (some_same (sym (list_is list_in ws) ∙ e)))
+    (λ qs _ vs e. absurd (none_some (sym (dict_is list_in qs) ∙ e)))

@@ -154,11 +154,6 @@ fits_pairs_push os ps key v f h g = (
   ap each_once (keys_push ps key v) ∙ once_push (keys_of ps) key ∙ (λ i. f.2 i && not (h i)),
 )
 
-pub fits_filled : (os : List Open) (v : Value) → FitsOpen os → Fits (length os) v → FitsState (filled os v)
-fits_filled [] v f g = g
-fits_filled (InList vs ∷ os) v f g = (f.0, all_push (Fits (suc (length os))) vs v f.1 g, f.2)
-fits_filled (InPair ps key ∷ os) v f g = (fits_pairs_push os ps key v f.0 f.1 g, f.2)
-
 pub filled_fits : (os : List Open) (v : Value) → FitsState (filled os v) → FitsOpen os × Fits (length os) v
 filled_fits [] v f = (tt, f)
 filled_fits (InList vs ∷ os) v f = let r : AllByRecursion (Fits (suc (length os))) vs × Fits (suc (length os)) v = all_front (Fits (suc (length os))) vs v f.1 in ((f.0, r.0, f.2), r.1)

@@ -145,10 +145,6 @@ either (Some x) y = Some x
 either None y = y
 
 module _ {V : Type 0} where
-  chosen_twice : (b : Bool) (v : V) (o : Option V) → cond b (Some v) o ≡ cond b (Some v) (cond b (Some v) o)
-  chosen_twice true v o = refl
-  chosen_twice false v o = refl
-
   replaced : (b : Bool) (v w : V) (o : Option V) → cond b (Some v) o ≡ cond b (Some v) (cond b (Some w) o)
   replaced true v w o = refl
   replaced false v w o = refl

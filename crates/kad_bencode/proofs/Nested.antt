@@ -1,5 +1,5 @@
 -- The steps of the reader over values, lists and dictionaries.
-use Rattle.std.proofs.Common.{◌≡◌, ℕ, suc, ◌+◌, ◌-◌, ◌<◌, ◌≤◌, Bool, true, false, cond, ◌||◌, List, [], ◌∷◌, ◌++◌, map, length, take, drop, get_or, Option, Some, None, Result, Ok, Err, is_some, option_copied, Bor, ℤ, nat_eq, refl, sym, ap, ◌∙◌, subst, arith, inl, inr}
+use Rattle.std.proofs.Common.{◌≡◌, ℕ, suc, ◌+◌, ◌-◌, ◌<◌, ◌≤◌, Bool, true, false, cond, ◌||◌, List, [], ◌∷◌, ◌++◌, map, length, take, drop, get_or, Option, Some, None, is_some, option_copied, Bor, ℤ, nat_eq, refl, sym, ap, ◌∙◌, arith, inl, inr}
 use Rattle.std.specs.List.{AllByRecursion}
 use Rattle.std.specs.Ordering.{is_eq, match_ordering}
 use Rattle.std.specs.declared.cmp.Ordering.TheVariants.{Less, Equal, Greater}
@@ -10,23 +10,16 @@ use Rattle.std.proofs.Math.Seq.{drop-cons}
 use Rattle.kad_bencode.specs.Keys.{key_cmp, keys_of, put, value_of}
 use Rattle.kad_bencode.specs.Spelling.{string_text, has_key, in_order, put_all, Fits, Spells}
 use Rattle.kad_bencode.specs.Faults.{Open, InList, InPair, IsAt, IsFirstFault}
-use Rattle.kad_bencode.specs.Machine.{Place, AsValue, AsKey, State, Ready, Keyless, Whole, Sign, NoLength, Length, filled, closed, is_digit, is_nonzero, length_begins, step, Reached, FitsPairs, FitsOpen, Awaits, AwaitsInteger, AwaitsString, ReadsValue, ReadsInteger, ReadsString, HasByte, Outcome}
+use Rattle.kad_bencode.specs.Machine.{Place, AsValue, AsKey, State, Ready, Keyless, Whole, Sign, NoLength, Length, filled, closed, is_digit, is_nonzero, length_begins, step, Reached, FitsPairs, FitsOpen, Awaits, AwaitsInteger, AwaitsString, ReadsValue, ReadsInteger, ReadsString, HasByte}
 use Rattle.kad_bencode.specs.declared.entries.Pair.{Pair}
 use Rattle.kad_bencode.specs.declared.value.Value.{Value}
 use Rattle.kad_bencode.specs.declared.value.Value.TheVariants as value
 use Rattle.kad_bencode.specs.declared.value.Bad.TheVariants.{Deep, KeyTwice, Trailing}
-use Rattle.kad_bencode.specs.declared.value.BenFault.{BenFault}
-use Rattle.kad_bencode.specs.declared.value.BenFault.TheVariants.{Bad, NoMemory}
 use Rattle.kad_bencode.proofs.Folds.{in_order-int, in_order-text, in_order-list, in_order-dict, ordered_pairs, keys_mapped}
 use Rattle.kad_bencode.proofs.Said.{run_front, is_equal}
 use Rattle.kad_bencode.proofs.Limits.{all_push, fits_list, fits_dict, fits_text, fits_int, at_most_16, fits_pairs_push}
 use Rattle.kad_bencode.proofs.First.{reached_more, first}
 use Rattle.kad_bencode.proofs.Reading.{different, stands_between, length_between}
-
-pub widened : {A : Type 0} (bytes : List ℕ) (r : Result A BenFault) (P Q : A → Type 0) → ((x : A) → P x → Q x) → Outcome bytes r P → Outcome bytes r Q
-widened bytes (Ok x) P Q f h = f x h
-widened bytes (Err (Bad bad)) P Q f h = h
-widened bytes (Err NoMemory) P Q f h = h
 
 -- ---- values
 
@@ -120,9 +113,6 @@ pub record ListSoFar (bytes : List ℕ) (at : ℕ) (os : List Open) (values : Li
   pub fits : AllByRecursion (Fits (suc (length os))) trees
   pub names : values ≡ map in_order trees
 
-pub list_begins : (bytes : List ℕ) (at : ℕ) (os : List Open) → Reached bytes at (Ready (InList [] ∷ os)) → ListSoFar bytes at os []
-list_begins bytes at os r = record { trees = []; reached = r; fits = tt; names = refl }
-
 pub list_awaits : (bytes : List ℕ) (at : ℕ) (os : List Open) (values : List Value) → (l : ListSoFar bytes at os values) → suc (length os) ≤ 16 → FitsOpen os → at ≤ length bytes → HasByte bytes at 101 false → Awaits bytes at (InList l.trees ∷ os)
 list_awaits bytes at os values l d f h n = record { reached = l.reached; fits = (d, l.fits, f); within = h; goes = λ k e. absurd (n k e) }
 
@@ -153,9 +143,6 @@ pub record PairsSoFar (bytes : List ℕ) (at : ℕ) (os : List Open) (entries : 
   pub reached : Reached bytes at (Keyless os pairs)
   pub fits : FitsPairs os pairs
   pub names : entries ≡ put_all [] (ordered_pairs pairs)
-
-pub pairs_begin : (bytes : List ℕ) (at : ℕ) (os : List Open) → suc (length os) ≤ 16 → Reached bytes at (Keyless os []) → PairsSoFar bytes at os []
-pairs_begin bytes at os d r = record { pairs = []; reached = r; fits = (d, tt, refl); names = refl }
 
 pub pairs_await : (bytes : List ℕ) (at : ℕ) (os : List Open) (entries : List (Pair Value)) → (l : PairsSoFar bytes at os entries) → FitsOpen os → at ≤ length bytes → HasByte bytes at 101 false → AwaitsString bytes at (AsKey os l.pairs)
 pairs_await bytes at os entries l f h n = record {
@@ -288,14 +275,6 @@ trailing bytes v next r h = record {
 }
 
 -- ---- exits
-
-fault_stays : {A B : Type 0} (bytes : List ℕ) (e : BenFault) (P : A → Type 0) (Q : B → Type 0) → Outcome bytes (Err e) P → Outcome bytes (Err e) Q
-fault_stays bytes (Bad bad) P Q h = h
-fault_stays bytes NoMemory P Q h = h
-
--- a fault that is handed on
-pub passed : {A B : Type 0} (bytes : List ℕ) (r : Result B BenFault) (e y : BenFault) (P : A → Type 0) (Q : B → Type 0) → r ≡ Err y → y ≡ e → Outcome bytes (Err e) P → Outcome bytes r Q
-passed {A} {B} bytes r e y P Q same is h = subst (λ (x : Result B BenFault). Outcome bytes x Q) (sym (same ∙ ap Err is)) (fault_stays bytes e P Q h)
 
 pub some_copied : {V : Type 0} (o : Option (Bor V)) → is_some (option_copied o) ≡ is_some o
 some_copied None = refl

@@ -67,6 +67,7 @@ is_dict_of bytes v s h n e =
         dict = d.0;
         dict_is = ap dict_of d.1 ∙ dict_is dict_in d.0;
         same = λ key. value_ordered o.0 key ∙ sym (value_named o.0 key f.2) ∙ ap (λ l. value_of l key) (sym o.2);
+        filed = o.2;
       };
     }
 

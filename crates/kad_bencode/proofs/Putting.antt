@@ -1,5 +1,5 @@
 -- Texts that are put one behind another.
-use Rattle.std.proofs.Common.{◌≡◌, ℕ, ◌+◌, ◌<◌, ◌≤◌, ◌^◌, min, List, [], ◌∷◌, ◌++◌, length, take, decimal, refl, sym, ap, ◌∙◌, arith, length-append, append_assoc, append-nil}
+use Rattle.std.proofs.Common.{◌≡◌, ℕ, ◌+◌, ◌<◌, ◌≤◌, ◌^◌, min, List, [], ◌∷◌, ◌++◌, length, take, decimal, sym, ap, ◌∙◌, arith, length-append, append_assoc, append-nil}
 use Rattle.std.proofs.lemmas.Grind.{flat_map-append}
 use Rattle.std.proofs.lemmas.List.{map-append}
 use Rattle.kad_bencode.specs.Spelling.{numeral, string_text, pairs_text, text_of}
@@ -35,14 +35,6 @@ puts_same {old} {new} {at} {next} {text} {other} e p = record {
   room = p.room;
 }
 
--- nothing
-pub puts_none : (old : List ℕ) (at : ℕ) → at ≤ last_place → Puts old old at [] at
-puts_none old at h = record {
-  place = omega (arith, h);
-  text_is = λ k. sym (append-nil (take at old));
-  room = refl;
-}
-
 pub length_written : (n : ℕ) (mid : List ℕ) → n < 2 ^ 64 → mid ≡ decimal n → numeral n ++ 58 ∷ [] ≡ mid ++ 58 ∷ []
 length_written n mid f h = ap (λ l. l ++ 58 ∷ []) (sym (decimal_numeral n f) ∙ sym h)
 
@@ -56,10 +48,6 @@ pairs_behind ps qs =
 -- a key and its value
 pub puts_pair : {old mid new : List ℕ} {at n next : ℕ} (key : List ℕ) (v : Value) → Puts old mid at (string_text key) n → Puts mid new n (text_of v) next → PutsPairs old new at (record { key = key; value = v } ∷ []) next
 puts_pair key v f g = puts_then (append-nil (string_text key ++ text_of v)) f g
-
--- pairs behind pairs
-pub puts_pairs : {old mid new : List ℕ} {at n next : ℕ} (ps qs : List (Pair Value)) → PutsPairs old mid at ps n → PutsPairs mid new n qs next → PutsPairs old new at (ps ++ qs) next
-puts_pairs ps qs f g = puts_then (pairs_behind ps qs) f g
 
 pub puts_more : {old mid new : List ℕ} {at n next : ℕ} (ps qs : List (Pair Value)) → PutsOpen old mid at ps n → PutsPairs mid new n qs next → PutsOpen old new at (ps ++ qs) next
 puts_more ps qs f g = puts_then (ap (λ l. 100 ∷ l) (pairs_behind ps qs)) f g

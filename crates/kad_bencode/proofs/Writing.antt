@@ -6,7 +6,6 @@ use Rattle.std.proofs.lemmas.Fmt.{decimal_by_steps}
 use Rattle.std.proofs.lemmas.Int.{to_z-of_z}
 use mir.Val.{SFits, of_z, to_z}
 use Rattle.std.proofs.lemmas.List.{take_more, take_all}
-use Rattle.std.proofs.Math.Seq.{take-append_seam}
 use Rattle.kad_bencode.specs.Spelling.{numeral, integer_text, string_text, pairs_text, text_of, depth_of, greatest}
 use Rattle.kad_bencode.specs.Faults.{pairs_of}
 use Rattle.kad_bencode.specs.Written.{Keeps, Appends}
@@ -77,9 +76,6 @@ pub pairs_text_more : (ps : List (Pair Value)) (i : ℕ) (p : Pair Value) → i 
 pairs_text_more ps i p h e = ap (λ l. pairs_text (pairs_of l)) (take_more ps i p h ∙ ap (λ x. take i ps ++ x ∷ []) (sym e)) ∙ pairs_push (take i ps) p.key p.value
 
 -- ---- the whole
-
-pub front_left : (old new : List ℕ) → Keeps old new → take (length old) new ≡ old
-front_left old new h = ap (take (length old)) h.1 ∙ take-append_seam old h.0
 
 pub list_written : {E : Type 0} (r : Result (Unit {0}) E) (v : Value) (vs xs : List Value) (i : ℕ) (old mid new : List ℕ) → v ≡ value.List vs → xs ≡ vs → length xs ≤ i → mid ≡ old ++ 108 ∷ concat (map text_of (take i xs)) → Appends r mid new (101 ∷ []) → Appends r old new (text_of v)
 list_written r v vs xs i old mid new e x h m a =

@@ -24,6 +24,7 @@ pub(crate) fn string_in(bytes: &[u8]) -> Option<(&[u8], usize)>
 
 /// The first pair: its key, the text of its value, and the pairs behind it.
 pub(crate) fn first_pair(pairs: &[u8]) -> Option<(&[u8], &[u8], &[u8])>
+    ensures within { IfSome result (λ x. length x.1.now ≤ length pairs.now) }
     ensures shorter { IfSome result (λ x. length x.2.now < length pairs.now) }
     ensures reads { (p : Pair Value) (ps : List (Pair Value)) → ArePairs pairs.now (p ∷ ps)
         → MatchOption result ⊥ (λ x. (x.0.now ≡ p.key) × (x.1.now ≡ text_of p.value)

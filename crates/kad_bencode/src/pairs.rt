@@ -1,5 +1,5 @@
 //! The pairs of a dictionary where their texts stand, in the order of the text. No call takes memory.
-ghost use Rattle.std.specs.Prelude.{◌≡◌, List, [], ◌∷◌, MatchOption, None};
+ghost use Rattle.std.specs.Prelude.{◌≡◌, ◌<◌, ◌≤◌, IfSome, length, List, [], ◌∷◌, MatchOption, None};
 ghost use Rattle.kad_bencode.specs.Parts.{dict_of};
 ghost use Rattle.kad_bencode.specs.Spelling.{Spells};
 ghost use Rattle.kad_bencode.specs.Finding.{ArePairs};
@@ -54,8 +54,10 @@ impl<'a> Pairs<'a> {
 }
 
 /// The first pair, and those behind it.
-fn next_pair(bytes: &[u8]) -> Option<(&[u8], &[u8], &[u8])>
-    ensures { (ps : List (Pair Value)) → ArePairs bytes.now ps
+pub(crate) fn next_pair(bytes: &[u8]) -> Option<(&[u8], &[u8], &[u8])>
+    ensures within { IfSome result (λ x. length x.1.now ≤ length bytes.now) }
+    ensures shorter { IfSome result (λ x. length x.2.now < length bytes.now) }
+    ensures first { (ps : List (Pair Value)) → ArePairs bytes.now ps
         → MatchOption result (ps ≡ []) (λ x. IsFirstPair ps x.0.now x.1.now x.2.now) }
 {
     if bytes.len() == 0 {
@@ -68,8 +70,9 @@ fn next_pair(bytes: &[u8]) -> Option<(&[u8], &[u8], &[u8])>
 }
 
 /// The texts of a dictionary's pairs.
-fn pairs_in(bytes: &[u8]) -> Option<&[u8]>
-    ensures { (v : Value) → Spells bytes.now v
+pub(crate) fn pairs_in(bytes: &[u8]) -> Option<&[u8]>
+    ensures shorter { IfSome result (λ x. length x.now < length bytes.now) }
+    ensures pairs { (v : Value) → Spells bytes.now v
         → MatchOption result (None ≡ dict_of v) (λ x. IsDictOf v x.now) }
 {
     if !has_byte(bytes, 0, b'd') {

@@ -1,5 +1,5 @@
 //! A value of bencode where its text stands: it borrows the text, and takes no memory.
-ghost use Rattle.std.specs.Prelude.{◌≡◌, IfErr, IfOk, option_copied, is_some, Ok, Err, None, List, [], ◌∷◌, map, length, MatchOption};
+ghost use Rattle.std.specs.Prelude.{◌≡◌, ◌<◌, ◌≤◌, IfErr, IfOk, IfSome, option_copied, is_some, Ok, Err, None, List, [], ◌∷◌, map, length, MatchOption};
 ghost use Rattle.kad_bencode.specs.Parts.{bytes_of, integer_of, list_of, dict_of, member_of};
 ghost use Rattle.kad_bencode.specs.Spelling.{Spells, in_order, text_of};
 ghost use Rattle.std.specs.List.{concat};
@@ -164,8 +164,10 @@ fn texts_length(bytes: &[u8]) -> usize
 }
 
 /// The text of the first value, and the texts behind it.
-fn first_item(bytes: &[u8]) -> Option<(&[u8], &[u8])>
-    ensures { (ts : List Value) → AreItems bytes.now ts
+pub(crate) fn first_item(bytes: &[u8]) -> Option<(&[u8], &[u8])>
+    ensures within { IfSome result (λ x. length x.0.now ≤ length bytes.now) }
+    ensures shorter { IfSome result (λ x. length x.1.now < length bytes.now) }
+    ensures cuts { (ts : List Value) → AreItems bytes.now ts
         → MatchOption result (ts ≡ []) (λ x. IsCut ts x.0.now x.1.now) }
 {
     if bytes.len() == 0 {
@@ -176,8 +178,9 @@ fn first_item(bytes: &[u8]) -> Option<(&[u8], &[u8])>
 }
 
 /// The texts of a list's values.
-fn items_in(bytes: &[u8]) -> Option<&[u8]>
-    ensures { (v : Value) → Spells bytes.now v
+pub(crate) fn items_in(bytes: &[u8]) -> Option<&[u8]>
+    ensures shorter { IfSome result (λ x. length x.now < length bytes.now) }
+    ensures list { (v : Value) → Spells bytes.now v
         → MatchOption result (None ≡ list_of v) (λ x. IsListOf v x.now) }
 {
     if !has_byte(bytes, 0, b'l') {
@@ -215,7 +218,7 @@ fn opens_dict(bytes: &[u8]) -> bool
 }
 
 /// The bytes of a string.
-fn text_in(bytes: &[u8]) -> Option<&[u8]>
+pub(crate) fn text_in(bytes: &[u8]) -> Option<&[u8]>
     ensures { (v : Value) → Spells bytes.now v → option_copied result ≡ bytes_of v }
 {
     if has_byte(bytes, 0, b'i') {
@@ -234,7 +237,7 @@ fn text_in(bytes: &[u8]) -> Option<&[u8]>
 }
 
 /// The number of an integer.
-fn int_in(bytes: &[u8]) -> Option<i64>
+pub(crate) fn int_in(bytes: &[u8]) -> Option<i64>
     ensures { (v : Value) → Spells bytes.now v → result ≡ integer_of v }
 {
     if !has_byte(bytes, 0, b'i') {

@@ -1,15 +1,19 @@
-//! Reads bencode (BEP 3): one cursor goes over the input, once. Lists and dictionaries that are open nest by a recursion
-//! that stops at the limit.
-ghost use Rattle.std.specs.Prelude.{◌≡◌, ℕ, suc, ◌+◌, ◌<◌, ◌≤◌, List, [], ◌∷◌, length, IfOk, IsErrOf, get_or};
-ghost use Rattle.kad_bencode.specs.Spelling.{Spells, Fits, in_order};
-ghost use Rattle.kad_bencode.specs.Faults.{Open, InList, IsFirstFault, Answers};
+//! Reads bencode (BEP 3) as a tree: a fold over the pieces of a text that was checked and put into its written form.
+ghost use Rattle.std.specs.Prelude.{◌≡◌, List, [], map, IfOk, IsErrOf};
+ghost use Rattle.kad_bencode.specs.Spelling.{Spells, Fits, in_order, put_all};
+ghost use Rattle.kad_bencode.specs.Faults.{IsFirstFault, Answers};
+ghost use Rattle.kad_bencode.specs.Finding.{ArePairs};
+ghost use Rattle.kad_bencode.specs.Machine.{Outcome};
+ghost use Rattle.kad_bencode.specs.Naming.{AreItems, pairs_named};
+ghost use Rattle.kad_bencode.specs.declared.entries.Pair.{Pair};
 ghost use Rattle.kad_bencode.specs.declared.value.Bad.{Bad};
 ghost use Rattle.kad_bencode.specs.declared.value.Value.{Value};
-ghost use Rattle.kad_bencode.specs.Machine.{Awaits, Outcome, ReadsInteger, ReadsString, AwaitsString, Place, AwaitsInteger, ReadsValue, Reached, Ready, Keyless, FitsOpen};
+ghost use Rattle.kad_bencode.specs.declared.value.Value.TheVariants as value;
 
 use crate::form::form;
-use crate::scan::{self, has_byte};
-use crate::value::{Bad, BenFault, Entries, Value, Values};
+use crate::pairs::{next_pair, pairs_in};
+use crate::piece::{first_item, int_in, items_in, text_in};
+use crate::value::{BenFault, Entries, Value, Values};
 use crate::verify::check;
 use kad_base::{Bytes, NoMemory};
 use std::alloc::Global;
@@ -38,149 +42,68 @@ fn whole(alloc: Global, bytes: &[u8]) -> Result<Value, BenFault>
     match check(bytes) {
         Ok(()) => {
             let form = form(alloc, bytes)?;
-            let value = spelled(alloc, form.as_slice())?;
+            let value = value_in(alloc, form.as_slice())?;
             Ok(value)
         }
         Err(bad) => Err(BenFault::Bad(bad)),
     }
 }
 
-/// The value that bytes spell.
-fn spelled(alloc: Global, bytes: &[u8]) -> Result<Value, NoMemory>
-    requires { (v : Value) × Spells bytes.now v }
+/// The value that bytes spell; of other bytes it is any. Keys that ascend are filed in the time that it takes to go over them.
+#[cycle(reading)]
+fn value_in(alloc: Global, bytes: &[u8]) -> Result<Value, NoMemory>
     ensures { (v : Value) → Spells bytes.now v → IfOk result (λ x. x ≡ v) }
 {
-    match parsed(alloc, bytes) {
-        Ok(value) => Ok(value),
-        Err(BenFault::NoMemory) => Err(NoMemory),
-        Err(BenFault::Bad(_)) => unreachable!(),
-    }
-}
-
-/// The value, where it takes all of the bytes.
-fn parsed(alloc: Global, bytes: &[u8]) -> Result<Value, BenFault>
-    ensures { Outcome bytes.now result (Spells bytes.now) }
-{
-    let (value, next) = value_at(alloc, bytes, 0, 0)?;
-    if next < bytes.len() {
-        return Err(BenFault::Bad(Bad::Trailing { at: next }));
-    }
-    Ok(value)
-}
-
-/// The value at a place, where that many lists and dictionaries are open, and where it ends.
-#[cycle(reading)]
-fn value_at(
-    alloc: Global,
-    bytes: &[u8],
-    at: usize,
-    depth: usize,
-) -> Result<(Value, usize), BenFault>
-    requires within { at ≤ length bytes.now }
-    requires depth { depth ≤ 16 }
-    ensures moves { IfOk result (λ x. (at < x.1) × (x.1 ≤ length bytes.now)) }
-    ensures reads { (os : List Open) → length os ≡ depth → Awaits bytes.now at os
-        → Outcome bytes.now result (λ x. ReadsValue bytes.now at os x.0 x.1) }
-{
-    if has_byte(bytes, at, b'i') {
-        let (number, next) = integer_at(bytes, at)?;
-        return Ok((Value::Int(number), next));
-    }
-    if has_byte(bytes, at, b'l') {
-        if depth == MAX_DEPTH {
-            return Err(BenFault::Bad(Bad::Deep { at }));
+    match text_in(bytes) {
+        Some(text) => {
+            let text = Bytes::from_slice(alloc, text)?;
+            return Ok(Value::Text(text));
         }
-        return list_at(alloc, bytes, at + 1, depth + 1);
+        None => {}
     }
-    if has_byte(bytes, at, b'd') {
-        if depth == MAX_DEPTH {
-            return Err(BenFault::Bad(Bad::Deep { at }));
-        }
-        return dictionary_at(alloc, bytes, at + 1, depth + 1);
+    match items_in(bytes) {
+        Some(items) => return list_in(alloc, items),
+        None => {}
     }
-    let (text, next) = string_at(bytes, at)?;
-    let text = Bytes::from_slice(alloc, text)?;
-    Ok((Value::Text(text), next))
+    match pairs_in(bytes) {
+        Some(pairs) => return dictionary_in(alloc, pairs),
+        None => {}
+    }
+    match int_in(bytes) {
+        Some(number) => Ok(Value::Int(number)),
+        None => Ok(Value::Int(0)),
+    }
 }
 
-/// The rest of a list whose first value comes next, if it has one.
+/// The list of the values whose texts these are.
 #[cycle(reading)]
-fn list_at(
-    alloc: Global,
-    bytes: &[u8],
-    from: usize,
-    depth: usize,
-) -> Result<(Value, usize), BenFault>
-    requires within { from ≤ length bytes.now }
-    requires depth { depth ≤ 16 }
-    ensures moves { IfOk result (λ x. (from < x.1) × (x.1 ≤ length bytes.now)) }
-    ensures reads { (os : List Open) → suc (length os) ≡ depth
-        → Reached bytes.now from (Ready (InList [] ∷ os)) → FitsOpen os
-        → Outcome bytes.now result (λ x. ReadsValue bytes.now from os x.0 x.1) }
+fn list_in(alloc: Global, items: &[u8]) -> Result<Value, NoMemory>
+    ensures { (ts : List Value) → AreItems items.now ts
+        → IfOk result (λ x. x ≡ value.List (map in_order ts)) }
 {
     let mut values = Values::new(alloc);
-    let mut at = from;
-    'values: while !has_byte(bytes, at, b'e') {
-        let (value, next) = value_at(alloc, bytes, at, depth)?;
+    let mut rest = items;
+    'items: while let Some((item, others)) = first_item(rest) {
+        let value = value_in(alloc, item)?;
         values.push(value)?;
-        at = next;
+        rest = others;
     }
-    Ok((Value::List(values), at + 1))
+    Ok(Value::List(values))
 }
 
-/// The rest of a dictionary whose first key comes next, if it has one.
+/// The dictionary of the pairs whose texts these are.
 #[cycle(reading)]
-fn dictionary_at(
-    alloc: Global,
-    bytes: &[u8],
-    from: usize,
-    depth: usize,
-) -> Result<(Value, usize), BenFault>
-    requires within { from ≤ length bytes.now }
-    requires depth { depth ≤ 16 }
-    ensures moves { IfOk result (λ x. (from < x.1) × (x.1 ≤ length bytes.now)) }
-    ensures reads { (os : List Open) → suc (length os) ≡ depth
-        → Reached bytes.now from (Keyless os []) → FitsOpen os
-        → Outcome bytes.now result (λ x. ReadsValue bytes.now from os x.0 x.1) }
+fn dictionary_in(alloc: Global, pairs: &[u8]) -> Result<Value, NoMemory>
+    ensures { (ps : List (Pair Value)) → ArePairs pairs.now ps
+        → IfOk result (λ x. x ≡ value.Dict (put_all [] (pairs_named ps))) }
 {
     let mut entries = Entries::new(alloc);
-    let mut at = from;
-    'pairs: while !has_byte(bytes, at, b'e') {
-        let (key, behind) = string_at(bytes, at)?;
-        if entries.get(key).is_some() {
-            return Err(BenFault::Bad(Bad::KeyTwice { at }));
-        }
+    let mut rest = pairs;
+    'pairs: while let Some((key, text, others)) = next_pair(rest) {
         let key = Bytes::from_slice(alloc, key)?;
-        let (value, next) = value_at(alloc, bytes, behind, depth)?;
+        let value = value_in(alloc, text)?;
         entries.set(key, value)?;
-        at = next;
+        rest = others;
     }
-    Ok((Value::Dict(entries), at + 1))
-}
-
-/// The string at a place, and where it ends.
-fn string_at(bytes: &[u8], at: usize) -> Result<(&[u8], usize), BenFault>
-    requires { at ≤ length bytes.now }
-    ensures moves { IfOk result (λ x. (at < x.1) × (x.1 ≤ length bytes.now)) }
-    ensures reads { (p : Place) → AwaitsString bytes.now at p
-        → Outcome bytes.now result (λ x. ReadsString bytes.now at p x.0.now x.1) }
-{
-    match scan::string_at(bytes, at) {
-        Ok((text, next)) => Ok((text, next)),
-        Err(bad) => Err(BenFault::Bad(bad)),
-    }
-}
-
-/// The integer at a place, where its `i` stands, and where it ends.
-fn integer_at(bytes: &[u8], at: usize) -> Result<(i64, usize), BenFault>
-    requires within { at < length bytes.now }
-    requires begins { get_or bytes.now at 0 ≡ 105 }
-    ensures moves { IfOk result (λ x. (at < x.1) × (x.1 ≤ length bytes.now)) }
-    ensures reads { (os : List Open) → AwaitsInteger bytes.now at os
-        → Outcome bytes.now result (λ x. ReadsInteger bytes.now at os x.0 x.1) }
-{
-    match scan::integer_at(bytes, at) {
-        Ok((number, next)) => Ok((number, next)),
-        Err(bad) => Err(BenFault::Bad(bad)),
-    }
+    Ok(Value::Dict(entries))
 }

@@ -1,35 +1,37 @@
-use Rattle.std.proofs.Common.{◌≡◌, suc, ◌+◌, ◌-◌, ◌*◌, ◌≤◌, List, [], ◌∷◌, length}
-use Rattle.kad_bencode.specs.Faults.{Open, InList}
-use Rattle.kad_bencode.specs.Machine.{Reached, Ready, Keyless, FitsOpen}
-use Rattle.kad_bencode.proofs.Nested.{ListSoFar, PairsSoFar}
+use Rattle.std.proofs.Common.{◌≡◌, ◌+◌, ◌*◌, ◌≤◌, List, [], ◌++◌, map, length}
+use Rattle.kad_bencode.specs.Finding.{ArePairs}
+use Rattle.kad_bencode.specs.Naming.{AreItems, pairs_named}
+use Rattle.kad_bencode.specs.Spelling.{in_order, put_all}
+use Rattle.kad_bencode.specs.declared.entries.Pair.{Pair}
+use Rattle.kad_bencode.specs.declared.value.Value.{Value}
 use Rattle.kad_bencode.proofs.reader.+reading.Given as goal
 
--- the lists and dictionaries that may still be opened
-abbrev pub decreases-value_at : goal.decreases-value_at
-decreases-value_at l = 2 * (16 - l.depth) + 1
+-- what is inside is shorter
+abbrev pub decreases-value_in : goal.decreases-value_in
+decreases-value_in l = 2 * length l.bytes.now
 
-abbrev pub decreases-list_at : goal.decreases-list_at
-decreases-list_at l = 2 * (16 - l.depth) + 2
+abbrev pub decreases-list_in : goal.decreases-list_in
+decreases-list_in l = 2 * length l.items.now + 1
 
-abbrev pub decreases-dictionary_at : goal.decreases-dictionary_at
-decreases-dictionary_at l = 2 * (16 - l.depth) + 2
+abbrev pub decreases-dictionary_in : goal.decreases-dictionary_in
+decreases-dictionary_in l = 2 * length l.pairs.now + 1
 
-abbrev pub invariant-list_at-values : goal.invariant-list_at-values
-invariant-list_at-values l = record {
-  after : l.from ≤ l.at;
-  within : l.at ≤ length l.bytes;
-  so_far : (os : List Open) → suc (length os) ≡ l.depth → Reached l.bytes l.from (Ready (InList [] ∷ os)) → FitsOpen os → ListSoFar l.bytes l.at os l.values;
+-- the values so far, and those that are left
+abbrev pub invariant-list_in-items : goal.invariant-list_in-items
+invariant-list_in-items l = record {
+  within : length l.rest ≤ length l.fn.items;
+  so_far : (ts : List Value) → AreItems l.fn.items ts → (left : List Value) × AreItems l.rest left × (l.values ++ map in_order left ≡ map in_order ts);
 }
 
-abbrev pub decreases-list_at-values : goal.decreases-list_at-values
-decreases-list_at-values l = length l.bytes - l.at
+abbrev pub decreases-list_in-items : goal.decreases-list_in-items
+decreases-list_in-items l = length l.rest
 
-abbrev pub invariant-dictionary_at-pairs : goal.invariant-dictionary_at-pairs
-invariant-dictionary_at-pairs l = record {
-  after : l.from ≤ l.at;
-  within : l.at ≤ length l.bytes;
-  so_far : (os : List Open) → suc (length os) ≡ l.depth → Reached l.bytes l.from (Keyless os []) → FitsOpen os → PairsSoFar l.bytes l.at os l.entries;
+-- the pairs so far, and those that are left
+abbrev pub invariant-dictionary_in-pairs : goal.invariant-dictionary_in-pairs
+invariant-dictionary_in-pairs l = record {
+  within : length l.rest ≤ length l.fn.pairs;
+  so_far : (ps : List (Pair Value)) → ArePairs l.fn.pairs ps → (left : List (Pair Value)) × ArePairs l.rest left × (put_all l.entries (pairs_named left) ≡ put_all [] (pairs_named ps));
 }
 
-abbrev pub decreases-dictionary_at-pairs : goal.decreases-dictionary_at-pairs
-decreases-dictionary_at-pairs l = length l.bytes - l.at
+abbrev pub decreases-dictionary_in-pairs : goal.decreases-dictionary_in-pairs
+decreases-dictionary_in-pairs l = length l.rest
