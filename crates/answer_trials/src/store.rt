@@ -1,7 +1,8 @@
 //! Peers at both ends of their times and of their number, with ample memory, and tokens by another program's ChaCha20
 //! and SHA-1.
 use kad_base::{Addr, Ip, Serial};
-use peer_store::{PeerCall, PeerFault, PeerReply, Peers, Stored, Tokens};
+use node_tokens::Tokens;
+use peer_store::{PeerCall, PeerFault, PeerReply, Peers, Stored};
 use std::test::Fail;
 use trial_kit::number;
 
@@ -117,6 +118,38 @@ fn old_peers_take_no_place_in_a_list(rt: HostRuntime) -> Result<(), Fail> {
     assert_eq!(&rt; listed.len(), 50);
     assert!(&rt; listed.as_slice().first() == Some(&at_port(11)));
     assert!(&rt; listed.as_slice().last() == Some(&at_port(60)));
+    Ok(())
+}
+
+#[test]
+fn a_fresh_peer_behind_old_ones_is_listed(rt: HostRuntime) -> Result<(), Fail> {
+    let mut peers = Peers::new(rt.alloc());
+    add_ports(&mut peers, 60)?;
+    peers.add(number(1), peer(1), 1)?;
+    peers.add(number(2), peer(2), 2)?;
+    assert!(&rt; peers.list(number(1), HALF_AN_HOUR)?.as_slice() == [peer(1)].as_slice());
+    assert_eq!(&rt; peers.list(number(1), HALF_AN_HOUR + 1)?.len(), 0);
+    assert!(&rt; peers.list(number(2), HALF_AN_HOUR + 1)?.as_slice() == [peer(2)].as_slice());
+    assert_eq!(&rt; peers.list(number(2), HALF_AN_HOUR + 2)?.len(), 0);
+    Ok(())
+}
+
+#[test]
+fn moments_may_fall(rt: HostRuntime) -> Result<(), Fail> {
+    let mut peers = Peers::new(rt.alloc());
+    add_ports(&mut peers, 20)?;
+    for port in 1..21 {
+        peers.add(number(1), at_port(port), 1_000 - u64::from(port))?;
+    }
+    peers.add(number(1), at_port(5), 10)?;
+    peers.purge(HALF_AN_HOUR + 9);
+    assert_eq!(&rt; peers.list(number(1), 0)?.len(), 20);
+    peers.purge(HALF_AN_HOUR + 10);
+    assert_eq!(&rt; peers.list(number(1), 0)?.len(), 19);
+    peers.purge(HALF_AN_HOUR + 981);
+    assert_eq!(&rt; peers.list(number(1), 0)?.len(), 17);
+    peers.purge(HALF_AN_HOUR + 980);
+    assert_eq!(&rt; peers.list(number(1), 0)?.len(), 17);
     Ok(())
 }
 

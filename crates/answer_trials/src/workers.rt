@@ -7,7 +7,7 @@ use contact_table::Table;
 use fake_net::ScriptLink;
 use kad_base::{Link, List, NoMemory, Policy};
 use node_serve::{ServeCounts, ServeFault, ServeSetting};
-use peer_store::Tokens;
+use node_tokens::Tokens;
 use seal_tags::{GroupSeal, Seal};
 use serve_batches::serve_many;
 use std::alloc::Global;

@@ -11,32 +11,11 @@ use Rattle.std.specs.Ordering.{is_eq}
 use Rattle.kad_base.specs.Puzzles.{hash}
 use Rattle.kad_base.specs.declared.types.Id.{Id}
 use Rattle.kad_base.specs.declared.types.NoMemory.{NoMemory}
-use Rattle.peer_store.specs.declared.peers.Stored.{Stored}
-use Rattle.peer_store.specs.declared.peers.Stored.TheVariants.{New, Renewed}
+use Rattle.aged_map.specs.declared.aged.Stored.{Stored}
+use Rattle.aged_map.specs.declared.aged.Stored.TheVariants.{New, Renewed}
 use Rattle.item_store.specs.declared.held.Item.{Item}
 use Rattle.std.specs.Prelude.{if◌then◌else◌}
 use Rattle.item_store.specs.Items.{Held, IsItem, IsSound, Holds, key_cmp, is_fresh, found, if_fresh, handed_out}
-
--- what a look-up found says whether the key is held
-pub holds_where : (held : List Held) (key : Id) (o : Option Item) → o ≡ found held key → is_some o ≡ list_any (λ k. is_eq (key_cmp key k)) (keys_of held)
-holds_where held key o e = ap is_some e ∙ is_some-lookup (λ k. is_eq (key_cmp key k)) held
-
--- what an insertion answers, by what it found
-pub found_some : (held : List Held) (key : Id) (o : Option Item) (i : Item) → o ≡ Some i → o ≡ found held key
-    → (◌≡◌ {A = Result Stored NoMemory} (Ok Renewed) (Ok Renewed)) ↔ Holds held key
-found_some held key o i is e = (λ h. sym (holds_where held key o e) ∙ ap is_some is, λ h. refl)
-
-pub found_none : (held : List Held) (key : Id) (o : Option Item) → o ≡ None → o ≡ found held key
-    → (◌≡◌ {A = Result Stored NoMemory} (Ok New) (Ok Renewed)) ↔ Holds held key
-found_none held key o is e =
-    let absent : false ≡ list_any (λ k. is_eq (key_cmp key k)) (keys_of held) = ap is_some (sym is) ∙ holds_where held key o e in
-    (λ h. absurd cc, λ h. absurd cc)
-
-pub found_no_memory : (held : List Held) (key : Id) (fault : NoMemory) → found held key ≡ None
-    → (◌≡◌ {A = Result Stored NoMemory} (Err fault) (Ok Renewed)) ↔ Holds held key
-found_no_memory held key fault e =
-    let absent : false ≡ list_any (λ k. is_eq (key_cmp key k)) (keys_of held) = holds_where held key None (sym e) in
-    (λ h. absurd cc, λ h. absurd cc)
 
 -- what stands under a key
 pub record Stands (key : Id) (v : List ℕ) : Type 0 where

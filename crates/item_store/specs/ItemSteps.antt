@@ -1,8 +1,8 @@
 -- A store of items as an object whose calls are steps: when each reply comes, and what it leaves.
 use Rattle.std.specs.Prelude.{◌≡◌, ℕ, List, length, Some, None}
 use Rattle.kad_base.specs.declared.types.Id.{Id}
-use Rattle.peer_store.specs.declared.peers.Stored.{Stored}
-use Rattle.peer_store.specs.declared.peers.Stored.TheVariants.{New, Renewed}
+use Rattle.aged_map.specs.declared.aged.Stored.{Stored}
+use Rattle.aged_map.specs.declared.aged.Stored.TheVariants.{New, Renewed}
 use Rattle.item_store.specs.declared.calls.ItemCall.{ItemCall}
 use Rattle.item_store.specs.declared.calls.ItemCall.TheVariants.{Get, Put}
 use Rattle.item_store.specs.declared.calls.ItemReply.{ItemReply}

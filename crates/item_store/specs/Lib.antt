@@ -1,3 +1,2 @@
 pub mod Items
-pub mod Kept
 pub mod ItemSteps

@@ -1,6 +1,6 @@
 //! The calls of a store of items and its replies.
+use aged_map::Stored;
 use kad_base::{Bytes, Id};
-use peer_store::Stored;
 
 /// A call of a store of items, at a moment in milliseconds. Each role may make each.
 #[derive(Debug, Drop, PartialEq, Eq)]

@@ -3,12 +3,11 @@ ghost use Rattle.std.specs.Prelude.{◌≡◌, ◌↔◌, [], OnOk, OnErr, IfOk,
 ghost use Rattle.kad_base.specs.Puzzles.{hash};
 ghost use Rattle.item_store.specs.Items.{IsItem, IsItems, Holds, HasNoPlace, key_of, with_item, purged, handed_out};
 
-use crate::held::{Held, Item, MAX_AGE, drop_old, find, has_no_place, is_fresh, oldest, put};
+use crate::held::{Held, Item, MAX_AGE, has_no_place, is_fresh};
+use aged_map::{AgedMap, Stored};
 use kad_base::{Bytes, Id, List, NoMemory};
-use peer_store::Stored;
 use sha1::Sha1;
 use std::alloc::Global;
-use std::collections::BTreeMap;
 use std::marker::Model;
 use thiserror::Error;
 
@@ -35,26 +34,23 @@ pub fn item_key(v: &[u8]) -> Id
 }
 
 /// The immutable items that a node keeps for others (BEP 44), each under the SHA-1 of its written form, with the moment of
-/// its last add, in milliseconds. They stand in a B-tree in order of their keys, so no choice of values makes a search
-/// longer: it makes at most some 55 comparisons among 4,096 items.
+/// its last add, in milliseconds. They stand in a B-tree in order of their keys, and in one by age, so no choice of values
+/// makes a search longer: it makes at most some 55 comparisons among 4,096 items.
 #[derive(Debug, Drop)]
 pub struct Items {
     alloc: Global,
     held: Held,
-    /// No last add is before it.
-    since: u64,
 }
 
 impl Model for Items {
-    ghost use Rattle.item_store.specs.Items.{Held};
+    ghost use Rattle.item_store.specs.Items.{Held, IsItems};
     ghost use Rattle.std.specs.Prelude.{List};
-    ghost use Rattle.item_store.specs.Kept.{IsKept};
 
     ghost Value = { List Held };
 
-    ghost view = { λ s. s.held.entries };
+    ghost view = { λ s. s.held };
 
-    ghost invariant = { λ s. IsKept s.held.entries s.since };
+    ghost invariant = { λ s. IsItems s.held };
 }
 
 impl Items {
@@ -64,15 +60,15 @@ impl Items {
     {
         Items {
             alloc,
-            held: BTreeMap::new(alloc),
-            since: u64::MAX,
+            held: AgedMap::new(alloc),
         }
     }
 
     /// Adds the item at the moment, or sets its last add where its key is held, be it earlier or later than it was. `v` is
     /// the written form of its value, of at most 1,000 bytes and with at most 14 lists and dictionaries one in another. An
-    /// item that is held takes no memory; of two values with one key the last is kept. On a fault all is as before. Costs
-    /// one SHA-1 and one search, and a second one where no place is left.
+    /// item that is held takes no memory that it needs: where the index by age has none, it has no index from then on until
+    /// nothing is held. Of two values with one key the last is kept. On a fault all is as before. Costs one SHA-1 and four
+    /// searches, and one more where no place is left.
     pub fn add(&mut self, v: Bytes, at: u64) -> Result<Stored, ItemFault>
         requires { IsItem v }
         ensures stored { OnOk result (self.new ≡ with_item self.old v at) }
@@ -84,11 +80,10 @@ impl Items {
         if has_no_place(&self.held, key) {
             return Err(ItemFault::Full);
         }
-        let stored = match put(&mut self.held, key, Item { v, last: at }) {
+        let stored = match self.held.put(key, Item { v, last: at }) {
             Ok(stored) => stored,
             Err(NoMemory) => return Err(ItemFault::NoMemory),
         };
-        self.since = self.since.min(at);
         Ok(stored)
     }
 
@@ -100,7 +95,7 @@ impl Items {
         ensures key { IfSome (option_copied result) (λ v. key.now.0 ≡ hash v) }
         ensures items { IsItems self.now }
     {
-        let item = find(&self.held, key)?;
+        let item = self.held.get(key)?;
         if is_fresh(item.last, at) {
             return Some(item.v.as_slice());
         }
@@ -122,16 +117,10 @@ impl Items {
     }
 
     /// Drops the items whose last add is two hours or more before the moment. A last add after the moment counts as 0
-    /// before it. Takes no memory. Costs one comparison while no add is that old that was ever the earliest; else two
-    /// passes over all that is held. While moments don't fall, no two purges at one moment make a pass, and there are no
-    /// more passes than there were different moments of adds.
+    /// before it. Takes no memory. Costs a search for each item that it drops, and one more.
     pub fn purge(&mut self, at: u64)
         ensures { self.new ≡ purged self.old at }
     {
-        if at.saturating_sub(self.since) < MAX_AGE {
-            return;
-        }
-        drop_old(&mut self.held, at);
-        self.since = oldest(&self.held);
+        self.held.purge(MAX_AGE, at);
     }
 }

@@ -7,5 +7,6 @@ mod held;
 mod items;
 mod serial;
 
+pub use aged_map::Stored;
 pub use calls::{ItemCall, ItemReply};
 pub use items::{ItemFault, Items, MAX_ITEM, item_key};

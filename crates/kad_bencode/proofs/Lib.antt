@@ -26,3 +26,4 @@ pub mod Formed
 pub mod Sorting
 pub mod Forming
 pub mod Cutting
+pub mod Measuring

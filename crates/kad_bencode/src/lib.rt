@@ -9,6 +9,7 @@ mod find;
 mod form;
 pub mod into;
 pub mod laws;
+mod measured;
 pub mod pairs;
 pub mod parts;
 pub mod piece;

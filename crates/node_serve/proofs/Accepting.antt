@@ -5,7 +5,7 @@ use Rattle.std.specs.Bool.{Decides}
 use Rattle.std.specs.Str.{bytes_eq}
 use Rattle.std.proofs.lemmas.Bool.Decides.{Decides-or, Decides-and, Decides-ltb}
 use Rattle.std.proofs.lemmas.Slice.Eq.{bytes_eq-Decides}
-use Rattle.peer_store.specs.Tokens.{TokensState, IsAccepted, epoch_at, token_of}
+use Rattle.node_tokens.specs.Tokens.{TokensState, IsAccepted, epoch_at, token_of}
 use Rattle.node_serve.specs.Calls.{is_accepted}
 
 pub accepted : (t : TokensState) (ip : List ℕ) (at : ℕ) (token : List ℕ) → Decides (is_accepted t ip at token) (IsAccepted t ip at token)

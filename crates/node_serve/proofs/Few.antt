@@ -12,7 +12,7 @@ use Rattle.kad_base.specs.declared.types.Policy.{Policy}
 use Rattle.kad_base.specs.declared.types.Policy.TheVariants.{Plain, Puzzled}
 use Rattle.kad_bencode.specs.Spelling.{numeral, integer_text}
 use Rattle.kad_krpc.specs.Records.{ip_bytes}
-use Rattle.peer_store.specs.Tokens.{epoch_at, token_of, secret_of}
+use Rattle.node_tokens.specs.Tokens.{epoch_at, token_of, secret_of}
 use Rattle.node_serve.specs.Replies.{is_v4, of_ipv4, kept_proof, proved, snodes_by, where_some, named}
 use Rattle.node_serve.specs.Sizes.{IsSmall, count}
 use Rattle.node_serve.proofs.Small.{numeral_short}

@@ -21,7 +21,7 @@ use Rattle.peer_store.specs.PeersStep.{PeersStep, peers_after}
 use Rattle.peer_store.specs.declared.calls.PeerCall.TheVariants.{List as List_call, Put}
 use Rattle.peer_store.specs.declared.calls.PeerReply.{PeerReply}
 use Rattle.peer_store.specs.declared.calls.PeerReply.TheVariants.{Listed, Stored as Stored_reply, Full}
-use Rattle.peer_store.specs.declared.peers.Stored.{Stored}
+use Rattle.aged_map.specs.declared.aged.Stored.{Stored}
 use Rattle.node_serve.specs.declared.composing.Gained.{Gained}
 use Rattle.node_serve.specs.declared.composing.Gained.TheVariants as gained
 use Rattle.node_serve.specs.declared.planning.Wants.{Wants}

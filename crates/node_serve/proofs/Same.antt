@@ -22,8 +22,8 @@ use Rattle.contact_table.specs.TableStep.{table_after, contacts_of}
 use Rattle.contact_table.specs.declared.calls.TableCall.TheVariants.{Seen, Closest}
 use Rattle.contact_table.specs.declared.calls.TableReply.{TableReply}
 use Rattle.contact_table.specs.declared.calls.TableReply.TheVariants.{List as List_reply}
-use Rattle.peer_store.specs.declared.peers.Stored.{Stored}
-use Rattle.peer_store.specs.declared.peers.Stored.TheVariants.{New, Renewed}
+use Rattle.aged_map.specs.declared.aged.Stored.{Stored}
+use Rattle.aged_map.specs.declared.aged.Stored.TheVariants.{New, Renewed}
 use Rattle.peer_store.specs.Peers.{Held, Pair, pair_cmp, purged, with_add, listed}
 use Rattle.node_serve.specs.AnswerOf.{AnswerOf, IsTold, told_by}
 use Rattle.item_store.specs.Items.{Held as HeldItem, IsItems, Holds, HasNoPlace as HasNoRoom, max_length, key_cmp, key_of, handed_out, purged as purged_items, with_item}

@@ -17,7 +17,7 @@ use Rattle.contact_table.specs.TableState.{TableState}
 use Rattle.contact_table.specs.TableStep.{TableStep, table_after}
 use Rattle.peer_store.specs.Peers.{purged}
 use Rattle.item_store.specs.Items.{purged as purged_items}
-use Rattle.peer_store.specs.Tokens.{IsAccepted}
+use Rattle.node_tokens.specs.Tokens.{IsAccepted}
 use Rattle.node_serve.specs.declared.node.Answered.{Answered}
 use Rattle.node_serve.specs.declared.node.Answered.TheVariants as answered
 use Rattle.node_serve.specs.NodeState.{NodeState, Stores, stores_of, with_parts}

@@ -20,7 +20,7 @@ use Rattle.contact_table.specs.declared.calls.TableCall.TheVariants.{Seen, Close
 use Rattle.contact_table.specs.declared.calls.TableReply.{TableReply}
 use Rattle.contact_table.specs.declared.calls.TableReply.TheVariants.{List as List_reply}
 use Rattle.contact_table.specs.Told.{HasMemory}
-use Rattle.peer_store.specs.Tokens.{TokensState, epoch_at, token_of}
+use Rattle.node_tokens.specs.Tokens.{TokensState, epoch_at, token_of}
 use Rattle.node_serve.specs.AnswerOf.{told_by}
 use Rattle.node_serve.specs.Replies.{of_ipv4, snodes_by, where_some, peer_for, named, server_error, bad_token, no_mutable, too_big, method_unknown}
 use Rattle.peer_store.specs.declared.calls.PeerCall.{PeerCall}

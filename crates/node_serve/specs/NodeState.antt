@@ -8,7 +8,7 @@ use Rattle.kad_base.specs.Limits.{max_k}
 use Rattle.kad_base.specs.Puzzles.{Passes}
 use Rattle.contact_table.specs.TableState.{TableState}
 use Rattle.peer_store.specs.Peers.{Held}
-use Rattle.peer_store.specs.Tokens.{TokensState}
+use Rattle.node_tokens.specs.Tokens.{TokensState}
 use Rattle.item_store.specs.Items.{Held as HeldItem}
 
 -- what a node keeps for others: the peers that were announced to it, and the items that were put to it

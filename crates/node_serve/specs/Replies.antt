@@ -23,7 +23,7 @@ use Rattle.kad_krpc.specs.declared.message.Message.TheVariants as message
 use Rattle.kad_krpc.specs.Records.{ip_bytes}
 use Rattle.contact_table.specs.TableStep.{contacts_of}
 use Rattle.peer_store.specs.Peers.{Held, HasNoPlace, with_add, purged, listed}
-use Rattle.peer_store.specs.Tokens.{IsAccepted, epoch_at, token_of}
+use Rattle.node_tokens.specs.Tokens.{IsAccepted, epoch_at, token_of}
 use Rattle.item_store.specs.Items.{Held as HeldItem, max_length, key_of, handed_out, with_item, HasNoPlace as HasNoRoom, purged as purged_items}
 use Rattle.node_serve.specs.NodeState.{NodeState, Stores, stores_of}
 

@@ -10,9 +10,9 @@ use crate::reply::{
     name, refuse_big, refuse_full, refuse_method, refuse_mutable, refuse_token, some_peers,
 };
 use crate::setting::ServeSetting;
+use aged_map::Stored;
 use kad_base::{Addrs, Bytes, Contacts, List, NoMemory};
 use kad_krpc::{Answer, Message};
-use peer_store::Stored;
 use std::alloc::Global;
 
 /// What the calls of a query gave.

@@ -32,7 +32,9 @@ fn closest(table: &mut Table, target: Id, n: u8) -> Result<Contacts, NoMemory>
 {
     match table.apply(SERVER, TableCall::Closest { target, n }) {
         TableReply::List { list } => Ok(list),
-        _ => Err(NoMemory),
+        TableReply::NoMemory => Err(NoMemory),
+        TableReply::Seen { .. } => unreachable!(),
+        TableReply::Gone { .. } => unreachable!(),
     }
 }
 
@@ -45,7 +47,9 @@ fn list(peers: &mut Peers, key: Id, at: u64) -> Result<Addrs, NoMemory>
 {
     match peers.apply(SERVER, PeerCall::List { key, at }) {
         PeerReply::Listed { list } => Ok(list),
-        _ => Err(NoMemory),
+        PeerReply::NoMemory => Err(NoMemory),
+        PeerReply::Stored { .. } => unreachable!(),
+        PeerReply::Full => unreachable!(),
     }
 }
 
@@ -58,7 +62,9 @@ fn get(items: &mut Items, key: Id, at: u64) -> Result<Option<Bytes>, NoMemory>
     match items.apply(SERVER, ItemCall::Get { key, at }) {
         ItemReply::Held { v } => Ok(Some(v)),
         ItemReply::Absent => Ok(None),
-        _ => Err(NoMemory),
+        ItemReply::NoMemory => Err(NoMemory),
+        ItemReply::Stored { .. } => unreachable!(),
+        ItemReply::Full => unreachable!(),
     }
 }
 
@@ -72,8 +78,8 @@ fn keep(items: &mut Items, v: Bytes, at: u64) -> Result<Gained, NoMemory>
         ItemReply::Stored { stored } => Ok(Gained::Kept { stored }),
         ItemReply::Full => Ok(Gained::Crowded),
         ItemReply::NoMemory => Err(NoMemory),
-        ItemReply::Held { .. } => Err(NoMemory),
-        ItemReply::Absent => Err(NoMemory),
+        ItemReply::Held { .. } => unreachable!(),
+        ItemReply::Absent => unreachable!(),
     }
 }
 
@@ -115,7 +121,8 @@ pub(crate) fn gather(
         Wants::Place { key, peer } => match peers.apply(SERVER, PeerCall::Put { key, peer, at }) {
             PeerReply::Stored { stored } => Ok(Gained::Placed { stored }),
             PeerReply::Full => Ok(Gained::Full),
-            _ => Err(NoMemory),
+            PeerReply::NoMemory => Err(NoMemory),
+            PeerReply::Listed { .. } => unreachable!(),
         },
         Wants::Item { key } => match get(items, key, at) {
             Ok(v) => match closest(table, key, k) {

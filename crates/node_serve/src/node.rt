@@ -21,8 +21,10 @@ use crate::setting::ServeSetting;
 use crate::size_bound::write;
 use contact_table::Table;
 use item_store::Items;
+use kad_base::limits::MAX_DATAGRAM;
 use kad_base::{Addr, Id, List, NoMemory, Policy, Reports};
-use peer_store::{Peers, Tokens};
+use node_tokens::Tokens;
+use peer_store::Peers;
 use seal_tags::Seal;
 use std::alloc::Global;
 use std::marker::Model;
@@ -112,7 +114,7 @@ impl Node {
         asked: &Asked,
         at: u64,
         seal: &G,
-        out: &mut [u8; 4096],
+        out: &mut [u8; MAX_DATAGRAM],
     ) -> Result<usize, NoMemory>
         requires ip { ip_bytes asked.now.from.ip ≡ asked.now.ip }
         requires short { length asked.now.tx.now ≤ max_answered_tx }
@@ -167,7 +169,7 @@ impl Node {
         bytes: &[u8],
         at: u64,
         seal: &G,
-        out: &mut [u8; 4096],
+        out: &mut [u8; MAX_DATAGRAM],
     ) -> Answered
         ensures silent { (result ≡ Answered.Silent) ↔ IsSilent from bytes.now }
         ensures unchanged { result ≡ Answered.Silent → self.new ≡ self.old }

@@ -1,5 +1,6 @@
 //! What a query wants, before anything is asked for it.
-ghost use Rattle.std.specs.Prelude.{◌≡◌, true, false, cond, IfOk};
+ghost use Rattle.std.specs.Prelude.{◌≡◌, ◌≤◌, true, false, cond, length, IfOk};
+ghost use Rattle.item_store.specs.Items.{max_length};
 ghost use Rattle.kad_bencode.specs.Spelling.{text_of};
 ghost use Rattle.kad_krpc.specs.Form.{IsCarried};
 ghost use Rattle.kad_krpc.specs.Records.{ip_bytes};
@@ -16,7 +17,7 @@ use item_store::MAX_ITEM;
 use kad_base::{Addr, Bytes, Id, NoMemory};
 use kad_bencode::Piece;
 use kad_krpc::{AskView, Port};
-use peer_store::Tokens;
+use node_tokens::Tokens;
 use std::alloc::Global;
 
 /// What a query wants of the table, the peers and the items.
@@ -83,17 +84,15 @@ fn plan_announced(
 
 /// What an item of this written form wants, if it is immutable and its token is accepted.
 fn plan_item(v: Bytes) -> Wants
-    requires { IsCarried v }
+    requires carried { IsCarried v }
+    requires short { length v ≤ max_length }
     ensures wants { result ≡ put_wants true false v }
     ensures item { KeepsItem result }
 {
-    if v.len() > MAX_ITEM {
-        return Wants::RefuseBig;
-    }
     Wants::Keep { v }
 }
 
-/// What a put wants.
+/// What a put wants. Its token is looked at first, then how long its value is, and only then the value is written.
 fn plan_put(
     alloc: Global,
     tokens: &Tokens,
@@ -117,12 +116,15 @@ fn plan_put(
     if mutable {
         return Ok(Wants::RefuseMutable);
     }
+    if v.written_len() > MAX_ITEM {
+        return Ok(Wants::RefuseBig);
+    }
     let form = v.written(alloc)?;
     Ok(plan_item(form))
 }
 
 /// What a query that came at this moment, in milliseconds, wants. It makes no call. Only an item that is put, and isn't
-/// refused by its token or as mutable, takes memory: its written form is made.
+/// refused by its token, as mutable or for its length, takes memory: its written form is made.
 pub fn plan(
     alloc: Global,
     setting: &ServeSetting,

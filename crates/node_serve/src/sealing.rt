@@ -6,6 +6,7 @@ ghost use Rattle.node_serve.specs.Sizes.{max_reply};
 
 use crate::setting::ServeSetting;
 use kad_base::Id;
+use kad_base::limits::MAX_DATAGRAM;
 use kad_krpc::{Message, form_is_untagged, message_is_well_typed, tag_into};
 use seal_tags::Seal;
 
@@ -16,7 +17,7 @@ fn put_tag<G: Seal>(
     own: &Id,
     reply: &Message,
     length: usize,
-    out: &mut [u8; 4096],
+    out: &mut [u8; MAX_DATAGRAM],
 ) -> usize
     requires room { length ≤ max_reply }
     requires written { take length out.old ≡ form reply.now }
@@ -41,7 +42,7 @@ pub fn seal_reply<G: Seal>(
     seal: &G,
     reply: &Message,
     length: usize,
-    out: &mut [u8; 4096],
+    out: &mut [u8; MAX_DATAGRAM],
 ) -> usize
     requires room { length ≤ max_reply }
     requires written { take length out.old ≡ form reply.now }

@@ -6,13 +6,10 @@ ghost use Rattle.node_serve.specs.Receives.{ServesAll, ServesSome, tried};
 ghost use Rattle.node_serve.specs.Responded.{serve_state, RespondsWith, ReceivesOne, Stops};
 
 use crate::node::{Answered, Node};
-use kad_base::limits::{MAX_DATAGRAM, RECEIVE_ROOM};
+use kad_base::limits::{MAX_DATAGRAM, MAX_WAIT, RECEIVE_ROOM};
 use kad_base::{Addr, Came, Link, NoMemory};
 use seal_tags::Seal;
 use thiserror::Error;
-
-/// How long a receive call waits, in milliseconds.
-const PATIENCE: u64 = 60_000;
 
 /// Why a service ended before its last receive call.
 #[derive(Clone, Copy, Debug, PartialEq, Eq, Error)]
@@ -106,7 +103,7 @@ fn receive<L: Link, G: Seal>(
         → L.recv_faults link.new ≡ L.recv_faults link.old }
     ensures kept { L.kept link.new ≡ L.kept link.old }
 {
-    let until = server.moment.saturating_add(PATIENCE);
+    let until = server.moment.saturating_add(MAX_WAIT);
     match link.recv(room, until) {
         Ok(Came::Packet { from, len, at }) => {
             match answer_one(link, &mut server.node, seal, from, &room[..len], at, out) {

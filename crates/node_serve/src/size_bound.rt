@@ -4,6 +4,7 @@ ghost use Rattle.kad_krpc.specs.Form.{HasForms, form};
 ghost use Rattle.kad_krpc.specs.Records.{ip_bytes, addr_bytes, node_bytes, nodes_bytes, proof_bytes, proved_bytes, snodes_bytes};
 ghost use Rattle.node_serve.specs.Sizes.{IsCompact, IsSmall, count, max_reply, nodes_size, peers_bytes, snodes_size, values_size};
 
+use kad_base::limits::MAX_DATAGRAM;
 use kad_base::{Addr, Addrs, Contact, Contacts, Id, Ip, Proof, Report, Reports};
 use kad_krpc::{Answer, Message, encode_into};
 
@@ -135,7 +136,7 @@ fn size_bound(message: &Message)
 }
 
 /// Writes a reply with few parts in front of `out`, and answers its length, which leaves room for a tag. Takes no memory.
-pub fn write(message: &Message, out: &mut [u8; 4096]) -> usize
+pub fn write(message: &Message, out: &mut [u8; MAX_DATAGRAM]) -> usize
     requires { IsSmall message.now }
     ensures room { result ≤ max_reply }
     ensures form { take result out.new ≡ form message.now }

@@ -8,7 +8,7 @@ use Rattle.kad_base.specs.declared.types.Report.{Report}
 use Rattle.kad_base.specs.Outside.{Grows, Happens}
 use Rattle.kad_base.proofs.Grown.{grows_then, grows_weaker}
 use Rattle.contact_table.specs.TableState.{TableState}
-use Rattle.peer_store.specs.Tokens.{TokensState}
+use Rattle.node_tokens.specs.Tokens.{TokensState}
 use Rattle.node_serve.specs.declared.service.ServeFault.{ServeFault}
 use Rattle.node_serve.specs.declared.service.ServeFault.TheVariants.{NoMemory}
 use Rattle.node_serve.specs.declared.setting.ServeSetting.{ServeSetting}

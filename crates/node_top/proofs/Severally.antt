@@ -23,7 +23,7 @@ use Rattle.claim_book.proofs.Ends.{found_answered}
 use Rattle.lookup_run.specs.Lookup.{TableTold}
 use Rattle.node_serve.specs.Calls.{IsSetting}
 use Rattle.node_serve.specs.declared.setting.ServeSetting.{ServeSetting}
-use Rattle.peer_store.specs.Tokens.{TokensState}
+use Rattle.node_tokens.specs.Tokens.{TokensState}
 use Rattle.look_many.specs.ManyLooked.{IsFound, IsWithinLimits, ManyLooked, ManyStopped, journals_of, max_lookups, setting_for}
 use Rattle.look_many.specs.declared.found.Many.{Many}
 use Rattle.look_many.specs.declared.found.ManySetting.{ManySetting}

@@ -52,12 +52,10 @@ filter_twice {X} p q (x ∷ xs) = by (p x) (filter_twice p q xs)
     by false e = e
 
 -- what the range of a key has that is fresh
-pub ranged : (held range : List Held) (key : Id) (at : ℕ) (s e : Pair) → AreBetween held → s ≡ (key, FIRST) → e ≡ (key, LAST) → range ≡ entries_between derived (Included s) (Included e) held → purged range at ≡ fresh_of held key at
-ranged held range key at s e all s_is e_is is =
+pub ranged : (held range : List Held) (key : Id) (at : ℕ) → AreBetween held → range ≡ entries_between derived (Included (key, FIRST)) (Included (key, LAST)) held → purged range at ≡ fresh_of held key at
+ranged held range key at all is =
     ap (λ l. purged l at)
-    (is ∙ ap (λ (p : Pair). entries_between derived (Included p) (Included e) held) s_is
-    ∙ ap (λ (p : Pair). entries_between derived (Included (key, FIRST)) (Included p) held) e_is
-    ∙ ap (λ (R : Pair → Pair → Ordering). entries_between R (Included (key, FIRST)) (Included (key, LAST)) held) derived_is
+    (is ∙ ap (λ (R : Pair → Pair → Ordering). entries_between R (Included (key, FIRST)) (Included (key, LAST)) held) derived_is
     ∙ filter_alike (λ h. range_contains pair_cmp (Included (key, FIRST)) (Included (key, LAST)) h.0) (λ h. bytes_eq key.0 h.0.0.0) (λ h. IsBetween h.0.1) (in_range key) held all)
     ∙ filter_twice (λ h. bytes_eq key.0 h.0.0.0) (is_fresh at) held
 
@@ -74,8 +72,16 @@ fresh_first e s t at is fresh =
     let f : nat_lt (at - e.1) 1800000 ≡ true = lt-ltb (at - e.1) 1800000 fresh in
     ap (λ l. peers_of (purged l at)) is ∙ ap (λ b. peers_of (cond b (e ∷ purged t at) (purged t at))) f
 
+-- where nothing is fresh nothing of a key is
+pub none_fresh : (held : List Held) (key : Id) (at : ℕ) → purged held at ≡ [] → fresh_of held key at ≡ []
+none_fresh [] key at none = refl
+none_fresh (h ∷ held) key at none = by (is_fresh at h) (bytes_eq key.0 h.0.0.0) none (none_fresh held key at)
+  where
+    by : (f b : Bool) → cond f (h ∷ purged held at) (purged held at) ≡ [] → (purged held at ≡ [] → fresh_of held key at ≡ []) → cond (b && f) (h ∷ fresh_of held key at) (fresh_of held key at) ≡ []
+    by true b e rest = absurd cc
+    by false true e rest = rest e
+    by false false e rest = rest e
+
 -- the range of a key runs forward
-pub forward : (key : Id) (s e : Pair) → s ≡ (key, FIRST) → e ≡ (key, LAST) → is_gt (derived s e) ≡ false
-forward key s e s_is e_is =
-    ap (λ (p : Pair). is_gt (derived p e)) s_is ∙ ap (λ (p : Pair). is_gt (derived (key, FIRST) p)) e_is
-    ∙ ap (λ o. is_gt (ordering_then o (derived_address FIRST LAST))) (tied_itself nat_list_cmp_total key.0)
+pub forward : (key : Id) → is_gt (derived (key, FIRST) (key, LAST)) ≡ false
+forward key = ap (λ o. is_gt (ordering_then o (derived_address FIRST LAST))) (tied_itself nat_list_cmp_total key.0)

@@ -1,22 +1,19 @@
 -- The order of pairs as the code has it is the definition's.
-use Rattle.std.proofs.Common.{◌≡◌, ℕ, ◌↔◌, false, List, Option, Some, None, Result, Ok, Err, refl, sym, ap, ◌∙◌}
+use Rattle.std.proofs.Common.{◌≡◌, ℕ, List, refl, ap, subst}
 use Rattle.std.specs.List.{list_any}
-use Rattle.std.specs.Map.{keys_of, lookup}
-use Rattle.std.specs.Option.{is_some}
-use Rattle.std.proofs.lemmas.Map.Made.{is_some-lookup}
+use Rattle.std.specs.List.Sorted.{IsStrictlySortedBy}
+use Rattle.std.specs.Map.{keys_of}
+use Rattle.std.specs.BTreeMap.{insert_entry}
 use Rattle.std.specs.Ordering.{ordering_then, is_eq, nat_cmp}
 use Rattle.std.specs.Cmp.Lexicographic.{slice_cmp}
 use Rattle.std.specs.declared.cmp.Ordering.{Ordering}
 use Rattle.kad_base.specs.declared.types.Ip.{Ip}
 use Rattle.kad_base.specs.declared.types.Ip.TheVariants.{V4, V6}
 use Rattle.kad_base.specs.declared.types.Addr.{Addr}
-use Rattle.kad_base.specs.declared.types.NoMemory.{NoMemory}
-use Rattle.peer_store.specs.declared.peers.Stored.{Stored}
-use Rattle.peer_store.specs.declared.peers.Stored.TheVariants.{New, Renewed}
 use Rattle.kad_base.specs.contracts.types.IpOrd.TheImpl as ip_ord
 use Rattle.kad_base.specs.contracts.types.AddrOrd.TheImpl as addr_ord
 use Rattle.kad_base.specs.Contacts.{address_bytes}
-use Rattle.peer_store.specs.Peers.{Pair, Held, Holds, address_cmp, pair_cmp}
+use Rattle.peer_store.specs.Peers.{Pair, Held, with_add, address_cmp, pair_cmp}
 
 ip_agrees : (a b : Ip) → (ip_ord.ghosts).cmp a b ≡ slice_cmp nat_cmp (address_bytes a) (address_bytes b)
 ip_agrees (V4 a) (V4 b) = refl
@@ -41,24 +38,10 @@ derived_is = λ i a b. ordering_then (slice_cmp nat_cmp a.0.0 b.0.0) (address_ag
 pub held_by : (held : List Held) (pair : Pair) → list_any (λ p. is_eq (derived pair p)) (keys_of held) ≡ list_any (λ p. is_eq (pair_cmp pair p)) (keys_of held)
 held_by held pair = ap (λ (R : Pair → Pair → Ordering). list_any (λ p. is_eq (R pair p)) (keys_of held)) derived_is
 
--- what a look-up found says whether the pair is held
-pub holds_where : (held : List Held) (pair : Pair) (found : Option ℕ) → found ≡ lookup (λ p. is_eq (derived pair p)) held
-    → is_some found ≡ list_any (λ p. is_eq (pair_cmp pair p)) (keys_of held)
-holds_where held pair found e = ap is_some e ∙ is_some-lookup (λ p. is_eq (derived pair p)) held ∙ held_by held pair
+-- what is sorted by either
+pub sorted_by : (pairs : List Pair) → IsStrictlySortedBy derived pairs → IsStrictlySortedBy pair_cmp pairs
+sorted_by pairs s = subst (λ (R : Pair → Pair → Ordering). IsStrictlySortedBy R pairs) derived_is s
 
--- what an insertion answers, by what it found
-pub found_some : (held : List Held) (pair : Pair) (found : Option ℕ) (n : ℕ) → found ≡ Some n → found ≡ lookup (λ p. is_eq (derived pair p)) held
-    → (◌≡◌ {A = Result Stored NoMemory} (Ok Renewed) (Ok Renewed)) ↔ Holds held pair
-found_some held pair found n is e = (λ h. sym (holds_where held pair found e) ∙ ap is_some is, λ h. refl)
-
-pub found_none : (held : List Held) (pair : Pair) (found : Option ℕ) → found ≡ None → found ≡ lookup (λ p. is_eq (derived pair p)) held
-    → (◌≡◌ {A = Result Stored NoMemory} (Ok New) (Ok Renewed)) ↔ Holds held pair
-found_none held pair found is e =
-    let absent : false ≡ list_any (λ p. is_eq (pair_cmp pair p)) (keys_of held) = ap is_some (sym is) ∙ holds_where held pair found e in
-    (λ h. absurd cc, λ h. absurd cc)
-
-pub found_no_memory : (held : List Held) (pair : Pair) (fault : NoMemory) → lookup (λ p. is_eq (derived pair p)) held ≡ None
-    → (◌≡◌ {A = Result Stored NoMemory} (Err fault) (Ok Renewed)) ↔ Holds held pair
-found_no_memory held pair fault e =
-    let absent : false ≡ list_any (λ p. is_eq (pair_cmp pair p)) (keys_of held) = holds_where held pair None (sym e) in
-    (λ h. absurd cc, λ h. absurd cc)
+-- an insertion by either
+pub put_by : (held : List Held) (pair : Pair) (at : ℕ) → insert_entry derived held pair at ≡ with_add held pair at
+put_by held pair at = ap (λ (R : Pair → Pair → Ordering). insert_entry R held pair at) derived_is

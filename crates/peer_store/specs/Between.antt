@@ -1,5 +1,5 @@
 -- What a search by key among pairs in order stands on: each address is between the first and the last one.
-use Rattle.std.specs.Prelude.{◌≡◌, ℕ, ◌≤◌, false, List}
+use Rattle.std.specs.Prelude.{◌≡◌, false, List}
 use Rattle.std.specs.List.{All}
 use Rattle.std.specs.Ordering.{is_gt, is_lt}
 use Rattle.kad_base.specs.declared.types.Addr.{Addr}
@@ -14,8 +14,7 @@ pub record IsBetween (peer : Addr) : Type 0 where
 abbrev pub AreBetween : List Held → Type 0
 AreBetween held = All (λ h. IsBetween h.0.1) held
 
--- what is kept, and a moment that no last add is before
-pub record IsKept (held : List Held) (since : ℕ) : Type 0 where
+-- what is kept
+pub record IsKept (held : List Held) : Type 0 where
   pub peers : IsPeers held
   pub between : AreBetween held
-  pub none_before : All (λ h. since ≤ h.1) held

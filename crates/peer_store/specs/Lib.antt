@@ -1,4 +1,3 @@
 pub mod Between
 pub mod Peers
 pub mod PeersStep
-pub mod Tokens

@@ -1,7 +1,7 @@
 -- The announced peers as an object whose calls are steps: who may make which call, when each reply comes, and what it
 -- leaves.
 use Rattle.std.specs.Prelude.{◌≡◌, ◌↔◌, ℕ, List}
-use Rattle.peer_store.specs.declared.peers.Stored.TheVariants.{Renewed}
+use Rattle.aged_map.specs.declared.aged.Stored.TheVariants.{Renewed}
 use Rattle.peer_store.specs.Peers.{Held, Holds, HasNoPlace, with_add, purged, listed}
 use Rattle.peer_store.specs.declared.calls.PeerCall.{PeerCall}
 use Rattle.peer_store.specs.declared.calls.PeerCall.TheVariants.{List as List_call, Put}

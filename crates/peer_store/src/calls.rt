@@ -1,5 +1,5 @@
 //! The calls of the announced peers and their replies.
-use crate::peers::Stored;
+use aged_map::Stored;
 use kad_base::{Addr, Addrs, Id};
 
 /// A call of the announced peers, at a moment in milliseconds. Every role may make each.

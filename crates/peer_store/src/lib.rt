@@ -1,5 +1,5 @@
-//! What a node keeps for others: the peers that announced themselves under a key, and the tokens that an announcement
-//! needs (BEP 5). It has no clock and no socket, and knows no message.
+//! What a node keeps for others: the peers that announced themselves under a key (BEP 5). It has no clock and no socket,
+//! and knows no message.
 #![tactic(auto)]
 
 mod adds;
@@ -7,8 +7,7 @@ mod calls;
 mod ends;
 mod peers;
 mod steps;
-mod tokens;
 
+pub use aged_map::Stored;
 pub use calls::{PeerCall, PeerReply};
-pub use peers::{PeerFault, Peers, Stored};
-pub use tokens::Tokens;
+pub use peers::{PeerFault, Peers};

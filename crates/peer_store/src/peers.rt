@@ -3,22 +3,13 @@ ghost use Rattle.std.specs.Prelude.{◌≡◌, ◌↔◌, [], OnOk, OnErr, IfOk}
 ghost use Rattle.std.specs.List.Sorted.{IsStrictlySortedBy};
 ghost use Rattle.peer_store.specs.Peers.{IsPeers, Holds, HasNoPlace, address_cmp, with_add, purged, listed};
 
-use crate::adds::{Adds, MAX_AGE, drop_old, first_fresh, has_no_place, oldest, put};
+use crate::adds::{Adds, drop_old, first_fresh, has_no_place, put};
 use crate::ends::is_between;
+use aged_map::{AgedMap, Stored};
 use kad_base::{Addr, Addrs, Id, NoMemory};
 use std::alloc::Global;
-use std::collections::BTreeMap;
 use std::marker::Model;
 use thiserror::Error;
-
-/// What became of a pair that was added.
-#[derive(Clone, Copy, Debug, PartialEq, Eq)]
-pub enum Stored {
-    /// It wasn't held, and is now.
-    New,
-    /// It was held, and has the new last add.
-    Renewed,
-}
 
 /// Why a pair wasn't added.
 #[derive(Clone, Copy, Debug, PartialEq, Eq, Error)]
@@ -32,14 +23,12 @@ pub enum PeerFault {
 }
 
 /// The peers that announced themselves, each under the key that it named, with the moment of its last add, in
-/// milliseconds. They stand in a B-tree in order of their keys and then of their addresses, so no choice of keys makes a
-/// search longer: it makes at most some 70 comparisons among 65,536 pairs.
+/// milliseconds. They stand in a B-tree in order of their keys and then of their addresses, and in one by age, so no choice
+/// of keys makes a search longer: it makes at most some 70 comparisons among 65,536 pairs.
 #[derive(Debug, Drop)]
 pub struct Peers {
     alloc: Global,
     adds: Adds,
-    /// No last add is before it.
-    since: u64,
 }
 
 impl Model for Peers {
@@ -49,9 +38,9 @@ impl Model for Peers {
 
     ghost Value = { List Held };
 
-    ghost view = { λ p. p.adds.entries };
+    ghost view = { λ p. p.adds };
 
-    ghost invariant = { λ p. IsKept p.adds.entries p.since };
+    ghost invariant = { λ p. IsKept p.adds };
 }
 
 impl Peers {
@@ -61,14 +50,13 @@ impl Peers {
     {
         Peers {
             alloc,
-            adds: BTreeMap::new(alloc),
-            since: u64::MAX,
+            adds: AgedMap::new(alloc),
         }
     }
 
     /// Adds the peer under the key at the moment, or sets its last add where it is held, be it earlier or later than it
-    /// was. A pair that is held takes no memory. On a fault all is as before. Costs one search, and a second one where
-    /// no place is left.
+    /// was. A pair that is held takes no memory that it needs: where the index by age has none, it has no index from then on
+    /// until nothing is held. On a fault all is as before. Costs four searches, and one more where no place is left.
     pub fn add(&mut self, key: Id, peer: Addr, at: u64) -> Result<Stored, PeerFault>
         ensures stored { OnOk result (self.new ≡ with_add self.old (key, peer) at) }
         ensures fault { OnErr result (self.new ≡ self.old) }
@@ -83,14 +71,12 @@ impl Peers {
             Err(NoMemory) => return Err(PeerFault::NoMemory),
         };
         is_between(&peer);
-        self.since = self.since.min(at);
         Ok(stored)
     }
 
     /// The peers of the key whose last add is less than 30 minutes before the moment, the first 50 in the order of
     /// addresses, those of IPv4 before those of IPv6. A last add after the moment counts as 0 before it. Costs a search and
-    /// a step for each peer of the key until 50 are fresh: so a key costs more only while old peers of it wait for a purge,
-    /// at most 65,536.
+    /// a step for each peer of the key until 50 are fresh, and nothing more than a search where all that is held is old.
     pub fn list(&self, key: Id, at: u64) -> Result<Addrs, NoMemory>
         ensures listed { IfOk result (λ peers. peers ≡ listed self.now key at) }
         ensures in_order { IfOk result (IsStrictlySortedBy address_cmp) }
@@ -100,16 +86,10 @@ impl Peers {
     }
 
     /// Drops the pairs whose last add is 30 minutes or more before the moment. A last add after the moment counts as 0
-    /// before it. Takes no memory. Costs one comparison while no add is that old that was ever the earliest; else two
-    /// passes over all that is held. While moments don't fall, no two purges at one moment make a pass, and there are no
-    /// more passes than there were different moments of adds.
+    /// before it. Takes no memory. Costs a search for each pair that it drops, and one more.
     pub fn purge(&mut self, at: u64)
         ensures { self.new ≡ purged self.old at }
     {
-        if at.saturating_sub(self.since) < MAX_AGE {
-            return;
-        }
         drop_old(&mut self.adds, at);
-        self.since = oldest(&self.adds);
     }
 }

@@ -6,10 +6,10 @@ use Rattle.std.proofs.lemmas.Simd.{map-map}
 use Rattle.std.proofs.lemmas.List.{get_or-map, get_or_default, length-map, length-take-le, take-map, take-take}
 use Rattle.std.proofs.lemmas.List.Elements.{All-map}
 use Rattle.std.proofs.lemmas.List.Folds.{flat_map-map}
-use Rattle.deal_ring.specs.declared.place.Place.{Place}
-use Rattle.deal_ring.specs.Deal.{dealt}
-use Rattle.deal_ring.specs.Ring.{ring, share, in_order}
-use Rattle.deal_ring.proofs.Rings.{dealt_map, in_order_map, ring_within, within_share}
+use Rattle.serve_batches.specs.declared.place.Place.{Place}
+use Rattle.serve_batches.specs.Deal.{dealt}
+use Rattle.serve_batches.specs.Ring.{ring, share, in_order}
+use Rattle.serve_batches.proofs.Rings.{dealt_map, in_order_map, ring_within, within_share}
 use Rattle.turn_book.specs.Turns.{TurnState}
 use Rattle.contact_table.specs.TableState.{TableState}
 use Rattle.peer_store.specs.Peers.{Held}

@@ -11,9 +11,9 @@ use Rattle.turn_book.specs.Turns.{TurnState}
 use Rattle.contact_table.specs.TableState.{TableState}
 use Rattle.peer_store.specs.Peers.{Held}
 use Rattle.item_store.specs.Items.{Held as HeldItem}
-use Rattle.deal_ring.specs.Deal.{dealt}
-use Rattle.deal_ring.specs.Ring.{ring}
-use Rattle.deal_ring.proofs.Rings.{length_in_order}
+use Rattle.serve_batches.specs.Deal.{dealt}
+use Rattle.serve_batches.specs.Ring.{ring}
+use Rattle.serve_batches.proofs.Rings.{length_in_order}
 use Rattle.node_serve.specs.Receives.{got_in, sent_in, waits_until}
 use Rattle.node_serve.specs.Sealing.{Tags}
 use Rattle.node_serve.specs.declared.service.ServeFault.{ServeFault}

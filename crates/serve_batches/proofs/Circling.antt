@@ -1,8 +1,8 @@
 -- The place of the next datagram goes round the ring.
 use Rattle.std.proofs.Common.{◌≡◌, ℕ, suc, ◌+◌, ◌^◌, ◌<◌, ◌≤◌, sym, ap, subst, ◌∙◌, arith}
-use Rattle.deal_ring.specs.declared.place.Place.{Place}
-use Rattle.deal_ring.specs.Ring.{ring, behind}
-use Rattle.deal_ring.proofs.Rings.{ring_within, ring_round}
+use Rattle.serve_batches.specs.declared.place.Place.{Place}
+use Rattle.serve_batches.specs.Ring.{ring, behind}
+use Rattle.serve_batches.proofs.Rings.{ring_within, ring_round}
 
 pub ring_next : (n k j : ℕ) (p q : Place) → k ≡ n → p ≡ ring n j → q ≡ behind k p → q ≡ ring n (j + 1)
 ring_next n k j p q e is next = (let up : suc j ≡ j + 1 = omega arith in next ∙ ap (λ m. behind m p) e ∙ ap (behind n) is ∙ ap (ring n) up)

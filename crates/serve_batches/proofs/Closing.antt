@@ -11,7 +11,7 @@ use Rattle.kad_base.specs.declared.types.Event.{Event}
 use Rattle.kad_base.specs.declared.serial.Made.{Made}
 use Rattle.kad_base.specs.Serial.{made, calls_of, left_by, IsRun}
 use Rattle.kad_base.specs.Outside.{Happens}
-use Rattle.deal_ring.specs.Deal.{dealt_from, dealt}
+use Rattle.serve_batches.specs.Deal.{dealt_from, dealt}
 use Rattle.turn_book.proofs.Ended.{all_in_row, each_in_row, mine_few, all_run, none_made}
 use Rattle.turn_book.specs.Turns.{TurnState, PassState, Closed, fresh, all_fresh, mine}
 use Rattle.contact_table.specs.TableState.{TableState}

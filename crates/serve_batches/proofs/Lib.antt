@@ -1,3 +1,4 @@
+pub mod Rings
 pub mod Answering
 pub mod Arriving
 pub mod Batching

@@ -3,8 +3,8 @@ use Rattle.std.proofs.Common.{◌≡◌, ℕ, ◌-◌, ◌<◌, ◌≤◌, List,
 use Rattle.std.specs.Prelude.{slice_index_or}
 use Rattle.std.proofs.lemmas.Bool.{cases_lt}
 use Rattle.std.proofs.lemmas.List.{length-append, length-drop, get_or_append_left, get_or-append_right, get_or-drop, get_or-take, take_at, length-take-le}
-use Rattle.deal_ring.specs.declared.place.Place.{Place}
-use Rattle.deal_ring.specs.Ring.{share}
+use Rattle.serve_batches.specs.declared.place.Place.{Place}
+use Rattle.serve_batches.specs.Ring.{share}
 use Rattle.node_serve.specs.Sealing.{Tags}
 use Rattle.node_serve.specs.declared.setting.ServeSetting.{ServeSetting}
 use Rattle.serve_crew.specs.Hands.{Hands}

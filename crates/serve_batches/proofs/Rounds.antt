@@ -5,10 +5,10 @@ use Rattle.std.proofs.Math.Nat.{mul-le-mul_right}
 use Rattle.std.proofs.lemmas.Bool.{cases_lt, cases_eq, cond-true, cond-false, lt-ltb, le-ltb}
 use Rattle.std.proofs.lemmas.List.{get_or-set_same, get_or-set_other, get_or-take, take_all}
 use Rattle.std.proofs.lemmas.List.Elements.{All-nil, All-push, All-same}
-use Rattle.deal_ring.specs.declared.place.Place.{Place}
-use Rattle.deal_ring.specs.Deal.{dealt}
-use Rattle.deal_ring.specs.Ring.{place, ring, share, item_at, in_order}
-use Rattle.deal_ring.proofs.Rings.{ring_is, ring_within, ring_apart, within_share, in_order_more, in_order_same, dealt_in_order}
+use Rattle.serve_batches.specs.declared.place.Place.{Place}
+use Rattle.serve_batches.specs.Deal.{dealt}
+use Rattle.serve_batches.specs.Ring.{place, ring, share, item_at, in_order}
+use Rattle.serve_batches.proofs.Rings.{ring_is, ring_within, ring_apart, within_share, in_order_more, in_order_same, dealt_in_order}
 
 -- ---- room
 

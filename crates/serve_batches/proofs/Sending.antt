@@ -6,9 +6,9 @@ use Rattle.std.proofs.lemmas.List.Elements.{filter-append, All-nil, All-push, Al
 use Rattle.kad_base.specs.declared.types.Addr.{Addr}
 use Rattle.kad_base.specs.declared.types.Event.{Event}
 use Rattle.kad_base.specs.Outside.{Grows, Happens}
-use Rattle.deal_ring.specs.declared.place.Place.{Place}
-use Rattle.deal_ring.specs.Ring.{ring}
-use Rattle.deal_ring.proofs.Rings.{in_order_more}
+use Rattle.serve_batches.specs.declared.place.Place.{Place}
+use Rattle.serve_batches.specs.Ring.{ring}
+use Rattle.serve_batches.proofs.Rings.{in_order_more}
 use Rattle.node_serve.specs.Receives.{is_got, got_in, sent_in}
 use Rattle.node_serve.proofs.Receiving.{sent_then}
 use Rattle.serve_batches.specs.Batches.{sent_for}

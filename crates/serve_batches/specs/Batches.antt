@@ -5,7 +5,7 @@ use Rattle.std.specs.List.{flat_map}
 use Rattle.kad_base.specs.declared.types.Addr.{Addr}
 use Rattle.kad_base.specs.declared.types.Event.{Event}
 use Rattle.kad_base.specs.declared.types.Event.TheVariants.{Got, Quiet}
-use Rattle.deal_ring.specs.Deal.{dealt}
+use Rattle.serve_batches.specs.Deal.{dealt}
 use Rattle.node_serve.specs.Calls.{Did}
 use Rattle.node_serve.specs.Queries.{IsSilent}
 use Rattle.node_serve.specs.Receives.{tried, waits_until}

@@ -4,8 +4,8 @@ use Rattle.std.specs.List.{All}
 use Rattle.kad_base.specs.declared.types.Addr.{Addr}
 use Rattle.kad_base.specs.declared.types.Ip.TheVariants.{V4}
 use Rattle.kad_base.specs.declared.types.Event.{Event}
-use Rattle.deal_ring.specs.Ring.{share, in_order, item_at}
-use Rattle.deal_ring.specs.declared.place.Place.{Place}
+use Rattle.serve_batches.specs.Ring.{share, in_order, item_at}
+use Rattle.serve_batches.specs.declared.place.Place.{Place}
 use Rattle.turn_book.specs.Turns.{TurnState}
 use Rattle.contact_table.specs.TableState.{TableState}
 use Rattle.peer_store.specs.Peers.{Held}

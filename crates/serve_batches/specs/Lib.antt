@@ -1,3 +1,5 @@
+pub mod Deal
+pub mod Ring
 pub mod Batches
 pub mod Crew
 pub mod ManyServed

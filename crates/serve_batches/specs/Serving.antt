@@ -2,7 +2,7 @@
 use Rattle.std.specs.Prelude.{◌≡◌, ℕ, ◌+◌, ◌<◌, List, ◌++◌, length, slice_index_or}
 use Rattle.std.specs.List.{All, flat_map}
 use Rattle.kad_base.specs.declared.types.Event.{Event}
-use Rattle.deal_ring.specs.Deal.{dealt}
+use Rattle.serve_batches.specs.Deal.{dealt}
 use Rattle.turn_book.specs.Turns.{TurnState}
 use Rattle.contact_table.specs.TableState.{TableState}
 use Rattle.peer_store.specs.Peers.{Held}

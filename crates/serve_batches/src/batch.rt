@@ -15,7 +15,7 @@ use crate::replying::{all_went, send_replies};
 use crate::shift::Shift;
 use contact_table::Table;
 use item_store::Items;
-use kad_base::{Failed, Link};
+use kad_base::{Failed, Link, NoMemory};
 use node_serve::{ServeFault, ServeSetting};
 use peer_store::Peers;
 use seal_tags::Seal;
@@ -95,8 +95,9 @@ fn serve_batch<R: Threads + Wait + Sync, L: Link, G: Seal + Sync>(
         &batch.place,
         crew,
     );
-    if !all_went(crew, batch.came) {
-        return Err(ServeFault::NoMemory);
+    match all_went(crew, batch.came) {
+        Ok(()) => {}
+        Err(NoMemory) => return Err(ServeFault::NoMemory),
     }
     let sent = send_replies(link, crew, batch.came);
     progress.moment = batch.moment;

@@ -1,14 +1,14 @@
 //! All workers, each with its datagrams in a thread of its own.
 ghost use Rattle.std.specs.Prelude.{◌≡◌, ◌≤◌, ◌<◌, ◌+◌, ◌^◌, ℕ, length};
 ghost use Rattle.std.specs.List.{All};
-ghost use Rattle.deal_ring.specs.Ring.{share};
+ghost use Rattle.serve_batches.specs.Ring.{share};
 ghost use Rattle.node_serve.specs.Calls.{IsSetting};
 ghost use Rattle.serve_batches.specs.Crew.{CanWork, Worked, AllWorked, HasShares, SameCrew};
 ghost use Rattle.serve_batches.specs.declared.shift.Shift.{Shift};
 
+use crate::place::Place;
 use crate::shift::Shift;
 use contact_table::Table;
-use deal_ring::Place;
 use item_store::Items;
 use node_serve::ServeSetting;
 use peer_store::Peers;

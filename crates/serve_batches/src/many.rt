@@ -152,7 +152,7 @@ pub fn serve_many<R: Threads + Wait + Sync, L: Link, G: Seal + Sync>(
     let peers = Peers::new(alloc);
     let (stores, mut peers_row) = match Turn::new(alloc, peers, workers) {
         Ok(opened) => opened,
-        Err(TurnNoMemory { .. }) => {
+        Err(_) => {
             let (table, _) = tables.close(table_row);
             return (table, Err(ServeFault::NoMemory));
         }
@@ -160,7 +160,7 @@ pub fn serve_many<R: Threads + Wait + Sync, L: Link, G: Seal + Sync>(
     let items = Items::new(alloc);
     let (shelves, mut items_row) = match Turn::new(alloc, items, workers) {
         Ok(opened) => opened,
-        Err(TurnNoMemory { .. }) => {
+        Err(_) => {
             let (table, _) = tables.close(table_row);
             return (table, Err(ServeFault::NoMemory));
         }

@@ -1,20 +1,18 @@
 //! The receive calls of a batch.
 ghost use Rattle.std.specs.Prelude.{◌≡◌, ◌≤◌, ◌<◌, [], min, length, IfOk, OnErr};
 ghost use Rattle.kad_base.specs.Outside.{Grows, Rose, Happens};
-ghost use Rattle.deal_ring.specs.Ring.{ring};
+ghost use Rattle.serve_batches.specs.Ring.{ring};
 ghost use Rattle.serve_batches.specs.Batches.{IsCutOff};
 ghost use Rattle.serve_batches.specs.Crew.{AreRoomy, SameCrew, PutAt, IsReceived, slot_at, slots_of};
 ghost use Rattle.serve_batches.specs.Slots.{Took, datagram_in, took_event};
 
+use crate::place::Place;
 use crate::shift::Shift;
-use deal_ring::Place;
+use kad_base::limits::MAX_WAIT;
 use kad_base::{Came, Failed, Link};
 
 /// The most receive calls of a batch.
 pub(crate) const MAX_BATCH: u32 = 32;
-
-/// How long the first receive call of a batch waits, in milliseconds.
-const PATIENCE: u64 = 60_000;
 
 /// A batch that was received: to which place a further datagram would go, how many came, how many receive calls were made,
 /// and the moment that was told last.
@@ -76,7 +74,7 @@ fn receive_into<L: Link>(
     let n = crew.len();
     let most = left.min(MAX_BATCH);
     let mut place = Place::first();
-    let mut until = moment.saturating_add(PATIENCE);
+    let mut until = moment.saturating_add(MAX_WAIT);
     for made in 0..most {
         match receive_at(link, crew, place, until) {
             Ok(Came::Packet { at, .. }) => {

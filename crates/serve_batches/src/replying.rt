@@ -1,14 +1,14 @@
 //! The replies of a batch, in the order in which its datagrams came.
-ghost use Rattle.std.specs.Prelude.{◌≡◌, ◌≤◌, ◌<◌, length, IsTrue};
+ghost use Rattle.std.specs.Prelude.{◌≡◌, ◌≤◌, ◌<◌, length, OnOk};
 ghost use Rattle.kad_base.specs.Outside.{Grows, Happens};
 ghost use Rattle.node_serve.specs.Receives.{sent_in};
 ghost use Rattle.serve_batches.specs.Crew.{AreRoomy, AllWent, SendsAll, batch_slots, slot_at, slots_of};
 ghost use Rattle.serve_batches.specs.Slots.{Went, sends_of};
 
+use crate::place::Place;
 use crate::shift::Shift;
 use crate::slot::Slot;
-use deal_ring::Place;
-use kad_base::Link;
+use kad_base::{Link, NoMemory};
 
 /// The slot at a place.
 fn slot_of(crew: &[Shift], place: Place) -> &Slot
@@ -20,29 +20,30 @@ fn slot_of(crew: &[Shift], place: Place) -> &Slot
 }
 
 /// Whether there was memory for the answers to the first so many datagrams.
-fn went(crew: &[Shift], came: u32) -> bool
+fn went(crew: &[Shift], came: u32) -> Result<(), NoMemory>
     requires some { 0 < length crew.now }
     requires roomy { AreRoomy crew.now }
     requires few { came ≤ 32 }
-    ensures { IsTrue result → AllWent (batch_slots crew.now came) }
+    ensures { OnOk result (AllWent (batch_slots crew.now came)) }
 {
     let n = crew.len();
     let mut place = Place::first();
     for j in 0..came {
-        if !slot_of(crew, place).went() {
-            return false;
+        match slot_of(crew, place).went() {
+            Ok(()) => {}
+            Err(NoMemory) => return Err(NoMemory),
         }
         place = place.next(n);
     }
-    true
+    Ok(())
 }
 
 /// The same over the crew's own list.
-pub(crate) fn all_went(crew: &Vec<Shift>, came: u32) -> bool
+pub(crate) fn all_went(crew: &Vec<Shift>, came: u32) -> Result<(), NoMemory>
     requires some { 0 < length crew.now.items }
     requires roomy { AreRoomy crew.now.items }
     requires few { came ≤ 32 }
-    ensures { IsTrue result → AllWent (batch_slots crew.now.items came) }
+    ensures { OnOk result (AllWent (batch_slots crew.now.items came)) }
 {
     went(crew.as_slice(), came)
 }

@@ -3,7 +3,7 @@
 use contact_table::Table;
 use item_store::Items;
 use kad_base::limits::{MAX_DATAGRAM, RECEIVE_ROOM};
-use kad_base::{Addr, Came, Failed, Ip, Link};
+use kad_base::{Addr, Came, Failed, Ip, Link, NoMemory};
 use node_serve::{Answered, ServeSetting};
 use peer_store::Peers;
 use seal_tags::Seal;
@@ -35,10 +35,11 @@ impl Model for Slot {
 }
 
 impl Slot {
-    ghost use Rattle.std.specs.Prelude.{◌≡◌, ◌≤◌, ◌↔◌, [], IfOk, OnErr, IsTrue};
+    ghost use Rattle.std.specs.Prelude.{◌≡◌, ◌≤◌, [], IfOk, OnOk, OnErr};
     ghost use Rattle.kad_base.specs.Outside.{Grows, Rose};
     ghost use Rattle.node_serve.specs.Calls.{IsSetting};
     ghost use Rattle.node_serve.specs.Receives.{sent_in};
+    ghost use Rattle.node_serve.specs.declared.node.Answered.{Answered};
     ghost use Rattle.serve_crew.specs.Hands.{SameHands};
     ghost use Rattle.serve_batches.specs.Slots.{Took, took_event, datagram_in, AnswersOne, Went, sends_of};
 
@@ -114,13 +115,14 @@ impl Slot {
     }
 
     /// Whether there was memory for the answer.
-    pub(crate) fn went(&self) -> bool
-        ensures { IsTrue result ↔ Went self.now.answered }
+    pub(crate) fn went(&self) -> Result<(), NoMemory>
+        ensures ok { OnOk result (Went self.now.answered) }
+        ensures err { OnErr result (self.now.answered ≡ Answered.NoMemory) }
     {
         match self.answered {
-            Answered::Reply(_) => true,
-            Answered::Silent => true,
-            Answered::NoMemory => false,
+            Answered::Reply(_) => Ok(()),
+            Answered::Silent => Ok(()),
+            Answered::NoMemory => Err(NoMemory),
         }
     }
 

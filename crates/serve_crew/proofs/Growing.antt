@@ -1,33 +1,13 @@
 -- A worker's own calls grow by some, and then by others.
-use Rattle.std.proofs.Common.{◌≡◌, ◌≤◌, ℕ, List, [], ◌∷◌, ◌++◌, length, refl, sym, ap, subst, ◌∙◌, append_assoc, append-nil}
+use Rattle.std.proofs.Common.{◌≡◌, ℕ, List, [], ◌∷◌, ◌++◌, refl, sym, ap, subst, ◌∙◌, append_assoc, append-nil}
 use Rattle.std.specs.List.{flat_map}
 use Rattle.std.proofs.lemmas.Grind.{flat_map-append}
 use Rattle.kad_base.specs.declared.serial.Made.{Made}
-use Rattle.kad_base.specs.declared.types.Id.{Id}
-use Rattle.kad_base.specs.declared.types.Addr.{Addr}
 use Rattle.kad_base.specs.declared.types.Contact.{Contact}
 use Rattle.kad_base.specs.Serial.{made, left_by, IsRun}
 use Rattle.turn_book.specs.Turns.{PassState, GoesOnTo, mine}
-use Rattle.contact_table.specs.TableState.{TableState}
-use Rattle.contact_table.specs.TableStep.{TableMay, TableStep, table_after}
-use Rattle.contact_table.specs.declared.calls.TableCall.{TableCall}
-use Rattle.contact_table.specs.declared.calls.TableCall.TheVariants.{Closest, Failed}
-use Rattle.contact_table.specs.declared.calls.TableReply.{TableReply}
-use Rattle.contact_table.specs.declared.calls.TableReply.TheVariants.{List as List_reply}
-use Rattle.peer_store.specs.Peers.{Held}
-use Rattle.peer_store.specs.PeersStep.{PeersMay, PeersStep, peers_after}
-use Rattle.peer_store.specs.declared.calls.PeerCall.{PeerCall}
-use Rattle.peer_store.specs.declared.calls.PeerCall.TheVariants.{List as List_call}
-use Rattle.peer_store.specs.declared.calls.PeerReply.{PeerReply}
-use Rattle.peer_store.specs.declared.calls.PeerReply.TheVariants.{Listed}
-use Rattle.item_store.specs.Items.{Held as HeldItem, IsItem}
-use Rattle.item_store.specs.ItemSteps.{ItemMay, ItemStep, item_after}
-use Rattle.item_store.specs.declared.calls.ItemCall.{ItemCall}
-use Rattle.item_store.specs.declared.calls.ItemCall.TheVariants.{Get as Get_call}
-use Rattle.item_store.specs.declared.calls.ItemReply.{ItemReply}
-use Rattle.item_store.specs.declared.calls.ItemReply.TheVariants.{Held as Held_reply}
+use Rattle.contact_table.specs.declared.calls.TableCall.TheVariants.{Failed}
 use Rattle.node_serve.specs.Calls.{Did}
-use Rattle.node_serve.proofs.Gathering.{closest_short as closest_few, listed_short as listed_few}
 use Rattle.serve_crew.specs.Hands.{Hands, TablePass, PeersPass, ItemsPass, SamePass, SameHands, Grew, Called, at_table, at_peers, at_items, hands}
 use Rattle.serve_crew.specs.Serving.{TellsLost}
 
@@ -73,14 +53,3 @@ module _ {S C R : Type 0} (may : ℕ → C → Type 0) (step : S → ℕ → C �
 
   pub last_step : (s : S) (role : ℕ) (call : C) (reply : R) (old new : List (Made C R)) → IsRun may step after s new → (g : GoesOnTo (made role call reply) old new) → step (left_by after s (old ++ g.0)) role call reply
   last_step s role call reply old new run g = (run_back s (old ++ g.0) (made role call reply ∷ []) (subst (IsRun may step after s) g.1 run)).1
-
-pub closest_short : (s : TableState) (role : ℕ) (target : Id) (n : ℕ) (list : List Contact) (old new : List (Made TableCall TableReply)) → IsRun TableMay TableStep table_after s new → GoesOnTo (made role (Closest target n) (List_reply list)) old new → length list ≤ n
-closest_short s role target n list old new run g =
-    closest_few (left_by table_after s (old ++ g.0)) target n list (last_step TableMay TableStep table_after s role (Closest target n) (List_reply list) old new run g)
-
-pub listed_short : (s : List Held) (role : ℕ) (key : Id) (at : ℕ) (list : List Addr) (old new : List (Made PeerCall PeerReply)) → IsRun PeersMay PeersStep peers_after s new → GoesOnTo (made role (List_call key at) (Listed list)) old new → length list ≤ 50
-listed_short s role key at list old new run g =
-    listed_few (left_by peers_after s (old ++ g.0)) key at list (last_step PeersMay PeersStep peers_after s role (List_call key at) (Listed list) old new run g)
-
-pub got_item : (s : List HeldItem) (role : ℕ) (key : Id) (at : ℕ) (v : List ℕ) (old new : List (Made ItemCall ItemReply)) → IsRun ItemMay ItemStep item_after s new → GoesOnTo (made role (Get_call key at) (Held_reply v)) old new → IsItem v
-got_item s role key at v old new run g = (last_step ItemMay ItemStep item_after s role (Get_call key at) (Held_reply v) old new run g).1

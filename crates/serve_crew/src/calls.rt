@@ -12,11 +12,27 @@ ghost use Rattle.serve_crew.specs.Serving.{Keeps, Places};
 
 use contact_table::{Table, TableCall, TableReply};
 use item_store::{ItemCall, ItemReply, Items};
-use kad_base::{Addr, Addrs, Bytes, Contact, Contacts, Id, NoMemory};
+use kad_base::{Addr, Addrs, Bytes, Contact, Contacts, Id, NoMemory, Serial};
 use node_serve::Gained;
 use peer_store::{PeerCall, PeerReply, Peers};
 use std::sync::Wait;
 use turn_book::{Pass, Turn};
+
+/// Makes a call at a turn. Its reply is one that the rules allow in some state.
+fn reply_to<S: Serial, R: Wait>(
+    rt: &R,
+    turn: &Turn<S>,
+    pass: &mut Pass<S>,
+    call: S::Call,
+) -> S::Reply
+    requires own { pass.old.turn ≡ turn.now.id }
+    requires may { S.may pass.old.role call }
+    ensures same { SamePass pass.old pass.new }
+    ensures replied { Replied call result pass.old pass.new }
+    ensures step { (s : S) × S.step s pass.old.role call result }
+{
+    turn.call(rt, pass, call)
+}
 
 /// Asks the table for the closest contacts.
 pub(crate) fn closest<R: Wait>(
@@ -33,9 +49,11 @@ pub(crate) fn closest<R: Wait>(
         pass.old pass.new) }
     ensures err { OnErr result (Called (TableCall.Closest target n) pass.old pass.new) }
 {
-    match turn.call(rt, pass, TableCall::Closest { target, n }) {
+    match reply_to(rt, turn, pass, TableCall::Closest { target, n }) {
         TableReply::List { list } => Ok(list),
-        _ => Err(NoMemory),
+        TableReply::NoMemory => Err(NoMemory),
+        TableReply::Seen { .. } => unreachable!(),
+        TableReply::Gone { .. } => unreachable!(),
     }
 }
 
@@ -54,9 +72,11 @@ pub(crate) fn list<R: Wait>(
         pass.old pass.new) }
     ensures err { OnErr result (Called (PeerCall.List key at) pass.old pass.new) }
 {
-    match turn.call(rt, pass, PeerCall::List { key, at }) {
+    match reply_to(rt, turn, pass, PeerCall::List { key, at }) {
         PeerReply::Listed { list } => Ok(list),
-        _ => Err(NoMemory),
+        PeerReply::NoMemory => Err(NoMemory),
+        PeerReply::Stored { .. } => unreachable!(),
+        PeerReply::Full => unreachable!(),
     }
 }
 
@@ -74,11 +94,11 @@ pub(crate) fn place<R: Wait>(
     ensures ok { IfOk result (λ g. Places key peer at g pass.old pass.new) }
     ensures err { OnErr result (Called (PeerCall.Put key peer at) pass.old pass.new) }
 {
-    match turn.call(rt, pass, PeerCall::Put { key, peer, at }) {
+    match reply_to(rt, turn, pass, PeerCall::Put { key, peer, at }) {
         PeerReply::Stored { stored } => Ok(Gained::Placed { stored }),
         PeerReply::Full => Ok(Gained::Full),
         PeerReply::NoMemory => Err(NoMemory),
-        PeerReply::Listed { .. } => Err(NoMemory),
+        PeerReply::Listed { .. } => unreachable!(),
     }
 }
 
@@ -97,10 +117,12 @@ pub(crate) fn get<R: Wait>(
         pass.old pass.new) }
     ensures err { OnErr result (Called (ItemCall.Get key at) pass.old pass.new) }
 {
-    match turn.call(rt, pass, ItemCall::Get { key, at }) {
+    match reply_to(rt, turn, pass, ItemCall::Get { key, at }) {
         ItemReply::Held { v } => Ok(Some(v)),
         ItemReply::Absent => Ok(None),
-        _ => Err(NoMemory),
+        ItemReply::NoMemory => Err(NoMemory),
+        ItemReply::Stored { .. } => unreachable!(),
+        ItemReply::Full => unreachable!(),
     }
 }
 
@@ -118,12 +140,12 @@ pub(crate) fn keep<R: Wait>(
     ensures ok { IfOk result (λ g. Keeps v at g pass.old pass.new) }
     ensures err { OnErr result (Called (ItemCall.Put v at) pass.old pass.new) }
 {
-    match turn.call(rt, pass, ItemCall::Put { v, at }) {
+    match reply_to(rt, turn, pass, ItemCall::Put { v, at }) {
         ItemReply::Stored { stored } => Ok(Gained::Kept { stored }),
         ItemReply::Full => Ok(Gained::Crowded),
         ItemReply::NoMemory => Err(NoMemory),
-        ItemReply::Held { .. } => Err(NoMemory),
-        ItemReply::Absent => Err(NoMemory),
+        ItemReply::Held { .. } => unreachable!(),
+        ItemReply::Absent => unreachable!(),
     }
 }
 
@@ -139,7 +161,7 @@ pub(crate) fn tell<R: Wait>(
     ensures ok { OnOk result (ToldOf contact pass.old pass.new) }
     ensures err { OnErr result (Called (TableCall.Seen contact) pass.old pass.new) }
 {
-    match turn.call(rt, pass, TableCall::Seen { contact }) {
+    match reply_to(rt, turn, pass, TableCall::Seen { contact }) {
         TableReply::NoMemory => Err(NoMemory),
         _ => Ok(()),
     }
@@ -152,5 +174,5 @@ pub(crate) fn fail<R: Wait>(rt: &R, turn: &Turn<Table>, pass: &mut Pass<Table>, 
     ensures same { SamePass pass.old pass.new }
     ensures told { Called (TableCall.Failed contact) pass.old pass.new }
 {
-    turn.call(rt, pass, TableCall::Failed { contact });
+    reply_to(rt, turn, pass, TableCall::Failed { contact });
 }

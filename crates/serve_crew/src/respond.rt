@@ -11,6 +11,7 @@ ghost use Rattle.serve_crew.specs.Serving.{RepliesTo, StopsAt};
 use crate::gather::{gather, tell_asker};
 use contact_table::Table;
 use item_store::Items;
+use kad_base::limits::MAX_DATAGRAM;
 use kad_base::{List, NoMemory};
 use node_serve::{Asked, ServeSetting, compose, plan, seal_reply, told_for, write};
 use peer_store::Peers;
@@ -33,7 +34,7 @@ pub(crate) fn respond<R: Wait, G: Seal>(
     asked: &Asked,
     at: u64,
     seal: &G,
-    out: &mut [u8; 4096],
+    out: &mut [u8; MAX_DATAGRAM],
 ) -> Result<usize, NoMemory>
     requires setting { IsSetting setting.now }
     requires table { table.old.turn ≡ tables.now.id }

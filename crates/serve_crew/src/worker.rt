@@ -10,6 +10,7 @@ use crate::calls::fail;
 use crate::respond::respond;
 use contact_table::Table;
 use item_store::Items;
+use kad_base::limits::MAX_DATAGRAM;
 use kad_base::{Addr, Contact, NoMemory};
 use node_serve::{Answered, ServeSetting, read_query};
 use peer_store::Peers;
@@ -85,7 +86,7 @@ impl ServeWorker {
         bytes: &[u8],
         at: u64,
         seal: &G,
-        out: &mut [u8; 4096],
+        out: &mut [u8; MAX_DATAGRAM],
     ) -> Answered
         requires setting { IsSetting setting.now }
         requires table { self.old.table.turn ≡ tables.now.id }

@@ -25,7 +25,7 @@ use kad_base::{Bytes, Check, Contact, Family, Id, Link, List, NoMemory, Reports,
 use kad_words::LookWords;
 use look_many::{Many, ManyFault, ManySetting, One, look_many};
 use node_serve::ServeSetting;
-use peer_store::Tokens;
+use node_tokens::Tokens;
 use seal_tags::{Seal, SealCheck};
 use std::alloc::Global;
 use std::sync::Wait;

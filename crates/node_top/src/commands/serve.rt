@@ -21,7 +21,7 @@ use crate::status::Status;
 use contact_table::Table;
 use kad_base::{Bytes, Check, Family, Id, Link, List, NoMemory, Policy, Reports, Source};
 use node_serve::{Node, ServeCounts, ServeFault, ServeSetting, serve_loop};
-use peer_store::Tokens;
+use node_tokens::Tokens;
 use seal_tags::{Seal, SealCheck};
 use serve_batches::serve_many;
 use std::alloc::Global;

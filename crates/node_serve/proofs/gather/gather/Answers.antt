@@ -1,18 +1,12 @@
-use Rattle.std.proofs.Common.{List, sym, subst, ap, ◌∙◌, IfOk}
-use Rattle.std.specs.Prelude.{Result}
-use Rattle.kad_base.specs.declared.types.NoMemory.{NoMemory}
-use Rattle.node_serve.specs.declared.composing.Gained.{Gained}
+use Rattle.std.proofs.Common.{List, sym, subst, IfOk}
 use Rattle.node_serve.specs.declared.composing.Gained.TheVariants as gained
 use Rattle.node_serve.specs.declared.planning.Wants.{Wants}
-use Rattle.peer_store.specs.declared.calls.PeerCall.TheVariants.{Put}
-use Rattle.peer_store.specs.PeersStep.{peers_after}
 use Rattle.peer_store.specs.Peers.{Held}
 use Rattle.item_store.specs.Items.{Held as HeldItem}
 use Rattle.node_serve.specs.NodeState.{Stores}
-use Rattle.node_serve.specs.Gathered.{Gathers, LeavesBy}
+use Rattle.node_serve.specs.Gathered.{Gathers}
 use Rattle.node_serve.proofs.Gathering.{nodes, peers, item, placed, no_place, keeps, keeps_left, keeps_few}
 use Rattle.node_serve.proofs.gather.gather.Goals as goal
-use Rattle.node_serve.proofs.gather.gather.Goals.{in-Stored, in-Full, in_default}
 
 abbrev both : List Held → List HeldItem → Stores
 both peers items = record { peers = peers; items = items }
@@ -27,32 +21,21 @@ returns-in-Ok-closest-clause-ok c =
     subst (λ (w : Wants). Gathers c.args.k c.args.at w (gained.Peers c.in-Ok-list.list c.in-Ok-closest.nodes) c.args.table.now (both c.args.peers.now c.args.items.now) (both c.list.new.peers c.args.items.now)) (sym c.in-Peers.is)
     (peers c.args.k c.args.at c.args.table.now (both c.args.peers.now c.args.items.now) c.in-Peers.key c.in-Ok-list.list c.in-Ok-closest.nodes c.list.new.peers c.in-Ok-list.ensures.ok c.in-Ok-closest.ensures.ok c.in-Ok-list.ensures.same)
 
-pub returns-after-apply-clause-ok : goal.returns-after-apply-clause-ok
-returns-after-apply-clause-ok c =
+pub returns-in-Stored-clause-ok : goal.returns-in-Stored-clause-ok
+returns-in-Stored-clause-ok c =
     let t = c.args.table.now in
     let p = both c.args.peers.now c.args.items.now in
     let q = both c.apply.new.self c.args.items.now in
-    let P : Result Gained NoMemory → Type 0 = λ r. IfOk r (λ g'. Gathers c.args.k c.args.at c.args.wants g' t p q) in
-    elim c.match-apply.branch [
-      | in-Stored w ↦ subst P (sym w.result-is)
-          (subst (λ (v : Wants). Gathers c.args.k c.args.at v (gained.Placed w.in-Stored.stored) t p q) (sym c.in-Place.is)
-          (placed c.args.k c.args.at t p c.in-Place.key c.in-Place.peer w.in-Stored.stored c.apply.result c.apply.new.self w.in-Stored.is c.apply.ensures.step c.apply.ensures.after))
-      | in-Full w ↦ subst P (sym w.result-is)
-          (subst (λ (v : Wants). Gathers c.args.k c.args.at v gained.Full t p q) (sym c.in-Place.is)
-          (no_place c.args.k c.args.at t p c.in-Place.key c.in-Place.peer c.apply.result c.apply.new.self w.in-Full.is c.apply.ensures.step c.apply.ensures.after))
-      | in_default w ↦ subst P (sym w.result-is) tt
-    ]
+    subst (λ (v : Wants). Gathers c.args.k c.args.at v (gained.Placed c.in-Stored.stored) t p q) (sym c.in-Place.is)
+    (placed c.args.k c.args.at t p c.in-Place.key c.in-Place.peer c.in-Stored.stored c.apply.result c.apply.new.self c.in-Stored.is c.apply.ensures.step c.apply.ensures.after)
 
-pub returns-after-apply-clause-left : goal.returns-after-apply-clause-left
-returns-after-apply-clause-left c =
+pub returns-in-Full-clause-ok : goal.returns-in-Full-clause-ok
+returns-in-Full-clause-ok c =
+    let t = c.args.table.now in
     let p = both c.args.peers.now c.args.items.now in
     let q = both c.apply.new.self c.args.items.now in
-    let P : Result Gained NoMemory → Type 0 = λ r. IfOk r (λ g'. LeavesBy c.args.at g' p q) in
-    elim c.match-apply.branch [
-      | in-Stored w ↦ subst P (sym w.result-is) tt
-      | in-Full w ↦ subst P (sym w.result-is) (ap (λ (l : List Held). both l c.args.items.now) (c.apply.ensures.after ∙ ap (peers_after c.args.peers.now 0 (Put c.in-Place.key c.in-Place.peer c.args.at)) w.in-Full.is))
-      | in_default w ↦ subst P (sym w.result-is) tt
-    ]
+    subst (λ (v : Wants). Gathers c.args.k c.args.at v gained.Full t p q) (sym c.in-Place.is)
+    (no_place c.args.k c.args.at t p c.in-Place.key c.in-Place.peer c.apply.result c.apply.new.self c.in-Full.is c.apply.ensures.step c.apply.ensures.after)
 
 pub returns-in-Ok-closest-2-clause-ok : goal.returns-in-Ok-closest-2-clause-ok
 returns-in-Ok-closest-2-clause-ok c =

@@ -1,15 +1,8 @@
-use Rattle.std.proofs.Common.{◌≡◌, List, ap, ◌∙◌, take}
-use Rattle.std.proofs.lemmas.Result.{IfOk-weaker}
-use Rattle.peer_store.specs.Peers.{Held, purged, peers_of, max_listed, listed}
-use Rattle.peer_store.proofs.Listing.{forward, ranged}
+use Rattle.std.proofs.Common.{List, ap, sym, ◌∙◌, take}
+use Rattle.peer_store.specs.Peers.{Held, peers_of, max_listed}
+use Rattle.peer_store.proofs.Listing.{none_fresh}
 use Rattle.peer_store.proofs.adds.first_fresh.Goals as goal
 
-pub range-requires : goal.range-requires
-range-requires c = forward c.args.key _ _ c.new.ensures.start c.new.ensures.end
-
-pub returns : goal.returns
-returns c =
-    let held = c.args.adds.now.entries in
-    let fresh = ranged held c.range.result c.args.key c.args.at _ _ c.requires c.new.ensures.start c.new.ensures.end (c.range.ensures.between c.new.ensures.exhausted) in
-    IfOk-weaker c.take_fresh.result (λ l. l ≡ take max_listed (peers_of (purged c.range.result c.args.at))) (λ l. l ≡ listed held c.args.key c.args.at)
-    (λ l is. is ∙ ap (λ (h : List Held). take max_listed (peers_of h)) fresh) c.take_fresh.ensures
+pub returns-then-is_all_old : goal.returns-then-is_all_old
+returns-then-is_all_old c =
+    c.new.ensures ∙ sym (ap (λ (h : List Held). take max_listed (peers_of h)) (none_fresh c.args.adds.now c.args.key c.args.at (c.is_all_old.ensures c.if-is_all_old.true)))

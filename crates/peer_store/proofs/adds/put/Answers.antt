@@ -1,13 +1,16 @@
-use Rattle.peer_store.proofs.Ordered.{found_some, found_none, found_no_memory}
+use Rattle.std.proofs.Common.{◌≡◌, sym, ◌∙◌}
+use Rattle.std.specs.Map.{keys_of}
+use Rattle.std.proofs.lemmas.Result.{on_ok_weaker}
+use Rattle.peer_store.proofs.Ordered.{held_by, put_by, sorted_by}
 use Rattle.peer_store.proofs.adds.put.Goals as goal
 
-pub returns-in-Ok-Some-clause-renewed : goal.returns-in-Ok-Some-clause-renewed
-returns-in-Ok-Some-clause-renewed c =
-    found_some c.args.adds.now.entries (c.args.key, c.args.peer) _ _ c.in-Ok-Some.field-0-is c.in-Ok-Some.ensures.old
+pub returns-clause-ok : goal.returns-clause-ok
+returns-clause-ok c = on_ok_weaker c.put.result (λ e. e ∙ put_by c.args.adds.now (c.args.key, c.args.peer) c.args.at) c.put.ensures.stored
 
-pub returns-in-Ok-None-clause-renewed : goal.returns-in-Ok-None-clause-renewed
-returns-in-Ok-None-clause-renewed c =
-    found_none c.args.adds.now.entries (c.args.key, c.args.peer) _ c.in-Ok-None.field-0-is c.in-Ok-None.ensures.old
+pub returns-clause-renewed : goal.returns-clause-renewed
+returns-clause-renewed c =
+    let e = held_by c.args.adds.now (c.args.key, c.args.peer) in
+    (λ h. sym e ∙ c.put.ensures.renewed.0 h, λ h. c.put.ensures.renewed.1 (e ∙ h))
 
-pub returns-in-Err-clause-renewed : goal.returns-in-Err-clause-renewed
-returns-in-Err-clause-renewed c = found_no_memory c.args.adds.now.entries (c.args.key, c.args.peer) _ c.in-Err.ensures.absent
+pub returns-clause-sorted : goal.returns-clause-sorted
+returns-clause-sorted c = sorted_by (keys_of c.put.new.self) c.put.ensures.sorted

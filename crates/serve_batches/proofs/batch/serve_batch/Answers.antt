@@ -1,6 +1,6 @@
 use Rattle.std.proofs.Common.{◌+◌, ◌-◌, ◌<◌, length, refl, subst, arith}
-use Rattle.deal_ring.specs.Ring.{ring}
-use Rattle.deal_ring.specs.declared.place.Place.{Place}
+use Rattle.serve_batches.specs.Ring.{ring}
+use Rattle.serve_batches.specs.declared.place.Place.{Place}
 use Rattle.node_serve.specs.declared.setting.ServeSetting.{ServeSetting}
 use Rattle.serve_batches.specs.Crew.{AllWorked}
 use Rattle.serve_batches.specs.declared.batch.Progress.{Progress}
@@ -34,8 +34,8 @@ all_went-requires-clause-roomy g c =
     roomy_worked (g.G.Seal.tag_of c.args.seal.now) c.renew.new.setting c.in-Ok.batch.place c.receive_batch.new.crew.items c.work_all.new.crew.items c.work_all.ensures.len c.work_all.ensures.each
     (roomy_after c.args.crew.now.items c.receive_batch.new.crew.items c.in-Ok.ensures.same c.requires.roomy)
 
-pub returns-then-not-all_went-clause-roomy : goal.returns-then-not-all_went-clause-roomy
-returns-then-not-all_went-clause-roomy g c =
+pub returns-in-Err-all_went-clause-roomy : goal.returns-in-Err-all_went-clause-roomy
+returns-in-Err-all_went-clause-roomy g c =
     roomy_worked (g.G.Seal.tag_of c.args.seal.now) c.renew.new.setting c.in-Ok.batch.place c.receive_batch.new.crew.items c.work_all.new.crew.items c.work_all.ensures.len c.work_all.ensures.each
     (roomy_after c.args.crew.now.items c.receive_batch.new.crew.items c.in-Ok.ensures.same c.requires.roomy)
 
@@ -49,8 +49,8 @@ returns-clause-roomy g c =
     roomy_worked (g.G.Seal.tag_of c.args.seal.now) c.renew.new.setting c.in-Ok.batch.place c.receive_batch.new.crew.items c.work_all.new.crew.items c.work_all.ensures.len c.work_all.ensures.each
     (roomy_after c.args.crew.now.items c.receive_batch.new.crew.items c.in-Ok.ensures.same c.requires.roomy)
 
-pub returns-then-not-all_went-clause-grew : goal.returns-then-not-all_went-clause-grew
-returns-then-not-all_went-clause-grew g c =
+pub returns-in-Err-all_went-clause-grew : goal.returns-in-Err-all_went-clause-grew
+returns-in-Err-all_went-clause-grew g c =
     let mid = c.receive_batch.new.crew.items in
     let new = c.work_all.new.crew.items in
     grew_batch (g.G.Seal.tag_of c.args.seal.now) c.renew.new.setting c.in-Ok.batch.came c.args.crew.now.items mid new c.in-Ok.ensures.same
@@ -74,7 +74,7 @@ returns-clause-ok g c =
     let made = c.in-Ok.ensures.made in
     let worked = subst (λ (s : ServeSetting). AllWorked (g.G.Seal.tag_of c.args.seal.now) s (ring (length mid) c.in-Ok.batch.came) mid new) c.renew.ensures
     (subst (λ (p : Place). AllWorked (g.G.Seal.tag_of c.args.seal.now) c.renew.new.setting p mid new) c.in-Ok.ensures.place c.work_all.ensures.each) in
-    let answered = answered_all (g.G.Seal.tag_of c.args.seal.now) c.args.setting.now c.in-Ok.batch.came mid new some c.work_all.ensures.len c.in-Ok.ensures.came (roomy_after c.args.crew.now.items mid same c.requires.roomy) worked (c.all_went.ensures c.if-not-all_went.false) in
+    let answered = answered_all (g.G.Seal.tag_of c.args.seal.now) c.args.setting.now c.in-Ok.batch.came mid new some c.work_all.ensures.len c.in-Ok.ensures.came (roomy_after c.args.crew.now.items mid same c.requires.roomy) worked c.in-Ok-all_went.ensures in
     let next : Progress = record {
       moment = c.in-Ok.batch.moment;
       left = c.args.progress.now.left - c.in-Ok.batch.made;

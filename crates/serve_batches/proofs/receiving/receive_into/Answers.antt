@@ -1,7 +1,7 @@
 use Rattle.std.proofs.Common.{◌≡◌, ◌<◌, length, sym, ap, subst, ◌∙◌, rules, arith}
 use Rattle.std.specs.Prelude.{min}
-use Rattle.deal_ring.specs.Ring.{behind}
-use Rattle.deal_ring.specs.declared.place.Place.{Place}
+use Rattle.serve_batches.specs.Ring.{behind}
+use Rattle.serve_batches.specs.declared.place.Place.{Place}
 use Rattle.serve_batches.specs.Crew.{slots_of}
 use Rattle.serve_batches.proofs.Arriving.{Arrived, has_slot, same_crew_more, roomy_after, arrived_more, arrived_quiet, arrived_cut, arrived_all}
 use Rattle.serve_batches.proofs.Circling.{place_within, place_small}

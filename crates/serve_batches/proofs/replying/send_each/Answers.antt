@@ -1,5 +1,5 @@
 use Rattle.std.proofs.Common.{◌<◌, length, sym, subst, refl, ◌∙◌, rules, arith}
-use Rattle.deal_ring.specs.declared.place.Place.{Place}
+use Rattle.serve_batches.specs.declared.place.Place.{Place}
 use Rattle.serve_batches.specs.Crew.{slots_of}
 use Rattle.serve_batches.proofs.Arriving.{has_slot}
 use Rattle.serve_batches.proofs.Circling.{ring_next, place_within, place_small}

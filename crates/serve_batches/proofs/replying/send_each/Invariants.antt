@@ -1,6 +1,6 @@
 use Rattle.std.proofs.Common.{◌≡◌, ◌≤◌, length}
 use Rattle.kad_base.specs.Outside.{Happens}
-use Rattle.deal_ring.specs.Ring.{ring}
+use Rattle.serve_batches.specs.Ring.{ring}
 use Rattle.serve_batches.specs.Crew.{SendsAll, batch_slots}
 use Rattle.serve_batches.proofs.replying.send_each.Given as goal
 

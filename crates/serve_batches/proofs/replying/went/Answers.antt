@@ -1,5 +1,5 @@
 use Rattle.std.proofs.Common.{◌<◌, length, sym, subst, refl, rules, arith}
-use Rattle.deal_ring.specs.declared.place.Place.{Place}
+use Rattle.serve_batches.specs.declared.place.Place.{Place}
 use Rattle.serve_batches.specs.Crew.{slots_of}
 use Rattle.serve_batches.specs.Slots.{SlotState, Went}
 use Rattle.serve_batches.proofs.Arriving.{has_slot}
@@ -28,5 +28,5 @@ loop-j-preserved c =
     let crew = c.args.crew.now in
     record {
       place = ring_next (length crew) (length crew) c.loop-j.j c.loop-j.place c.next-place.result refl c.loop-j.invariant.place c.next-place.ensures.next;
-      went = went_more crew c.loop-j.j c.loop-j.place c.loop-j.invariant.place c.loop-j.invariant.went (subst (λ (x : SlotState). Went x.answered) c.slot_of.ensures (c.went.ensures.0 c.if-not-went.false));
+      went = went_more crew c.loop-j.j c.loop-j.place c.loop-j.invariant.place c.loop-j.invariant.went (subst (λ (x : SlotState). Went x.answered) c.slot_of.ensures c.in-Ok.ensures.ok);
     }

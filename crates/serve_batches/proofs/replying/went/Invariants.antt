@@ -1,5 +1,5 @@
 use Rattle.std.proofs.Common.{◌≡◌, length}
-use Rattle.deal_ring.specs.Ring.{ring}
+use Rattle.serve_batches.specs.Ring.{ring}
 use Rattle.serve_batches.specs.Crew.{AllWent, batch_slots}
 use Rattle.serve_batches.proofs.replying.went.Given as goal
 

@@ -6,9 +6,8 @@ use Rattle.peer_store.proofs.peers.Peers.add.Goals as goal
 
 pub invariant_of-self-2 : goal.invariant_of-self-2
 invariant_of-self-2 c =
-    let held = c.self.inside.adds.entries in
-    let few : length c.put.new.adds.entries ≤ max_peers =
+    let held = c.self.inside.adds in
+    let few : length c.put.new.adds ≤ max_peers =
     few_after held (c.args.key, c.args.peer) _ c.in-Ok.stored c.in-Ok.ensures.length c.self.invariant.peers.few
     (λ h. false≢true (c.if-has_no_place.ensures.1 h)) c.in-Ok.ensures.same_length c.in-Ok.ensures.renewed in
-    kept_add held c.put.new.adds.entries (c.args.key, c.args.peer) c.args.at c.self.inside.since c.min-self-inside.result
-    c.self.invariant c.is_between.ensures c.in-Ok.ensures.ok c.in-Ok.ensures.sorted few c.min-self-inside.ensures
+    kept_add held c.put.new.adds (c.args.key, c.args.peer) c.args.at c.self.invariant c.is_between.ensures c.in-Ok.ensures.ok c.in-Ok.ensures.sorted few

@@ -1,2 +1,0 @@
-pub mod Deal
-pub mod Ring
