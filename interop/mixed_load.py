@@ -251,7 +251,8 @@ class Load:
         if self.random.random() < 0.2:
             return dear.putting(fill, self.noise.token or self.random.randbytes(8))
         if self.random.random() < 0.5:
-            return dear.asking(self.random.choice(dear.QUERY_PLACES), fill, self.random.randbytes(4))
+            method = self.random.choice((b"find_node", b"get"))
+            return dear.asking(self.random.choice(dear.QUERY_PLACES), fill, self.random.randbytes(4), method)
         return dear.saying(self.random.choice(dear.REPLY_PLACES), fill, self.random.randbytes(4), name)
 
     # ---- going on
@@ -262,8 +263,19 @@ class Load:
                 data, source = asker.socket.recvfrom(65536)
             except BlockingIOError:
                 return
-            if asker is not self.noise and source == self.node.address:  # others may ask whom the node named
+            if source != self.node.address:
+                continue  # others may ask whom the node named
+            if asker is self.noise:
+                self.keep_token(data)
+            else:
                 self.judge(data)
+
+    def keep_token(self, data):
+        """Keeps the token of an answer to a damaged query, if it is one, so that values are put by it."""
+        try:
+            self.noise.token = bdecode(data)[b"r"].get(b"token", self.noise.token)
+        except (ValueError, KeyError, TypeError, AttributeError):
+            pass
 
     def judge(self, data):
         try:
