@@ -319,7 +319,7 @@ class Measured:
 
 
 class Walk(edge.Crowd):
-    """Contacts that answer, on eight paths: on each whoever is asked names one that is nearer to the key. `says(number,
+    """Contacts that answer, on some paths: on each whoever is asked names one that is nearer to the key. `says(number,
     tx, name, parts)` writes the answer of this number, whose `r` has these parts besides."""
 
     def __init__(self, key, steps, says):
@@ -337,8 +337,8 @@ class Walk(edge.Crowd):
         parts = b"5:nodes" + text(near) + b"5:token8:xxxxxxxx"
         return self.says(self.number, edge.bdecode(query)[0].get(b"t", b""), self.hosts[host], parts)
 
-    def lines(self):
-        return "".join(self.line(*self.contact(path, 0)) for path in range(8))
+    def lines(self, paths):
+        return "".join(self.line(*self.contact(path, 0)) for path in range(paths))
 
 
 def strays(node, sealed):
