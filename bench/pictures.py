@@ -115,6 +115,7 @@ class Panel:
 
 
 PATHS = ("1", "2", "4", "8")
+BARS = "bars are 95 % intervals over networks. A label is a number of paths"
 
 
 def spread(places, apart):
@@ -154,9 +155,9 @@ def draw_prices(table, path, share):
     """Found beside queries, for each way to spend them, where hostile nodes misroute."""
     points = by_point(table, ("attack", "share", "way", "paths"))
     one = points["misroute", str(share), "disjoint", "1"]
-    about = "2,000 nodes, k 8; %d networks of %s lookups; bars are 95 %% intervals over networks. A label is a number of paths"
+    about = "2,000 nodes, k 8; {} networks of {} lookups; " + BARS
     title = "Lookups that found the closest honest node for their queries, %d %% hostile" % share
-    picture = Picture(title, about % (len(one), one[0]["lookups"]))
+    picture = Picture(title, about.format(len(one), one[0]["lookups"]))
     for (attack, heading), (left, right) in zip(NAMED.items(), ((58, 406), (500, 848))):
         lines = {}
         for way in WAYS:
@@ -190,9 +191,8 @@ def draw_values(table, path):
     points = by_point(table, ("nodes", "case", "paths"))
     nodes = str(min(int(key[0]) for key in points))
     one = points[nodes, "at key", "1"]
-    about = "{:,} honest nodes, k 8; {} networks of {} values; bars are 95 % intervals over networks. A label is a number of paths"
-    about = about.format(int(nodes), len(one), one[0]["values"])
-    picture = Picture("Values, where hostile nodes join a network", about)
+    about = "{:,} honest nodes, k 8; {} networks of {} values; " + BARS
+    picture = Picture("Values, where hostile nodes join a network", about.format(int(nodes), len(one), one[0]["values"]))
     panels = (("got", 58, 406, "Got: values put before they came"), ("kept", 500, 848, "Got: values put after they came"))
     for name, left, right, heading in panels:
         places = [(value, "%d" % value) for value in range(0, 101, 20)]
