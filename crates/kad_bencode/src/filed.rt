@@ -1,6 +1,7 @@
 //! A dictionary's keys, filed by the places where they stand, the lowest first. A key is known for new by its two
-//! neighbours there, whatever the others are: some ten comparisons a key, and a move of the places behind its own.
-ghost use Rattle.std.specs.Prelude.{◌≡◌, ◌↔◌, ℕ, ◌+◌, ◌-◌, ◌<◌, ◌≤◌, List, [], ◌∷◌, ◌++◌, length, take, drop, not, false};
+//! neighbours there, whatever the others are. Where it goes is first sought by the keys' heads, which are numbers, and by
+//! the keys themselves only if that place isn't its own: some ten comparisons a key, and a move of the places after its own.
+ghost use Rattle.std.specs.Prelude.{◌≡◌, ◌↔◌, ℕ, ◌+◌, ◌-◌, ◌<◌, ◌≤◌, List, [], ◌∷◌, ◌++◌, length, take, drop, not, true, false, IfSome};
 ghost use Rattle.std.specs.List.{insert};
 ghost use Rattle.kad_bencode.specs.Keys.{keys_of, key_cmp};
 ghost use Rattle.kad_bencode.specs.Spelling.{has_key, string_text};
@@ -11,6 +12,7 @@ ghost use Rattle.kad_bencode.specs.declared.entries.Pair.{Pair};
 ghost use Rattle.kad_bencode.specs.declared.value.Value.{Value};
 
 use crate::find::{find, first_pair, string_in};
+use crate::heads::{Heads, head_of};
 use std::cmp::Ordering;
 
 /// How many keys are filed at most: more than a datagram of 4,096 bytes has room for.
@@ -92,11 +94,41 @@ fn put_in(places: &mut [u16; MOST], count: usize, i: usize, at: u16)
     places[i] = at;
 }
 
+/// Whether a key is known for new at a place among those filed: it is above the one in front, and below the one there.
+fn fits(bytes: &[u8], places: &[u16], i: usize, key: &[u8]) -> bool
+    requires { i ≤ length places.now }
+    ensures { (keys : List (List ℕ)) → AreAt bytes.now places.now keys → result ≡ true
+        → IsBehind keys i key.now true × IsBefore keys i key.now true }
+{
+    if !is_behind(bytes, places, i, key) {
+        return false;
+    }
+    is_before(bytes, places, i, key)
+}
+
+/// Where a key is to be filed, if it is known for new there: the place that the heads give, or else that of the keys.
+fn seat(bytes: &[u8], places: &[u16], heads: &Heads, head: u64, key: &[u8]) -> Option<usize>
+    ensures within { IfSome result (λ i. i ≤ length places.now) }
+    ensures fits { IfSome result (λ i. (keys : List (List ℕ)) → AreAt bytes.now places.now keys
+        → IsBehind keys i key.now true × IsBefore keys i key.now true) }
+{
+    let guessed = heads.guess(places.len(), head);
+    if fits(bytes, places, guessed, key) {
+        return Some(guessed);
+    }
+    let found = place_of(bytes, places, key);
+    if fits(bytes, places, found, key) {
+        return Some(found);
+    }
+    None
+}
+
 /// Files a key that stands at a place, and answers how many are filed, or one more than `MOST` where the key isn't known for
 /// new: one like it is filed, there is no room, or the place is beyond 16 bits.
 pub(crate) fn file(
     bytes: &[u8],
     places: &mut [u16; MOST],
+    heads: &mut Heads,
     count: usize,
     at: usize,
     key: &[u8],
@@ -110,19 +142,25 @@ pub(crate) fn file(
     if count >= MOST || at > 65535 {
         return MOST + 1;
     }
-    let i = place_of(bytes, &places[..count], key);
-    if !is_behind(bytes, &places[..count], i, key) {
-        return MOST + 1;
+    let head = head_of(key);
+    match seat(bytes, &places[..count], heads, head, key) {
+        Some(i) => {
+            put_in(places, count, i, at as u16);
+            heads.put(count, i, head);
+            count + 1
+        }
+        None => MOST + 1,
     }
-    if !is_before(bytes, &places[..count], i, key) {
-        return MOST + 1;
-    }
-    put_in(places, count, i, at as u16);
-    count + 1
 }
 
 /// Files the keys of the pairs between two places, and answers how many are filed.
-pub(crate) fn file_all(bytes: &[u8], from: usize, to: usize, places: &mut [u16; MOST]) -> usize
+pub(crate) fn file_all(
+    bytes: &[u8],
+    from: usize,
+    to: usize,
+    places: &mut [u16; MOST],
+    heads: &mut Heads,
+) -> usize
     requires order { from ≤ to }
     requires within { to ≤ length bytes.now }
     ensures { (ps : List (Pair Value)) → ArePairs (take (to - from) (drop from bytes.now)) ps
@@ -133,7 +171,7 @@ pub(crate) fn file_all(bytes: &[u8], from: usize, to: usize, places: &mut [u16; 
     while rest.len() > 0 {
         match first_pair(rest) {
             Some((key, _, others)) => {
-                count = file(bytes, places, count, to - rest.len(), key);
+                count = file(bytes, places, heads, count, to - rest.len(), key);
                 rest = others;
             }
             None => return MOST + 1,

@@ -7,6 +7,7 @@ pub mod entries;
 mod filed;
 mod find;
 mod form;
+mod heads;
 pub mod into;
 pub mod laws;
 mod measured;

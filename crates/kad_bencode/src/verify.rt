@@ -11,6 +11,7 @@ ghost use Rattle.kad_bencode.specs.Scanning.{Scans};
 ghost use Rattle.kad_bencode.specs.Finding.{IsNext};
 
 use crate::filed::{MOST, file, file_all, is_above, is_new};
+use crate::heads::Heads;
 use crate::reader::MAX_DEPTH;
 use crate::scan::{has_byte, integer_at, string_at};
 use crate::value::Bad;
@@ -122,11 +123,12 @@ fn unsorted_at(bytes: &[u8], from: usize, start: usize, depth: usize) -> Result<
         → Scans bytes.now result (λ next. (v : Value) × ReadsValue bytes.now from os v next) }
 {
     let mut places = [0u16; MOST];
-    let mut count = file_all(bytes, from, start, &mut places);
+    let mut heads = Heads::new();
+    let mut count = file_all(bytes, from, start, &mut places, &mut heads);
     let mut at = start;
     'loose: while !has_byte(bytes, at, b'e') {
         let (key, behind) = string_at(bytes, at)?;
-        count = file(bytes, &mut places, count, at, key);
+        count = file(bytes, &mut places, &mut heads, count, at, key);
         if !is_new(&bytes[from..at], count, key) {
             return Err(Bad::KeyTwice { at });
         }
