@@ -6,10 +6,11 @@ use Rattle.std.specs.List.Sorted.{IsStrictlySortedBy}
 use Rattle.std.specs.Ordering.{is_eq}
 use Rattle.std.specs.declared.cmp.Ordering.TheVariants.{Less, Greater}
 use Rattle.std.proofs.lemmas.Cmp.{nat_list_cmp_total}
-use Rattle.std.proofs.lemmas.List.{length-drop, length-take-le, take-take, drop-take, drop-drop, drop_at}
-use Rattle.std.proofs.lemmas.List.Edits.{take-paste}
-use Rattle.std.proofs.Math.Seq.{take-suc, take-set-lt, set-append_seam, paste}
+use Rattle.std.proofs.lemmas.List.{length-drop, length-take-le, take-append-le, take-take, drop-take, drop-drop, drop_at}
+use Rattle.std.proofs.lemmas.Slice.{take-put_mid}
+use Rattle.std.proofs.Math.Seq.{take-suc, take-set-lt, set-append_seam}
 use Rattle.std.proofs.Math.ListN.{set}
+use borrow.Rule.Slice.PartMut.{put_mid}
 use Rattle.kad_bencode.specs.Keys.{key_cmp, keys_of}
 use Rattle.kad_bencode.specs.Spelling.{string_text, text_of, has_key}
 use Rattle.kad_bencode.specs.Faults.{IsAt}
@@ -150,24 +151,37 @@ ascends (k ∷ ks) (suc i) key a f b =
     with_it (j ∷ js) zero a l = (l, a)
     with_it (j ∷ js) (suc i) a l = (a.0, with_it js i a.1 l)
 
+-- what is moved by way of a room is what was there
+pub moved_whole : (old first post ys : List ℕ) (count i : ℕ) → i ≤ count → count < length old
+    → first ≡ take (count - i) (drop i old) → ys ≡ take (count - i) (first ++ post)
+    → ys ≡ take (count - i) (drop i old)
+moved_whole old first post ys count i h r d e =
+    let n : ℕ = count - i in
+    let l = length-drop i old in
+    let all : length (take n (drop i old)) ≡ n = length-take-le n (drop i old) (omega (arith, h, r, l)) in
+    e
+    ∙ ap (λ f. take n (f ++ post)) d
+    ∙ take-append-le n (take n (drop i old)) post (omega (arith, all))
+    ∙ take-take n n (drop i old) (omega arith)
+
 -- a place put in among others
-pub put_among : (old new : List ℕ) (count i x : ℕ) → i ≤ count → count < length old
-    → new ≡ paste old (i + 1) (drop i old) (count - i)
-    → take (count + 1) (set new i x) ≡ insert (take count old) i x
-put_among old new count i x h r e =
+pub put_among : (old ys : List ℕ) (count i x k : ℕ) → i ≤ count → count < length old
+    → ys ≡ take (count - i) (drop i old)
+    → take (count + 1) (set (put_mid (i + 1) k old ys) i x) ≡ insert (take count old) i x
+put_among old ys count i x k h r e =
     let n : ℕ = count - i in
     let z : ℕ = get_or old i 0 in
     let l = length-drop i old in
-    let all : count + 1 ≡ i + 1 + n = omega (arith, h) in
     let whole : i + n ≡ count = omega (arith, h) in
     let long : length (take i old) ≡ i = length-take-le i old (omega (arith, h, r)) in
+    let all : length (take n (drop i old)) ≡ n = length-take-le n (drop i old) (omega (arith, h, r, l)) in
+    let many : length ys ≡ n = ap length e ∙ all in
     let one : take (i + 1) old ≡ take i old ++ z ∷ [] =
     (let f : i + 1 ≡ suc i = omega arith in ap (λ m. take m old) f)
     ∙ take-suc old i 0 (omega (arith, h, r)) in
-    take-set-lt (count + 1) new i x (omega (arith, h))
-    ∙ ap (λ l. set l i x) (ap (take (count + 1)) e
-    ∙ ap (λ m. take m (paste old (i + 1) (drop i old) n)) all
-    ∙ take-paste old (i + 1) (drop i old) n (omega (arith, h, r)) (omega (arith, h, r, l))
+    take-set-lt (count + 1) (put_mid (i + 1) k old ys) i x (omega (arith, h))
+    ∙ ap (λ l. set l i x) (take-put_mid (i + 1) k old ys (count + 1) (omega (arith, h, many)) (omega (arith, h, r))
+    ∙ ap (λ f. take (i + 1) old ++ f) e
     ∙ ap (λ f. f ++ take n (drop i old)) one
     ∙ append_assoc (take i old) (z ∷ []) (take n (drop i old)))
     ∙ ap (λ m. set (take i old ++ z ∷ take n (drop i old)) m x) (sym long)

@@ -2,13 +2,15 @@
 //! guessed. A guess is no more than that: what is filed there is compared with the key itself.
 ghost use Rattle.std.specs.Prelude.{◌≤◌, ◌<◌};
 
-use crate::filed::MOST;
+use crate::filed::{MOST, put_in};
 
 /// The heads in the order in which their keys came, and which of them is at which place in order of the keys.
 #[derive(Drop)]
 pub(crate) struct Heads {
     heads: [u64; MOST],
     order: [u16; MOST],
+    /// What is moved goes by way of it.
+    pub(crate) room: [u16; MOST],
 }
 
 /// The first eight bytes of a key as a number, the first of them the highest; a shorter key as if zeros came after it.
@@ -24,6 +26,7 @@ impl Heads {
         Heads {
             heads: [0; MOST],
             order: [0; MOST],
+            room: [0; MOST],
         }
     }
 
@@ -61,7 +64,6 @@ impl Heads {
         requires room { count < 768 }
     {
         self.heads[count] = head;
-        self.order.copy_within(place..count, place + 1);
-        self.order[place] = count as u16;
+        put_in(&mut self.order, &mut self.room, count, place, count as u16);
     }
 }
