@@ -1,21 +1,16 @@
 -- What a look-up finds.
-use Rattle.std.proofs.Common.{◌≡◌, ℕ, ◌↔◌, Bool, true, false, cond, List, [], ◌∷◌, Option, Some, None, Result, Ok, Err, refl, sym, ap, ◌∙◌, subst}
-use Rattle.std.specs.List.{All, list_any}
-use Rattle.std.specs.Map.{keys_of}
-use Rattle.std.specs.Option.{is_some, IfSome}
-use Rattle.std.proofs.lemmas.Map.Made.{is_some-lookup}
+use Rattle.std.proofs.Common.{◌≡◌, ℕ, Bool, true, false, cond, List, [], ◌∷◌, Option, Some, None, refl, sym, ◌∙◌, subst}
+use Rattle.std.specs.List.{All}
+use Rattle.std.specs.Option.{IfSome}
 use Rattle.std.proofs.lemmas.List.Elements.{All-head, All-tail}
 use Rattle.std.proofs.lemmas.Map.Text.{is_eq-slice_cmp}
 use Rattle.std.proofs.lemmas.Slice.Eq.{bytes_eq-Decides}
 use Rattle.std.specs.Ordering.{is_eq}
 use Rattle.kad_base.specs.Puzzles.{hash}
 use Rattle.kad_base.specs.declared.types.Id.{Id}
-use Rattle.kad_base.specs.declared.types.NoMemory.{NoMemory}
-use Rattle.aged_map.specs.declared.aged.Stored.{Stored}
-use Rattle.aged_map.specs.declared.aged.Stored.TheVariants.{New, Renewed}
 use Rattle.item_store.specs.declared.held.Item.{Item}
 use Rattle.std.specs.Prelude.{if◌then◌else◌}
-use Rattle.item_store.specs.Items.{Held, IsItem, IsSound, Holds, key_cmp, is_fresh, found, if_fresh, handed_out}
+use Rattle.item_store.specs.Items.{Held, IsItem, IsSound, key_cmp, is_fresh, found, if_fresh, handed_out}
 
 -- what stands under a key
 pub record Stands (key : Id) (v : List ℕ) : Type 0 where

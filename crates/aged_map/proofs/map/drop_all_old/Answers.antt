@@ -1,7 +1,6 @@
 use Rattle.std.proofs.Common.{rules}
 use Rattle.std.proofs.lemmas.Map.Made.{filter_same_pairs}
 use Rattle.aged_map.specs.Ages.{is_young}
-use Rattle.aged_map.proofs.Marking.{marked_drop}
 use Rattle.aged_map.proofs.map.drop_all_old.Goals as goal
 
 pub returns-clause-kept : goal.returns-clause-kept

@@ -1,4 +1,4 @@
-use Rattle.std.proofs.Common.{◌≡◌, ℕ, ◌<◌, ◌-◌, sym, ap, refl, subst}
+use Rattle.std.proofs.Common.{ℕ, ◌<◌, ◌-◌, sym, ap, refl, subst}
 use Rattle.aged_map.proofs.Marking.{nothing_held, all_young, purged_drop, marked_drop, none_of, first_is, not_young}
 use Rattle.aged_map.proofs.map.drop_first.Goals as goal
 
