@@ -9,14 +9,14 @@ use Rattle.lookup_core.specs.Sealed.{Accepts}
 use Rattle.lookup_core.specs.LookupSteps.{handed}
 use Rattle.lookup_core.specs.Reply.{Said}
 use Rattle.lookup_core.specs.Says.{IsReply, IsNoReply}
-use Rattle.lookup_core.proofs.Lists.{all_append, split_at}
+use Rattle.lookup_core.proofs.Lists.{all_append, all_front, split_at}
 use Rattle.lookup_core.proofs.Matching.{matched_at, silent, unknown}
 use Rattle.look_many.specs.declared.seeker.Seeker.{Seeker}
 use Rattle.look_many.specs.Mine.{Mine, waited}
 use Rattle.look_many.specs.Many.{FirstTakes, IsForeign}
 use Rattle.look_many.specs.inner.Crowd.{whose, Holding, Longer, KeepsMine, SameSeat}
 use Rattle.look_many.specs.inner.ManySteps.{IsMatchFor, IsNotFor, IsUnasked, FirstWaits, Hears, TakesFirst, Expires, all_lapsed}
-use Rattle.look_many.proofs.Lists.{all_front, all_back, apart_at}
+use Rattle.look_many.proofs.Lists.{all_back, apart_at}
 use Rattle.look_many.proofs.OneReceive.{waits_on, stray_for, matches_on}
 
 -- what goes on to hold of each, and whom all lost

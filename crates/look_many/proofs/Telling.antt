@@ -27,6 +27,7 @@ use Rattle.node_serve.specs.Calls.{Did}
 use Rattle.node_serve.specs.Receives.{waits_until, tried}
 use Rattle.node_serve.specs.Sealing.{Tags}
 use Rattle.serve_crew.specs.Hands.{Hands}
+use Rattle.lookup_core.proofs.Received.{same_deadlines as each_deadline}
 use Rattle.look_many.specs.declared.seeker.Seeker.{Seeker}
 use Rattle.look_many.specs.declared.seeker.Line.{Line}
 use Rattle.look_many.specs.declared.seeker.ManyFault.{ManyFault}
@@ -35,6 +36,7 @@ use Rattle.look_many.specs.Mine.{Mine, Whose, HaveAsked, waited}
 use Rattle.look_many.specs.Many.{Frame, Owed, Shown, Reading, nothing_read, and_then, read_of, open_of, deadlines_of, WaitsUntil, IsOver, MayWait, for_replies, for_others, AllHaveAsked, Receives, FirstTakes, IsForeign, Owes, goes_on, after_got, after_quiet}
 use Rattle.look_many.specs.inner.Crowd.{whose, opens, Holding, NoneAsks, Longer, DrivenOn, OnlyHeard, queries_of, KeepsMine, KeepsLine, ManyShow, SameSeat, Ran, Stand, Advances, stand}
 use Rattle.look_many.specs.inner.ManySteps.{IsMatchFor, IsNotFor, TakesFirst, Expires, all_lapsed, IsRunOut, WaitsFor, for_replies as waits_replies, for_others as waits_others, MayReceive, Counts, Answers, Handles, is_taken, is_foreign, Comes, Passes, Pays, after_paid, IsLastForeign, Received, ShowsEarly, Stops, EndsByForeign}
+use Rattle.look_many.proofs.Lists.{none_front, none_back}
 use Rattle.look_many.proofs.Several.{all_wait, first_on, all_stray, first_holds, expired_hold}
 use Rattle.look_many.proofs.Heard.{all_same as only_same_all, all_then, all_expired, first_taken, same_driven, driven_then, expired_driven, first_driven, same_seats, seats_then, expired_seats, first_seats}
 use Rattle.look_many.proofs.Counting.{fewer_expired, closes_one, same_asks, counts_on, may_count_reply, paid_received}
@@ -43,17 +45,13 @@ use Rattle.look_many.proofs.Walking.{same_reading, nothing_after, first_longer, 
 
 -- ---- how long a receive waits
 
-one_deadlines : (J : List Entry) (qs : List Query) → map (λ (q : OpenQuery). q.deadline) (map (as_open J) qs) ≡ map (λ (q : Query). q.deadline) qs
-one_deadlines J [] = refl
-one_deadlines J (q ∷ qs) = ap (λ l. q.deadline ∷ l) (one_deadlines J qs)
-
 same_deadlines : (ks : List Seeker) (ms : List Mine) → AllZip KeepsMine ks ms → deadlines_of ms ≡ map (λ (q : Query). q.deadline) (queries_of ks)
 same_deadlines [] [] h = refl
 same_deadlines [] (m ∷ ms) h = absurd h
 same_deadlines (k ∷ ks) [] h = absurd h
 same_deadlines (k ∷ ks) (m ∷ ms) h =
     map_append (λ (q : OpenQuery). q.deadline) m.queries (open_of ms)
-    ∙ ap (λ l. l ++ deadlines_of ms) (ap (map (λ (q : OpenQuery). q.deadline)) h.0.queries ∙ one_deadlines k.lookup.book.journal k.lookup.queries)
+    ∙ ap (λ l. l ++ deadlines_of ms) (ap (map (λ (q : OpenQuery). q.deadline)) h.0.queries ∙ each_deadline k.lookup.book.journal k.lookup.queries)
     ∙ ap (λ l. map (λ (q : Query). q.deadline) k.lookup.queries ++ l) (same_deadlines ks ms h.1)
     ∙ sym (map_append (λ (q : Query). q.deadline) k.lookup.queries (queries_of ks))
 
@@ -115,14 +113,6 @@ receives_of busy f place ks ls line s until may st k g same = record {
 }
 
 -- ---- where no query is open nothing of a lookup changes
-
-none_front : {A : Type 0} (xs ys : List A) → xs ++ ys ≡ [] → xs ≡ []
-none_front [] ys e = refl
-none_front (x ∷ xs) ys e = absurd cc
-
-none_back : {A : Type 0} (xs ys : List A) → xs ++ ys ≡ [] → ys ≡ []
-none_back [] ys e = e
-none_back (x ∷ xs) ys e = absurd cc
 
 same_whose : (a b : Whose) → a.setting ≡ b.setting → a.quest ≡ b.quest → a.journal ≡ b.journal → a ≡ b
 same_whose a b s q j =

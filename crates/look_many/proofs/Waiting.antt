@@ -8,12 +8,12 @@ use Rattle.std.proofs.lemmas.List.Elements.{AllZip-push, recursion_from_All}
 use Rattle.query_book.specs.declared.Query.{Query}
 use Rattle.serve_crew.specs.Hands.{Hands, SameHands}
 use Rattle.serve_crew.proofs.Growing.{same_more}
-use Rattle.lookup_core.proofs.Lists.{map_append, all_append, in_first}
+use Rattle.lookup_core.proofs.Lists.{map_append, all_append, all_weaker, in_first}
 use Rattle.look_many.specs.declared.seeker.Seeker.{Seeker}
 use Rattle.look_many.specs.Many.{IsEarliest}
 use Rattle.look_many.specs.inner.Crowd.{Holding, queries_of, Ran}
 use Rattle.look_many.specs.inner.ManySteps.{Expires, lapsed, all_lapsed, sooner_of, IsSoonest}
-use Rattle.look_many.proofs.Lists.{all_at, all_weaker, in_left, in_right}
+use Rattle.look_many.proofs.Lists.{all_at, in_left, in_right}
 use Rattle.look_many.proofs.Hosting.{ran_then}
 
 -- ---- all expire

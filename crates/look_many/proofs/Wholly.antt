@@ -24,6 +24,7 @@ use Rattle.look_many.specs.ManyLooked.{drawn_by}
 use Rattle.look_many.specs.inner.Crowd.{whose, Holding, IsLegal, NoneAsks, NothingLeft, SameSeat, queries_of, ManyShow, Stand, IsFrame, Advances}
 use Rattle.look_many.specs.inner.ManySteps.{IsRunOut, MayServe, EndsEarly}
 use Rattle.look_many.specs.inner.Going.{Lives, Goes, HaveGone, AreOver, EndGoing, WentWhole, EndsWhole, SinceBegun}
+use Rattle.look_many.proofs.Lists.{none_front, none_back}
 use Rattle.look_many.proofs.Hosting.{ran_then}
 use Rattle.look_many.proofs.ServingOn.{stays_same}
 use Rattle.look_many.proofs.Whole.{goes_on_with}
@@ -32,14 +33,6 @@ use Rattle.look_many.proofs.Living.{lives_then, goes_then}
 use Rattle.look_many.proofs.Gone.{each_driven, each_lives, hands_then}
 
 -- ---- where all are over
-
-none_front : {A : Type 0} (xs ys : List A) → xs ++ ys ≡ [] → xs ≡ []
-none_front [] ys e = refl
-none_front (x ∷ xs) ys e = absurd cc
-
-none_back : {A : Type 0} (xs ys : List A) → xs ++ ys ≡ [] → ys ≡ []
-none_back [] ys e = e
-none_back (x ∷ xs) ys e = absurd cc
 
 one_over : (k : Seeker) → IsLegal k → 1 ≤ k.lookup.book.setting.alpha → Holding k → NothingLeft k → NoneAsks k → k.lookup.queries ≡ [] → IsRunOut k
 one_over k legal some holds left none idle = record { run_out = over }

@@ -318,7 +318,7 @@ pub fn look_many<R: Threads + Wait + Sync, L: Link, C: Check + Sync, G: Seal + S
     let peers = Peers::new(alloc);
     let (stores, mut peers_row) = match Turn::new(alloc, peers, 1) {
         Ok(opened) => opened,
-        Err(TurnNoMemory { .. }) => {
+        Err(_) => {
             let (table, _) = tables.close(table_row);
             return (table, Err(ManyFault::NoMemory));
         }
@@ -326,7 +326,7 @@ pub fn look_many<R: Threads + Wait + Sync, L: Link, C: Check + Sync, G: Seal + S
     let items = Items::new(alloc);
     let (shelves, mut items_row) = match Turn::new(alloc, items, 1) {
         Ok(opened) => opened,
-        Err(TurnNoMemory { .. }) => {
+        Err(_) => {
             let (table, _) = tables.close(table_row);
             return (table, Err(ManyFault::NoMemory));
         }

@@ -46,7 +46,8 @@ fn finish(mut book: Book) -> Result<One, NoMemory>
             counts,
             journal: book.into_journal(),
         }),
-        _ => Err(NoMemory),
+        BookReply::NoMemory => Err(NoMemory),
+        _ => unreachable!(),
     }
 }
 

@@ -62,7 +62,9 @@ fn seeds_of(table: &mut Table, server: &ServeSetting, target: &Id) -> Result<Con
     };
     match table.apply(DRIVER, call) {
         TableReply::List { list } => Ok(list),
-        _ => Err(NoMemory),
+        TableReply::NoMemory => Err(NoMemory),
+        TableReply::Seen { .. } => unreachable!(),
+        TableReply::Gone { .. } => unreachable!(),
     }
 }
 

@@ -205,19 +205,6 @@ fn settle_in_turn<R: Wait, C: Check>(
     }
 }
 
-/// Whether the path has something to settle.
-fn path_has_some(book: &mut Book, path: u8) -> bool
-    requires { path < max_paths }
-    ensures same { book.new ≡ book.old }
-    ensures some { result ≡ true → unsettled path book.old.journal ≢ [] }
-    ensures nothing { result ≡ false → unsettled path book.old.journal ≡ [] }
-{
-    match book.apply(path + 1, BookCall::Pull) {
-        BookReply::Idle => false,
-        _ => true,
-    }
-}
-
 /// Whether any path of the book has.
 fn book_has_some(book: &mut Book) -> bool
     ensures same { book.new ≡ book.old }
@@ -225,7 +212,7 @@ fn book_has_some(book: &mut Book) -> bool
     ensures nothing { result ≡ false → ¬ HasSome book.old.journal }
 {
     for path in 0..MAX_PATHS {
-        if path_has_some(book, path) {
+        if lookup_core::has_some(book, path) {
             return true;
         }
     }

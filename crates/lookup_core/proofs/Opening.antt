@@ -26,7 +26,7 @@ use Rattle.lookup_core.proofs.Room.{room_to_ask}
 use Rattle.claim_book.specs.declared.types.Cause.TheVariants.{SendFault}
 use Rattle.claim_book.specs.declared.types.Entry.TheVariants.{Ask, Lost}
 use Rattle.claim_book.specs.Calls.{asker}
-use Rattle.lookup_core.proofs.Lists.{map_append, all_append}
+use Rattle.lookup_core.proofs.Lists.{map_append, all_append, all_front}
 use Rattle.lookup_core.proofs.Holding.{one_closed}
 
 -- there is room for the query
@@ -85,10 +85,6 @@ ask_holds drawn deadline path old new asked holds a =
           ∙ sym (opens_ask old.book.setting path old.book.journal c a.legal a.may) ∙ ap (λ (b : BookState). open_any b.journal) (sym a.book);
       ids = subst (AllByRecursion (λ (x : Query). x.tx < 2 ^ 32)) (sym a.queries) (all_append (λ (x : Query). x.tx < 2 ^ 32) old.queries (q ∷ []) holds.ids (small_id old.queries drawn asked.tx a.id, tt));
     }
-
-pub all_front : {A : Type 0} (P : A → Type 0) (xs ys : List A) → AllByRecursion P (xs ++ ys) → AllByRecursion P xs
-all_front P [] ys h = tt
-all_front P (x ∷ xs) ys h = (h.0, all_front P xs ys h.1)
 
 -- and once that could not be sent
 pub unsent_holds : (asked : Asked) (before : List Query) (old new : Lookup) → Legal old.book.setting old.book.journal → IsLastOpened asked before old → new.queries ≡ before → new.book ≡ added old.book (Lost (asker asked.contact old.book.journal) asked.contact SendFault) → Holds old → Holds new

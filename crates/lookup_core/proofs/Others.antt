@@ -18,10 +18,7 @@ use Rattle.claim_book.proofs.Claims.{one_path, asked_on_path}
 use Rattle.claim_book.proofs.Kept.{off_this, open_on_any}
 use Rattle.claim_book.proofs.Among.{none_among, among_none}
 use Rattle.claim_book.proofs.Unsettled.{unsettled_kept}
-
-no_true : (b : Bool) → (b ≡ true → ⊥) → b ≡ false
-no_true true n = absurd (n refl)
-no_true false n = refl
+use Rattle.lookup_core.proofs.Opens.{no_true}
 
 -- an absent contact makes no difference
 absent_step : (out more : List Contact) (c x : Contact) (cs : List Contact) → among more x ≡ (among out x || same x c) → (same c x || among cs c) ≡ false → (among cs c ≡ false → without cs more ≡ without cs out) → without (x ∷ cs) more ≡ without (x ∷ cs) out

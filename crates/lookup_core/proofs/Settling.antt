@@ -1,5 +1,5 @@
 -- What entries that settle leave as it was: no event gives them, they ask nobody, and the other paths have as much to settle.
-use Rattle.std.proofs.Common.{◌≡◌, ◌≢◌, ◌==◌, ◌⊎◌, ℕ, eqb, List, [], ◌∷◌, ◌++◌, length, drop, Bool, true, false, cond, inl, inr, refl, sym, ap, ◌∙◌}
+use Rattle.std.proofs.Common.{◌≡◌, ◌≢◌, ◌==◌, ◌<◌, ◌⊎◌, ℕ, eqb, List, [], ◌∷◌, ◌++◌, length, drop, Bool, true, false, cond, inl, inr, refl, sym, ap, ◌∙◌}
 use Rattle.std.specs.Prelude.{filter, slice_get}
 use Rattle.std.specs.List.{AllByRecursion, flat_map}
 use Rattle.std.proofs.lemmas.Bool.{eqb-true, false≢true, true≢false}
@@ -9,10 +9,14 @@ use Rattle.std.proofs.lemmas.List.Concat.{flat_map-append}
 use Rattle.std.proofs.lemmas.List.Elements.{filter-append}
 use Rattle.kad_base.specs.Contacts.{without}
 use Rattle.claim_book.specs.declared.calls.BookReply.{BookReply}
-use Rattle.claim_book.specs.declared.calls.BookReply.TheVariants.{Alive, Report as Report_reply, Idle}
+use Rattle.claim_book.specs.declared.calls.BookReply.TheVariants.{Alive, Report as Report_reply, Idle, Found, NotYet, NoMemory}
 use Rattle.claim_book.specs.declared.types.Entry.{Entry}
 use Rattle.claim_book.specs.declared.types.Entry.TheVariants.{Seed, Ask, Heard, Lost, Note, Taken, Held, Turned, Rejected, Skipped}
-use Rattle.claim_book.specs.Calls.{PullStep}
+use Rattle.claim_book.specs.Calls.{PullStep, FinishStep}
+use Rattle.claim_book.specs.RunOut.{RunOut}
+use Rattle.claim_book.specs.declared.types.Setting.{Setting}
+use Rattle.claim_book.specs.declared.types.Counts.{Counts}
+use Rattle.kad_base.specs.declared.types.Contact.{Contact}
 use Rattle.claim_book.specs.Journal.{seed_of, ask_of, answer_of, fail_of, things_of, settles_on, seeds, asked, answered, failed, open_any, things, settled, unsettled, first_unsettled}
 use Rattle.lookup_core.specs.Driven.{is_driven, driven}
 use Rattle.lookup_core.proofs.Received.{driven_append, seeds_append}
@@ -154,3 +158,10 @@ pulled_some J p q (Alive c) same other step none = (let first : slice_get (unset
 pulled_some J p q (Report_reply r) same other step none = (let first : slice_get (unsettled q J) 0 ≡ slice_get [] 0 = ap (λ n. slice_get (unsettled n J) 0) same ∙ ap (λ l. slice_get l 0) none in absurd cc)
 pulled_some J p q Idle same other step none = other refl
 pulled_some J p q else_ same other step none = absurd step
+
+-- where every path has run out, a lookup's end is what it found, or want of memory
+pub ends_found : (s : Setting) (J : List Entry) (reply : BookReply) → ((p : ℕ) → p < s.paths → RunOut s p J) → ((found : List Contact) (counts : Counts) → reply ≢ Found found counts) → reply ≢ NoMemory → FinishStep s J reply → ⊥
+ends_found s J (Found found counts) over other some step = other found counts refl
+ends_found s J (NotYet p) over other some step = step.not_run_out (over p step.is_path)
+ends_found s J NoMemory over other some step = some refl
+ends_found s J else_ over other some step = step

@@ -1,9 +1,8 @@
 -- Which datagrams reply to a lookup's open queries, and what a reply gives to its journal. Answers and error messages are
 -- matched to queries by transaction id and source address (BEP 5).
-use Rattle.std.specs.Prelude.{◌≡◌, ◌≢◌, ◌⊎◌, ◌≤◌, ℕ, Bool, List, ◌∷◌, ◌++◌, length, map, Contains}
+use Rattle.std.specs.Prelude.{◌≡◌, ◌≢◌, ◌⊎◌, ℕ, Bool, List, ◌∷◌, ◌++◌, map, Contains}
 use Rattle.kad_base.specs.declared.types.Addr.{Addr}
 use Rattle.kad_base.specs.declared.types.Contact.{Contact}
-use Rattle.kad_base.specs.Limits.{max_datagram}
 use Rattle.kad_base.specs.Words.{word_bytes}
 use Rattle.kad_krpc.specs.declared.message.Answer.{Answer}
 use Rattle.kad_krpc.specs.declared.message.Message.{Message}
@@ -18,7 +17,7 @@ use Rattle.claim_book.specs.declared.types.Entry.TheVariants.{Heard, Lost}
 use Rattle.lookup_core.specs.declared.quest.Quest.{Quest}
 use Rattle.lookup_core.specs.Reply.{Reply}
 use Rattle.lookup_core.specs.Reply as reply
-use Rattle.lookup_core.specs.Quest.{query_message, reports_of}
+use Rattle.lookup_core.specs.Quest.{query_message, reports_of, IsBelievable}
 use Rattle.lookup_core.specs.Sealed.{Accepts, IsSealed, speaker}
 
 -- an open query: the path and the contact of its Ask, its transaction id and its deadline
@@ -46,11 +45,11 @@ SaysTo id (message.Query tx read_only ask) r = ⊥
 SaysTo id (message.Answer tx answer) r = (tx ≡ id) × (r ≡ reply.Answer answer)
 SaysTo id (message.Fault tx code text) r = (tx ≡ id) × (r ≡ reply.Error code)
 
--- What is accepted as a reply to a query: it is short enough to be read (this project's own limit), says an answer or an error
+-- What is accepted as a reply to a query: it may be believed, says an answer or an error
 -- message with the query's transaction id, and comes from the query's address (BEP 5); where tags are asked for it carries one
 -- of who says it, too (this project's own).
 pub record IsReplyTo (asks_seal : Bool) (accepts : Accepts) (bytes : List ℕ) (from : Addr) (q : Query) (r : Reply) : Type 0 where
-  pub believable : length bytes ≤ max_datagram
+  pub believable : IsBelievable bytes
   pub said : Message
   pub says : Says bytes said
   pub to_query : SaysTo (word_bytes q.tx) said r

@@ -1,5 +1,5 @@
 -- What a lookup asks, and what of an answer it believes.
-use Rattle.std.specs.Prelude.{ℕ, List, [], take, map, Option, Some, None, Bool, true, false}
+use Rattle.std.specs.Prelude.{ℕ, ◌≤◌, List, [], length, take, map, Option, Some, None, Bool, true, false}
 use Rattle.kad_base.specs.declared.types.Id.{Id}
 use Rattle.kad_base.specs.declared.types.Contact.{Contact}
 use Rattle.kad_base.specs.declared.types.Family.{Family}
@@ -7,7 +7,7 @@ use Rattle.kad_base.specs.declared.types.Family.TheVariants.{Four, Six}
 use Rattle.kad_base.specs.declared.types.Report.{Report}
 use Rattle.kad_base.specs.declared.types.Policy.{Policy}
 use Rattle.kad_base.specs.declared.types.Policy.TheVariants.{Plain, Puzzled}
-use Rattle.kad_base.specs.Limits.{max_reports}
+use Rattle.kad_base.specs.Limits.{max_reports, max_datagram}
 use Rattle.kad_krpc.specs.declared.message.Answer.{Answer}
 use Rattle.kad_krpc.specs.declared.message.Message.{Message}
 use Rattle.kad_krpc.specs.Form.{find_node_query, get_peers_query, get_query}
@@ -52,3 +52,8 @@ reports_by Six (Puzzled c1 c2) answer = take max_reports (part_of answer.snodes6
 -- the reports that a lookup believes
 abbrev pub reports_of : Quest → Answer → List Report
 reports_of quest answer = reports_by quest.family quest.policy answer
+
+-- what a datagram must meet to be believed, whatever it says and to which query: it is short enough to be read (this project's
+-- own limit)
+abbrev pub IsBelievable : List ℕ → Type 0
+IsBelievable bytes = length bytes ≤ max_datagram

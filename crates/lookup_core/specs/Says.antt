@@ -1,11 +1,11 @@
 -- What a datagram says, to whatever query.
-use Rattle.std.specs.Prelude.{◌≡◌, ◌≢◌, ℕ, ◌^◌, ◌<◌, ◌≤◌, List, length}
-use Rattle.kad_base.specs.Limits.{max_datagram}
+use Rattle.std.specs.Prelude.{◌≡◌, ◌≢◌, ℕ, ◌^◌, ◌<◌, List}
 use Rattle.kad_base.specs.Words.{word_bytes}
 use Rattle.kad_krpc.specs.declared.message.Message.{Message}
 use Rattle.kad_krpc.specs.Reading.{Says}
 use Rattle.lookup_core.specs.Reply.{Reply, Said}
 use Rattle.lookup_core.specs.Matching.{SaysTo}
+use Rattle.lookup_core.specs.Quest.{IsBelievable}
 
 -- no word has these four bytes
 abbrev pub IsNoId : List ℕ → Type 0
@@ -23,7 +23,7 @@ pub record SaysAll (m : Message) (said : Said) : Type 0 where
 
 -- the datagram replies to the query of this transaction id, whoever sent it
 pub record RepliesTo (bytes : List ℕ) (w : ℕ) (r : Reply) : Type 0 where
-  pub believable : length bytes ≤ max_datagram
+  pub believable : IsBelievable bytes
   pub message : Message
   pub says : Says bytes message
   pub to_query : SaysTo (word_bytes w) message r

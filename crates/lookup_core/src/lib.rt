@@ -10,6 +10,7 @@ mod receiving;
 mod reply;
 mod sealed;
 mod state;
+mod unsettled;
 
 pub use ask::Asked;
 pub use on_reply::{Answered, Taken};
@@ -18,3 +19,4 @@ pub use receiving::{round_after, stray_more, wait_until};
 pub use reply::{ReplyView, SaidView, read_reply};
 pub use sealed::is_sealed;
 pub use state::Lookup;
+pub use unsettled::has_some;

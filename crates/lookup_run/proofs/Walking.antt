@@ -22,6 +22,7 @@ use Rattle.contact_table.specs.TableStep.{TableMay, TableStep, table_after}
 use Rattle.claim_book.specs.declared.types.Entry.{Entry}
 use Rattle.claim_book.specs.Journal.{seed_of, seeds}
 use Rattle.claim_book.specs.Legal.{seeded}
+use Rattle.lookup_core.proofs.Lists.{all_weaker}
 use Rattle.lookup_run.specs.declared.types.LookSetting.{LookSetting}
 use Rattle.lookup_run.specs.declared.types.Gathered.{Gathered}
 use Rattle.lookup_run.specs.declared.types.LookupState.{LookupState}
@@ -238,10 +239,6 @@ along_next look accepts words words' old new b b' a a' e told told' n grows sche
 }
 
 -- ---- weaker bounds
-
-pub all_weaker : {A : Type 0} (P Q : A → Type 0) → ((x : A) → P x → Q x) → (xs : List A) → AllByRecursion P xs → AllByRecursion Q xs
-all_weaker P Q f [] h = tt
-all_weaker P Q f (x ∷ xs) h = (f x h.0, all_weaker P Q f xs h.1)
 
 shows_later : (scheduling : Scheduling) (g : Given) (work : LookupState) (place b a a' : ℕ) (es : List Event) → a ≤ a' → Shows scheduling g work place b a es → Shows scheduling g work place b a' es
 shows_later scheduling g work place b a a' es le h = record {

@@ -40,7 +40,9 @@ fn seeds_of(table: &mut Table, look: &LookSetting) -> Result<Contacts, NoMemory>
     };
     match table.apply(DRIVER, call) {
         TableReply::List { list } => Ok(list),
-        _ => Err(NoMemory),
+        TableReply::NoMemory => Err(NoMemory),
+        TableReply::Seen { .. } => unreachable!(),
+        TableReply::Gone { .. } => unreachable!(),
     }
 }
 
@@ -62,7 +64,8 @@ fn finish(mut book: Book, gathered: Gathered) -> Result<Outcome, LookFault>
             tokens: gathered.tokens,
             items: gathered.items,
         }),
-        _ => Err(LookFault::NoMemory),
+        BookReply::NoMemory => Err(LookFault::NoMemory),
+        _ => unreachable!(),
     }
 }
 

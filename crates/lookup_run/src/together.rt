@@ -1,32 +1,18 @@
 //! Settling all paths at once, each on a thread of its own.
-ghost use Rattle.std.specs.Prelude.{◌≡◌, ◌≢◌, ◌≤◌, ◌<◌, [], true, false, ◌↔◌, IsTrue};
+ghost use Rattle.std.specs.Prelude.{◌≡◌, ◌≤◌, ◌↔◌, IsTrue};
 ghost use Rattle.kad_base.specs.Limits.{max_paths};
-ghost use Rattle.claim_book.specs.Journal.{unsettled};
 ghost use Rattle.lookup_run.specs.Rounds.{concurrent, HasSeveral};
 ghost use Rattle.lookup_run.specs.inner.RoundSteps.{MaySettle, Settles};
 
 use crate::settle::settle_paths;
 use crate::types::{LookFault, LookSetting, LookupState};
-use claim_book::{Book, BookCall, BookReply};
-use kad_base::{Check, NoMemory, Serial};
-use lookup_core::Lookup;
+use claim_book::Book;
+use kad_base::{Check, NoMemory};
+use lookup_core::{Lookup, has_some};
 use path_worker::settle_together;
 use std::alloc::Global;
 use std::sync::Wait;
 use std::thread::Threads;
-
-/// Whether the path has something to settle.
-fn has_some(book: &mut Book, path: u8) -> bool
-    requires { path < max_paths }
-    ensures same { book.new ≡ book.old }
-    ensures some { result ≡ true → unsettled path book.old.journal ≢ [] }
-    ensures nothing { result ≡ false → unsettled path book.old.journal ≡ [] }
-{
-    match book.apply(path + 1, BookCall::Pull) {
-        BookReply::Idle => false,
-        _ => true,
-    }
-}
 
 /// Whether more than one path has something to settle: for one alone no thread is worth its making.
 fn has_several(book: &mut Book, paths: u8) -> bool

@@ -1,5 +1,5 @@
 //! Whom a refresh pings.
-ghost use Rattle.std.specs.Prelude.{◌≡◌, ◌<◌, ◌^◌, ◌++◌, length, IfOk, OnOk};
+ghost use Rattle.std.specs.Prelude.{◌≡◌, ◌++◌, IfOk, OnOk};
 ghost use Rattle.bucket_tree.specs.States.{state_of, states_of};
 ghost use Rattle.table_refresh.specs.Refreshed.{head_in, heads_of};
 
@@ -37,18 +37,13 @@ fn heads_in(alloc: Global, rows: &[Row]) -> Result<Contacts, NoMemory>
     Ok(heads)
 }
 
-/// Whom a refresh of the table pings. More than 2^32 - 1 heads are more than there is memory for, so that there is a word
-/// for each ping.
+/// Whom a refresh of the table pings.
 pub(crate) fn plan_of(alloc: Global, table: &Table) -> Result<Plan, NoMemory>
     ensures own { IfOk result (λ plan. plan.own ≡ table.now.own) }
     ensures heads { IfOk result (λ plan. plan.heads ≡ heads_of table.now.rows) }
-    ensures few { IfOk result (λ plan. length plan.heads < 2 ^ 32) }
 {
     let saved = table.rows()?;
     let heads = heads_in(alloc, saved.rows.as_slice())?;
-    if heads.len() > u32::MAX as usize {
-        return Err(NoMemory);
-    }
     Ok(Plan {
         own: saved.own,
         heads,

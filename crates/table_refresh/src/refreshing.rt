@@ -89,20 +89,14 @@ pub fn refresh<L: Link, G: SealCheck>(
         timeout,
         sealed,
     };
+    // No slice of contacts is so long that the words would run out.
+    let heads = plan.heads.as_slice();
     let mut work = Progress {
         table,
         moment: link.now(),
         strays: 0,
     };
-    let ended = ping_all(
-        alloc,
-        link,
-        words,
-        &mut work,
-        &setting,
-        plan.heads.as_slice(),
-        seal,
-    );
+    let ended = ping_all(alloc, link, words, &mut work, &setting, heads, seal);
     let Progress { table, .. } = work;
     (table, ended)
 }

@@ -1,8 +1,8 @@
 use Rattle.std.proofs.Common.{◌+◌, arith}
 use Rattle.claim_book.specs.Calls.{path_of_role}
 use Rattle.lookup_core.proofs.Settling.{pulled_some}
-use Rattle.lookup_run.proofs.together.has_some.Goals as goal
-use Rattle.lookup_run.proofs.together.has_some.Goals.{in-Idle, in_default}
+use Rattle.lookup_core.proofs.unsettled.has_some.Goals as goal
+use Rattle.lookup_core.proofs.unsettled.has_some.Goals.{in-Idle, in_default}
 
 pub returns-clause-some : goal.returns-clause-some
 returns-clause-some c is = elim c.match-apply.branch [
