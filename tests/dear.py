@@ -235,9 +235,18 @@ class Measured:
                 total += int(file.read().split()[0])
         return total / 1e9
 
-    def is_waiting(self):
-        row = edge.bound(self.port)
+    def row(self):
+        """The row of its socket, which the system's table may lack for a moment where others come and go."""
+        for _ in range(50):
+            row = edge.bound(self.port)
+            if row or self.child.poll() is not None:
+                break
+            time.sleep(0.001)
         check(row, "it has no socket any more, status %s" % self.child.poll())
+        return row
+
+    def is_waiting(self):
+        row = self.row()
         return int(row[4].split(":")[1], 16) == 0 and edge.state(self.child) == "S"
 
     def rest(self):
