@@ -6,13 +6,13 @@ use kad_base::{Failed, Sink};
 /// Standard output as a sink. It has no buffer: what `give` answers for has reached the system. The bytes aren't told,
 /// and a write that fails or takes nothing is counted.
 #[derive(Drop)]
-pub(crate) struct StandardOutput<'a, R: Print> {
+pub struct StandardOutput<'a, R: Print> {
     rt: &'a R,
     faults: u64,
 }
 
 impl<'a, R: Print> StandardOutput<'a, R> {
-    pub(crate) fn new(rt: &'a R) -> Self {
+    pub fn new(rt: &'a R) -> Self {
         StandardOutput { rt, faults: 0 }
     }
 }

@@ -6,13 +6,13 @@ use std::io::Read;
 
 /// A reader as a source. Its bytes aren't told, and a read that fails is counted.
 #[derive(Drop)]
-pub(crate) struct StandardInput<I: Read + Drop> {
+pub struct StandardInput<I: Read + Drop> {
     reader: I,
     faults: u64,
 }
 
 impl<I: Read + Drop> StandardInput<I> {
-    pub(crate) fn new(reader: I) -> Self {
+    pub fn new(reader: I) -> Self {
         StandardInput { reader, faults: 0 }
     }
 }
