@@ -9,7 +9,7 @@ use Rattle.kad_base.specs.declared.types.Policy.{Policy}
 use Rattle.kad_base.specs.declared.types.Policy.TheVariants as policy
 use Rattle.kad_base.specs.declared.types.Family.{Family}
 use Rattle.kad_base.specs.declared.types.Family.TheVariants.{Four, Six}
-use Rattle.kad_words.specs.Text.{SpellsBytes, SpellsHex, SpellsId, SpellsNumber, version}
+use Rattle.kad_text.specs.Text.{SpellsBytes, SpellsHex, SpellsId, SpellsNumber, version}
 use Rattle.kad_words.specs.Table.{AreLooks, AreSaid, Choice, Entry, FamilyOf, IsLook, IsLookAt, IsLookOf, IsSaid, MayIdOf, MayNumberOf, MaySeedOf, NumberOf, Part, PolicyBy, Says, StandsOf, Values, Word, family_option, key_of, kind_of, kind_word, no_target, parts_of, word_of}
 use Rattle.kad_words.specs.Table.Part.{gives_id, gives_seed, gives_number, may_give_number, says_whether, gives_policy, gives_look, gives_item, gives_looks}
 use Rattle.kad_words.specs.Plain.{CommandOf, IsPlain, pairs_of, values_of}
@@ -26,7 +26,7 @@ use Rattle.kad_words.specs.declared.command.LookWords.{LookWords}
 use Rattle.kad_words.specs.Values.{FamilyBy, IsGiven, IsGivenOr, MayBeGiven, MayNumberBy, NumberBy}
 use Rattle.kad_words.proofs.Checks.{pairs_are}
 use Rattle.kad_words.proofs.Listing.{one_word}
-use Rattle.kad_words.proofs.OneSpelling.{bytes_once, family_once, hex_once, id_once, number_once}
+use Rattle.kad_text.proofs.OneSpelling.{bytes_once, family_once, hex_once, id_once, number_once}
 
 -- ---- a word is that of one command
 

@@ -4,7 +4,7 @@ use Rattle.kad_base.specs.declared.types.Addr.{Addr}
 use Rattle.kad_base.specs.declared.types.Ip.TheVariants.{V4, V6}
 use Rattle.kad_base.specs.declared.types.Family.{Family}
 use Rattle.kad_base.specs.declared.types.Family.TheVariants.{Four, Six}
-use Rattle.kad_words.specs.Text.{SpellsAddr}
+use Rattle.kad_text.specs.Text.{SpellsAddr}
 use Rattle.kad_words.specs.Table.{Choice, Word, bind_option, family_option, kind_word, links, option_word}
 use Rattle.kad_words.specs.declared.command.CommandKind.{CommandKind}
 use Rattle.kad_words.specs.Plain.{pairs_of, value_of}

@@ -1,6 +1,6 @@
 -- What is known of a group's key before a command is read.
 use Rattle.std.specs.Prelude.{ℕ, List, [], ◌∷◌, Contains, IsNone}
-use Rattle.kad_words.specs.Text.{SpellsHex}
+use Rattle.kad_text.specs.Text.{SpellsHex}
 use Rattle.kad_words.specs.Table.{Word, group_option}
 use Rattle.kad_words.specs.Values.{IsGiven}
 use Rattle.kad_words.specs.Bound.{first_given}

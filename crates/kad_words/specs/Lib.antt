@@ -1,10 +1,8 @@
-pub mod Text
-pub mod Groups
-pub mod Values
-pub mod Table
-pub mod Plain
 pub mod Bound
+pub mod Fitting
 pub mod Grouped
 pub mod Listed
+pub mod Plain
+pub mod Table
 pub mod Taken
-pub mod Fitting
+pub mod Values

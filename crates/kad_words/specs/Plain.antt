@@ -5,7 +5,7 @@ use Rattle.std.specs.Option.{IsSomeAnd}
 use Rattle.kad_base.specs.declared.types.Id.{Id}
 use Rattle.kad_base.specs.declared.types.Addr.{Addr}
 use Rattle.kad_base.specs.declared.types.Family.{Family}
-use Rattle.kad_words.specs.Text.{SpellsAddr, SpellsBytes, SpellsFamily, SpellsHex, SpellsId, SpellsNumber}
+use Rattle.kad_text.specs.Text.{SpellsAddr, SpellsBytes, SpellsFamily, SpellsHex, SpellsId, SpellsNumber}
 use Rattle.kad_words.specs.Table.{Entry, Says, Values, Word, kind_named, kind_word, option_word, options_of, word_of}
 use Rattle.kad_words.specs.declared.choice.Kind.{Kind}
 use Rattle.kad_words.specs.declared.choice.Kind.TheVariants.{Identifier, Bytes32, AnyBytes, Number, IpVersion, Address}

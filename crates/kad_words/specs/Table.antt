@@ -8,7 +8,7 @@ use Rattle.kad_base.specs.declared.types.Id.{Id}
 use Rattle.kad_base.specs.declared.types.Policy.{Policy}
 use Rattle.kad_base.specs.declared.types.Policy.TheVariants as policy
 use Rattle.kad_base.specs.Puzzles.{hash}
-use Rattle.kad_words.specs.Text.{SpellsBytes, SpellsHex, SpellsId}
+use Rattle.kad_text.specs.Text.{SpellsBytes, SpellsHex, SpellsId}
 use Rattle.kad_words.specs.Values.{FamilyBy, IsGiven, MayBeGiven, MayNumberBy, NumberBy}
 use Rattle.kad_words.specs.declared.command.Command.{Command}
 use Rattle.kad_words.specs.declared.command.Command.TheVariants.{Lookup, Peers, Get, Put, Serve, Node, Table, Refresh, Check, Mint, Sim}

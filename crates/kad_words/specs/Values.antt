@@ -1,7 +1,7 @@
 -- What the value of an option gives, where it stands and where it doesn't.
 use Rattle.std.specs.Prelude.{◌≡◌, ℕ, List, Option, Some, None}
 use Rattle.kad_base.specs.declared.types.Family.{Family}
-use Rattle.kad_words.specs.Text.{SpellsFamily, SpellsNumber, version}
+use Rattle.kad_text.specs.Text.{SpellsFamily, SpellsNumber, version}
 use Rattle.kad_words.specs.declared.choice.Kind.{Kind}
 use Rattle.kad_words.specs.declared.choice.Kind.TheVariants.{IpVersion, Number}
 use Rattle.kad_words.specs.declared.choice.Need.{Need}

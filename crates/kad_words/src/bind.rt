@@ -6,8 +6,8 @@ ghost use Rattle.kad_words.specs.Table.{family_option, option_word};
 
 use crate::command::{kind_named, links};
 use crate::grammar::value_of;
-use crate::text::read_addr;
 use kad_base::{Addr, Family, Ip};
+use kad_text::read::read_addr;
 
 /// The address to bind: the value of the first word pair `--bind`, pairs counted after the command. Where there is none,
 /// or its value is no address, zeros with port 0, by which the system chooses: those of IPv6 where the first word pair

@@ -5,7 +5,7 @@ ghost use Rattle.kad_words.specs.Grouped.{HasGroup, IsGroup, LacksGroup};
 
 use crate::command::{kind_named, options};
 use crate::grammar::{is_among, value_of};
-use crate::text::read_hex;
+use kad_text::read::read_hex;
 
 /// The key of the group: the value of the first word pair `--group`, pairs counted after the command. `None` where there is
 /// none, or its value isn't 64 hex digits.

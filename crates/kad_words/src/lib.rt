@@ -7,11 +7,9 @@ mod choice;
 pub mod command;
 mod grammar;
 mod group;
-mod ipv6;
 mod matched;
 mod options;
 mod reading;
-pub mod text;
 mod values;
 
 pub use bind::{bind_of, takes_link};

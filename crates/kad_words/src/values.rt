@@ -1,6 +1,6 @@
 //! The values of options, read from what clap found. Each of them fits its option: see `plain`.
 ghost use Rattle.std.specs.Prelude.{◌≡◌, IfOk, IsTrue, is_some};
-ghost use Rattle.kad_words.specs.Text.{SpellsBytes, SpellsHex, SpellsId};
+ghost use Rattle.kad_text.specs.Text.{SpellsBytes, SpellsHex, SpellsId};
 ghost use Rattle.kad_words.specs.Listed.{entry_of};
 ghost use Rattle.kad_words.specs.Table.{c1_option, c2_option, PolicyOf};
 ghost use Rattle.kad_words.specs.Taken.{taken_of};
@@ -9,9 +9,9 @@ ghost use Rattle.kad_words.specs.Values.{FamilyBy, IsGiven, MayBeGiven, MayNumbe
 
 use crate::choice::{Choice, Kind, Need};
 use crate::options::{C1, C2};
-use crate::text::{read_bytes, read_family, read_hex, read_id, read_number};
 use clap::ArgMatches;
 use kad_base::{Bytes, Family, Id, NoMemory, Policy};
+use kad_text::read::{read_bytes, read_family, read_hex, read_id, read_number};
 use std::alloc::Global;
 
 /// The identifier of an option that has to stand.

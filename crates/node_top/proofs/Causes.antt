@@ -6,18 +6,19 @@ use Rattle.kad_words.specs.Table.{Word}
 use Rattle.kad_words.specs.Plain.{CommandOf}
 use Rattle.kad_words.specs.declared.command.Command.{Command}
 use Rattle.kad_words.proofs.OneCommand.{command_once}
-use Rattle.node_top.specs.declared.status.Status.{Status}
-use Rattle.node_top.specs.declared.status.Status.TheVariants.{Usage, BadLine, LinkFault, SourceFault, Strays, NoSeeds, NoMemory, Unminted, TooLong, BadValue, Unsound}
+use Rattle.command_base.specs.declared.status.Status.{Status}
+use Rattle.command_base.specs.declared.status.Status.TheVariants.{Usage, BadLine, LinkFault, SourceFault, Strays, NoSeeds, NoMemory, Unminted, TooLong, BadValue, Unsound}
 use Rattle.node_top.specs.Asked.{Asks}
-use Rattle.node_top.specs.Shown.{Shown, IsTold, HasFailed, nowhere}
-use Rattle.node_top.specs.Input.{ReadsTooMuch}
-use Rattle.node_top.specs.Commands.{EndsInStrays, promise_of, HasText, IsCaused, HasCause, HasBegun, HasStart, HasNoSeeds, HasStrays, HasBadLine, HasBadValue, HasUnsound, HasNoLastStray, HasNothing, ReadsInput, GoesWell, IsDone}
-use Rattle.node_top.specs.Endings.{number_of, OrNoMemory, Names, CutShort, MayEnd, EndsByCommand}
-use Rattle.node_top.specs.Written.{IsFront}
-use Rattle.node_top.proofs.Exactly.{unread_few, few_not_much}
-use Rattle.node_top.proofs.Lawful.{Sign, IsJudged, Means, IsUncalled}
+use Rattle.command_base.specs.Shown.{Shown, IsTold, HasFailed, nowhere}
+use Rattle.command_base.specs.Input.{ReadsTooMuch}
+use Rattle.node_top.specs.Commands.{OfCommand, EndsInStrays, promise_of, HasText, IsCaused, HasCause, HasBegun, HasStart, HasNoSeeds, HasStrays, HasBadLine, HasBadValue, HasUnsound, HasNoLastStray, HasNothing, ReadsInput, GoesWell, IsDone}
+use Rattle.command_base.specs.Endings.{number_of, OrNoMemory, MayEnd}
+use Rattle.node_top.specs.Endings.{Names, CutShort, EndsByCommand}
+use Rattle.command_base.specs.Written.{IsFront}
+use Rattle.command_base.proofs.Exactly.{unread_few, few_not_much}
+use Rattle.command_base.proofs.Lawful.{Sign, IsJudged, Means, IsUncalled}
 use Rattle.node_top.proofs.Lawfully.{lawful}
-use Rattle.node_top.specs.Called.{Called}
+use Rattle.command_base.specs.Called.{Called}
 
 -- ---- what holds of a command holds of the one that it is
 
@@ -47,37 +48,35 @@ pub done_end : (words : List Word) (status : ℕ) → (status ≡ 0) ⊎ (status
 done_end words status e command asked = elim e [ inl done ↦ inl done | inr cut ↦ inr (inl cut) ]
 
 -- the sign of a status, of the command that the words ask for
-record HasSign (words : List Word) (called : Called) (source : Shown ℕ) (link : Shown Event) (status : Status) : Type 0 where
-  pub command : Command
-  pub asked : CommandOf words command
-  pub sign : Sign (promise_of command) called source link status
+abbrev HasSign : List Word → Called → Shown ℕ → Shown Event → Status → Type 0
+HasSign words called source link status = OfCommand words (λ c. Sign (promise_of c) called source link status)
 
 module _ (words : List Word) (called : Called) (source : Shown ℕ) (link : Shown Event) (text : List ℕ) (h : HasText words called source link text) where
   not_signed : (t : Status) → IsJudged source link t → HasSign words called source link t → ⊥
   not_signed t j d =
-      let sign = subst (λ (k : Command). Sign (promise_of k) called source link t) (command_once words d.command h.command d.asked h.asked) d.sign in
-      (lawful h.command).no_sign called source link text t j h.text_of sign
+      let sign = subst (λ (k : Command). Sign (promise_of k) called source link t) (command_once words d.command h.command d.asked h.asked) d.holds in
+      (lawful h.command).no_sign called source link text t j h.holds sign
 
   pub not_bad : IsTold source → ¬ HasFailed source → HasBadLine words source → ⊥
-  not_bad told quiet bad = not_signed (BadLine bad.0) (told, quiet) (record { command = bad.1.command; asked = bad.1.asked; sign = bad.1.is_bad })
+  not_bad told quiet bad = not_signed (BadLine bad.0) (told, quiet) bad.1
 
   pub not_unsound : IsTold source → ¬ HasFailed source → HasUnsound words source → ⊥
-  not_unsound told quiet n = not_signed Unsound (told, quiet) (record { command = n.command; asked = n.asked; sign = n.unsound })
+  not_unsound told quiet n = not_signed Unsound (told, quiet) n
 
   pub not_much : IsTold source → ReadsTooMuch source.before source.after → ⊥
-  not_much told much = not_signed TooLong told (record { command = h.command; asked = h.asked; sign = much })
+  not_much told much = not_signed TooLong told (record { command = h.command; asked = h.asked; holds = much })
 
   pub not_seedless : IsTold source → ¬ HasFailed source → HasNoSeeds words called source → ⊥
-  not_seedless told quiet n = not_signed NoSeeds (told, quiet) (record { command = n.command; asked = n.asked; sign = (n.accepted, n.no_seeds) })
+  not_seedless told quiet n = not_signed NoSeeds (told, quiet) n
 
   pub not_refused : HasBadValue words → ⊥
-  not_refused n = not_signed BadValue tt (record { command = n.command; asked = n.asked; sign = n.refused })
+  not_refused n = not_signed BadValue tt n
 
   pub not_strays : IsTold link → EndsInStrays words called link → ⊥
-  not_strays told n = not_signed Strays told (record { command = n.command; asked = n.asked; sign = n.strays })
+  not_strays told n = not_signed Strays told n
 
   pub not_nothing : HasNothing words called.random → ⊥
-  not_nothing n = not_signed Unminted tt (record { command = n.command; asked = n.asked; sign = n.nothing })
+  not_nothing n = not_signed Unminted tt n
 
 -- ---- and one that has none, by its cause
 
@@ -129,13 +128,13 @@ module _ (asks : Type 0) (words : List Word) (called : Called) (source : Shown �
   pub caused : (command : Command) → CommandOf words command → (s : Status) → (promise_of command).cause called source link s → HasCause asks words called source link s
   caused command asked Usage c = absurd ((lawful command).means called source link Usage c)
   caused command asked NoMemory c = tt
-  caused command asked s c = record { command = command; asked = asked; cause = c }
+  caused command asked s c = record { command = command; asked = asked; holds = c }
 
   means : (s : Status) (c : IsCaused words called source link s) → Means (promise_of c.command) called source link s
-  means s c = (lawful c.command).means called source link s c.cause
+  means s c = (lawful c.command).means called source link s c.holds
 
   pub named : (s : Status) → HasCause asks words called source link s → Names words source s
-  named (BadLine line) c = record { command = c.command; asked = c.asked; is_bad = (means (BadLine line) c).1 }
+  named (BadLine line) c = record { command = c.command; asked = c.asked; holds = (means (BadLine line) c).1 }
   named other c = tt
 
   pub usage_alone : (s : Status) → HasCause asks words called source link s → number_of s ≡ 2 → ¬ asks
@@ -143,43 +142,43 @@ module _ (asks : Type 0) (words : List Word) (called : Called) (source : Shown �
   usage_alone other c e = absurd cc
 
   pub bad_line : (s : Status) → HasCause asks words called source link s → number_of s ≡ 3 → ReadsInput words × HasBadLine words source
-  bad_line (BadLine line) c e = let m = means (BadLine line) c in (record { command = c.command; asked = c.asked; reads = m.0 }, (line, record { command = c.command; asked = c.asked; is_bad = m.1 }))
+  bad_line (BadLine line) c e = let m = means (BadLine line) c in (record { command = c.command; asked = c.asked; holds = m.0 }, (line, record { command = c.command; asked = c.asked; holds = m.1 }))
   bad_line other c e = absurd cc
 
   pub link_fault : (s : Status) → HasCause asks words called source link s → number_of s ≡ 4 → HasFailed link × HasStart words called source × HasBegun words called source link × HasNoLastStray words called source link
   link_fault LinkFault c e =
       let m = means LinkFault c in
-      (m.0, record { command = c.command; asked = c.asked; started = m.1 }, record { command = c.command; asked = c.asked; begun = m.2 }, record { command = c.command; asked = c.asked; few = m.3 })
+      (m.0, record { command = c.command; asked = c.asked; holds = m.1 }, record { command = c.command; asked = c.asked; holds = m.2 }, record { command = c.command; asked = c.asked; holds = m.3 })
   link_fault other c e = absurd cc
 
   pub source_fault : (s : Status) → HasCause asks words called source link s → number_of s ≡ 6 → ReadsInput words × HasFailed source
-  source_fault SourceFault c e = let m = means SourceFault c in (record { command = c.command; asked = c.asked; reads = m.0 }, m.1)
+  source_fault SourceFault c e = let m = means SourceFault c in (record { command = c.command; asked = c.asked; holds = m.0 }, m.1)
   source_fault other c e = absurd cc
 
   pub strays : (s : Status) → HasCause asks words called source link s → number_of s ≡ 7 → HasStrays words called source link × HasStart words called source × HasBegun words called source link
   strays Strays c e =
       let m = means Strays c in
-      (record { command = c.command; asked = c.asked; strays = m.0 }, record { command = c.command; asked = c.asked; started = m.1 }, record { command = c.command; asked = c.asked; begun = m.2 })
+      (record { command = c.command; asked = c.asked; holds = m.0 }, record { command = c.command; asked = c.asked; holds = m.1 }, record { command = c.command; asked = c.asked; holds = m.2 })
   strays other c e = absurd cc
 
   pub no_seeds : (s : Status) → HasCause asks words called source link s → number_of s ≡ 8 → HasNoSeeds words called source
-  no_seeds NoSeeds c e = let m = means NoSeeds c in record { command = c.command; asked = c.asked; accepted = m.0; no_seeds = m.1 }
+  no_seeds NoSeeds c e = let m = means NoSeeds c in record { command = c.command; asked = c.asked; holds = m }
   no_seeds other c e = absurd cc
 
   pub unminted : (s : Status) → HasCause asks words called source link s → number_of s ≡ 10 → HasNothing words called.random
-  unminted Unminted c e = record { command = c.command; asked = c.asked; nothing = means Unminted c }
+  unminted Unminted c e = record { command = c.command; asked = c.asked; holds = means Unminted c }
   unminted other c e = absurd cc
 
   pub too_long : (s : Status) → HasCause asks words called source link s → number_of s ≡ 11 → ReadsInput words × ReadsTooMuch source.before source.after
-  too_long TooLong c e = let m = means TooLong c in (record { command = c.command; asked = c.asked; reads = m.0 }, m.1)
+  too_long TooLong c e = let m = means TooLong c in (record { command = c.command; asked = c.asked; holds = m.0 }, m.1)
   too_long other c e = absurd cc
 
   pub bad_value : (s : Status) → HasCause asks words called source link s → number_of s ≡ 12 → HasBadValue words
-  bad_value BadValue c e = record { command = c.command; asked = c.asked; refused = means BadValue c }
+  bad_value BadValue c e = record { command = c.command; asked = c.asked; holds = means BadValue c }
   bad_value other c e = absurd cc
 
   pub unsound : (s : Status) → HasCause asks words called source link s → number_of s ≡ 13 → HasUnsound words source
-  unsound Unsound c e = record { command = c.command; asked = c.asked; unsound = means Unsound c }
+  unsound Unsound c e = record { command = c.command; asked = c.asked; holds = means Unsound c }
   unsound other c e = absurd cc
 
   -- the sign of a status brings it
@@ -187,40 +186,40 @@ module _ (asks : Type 0) (words : List Word) (called : Called) (source : Shown �
   comes Usage t c early j d asking = absurd (c.0 (asking d))
   comes NoMemory t c early j d asking = inr refl
   comes s t c early j d asking =
-      let sign = subst (λ (k : Command). Sign (promise_of k) called source link t) (command_once words d.command c.command d.asked c.asked) d.sign in
-      (lawful c.command).one_sign called source link s t j early c.cause sign
+      let sign = subst (λ (k : Command). Sign (promise_of k) called source link t) (command_once words d.command c.command d.asked c.asked) d.holds in
+      (lawful c.command).one_sign called source link s t j early c.holds sign
 
   pub no_seeds_come : (s : Status) → HasCause asks words called source link s → IsUncalled link s → ((command : Command) → CommandOf words command → asks) → IsTold source → ¬ HasFailed source → HasNoSeeds words called source → OrNoMemory (number_of s) 8
-  no_seeds_come s c early asking told quiet n = comes s NoSeeds c early (told, quiet) (record { command = n.command; asked = n.asked; sign = (n.accepted, n.no_seeds) }) (λ d. asking d.command d.asked)
+  no_seeds_come s c early asking told quiet n = comes s NoSeeds c early (told, quiet) n (λ d. asking d.command d.asked)
 
   pub strays_come : (s : Status) → HasCause asks words called source link s → IsUncalled link s → ((command : Command) → CommandOf words command → asks) → IsTold link → EndsInStrays words called link → OrNoMemory (number_of s) 7
-  strays_come s c early asking told n = comes s Strays c early told (record { command = n.command; asked = n.asked; sign = n.strays }) (λ d. asking d.command d.asked)
+  strays_come s c early asking told n = comes s Strays c early told n (λ d. asking d.command d.asked)
 
   pub unminted_comes : (s : Status) → HasCause asks words called source link s → IsUncalled link s → (HasNothing words called.random → asks) → HasNothing words called.random → OrNoMemory (number_of s) 10
-  unminted_comes s c early asking n = comes s Unminted c early tt (record { command = n.command; asked = n.asked; sign = n.nothing }) (λ d. asking n)
+  unminted_comes s c early asking n = comes s Unminted c early tt n (λ d. asking n)
 
   pub bad_line_comes : (s : Status) → HasCause asks words called source link s → IsUncalled link s → ((command : Command) → CommandOf words command → asks) → IsTold source → ¬ HasFailed source → HasBadLine words source → OrNoMemory (number_of s) 3
-  bad_line_comes s c early asking told quiet bad = comes s (BadLine bad.0) c early (told, quiet) (record { command = bad.1.command; asked = bad.1.asked; sign = bad.1.is_bad }) (λ d. asking d.command d.asked)
+  bad_line_comes s c early asking told quiet bad = comes s (BadLine bad.0) c early (told, quiet) bad.1 (λ d. asking d.command d.asked)
 
   pub unsound_comes : (s : Status) → HasCause asks words called source link s → IsUncalled link s → ((command : Command) → CommandOf words command → asks) → IsTold source → ¬ HasFailed source → HasUnsound words source → OrNoMemory (number_of s) 13
-  unsound_comes s c early asking told quiet n = comes s Unsound c early (told, quiet) (record { command = n.command; asked = n.asked; sign = n.unsound }) (λ d. asking d.command d.asked)
+  unsound_comes s c early asking told quiet n = comes s Unsound c early (told, quiet) n (λ d. asking d.command d.asked)
 
   pub bad_value_comes : (s : Status) → HasCause asks words called source link s → IsUncalled link s → ((command : Command) → CommandOf words command → asks) → HasBadValue words → OrNoMemory (number_of s) 12
-  bad_value_comes s c early asking n = comes s BadValue c early tt (record { command = n.command; asked = n.asked; sign = n.refused }) (λ d. asking d.command d.asked)
+  bad_value_comes s c early asking n = comes s BadValue c early tt n (λ d. asking d.command d.asked)
 
   pub too_long_comes : (s : Status) → HasCause asks words called source link s → IsUncalled link s → IsTold source → ReadsTooMuch source.before source.after → OrNoMemory (number_of s) 11
   too_long_comes Usage c early told much = absurd (few_not_much source.before source.after told (unread_few source.before source.after c.1) much)
   too_long_comes NoMemory c early told much = inr refl
-  too_long_comes s c early told much = (lawful c.command).one_sign called source link s TooLong told early c.cause much
+  too_long_comes s c early told much = (lawful c.command).one_sign called source link s TooLong told early c.holds much
 
   pub completes : (sink : Shown ℕ) (s : Status) → HasCause asks words called source link s → asks → GoesWell words called source link sink → number_of s ≡ 9
   completes sink Usage c asking well = absurd (c.0 asking)
   completes sink NoMemory c asking well = refl
   completes sink s c asking well =
       let needs = subst (λ (k : Command). (promise_of k).needs called source link) (command_once words well.command c.command well.asked c.asked) well.needs in
-      (lawful c.command).needed called source link s needs c.cause
+      (lawful c.command).needed called source link s needs c.holds
 
   pub may_end : (s : Status) → HasCause asks words called source link s → asks → EndsByCommand words (number_of s)
   may_end Usage c asking command asked = absurd (c.0 asking)
   may_end NoMemory c asking command asked = inr (inr (inl refl))
-  may_end s c asking command asked = subst (λ (k : Command). MayEnd (promise_of k) (number_of s)) (command_once words c.command command c.asked asked) ((lawful c.command).may_end called source link s c.cause)
+  may_end s c asking command asked = subst (λ (k : Command). MayEnd (promise_of k) (number_of s)) (command_once words c.command command c.asked asked) ((lawful c.command).may_end called source link s c.holds)

@@ -1,10 +1,10 @@
 //! Which command the words ask for.
 ghost use Rattle.std.specs.Prelude.{◌≡◌, ◌⊎◌, IfOk, IfErr};
 ghost use Rattle.kad_words.specs.Plain.{CommandOf};
-ghost use Rattle.node_top.specs.Endings.{number_of};
+ghost use Rattle.command_base.specs.Endings.{number_of};
 ghost use Rattle.node_top.specs.Asked.{Asks, bytes_of};
 
-use crate::status::Status;
+use command_base::Status;
 use kad_words::{Command, WordsFault, read};
 use std::alloc::Global;
 

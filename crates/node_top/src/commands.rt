@@ -1,36 +1,27 @@
-//! The commands: a module each, and an arm here; and what the words ask for, done.
+//! The commands: a module of a crate below each, and an arm here; and what the words ask for, done.
 ghost use Rattle.std.specs.Prelude.{◌≡◌, ◌≢◌, ◌⊎◌, IfOk, IfErr, IsTrue, IsErrOf};
 ghost use Rattle.kad_base.specs.declared.types.Event.{Event};
 ghost use Rattle.lookup_core.specs.Sealed.{Accepts};
 ghost use Rattle.node_serve.specs.Sealing.{Tags};
-ghost use Rattle.node_top.specs.Called.{called_plainly, called_with};
+ghost use Rattle.command_base.specs.Called.{called_plainly, called_with};
 ghost use Rattle.node_top.specs.Asked.{Asks, AsksPlain, bytes_of};
 ghost use Rattle.node_top.specs.Commands.{promise_of, HasBegun, HasCause, HasText, ReadsInput};
-ghost use Rattle.node_top.specs.Endings.{EndsUnasked, number_of};
-ghost use Rattle.node_top.specs.Input.{ReadsAtMost};
-ghost use Rattle.node_top.specs.Shown.{Shown, shown, shown_link, nowhere};
-
-pub(crate) mod check;
-pub(crate) mod get;
-pub(crate) mod lookup;
-pub(crate) mod mint;
-pub(crate) mod node;
-pub(crate) mod peers;
-pub(crate) mod put;
-pub(crate) mod refresh;
-pub(crate) mod serve;
-pub(crate) mod sim;
-pub(crate) mod table;
+ghost use Rattle.command_base.specs.Endings.{EndsUnasked, number_of};
+ghost use Rattle.command_base.specs.Input.{ReadsAtMost};
+ghost use Rattle.command_base.specs.Shown.{Shown, shown, shown_link, nowhere};
 
 use crate::asked::asked;
-use crate::call::Call;
-use crate::status::Status;
+use command_base::{Call, Status};
 use kad_base::{Bytes, Check, Link, Source};
 use kad_words::{Command, takes_link};
+use lookup_commands::{get, lookup, peers, put};
+use node_commands::{node, serve};
+use plain_commands::{check, mint, sim};
 use seal_tags::{Seal, SealCheck};
 use std::alloc::Global;
 use std::sync::Wait;
 use std::thread::Threads;
+use table_commands::{refresh, table};
 
 /// Does a command, and makes its output. Nothing is written yet.
 fn output_of<

@@ -5,10 +5,10 @@ ghost use Rattle.kad_words.specs.Plain.{CommandOf};
 ghost use Rattle.kad_words.specs.Table.{Word};
 ghost use Rattle.kad_words.specs.declared.command.Command.{Command};
 ghost use Rattle.node_top.specs.Asked.{AsksPlain};
-ghost use Rattle.node_top.specs.Called.{Called};
+ghost use Rattle.command_base.specs.Called.{Called};
 ghost use Rattle.node_top.specs.Commands.{HasText, ReadsInput};
-ghost use Rattle.node_top.specs.MadeFrom.{NamesSeed, GoesByEvents, SameInput, SameEvents};
-ghost use Rattle.node_top.specs.Shown.{Shown};
+ghost use Rattle.node_top.specs.MadeFrom.{NamesSeed, GoesByEvents};
+ghost use Rattle.command_base.specs.Shown.{SameInput, SameEvents, Shown};
 
 /// A command that takes no link has one text: that of its words, of the 32 random bytes, and of the input where it reads
 /// one and the source tells it. The words alone give it where `mint` or `sim` names a seed. So what is written follows from

@@ -1,18 +1,17 @@
 //! The top calls: one command, its output and its status.
 ghost use Rattle.std.specs.Prelude.{◌≡◌, ◌≢◌, ◌≤◌, ◌⊎◌, ◌↔◌, None};
 ghost use Rattle.node_top.specs.Asked.{Asks, AsksPlain, bytes_of};
-ghost use Rattle.node_top.specs.Called.{called_plainly, called_with};
-ghost use Rattle.node_top.specs.Shown.{shown, shown_link, nowhere, IsTold, HasFailed};
-ghost use Rattle.node_top.specs.Input.{ReadsAtMost, ReadsTooMuch};
-ghost use Rattle.node_top.specs.Commands.{GoesPlainlyWell, GoesWell, HasBegun};
-ghost use Rattle.node_top.specs.Commands.{HasBadLine, HasBadValue, HasNoLastStray, HasNoSeeds, HasNothing, HasStart, HasStrays, HasUnsound, EndsInStrays};
+ghost use Rattle.command_base.specs.Called.{called_plainly, called_with};
+ghost use Rattle.command_base.specs.Shown.{shown, shown_link, nowhere, IsTold, HasFailed};
+ghost use Rattle.command_base.specs.Input.{ReadsAtMost, ReadsTooMuch};
+ghost use Rattle.node_top.specs.Commands.{GoesPlainlyWell, GoesWell, HasBegun, HasBadLine, HasBadValue, HasNoLastStray, HasNoSeeds, HasNothing, HasStart, HasStrays, HasUnsound, EndsInStrays};
 ghost use Rattle.node_top.specs.Commands.{IsDone, ReadsInput};
-ghost use Rattle.node_top.specs.Endings.{last_status, CutShort, EndsByCommand};
-ghost use Rattle.node_top.specs.Endings.{EndsUnasked, OrNoMemory, WritesLine};
+ghost use Rattle.command_base.specs.Endings.{last_status, EndsUnasked, OrNoMemory};
+ghost use Rattle.node_top.specs.Endings.{CutShort, EndsByCommand, WritesLine};
 
-use crate::call::Call;
 use crate::commands::{asked_output, asked_plainly};
-use crate::output::{write_line, write_output};
+use command_base::Call;
+use command_base::output::{write_line, write_output};
 use kad_base::{Check, Link, Sink, Source};
 use seal_tags::{GroupSeal, Seal, SealCheck};
 use std::alloc::Global;

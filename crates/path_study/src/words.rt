@@ -1,6 +1,6 @@
 //! The words of the command line: pairs of an option and its value, in any order.
 use kad_base::limits::{DEFAULT_ALPHA, DEFAULT_K, DEFAULT_PATHS, MAX_ALPHA, MAX_K, MAX_PATHS};
-use kad_words::text::{read_hex, read_number};
+use kad_text::read::{read_hex, read_number};
 
 /// The most nodes of a network.
 const MAX_NODES: u32 = 20_000;

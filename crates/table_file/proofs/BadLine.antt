@@ -10,14 +10,15 @@ use Rattle.kad_base.specs.declared.types.Id.{Id}
 use Rattle.kad_base.specs.declared.types.Contact.{Contact}
 use Rattle.bucket_tree.specs.declared.rows.Row.{Row}
 use Rattle.contact_table.specs.declared.saved.Saved.{Saved}
-use Rattle.kad_words.proofs.OneSpelling.{cut_once}
+use Rattle.kad_text.proofs.OneSpelling.{cut_once}
 use Rattle.table_file.specs.declared.draft.Head.{Head}
 use Rattle.table_file.specs.declared.draft.Draft.{Draft}
 use Rattle.table_file.specs.declared.draft.Draft.TheVariants as draft
 use Rattle.table_file.specs.declared.line.Line.{Line}
 use Rattle.table_file.specs.declared.line.Line.TheVariants as line
 use Rattle.table_file.specs.Drafts.{IsDraft, IsUnfit, Refuses, Takes, lines_of_draft, whole_lines}
-use Rattle.table_file.specs.Reading.{IsBadLine, IsBegun, IsCut, Lacks, Spells, fed}
+use Rattle.table_file.specs.Reading.{IsBadLine, IsBegun, Spells, fed}
+use Rattle.kad_text.specs.Cut.{IsCut, Lacks}
 use Rattle.table_file.specs.SavedText.{FitsLine, IsSavedText, ended, joined, lines_of, text_of}
 use Rattle.table_file.proofs.Chain.{at_front, ended_of, last_kind, last_saved}
 use Rattle.table_file.proofs.Drafting.{end_behind_row, end_behind_siblings}

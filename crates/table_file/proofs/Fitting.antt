@@ -11,7 +11,8 @@ use Rattle.bucket_tree.specs.declared.rows.Row.{Row}
 use Rattle.contact_table.specs.declared.saved.Saved.{Saved}
 use Rattle.table_file.specs.declared.line.Line.{Line}
 use Rattle.table_file.specs.declared.line.Line.TheVariants as line
-use Rattle.table_file.specs.SavedText.{FailedOnce, FitsContact, FitsId, FitsLine, FitsRow, IsSavedText, ended, joined, lines_of, row_lines, saved_text}
+use Rattle.table_file.specs.SavedText.{FailedOnce, FitsLine, FitsRow, IsSavedText, ended, joined, lines_of, row_lines, saved_text}
+use Rattle.kad_text.specs.Text.{FitsContact, FitsId}
 use Rattle.table_file.proofs.Printing.{saved_parts}
 
 abbrev Few : Live → Type 0

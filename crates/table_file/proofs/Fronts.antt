@@ -4,7 +4,7 @@ use Rattle.std.specs.Prelude.{codes, All}
 use Rattle.std.proofs.lemmas.List.{append_assoc, length-append}
 use Rattle.std.proofs.lemmas.List.Elements.{All-head, All-tail}
 use Rattle.std.proofs.Math.Seq.{get_or-append_seam}
-use Rattle.kad_words.proofs.OneSpelling.{cut_once}
+use Rattle.kad_text.proofs.OneSpelling.{cut_once}
 use Rattle.table_file.specs.declared.line.Line.{Line}
 use Rattle.table_file.specs.SavedText.{FitsLine, joined, text_of}
 use Rattle.table_file.proofs.Once.{line_once}

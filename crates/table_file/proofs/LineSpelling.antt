@@ -8,16 +8,17 @@ use Rattle.hex.specs.Hex.{encode_lower}
 use Rattle.kad_base.specs.declared.types.Addr.{Addr}
 use Rattle.kad_base.specs.declared.types.Contact.{Contact}
 use Rattle.kad_base.specs.declared.types.Id.{Id}
-use Rattle.kad_words.specs.Text.{addr_text}
-use Rattle.kad_words.proofs.OneSpelling.{cut_once}
+use Rattle.kad_text.specs.Text.{FitsContact, FitsId, addr_text}
+use Rattle.kad_text.proofs.OneSpelling.{cut_once}
 use Rattle.bucket_tree.specs.declared.types.Live.{Live}
 use Rattle.table_file.specs.declared.line.Line.{Line}
 use Rattle.table_file.specs.declared.line.Line.TheVariants as line
-use Rattle.table_file.specs.Reading.{IsCut, Lacks, Spells, SpellsAddr, SpellsContact, SpellsLower}
-use Rattle.table_file.specs.SavedText.{FitsContact, FitsId, prefix_text, text_of}
+use Rattle.kad_text.specs.Cut.{IsCut, Lacks}
+use Rattle.table_file.specs.Reading.{Spells, SpellsAddr, SpellsContact, SpellsLower}
+use Rattle.table_file.specs.SavedText.{prefix_text, text_of}
 use Rattle.table_file.proofs.Once.{kind, kind_told, mark, same_rest}
 use Rattle.table_file.proofs.PartSpelling.{lacking, spaced}
-use Rattle.kad_words.proofs.AddrText.{addr_visible, decimal_visible, hex_visible}
+use Rattle.kad_text.proofs.AddrText.{addr_visible, decimal_visible, hex_visible}
 
 -- ---- each kind, from its word
 

@@ -7,14 +7,14 @@ use Rattle.hex.specs.Hex.{encode_lower}
 use Rattle.kad_base.specs.declared.types.Id.{Id}
 use Rattle.kad_base.specs.declared.types.Addr.{Addr}
 use Rattle.kad_base.specs.declared.types.Contact.{Contact}
-use Rattle.kad_words.specs.Text.{addr_text}
-use Rattle.kad_words.proofs.AddrText.{IsVisible, addr_visible, decimal_visible, hex_visible}
-use Rattle.kad_words.proofs.HexSpelling.{encode_lower-same}
-use Rattle.kad_words.proofs.OneSpelling.{addr_same, cut_once}
+use Rattle.kad_text.specs.Text.{FitsContact, FitsId, contact_text, addr_text}
+use Rattle.kad_text.proofs.AddrText.{IsVisible, addr_visible, decimal_visible, hex_visible}
+use Rattle.kad_text.proofs.HexSpelling.{encode_lower-same}
+use Rattle.kad_text.proofs.OneSpelling.{addr_same, cut_once}
 use Rattle.bucket_tree.specs.declared.types.Live.{Live}
 use Rattle.table_file.specs.declared.line.Line.{Line}
 use Rattle.table_file.specs.declared.line.Line.TheVariants as line
-use Rattle.table_file.specs.SavedText.{FitsContact, FitsId, FitsLine, bit_text, contact_text, prefix_text, text_of}
+use Rattle.table_file.specs.SavedText.{FitsLine, bit_text, prefix_text, text_of}
 use Rattle.table_file.proofs.Visible.{no_space}
 
 -- ---- what two texts that begin alike go on with

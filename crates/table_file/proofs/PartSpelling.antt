@@ -11,12 +11,13 @@ use Rattle.hex.specs.Hex.{encode_lower}
 use Rattle.kad_base.specs.declared.types.Addr.{Addr}
 use Rattle.kad_base.specs.declared.types.Contact.{Contact}
 use Rattle.kad_base.specs.declared.types.Id.{Id}
-use Rattle.kad_words.specs.Text.{SpellsHex, addr_text}
-use Rattle.kad_words.specs.Text as words
-use Rattle.kad_words.proofs.AddrText.{IsVisible, addr_lower, addr_visible, decimal_visible, hex_visible, lower_hex}
-use Rattle.kad_words.proofs.OneSpelling.{cut_once}
-use Rattle.table_file.specs.Reading.{IsCut, Lacks, SpellsAddr, SpellsContact, SpellsLower}
-use Rattle.table_file.specs.SavedText.{bit_text, contact_text, prefix_text}
+use Rattle.kad_text.specs.Text.{SpellsHex, addr_text, contact_text}
+use Rattle.kad_text.specs.Text as words
+use Rattle.kad_text.proofs.AddrText.{IsVisible, addr_lower, addr_visible, decimal_visible, hex_visible, lower_hex}
+use Rattle.kad_text.proofs.OneSpelling.{cut_once}
+use Rattle.kad_text.specs.Cut.{IsCut, Lacks}
+use Rattle.table_file.specs.Reading.{SpellsAddr, SpellsContact, SpellsLower}
+use Rattle.table_file.specs.SavedText.{bit_text, prefix_text}
 use Rattle.table_file.proofs.Visible.{no_space}
 
 -- ---- where a text has a byte

@@ -4,11 +4,11 @@ use Rattle.std.specs.Prelude.{Bool, false, decimal, codes, All}
 use Rattle.std.proofs.lemmas.List.Elements.{All-append, All-cons, All-nil}
 use Rattle.hex.specs.Hex.{encode_lower}
 use Rattle.kad_base.specs.declared.types.Contact.{Contact}
-use Rattle.kad_words.specs.Text.{addr_text}
-use Rattle.kad_words.proofs.AddrText.{IsVisible, addr_visible, decimal_visible, hex_visible}
+use Rattle.kad_text.specs.Text.{FitsContact, contact_text, addr_text}
+use Rattle.kad_text.proofs.AddrText.{IsVisible, addr_visible, decimal_visible, hex_visible}
 use Rattle.table_file.specs.declared.line.Line.{Line}
 use Rattle.table_file.specs.declared.line.Line.TheVariants as line
-use Rattle.table_file.specs.SavedText.{FitsContact, FitsLine, bit_text, contact_text, prefix_text, text_of}
+use Rattle.table_file.specs.SavedText.{FitsLine, bit_text, prefix_text, text_of}
 
 -- a visible ASCII character, or a space
 abbrev pub IsShown : ℕ → Type 0

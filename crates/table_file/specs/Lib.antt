@@ -1,3 +1,3 @@
-pub mod SavedText
-pub mod Reading
 pub mod Drafts
+pub mod Reading
+pub mod SavedText

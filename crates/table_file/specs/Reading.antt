@@ -1,20 +1,17 @@
 -- How a saved text is read back: what each line and its parts spell, and which line is bad.
-use Rattle.std.specs.Prelude.{◌≡◌, ◌≢◌, ℕ, ◌+◌, List, [], ◌∷◌, ◌++◌, length, flat_map, codes}
+use Rattle.std.specs.Prelude.{◌≡◌, ℕ, ◌+◌, List, [], ◌∷◌, ◌++◌, length, flat_map, codes}
 use Rattle.std.specs.List.{All}
 use Rattle.std.specs.Str.{byte}
 use Rattle.hex.specs.Hex.{encode_lower, IsBytes}
 use Rattle.kad_base.specs.declared.types.Addr.{Addr}
 use Rattle.kad_base.specs.declared.types.Contact.{Contact}
-use Rattle.kad_words.specs.Text.{FitsAddr, addr_text}
+use Rattle.kad_text.specs.Text.{FitsAddr, FitsContact, addr_text, contact_text}
+use Rattle.kad_text.specs.Cut.{Lacks}
 use Rattle.contact_table.specs.declared.saved.Saved.{Saved}
 use Rattle.table_file.specs.declared.line.Line.{Line}
-use Rattle.table_file.specs.SavedText.{FitsContact, FitsLine, IsSavedText, contact_text, text_of}
+use Rattle.table_file.specs.SavedText.{FitsLine, IsSavedText, text_of}
 
 -- ---- which line is bad
-
--- the text has no such byte
-abbrev pub Lacks : ℕ → List ℕ → Type 0
-Lacks byte text = All (λ b. b ≢ byte) text
 
 -- texts of lines, each with its line feed
 abbrev pub fed : List (List ℕ) → List ℕ
@@ -37,11 +34,6 @@ pub record IsBadLine (bytes : List ℕ) (number : ℕ) : Type 0 where
   pub unread : (saved : Saved) → ¬ IsSavedText bytes saved
 
 -- ---- what a text spells
-
--- where a text is first cut
-pub record IsCut (byte : ℕ) (text front back : List ℕ) : Type 0 where
-  pub lacks : Lacks byte front
-  pub split : text ≡ front ++ byte ∷ back
 
 -- the text is these bytes in lower-case hex
 pub record SpellsLower (size : ℕ) (text bytes : List ℕ) : Type 0 where

@@ -2,10 +2,8 @@
 -- project's own.
 use Rattle.std.specs.Prelude.{◌≡◌, ℕ, ◌<◌, ◌≤◌, Bool, true, false, List, [], ◌∷◌, ◌++◌, length, map, flat_map, codes, decimal}
 use Rattle.std.specs.List.{All}
-use Rattle.hex.specs.Hex.{encode_lower, IsBytes}
-use Rattle.kad_base.specs.declared.types.Id.{Id}
-use Rattle.kad_base.specs.declared.types.Contact.{Contact}
-use Rattle.kad_words.specs.Text.{FitsAddr, addr_text}
+use Rattle.hex.specs.Hex.{encode_lower}
+use Rattle.kad_text.specs.Text.{FitsContact, FitsId, contact_text}
 use Rattle.bucket_tree.specs.declared.rows.Row.{Row}
 use Rattle.contact_table.specs.declared.saved.Saved.{Saved}
 use Rattle.table_file.specs.declared.line.Line.{Line}
@@ -22,10 +20,6 @@ abbrev pub lines_of : Saved → List Line
 lines_of saved = line.Table saved.own saved.k saved.b ∷ (flat_map row_lines saved.rows ++ (map line.Sibling saved.siblings ++ line.End ∷ []))
 
 -- ---- the text of a line
-
--- an identifier in lower-case hex, a space, and its address
-abbrev pub contact_text : Contact → List ℕ
-contact_text c = encode_lower c.id.0 ++ codes " " ++ addr_text c.addr
 
 abbrev pub bit_text : Bool → ℕ
 bit_text true = 49
@@ -56,12 +50,6 @@ abbrev pub saved_text : Saved → List ℕ
 saved_text saved = joined (lines_of saved)
 
 -- ---- what a line can hold: what its types can, and failures of 0 or 1
-
-abbrev pub FitsId : Id → Type 0
-FitsId id = (length id.0 ≡ 20) × IsBytes id.0
-
-abbrev pub FitsContact : Contact → Type 0
-FitsContact c = FitsId c.id × FitsAddr c.addr
 
 abbrev pub FitsLine : Line → Type 0
 FitsLine (line.Table own k b) = FitsId own × (k < 256) × (b < 256)

@@ -1,7 +1,6 @@
 //! A routing table as a text that can be read. It opens no file.
 #![tactic(auto)]
 
-mod cut;
 mod draft;
 mod laws;
 mod line;

@@ -2,13 +2,14 @@
 ghost use Rattle.std.specs.Prelude.{◌≡◌, ◌∷◌, ◌++◌, [], ℕ, MatchOption, codes};
 ghost use Rattle.std.specs.Str.{byte};
 ghost use Rattle.table_file.specs.declared.line.Line.{Line};
-ghost use Rattle.table_file.specs.Reading.{Lacks, Spells};
+ghost use Rattle.kad_text.specs.Cut.{Lacks};
+ghost use Rattle.table_file.specs.Reading.{Spells};
 
-use crate::cut::{cut, is_same};
 use crate::line::Line;
 use crate::parts::{addr_of, contact_of, id_of, number_of, prefix_of};
 use bucket_tree::Live;
 use kad_base::Contact;
+use kad_text::cut::{cut, is_same};
 
 /// Reads a line, without its line feed.
 pub(crate) fn read_line(line: &[u8]) -> Option<Line>

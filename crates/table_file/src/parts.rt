@@ -7,10 +7,10 @@ ghost use Rattle.kad_base.specs.declared.types.Id.{Id};
 ghost use Rattle.table_file.specs.Reading.{SpellsAddr, SpellsContact, SpellsLower};
 ghost use Rattle.table_file.specs.SavedText.{bit_text, prefix_text};
 
-use crate::cut::{cut, is_same};
 use bucket_tree::Prefix;
 use kad_base::{Addr, Contact, Id};
-use kad_words::text::{read_addr, read_hex, read_number};
+use kad_text::cut::{cut, is_same};
+use kad_text::read::{read_addr, read_hex, read_number};
 
 /// Reads a number in decimal digits without leading zeros, at most this.
 pub(crate) fn number_of(text: &[u8], most: u16) -> Option<u16>

@@ -6,10 +6,10 @@ ghost use Rattle.table_file.specs.Drafts.{IsDraft, Refuses, Takes};
 ghost use Rattle.table_file.specs.Reading.{IsBadLine};
 ghost use Rattle.table_file.specs.SavedText.{FailedOnce, IsSavedText};
 
-use crate::cut::cut;
 use crate::draft::{Draft, Misfit, take};
 use crate::lines::read_line;
 use contact_table::Saved;
+use kad_text::cut::cut;
 use std::alloc::Global;
 
 /// Why a text gives no saved table.

@@ -2,12 +2,14 @@
 ghost use Rattle.std.specs.Prelude.{◌≡◌, ◌≤◌, ◌++◌, OnOk, IfOk, flat_map, length, map};
 ghost use Rattle.std.specs.List.{All};
 ghost use Rattle.table_file.specs.declared.line.Line.TheVariants as line;
-ghost use Rattle.table_file.specs.SavedText.{FailedOnce, FitsContact, FitsId, FitsRow, IsSavedText, ended, joined, row_lines};
+ghost use Rattle.table_file.specs.SavedText.{FailedOnce, FitsRow, IsSavedText, ended, joined, row_lines};
+ghost use Rattle.kad_text.specs.Text.{FitsContact, FitsId};
 
-use crate::print::{put_contact, put_id, put_number, put_prefix};
+use crate::print::put_prefix;
 use bucket_tree::{Live, Prefix, Row};
 use contact_table::Saved;
 use kad_base::{Bytes, Contact, Id, List, NoMemory};
+use kad_text::print::{put_contact, put_id, put_number};
 use std::alloc::Global;
 
 /// The text of a saved table: its lines, each ended by a line feed. It can be read back.

@@ -1,7 +1,7 @@
 //! Lists of words and what each gives. Words are parted by one space; `ID` stands for an identifier of 40 digits, `SEED`
 //! for 64 and `ZEROS` for 64 zeros.
 use kad_base::{Addr, Family, Id, Ip, List, NoMemory, Policy};
-use kad_words::text::read_addr;
+use kad_text::read::read_addr;
 use kad_words::{Command, LookWords, WordsFault, bind_of, group_of, lacks_group, read, takes_link};
 use std::alloc::{AllocError, Global};
 

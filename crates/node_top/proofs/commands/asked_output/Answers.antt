@@ -2,13 +2,13 @@ use Rattle.std.proofs.Common.{inl, inr, refl}
 use Rattle.kad_words.proofs.OneCommand.{command_plain}
 use Rattle.node_top.proofs.Asking.{takes_by}
 use Rattle.node_top.proofs.Causes.{caused, unasked}
-use Rattle.node_top.proofs.Begun.{both_err, ok_then, err_then}
+use Rattle.command_base.proofs.Results.{both_err, ok_then, err_then}
 use Rattle.node_top.proofs.Lawfully.{ranged}
-use Rattle.node_top.proofs.Parts.{unread_at_most}
+use Rattle.command_base.proofs.Parts.{unread_at_most}
 use Rattle.node_top.proofs.commands.asked_output.Goals as goal
 
 pub returns-clause-ok : goal.returns-clause-ok
-returns-clause-ok g c = ok_then c.output_of.result _ _ c.output_of.ensures.ok (λ text t. record { command = c.in_ok-command.command; asked = c.in_ok-command.ensures.command; text_of = t })
+returns-clause-ok g c = ok_then c.output_of.result _ _ c.output_of.ensures.ok (λ text t. record { command = c.in_ok-command.command; asked = c.in_ok-command.ensures.command; holds = t })
 
 pub returns-clause-cause : goal.returns-clause-cause
 returns-clause-cause g c = err_then c.output_of.result _ _ c.output_of.ensures.cause (λ status h. caused _ _ _ _ _ c.in_ok-command.command c.in_ok-command.ensures.command status h)
@@ -21,13 +21,13 @@ returns-clause-unread g c =
 pub returns-clause-no_memory : goal.returns-clause-no_memory
 returns-clause-no_memory g c =
     err_then c.output_of.result _ _ c.output_of.ensures.no_memory
-    (λ status h same. elim (h same) [ inl begun ↦ inl (record { command = c.in_ok-command.command; asked = c.in_ok-command.ensures.command; begun = begun }) | inr e ↦ inr e ])
+    (λ status h same. elim (h same) [ inl begun ↦ inl (record { command = c.in_ok-command.command; asked = c.in_ok-command.ensures.command; holds = begun }) | inr e ↦ inr e ])
 
 pub returns-clause-plain : goal.returns-clause-plain
 returns-clause-plain g c = λ none_. absurd (none_ (command_plain _ c.in_ok-command.command c.in_ok-command.ensures.command))
 
 pub returns-clause-no_input : goal.returns-clause-no_input
-returns-clause-no_input g c = λ none_. c.output_of.ensures.no_input (λ reads. none_ (record { command = c.in_ok-command.command; asked = c.in_ok-command.ensures.command; reads = reads }))
+returns-clause-no_input g c = λ none_. c.output_of.ensures.no_input (λ reads. none_ (record { command = c.in_ok-command.command; asked = c.in_ok-command.ensures.command; holds = reads }))
 
 pub returns-clause-no_link : goal.returns-clause-no_link
 returns-clause-no_link g c = λ plain. c.output_of.ensures.no_link (λ links. plain.no_link (takes_by _ c.in_ok-command.command c.in_ok-command.ensures.command links))

@@ -2,13 +2,13 @@ use Rattle.std.proofs.Common.{rules, refl}
 use Rattle.std.proofs.lemmas.Result.{err_from_is_err_and}
 use Rattle.kad_words.specs.Bound.{TakesLink}
 use Rattle.kad_words.proofs.OneCommand.{command_plain}
-use Rattle.node_top.specs.Called.{called_plainly}
+use Rattle.command_base.specs.Called.{called_plainly}
 use Rattle.node_top.specs.Asked.{bytes_of}
-use Rattle.node_top.specs.Shown.{nowhere}
+use Rattle.command_base.specs.Shown.{nowhere}
 use Rattle.node_top.proofs.Asking.{takes_by}
 use Rattle.node_top.proofs.Causes.{caused, linkless, refused, unasked}
-use Rattle.node_top.proofs.Begun.{ok_then, err_then}
-use Rattle.node_top.proofs.Parts.{unread_at_most}
+use Rattle.command_base.proofs.Results.{ok_then, err_then}
+use Rattle.command_base.proofs.Parts.{unread_at_most}
 use Rattle.node_top.proofs.Lawfully.{ranged}
 use Rattle.node_top.proofs.commands.asked_plainly.Goals as goal
 
@@ -31,7 +31,7 @@ returns-clause-asks g c =
     ok_then c.plain_output_of.result _ _ (c.plain_output_of.ensures.ok (called_plainly c.args.call.now.random).accepts (called_plainly c.args.call.now.random).tags nowhere) (λ text t. record { asks = command_plain _ c.in_ok-command.command c.in_ok-command.ensures.command; no_link = none_ })
 
 pub returns-clause-ok : goal.returns-clause-ok
-returns-clause-ok g c = ok_then c.plain_output_of.result _ _ (c.plain_output_of.ensures.ok (called_plainly c.args.call.now.random).accepts (called_plainly c.args.call.now.random).tags nowhere) (λ text t. record { command = c.in_ok-command.command; asked = c.in_ok-command.ensures.command; text_of = t })
+returns-clause-ok g c = ok_then c.plain_output_of.result _ _ (c.plain_output_of.ensures.ok (called_plainly c.args.call.now.random).accepts (called_plainly c.args.call.now.random).tags nowhere) (λ text t. record { command = c.in_ok-command.command; asked = c.in_ok-command.ensures.command; holds = t })
 
 pub returns-clause-cause : goal.returns-clause-cause
 returns-clause-cause g c = err_then c.plain_output_of.result _ _ (c.plain_output_of.ensures.cause (called_plainly c.args.call.now.random).accepts (called_plainly c.args.call.now.random).tags nowhere) (λ status h. caused _ _ _ _ nowhere c.in_ok-command.command c.in_ok-command.ensures.command status h)
@@ -45,7 +45,7 @@ returns-clause-plain g c =
     λ other. absurd (other (record { asks = command_plain _ c.in_ok-command.command c.in_ok-command.ensures.command; no_link = none_ }))
 
 pub returns-clause-no_input : goal.returns-clause-no_input
-returns-clause-no_input g c = λ none_. c.plain_output_of.ensures.no_input (λ reads. none_ (record { command = c.in_ok-command.command; asked = c.in_ok-command.ensures.command; reads = reads }))
+returns-clause-no_input g c = λ none_. c.plain_output_of.ensures.no_input (λ reads. none_ (record { command = c.in_ok-command.command; asked = c.in_ok-command.ensures.command; holds = reads }))
 
 pub returns-clause-no_link : goal.returns-clause-no_link
 returns-clause-no_link g c =

@@ -1,6 +1,6 @@
 use Rattle.std.proofs.Common.{sym, ap, rules, ◌∙◌}
 use Rattle.kad_words.specs.declared.command.Command.TheVariants.{Lookup, Peers, Get, Put, Serve, Node, Refresh}
-use Rattle.node_top.specs.Shown.{nowhere}
+use Rattle.command_base.specs.Shown.{nowhere}
 use Rattle.node_top.proofs.Lawfully.{lawful}
 use Rattle.node_top.proofs.Causes.{begun_at, cause_at, text_at, unrefused}
 use Rattle.node_top.proofs.commands.output_of.Goals as goal

@@ -1,13 +1,13 @@
 use Rattle.std.proofs.Common.{refl, sym, subst}
 use Rattle.kad_words.specs.declared.command.Command.TheVariants.{Sim}
-use Rattle.node_top.specs.Called.{called_with}
-use Rattle.node_top.specs.Commands.Minted.{MintText}
-use Rattle.node_top.specs.Promise.{UnreadCause}
-use Rattle.node_top.specs.Shown.{shown}
-use Rattle.node_top.specs.Commands.Simulated.{IsSimulable, SimText}
+use Rattle.command_base.specs.Called.{called_with}
+use Rattle.plain_commands.specs.Minted.{MintText}
+use Rattle.command_base.specs.Promise.{UnreadCause}
+use Rattle.command_base.specs.Shown.{shown}
+use Rattle.plain_commands.specs.Simulated.{IsSimulable, SimText}
 use Rattle.node_top.proofs.Causes.{cause_at, ranges_at, text_at}
-use Rattle.node_top.proofs.Begun.{ok_then, err_then}
-use Rattle.node_top.proofs.Minting.{mint_cause}
+use Rattle.command_base.proofs.Results.{ok_then, err_then}
+use Rattle.plain_commands.proofs.Minting.{mint_cause}
 use Rattle.node_top.proofs.commands.plain_output_of.Goals as goal
 
 pub returns-in-Check-clause-cause : goal.returns-in-Check-clause-cause

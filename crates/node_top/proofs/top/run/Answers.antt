@@ -1,8 +1,8 @@
 use Rattle.std.proofs.Common.{◌≡◌, inl, inr, sym, ap, subst, ◌∙◌}
 use Rattle.kad_words.proofs.OneCommand.{command_plain}
 use Rattle.node_top.specs.Commands.{promise_of}
-use Rattle.node_top.specs.declared.status.Status.TheVariants.{LinkFault, SourceFault}
-use Rattle.node_top.specs.Endings.{MayEnd, OrNoMemory, number_of}
+use Rattle.command_base.specs.declared.status.Status.TheVariants.{LinkFault, SourceFault}
+use Rattle.command_base.specs.Endings.{MayEnd, OrNoMemory, number_of}
 use Rattle.node_top.proofs.Causes.{done_of, cut_of, done_end, not_bad, not_much, not_seedless, not_strays, not_nothing, not_refused, not_unsound, is_no_memory, named, usage_alone, bad_line, link_fault, source_fault, strays, no_seeds, unminted, too_long, bad_value, unsound, bad_line_comes, no_seeds_come, strays_come, unminted_comes, too_long_comes, bad_value_comes, unsound_comes, completes, may_end}
 use Rattle.node_top.proofs.top.run.Goals as goal
 

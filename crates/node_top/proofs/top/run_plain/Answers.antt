@@ -1,7 +1,7 @@
 use Rattle.std.proofs.Common.{◌≡◌, inl, inr, refl, sym, ap, subst, ◌∙◌}
 use Rattle.node_top.specs.Commands.{promise_of}
-use Rattle.node_top.specs.declared.status.Status.TheVariants.{SourceFault}
-use Rattle.node_top.specs.Endings.{MayEnd, OrNoMemory, number_of}
+use Rattle.command_base.specs.declared.status.Status.TheVariants.{SourceFault}
+use Rattle.command_base.specs.Endings.{MayEnd, OrNoMemory, number_of}
 use Rattle.node_top.proofs.Asking.{asks_plain}
 use Rattle.node_top.proofs.Lawfully.{lawful}
 use Rattle.node_top.proofs.Causes.{done_of, cut_of, done_end, not_bad, not_much, not_nothing, named, usage_alone, bad_line, source_fault, unminted, too_long, bad_line_comes, unminted_comes, too_long_comes, completes, may_end}
@@ -58,7 +58,7 @@ returns-in-Err-clause-bad_line_comes g c = λ asks told quiet bad.
 pub returns-in-Err-clause-unminted_comes : goal.returns-in-Err-clause-unminted_comes
 returns-in-Err-clause-unminted_comes g c = λ none_.
     subst (λ n. OrNoMemory n 10) (sym c.write_line.ensures.number)
-    (unminted_comes _ _ _ _ _ c.in-Err.status c.in-Err.ensures.cause (λ e. refl) (λ n. asks_plain _ n.command n.asked ((lawful n.command).no_link _ n.nothing)) none_)
+    (unminted_comes _ _ _ _ _ c.in-Err.status c.in-Err.ensures.cause (λ e. refl) (λ n. asks_plain _ n.command n.asked ((lawful n.command).no_link _ n.holds)) none_)
 
 pub returns-in-Err-clause-too_long_comes : goal.returns-in-Err-clause-too_long_comes
 returns-in-Err-clause-too_long_comes g c = λ told much.

@@ -1,7 +1,8 @@
 use Rattle.std.proofs.Common.{◌≡◌, ◌++◌, map, take}
 use Rattle.std.specs.Prelude.{All}
 use Rattle.table_file.specs.declared.line.Line.TheVariants as line
-use Rattle.table_file.specs.SavedText.{FitsContact, joined}
+use Rattle.kad_text.specs.Text.{FitsContact}
+use Rattle.table_file.specs.SavedText.{joined}
 use Rattle.table_file.proofs.writing.put_siblings.Given as goal
 
 abbrev pub invariant-loop-contact : goal.invariant-loop-contact

@@ -1,7 +1,7 @@
 use Rattle.std.proofs.Common.{arith}
 use Rattle.std.proofs.lemmas.List.Elements.{All-more}
 use Rattle.table_file.specs.declared.line.Line.TheVariants as line
-use Rattle.table_file.specs.SavedText.{FitsContact}
+use Rattle.kad_text.specs.Text.{FitsContact}
 use Rattle.table_file.proofs.Fitting.{line_more}
 use Rattle.table_file.proofs.writing.put_spares.Goals as goal
 

@@ -1,6 +1,7 @@
 use Rattle.std.proofs.Common.{arith, subst, sym}
 use Rattle.std.specs.Prelude.{All}
-use Rattle.table_file.specs.SavedText.{FitsContact, FitsRow}
+use Rattle.kad_text.specs.Text.{FitsContact}
+use Rattle.table_file.specs.SavedText.{FitsRow}
 use Rattle.table_file.proofs.Fitting.{lines_fit, written}
 use Rattle.table_file.proofs.writing.write.Goals as goal
 

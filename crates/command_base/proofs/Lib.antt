@@ -1,0 +1,12 @@
+pub mod Exactly
+pub mod Hosting
+pub mod Lawful
+pub mod OneTable
+pub mod Parts
+pub mod Printing
+pub mod Ranges
+pub mod Repeated
+pub mod Results
+pub mod Staged
+pub mod Starting
+pub mod Valued

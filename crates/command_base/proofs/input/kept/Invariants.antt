@@ -1,0 +1,6 @@
+use Rattle.std.proofs.Common.{take}
+use Rattle.command_base.specs.Input.{Keeps}
+use Rattle.command_base.proofs.input.kept.Given as goal
+
+abbrev pub invariant-loop-report : goal.invariant-loop-report
+invariant-loop-report g l = Keeps l.own l.family l.policy (take l.report-index l.reports) l.kept

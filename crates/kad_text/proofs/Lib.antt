@@ -1,0 +1,12 @@
+pub mod AddrReading
+pub mod AddrSpelling
+pub mod AddrText
+pub mod Cutting
+pub mod GroupSpelling
+pub mod HexSpelling
+pub mod LineLaws
+pub mod LineSpelling
+pub mod NumberSpelling
+pub mod OneSpelling
+pub mod Printing
+pub mod TextLaws

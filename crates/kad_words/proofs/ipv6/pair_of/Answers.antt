@@ -1,5 +1,0 @@
-use Rattle.kad_words.proofs.HexSpelling.{hex_cases}
-use Rattle.kad_words.proofs.ipv6.pair_of.Goals as goal
-
-pub returns : goal.returns
-returns c = rw c.ok.ensures.value (hex_cases _ _ _ c.from_hex.ensures)

@@ -1,0 +1,12 @@
+pub mod Announcing
+pub mod Begun
+pub mod LastStray
+pub mod Following
+pub mod Forming
+pub mod Getting
+pub mod Looking
+pub mod Peering
+pub mod Printing
+pub mod Reaching
+pub mod Storing
+pub mod Lawfully

@@ -1,0 +1,9 @@
+pub mod Announced
+pub mod Got
+pub mod Peered
+pub mod Stored
+pub mod Followed
+pub mod Forms
+pub mod Looked
+pub mod Printed
+pub mod Reached

@@ -1,0 +1,5 @@
+pub mod AtOnce
+pub mod FindLaws
+pub mod OneText
+pub mod Serving
+pub mod Severally

@@ -1,0 +1,333 @@
+-- The command `node`, from its input to its end.
+use Rattle.std.proofs.Common.{◌≡◌, ◌≢◌, ℕ, ◌≤◌, List, [], ◌∷◌, ◌++◌, length, map, Option, None, inl, inr, refl, sym, ap, subst, ◌∙◌, arith}
+use Rattle.std.specs.List.{All, AllZip}
+use Rattle.kad_base.specs.declared.types.Contact.{Contact}
+use Rattle.kad_base.specs.declared.types.Event.{Event}
+use Rattle.kad_base.specs.declared.types.Event.TheVariants.{Got}
+use Rattle.kad_base.specs.declared.types.Family.TheVariants.{Four}
+use Rattle.kad_base.specs.declared.types.Id.{Id}
+use Rattle.kad_base.specs.declared.types.Report.{Report}
+use Rattle.kad_base.specs.Contacts.{IsUsable}
+use Rattle.kad_base.specs.Limits.{max_lookups}
+use Rattle.kad_base.specs.Outside.{Grows}
+use Rattle.kad_base.specs.Puzzles.{Passes}
+use Rattle.kad_base.proofs.Grown.{grows_none, grows_weaker}
+use Rattle.id_puzzles.specs.Drawn.{WordsState}
+use Rattle.contact_table.specs.TableState.{TableState}
+use Rattle.contact_table.specs.TableStep.{contacts_of}
+use Rattle.contact_table.specs.Told.{new_table}
+use Rattle.claim_book.specs.declared.types.Setting.{Setting}
+use Rattle.claim_book.specs.Journal.{asked, failed, turned}
+use Rattle.claim_book.specs.Result.{result_of}
+use Rattle.claim_book.proofs.Claims.{took_distinct, asked_distinct}
+use Rattle.claim_book.proofs.Ends.{found_answered}
+use Rattle.lookup_run.specs.Lookup.{TableTold}
+use Rattle.node_serve.specs.Calls.{IsSetting}
+use Rattle.node_serve.specs.declared.setting.ServeSetting.{ServeSetting}
+use Rattle.node_tokens.specs.Tokens.{TokensState}
+use Rattle.look_many.specs.ManyLooked.{IsFound, IsWithinLimits, ManyLooked, ManyStopped, journals_of, setting_for}
+use Rattle.look_many.specs.declared.found.Many.{Many}
+use Rattle.look_many.specs.declared.found.ManySetting.{ManySetting}
+use Rattle.look_many.specs.declared.found.One.{One}
+use Rattle.look_many.specs.declared.seeker.ManyFault.{ManyFault}
+use Rattle.look_many.specs.declared.seeker.ManyFault.TheVariants as fault
+use Rattle.kad_words.specs.declared.command.LookWords.{LookWords}
+use Rattle.command_base.specs.declared.status.Status.{Status}
+use Rattle.command_base.specs.declared.status.Status.TheVariants.{LinkFault, Strays, NoSeeds}
+use Rattle.command_base.specs.Called.{Called}
+use Rattle.node_commands.specs.Several.{EndsFinds, FindsCause, GivesNobody, GivesStart, HasLooked, HasRunOutFor, HasStopped, Names, NamesCause, NodeCause, NodeEnds, NodeGoesWell, NodeRan, NodeText, ShowsLastForeign, Starts, TellsFinds, each_of, journal_texts, node_aim, node_promise, printed_each, printed_many, server_of}
+use Rattle.command_base.specs.Endings.{number_of}
+use Rattle.node_commands.specs.FindLines.{AreGoodFinds, IsBadFind, Naming}
+use Rattle.command_base.specs.Input.{Admits, Keeps, ReadsAs}
+use Rattle.kad_text.specs.Lines.{lines}
+use Rattle.command_base.specs.Printed.{printed_of, line_of, printed}
+use Rattle.node_commands.specs.Printed.{find_text, printed_served}
+use Rattle.command_base.specs.Promise.{IsOneOf}
+use Rattle.command_base.specs.Shown.{Shown}
+use Rattle.command_base.specs.Started.{drawn_of, own_of, seen_call, IsInRange}
+use Rattle.command_base.proofs.Starting.{admits_usable, usable_told}
+use Rattle.command_base.proofs.Exactly.{added_once, admits_once, input_once}
+use Rattle.node_commands.proofs.FindLaws.{named_or_bad, reports_once, targets_once}
+use Rattle.command_base.proofs.Lawful.{Lawful}
+use Rattle.node_commands.proofs.Serving.{kept_pass}
+use Rattle.command_base.proofs.Staged.{Behind, reading_lawful}
+
+-- ---- its input
+
+finds_apart : (input : List ℕ) (number : ℕ) → AreGoodFinds input → IsBadFind input number → ⊥
+finds_apart input number good bad = named_or_bad (lines input) good.0 good.1 number good.2 bad
+
+names_good : (source : Shown ℕ) (reports : List Report) (targets : List Id) → Names source reports targets → ReadsAs AreGoodFinds source
+names_good source reports targets n = record { input = n.input; read = n.read; is_good = (reports, targets, n.good_lines) }
+
+-- an input gives a start or nobody
+start_or_nobody : (look : LookWords) (random : List ℕ) (source : Shown ℕ) → source.after ≢ None → GivesStart look random source → GivesNobody look random source → ⊥
+start_or_nobody look random source told s n =
+    let same = input_once source.before source.after s.names.input n.names.input told s.names.read n.names.read in
+    let good = subst (λ (l : List ℕ). Naming (lines l) s.reports s.targets) same s.names.good_lines in
+    let reports = reports_once (lines n.names.input) s.reports n.reports s.targets n.targets good n.names.good_lines in
+    let targets = targets_once (lines n.names.input) s.reports n.reports s.targets n.targets good n.names.good_lines in
+    let some_target : s.targets ≢ [] = (λ e. n.some_target (sym targets ∙ e)) in
+    let admits = subst (λ (r : List Report). Admits (own_of look.own random) Four look.policy r s.contacts) reports s.admits in
+    s.some_one some_target (admits_once (own_of look.own random) Four look.policy n.reports s.contacts [] admits n.no_one)
+
+starts_given : (look : LookWords) (random : List ℕ) (source : Shown ℕ) (targets : List Id) (table : TableState) (proofs : List Report) → Starts look random source targets table proofs → GivesStart look random source
+starts_given look random source targets table proofs s = record { reports = s.reports; targets = targets; names = s.names; contacts = s.contacts; admits = s.admits; some_one = s.some_one }
+
+-- ---- what the link's events tell
+
+module _ (look : LookWords) (receives : ℕ) (called : Called) (source : Shown ℕ) (link : Shown Event) where
+  ran_tells : NodeRan look receives called source link → Grows link.before link.after (TellsFinds look receives called)
+  ran_tells r = grows_weaker link.before link.after _ _ r.looked.2.tells (λ events t. record {
+    targets = r.targets;
+    proofs = r.proofs;
+    journals = journals_of r.many.outcomes;
+    read = r.looked.2.read;
+    end = t.tell.end;
+    so_far = t.tell.so_far;
+  })
+
+  -- where a receive failed no datagram came that isn't told
+  fault_tells : NodeEnds look receives called source link fault.LinkFault → Grows link.before link.after (TellsFinds look receives called)
+  fault_tells e =
+      elim e.stopped.2 [
+        | inl b ↦ grows_weaker link.before link.after _ _ b.tells (λ events t. record {
+          targets = e.targets;
+          proofs = e.proofs;
+          journals = b.journals;
+          read = b.read;
+          end = t.end;
+          so_far = elim t.whole [ inl is ↦ rw is t.so_far | inr other ↦ absurd (other.0 refl) ];
+        })
+        | inr n ↦ absurd (cc n.fault_is)
+      ]
+
+  not_foreign : link.after ≢ None → Grows link.before link.after (TellsFinds look receives called) → ShowsLastForeign look receives called link → ⊥
+  not_foreign told g h =
+      added_once link.before link.after (TellsFinds look receives called) told g (grows_weaker link.before link.after _ _ h (λ events p tells. p.1 tells))
+
+nothing_more : (es : List Event) (x : Event) → [] ≡ es ++ x ∷ [] → ⊥
+nothing_more [] x e = cc
+nothing_more (y ∷ es) x e = cc
+
+none_ends : (look : LookWords) (receives : ℕ) (called : Called) → EndsFinds look receives called [] → ⊥
+none_ends look receives called e = nothing_more e.ends.before (Got e.ends.from e.ends.bytes e.ends.until e.ends.at) e.ends.last
+
+uncalled_not_foreign : (look : LookWords) (receives : ℕ) (called : Called) (link : Shown Event) → link.after ≢ None → link.after ≡ link.before → ShowsLastForeign look receives called link → ⊥
+uncalled_not_foreign look receives called link told same h =
+    let Last : List Event → Type 0 = (λ events. EndsFinds look receives called events) in
+    let none_ : Grows link.before link.after (λ events. Last events → ⊥) =
+    subst (λ (o : Option (List Event)). Grows link.before o (λ events. Last events → ⊥)) (sym same) (grows_none link.before (λ events. Last events → ⊥) (none_ends look receives called)) in
+    added_once link.before link.after Last told (grows_weaker link.before link.after _ _ h (λ events p. p.0)) none_
+
+-- ---- the laws of its promise
+
+module _ (look : LookWords) (receives : ℕ) (called : Called) (source : Shown ℕ) (link : Shown Event) where
+  behind : (s : Status) → NodeCause look receives called source link s → Behind (node_aim look receives) called source link s
+  behind LinkFault c =
+      let e = c.1 in
+      let start = starts_given look called.random source e.targets e.table e.proofs e.starts in (
+        names_good source e.starts.reports e.targets e.starts.names,
+        (c.0, start, inl (fault.LinkFault, e), e),
+        λ told none_. absurd (start_or_nobody look called.random source told start none_),
+        λ told early last. absurd (not_foreign look receives called source link told (fault_tells look receives called source link e) last),
+        λ told unsound. absurd unsound,
+      )
+  behind Strays c =
+      let start = starts_given look called.random source c.targets c.table c.proofs c.starts in (
+        names_good source c.starts.reports c.targets c.starts.names,
+        (c, start, inl (fault.Strays, c)),
+        λ told none_. absurd (start_or_nobody look called.random source told start none_),
+        λ told early last. inl refl,
+        λ told unsound. absurd unsound,
+      )
+  behind NoSeeds c = (
+    names_good source c.reports c.targets c.names,
+    ((λ refused. refused), c),
+    λ told none_. inl refl,
+    λ told early last. absurd (uncalled_not_foreign look receives called link told (early (inr (inr (inr (inl refl))))) last),
+    λ told unsound. absurd unsound,
+  )
+  behind other c = absurd c
+
+  needed : (s : Status) → NodeGoesWell look receives called source link → ¬ NodeCause look receives called source link s
+  needed LinkFault n c = n.hears c.0
+  needed Strays n c = n.few_strays c
+  needed NoSeeds n c = start_or_nobody look called.random source n.told n.start c
+  needed other n c = c
+
+  in_ends : (s : Status) → NodeCause look receives called source link s → IsOneOf (4 ∷ 7 ∷ 8 ∷ []) (number_of s)
+  in_ends LinkFault c = inl refl
+  in_ends Strays c = inr (inl refl)
+  in_ends NoSeeds c = inr (inr (inl refl))
+  in_ends other c = absurd c
+
+  -- an input that gave no start
+  pub no_start : (s : Status) → FindsCause look called.random source s → (node_promise look receives).cause called source link s
+  no_start LinkFault h = absurd h
+  no_start Strays h = absurd h
+  no_start other h = h
+
+pub node_lawful : (look : LookWords) (receives : ℕ) → Lawful (node_promise look receives)
+node_lawful look receives = reading_lawful (node_aim look receives) (record {
+  good = λ called source link written t. names_good source t.ran.starts.reports t.ran.targets t.ran.starts.names;
+  apart = finds_apart;
+  seedless = λ called source n. names_good source n.reports n.targets n.names;
+  unrestored = λ source unsound. absurd unsound;
+  sound = λ called source link written told t unsound. unsound;
+  seeded = λ called source link written told t n. start_or_nobody look called.random source told (starts_given look called.random source t.ran.targets t.ran.table t.ran.proofs t.ran.starts) n;
+  few = λ called source link written told t last. not_foreign look receives called source link told (ran_tells look receives called source link t.ran) last;
+  uncalled = λ called link told same last. uncalled_not_foreign look receives called link told same last;
+  behind = λ called source link s c. behind look receives called source link s c;
+  well = λ called source link n. (n.told, n.reads, names_good source n.start.reports n.start.targets n.start.names);
+  needed = λ called source link s n c. needed look receives called source link s n c;
+  in_ends = λ called source link s c. in_ends look receives called source link s c;
+  seeks = λ none_ called source n. none_ refl;
+  counts = λ none_ called source link last. none_ refl;
+  restores = λ none_ source unsound. unsound;
+})
+
+-- ---- the same over the values that the code has
+
+-- lines that said nothing gave no start
+pub unnamed : (look : LookWords) (random : List ℕ) (source : Shown ℕ) (s : Status) → NamesCause source s → FindsCause look random source s
+unnamed look random source NoSeeds h = absurd h
+unnamed look random source other h = h
+
+-- what the node answers by
+abbrev server_by : LookWords → List Report → Id → TokensState → ServeSetting
+server_by look proofs own tokens = record { own = own; k = look.k; policy = look.policy; proofs = proofs; tokens = tokens; sealed = look.sealed }
+
+pub server_is : (look : LookWords) (random : List ℕ) (proofs : List Report) (own : Id) (tokens : TokensState) → own ≡ own_of look.own random → tokens ≡ record { seed = random; began = 0 }
+    → record { own = own; k = look.k; policy = look.policy; proofs = proofs; tokens = tokens; sealed = look.sealed } ≡ server_of look random proofs
+server_is look random proofs own tokens mine drawn =
+    ap (λ (id : Id). server_by look proofs id tokens) mine ∙ ap (λ (t : TokensState). server_by look proofs (own_of look.own random) t) drawn
+
+pub is_setting : (look : LookWords) (proofs : List Report) (own : Id) (tokens : TokensState) → IsInRange look → All (Passes look.policy) proofs → IsSetting (record { own = own; k = look.k; policy = look.policy; proofs = proofs; tokens = tokens; sealed = look.sealed })
+is_setting look proofs own tokens range pass = record { some_nodes = range.some_live; few_nodes = range.few_live; proofs = pass }
+
+pub within_each : (look : LookWords) → IsInRange look → IsWithinLimits (record { paths = look.paths; alpha = look.alpha; timeout = look.timeout })
+within_each look range = record { some_path = range.some_path; few_paths = range.few_paths; some_query = range.some_query; few_queries = range.few_queries }
+
+module _ (look : LookWords) (receives : ℕ) (called : Called) (targets : List Id) (table : TableState) (proofs : List Report) (link : Shown Event) (server : ServeSetting) (words : WordsState)
+    (server_are : server ≡ server_of look called.random proofs) (words_are : words ≡ drawn_of called.random) (after : TableState) (left : WordsState) where
+  pub has_looked : (many : Many) → ManyLooked called.accepts called.tags server (each_of look) targets receives table after words left link.before link.after many → HasLooked look receives called targets table proofs link many
+  has_looked many h = (
+    after,
+    left,
+    subst (λ (w : WordsState). ManyLooked called.accepts called.tags (server_of look called.random proofs) (each_of look) targets receives table after w left link.before link.after many) words_are
+        (subst (λ (s : ServeSetting). ManyLooked called.accepts called.tags s (each_of look) targets receives table after words left link.before link.after many) server_are h),
+  )
+
+  pub has_stopped : (by : ManyFault) → ManyStopped called.accepts called.tags server (each_of look) targets receives table after words left link.before link.after by → HasStopped look receives called targets table proofs link by
+  has_stopped by h = (
+    after,
+    left,
+    subst (λ (w : WordsState). ManyStopped called.accepts called.tags (server_of look called.random proofs) (each_of look) targets receives table after w left link.before link.after by) words_are
+        (subst (λ (s : ServeSetting). ManyStopped called.accepts called.tags s (each_of look) targets receives table after words left link.before link.after by) server_are h),
+  )
+
+-- what it begins with, as the code has it
+pub starts_with : (look : LookWords) (random : List ℕ) (source : Shown ℕ) (own : Id) (reports read : List Report) (targets : List Id) (contacts cs ds : List Contact) (proofs : List Report) (table : TableState) → own ≡ own_of look.own random → Names source reports targets → read ≡ reports
+    → Admits own Four look.policy read contacts → Keeps own Four look.policy read proofs → cs ≡ contacts → ds ≡ contacts → TableTold (map seen_call cs) (new_table own look.k look.bits) table → (targets ≢ [] → ds ≢ []) → Starts look random source targets table proofs
+starts_with look random source own reports read targets contacts cs ds proofs table mine names is admits keeps same too told some_ = record {
+  reports = reports;
+  names = names;
+  contacts = contacts;
+  admits = subst (λ (id : Id). Admits id Four look.policy reports contacts) mine (subst (λ (l : List Report). Admits own Four look.policy l contacts) is admits);
+  some_one = λ target none_. some_ target (too ∙ none_);
+  told = subst (λ (id : Id). TableTold (map seen_call contacts) (new_table id look.k look.bits) table) mine (subst (λ (l : List Contact). TableTold (map seen_call l) (new_table own look.k look.bits) table) same told);
+  keeps = subst (λ (id : Id). Keeps id Four look.policy reports proofs) mine (subst (λ (l : List Report). Keeps own Four look.policy l proofs) is keeps);
+}
+
+pub gives_nobody : (look : LookWords) (random : List ℕ) (source : Shown ℕ) (own : Id) (reports read : List Report) (targets ts : List Id) (contacts cs : List Contact) → own ≡ own_of look.own random → Names source reports targets → read ≡ reports → ts ≡ targets → cs ≡ contacts
+    → Admits own Four look.policy read contacts → ts ≢ [] → cs ≡ [] → GivesNobody look random source
+gives_nobody look random source own reports read targets ts contacts cs mine names is same too admits target none_ =
+    let empty : contacts ≡ [] = sym too ∙ none_ in
+    let all = subst (λ (l : List Report). Admits own Four look.policy l contacts) is admits in
+    record {
+      reports = reports;
+      targets = targets;
+      names = names;
+      some_target = λ e. target (same ∙ e);
+      no_one = subst (λ (id : Id). Admits id Four look.policy reports []) mine (subst (Admits own Four look.policy reports) empty all);
+    }
+
+module _ (look : LookWords) (random : List ℕ) (source : Shown ℕ) (targets : List Id) (table : TableState) (proofs : List Report) (s : Starts look random source targets table proofs) where
+  pub starts_usable : (own : Id) → own ≡ own_of look.own random → All (IsUsable own) (contacts_of table)
+  starts_usable own mine =
+      subst (λ (id : Id). All (IsUsable id) (contacts_of table)) (sym mine)
+      (usable_told (own_of look.own random) look.k look.bits s.contacts table (admits_usable (own_of look.own random) Four look.policy s.reports s.contacts s.admits) s.told)
+
+  pub starts_pass : All (Passes look.policy) proofs
+  starts_pass = kept_pass (own_of look.own random) Four look.policy s.reports proofs s.keeps
+
+  pub starts_few : (ts : List Id) → ts ≡ targets → length ts ≤ max_lookups
+  starts_few ts same = subst (λ (l : List Id). length l ≤ max_lookups) (sym same) s.names.good_lines.few
+
+-- ---- its text
+
+zip_long : {A B : Type 0} (R : A → B → Type 0) (xs : List A) (ys : List B) → AllZip R xs ys → length xs ≡ length ys
+zip_long R [] [] h = refl
+zip_long R [] (y ∷ ys) h = absurd h
+zip_long R (x ∷ xs) [] h = absurd h
+zip_long {A} {B} R (x ∷ xs) (y ∷ ys) h = let rest = zip_long R xs ys h.1 in omega (arith, rest)
+
+module _ (server : ServeSetting) (setting : ManySetting) (table : TableState) where
+  printed_is : (s : Setting) (one : One) → one.found ≡ result_of s one.journal → one.counts.asked ≡ length (asked one.journal) → one.counts.failed ≡ length (failed one.journal) → one.counts.turned ≡ length (turned one.journal)
+      → printed one.found one.counts.asked one.counts.failed one.counts.turned ≡ printed_of s one.journal
+  printed_is s one a b c d =
+      ap (λ l. printed l one.counts.asked one.counts.failed one.counts.turned) a
+      ∙ ap (λ n. printed (result_of s one.journal) n one.counts.failed one.counts.turned) b
+      ∙ ap (λ n. printed (result_of s one.journal) (length (asked one.journal)) n one.counts.turned) c
+      ∙ ap (λ n. printed (result_of s one.journal) (length (asked one.journal)) (length (failed one.journal)) n) d
+
+  texts_are : (targets : List Id) (ones : List One) → AllZip (IsFound server setting table) targets ones → printed_each targets ones ≡ journal_texts server setting targets (journals_of ones)
+  texts_are [] ones h = refl
+  texts_are (t ∷ ts) [] h = refl
+  texts_are (t ∷ ts) (o ∷ os) h =
+      let one = printed_is (setting_for server setting t) o h.0.found h.0.counted.asked h.0.counted.failed h.0.counted.turned in
+      ap (λ (l : List ℕ). (line_of (find_text t) ++ l) ++ printed_each ts os) one
+      ∙ ap (λ (l : List ℕ). (line_of (find_text t) ++ printed_of (setting_for server setting t) o.journal) ++ l) (texts_are ts os h.1)
+
+  all_run_out : 1 ≤ setting.paths → (targets : List Id) (ones : List One) → AllZip (IsFound server setting table) targets ones → AllZip (HasRunOutFor server setting table) targets (journals_of ones)
+  all_run_out some_path [] [] h = tt
+  all_run_out some_path [] (o ∷ os) h = absurd h
+  all_run_out some_path (t ∷ ts) [] h = absurd h
+  all_run_out some_path (t ∷ ts) (o ∷ os) h =
+      let set = setting_for server setting t in
+      let f = h.0 in (
+        record {
+          is_journal = f.journal;
+          run_out = f.run_out;
+          taken_once = took_distinct set o.journal f.journal.legal;
+          asked_once = asked_distinct set o.journal f.journal.legal;
+          own_answers = f.own_answers;
+          have_answered = λ c has. found_answered set o.journal c some_path f.journal.legal f.run_out has;
+        },
+        all_run_out some_path ts os h.1,
+      )
+
+abbrev pub ran_of : (look : LookWords) (receives : ℕ) (called : Called) (source : Shown ℕ) (link : Shown Event) (targets ts : List Id) (table : TableState) (proofs : List Report) (many : Many) → Starts look called.random source targets table proofs
+    → HasLooked look receives called ts table proofs link many → ts ≡ targets → NodeRan look receives called source link
+ran_of look receives called source link targets ts table proofs many s h same = record {
+  targets = targets;
+  table = table;
+  proofs = proofs;
+  starts = s;
+  many = many;
+  looked = subst (λ (l : List Id). HasLooked look receives called l table proofs link many) same h;
+}
+
+pub outcomes_long : (look : LookWords) (receives : ℕ) (called : Called) (targets ts : List Id) (table : TableState) (proofs : List Report) (link : Shown Event) (many : Many) → HasLooked look receives called targets table proofs link many → ts ≡ targets → length ts ≡ length many.outcomes
+outcomes_long look receives called targets ts table proofs link many h same = ap length same ∙ zip_long _ targets many.outcomes h.2.each
+
+pub node_text : (look : LookWords) (receives : ℕ) (called : Called) (source : Shown ℕ) (link : Shown Event) (r : NodeRan look receives called source link) (ts : List Id) (text : List ℕ) → IsInRange look → ts ≡ r.targets → text ≡ printed_many ts r.many → NodeText look receives called source link text
+node_text look receives called source link r ts text range same is = record {
+  ran = r;
+  journals = journals_of r.many.outcomes;
+  journals_are = refl;
+  each = all_run_out (server_of look called.random r.proofs) (each_of look) r.table range.some_path r.targets r.many.outcomes r.looked.2.each;
+  text_is = is ∙ ap (λ (l : List Id). printed_many l r.many) same
+      ∙ ap (λ (l : List ℕ). l ++ printed_served r.many.received r.many.replied) (texts_are (server_of look called.random r.proofs) (each_of look) r.table r.targets r.many.outcomes r.looked.2.each);
+}

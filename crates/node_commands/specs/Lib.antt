@@ -1,0 +1,4 @@
+pub mod Served
+pub mod Several
+pub mod FindLines
+pub mod Printed

@@ -1,0 +1,248 @@
+-- What the command `node` promises: that its text is that of the journals of several lookups that have all run out, which the
+-- link's events tell together, while a node answered what was for none of them (S/Kademlia, 2007, section 4.4, over Kademlia,
+-- 2002, section 2.3; BEP 5); and what they are where they ended early. The lines that name targets are this project's own.
+use Rattle.std.specs.Prelude.{◌≡◌, ◌≢◌, ◌⊎◌, ◌<◌, ℕ, List, [], ◌∷◌, ◌++◌, true}
+use Rattle.std.specs.List.{AllZip, IsDistinct}
+use Rattle.kad_base.specs.declared.types.Contact.{Contact}
+use Rattle.kad_base.specs.declared.types.Event.{Event}
+use Rattle.kad_base.specs.declared.types.Family.TheVariants.{Four}
+use Rattle.kad_base.specs.declared.types.Id.{Id}
+use Rattle.kad_base.specs.declared.types.Report.{Report}
+use Rattle.kad_base.specs.Contacts.{same, among}
+use Rattle.kad_base.specs.Limits.{max_strays}
+use Rattle.kad_base.specs.Outside.{Grows}
+use Rattle.id_puzzles.specs.Drawn.{WordsState}
+use Rattle.contact_table.specs.TableState.{TableState}
+use Rattle.claim_book.specs.declared.types.Entry.{Entry}
+use Rattle.claim_book.specs.Journal.{took, asked, answered}
+use Rattle.claim_book.specs.Lineage.{GoesByOwnAnswers}
+use Rattle.claim_book.specs.Result.{result_of}
+use Rattle.claim_book.specs.RunOut.{RunOut}
+use Rattle.node_serve.specs.declared.setting.ServeSetting.{ServeSetting}
+use Rattle.look_many.specs.Many.{Reading, ManyTellSoFar, EndsAtForeign, Shown as Seen}
+use Rattle.look_many.specs.ManyLooked.{setting_for, all_read, frame_for, journals_of, IsJournalFor, ManyLooked, ManyStopped}
+use Rattle.look_many.specs.declared.found.Many.{Many}
+use Rattle.look_many.specs.declared.found.ManySetting.{ManySetting}
+use Rattle.look_many.specs.declared.found.One.{One}
+use Rattle.look_many.specs.declared.seeker.ManyFault.{ManyFault}
+use Rattle.look_many.specs.declared.seeker.ManyFault.TheVariants as fault
+use Rattle.kad_words.specs.declared.command.LookWords.{LookWords}
+use Rattle.command_base.specs.declared.status.Status.{Status}
+use Rattle.command_base.specs.declared.status.Status.TheVariants.{LinkFault, Strays, NoSeeds}
+use Rattle.command_base.specs.Called.{Called}
+use Rattle.node_commands.specs.FindLines.{AreGoodFinds, IsBadFind, Naming}
+use Rattle.command_base.specs.Input.{ReadsAll, Admits, Keeps}
+use Rattle.kad_text.specs.Lines.{lines}
+use Rattle.command_base.specs.Printed.{printed_of, line_of, printed}
+use Rattle.node_commands.specs.Printed.{find_text, printed_served}
+use Rattle.command_base.specs.Promise.{Aim, Promise, ReadingCause, reading}
+use Rattle.command_base.specs.Shown.{Shown, IsTold, HasFailed}
+use Rattle.command_base.specs.Started.{own_of, drawn_of, IsInRange, StartsWith}
+
+-- ---- what it goes by
+
+-- what the node answers by: the epochs of its tokens count from the moment 0
+abbrev pub server_of : LookWords → List ℕ → List Report → ServeSetting
+server_of look random proofs = record {
+  own = own_of look.own random;
+  k = look.k;
+  policy = look.policy;
+  proofs = proofs;
+  tokens = record { seed = random; began = 0 };
+  sealed = look.sealed;
+}
+
+-- how each lookup goes
+abbrev pub each_of : LookWords → ManySetting
+each_of look = record { paths = look.paths; alpha = look.alpha; timeout = look.timeout }
+
+-- ---- the input
+
+-- the input was read to its end, each of its lines is good, and this is what they say
+pub record Names (source : Shown ℕ) (reports : List Report) (targets : List Id) : Type 0 where
+  pub input : List ℕ
+  pub read : ReadsAll source.before source.after input
+  pub good_lines : Naming (lines input) reports targets
+
+-- an input that a node goes on with: where it names a target, it gives some contact to begin with
+pub record GivesStart (look : LookWords) (random : List ℕ) (source : Shown ℕ) : Type 0 where
+  pub reports : List Report
+  pub targets : List Id
+  pub names : Names source reports targets
+  pub contacts : List Contact
+  pub admits : Admits (own_of look.own random) Four look.policy reports contacts
+  pub some_one : targets ≢ [] → contacts ≢ []
+
+-- and one that it doesn't: it names a target, and gives none
+pub record GivesNobody (look : LookWords) (random : List ℕ) (source : Shown ℕ) : Type 0 where
+  pub reports : List Report
+  pub targets : List Id
+  pub names : Names source reports targets
+  pub some_target : targets ≢ []
+  pub no_one : Admits (own_of look.own random) Four look.policy reports []
+
+-- What a node begins with: the targets of the input; the table, which was told of its contacts that are usable and pass, in
+-- order; and of these the reports that have a proof.
+pub record Starts (look : LookWords) (random : List ℕ) (source : Shown ℕ) (targets : List Id) (table : TableState) (proofs : List Report) : Type 0 where
+  pub reports : List Report
+  pub names : Names source reports targets
+  pub contacts : List Contact
+  pub admits : Admits (own_of look.own random) Four look.policy reports contacts
+  pub some_one : targets ≢ [] → contacts ≢ []
+  pub told : StartsWith look random contacts table
+  pub keeps : Keeps (own_of look.own random) Four look.policy reports proofs
+
+-- why the lines of an input said nothing
+abbrev pub NamesCause : Shown ℕ → Status → Type 0
+NamesCause source status = ReadingCause IsBadFind (λ s. ⊥) source status
+
+-- why an input gave no start
+abbrev pub StartCause : LookWords → List ℕ → Shown ℕ → Status → Type 0
+StartCause look random source NoSeeds = GivesNobody look random source
+StartCause look random source other = ⊥
+
+abbrev pub FindsCause : LookWords → List ℕ → Shown ℕ → Status → Type 0
+FindsCause look random source status = ReadingCause IsBadFind (StartCause look random source) source status
+
+-- ---- the text
+
+-- what was found of a target, and of each
+abbrev pub printed_one : Id → One → List ℕ
+printed_one target one = line_of (find_text target) ++ printed one.found one.counts.asked one.counts.failed one.counts.turned
+
+abbrev pub printed_each : List Id → List One → List ℕ
+printed_each [] ones = []
+printed_each (t ∷ ts) [] = []
+printed_each (t ∷ ts) (o ∷ os) = printed_one t o ++ printed_each ts os
+
+-- the output of a node: what was found of each target, and how many datagrams came and how many replies were sent
+abbrev pub printed_many : List Id → Many → List ℕ
+printed_many targets many = printed_each targets many.outcomes ++ printed_served many.received many.replied
+
+-- the same of journals
+abbrev pub journal_text : ServeSetting → ManySetting → Id → List Entry → List ℕ
+journal_text server setting target journal = line_of (find_text target) ++ printed_of (setting_for server setting target) journal
+
+abbrev pub journal_texts : ServeSetting → ManySetting → List Id → List (List Entry) → List ℕ
+journal_texts server setting [] js = []
+journal_texts server setting (t ∷ ts) [] = []
+journal_texts server setting (t ∷ ts) (j ∷ js) = journal_text server setting t j ++ journal_texts server setting ts js
+
+-- ---- the lookups
+
+-- A lookup for the target has run out: its journal is legal and begins with the k closest of the table, and every path has run
+-- out in it. So no contact is taken or asked twice, what a path asks comes from its own seeds and answers, and each of the
+-- result has answered.
+pub record HasRunOutFor (server : ServeSetting) (setting : ManySetting) (table : TableState) (target : Id) (journal : List Entry) : Type 0 where
+  pub is_journal : IsJournalFor server setting table target journal
+  pub run_out : (p : ℕ) → p < setting.paths → RunOut (setting_for server setting target) p journal
+  pub taken_once : IsDistinct same (took journal)
+  pub asked_once : IsDistinct same (asked journal)
+  pub own_answers : GoesByOwnAnswers (setting_for server setting target) journal
+  pub have_answered : (c : Contact) → among (result_of (setting_for server setting target) journal) c ≡ true → among (answered journal) c ≡ true
+
+-- what several lookups did, from this table on, while the node answered
+abbrev pub LooksFrom : LookWords → ℕ → Called → List Id → TableState → List Report → Shown Event → TableState → WordsState → Many → Type 0
+LooksFrom look receives called targets table proofs link after left many =
+    ManyLooked called.accepts called.tags (server_of look called.random proofs) (each_of look) targets receives table after (drawn_of called.random) left link.before link.after many
+
+-- the same where they ended early
+abbrev pub StopsFrom : LookWords → ℕ → Called → List Id → TableState → List Report → Shown Event → TableState → WordsState → ManyFault → Type 0
+StopsFrom look receives called targets table proofs link after left by =
+    ManyStopped called.accepts called.tags (server_of look called.random proofs) (each_of look) targets receives table after (drawn_of called.random) left link.before link.after by
+
+abbrev pub HasLooked : LookWords → ℕ → Called → List Id → TableState → List Report → Shown Event → Many → Type 0
+HasLooked look receives called targets table proofs link many = (after : TableState) × (left : WordsState) × LooksFrom look receives called targets table proofs link after left many
+
+abbrev pub HasStopped : LookWords → ℕ → Called → List Id → TableState → List Report → Shown Event → ManyFault → Type 0
+HasStopped look receives called targets table proofs link by = (after : TableState) × (left : WordsState) × StopsFrom look receives called targets table proofs link after left by
+
+-- all lookups have run out, and the node has made as many receives as are wanted
+pub record NodeRan (look : LookWords) (receives : ℕ) (called : Called) (source : Shown ℕ) (link : Shown Event) : Type 0 where
+  pub targets : List Id
+  pub table : TableState
+  pub proofs : List Report
+  pub starts : Starts look called.random source targets table proofs
+  pub many : Many
+  pub looked : HasLooked look receives called targets table proofs link many
+
+-- it ended early by a fault
+pub record NodeEnds (look : LookWords) (receives : ℕ) (called : Called) (source : Shown ℕ) (link : Shown Event) (by : ManyFault) : Type 0 where
+  pub targets : List Id
+  pub table : TableState
+  pub proofs : List Report
+  pub starts : Starts look called.random source targets table proofs
+  pub stopped : HasStopped look receives called targets table proofs link by
+
+-- ---- what it promises
+
+-- A whole node. The text has for each target, in order, the text of a lookup's journal which has run out; and then how many
+-- datagrams came, and how many replies were sent.
+pub record NodeText (look : LookWords) (receives : ℕ) (called : Called) (source : Shown ℕ) (link : Shown Event) (text : List ℕ) : Type 0 where
+  pub ran : NodeRan look receives called source link
+  pub journals : List (List Entry)
+  pub journals_are : journals ≡ journals_of ran.many.outcomes
+  pub each : AllZip (HasRunOutFor (server_of look called.random ran.proofs) (each_of look) ran.table) ran.targets journals
+  pub text_is : text ≡ journal_texts (server_of look called.random ran.proofs) (each_of look) ran.targets journals ++ printed_served ran.many.received ran.many.replied
+
+-- one that gave no text: it ended early, or it was whole
+abbrev pub NodeBegun : LookWords → ℕ → Called → Shown ℕ → Shown Event → Type 0
+NodeBegun look receives called source link = ((by : ManyFault) × NodeEnds look receives called source link by) ⊎ NodeRan look receives called source link
+
+-- the events tell journals of these targets so far, by which the node has these proofs
+pub record TellsFinds (look : LookWords) (receives : ℕ) (called : Called) (events : List Event) : Type 0 where
+  pub targets : List Id
+  pub proofs : List Report
+  pub journals : List (List Entry)
+  pub read : Reading
+  pub end : Seen
+  pub so_far : ManyTellSoFar (frame_for called.accepts called.tags (server_of look called.random proofs) (drawn_of called.random) receives) (all_read (server_of look called.random proofs) (each_of look) targets journals) events read end
+
+-- or they end with the last datagram for no lookup that is taken while a query is open
+pub record EndsFinds (look : LookWords) (receives : ℕ) (called : Called) (events : List Event) : Type 0 where
+  pub targets : List Id
+  pub proofs : List Report
+  pub journals : List (List Entry)
+  pub read : Reading
+  pub ends : EndsAtForeign (frame_for called.accepts called.tags (server_of look called.random proofs) (drawn_of called.random) receives) (all_read (server_of look called.random proofs) (each_of look) targets journals) events read max_strays
+
+-- by some targets, proofs and journals they end so, and by none they tell on
+abbrev pub ShowsLastForeign : LookWords → ℕ → Called → Shown Event → Type 0
+ShowsLastForeign look receives called link = Grows link.before link.after (λ events. EndsFinds look receives called events × (¬ TellsFinds look receives called events))
+
+-- why it ended behind its input
+abbrev pub NodeCause : LookWords → ℕ → Called → Shown ℕ → Shown Event → Status → Type 0
+NodeCause look receives called source link LinkFault = HasFailed link × NodeEnds look receives called source link fault.LinkFault
+NodeCause look receives called source link Strays = NodeEnds look receives called source link fault.Strays
+NodeCause look receives called source link NoSeeds = GivesNobody look called.random source
+NodeCause look receives called source link other = ⊥
+
+-- what it needs: a good input, with a node to begin with where it names a target, no failure and few strays
+pub record NodeGoesWell (look : LookWords) (receives : ℕ) (called : Called) (source : Shown ℕ) (link : Shown Event) : Type 0 where
+  pub told : IsTold source
+  pub reads : ¬ HasFailed source
+  pub hears : ¬ HasFailed link
+  pub few_strays : ¬ NodeEnds look receives called source link fault.Strays
+  pub start : GivesStart look called.random source
+
+abbrev pub node_aim : LookWords → ℕ → Aim
+node_aim look receives = record {
+  links = true;
+  good = AreGoodFinds;
+  bad = IsBadFind;
+  unsound = λ source. ⊥;
+  no_seeds = λ called source. GivesNobody look called.random source;
+  last_stray = λ called link. ShowsLastForeign look receives called link;
+  strays = λ called source link. NodeEnds look receives called source link fault.Strays;
+  few = λ called source link. NodeEnds look receives called source link fault.LinkFault;
+  ends = 4 ∷ 7 ∷ 8 ∷ [];
+  ranges = IsInRange look;
+  text = λ called source link written. NodeText look receives called source link written;
+  started = λ called source. GivesStart look called.random source;
+  begun = λ called source link. NodeBegun look receives called source link;
+  cause = λ called source link status. NodeCause look receives called source link status;
+  needs = λ called source link. NodeGoesWell look receives called source link;
+}
+
+abbrev pub node_promise : LookWords → ℕ → Promise
+node_promise look receives = reading (node_aim look receives)

@@ -1,0 +1,262 @@
+//! The command `node`: looks for several identifiers at once, while it answers queries, and makes the text of what it found.
+ghost use Rattle.std.specs.Prelude.{◌≡◌, ◌≢◌, ◌⊎◌, ◌↔◌, ◌++◌, ◌≤◌, [], length, IfOk, IfErr, OnOk, IsErrOf, IsTrue};
+ghost use Rattle.std.specs.List.{All};
+ghost use Rattle.kad_base.specs.Contacts.{IsUsable};
+ghost use Rattle.contact_table.specs.TableStep.{contacts_of};
+ghost use Rattle.kad_base.specs.Puzzles.{Passes};
+ghost use Rattle.kad_base.specs.Limits.{max_lookups};
+ghost use Rattle.command_base.specs.Called.{called_with};
+ghost use Rattle.node_commands.specs.Several.{FindsCause, HasLooked, HasStopped, NamesCause, Names, NodeBegun, NodeText, Starts, node_promise, printed_each, printed_many, printed_one};
+ghost use Rattle.command_base.specs.Endings.{EndsUnasked, number_of};
+ghost use Rattle.command_base.specs.Input.{ReadsAtMost};
+ghost use Rattle.command_base.specs.Shown.{shown, shown_link, HasFailed};
+ghost use Rattle.command_base.specs.Started.{own_of, IsInRange};
+
+use crate::finds::{Finds, read_finds};
+use crate::printed::{find_line, served_line};
+use command_base::bootstrap::{FIRST_TX, own_id, table_of};
+use command_base::input::{admitted, kept, read_whole};
+use command_base::printed::{add_line, print};
+use command_base::{Call, Status};
+use contact_table::Table;
+use id_puzzles::Words;
+use kad_base::{Bytes, Check, Contact, Family, Id, Link, List, NoMemory, Reports, Source};
+use kad_text::lines::LinesFault;
+use kad_words::LookWords;
+use look_many::{Many, ManyFault, ManySetting, One, look_many};
+use node_serve::ServeSetting;
+use node_tokens::Tokens;
+use seal_tags::{Seal, SealCheck};
+use std::alloc::Global;
+use std::sync::Wait;
+use std::thread::Threads;
+
+/// What a node begins with: its routing table, the reports that it keeps, and what it looks for.
+#[derive(Drop)]
+struct Start {
+    table: Table,
+    proofs: Reports,
+    targets: List<Id>,
+}
+
+/// Reads the lines of the input.
+fn read_names<S: Source>(alloc: Global, source: &mut S) -> Result<Finds, Status>
+    ensures ok { IfOk result (λ finds. Names (shown S.left S.faults source.old source.new) finds.reports finds.targets) }
+    ensures cause { IfErr result (NamesCause (shown S.left S.faults source.old source.new)) }
+    ensures at_most { ReadsAtMost (S.left source.old) (S.left source.new) }
+    ensures reads_well { ¬ IsErrOf result Status.SourceFault
+        → S.faults source.new ≡ S.faults source.old }
+{
+    let input = read_whole(alloc, source)?;
+    match read_finds(alloc, input.as_slice()) {
+        Ok(finds) => Ok(finds),
+        Err(LinesFault::Bad { line }) => Err(Status::BadLine { line }),
+        Err(LinesFault::NoMemory) => Err(Status::NoMemory),
+    }
+}
+
+/// Whether there is something to look for, and nobody to begin with.
+fn is_nobody(targets: &[Id], contacts: &[Contact]) -> bool
+    ensures { IsTrue result ↔ (targets.now ≢ []) × (contacts.now ≡ []) }
+{
+    !targets.is_empty() && contacts.is_empty()
+}
+
+/// Reads the input, tells a new routing table of its contacts of IPv4, and keeps the reports that have a proof.
+fn read_start<S: Source, C: Check, G: Seal + SealCheck>(
+    alloc: Global,
+    look: &LookWords,
+    own: Id,
+    source: &mut S,
+    call: &Call<'_, C, G>,
+) -> Result<Start, Status>
+    requires ranges { IsInRange look.now }
+    requires own { own ≡ own_of look.now.own call.now.random }
+    ensures ok { IfOk result (λ start. Starts look.now call.now.random
+        (shown S.left S.faults source.old source.new) start.targets start.table start.proofs) }
+    ensures cause { IfErr result (FindsCause look.now call.now.random
+        (shown S.left S.faults source.old source.new)) }
+    ensures at_most { ReadsAtMost (S.left source.old) (S.left source.new) }
+    ensures reads_well { ¬ IsErrOf result Status.SourceFault
+        → S.faults source.new ≡ S.faults source.old }
+{
+    let finds = read_names(alloc, source)?;
+    let Finds { reports, targets } = finds;
+    let read = reports.as_slice();
+    let contacts = admitted(alloc, &own, Family::Four, look.policy, call.check, read)?;
+    if is_nobody(targets.as_slice(), contacts.as_slice()) {
+        return Err(Status::NoSeeds);
+    }
+    let proofs = kept(alloc, &own, Family::Four, look.policy, call.check, read)?;
+    let table = table_of(alloc, own, look.k, look.bits, contacts.as_slice())?;
+    Ok(Start {
+        table,
+        proofs,
+        targets,
+    })
+}
+
+/// Looks for the targets, while it answers queries, from this table on.
+fn look_all<R: Threads + Wait + Sync, L: Link, C: Check + Sync, G: Seal + SealCheck>(
+    rt: &R,
+    alloc: Global,
+    look: &LookWords,
+    receives: u32,
+    own: Id,
+    table: Table,
+    proofs: Reports,
+    targets: &[Id],
+    link: &mut L,
+    call: &Call<'_, C, G>,
+) -> Result<Many, ManyFault>
+    requires ranges { IsInRange look.now }
+    requires own { own ≡ own_of look.now.own call.now.random }
+    requires few { length targets.now ≤ max_lookups }
+    requires usable { All (IsUsable own) (contacts_of table) }
+    requires proofs { All (Passes look.now.policy) proofs }
+    ensures ok { IfOk result (HasLooked look.now receives (called_with call.now.random (G.accepted call.now.seal.now)
+        (G.tag_of call.now.seal.now)) targets.now table proofs
+        (shown_link L.told L.recv_faults L.send_faults link.old link.new)) }
+    ensures stopped { IfErr result (HasStopped look.now receives (called_with call.now.random (G.accepted call.now.seal.now)
+        (G.tag_of call.now.seal.now)) targets.now table proofs
+        (shown_link L.told L.recv_faults L.send_faults link.old link.new)) }
+    ensures well { ¬ IsErrOf result ManyFault.LinkFault
+        → L.recv_faults link.new ≡ L.recv_faults link.old }
+    ensures link_fault { IsErrOf result ManyFault.LinkFault
+        → HasFailed (shown_link L.told L.recv_faults L.send_faults link.old link.new) }
+    ensures kept { L.kept link.new ≡ L.kept link.old }
+{
+    let server = ServeSetting {
+        own,
+        k: look.k,
+        policy: look.policy,
+        proofs,
+        tokens: Tokens::new(&call.random, 0),
+        sealed: look.sealed,
+    };
+    let setting = ManySetting {
+        paths: look.paths,
+        alpha: look.alpha,
+        timeout: look.timeout,
+    };
+    let mut words = Words::new(&call.random, FIRST_TX);
+    let (_, ended) = look_many(
+        rt,
+        alloc,
+        link,
+        &mut words,
+        table,
+        &server,
+        targets,
+        &setting,
+        receives,
+        call.check,
+        call.seal,
+        call.hasher,
+    );
+    ended
+}
+
+/// Adds what was found of a target.
+fn add_found(alloc: Global, output: &mut Bytes, target: &Id, one: &One) -> Result<(), NoMemory>
+    ensures { OnOk result (output.new ≡ output.old ++ printed_one target.now one.now) }
+{
+    let Ok(line) = find_line(alloc, target) else {
+        return Err(NoMemory);
+    };
+    add_line(output, line.as_str())?;
+    let counts = one.counts;
+    let text = print(
+        alloc,
+        one.found.as_slice(),
+        counts.asked,
+        counts.failed,
+        counts.turned,
+    )?;
+    output.extend(text.as_slice())
+}
+
+/// What was found of each target.
+fn print_each(alloc: Global, targets: &[Id], ones: &[One]) -> Result<Bytes, NoMemory>
+    requires { length targets.now ≡ length ones.now }
+    ensures { IfOk result (λ text. text ≡ printed_each targets.now ones.now) }
+{
+    let mut output = List::new(alloc);
+    for i in 0..targets.len() {
+        add_found(alloc, &mut output, &targets[i], &ones[i])?;
+    }
+    Ok(output)
+}
+
+/// The output of a node.
+fn text_of(alloc: Global, targets: &[Id], many: &Many) -> Result<Bytes, NoMemory>
+    requires { length targets.now ≡ length many.now.outcomes }
+    ensures { IfOk result (λ text. text ≡ printed_many targets.now many.now) }
+{
+    let mut output = print_each(alloc, targets, many.outcomes.as_slice())?;
+    let Ok(line) = served_line(alloc, many.received, many.replied) else {
+        return Err(NoMemory);
+    };
+    add_line(&mut output, line.as_str())?;
+    Ok(output)
+}
+
+/// Looks for what the input names, and makes the text of what was found, or says why there is none. Nothing is written yet.
+pub fn node<R: Threads + Wait + Sync, S: Source, L: Link, C: Check + Sync, G: Seal + SealCheck>(
+    rt: &R,
+    alloc: Global,
+    look: &LookWords,
+    receives: u32,
+    source: &mut S,
+    link: &mut L,
+    call: &Call<'_, C, G>,
+) -> Result<Bytes, Status>
+    requires { IsInRange look.now }
+    ensures ok { IfOk result (NodeText look.now receives (called_with call.now.random (G.accepted call.now.seal.now)
+        (G.tag_of call.now.seal.now))
+        (shown S.left S.faults source.old source.new)
+        (shown_link L.told L.recv_faults L.send_faults link.old link.new)) }
+    ensures cause { IfErr result ((node_promise look.now receives).cause (called_with call.now.random (G.accepted call.now.seal.now)
+        (G.tag_of call.now.seal.now))
+        (shown S.left S.faults source.old source.new)
+        (shown_link L.told L.recv_faults L.send_faults link.old link.new)) }
+    ensures no_memory { IfErr result (λ status. status ≡ Status.NoMemory →
+        NodeBegun look.now receives (called_with call.now.random (G.accepted call.now.seal.now)
+        (G.tag_of call.now.seal.now))
+        (shown S.left S.faults source.old source.new)
+        (shown_link L.told L.recv_faults L.send_faults link.old link.new) ⊎ (link.new ≡ link.old)) }
+    ensures early { IfErr result (λ status. EndsUnasked (number_of status) → link.new ≡ link.old) }
+    ensures kept { L.kept link.new ≡ L.kept link.old }
+    ensures hears_well { ¬ IsErrOf result Status.LinkFault
+        → L.recv_faults link.new ≡ L.recv_faults link.old }
+    ensures at_most { ReadsAtMost (S.left source.old) (S.left source.new) }
+    ensures reads_well { ¬ IsErrOf result Status.SourceFault
+        → S.faults source.new ≡ S.faults source.old }
+{
+    let own = own_id(look.own, &call.random);
+    let start = read_start(alloc, look, own, source, call)?;
+    let Start {
+        table,
+        proofs,
+        targets,
+    } = start;
+    let ended = look_all(
+        rt,
+        alloc,
+        look,
+        receives,
+        own,
+        table,
+        proofs,
+        targets.as_slice(),
+        link,
+        call,
+    );
+    let many = match ended {
+        Ok(many) => many,
+        Err(ManyFault::LinkFault) => return Err(Status::LinkFault),
+        Err(ManyFault::Strays) => return Err(Status::Strays),
+        Err(ManyFault::NoMemory) => return Err(Status::NoMemory),
+    };
+    Ok(text_of(alloc, targets.as_slice(), &many)?)
+}

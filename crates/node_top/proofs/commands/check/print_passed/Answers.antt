@@ -1,6 +1,0 @@
-use Rattle.node_top.proofs.Printing.{pieces_are}
-use Rattle.node_top.proofs.Verdicts.{passed_pieces}
-use Rattle.node_top.proofs.commands.check.print_passed.Goals as goal
-
-pub returns : goal.returns
-returns c = pieces_are c.format.result _ _ c.format.ensures.ok (passed_pieces c.args.passed c.args.all)

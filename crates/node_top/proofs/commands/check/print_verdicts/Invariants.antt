@@ -1,8 +1,0 @@
-use Rattle.std.proofs.Common.{◌≡◌, take}
-use Rattle.std.specs.Prelude.{flat_map}
-use Rattle.node_top.specs.Commands.Checked.{verdict_text}
-use Rattle.node_top.specs.Printed.{line_of}
-use Rattle.node_top.proofs.commands.check.print_verdicts.Given as goal
-
-abbrev pub invariant-loop-passes : goal.invariant-loop-passes
-invariant-loop-passes l = l.output ≡ flat_map (λ verdict. line_of (verdict_text verdict)) (take l.passes-index l.verdicts)

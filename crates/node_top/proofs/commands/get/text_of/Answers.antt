@@ -1,6 +1,0 @@
-use Rattle.node_top.proofs.Begun.{ok_then}
-use Rattle.node_top.proofs.Getting.{printed_at}
-use Rattle.node_top.proofs.commands.get.text_of.Goals as goal
-
-pub returns : goal.returns
-returns c = ok_then c.print_item.result _ _ c.print_item.ensures (λ text is. printed_at c.args.key.now c.args.outcome.now c.as_slice.result.now _ c.len.result text c.as_slice.ensures c.first_item.ensures is c.len.ensures)

@@ -1,5 +1,0 @@
-use Rattle.std.proofs.Common.{◌≡◌, true, inr, refl}
-use Rattle.node_top.proofs.input.admit.Goals as goal
-
-pub returns : goal.returns
-returns g c = inr ((λ ok. let t : c.is_admitted.result ≡ true = c.is_admitted.ensures.1 ok in absurd cc), refl)

@@ -1,6 +1,0 @@
-use Rattle.std.proofs.Common.{take}
-use Rattle.node_top.specs.Input.{Admits}
-use Rattle.node_top.proofs.input.admitted.Given as goal
-
-abbrev pub invariant-loop-report : goal.invariant-loop-report
-invariant-loop-report g l = Admits l.own l.family l.policy (take l.report-index l.reports) l.contacts

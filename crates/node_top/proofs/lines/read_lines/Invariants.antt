@@ -1,6 +1,0 @@
-use Rattle.std.proofs.Common.{length, take}
-use Rattle.node_top.specs.Lines.{lines, Reporting}
-use Rattle.node_top.proofs.lines.read_lines.Given as goal
-
-abbrev pub invariant-loop-i : goal.invariant-loop-i
-invariant-loop-i l = Reporting (take (length l.yielded) (lines l.bytes)) l.reports

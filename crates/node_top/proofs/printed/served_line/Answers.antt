@@ -1,6 +1,0 @@
-use Rattle.node_top.proofs.Printing.{pieces_are}
-use Rattle.node_top.proofs.Serving.{served_pieces}
-use Rattle.node_top.proofs.printed.served_line.Goals as goal
-
-pub returns : goal.returns
-returns c = pieces_are c.format.result _ _ c.format.ensures.ok (served_pieces c.args.received c.args.replied)

@@ -1,0 +1,4 @@
+pub mod OneTable
+pub mod OneText
+pub mod Refreshing
+pub mod Tabling

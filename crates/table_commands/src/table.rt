@@ -1,0 +1,61 @@
+//! The command `table`: makes the saved text of the routing table that the contacts of the input make. It asks nobody.
+ghost use Rattle.std.specs.Prelude.{◌≡◌, IfOk, IfErr, IsErrOf};
+ghost use Rattle.kad_base.specs.declared.types.Event.{Event};
+ghost use Rattle.command_base.specs.Called.{Called};
+ghost use Rattle.command_base.specs.Input.{ReadsAtMost};
+ghost use Rattle.table_commands.specs.Tabled.{IsTextOf, TableText, table_promise};
+ghost use Rattle.command_base.specs.Started.{AreTableBounds};
+ghost use Rattle.command_base.specs.Shown.{Shown, shown};
+
+use command_base::bootstrap::{own_id, table_of};
+use command_base::input::{admitted, read_reports};
+use command_base::{Call, Status};
+use contact_table::Table;
+use kad_base::{Bytes, Check, Family, Id, NoMemory, Policy, Source};
+use seal_tags::{Seal, SealCheck};
+use std::alloc::Global;
+use table_file::write;
+
+/// The saved text of a table.
+pub fn text_of(alloc: Global, table: &Table) -> Result<Bytes, NoMemory>
+    ensures { IfOk result (IsTextOf table.now) }
+{
+    table.sound();
+    let saved = table.rows()?;
+    write(alloc, &saved)
+}
+
+/// Reads the contacts of the input, tells a new routing table of those of IPv4, and makes its saved text, or says why there
+/// is none. Nothing is written yet.
+pub fn table<S: Source, C: Check, G: Seal + SealCheck>(
+    alloc: Global,
+    own: Option<Id>,
+    k: u8,
+    bits: u8,
+    policy: Policy,
+    source: &mut S,
+    call: &Call<'_, C, G>,
+) -> Result<Bytes, Status>
+    requires { AreTableBounds k bits }
+    ensures ok { IfOk result (TableText own k bits policy call.now.random
+        (shown S.left S.faults source.old source.new)) }
+    ensures cause { (called : Called) (link : Shown Event) → IfErr result
+        ((table_promise own k bits policy).cause called
+        (shown S.left S.faults source.old source.new) link) }
+    ensures at_most { ReadsAtMost (S.left source.old) (S.left source.new) }
+    ensures reads_well { ¬ IsErrOf result Status.SourceFault
+        → S.faults source.new ≡ S.faults source.old }
+{
+    let id = own_id(own, &call.random);
+    let reports = read_reports(alloc, source)?;
+    let contacts = admitted(
+        alloc,
+        &id,
+        Family::Four,
+        policy,
+        call.check,
+        reports.as_slice(),
+    )?;
+    let table = table_of(alloc, id, k, bits, contacts.as_slice())?;
+    Ok(text_of(alloc, &table)?)
+}
