@@ -28,6 +28,7 @@ ASKER = identifier(7)
 KEY = edge.KEY  # of a group
 HASH = "e28910ea0adb94dd45ced75fbff3e135c01bc437"  # of the value 5:hello
 MANY, LONG_ENOUGH = 64, 0.2  # datagrams of one measurement, and the seconds of processor time after which it ends
+ALONE, PAUSE = 15, 0.02  # datagrams of one measurement with pauses, and the seconds between two
 
 
 # ----------------------------------------------------------------------------------------------------------- the keys
@@ -273,7 +274,6 @@ class Measured:
 
     def spends(self, act):
         """The processor time that it takes until it has done what this asks of it, in seconds."""
-        self.rest()
         began = self.spent()
         act()
         self.rest()
@@ -302,6 +302,16 @@ class Measured:
             self.rest()
             self.empty()
         return (self.spent() - began) / sent
+
+    def takes_alone(self, datagrams, host=None):
+        """The processor time that one of these takes where it comes after a pause, in seconds, as the median of some: the
+        system has to wake the process then, and little of it is in the processor's caches."""
+        each = []
+        for at in range(ALONE):
+            each.append(self.spends(lambda: self.send(datagrams[at % len(datagrams)], host)))
+            self.empty()
+            time.sleep(PAUSE)
+        return sorted(each)[ALONE // 2]
 
     def ask(self, query):
         self.empty()
@@ -351,8 +361,9 @@ class Walk(edge.Crowd):
 
 
 def strays(node, sealed):
-    """What anybody may send the node: a name of each kind, how one is made from its pairs and the same ascending, one that is
-    plain, and the host that it comes from, if that is one which was asked."""
+    """What anybody may send the node: the kind and the place, how one is made from its pairs and the same ascending, one that
+    is plain, and the host that it comes from, if that is one which was asked. Of one kind, nothing that a place has is looked at
+    but to read it, so that all places cost alike."""
     rows = []
     if node.command in ("serve", "node"):
         plain = lambda fill, _: asking("plain", fill)
@@ -360,7 +371,7 @@ def strays(node, sealed):
             rows.append(("a query, %s" % place, lambda fill, _, place=place: asking(place, fill), plain, None))
         token = node.token()
         rows.append(("a put, a's v", lambda fill, _: putting(fill, token), plain, None))
-        rows.append(("a put with a wrong token, a's v", lambda fill, _: putting(fill, b"x" * 8), plain, None))
+        rows.append(("a put, a's v with a wrong token", lambda fill, _: putting(fill, b"x" * 8), plain, None))
     if node.command == "serve":
         senders = [("an answer to nobody", b"none", None, ASKER)]
     else:
