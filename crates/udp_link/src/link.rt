@@ -32,9 +32,9 @@ const SENDS_AT_ONCE: u32 = 16;
 /// An unconnected UDP socket. Its moment is the milliseconds since it was made, at most 2^62 - 1, and never before the
 /// last one that it told. It tells no transcript. A receive to a moment that has passed asks the socket without waiting.
 ///
-/// What a socket has no room for is lost, and many queries at once bring as many answers. So a link that sends much without a
-/// receive between takes what has come, up to 512 datagrams of at most 4,097 bytes, into a room of its own, from which it is
-/// received first, in the order in which it came.
+/// What a socket has no room for is lost, and many queries at once bring as many answers. So a link takes what has come, up to 512
+/// datagrams of at most 4,097 bytes, into a room of its own at its first send, and then each time that it sent much without a
+/// receive between. From there it is received first, in the order in which it came.
 #[derive(Drop)]
 pub struct UdpLink<'a, R: Clock> {
     rt: &'a R,
@@ -80,7 +80,8 @@ impl<'a, R: Clock + Net + AllocGlobal> UdpLink<'a, R> {
             alloc: rt.alloc(),
             socket: TimedSocket::new(socket),
             room: Room::new(rt.alloc()),
-            sends: 0,
+            // What came before the first send is taken at it, so that the socket has room for what that brings.
+            sends: SENDS_AT_ONCE - 1,
             began,
             last: 0,
             send_faults: 0,
