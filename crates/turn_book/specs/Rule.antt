@@ -1,6 +1,6 @@
 -- The rule of a turn, and what each step tells. The rule is this project's own.
 -- The word is twice the length of the run, and one more while a seat has the slot.
-use Rattle.std.specs.Prelude.{◌≡◌, ◌≢◌, ℕ, zero, suc, ◌+◌, ◌*◌, ◌<◌, ◌≤◌, ◌==◌, Bool, true, false, List, [], ◌∷◌, ◌++◌, map, length, slice_index, drop, take, Option, Some, None, IfSome}
+use Rattle.std.specs.Prelude.{◌≡◌, ◌≢◌, ℕ, zero, suc, ◌+◌, ◌*◌, ◌%◌, ◌^◌, ◌<◌, ◌≤◌, ◌==◌, Bool, true, false, List, [], ◌∷◌, ◌++◌, map, length, slice_index, drop, take, Option, Some, None, IfSome}
 use mathlib.Core.Option.{some, none}
 use lib.ListN.{get_elem?}
 use Rattle.atomic_table.specs.Table.{State, Me, Step}
@@ -11,6 +11,10 @@ use Rattle.turn_book.specs.Turns.{TurnState, PassState, IsPrefix}
 use Rattle.turn_book.specs.declared.board.Opening.{Opening}
 use Rattle.turn_book.specs.declared.board.Part.{Part}
 use Rattle.turn_book.specs.declared.board.View.{View}
+
+-- the word of a slot that a call may take: it is even while the slot is free, and below 2^63 for 2^62 calls
+abbrev pub IsFree : ℕ → Type 0
+IsFree word = (word % 2 ≡ 0) × (word < 2 ^ 63)
 
 -- each element has the fact
 abbrev pub Each : {A : Type 0} → (A → Type 0) → List A → Type 0
@@ -145,6 +149,14 @@ module _ {S C R : Type 0} (may : ℕ → C → Type 0) (step : S → ℕ → C �
   -- a seat that has the slot, and has seen the run that leads to the state there
   abbrev pub IsBusy : S → ℕ → Me S (View C R) → Type 0
   IsBusy start role m = (st : S) × HasSlot role st m × IsRun may step after start (seen_by m) × (st ≡ left_by after start (seen_by m))
+
+  -- a seat that was idle took the slot: what it has seen goes on, with no call of its own role that is new, and there is room
+  -- for one call more
+  pub record HasTaken (start : S) (role : ℕ) (old new : Me S (View C R)) : Type 0 where
+    pub busy : IsBusy start role new
+    pub goes_on : IsPrefix (seen_by old) (seen_by new)
+    pub own_calls : calls_of role (seen_by old) ≡ calls_of role (seen_by new)
+    pub room : 2 * length (seen_by new) < 2 ^ 63
 
   -- the call was made at the slot, and is not yet in the run
   abbrev pub IsReady : S → ℕ → C → R → Me S (View C R) → Type 0

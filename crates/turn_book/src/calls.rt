@@ -1,9 +1,8 @@
 //! The atomic steps of a call: the compare and exchange that takes the slot, the object's own step in it, and the
 //! fetch-and-add that gives it back, at which the call stands in the run.
-ghost use Rattle.std.specs.Prelude.{◌≡◌, ◌+◌, ◌*◌, ◌%◌, ◌^◌, ◌<◌, ◌≤◌, ◌↔◌, [], ◌∷◌, ◌++◌, length, false, IsTrue};
-ghost use Rattle.kad_base.specs.Serial.{calls_of, made};
-ghost use Rattle.turn_book.specs.Turns.{IsPrefix};
-ghost use Rattle.turn_book.specs.Rule.{IsIdle, IsBusy, IsReady, Called, seen_by, part, view};
+ghost use Rattle.std.specs.Prelude.{◌≡◌, ◌≢◌, ◌*◌, ◌^◌, ◌<◌, ◌≤◌, ◌↔◌, [], ◌∷◌, ◌++◌, length, false, Some, IsSome};
+ghost use Rattle.kad_base.specs.Serial.{made};
+ghost use Rattle.turn_book.specs.Rule.{IsFree, IsIdle, IsBusy, HasTaken, IsReady, Called, seen_by, part, view};
 
 use crate::board::{Board, BoardSeat, Give, Noted, Opened, Take};
 use crossbeam_utils::Backoff;
@@ -15,11 +14,35 @@ use std::sync::Wait;
 /// The word from which on no call gets the slot.
 const END: u64 = 1 << 63;
 
-/// Whether a call may take the slot: the word is even while the slot is free.
-fn is_free(word: u64) -> bool
-    ensures { IsTrue result ↔ (word % 2 ≡ 0) × (word < 2 ^ 63) }
+/// Takes the slot if this word says that it is free and still stands there. The word that stood there; `None` if this one
+/// says that the slot is not free, and then nothing is tried.
+fn try_take<S: Serial, J: Opened<S>>(
+    board: &Board<S>,
+    seat: &mut BoardSeat<S>,
+    role: u8,
+    word: u64,
+) -> Option<u64>
+    requires picked { J.start ≡ Some board.now.shared.key.state.value }
+    requires words { board.now.shared.table_id.words ≡ 1 }
+    requires slots { board.now.shared.table_id.slots ≡ 1 }
+    requires own { seat.old.table_id ≡ board.now.shared.table_id }
+    requires idle { IsIdle role seat.old.me }
+    ensures tried { IsSome result ↔ IsFree word }
+    ensures same { (seat.new.table_id ≡ seat.old.table_id) × (seat.new.id ≡ seat.old.id) }
+    ensures taken { result ≡ Some word
+        → HasTaken S.may S.step S.after board.now.shared.key.state.value role seat.old.me
+        seat.new.me }
+    ensures missed { result ≢ Some word → seat.new.me ≡ seat.old.me }
 {
-    word % 2 == 0 && word < END
+    let _ = role;
+    if word % 2 != 0 || word >= END {
+        return None;
+    }
+    Some(
+        board
+            .shared
+            .compare_exchange::<Take<S, J>>(seat, 0, word, word + 1),
+    )
 }
 
 /// Waits for the slot, and takes it.
@@ -35,18 +58,13 @@ fn take<S: Serial, R: Wait, J: Opened<S>>(
     requires own { seat.old.table_id ≡ board.now.shared.table_id }
     requires idle { IsIdle role seat.old.me }
     ensures same { (seat.new.table_id ≡ seat.old.table_id) × (seat.new.id ≡ seat.old.id) }
-    ensures busy { IsBusy S.may S.step S.after board.now.shared.key.state.value role seat.new.me }
-    ensures run { IsPrefix (seen_by seat.old.me) (seen_by seat.new.me)
-        × (calls_of role (seen_by seat.old.me) ≡ calls_of role (seen_by seat.new.me)) }
-    ensures room { 2 * length (seen_by seat.new.me) < 2 ^ 63 }
+    ensures taken { HasTaken S.may S.step S.after board.now.shared.key.state.value role
+        seat.old.me seat.new.me }
 {
     let backoff = Backoff::new();
     for _ in rt.forever() {
         let word = board.shared.peek(0);
-        if is_free(word) {
-            let found = board
-                .shared
-                .compare_exchange::<Take<S, J>>(seat, 0, word, word + 1);
+        if let Some(found) = try_take::<S, J>(board, seat, role, word) {
             if found == word {
                 return;
             }
