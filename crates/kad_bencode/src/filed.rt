@@ -86,13 +86,7 @@ fn is_before(bytes: &[u8], places: &[u16], i: usize, key: &[u8]) -> bool
 
 /// Puts a place in among so many. Those after it are moved as a whole, by way of the room: a move one by one takes longer
 /// than all else does.
-pub(crate) fn put_in(
-    places: &mut [u16; MOST],
-    room: &mut [u16; MOST],
-    count: usize,
-    i: usize,
-    at: u16,
-)
+fn put_in(places: &mut [u16; MOST], room: &mut [u16; MOST], count: usize, i: usize, at: u16)
     requires order { i ≤ count }
     requires room { count < 768 }
     ensures { take (count + 1) places.new ≡ insert (take count places.old) i at }
@@ -121,7 +115,7 @@ fn seat(bytes: &[u8], places: &[u16], heads: &Heads, head: u64, key: &[u8]) -> O
     ensures fits { IfSome result (λ i. (keys : List (List ℕ)) → AreAt bytes.now places.now keys
         → IsBehind keys i key.now true × IsBefore keys i key.now true) }
 {
-    let guessed = heads.guess(places.len(), head);
+    let guessed = heads.guess(places, head);
     if fits(bytes, places, guessed, key) {
         return Some(guessed);
     }
@@ -155,7 +149,7 @@ pub(crate) fn file(
     match seat(bytes, &places[..count], heads, head, key) {
         Some(i) => {
             put_in(places, &mut heads.room, count, i, at as u16);
-            heads.put(count, i, head);
+            heads.keep(at, head);
             count + 1
         }
         None => MOST + 1,

@@ -1,55 +1,46 @@
 //! The heads of a dictionary's keys: the first eight bytes of each as a number, by which the place of a further key is
 //! guessed. A guess is no more than that: what is filed there is compared with the key itself.
-ghost use Rattle.std.specs.Prelude.{◌≤◌, ◌<◌};
+ghost use Rattle.std.specs.Prelude.{◌≤◌, length};
 
-use crate::filed::{MOST, put_in};
+use crate::filed::MOST;
 
-/// The heads in the order in which their keys came, and which of them is at which place in order of the keys.
+/// How many heads there are. A pair has four bytes at least, so in a datagram of 4,096 bytes no two keys share one.
+const MANY: usize = 1024;
+
+/// The heads, each under the place where its key stands.
 #[derive(Drop)]
 pub(crate) struct Heads {
-    heads: [u64; MOST],
-    order: [u16; MOST],
+    heads: [u64; MANY],
     /// What is moved goes by way of it.
     pub(crate) room: [u16; MOST],
 }
 
 /// The first eight bytes of a key as a number, the first of them the highest; a shorter key as if zeros came after it.
 pub(crate) fn head_of(key: &[u8]) -> u64 {
-    let mut head = [0u8; 8];
-    let length = key.len().min(8);
-    head[..length].copy_from_slice(&key[..length]);
-    u64::from_be_bytes(head)
+    let mut head = 0;
+    for i in 0..key.len().min(8) {
+        head |= (key[i] as u64) << (56 - 8 * i);
+    }
+    head
 }
 
 impl Heads {
     pub(crate) fn new() -> Heads {
         Heads {
-            heads: [0; MOST],
-            order: [0; MOST],
+            heads: [0; MANY],
             room: [0; MOST],
         }
     }
 
-    /// The head at a place in order of the keys.
-    fn at(&self, place: usize) -> u64 {
-        match self.order.get(place) {
-            Some(which) => match self.heads.get(*which as usize) {
-                Some(head) => *head,
-                None => 0,
-            },
-            None => 0,
-        }
-    }
-
-    /// Where a key with this head may go among so many.
-    pub(crate) fn guess(&self, count: usize, head: u64) -> usize
-        ensures { result ≤ count }
+    /// Where a key with this head may go among those that stand at these places.
+    pub(crate) fn guess(&self, places: &[u16], head: u64) -> usize
+        ensures { result ≤ length places.now }
     {
         let mut low = 0;
-        let mut high = count;
+        let mut high = places.len();
         while low < high {
             let middle = low + (high - low) / 2;
-            if self.at(middle) < head {
+            if self.heads[places[middle] as usize / 4 % MANY] < head {
                 low = middle + 1;
             } else {
                 high = middle;
@@ -58,12 +49,8 @@ impl Heads {
         low
     }
 
-    /// Puts a head in at a place among so many.
-    pub(crate) fn put(&mut self, count: usize, place: usize, head: u64)
-        requires order { place ≤ count }
-        requires room { count < 768 }
-    {
-        self.heads[count] = head;
-        put_in(&mut self.order, &mut self.room, count, place, count as u16);
+    /// Keeps the head of a key that stands at a place.
+    pub(crate) fn keep(&mut self, place: usize, head: u64) {
+        self.heads[place / 4 % MANY] = head;
     }
 }

@@ -1,10 +1,10 @@
-use Rattle.std.proofs.Common.{◌-◌, ◌≤◌}
+use Rattle.std.proofs.Common.{◌-◌, ◌≤◌, length}
 use Rattle.kad_bencode.proofs.heads.Heads.guess.Given as goal
 
 abbrev pub invariant-loop-low : goal.invariant-loop-low
 invariant-loop-low l = record {
   order : l.low ≤ l.high;
-  within : l.high ≤ l.count;
+  within : l.high ≤ length l.places;
 }
 
 abbrev pub decreases-loop-low : goal.decreases-loop-low
