@@ -13,14 +13,16 @@ ghost use Rattle.kad_bencode.specs.declared.entries.Pair.{Pair};
 ghost use Rattle.kad_bencode.specs.declared.value.Value.{Value};
 
 use crate::find::first_pair;
+use crate::heads::head_of;
 use crate::into::{put_part, put_string};
 use crate::scan::{has_byte, past};
 use kad_base::NoMemory;
 use std::alloc::Global;
 
-/// A pair where it stands: its key, and the text of its value.
+/// A pair where it stands: its key with the head of it, and the text of its value.
 #[derive(Clone, Copy)]
 struct Row<'a> {
+    head: u64,
     key: &'a [u8],
     text: &'a [u8],
 }
@@ -35,7 +37,8 @@ fn rows_of(alloc: Global, pairs: &[u8]) -> Result<Vec<Row<'_>>, NoMemory>
     while rest.len() > 0 {
         match first_pair(rest) {
             Some((key, text, others)) => {
-                rows.push(Row { key, text })?;
+                let head = head_of(key);
+                rows.push(Row { head, key, text })?;
                 rest = others;
             }
             None => return Ok(rows),
@@ -44,11 +47,12 @@ fn rows_of(alloc: Global, pairs: &[u8]) -> Result<Vec<Row<'_>>, NoMemory>
     Ok(rows)
 }
 
-/// Sorts pairs by their keys.
+/// Sorts pairs by their keys: first by the heads, which are numbers, so that most keys are in order already.
 fn sort_rows(rows: &mut Vec<Row<'_>>)
     ensures moved { IsPermutation rows.old.items rows.new.items }
     ensures sorted { IsSortedBy comes_before rows.new.items }
 {
+    rows.sort_unstable_by_key(|row| row.head);
     rows.sort_unstable_by(|a, b| a.key.cmp(b.key));
 }
 
