@@ -183,12 +183,7 @@ fn make_room(
     ensures wide { OnOk result (length path.new.queue.items + (length reports.now + 1)
         ≤ deque_capacity path.new.queue) }
 {
-    let more = 3 * reports.len() + 1;
-    let all = match owed.checked_add(more) {
-        Some(all) => all,
-        None => return Err(NoMemory),
-    };
-    journal.reserve(all)?;
+    journal.reserve(owed + (3 * reports.len() + 1))?;
     widen(path, reports.len() + 1)?;
     learn(claims, own, reports)
 }
