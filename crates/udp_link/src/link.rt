@@ -75,10 +75,12 @@ impl<'a, R: Clock + Net + AllocGlobal> UdpLink<'a, R> {
             return Err(Failed);
         }
         let began = Instant::now(rt).map_err(|_| Failed)?;
+        let socket = TimedSocket::new(socket);
+        socket.widen();
         Ok(UdpLink {
             rt,
             alloc: rt.alloc(),
-            socket: TimedSocket::new(socket),
+            socket,
             room: Room::new(rt.alloc()),
             // What came before the first send is taken at it, so that the socket has room for what that brings.
             sends: SENDS_AT_ONCE - 1,

@@ -3,9 +3,14 @@
 ghost use Rattle.std.specs.Prelude.{◌≡◌, ◌≤◌, ◌-◌, ◌*◌, ◌<◌, ◌↔◌, length, IsNone, IfSome, IfOk, OnOk, Some, is_some};
 ghost use Rattle.std.specs.Duration.{as_nanos};
 
+use libc::net as c;
 use std::io;
 use std::net::{SocketAddr, UdpSocket};
+use std::os::fd::AsRawFd;
 use std::time::Duration;
+
+/// How many bytes of what came the system is asked to keep for the socket.
+const ROOM_FOR_ARRIVALS: i32 = 4 << 20;
 
 /// A UDP socket: whether its receives wait, and how long they wait where they do, as far as that was set.
 #[derive(Drop)]
@@ -23,6 +28,15 @@ impl TimedSocket {
             waits: true,
             timeout: None,
         }
+    }
+
+    /// Asks the system to keep more of what comes until it is received (socket(7), `SO_RCVBUF`). It grants as much as its own
+    /// limit allows; where it refuses, the socket keeps the room that it has.
+    pub(crate) fn widen(&self) {
+        let mut room = [0u8; 16];
+        room[..4].copy_from_slice(&ROOM_FOR_ARRIVALS.to_ne_bytes());
+        let fd = self.socket.as_raw_fd();
+        let _ = unsafe { c::setsockopt(fd, c::SOL_SOCKET, c::SO_RCVBUF, &room, 4) };
     }
 
     pub(crate) fn send_to(&self, bytes: &[u8], to: SocketAddr) -> io::Result<usize> {
