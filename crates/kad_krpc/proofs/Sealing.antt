@@ -1,8 +1,7 @@
 -- The pair of a tag in the text of a dictionary: taken out, put in, and both.
-use Rattle.std.proofs.Common.{◌≡◌, ℕ, ◌-◌, true, false, List, ◌++◌, length, take, drop, Option, Some, None, Result, Ok, Err, refl, sym, ap, ◌∙◌, subst, arith, append-nil}
-use Rattle.std.specs.Prelude.{IfOk, MatchOption, codes}
+use Rattle.std.proofs.Common.{◌≡◌, ℕ, ◌-◌, true, false, List, ◌++◌, length, take, drop, Option, Some, None, refl, sym, ap, ◌∙◌, arith, append-nil}
+use Rattle.std.specs.Prelude.{codes}
 use Rattle.std.proofs.lemmas.List.{take_all, length-drop}
-use Rattle.kad_base.specs.declared.types.NoMemory.{NoMemory}
 use Rattle.kad_bencode.specs.Keys.{put, value_of, without}
 use Rattle.kad_bencode.specs.Parts.{bytes_in, bytes_of, member_in, member_of}
 use Rattle.kad_bencode.specs.Spelling.{Spells, string_text, text_of}
@@ -12,7 +11,6 @@ use Rattle.kad_bencode.specs.declared.entries.Pair.{Pair}
 use Rattle.kad_bencode.specs.declared.value.Value.{Value}
 use Rattle.kad_bencode.specs.declared.value.Value.TheVariants.{Text, Dict}
 use Rattle.kad_bencode.proofs.Added.{spelled_put, value_put_same, without_put}
-use Rattle.kad_bencode.proofs.Faults.{one_value}
 use Rattle.kad_bencode.proofs.Folds.{in_order-text}
 use Rattle.kad_bencode.proofs.Formed.{has_member, its_text}
 use Rattle.kad_bencode.proofs.Layers.{dict_is, same_dict, text_is}
@@ -22,9 +20,8 @@ use Rattle.kad_bencode.proofs.Putting.{puts_then, puts_same}
 use Rattle.kad_krpc.specs.Fields.{pair}
 use Rattle.kad_krpc.specs.declared.message.Message.{Message}
 use Rattle.kad_krpc.specs.declared.message.Message.TheVariants as message
-use Rattle.kad_krpc.specs.declared.seal.SealParts.{SealParts}
 use Rattle.kad_krpc.specs.Form.{HasForms, form, message_pairs}
-use Rattle.kad_krpc.specs.Seal.{BearsTag, HasNoTag, IsBodyOf, IsTagged, IsUntagged, LacksTag, tagged}
+use Rattle.kad_krpc.specs.Seal.{BearsTag, IsBodyOf, IsTagged, IsUntagged, LacksTag, tagged}
 use Rattle.kad_krpc.specs.WellTyped.{IsWell}
 use Rattle.kad_krpc.proofs.Spelled.{spelled}
 
@@ -52,16 +49,6 @@ whole_parts v tag copy body b e put = (
   (b.0, b.1, b.2 ∙ ap (λ s. Some (Text s)) (sym e)),
   λ pairs d. put pairs (Text tag) d (ap (λ l. value_of l (codes "sg")) (same_dict pairs b.0 (sym d ∙ b.1)) ∙ b.2),
 )
-
-pub never_ok : {A E : Type 0} {e : E} {x : A} → ◌≡◌ {A = Result A E} (Err e) (Ok x) → ⊥
-never_ok f = cc
-
-pub taken_apart : (bytes : List ℕ) (v : Value) → Spells bytes v → (r : Result (Option SealParts) NoMemory)
-    → IfOk r (λ o. MatchOption o (LacksTag v) (λ parts. BearsTag v parts.tag × IsBodyOf v parts.body))
-    → IfOk r (λ o. MatchOption o (HasNoTag bytes) (λ parts. IsTagged bytes parts.body parts.tag))
-taken_apart bytes v s (Ok None) h = λ pairs tag t e. h pairs tag (one_value bytes v (Dict pairs) s t) e
-taken_apart bytes v s (Ok (Some parts)) h = record { pairs = h.0.0; spelled = subst (Spells bytes) h.0.1 s; tag_is = h.0.2; body_is = h.1 h.0.0 h.0.1 }
-taken_apart bytes v s (Err e) h = tt
 
 -- ---- with the pair
 

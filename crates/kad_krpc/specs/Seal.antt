@@ -34,10 +34,6 @@ pub record IsTagged (bytes body tag : List ℕ) : Type 0 where
   pub tag_is : value_of pairs (codes "sg") ≡ Some (Text tag)
   pub body_is : body ≡ body_of pairs
 
--- the bytes spell no dictionary, or it has no `sg`, or that is no byte string
-abbrev pub HasNoTag : List ℕ → Type 0
-HasNoTag bytes = (pairs : List (Pair Value)) (tag : List ℕ) → Spells bytes (Dict pairs) → value_of pairs (codes "sg") ≡ Some (Text tag) → ⊥
-
 -- the bytes are the written form of this dictionary, which has no `sg`
 pub record IsUntagged (bytes : List ℕ) (pairs : List (Pair Value)) : Type 0 where
   pub written : bytes ≡ text_of (Dict pairs)

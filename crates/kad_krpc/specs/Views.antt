@@ -8,6 +8,7 @@ use Rattle.kad_krpc.specs.declared.message.Message.TheVariants as message
 use Rattle.kad_krpc.specs.declared.message.KrpcFault.{KrpcFault}
 use Rattle.kad_krpc.specs.declared.borrowed.View.{View}
 use Rattle.kad_krpc.specs.declared.borrowed.View.TheVariants as view
+use Rattle.kad_krpc.specs.declared.reader.Decoded.{Decoded}
 use Rattle.kad_krpc.specs.Fields.{Step, Look}
 pub use Rattle.kad_krpc.specs.Asking.{ask_seen, ask_outcome}
 pub use Rattle.kad_krpc.specs.Answering.{answer_seen, answered}
@@ -22,6 +23,11 @@ message_seen (view.Fault tx code text) = message.Fault tx.now code text.now
 abbrev pub viewed : Result View KrpcFault → Step Message
 viewed (Ok x) = Ok (message_seen x)
 viewed (Err fault) = Err fault
+
+-- what a value that was read says, or the refusal
+abbrev pub decoded_view : Result Decoded KrpcFault → Step Message
+decoded_view (Ok s) = Ok (message_seen s.view)
+decoded_view (Err fault) = Err fault
 
 -- ---- for the steps of the reading
 

@@ -24,10 +24,8 @@ pub use laws::{form_says, one_message, said_is_writable};
 pub use message::{Answer, Ask, Key, KrpcFault, Message, Port, Want};
 pub use owned::push_peers;
 pub use query::{find_node_into, get_into, get_peers_into};
-pub use reader::{decode, decode_view};
-pub use seal::{
-    SealParts, form_is_untagged, parts_of, seal_parts, tag_comes_off, tag_into, with_tag,
-};
+pub use reader::{Decoded, decode, decode_top, decode_view};
+pub use seal::{SealParts, form_is_untagged, parts_of, tag_comes_off, tag_into, with_tag};
 pub use well_typed::message_is_well_typed;
 pub use writer::{encode, encode_into};
 

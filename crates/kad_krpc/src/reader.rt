@@ -3,9 +3,10 @@ ghost use Rattle.std.specs.Prelude.{◌≡◌, option_copied, IfOk, IfErr, Ok, E
 ghost use Rattle.kad_krpc.specs.declared.message.Message.{Message};
 ghost use Rattle.kad_krpc.specs.declared.message.KrpcFault.{KrpcFault};
 ghost use Rattle.kad_bencode.specs.Parts.{member_of};
+ghost use Rattle.kad_bencode.specs.Spelling.{Spells};
 ghost use Rattle.kad_krpc.specs.Fields.{needed};
 ghost use Rattle.kad_krpc.specs.Reading.{kind_in, kind_of, code_text_of, query_by, answer_message_by, fault_by, message_at, said, Says, Refuses, Gives, IfRefused};
-ghost use Rattle.kad_krpc.specs.Views.{lent_code, lent_error, viewed, message_seen};
+ghost use Rattle.kad_krpc.specs.Views.{lent_code, lent_error, decoded_view, viewed, message_seen};
 
 use crate::answer::read_answer;
 use crate::ask::{read_ask, read_only};
@@ -120,11 +121,40 @@ fn read_top<'a>(top: &Piece<'a>) -> Result<View<'a>, KrpcFault>
 }
 
 /// What a value says.
-fn read_value<'a>(top: Piece<'a>) -> Result<View<'a>, KrpcFault>
-    ensures { viewed result ≡ said top.entry }
+fn read_value<'a>(top: &Piece<'a>) -> Result<View<'a>, KrpcFault>
+    ensures { viewed result ≡ said top.now }
 {
-    let top = needed_dict(Some(top), Key::Top)?;
+    let top = needed_dict(Some(top.copied()), Key::Top)?;
     read_top(&top)
+}
+
+/// A datagram that says a message, read where it stands.
+#[derive(Drop)]
+pub struct Decoded<'a> {
+    /// The value that the datagram spells.
+    pub top: Piece<'a>,
+    /// What that value says.
+    pub view: View<'a>,
+}
+
+/// Reads a datagram of any length where it stands: the value that it spells and what that says, or the first step of the
+/// reading that fails. Keys that BEP 5 and BEP 43 don't name are passed over. Takes no memory.
+pub fn decode_top(bytes: &[u8]) -> Result<Decoded<'_>, KrpcFault>
+    ensures spells { IfOk result (λ s. Spells bytes.now s.top) }
+    // What is read is said so, and what is refused fails so.
+    ensures says { IfOk result (λ s. Says bytes.now (message_seen s.view)) }
+    ensures refuses { IfErr result (Refuses bytes.now) }
+    // What says a message is read, and what fails is refused.
+    ensures only { (m : Message) → Says bytes.now m → decoded_view result ≡ Ok m }
+    ensures refused { (fault : KrpcFault) → Refuses bytes.now fault → result ≡ Err fault }
+{
+    match Piece::parse(bytes) {
+        Ok(top) => match read_value(&top) {
+            Ok(view) => Ok(Decoded { top, view }),
+            Err(fault) => Err(fault),
+        },
+        Err(bad) => Err(KrpcFault::Bad(bad)),
+    }
 }
 
 /// Reads a datagram of any length where it stands: what it says, or the first step of the reading that fails. Keys that
@@ -137,9 +167,9 @@ pub fn decode_view(bytes: &[u8]) -> Result<View<'_>, KrpcFault>
     ensures only { (m : Message) → Says bytes.now m → viewed result ≡ Ok m }
     ensures refused { (fault : KrpcFault) → Refuses bytes.now fault → result ≡ Err fault }
 {
-    match Piece::parse(bytes) {
-        Ok(top) => read_value(top),
-        Err(bad) => Err(KrpcFault::Bad(bad)),
+    match decode_top(bytes) {
+        Ok(decoded) => Ok(decoded.view),
+        Err(fault) => Err(fault),
     }
 }
 

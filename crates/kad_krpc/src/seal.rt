@@ -8,7 +8,7 @@ ghost use Rattle.kad_bencode.specs.declared.value.Value.{Value};
 ghost use Rattle.kad_krpc.specs.declared.message.Message.{Message};
 ghost use Rattle.kad_krpc.specs.Form.{HasForms, form, message_pairs};
 ghost use Rattle.kad_krpc.specs.WellTyped.{IsWell};
-ghost use Rattle.kad_krpc.specs.Seal.{BearsTag, HasNoTag, IsBodyOf, IsTagged, IsUntagged, LacksTag, tagged};
+ghost use Rattle.kad_krpc.specs.Seal.{BearsTag, IsBodyOf, IsTagged, IsUntagged, LacksTag, tagged};
 
 use crate::fields::put_text;
 use kad_base::{Bytes, List, NoMemory};
@@ -37,8 +37,8 @@ fn tag_of<'a>(top: &Piece<'a>) -> Option<&'a [u8]>
     }
 }
 
-/// Takes a value that was read where it stands apart: `None` where it is no dictionary, or has no `sg`, or that is no byte
-/// string. Its keys may stand in any order, so its body is put in order. The memory taken is in proportion to its text.
+/// Takes a value that was read where it stands apart: `None` if it is no dictionary, or has no `sg`, or that is no byte
+/// string. Its keys may be in any order, so its body is put in order. The memory taken is in proportion to its text.
 pub fn parts_of(alloc: Global, top: &Piece<'_>) -> Result<Option<SealParts>, NoMemory>
     ensures { IfOk result (λ o. MatchOption o (LacksTag top.now)
         (λ parts. BearsTag top.now parts.tag × IsBodyOf top.now parts.body)) }
@@ -50,19 +50,6 @@ pub fn parts_of(alloc: Global, top: &Piece<'_>) -> Result<Option<SealParts>, NoM
             Ok(Some(SealParts { body, tag }))
         }
         None => Ok(None),
-    }
-}
-
-/// Takes a datagram of any length apart. `None` where it spells no dictionary, or the dictionary has no `sg`, or that is no
-/// byte string. The keys of the datagram may stand in any order, so its body is put in order. The memory taken is in
-/// proportion to the datagram.
-pub fn seal_parts(alloc: Global, bytes: &[u8]) -> Result<Option<SealParts>, NoMemory>
-    ensures { IfOk result (λ o. MatchOption o (HasNoTag bytes.now)
-        (λ parts. IsTagged bytes.now parts.body parts.tag)) }
-{
-    match Piece::parse(bytes) {
-        Ok(top) => parts_of(alloc, &top),
-        Err(_) => Ok(None),
     }
 }
 

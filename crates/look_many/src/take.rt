@@ -1,8 +1,8 @@
 //! Whose a datagram is.
-ghost use Rattle.std.specs.Prelude.{◌≡◌, ◌<◌, length, MatchOption, IfOk, IsTrue, OnOk};
+ghost use Rattle.std.specs.Prelude.{◌≡◌, ◌<◌, ℕ, List, length, MatchOption, IfOk, IsTrue, OnOk};
 ghost use Rattle.std.specs.List.{AllByRecursion, AllZip};
 ghost use Rattle.lookup_core.specs.Reply.{reply_seen, said_seen};
-ghost use Rattle.lookup_core.specs.Says.{IsReply};
+ghost use Rattle.lookup_core.specs.Says.{IsRead};
 ghost use Rattle.look_many.specs.inner.Crowd.{Holding, SameSeat};
 ghost use Rattle.look_many.specs.inner.ManySteps.{IsUnasked, FirstWaits, IsNotFor, Hears, Takes};
 
@@ -24,26 +24,25 @@ fn is_unasked(seekers: &[Seeker], from: Addr) -> bool
     true
 }
 
-/// The first lookup that has an open query which the reply is to, and that query's place; `None` where none has.
+/// The first lookup that has an open query which the reply, read in a datagram from that address, is to, and that query's
+/// place; `None` if none has.
 fn first_that_waits<G: SealCheck>(
     alloc: Global,
     seekers: &[Seeker],
     seal: &G,
     from: Addr,
-    bytes: &[u8],
     said: &SaidView,
 ) -> Result<Option<(usize, usize)>, NoMemory>
-    requires holds { AllByRecursion Holding seekers.now }
-    requires reads { IsReply bytes.now (said_seen said.now) }
-    ensures { IfOk result (λ found. MatchOption found
-        (AllByRecursion (λ k. IsNotFor (G.accepted seal.now) from bytes.now k) seekers.now)
-        (FirstWaits (G.accepted seal.now) from bytes.now (said_seen said.now) seekers.now)) }
+    requires { AllByRecursion Holding seekers.now }
+    ensures { IfOk result (λ found. (bytes : List ℕ) → IsRead bytes said.now → MatchOption found
+        (AllByRecursion (λ k. IsNotFor (G.accepted seal.now) from bytes k) seekers.now)
+        (FirstWaits (G.accepted seal.now) from bytes (said_seen said.now) seekers.now)) }
 {
     for i in 0..seekers.len() {
         let seeker = &seekers[i];
         match seeker
             .lookup
-            .place_of(alloc, &seeker.quest, seal, from, bytes, said)
+            .place_of(alloc, &seeker.quest, seal, from, said)
         {
             Ok(None) => {}
             Ok(Some(place)) => return Ok(Some((i, place))),
@@ -85,7 +84,7 @@ pub(crate) fn take<G: SealCheck>(
         Some(said) => said,
         None => return Ok(false),
     };
-    match first_that_waits(alloc, seekers, seal, from, bytes, &said) {
+    match first_that_waits(alloc, seekers, seal, from, &said) {
         Ok(Some((i, place))) => {
             hear(alloc, &mut seekers[i], place, said.reply)?;
             Ok(true)

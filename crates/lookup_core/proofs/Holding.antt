@@ -1,9 +1,8 @@
 -- The open contacts are those of the open queries, whatever comes.
-use Rattle.std.proofs.Common.{◌≡◌, ℕ, suc, ◌^◌, ◌<◌, List, [], ◌∷◌, ◌++◌, take, drop, Bool, true, false, ◌||◌, Result, Ok, Err, inl, inr, sym, ap, subst, ◌∙◌, refl}
-use Rattle.std.specs.Prelude.{map, IfOk, OnOk}
+use Rattle.std.proofs.Common.{◌≡◌, ℕ, suc, ◌^◌, ◌<◌, List, [], ◌∷◌, ◌++◌, take, drop, Bool, true, false, ◌||◌, inl, inr, sym, ap, subst, ◌∙◌, refl}
+use Rattle.std.specs.Prelude.{map}
 use Rattle.std.specs.List.{AllByRecursion, IsDistinct}
 use Rattle.kad_base.specs.declared.types.Contact.{Contact}
-use Rattle.kad_base.specs.declared.types.NoMemory.{NoMemory}
 use Rattle.kad_base.specs.Contacts.{same, among, without}
 use Rattle.kad_base.proofs.Contacts.{same_itself}
 use Rattle.query_book.specs.declared.Query.{Query}
@@ -51,7 +50,7 @@ one_closed c J K before behind old new q is was closes opens distinct after =
     ap (map (λ (x : Query). x.contact)) closes ∙ map_append (λ (x : Query). x.contact) before behind
     ∙ sym (after ∙ ap (λ l. without l (c ∷ [])) were ∙ without_one c cs ds (subst (IsDistinct same) were distinct))
 
-reply_holds : (quest : Quest) (place : ℕ) (r : Reply) (old new : Lookup) (out : Taken) → Holds old → Legal old.book.setting old.book.journal → HearsAt quest place r old new out → Holds new
+pub reply_holds : (quest : Quest) (place : ℕ) (r : Reply) (old new : Lookup) (out : Taken) → Holds old → Legal old.book.setting old.book.journal → HearsAt quest place r old new out → Holds new
 reply_holds quest place r old new out holds legal h =
     let J = old.book.journal in
     let q = h.query in
@@ -63,7 +62,3 @@ reply_holds quest place r old new out holds legal h =
           (ap (λ (b : BookState). open_any b.journal) h.hears.hears.after ∙ closing_of quest J q.contact r h.hears.hears.entry h.hears.hears.gives);
       ids = subst (AllByRecursion (λ (q : Query). q.tx < 2 ^ 32)) (sym h.closes) (all_dropped (λ (q : Query). q.tx < 2 ^ 32) before q behind (subst (AllByRecursion (λ (q : Query). q.tx < 2 ^ 32)) was holds.ids));
     }
-
-pub held_result : (quest : Quest) (place : ℕ) (r : Reply) (old new : Lookup) (result : Result Taken NoMemory) → Holds old → Legal old.book.setting old.book.journal → IfOk result (HearsAt quest place r old new) → OnOk result (Holds new)
-held_result quest place r old new (Ok out) holds legal h = reply_holds quest place r old new out holds legal h
-held_result quest place r old new (Err e) holds legal h = tt

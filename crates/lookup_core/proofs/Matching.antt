@@ -132,8 +132,3 @@ takes_at quest accepts from bytes said place old new out reads of h = takes_out 
 pub take_result : (quest : Quest) (accepts : Accepts) (from : Addr) (bytes : List ℕ) (said : Said) (place : ℕ) (old new : Lookup) (result : Result Taken NoMemory) → IsReply bytes said → IsPlaceOf quest accepts from bytes said old place → IfOk result (HearsAt quest place said.reply old new) → IfOk result (Takes quest accepts from bytes old new)
 take_result quest accepts from bytes said place old new (Ok out) reads of h = takes_at quest accepts from bytes said place old new out reads of h
 take_result quest accepts from bytes said place old new (Err e) reads of h = tt
-
--- how hearing at a place ends
-pub hear_result : (quest : Quest) (place : ℕ) (q : Query) (r : Reply) (old new : Lookup) (result : Result Taken NoMemory) → slice_get old.queries place ≡ Some q → new.queries ≡ remove old.queries place → IfOk result (HearsReply quest q.contact r old.book new.book) → IfOk result (HearsAt quest place r old new)
-hear_result quest place q r old new (Ok out) here closes h = record { query = q; was_open = here; closes = closes; hears = h }
-hear_result quest place q r old new (Err e) here closes h = tt

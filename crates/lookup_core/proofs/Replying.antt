@@ -1,10 +1,12 @@
 -- What a datagram says, and that it says nothing else.
 use Rattle.std.proofs.Common.{◌≡◌, ℕ, Bool, ◌+◌, ◌*◌, ◌^◌, ◌<◌, ◌≤◌, List, length, get_or, Option, Some, None, Result, Ok, Err, refl, sym, ap, subst, ◌∙◌, arith, w32}
-use Rattle.std.specs.Prelude.{MatchOption, ℤ}
+use Rattle.std.specs.Prelude.{IfSome, MatchOption, ℤ}
 use Rattle.std.specs.Int.{from_le_bytes}
 use Rattle.std.proofs.lemmas.Nat.{from_le_bytes-to_le_bytes_4, le_bytes_4}
 use Rattle.kad_base.specs.Limits.{max_datagram}
 use Rattle.kad_base.specs.Words.{word_bytes}
+use Rattle.kad_bencode.specs.Spelling.{Spells}
+use Rattle.kad_bencode.specs.declared.value.Value.{Value}
 use Rattle.kad_krpc.specs.declared.message.Answer.{Answer}
 use Rattle.kad_krpc.specs.declared.message.Message.{Message}
 use Rattle.kad_krpc.specs.declared.message.Message.TheVariants as message
@@ -18,7 +20,7 @@ use Rattle.lookup_core.specs.Reply as reply
 use Rattle.lookup_core.specs.Matching.{SaysTo, IsReplyTo}
 use Rattle.lookup_core.specs.Sealed.{Accepts}
 use Rattle.lookup_core.specs.declared.reply.SaidView.{SaidView}
-use Rattle.lookup_core.specs.Says.{SaysAll, SaysNothing, IsReply, IsNoReply}
+use Rattle.lookup_core.specs.Says.{SaysAll, SaysNothing, IsNoReply, IsRead}
 
 -- a word has its own four bytes
 pub word_same : (v w : ℕ) → v < 2 ^ 32 → w < 2 ^ 32 → word_bytes v ≡ word_bytes w → v ≡ w
@@ -48,12 +50,17 @@ same_ok : (x y : Message) → ◌≡◌ {A = Result Message KrpcFault} (Ok x) (O
 same_ok x y e = cc
 
 -- what the message says the datagram says
-pub view_read : (bytes : List ℕ) (m : Message) (o : Option SaidView) → length bytes ≤ max_datagram → Says bytes m → ((other : Message) → Says bytes other → ◌≡◌ {A = Result Message KrpcFault} (Ok m) (Ok other)) → MatchOption o (SaysNothing m) (λ said. SaysAll m (said_seen said)) → MatchOption o (IsNoReply bytes) (λ said. IsReply bytes (said_seen said))
-view_read bytes m None believable says once nothing = λ w r lt h. nothing w r lt (subst (λ x. SaysTo (word_bytes w) x r) (sym (same_ok m h.message (once h.message h.says))) h.to_query)
-view_read bytes m (Some said) believable says once all = record {
-  replies = record { believable = believable; message = m; says = says; to_query = all.says_it };
-  same_id = λ w r lt h. all.same_id w r lt (subst (λ x. SaysTo (word_bytes w) x r) (sym (same_ok m h.message (once h.message h.says))) h.to_query);
-  same_reply = λ w r lt h. all.same_reply w r lt (subst (λ x. SaysTo (word_bytes w) x r) (sym (same_ok m h.message (once h.message h.says))) h.to_query);
+pub view_read : (bytes : List ℕ) (top : Value) (m : Message) (o : Option SaidView) → length bytes ≤ max_datagram → Spells bytes top → Says bytes m
+    → ((other : Message) → Says bytes other → ◌≡◌ {A = Result Message KrpcFault} (Ok m) (Ok other))
+    → MatchOption o (SaysNothing m) (λ said. SaysAll m (said_seen said)) → IfSome o (λ said. said.top ≡ top) → MatchOption o (IsNoReply bytes) (IsRead bytes)
+view_read bytes top m None believable spells says once nothing is = λ w r lt h. nothing w r lt (subst (λ x. SaysTo (word_bytes w) x r) (sym (same_ok m h.message (once h.message h.says))) h.to_query)
+view_read bytes top m (Some said) believable spells says once all is = record {
+  spelled = subst (Spells bytes) (sym is) spells;
+  says = record {
+    replies = record { believable = believable; message = m; says = says; to_query = all.says_it };
+    same_id = λ w r lt h. all.same_id w r lt (subst (λ x. SaysTo (word_bytes w) x r) (sym (same_ok m h.message (once h.message h.says))) h.to_query);
+    same_reply = λ w r lt h. all.same_reply w r lt (subst (λ x. SaysTo (word_bytes w) x r) (sym (same_ok m h.message (once h.message h.says))) h.to_query);
+  };
 }
 
 -- what is refused says nothing

@@ -3,7 +3,9 @@ use Rattle.std.specs.Prelude.{◌≡◌, ◌≢◌, ℕ, ◌^◌, ◌<◌, List}
 use Rattle.kad_base.specs.Words.{word_bytes}
 use Rattle.kad_krpc.specs.declared.message.Message.{Message}
 use Rattle.kad_krpc.specs.Reading.{Says}
-use Rattle.lookup_core.specs.Reply.{Reply, Said}
+use Rattle.kad_bencode.specs.Spelling.{Spells}
+use Rattle.lookup_core.specs.declared.reply.SaidView.{SaidView}
+use Rattle.lookup_core.specs.Reply.{Reply, Said, said_seen}
 use Rattle.lookup_core.specs.Matching.{SaysTo}
 use Rattle.lookup_core.specs.Quest.{IsBelievable}
 
@@ -37,3 +39,8 @@ pub record IsReply (bytes : List ℕ) (said : Said) : Type 0 where
   pub replies : RepliesTo bytes said.tx said.reply
   pub same_id : (w : ℕ) (r : Reply) → w < 2 ^ 32 → RepliesTo bytes w r → w ≡ said.tx
   pub same_reply : (w : ℕ) (r : Reply) → w < 2 ^ 32 → RepliesTo bytes w r → r ≡ said.reply
+
+-- the reply was read in the datagram: the value that it spells, and what that says
+pub record IsRead (bytes : List ℕ) (said : SaidView) : Type 0 where
+  pub spelled : Spells bytes said.top
+  pub says : IsReply bytes (said_seen said)

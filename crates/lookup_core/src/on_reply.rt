@@ -1,5 +1,5 @@
 //! Hearing: what a datagram is to the open queries, and what a reply gives the book.
-ghost use Rattle.std.specs.Prelude.{◌≡◌, ◌≤◌, ◌<◌, ◌↔◌, IsTrue, length, true, MatchOption, IfOk, OnOk, OnErr};
+ghost use Rattle.std.specs.Prelude.{◌≡◌, ◌≤◌, ◌<◌, ◌↔◌, ℕ, List, IsTrue, length, true, MatchOption, IfOk, OnOk, OnErr};
 ghost use Rattle.kad_base.specs.Contacts.{among};
 ghost use Rattle.kad_base.specs.Limits.{max_reports};
 ghost use Rattle.kad_krpc.specs.Views.{answer_seen};
@@ -9,7 +9,7 @@ ghost use Rattle.claim_book.specs.Calls.{asker};
 ghost use Rattle.claim_book.specs.State.{added};
 ghost use Rattle.lookup_core.specs.Reply as Reply;
 ghost use Rattle.lookup_core.specs.Reply.{reply_seen, said_seen};
-ghost use Rattle.lookup_core.specs.Says.{IsReply};
+ghost use Rattle.lookup_core.specs.Says.{IsRead};
 ghost use Rattle.lookup_core.specs.LookupSteps.{Holds, HearsReply, HearsAt, IsPlaceOf, RepliesToNone, Takes};
 
 use crate::quest::Quest;
@@ -71,8 +71,8 @@ fn tell_heard(book: &mut Book, contact: Contact, reports: Reports) -> Result<(),
     }
 }
 
-/// Tells the book what the contact answered: it is heard where it answers in its own name, and lost where the answer
-/// has another identifier.
+/// Tells the book what the contact answered: it is heard if it answers in its own name, and lost if the answer has another
+/// identifier. Without memory the book is as it was.
 fn hear_answer<'a>(
     alloc: Global,
     book: &mut Book,
@@ -81,8 +81,9 @@ fn hear_answer<'a>(
     answer: AnswerView<'a>,
 ) -> Result<Taken<'a>, NoMemory>
     requires { among (open_any book.old.journal) contact ≡ true }
-    ensures { IfOk result (HearsReply quest.now contact (Reply.Answer (answer_seen answer.entry))
+    ensures hears { IfOk result (HearsReply quest.now contact (Reply.Answer (answer_seen answer.entry))
         book.old book.new) }
+    ensures err { OnErr result (book.new ≡ book.old) }
 {
     if !is_own(&answer.id, &contact.id) {
         lose(book, contact, Cause::WrongId);
@@ -93,7 +94,7 @@ fn hear_answer<'a>(
     Ok(Taken::Heard(Answered { contact, answer }))
 }
 
-/// Tells the book the reply of the contact, whose query was open and is closed.
+/// Tells the book the reply of the contact, whose query is open. Without memory the book is as it was.
 fn on_reply<'a>(
     alloc: Global,
     book: &mut Book,
@@ -102,8 +103,9 @@ fn on_reply<'a>(
     reply: ReplyView<'a>,
 ) -> Result<Taken<'a>, NoMemory>
     requires { among (open_any book.old.journal) contact ≡ true }
-    ensures { IfOk result (HearsReply quest.now contact (reply_seen reply.entry) book.old
+    ensures hears { IfOk result (HearsReply quest.now contact (reply_seen reply.entry) book.old
         book.new) }
+    ensures err { OnErr result (book.new ≡ book.old) }
 {
     match reply {
         ReplyView::Answer(answer) => hear_answer(alloc, book, quest, contact, answer),
@@ -115,22 +117,20 @@ fn on_reply<'a>(
 }
 
 impl Lookup {
-    /// The place of the open query that the reply is to, where it is sealed as the lookup asks for; `None` where it is to none.
-    /// Tags are looked at last, and in a sealed lookup alone; only that takes memory.
+    /// The place of the open query that the reply, which was read in a datagram from that address, is to, if it is sealed as the
+    /// lookup asks for; `None` if it is to none. Tags are looked at last, and only in a sealed lookup; only that takes memory.
     pub fn place_of<G: SealCheck>(
         &self,
         alloc: Global,
         quest: &Quest,
         seal: &G,
         from: Addr,
-        bytes: &[u8],
         said: &SaidView,
     ) -> Result<Option<usize>, NoMemory>
-        requires holds { Holds self.now }
-        requires reads { IsReply bytes.now (said_seen said.now) }
-        ensures { IfOk result (λ place. MatchOption place
-            (RepliesToNone quest.now (G.accepted seal.now) from bytes.now self.now)
-            (IsPlaceOf quest.now (G.accepted seal.now) from bytes.now (said_seen said.now) self.now)) }
+        requires { Holds self.now }
+        ensures { IfOk result (λ place. (bytes : List ℕ) → IsRead bytes said.now → MatchOption place
+            (RepliesToNone quest.now (G.accepted seal.now) from bytes self.now)
+            (IsPlaceOf quest.now (G.accepted seal.now) from bytes (said_seen said.now) self.now)) }
     {
         // No two open queries have one transaction id.
         let _ = self.queries.len();
@@ -139,14 +139,14 @@ impl Lookup {
             None => return Ok(None),
         };
         let contact = self.queries.at(place).contact;
-        let sealed = is_sealed(alloc, quest.sealed, seal, &contact, &said.reply, bytes)?;
+        let sealed = is_sealed(alloc, quest.sealed, seal, &contact, said)?;
         if !sealed {
             return Ok(None);
         }
         Ok(Some(place))
     }
 
-    /// Closes the query at that place, and tells the book the reply to it.
+    /// Closes the query at that place, and tells the book the reply to it. Without memory all is as it was.
     pub fn hear<'a>(
         &mut self,
         alloc: Global,
@@ -158,15 +158,18 @@ impl Lookup {
         requires open { place < length self.old.queries }
         ensures hears { IfOk result (HearsAt quest.now place (reply_seen reply.entry) self.old self.new) }
         ensures holds { OnOk result (Holds self.new) }
+        ensures err { OnErr result (self.new ≡ self.old) }
     {
         self.book.legal();
-        let query = self.queries.remove(place);
-        on_reply(alloc, &mut self.book, quest, query.contact, reply)
+        let contact = self.queries.at(place).contact;
+        let taken = on_reply(alloc, &mut self.book, quest, contact, reply)?;
+        self.queries.remove(place);
+        Ok(taken)
     }
 
     /// Matches the datagram with the open query that it replies to, which is closed, and tells the book the reply; else
     /// it is a stray. The cheapest test comes first: whether who sent it was asked, what it says, which takes no memory,
-    /// whether that is to an open query, and its tag in a sealed lookup alone.
+    /// whether that is to an open query, and its tag, only in a sealed lookup. Without memory all is as it was.
     pub fn take<'a, G: SealCheck>(
         &mut self,
         alloc: Global,
@@ -179,6 +182,7 @@ impl Lookup {
         ensures takes { IfOk result (Takes quest.now (G.accepted seal.now) from bytes.now self.old
             self.new) }
         ensures holds { OnOk result (Holds self.new) }
+        ensures err { OnErr result (self.new ≡ self.old) }
     {
         if !self.queries.is_asked(from) {
             return Ok(Taken::Stray);
@@ -187,7 +191,7 @@ impl Lookup {
             Some(said) => said,
             None => return Ok(Taken::Stray),
         };
-        match self.place_of(alloc, quest, seal, from, bytes, &said)? {
+        match self.place_of(alloc, quest, seal, from, &said)? {
             Some(place) => self.hear(alloc, quest, place, said.reply),
             None => Ok(Taken::Stray),
         }

@@ -46,7 +46,7 @@ fn answers(contact: &Contact, reply: &ReplyView) -> bool
     }
 }
 
-/// What the datagram is to the ping. Tags are looked at last, and only where they are asked for.
+/// What the datagram is to the ping. Tags are looked at last, and only if they are asked for.
 pub(crate) fn pong_of<G: SealCheck>(
     alloc: Global,
     setting: &Setting,
@@ -68,14 +68,7 @@ pub(crate) fn pong_of<G: SealCheck>(
     if said.tx != tx {
         return Ok(Pong::Stray);
     }
-    match is_sealed(
-        alloc,
-        setting.sealed,
-        seal,
-        &query.contact,
-        &said.reply,
-        bytes,
-    ) {
+    match is_sealed(alloc, setting.sealed, seal, &query.contact, &said) {
         Ok(true) => {}
         Ok(false) => return Ok(Pong::Stray),
         Err(NoMemory) => return Err(NoMemory),

@@ -2,10 +2,11 @@
 ghost use Rattle.std.specs.Prelude.{IfOk};
 ghost use Rattle.kad_krpc.specs.Form.{IsWritable};
 
-use kad_base::{Id, List};
+use kad_base::{Id, List, NoMemory};
+use kad_bencode::Piece;
 use kad_krpc::{
-    Answer, Message, encode, encode_into, form_is_untagged, message_is_well_typed, seal_parts,
-    tag_into, with_tag,
+    Answer, Message, SealParts, encode, encode_into, form_is_untagged, message_is_well_typed,
+    parts_of, tag_into, with_tag,
 };
 use seal_tags::{GroupSeal, Seal};
 use std::alloc::Global;
@@ -101,6 +102,14 @@ fn an_error_message_is_tagged(rt: HostRuntime) -> Result<(), Fail> {
     )
 }
 
+/// A datagram taken apart; `None` if it is no bencode, or has no tag.
+fn parts_in(alloc: Global, datagram: &[u8]) -> Result<Option<SealParts>, NoMemory> {
+    match Piece::parse(datagram) {
+        Ok(top) => parts_of(alloc, &top),
+        Err(_) => Ok(None),
+    }
+}
+
 /// That a datagram is taken apart so.
 fn comes_apart(
     rt: &impl Abort,
@@ -109,7 +118,7 @@ fn comes_apart(
     body: &[u8],
     tag: &[u8],
 ) -> Result<(), Fail> {
-    match seal_parts(alloc, datagram)? {
+    match parts_in(alloc, datagram)? {
         Some(parts) => {
             assert!(rt; parts.body.as_slice() == body);
             assert!(rt; parts.tag.as_slice() == tag);
@@ -141,7 +150,7 @@ fn a_tagged_datagram_comes_apart(rt: HostRuntime) -> Result<(), Fail> {
 }
 
 fn has_no_tag(rt: &impl Abort, alloc: Global, datagram: &[u8]) -> Result<(), Fail> {
-    match seal_parts(alloc, datagram)? {
+    match parts_in(alloc, datagram)? {
         Some(_) => assert!(rt; false, "a tag"),
         None => {}
     }

@@ -5,15 +5,15 @@ use Rattle.look_many.proofs.Lists.{all_more}
 use Rattle.look_many.proofs.take.first_that_waits.Goals as goal
 
 pub returns-in-Ok-Some : goal.returns-in-Ok-Some
-returns-in-Ok-Some g c = record {
+returns-in-Ok-Some g c bytes reads = record {
   one = c.index-seekers-i.result;
   here = slice_get-get_or c.args.seekers.now c.loop-i.i c.index-seekers-i.result c.loop-i-test.true ∙ ap Some (sym c.index-seekers-i.is);
-  none_before = c.loop-i.invariant;
-  waits = rw c.in-Ok-Some.field-0-is at c.in-Ok-Some.ensures;
+  none_before = c.loop-i.invariant bytes reads;
+  waits = (rw c.in-Ok-Some.field-0-is at c.in-Ok-Some.ensures) bytes reads;
 }
 
 pub loop-i-preserved : goal.loop-i-preserved
-loop-i-preserved g c =
+loop-i-preserved g c bytes reads =
     let accepts = g.G.SealCheck.accepted c.args.seal.now in
-    let none = rw c.in-Ok-None.field-0-is at c.in-Ok-None.ensures in
-    all_more (λ k. IsNotFor accepts c.args.from c.args.bytes.now k) c.loop-i.i c.args.seekers.now c.index-seekers-i.result c.loop-i-test.true c.loop-i.invariant (subst (λ k. IsNotFor accepts c.args.from c.args.bytes.now k) c.index-seekers-i.is none)
+    let none = (rw c.in-Ok-None.field-0-is at c.in-Ok-None.ensures) bytes reads in
+    all_more (λ k. IsNotFor accepts c.args.from bytes k) c.loop-i.i c.args.seekers.now c.index-seekers-i.result c.loop-i-test.true (c.loop-i.invariant bytes reads) (subst (λ k. IsNotFor accepts c.args.from bytes k) c.index-seekers-i.is none)

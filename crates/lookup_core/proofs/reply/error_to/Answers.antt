@@ -7,8 +7,8 @@ use Rattle.lookup_core.specs.Says.{SaysAll}
 use Rattle.lookup_core.proofs.Replying.{says_fault}
 use Rattle.lookup_core.proofs.reply.error_to.Goals as goal
 
-pub returns-in-Some : goal.returns-in-Some
-returns-in-Some c text =
+pub returns-in-Some-clause-says : goal.returns-in-Some-clause-says
+returns-in-Some-clause-says c text =
     let small : c.in-Some.word < 4294967296 = omega arith in
     let e : c.args.tx.now ≡ word_bytes c.in-Some.word = search rules in
     let code : to_z w64 (of_z w64 c.args.code) ≡ c.args.code = search rules in

@@ -4,4 +4,4 @@ use Rattle.lookup_core.proofs.Tags.{asks_for}
 use Rattle.lookup_core.proofs.sealed.is_sealed.Goals as goal
 
 pub returns : goal.returns
-returns g c = asks_for (g.G.SealCheck.accepted c.args.seal.now) c.args.bytes.now (speaker c.args.contact.now (reply_seen c.args.reply.now)) c.speaker.result c.args.sealed c.has_tag.result c.if-not-sealed.false c.speaker.ensures c.has_tag.ensures
+returns g c = asks_for (g.G.SealCheck.accepted c.args.seal.now) c.args.said.now.top (speaker c.args.contact.now (reply_seen c.args.said.now.reply)) c.speaker.result c.args.sealed c.has_tag.result c.if-not-sealed.false c.speaker.ensures c.has_tag.ensures

@@ -11,10 +11,10 @@ returns-in-None g c =
 pub returns-then-said-tx : goal.returns-then-said-tx
 returns-then-said-tx g c =
     let small : c.args.query.now.tx < 4294967296 = omega arith in
-    stray_other c.args.setting.now.sealed (g.G.SealCheck.accepted c.args.seal.now) c.args.query.now c.args.from c.args.bytes.now (said_seen c.in-Some.said) small c.in-Some.ensures c.if-said-tx.true
+    stray_other c.args.setting.now.sealed (g.G.SealCheck.accepted c.args.seal.now) c.args.query.now c.args.from c.args.bytes.now (said_seen c.in-Some.said) small c.in-Some.ensures.says c.if-said-tx.true
 
 pub returns-in-Ok-false : goal.returns-in-Ok-false
 returns-in-Ok-false g c =
     let small : c.args.query.now.tx < 4294967296 = omega arith in
-    stray_untagged c.args.setting.now.sealed (g.G.SealCheck.accepted c.args.seal.now) c.args.query.now c.args.from c.args.bytes.now (said_seen c.in-Some.said) small c.in-Some.ensures
-    (λ h. (let is = c.in-Ok-false.ensures.1 h in let no = c.in-Ok-false.field-0-test in absurd cc))
+    stray_untagged c.args.setting.now.sealed (g.G.SealCheck.accepted c.args.seal.now) c.args.query.now c.args.from c.args.bytes.now (said_seen c.in-Some.said) small c.in-Some.ensures.says
+    (λ h. (let is = (c.in-Ok-false.ensures c.args.bytes.now c.in-Some.ensures.spelled).1 h in let no = c.in-Ok-false.field-0-test in absurd cc))
