@@ -1,7 +1,8 @@
 -- Texts that are put one behind another.
 use Rattle.std.proofs.Common.{◌≡◌, ℕ, ◌+◌, ◌<◌, ◌≤◌, ◌^◌, min, List, [], ◌∷◌, ◌++◌, length, take, decimal, sym, ap, ◌∙◌, arith, length-append, append_assoc, append-nil}
 use Rattle.std.proofs.lemmas.Grind.{flat_map-append}
-use Rattle.std.proofs.lemmas.List.{map-append}
+use Rattle.std.proofs.lemmas.List.{map-append, take_all}
+use Rattle.std.proofs.Math.Seq.{take-append_seam}
 use Rattle.kad_bencode.specs.Spelling.{numeral, string_text, pairs_text, text_of}
 use Rattle.kad_bencode.specs.Faults.{pairs_of}
 use Rattle.kad_bencode.specs.Written.{Puts, PutsPairs, PutsOpen, last_place}
@@ -34,6 +35,20 @@ puts_same {old} {new} {at} {next} {text} {other} e p = record {
   text_is = λ h. p.text_is h ∙ ap (λ xs. take at old ++ xs) (sym e);
   room = p.room;
 }
+
+-- a text put behind what was there, into room that was made for it
+pub appended : (old filler rest : List ℕ) {mid new text : List ℕ} {from end next n : ℕ} → from ≡ length old → from ≤ last_place
+    → end ≡ min (from + length text) last_place → mid ≡ take end old ++ filler → length mid ≡ end → n ≡ end
+    → Puts mid new from text next → take n (new ++ rest) ≡ old ++ text
+appended old filler rest {mid} {new} {text} {from} {end} {next} {n} f few e m l k p =
+    let q = p.place in
+    let r = p.room in
+    let long : n ≡ length new = omega (arith, k, l, r) in
+    let front : take end old ≡ old = take_all end old (omega (arith, e, f, few)) in
+    ap (λ n. take n (new ++ rest)) long ∙ take-append_seam new rest
+    ∙ sym (take_all next new (omega (arith, e, l, q, r)))
+    ∙ p.text_is (omega (arith, e, l, q))
+    ∙ ap (λ xs. xs ++ text) (ap (take from) (m ∙ ap (λ xs. xs ++ filler) front) ∙ ap (λ n. take n (old ++ filler)) f ∙ take-append_seam old filler)
 
 pub length_written : (n : ℕ) (mid : List ℕ) → n < 2 ^ 64 → mid ≡ decimal n → numeral n ++ 58 ∷ [] ≡ mid ++ 58 ∷ []
 length_written n mid f h = ap (λ l. l ++ 58 ∷ []) (sym (decimal_numeral n f) ∙ sym h)

@@ -1,5 +1,5 @@
 -- The steps of the writer.
-use Rattle.std.proofs.Common.{◌≡◌, ℕ, zero, suc, ◌+◌, ◌%◌, ◌^◌, ◌<◌, ◌≤◌, List, [], ◌∷◌, ◌++◌, map, length, take, get_or, Result, Ok, Err, ℤ, pos, negsuc, refl, sym, ap, ◌∙◌, subst, arith, append_assoc, decimal, w64}
+use Rattle.std.proofs.Common.{◌≡◌, ℕ, zero, suc, ◌+◌, ◌%◌, ◌^◌, ◌<◌, ◌≤◌, List, [], ◌∷◌, ◌++◌, map, length, take, get_or, ℤ, pos, negsuc, refl, sym, ap, ◌∙◌, arith, decimal, w64}
 use Rattle.std.specs.List.{concat}
 use Rattle.std.specs.Fmt.{signed_decimal}
 use Rattle.std.proofs.lemmas.Fmt.{decimal_by_steps}
@@ -8,7 +8,6 @@ use mir.Val.{SFits, of_z, to_z}
 use Rattle.std.proofs.lemmas.List.{take_more, take_all}
 use Rattle.kad_bencode.specs.Spelling.{numeral, integer_text, string_text, pairs_text, text_of, depth_of, greatest}
 use Rattle.kad_bencode.specs.Faults.{pairs_of}
-use Rattle.kad_bencode.specs.Written.{Keeps, Appends}
 use Rattle.kad_bencode.specs.declared.entries.Pair.{Pair}
 use Rattle.kad_bencode.specs.declared.value.Value.{Value}
 use Rattle.kad_bencode.specs.declared.value.Value.TheVariants as value
@@ -33,17 +32,6 @@ integer_as (negsuc n) w mid e f h =
 
 pub integer_written : (z : ℤ) (mid : List ℕ) → SFits w64 z → mid ≡ signed_decimal (to_z w64 (of_z w64 z)) → integer_text z ≡ (105 ∷ mid) ++ 101 ∷ []
 integer_written z mid f h = integer_as z (to_z w64 (of_z w64 z)) mid (to_z-of_z w64 z f) f h
-
-pub string_written : (s mid : List ℕ) → length s < 2 ^ 64 → mid ≡ decimal (length s) → string_text s ≡ (mid ++ 58 ∷ []) ++ s
-string_written s mid f h = ap (λ l. l ++ 58 ∷ s) (sym (decimal_numeral (length s) f) ∙ sym h) ∙ sym (append_assoc mid (58 ∷ []) s)
-
--- what comes behind a front
-pub appends_after : {E : Type 0} (r : Result (Unit {0}) E) (old mid new front text all : List ℕ) → mid ≡ old ++ front → all ≡ front ++ text → Appends r mid new text → Appends r old new all
-appends_after (Ok u) old mid new front text all e f h = h ∙ ap (λ l. l ++ text) e ∙ append_assoc old front text ∙ ap (λ l. old ++ l) (sym f)
-appends_after (Err x) old mid new front text all e f h = (front ++ h.0, h.1 ∙ ap (λ l. l ++ h.0) e ∙ append_assoc old front h.0)
-
-pub kept_after : (old mid new front : List ℕ) → mid ≡ old ++ front → Keeps mid new → Keeps old new
-kept_after old mid new front e h = (front ++ h.0, h.1 ∙ ap (λ l. l ++ h.0) e ∙ append_assoc old front h.0)
 
 -- ---- children
 
@@ -77,14 +65,10 @@ pairs_text_more ps i p h e = ap (λ l. pairs_text (pairs_of l)) (take_more ps i 
 
 -- ---- the whole
 
-pub list_written : {E : Type 0} (r : Result (Unit {0}) E) (v : Value) (vs xs : List Value) (i : ℕ) (old mid new : List ℕ) → v ≡ value.List vs → xs ≡ vs → length xs ≤ i → mid ≡ old ++ 108 ∷ concat (map text_of (take i xs)) → Appends r mid new (101 ∷ []) → Appends r old new (text_of v)
-list_written r v vs xs i old mid new e x h m a =
-    appends_after r old mid new (108 ∷ concat (map text_of vs)) (101 ∷ []) (text_of v) (m ∙ ap (λ l. old ++ 108 ∷ concat (map text_of l)) (take_all i xs h ∙ x)) (ap text_of e ∙ text_of-list vs) a
+pub list_text : (v : Value) (vs xs : List Value) (i : ℕ) → v ≡ value.List vs → xs ≡ vs → length xs ≤ i
+    → text_of v ≡ (108 ∷ concat (map text_of (take i xs))) ++ 101 ∷ []
+list_text v vs xs i e x h = ap text_of e ∙ text_of-list vs ∙ ap (λ l. 108 ∷ concat (map text_of l) ++ 101 ∷ []) (sym (take_all i xs h ∙ x))
 
-pub dictionary_written : {E : Type 0} (r : Result (Unit {0}) E) (v : Value) (ps xs : List (Pair Value)) (i : ℕ) (old mid new : List ℕ) → v ≡ value.Dict ps → xs ≡ ps → length xs ≤ i → mid ≡ old ++ 100 ∷ pairs_text (pairs_of (take i xs)) → Appends r mid new (101 ∷ []) → Appends r old new (text_of v)
-dictionary_written r v ps xs i old mid new e x h m a =
-    appends_after r old mid new (100 ∷ pairs_text (pairs_of ps)) (101 ∷ []) (text_of v) (m ∙ ap (λ l. old ++ 100 ∷ pairs_text (pairs_of l)) (take_all i xs h ∙ x)) (ap text_of e ∙ text_of-dict ps) a
-
--- an exit where a child was being written
-pub kept_exit : {E : Type 0} (r : Result (Unit {0}) E) (y : E) (old mid new front text : List ℕ) → r ≡ Err y → mid ≡ old ++ front → Keeps mid new → Appends r old new text
-kept_exit {E} r y old mid new front text e m k = subst (λ (x : Result (Unit {0}) E). Appends x old new text) (sym e) (kept_after old mid new front m k)
+pub dictionary_text : (v : Value) (ps xs : List (Pair Value)) (i : ℕ) → v ≡ value.Dict ps → xs ≡ ps → length xs ≤ i
+    → text_of v ≡ (100 ∷ pairs_text (pairs_of (take i xs))) ++ 101 ∷ []
+dictionary_text v ps xs i e x h = ap text_of e ∙ text_of-dict ps ∙ ap (λ l. 100 ∷ pairs_text (pairs_of l) ++ 101 ∷ []) (sym (take_all i xs h ∙ x))

@@ -1,17 +1,9 @@
 -- What writing leaves.
-use Rattle.std.specs.Prelude.{◌≡◌, ℕ, ◌+◌, ◌-◌, ◌^◌, ◌≤◌, min, List, ◌∷◌, ◌++◌, length, take, Result, MatchResult}
+use Rattle.std.specs.Prelude.{◌≡◌, ℕ, ◌+◌, ◌-◌, ◌^◌, ◌≤◌, min, List, ◌∷◌, ◌++◌, length, take}
 use Rattle.kad_bencode.specs.Spelling.{pairs_text}
 use Rattle.kad_bencode.specs.Faults.{pairs_of}
 use Rattle.kad_bencode.specs.declared.entries.Pair.{Pair}
 use Rattle.kad_bencode.specs.declared.value.Value.{Value}
-
--- what was there stays in front
-abbrev pub Keeps : List ℕ → List ℕ → Type 0
-Keeps old new = (more : List ℕ) × (new ≡ old ++ more)
-
--- the text is at the end, or what was there is still in front
-abbrev pub Appends : {E : Type 0} → Result (Unit {0}) E → List ℕ → List ℕ → List ℕ → Type 0
-Appends result old new text = MatchResult result (λ _. new ≡ old ++ text) (λ _. Keeps old new)
 
 -- the greatest place that there is
 abbrev pub last_place : ℕ

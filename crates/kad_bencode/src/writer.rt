@@ -1,10 +1,10 @@
 //! Writes bencode (BEP 3).
 ghost use Rattle.std.specs.Prelude.{◌≡◌, ◌≤◌, ◌++◌, OnOk, OnErr};
-ghost use Rattle.kad_bencode.specs.Spelling.{text_of, depth_of, integer_text, string_text};
-ghost use Rattle.kad_bencode.specs.Written.{Appends};
+ghost use Rattle.kad_bencode.specs.Spelling.{text_of, depth_of};
+ghost use Rattle.kad_bencode.specs.Written.{Puts};
 
+use crate::into::{put_integer, put_part, put_string};
 use crate::value::Value;
-use itoa::Buffer;
 use kad_base::NoMemory;
 
 /// Appends the written form: each dictionary has its keys in ascending order, so a value has one. An `Err` leaves what
@@ -14,62 +14,36 @@ pub fn write(value: &Value, to: &mut Vec<u8>) -> Result<(), NoMemory>
     ensures ok { OnOk result (to.new.items ≡ to.old.items ++ text_of value.now) }
     ensures err { OnErr result (to.new.items ≡ to.old.items) }
 {
-    let before = to.len();
-    match append_value(value, to) {
-        Ok(()) => Ok(()),
-        Err(NoMemory) => {
-            to.truncate(before);
-            Err(NoMemory)
-        }
-    }
+    let from = to.len();
+    let mut nowhere = [0u8; 0];
+    let end = put_value(&mut nowhere, from, value);
+    to.resize(end, 0)?;
+    let _end = put_value(to.as_mut_slice(), from, value);
+    Ok(())
 }
 
-/// Appends bytes, or leaves what was there.
-fn append(to: &mut Vec<u8>, bytes: &[u8]) -> Result<(), NoMemory>
-    ensures { Appends result to.old.items to.new.items bytes.now }
-{
-    Ok(to.extend_from_slice(bytes)?)
-}
-
-fn append_integer(number: i64, to: &mut Vec<u8>) -> Result<(), NoMemory>
-    ensures { Appends result to.old.items to.new.items (integer_text number) }
-{
-    let mut buffer = Buffer::new();
-    append(to, b"i")?;
-    append(to, buffer.format(number).as_bytes())?;
-    append(to, b"e")
-}
-
-fn append_string(text: &[u8], to: &mut Vec<u8>) -> Result<(), NoMemory>
-    ensures { Appends result to.old.items to.new.items (string_text text.now) }
-{
-    let mut buffer = Buffer::new();
-    append(to, buffer.format(text.len()).as_bytes())?;
-    append(to, b":")?;
-    append(to, text)
-}
-
-fn append_value(value: &Value, to: &mut Vec<u8>) -> Result<(), NoMemory>
+/// Puts the written form of a value.
+fn put_value(buf: &mut [u8], from: usize, value: &Value) -> usize
     requires { depth_of value.now ≤ 16 }
-    ensures { Appends result to.old.items to.new.items (text_of value.now) }
+    ensures { Puts buf.old buf.new from (text_of value.now) result }
 {
     match value {
-        Value::Int(number) => append_integer(*number, to),
-        Value::Text(text) => append_string(text.as_slice(), to),
+        Value::Int(number) => put_integer(buf, from, *number),
+        Value::Text(text) => put_string(buf, from, text.as_slice()),
         Value::List(values) => {
-            append(to, b"l")?;
+            let mut at = put_part(buf, from, b"l");
             'values: for item in values.as_slice() {
-                append_value(item, to)?;
+                at = put_value(buf, at, item);
             }
-            append(to, b"e")
+            put_part(buf, at, b"e")
         }
         Value::Dict(entries) => {
-            append(to, b"d")?;
+            let mut at = put_part(buf, from, b"d");
             'pairs: for pair in entries.as_slice() {
-                append_string(pair.key.as_slice(), to)?;
-                append_value(&pair.value, to)?;
+                at = put_string(buf, at, pair.key.as_slice());
+                at = put_value(buf, at, &pair.value);
             }
-            append(to, b"e")
+            put_part(buf, at, b"e")
         }
     }
 }
