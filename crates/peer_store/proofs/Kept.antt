@@ -1,5 +1,5 @@
 -- What is kept stays so through an add and a purge.
-use Rattle.std.proofs.Common.{◌≡◌, ◌≢◌, ◌↔◌, ℕ, ◌+◌, ◌≤◌, List, [], ◌∷◌, length, Result, Ok, refl, sym, subst, arith}
+use Rattle.std.proofs.Common.{◌≡◌, ◌≢◌, ◌↔◌, ℕ, ◌+◌, ◌≤◌, List, [], ◌∷◌, length, Result, Ok, Err, refl, sym, subst, arith}
 use Rattle.std.specs.List.{All}
 use Rattle.std.specs.List.Sorted.{IsStrictlySortedBy}
 use Rattle.std.specs.Map.{keys_of}
@@ -12,7 +12,9 @@ use Rattle.kad_base.specs.declared.types.NoMemory.{NoMemory}
 use Rattle.aged_map.specs.declared.aged.Stored.{Stored}
 use Rattle.aged_map.specs.declared.aged.Stored.TheVariants.{New, Renewed}
 use Rattle.peer_store.specs.Between.{IsBetween, AreBetween, IsKept}
-use Rattle.peer_store.specs.Peers.{Pair, Held, Holds, HasNoPlace, pair_cmp, is_fresh, with_add, purged}
+use Rattle.peer_store.specs.Peers.{Pair, Held, Holds, HasNoPlace, HasPlace, pair_cmp, is_fresh, with_add, purged}
+use Rattle.peer_store.specs.declared.peers.PeerFault.{PeerFault}
+use Rattle.peer_store.specs.declared.peers.PeerFault.TheVariants as fault
 
 -- what holds of all, of the pair that is added, and whatever its last add is, holds after the add
 All-with_add : (P : Held → Type 0) (held : List Held) (pair : Pair) (at : ℕ) → ((h : Held) → P h → P (h.0, at)) → P (pair, at) → All P held → All P (with_add held pair at)
@@ -52,3 +54,11 @@ few_after held pair n New le old place same holds =
   where
     apart : ◌≡◌ {A = Result Stored NoMemory} (Ok New) (Ok Renewed) → ⊥
     apart e = absurd cc
+
+-- memory runs out only if the pair isn't held and has a place
+pub comes_new : (held : List Held) (pair : Pair) (r : Result Stored PeerFault) → ◌≡◌ {A = Result Stored PeerFault} r (Err fault.NoMemory)
+    → (◌≡◌ {A = Result Stored PeerFault} r (Ok Renewed)) ↔ Holds held pair → (◌≡◌ {A = Result Stored PeerFault} r (Err fault.Full)) ↔ HasNoPlace held pair → HasPlace held pair
+comes_new held pair r e renewed full = record { absent = absent; room = λ l. (let f = full.1 (absent, l) in absurd cc) }
+  where
+    absent : ¬ (Holds held pair)
+    absent h = (let f = renewed.1 h in absurd cc)

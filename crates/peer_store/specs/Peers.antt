@@ -50,6 +50,11 @@ Holds held pair = IsTrue (list_any (λ p. is_eq (pair_cmp pair p)) (keys_of held
 abbrev pub HasNoPlace : List Held → Pair → Type 0
 HasNoPlace held pair = (¬ (Holds held pair)) × (length held ≡ max_peers)
 
+-- the pair has a place to come: it isn't held, and fewer are than may be
+pub record HasPlace (held : List Held) (pair : Pair) : Type 0 where
+  pub absent : ¬ (Holds held pair)
+  pub room : ¬ (length held ≡ max_peers)
+
 -- the last add is less than the greatest age before the moment. One after the moment counts as 0 before it.
 abbrev pub is_fresh : ℕ → Held → Bool
 is_fresh at h = nat_lt (at - h.1) max_age
