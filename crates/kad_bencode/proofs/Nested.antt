@@ -1,21 +1,17 @@
 -- The steps of the reader over values, lists and dictionaries.
-use Rattle.std.proofs.Common.{◌≡◌, ℕ, suc, ◌+◌, ◌-◌, ◌<◌, ◌≤◌, Bool, true, false, cond, ◌||◌, List, [], ◌∷◌, ◌++◌, map, length, take, drop, get_or, Option, Some, None, is_some, option_copied, Bor, ℤ, nat_eq, refl, sym, ap, ◌∙◌, arith, inl, inr}
+use Rattle.std.proofs.Common.{◌≡◌, ℕ, suc, ◌+◌, ◌-◌, ◌<◌, ◌≤◌, Bool, true, false, cond, List, [], ◌∷◌, ◌++◌, length, take, drop, get_or, Option, Some, None, is_some, option_copied, Bor, ℤ, nat_eq, refl, sym, ap, ◌∙◌, arith, inl, inr}
 use Rattle.std.specs.List.{AllByRecursion}
-use Rattle.std.specs.Ordering.{is_eq, match_ordering}
-use Rattle.std.specs.declared.cmp.Ordering.TheVariants.{Less, Equal, Greater}
-use Rattle.std.proofs.lemmas.Map.Lookups.{exact_bytes}
 use Rattle.std.proofs.lemmas.Bool.Decides.{nat_tests}
-use Rattle.std.proofs.lemmas.List.{take_all, map-append}
+use Rattle.std.proofs.lemmas.List.{take_all}
 use Rattle.std.proofs.Math.Seq.{drop-cons}
-use Rattle.kad_bencode.specs.Keys.{key_cmp, keys_of, put, value_of}
-use Rattle.kad_bencode.specs.Spelling.{string_text, has_key, in_order, put_all, Fits, Spells}
+use Rattle.kad_bencode.specs.Keys.{keys_of}
+use Rattle.kad_bencode.specs.Spelling.{string_text, has_key, in_order, Fits, Spells}
 use Rattle.kad_bencode.specs.Faults.{Open, InList, InPair, IsAt, IsFirstFault}
 use Rattle.kad_bencode.specs.Machine.{Place, AsValue, AsKey, State, Ready, Keyless, Whole, Sign, NoLength, Length, filled, closed, is_digit, is_nonzero, length_begins, step, Reached, FitsPairs, FitsOpen, Awaits, AwaitsInteger, AwaitsString, ReadsValue, ReadsInteger, ReadsString, HasByte}
 use Rattle.kad_bencode.specs.declared.entries.Pair.{Pair}
 use Rattle.kad_bencode.specs.declared.value.Value.{Value}
 use Rattle.kad_bencode.specs.declared.value.Value.TheVariants as value
 use Rattle.kad_bencode.specs.declared.value.Bad.TheVariants.{Deep, KeyTwice, Trailing}
-use Rattle.kad_bencode.proofs.Folds.{in_order-int, in_order-text, in_order-list, in_order-dict, ordered_pairs, keys_mapped}
 use Rattle.kad_bencode.proofs.Said.{run_front, is_equal}
 use Rattle.kad_bencode.proofs.Limits.{all_push, fits_list, fits_dict, fits_text, fits_int, at_most_16, fits_pairs_push}
 use Rattle.kad_bencode.proofs.First.{reached_more, first}
@@ -26,12 +22,11 @@ use Rattle.kad_bencode.proofs.Reading.{different, stands_between, length_between
 pub awaits_integer : (bytes : List ℕ) (at : ℕ) (os : List Open) → Awaits bytes at os → AwaitsInteger bytes at os
 awaits_integer bytes at os a = record { begins = a.reached; fits = a.fits }
 
-pub integer_value : (bytes : List ℕ) (at : ℕ) (os : List Open) (n : ℤ) (next : ℕ) → Awaits bytes at os → ReadsInteger bytes at os n next → ReadsValue bytes at os (value.Int n) next
+pub integer_value : (bytes : List ℕ) (at : ℕ) (os : List Open) (n : ℤ) (next : ℕ) → Awaits bytes at os → ReadsInteger bytes at os n next → ReadsValue bytes at os next
 integer_value bytes at os n next a r = record {
   tree = value.Int n;
   reached = r.reached;
   fits = fits_int (length os) n (at_most_16 os a.fits) r.plain;
-  names = sym (in_order-int n);
   within = r.within;
   after = r.after;
 }
@@ -62,8 +57,8 @@ list_opened bytes at os a h = reached_more bytes at (Ready os) (Ready (InList []
 pub dictionary_opened : (bytes : List ℕ) (at : ℕ) (os : List Open) → Awaits bytes at os → HasByte bytes at 100 true → Reached bytes (at + 1) (Keyless os [])
 dictionary_opened bytes at os a h = reached_more bytes at (Ready os) (Keyless os []) a.reached h.0 (ap (step (Ready os)) h.1)
 
-pub opened_value : (bytes : List ℕ) (at : ℕ) (os : List Open) (v : Value) (next : ℕ) → ReadsValue bytes (at + 1) os v next → ReadsValue bytes at os v next
-opened_value bytes at os v next r = let after : at + 1 < next = r.after in record { tree = r.tree; reached = r.reached; fits = r.fits; names = r.names; within = r.within; after = omega arith }
+pub opened_value : (bytes : List ℕ) (at : ℕ) (os : List Open) (next : ℕ) → ReadsValue bytes (at + 1) os next → ReadsValue bytes at os next
+opened_value bytes at os next r = let after : at + 1 < next = r.after in record { tree = r.tree; reached = r.reached; fits = r.fits; within = r.within; after = omega arith }
 
 no_length : (p : Place) (b : ℕ) → is_digit b ≡ false → length_begins p b ≡ None
 no_length p b h =
@@ -95,113 +90,60 @@ awaits_text bytes at os a i l d = record {
   goes = λ h n. stuck_ready os (get_or bytes at 0) (i h) (l h) (d h) (a.goes h) n;
 }
 
-pub text_value : (bytes : List ℕ) (at : ℕ) (os : List Open) (s t : List ℕ) (next : ℕ) → t ≡ s → Awaits bytes at os → ReadsString bytes at (AsValue os) s next → ReadsValue bytes at os (value.Text t) next
-text_value bytes at os s t next e a r = record {
+pub text_value : (bytes : List ℕ) (at : ℕ) (os : List Open) (s : List ℕ) (next : ℕ) → Awaits bytes at os → ReadsString bytes at (AsValue os) s next → ReadsValue bytes at os next
+text_value bytes at os s next a r = record {
   tree = value.Text s;
   reached = r.reached;
   fits = fits_text (length os) s (at_most_16 os a.fits);
-  names = ap value.Text e ∙ sym (in_order-text s);
   within = r.within;
   after = r.after;
 }
 
 -- ---- lists
 
-pub record ListSoFar (bytes : List ℕ) (at : ℕ) (os : List Open) (values : List Value) : Type 0 where
+pub record ListSoFar (bytes : List ℕ) (at : ℕ) (os : List Open) : Type 0 where
   pub trees : List Value
   pub reached : Reached bytes at (Ready (InList trees ∷ os))
   pub fits : AllByRecursion (Fits (suc (length os))) trees
-  pub names : values ≡ map in_order trees
 
-pub list_awaits : (bytes : List ℕ) (at : ℕ) (os : List Open) (values : List Value) → (l : ListSoFar bytes at os values) → suc (length os) ≤ 16 → FitsOpen os → at ≤ length bytes → HasByte bytes at 101 false → Awaits bytes at (InList l.trees ∷ os)
-list_awaits bytes at os values l d f h n = record { reached = l.reached; fits = (d, l.fits, f); within = h; goes = λ k e. absurd (n k e) }
+pub list_awaits : (bytes : List ℕ) (at : ℕ) (os : List Open) (l : ListSoFar bytes at os) → suc (length os) ≤ 16 → FitsOpen os → at ≤ length bytes → HasByte bytes at 101 false → Awaits bytes at (InList l.trees ∷ os)
+list_awaits bytes at os l d f h n = record { reached = l.reached; fits = (d, l.fits, f); within = h; goes = λ k e. absurd (n k e) }
 
-pub list_more : (bytes : List ℕ) (at : ℕ) (os : List Open) (values : List Value) (v : Value) (next : ℕ) → (l : ListSoFar bytes at os values) → ReadsValue bytes at (InList l.trees ∷ os) v next → ListSoFar bytes next os (values ++ v ∷ [])
-list_more bytes at os values v next l r = record {
+pub list_more : (bytes : List ℕ) (at : ℕ) (os : List Open) (next : ℕ) (l : ListSoFar bytes at os) → ReadsValue bytes at (InList l.trees ∷ os) next → ListSoFar bytes next os
+list_more bytes at os next l r = record {
   trees = l.trees ++ r.tree ∷ [];
   reached = r.reached;
   fits = all_push (Fits (suc (length os))) l.trees r.tree l.fits r.fits;
-  names = (λ i. l.names i ++ r.names i ∷ []) ∙ sym (map-append in_order l.trees (r.tree ∷ []));
 }
 
-pub list_ends : (bytes : List ℕ) (from at : ℕ) (os : List Open) (values : List Value) → ListSoFar bytes at os values → suc (length os) ≤ 16 → from ≤ at → HasByte bytes at 101 true → ReadsValue bytes from os (value.List values) (at + 1)
-list_ends bytes from at os values l d k h =
+pub list_ends : (bytes : List ℕ) (from at : ℕ) (os : List Open) → ListSoFar bytes at os → suc (length os) ≤ 16 → from ≤ at → HasByte bytes at 101 true → ReadsValue bytes from os (at + 1)
+list_ends bytes from at os l d k h =
     let inside : at < length bytes = h.0 in
     record {
       tree = value.List l.trees;
       reached = reached_more bytes at (Ready (InList l.trees ∷ os)) (filled os (value.List l.trees)) l.reached h.0 (ap (step (Ready (InList l.trees ∷ os))) h.1);
       fits = fits_list (length os) l.trees d l.fits;
-      names = ap value.List l.names ∙ sym (in_order-list l.trees);
       within = omega arith;
       after = omega arith;
     }
 
 -- ---- dictionaries
 
-pub record PairsSoFar (bytes : List ℕ) (at : ℕ) (os : List Open) (entries : List (Pair Value)) : Type 0 where
+pub record PairsSoFar (bytes : List ℕ) (at : ℕ) (os : List Open) : Type 0 where
   pub pairs : List (Pair Value)
   pub reached : Reached bytes at (Keyless os pairs)
   pub fits : FitsPairs os pairs
-  pub names : entries ≡ put_all [] (ordered_pairs pairs)
 
-pub pairs_await : (bytes : List ℕ) (at : ℕ) (os : List Open) (entries : List (Pair Value)) → (l : PairsSoFar bytes at os entries) → FitsOpen os → at ≤ length bytes → HasByte bytes at 101 false → AwaitsString bytes at (AsKey os l.pairs)
-pairs_await bytes at os entries l f h n = record {
+pub pairs_await : (bytes : List ℕ) (at : ℕ) (os : List Open) (l : PairsSoFar bytes at os) → FitsOpen os → at ≤ length bytes → HasByte bytes at 101 false → AwaitsString bytes at (AsKey os l.pairs)
+pairs_await bytes at os l f h n = record {
   reached = l.reached;
   fits = (l.fits, f);
   within = h;
   goes = λ k e. ap (λ c. cond c (Some (filled os (value.Dict l.pairs))) (length_begins (AsKey os l.pairs) (get_or bytes at 0))) (different (get_or bytes at 0) 101 (n k)) ∙ no_length (AsKey os l.pairs) (get_or bytes at 0) e;
 }
 
--- whether a key is there
-some_cond : {V : Type 0} (b : Bool) (v : V) (o : Option V) → is_some (cond b (Some v) o) ≡ (b || is_some o)
-some_cond true v o = refl
-some_cond false v o = refl
-
-or_swap : (a b c : Bool) → (a || (b || c)) ≡ (b || (a || c))
-or_swap true true c = refl
-or_swap true false c = refl
-or_swap false b c = refl
-
-or_twice : (a c : Bool) → (a || c) ≡ (a || (a || c))
-or_twice true c = refl
-or_twice false c = refl
-
-there_put : {V : Type 0} (ps : List (Pair V)) (k : List ℕ) (v : V) (key : List ℕ) → is_some (value_of (put ps k v) key) ≡ (is_eq (key_cmp key k) || is_some (value_of ps key))
-there_put [] k v key = some_cond (is_eq (key_cmp key k)) v None
-there_put {V} (p ∷ ps) k v key =
-    elim (key_cmp k p.key) as (λ o. key_cmp k p.key ≡ o → is_some (value_of (match_ordering o (record { key = k; value = v } ∷ p ∷ ps) (record { key = k; value = v } ∷ ps) (p ∷ put ps k v)) key) ≡ (is_eq (key_cmp key k) || is_some (value_of (p ∷ ps) key))) [
-      | Less ↦ λ e. some_cond (is_eq (key_cmp key k)) v (value_of (p ∷ ps) key)
-      | Equal ↦ λ e. some_cond (is_eq (key_cmp key k)) v (value_of ps key)
-          ∙ or_twice (is_eq (key_cmp key k)) (is_some (value_of ps key))
-          ∙ ap (λ x. is_eq (key_cmp key k) || (is_eq (key_cmp key x) || is_some (value_of ps key))) (exact_bytes k p.key e)
-          ∙ ap (λ b. is_eq (key_cmp key k) || b) (sym (some_cond (is_eq (key_cmp key p.key)) p.value (value_of ps key)))
-      | Greater ↦ λ e. some_cond (is_eq (key_cmp key p.key)) p.value (value_of (put ps k v) key)
-          ∙ ap (λ b. is_eq (key_cmp key p.key) || b) (there_put ps k v key)
-          ∙ or_swap (is_eq (key_cmp key p.key)) (is_eq (key_cmp key k)) (is_some (value_of ps key))
-          ∙ ap (λ b. is_eq (key_cmp key k) || b) (sym (some_cond (is_eq (key_cmp key p.key)) p.value (value_of ps key)))
-    ] refl
-
-there_put_all : {V : Type 0} (filed ps : List (Pair V)) (key : List ℕ) → is_some (value_of (put_all filed ps) key) ≡ (is_some (value_of filed key) || has_key (keys_of ps) key)
-there_put_all filed [] key = or_false (is_some (value_of filed key))
-  where
-    or_false : (b : Bool) → b ≡ (b || false)
-    or_false true = refl
-    or_false false = refl
-there_put_all filed (p ∷ ps) key =
-    there_put_all (put filed p.key p.value) ps key
-    ∙ ap (λ b. b || has_key (keys_of ps) key) (there_put filed p.key p.value key)
-    ∙ moved (is_eq (key_cmp key p.key)) (is_some (value_of filed key)) (has_key (keys_of ps) key)
-  where
-    moved : (a b c : Bool) → ((a || b) || c) ≡ (b || (a || c))
-    moved true true c = refl
-    moved true false c = refl
-    moved false b c = refl
-
-pub there : (pairs : List (Pair Value)) (key : List ℕ) → is_some (value_of (put_all [] (ordered_pairs pairs)) key) ≡ has_key (keys_of pairs) key
-there pairs key = there_put_all [] (ordered_pairs pairs) key ∙ ap (λ ks. has_key ks key) (keys_mapped in_order pairs)
-
-pub key_twice : (bytes : List ℕ) (at : ℕ) (os : List Open) (entries : List (Pair Value)) (key : List ℕ) (next : ℕ) → (l : PairsSoFar bytes at os entries) → at ≤ length bytes → ReadsString bytes at (AsKey os l.pairs) key next → is_some (value_of entries key) ≡ true → IsFirstFault bytes (KeyTwice at)
-key_twice bytes at os entries key next l k r h =
+pub key_twice : (bytes : List ℕ) (at : ℕ) (os : List Open) (key : List ℕ) (next : ℕ) (l : PairsSoFar bytes at os) → at ≤ length bytes → ReadsString bytes at (AsKey os l.pairs) key next → has_key (keys_of l.pairs) key ≡ true → IsFirstFault bytes (KeyTwice at)
+key_twice bytes at os key next l k r h =
     let after : at < next = r.after in
     let within : next ≤ length bytes = r.within in
     record {
@@ -213,43 +155,33 @@ key_twice bytes at os entries key next l k r h =
         key = key;
         stands = stands_between bytes at next (string_text key) k r.text;
         last = length_between bytes at next (string_text key) k r.within r.text ∙ (let e : next ≡ next - 1 + 1 = omega arith in e);
-        twice = sym (there l.pairs key) ∙ ap (λ es. is_some (value_of es key)) (sym l.names) ∙ h;
+        twice = h;
       };
       first = first bytes (next - 1) r.state r.before_last r.fits (omega arith);
     }
 
-pub key_new : (bytes : List ℕ) (at : ℕ) (os : List Open) (entries : List (Pair Value)) (key : List ℕ) (next : ℕ) → (l : PairsSoFar bytes at os entries) → FitsOpen os → ReadsString bytes at (AsKey os l.pairs) key next → is_some (value_of entries key) ≡ false → Awaits bytes next (InPair l.pairs key ∷ os)
-key_new bytes at os entries key next l f r h = record {
+pub key_new : (bytes : List ℕ) (at : ℕ) (os : List Open) (key : List ℕ) (next : ℕ) (l : PairsSoFar bytes at os) → FitsOpen os → ReadsString bytes at (AsKey os l.pairs) key next → has_key (keys_of l.pairs) key ≡ false → Awaits bytes next (InPair l.pairs key ∷ os)
+key_new bytes at os key next l f r h = record {
   reached = r.reached;
-  fits = (l.fits, sym (there l.pairs key) ∙ ap (λ es. is_some (value_of es key)) (sym l.names) ∙ h, f);
+  fits = (l.fits, h, f);
   within = r.within;
   goes = λ k e. refl;
 }
 
-put_all_push : {V : Type 0} (filed ps : List (Pair V)) (p : Pair V) → put_all filed (ps ++ p ∷ []) ≡ put (put_all filed ps) p.key p.value
-put_all_push filed [] p = refl
-put_all_push filed (q ∷ ps) p = put_all_push (put filed q.key q.value) ps p
-
-ordered_push : (ps : List (Pair Value)) (key : List ℕ) (tree : Value) → ordered_pairs (ps ++ record { key = key; value = tree } ∷ []) ≡ ordered_pairs ps ++ record { key = key; value = in_order tree } ∷ []
-ordered_push [] key tree = refl
-ordered_push (p ∷ ps) key tree = ap (λ l. record { key = p.key; value = in_order p.value } ∷ l) (ordered_push ps key tree)
-
-pub pairs_more : (bytes : List ℕ) (at : ℕ) (os : List Open) (entries : List (Pair Value)) (key : List ℕ) (behind : ℕ) (v : Value) (next : ℕ) → (l : PairsSoFar bytes at os entries) → is_some (value_of entries key) ≡ false → ReadsValue bytes behind (InPair l.pairs key ∷ os) v next → PairsSoFar bytes next os (put entries key v)
-pairs_more bytes at os entries key behind v next l h r = record {
+abbrev pub pairs_more : (bytes : List ℕ) (at : ℕ) (os : List Open) (key : List ℕ) (behind next : ℕ) (l : PairsSoFar bytes at os) → has_key (keys_of l.pairs) key ≡ false → ReadsValue bytes behind (InPair l.pairs key ∷ os) next → PairsSoFar bytes next os
+pairs_more bytes at os key behind next l h r = record {
   pairs = l.pairs ++ record { key = key; value = r.tree } ∷ [];
   reached = r.reached;
-  fits = fits_pairs_push os l.pairs key r.tree l.fits (sym (there l.pairs key) ∙ ap (λ es. is_some (value_of es key)) (sym l.names) ∙ h) r.fits;
-  names = (λ i. put (l.names i) key (r.names i)) ∙ sym (ap (put_all []) (ordered_push l.pairs key r.tree) ∙ put_all_push [] (ordered_pairs l.pairs) (record { key = key; value = in_order r.tree }));
+  fits = fits_pairs_push os l.pairs key r.tree l.fits h r.fits;
 }
 
-pub pairs_end : (bytes : List ℕ) (from at : ℕ) (os : List Open) (entries : List (Pair Value)) → PairsSoFar bytes at os entries → from ≤ at → HasByte bytes at 101 true → ReadsValue bytes from os (value.Dict entries) (at + 1)
-pairs_end bytes from at os entries l k h =
+pub pairs_end : (bytes : List ℕ) (from at : ℕ) (os : List Open) → PairsSoFar bytes at os → from ≤ at → HasByte bytes at 101 true → ReadsValue bytes from os (at + 1)
+pairs_end bytes from at os l k h =
     let inside : at < length bytes = h.0 in
     record {
       tree = value.Dict l.pairs;
       reached = reached_more bytes at (Keyless os l.pairs) (filled os (value.Dict l.pairs)) l.reached h.0 (ap (step (Keyless os l.pairs)) h.1);
       fits = fits_dict os l.pairs l.fits;
-      names = ap value.Dict l.names ∙ sym (in_order-dict l.pairs);
       within = omega arith;
       after = omega arith;
     }
@@ -259,16 +191,16 @@ pairs_end bytes from at os entries l k h =
 pub awaits_first : (bytes : List ℕ) → Awaits bytes 0 []
 awaits_first bytes = record { reached = refl; fits = tt; within = omega arith; goes = λ h e. refl }
 
-pub whole : (bytes : List ℕ) (v : Value) (next : ℕ) → ReadsValue bytes 0 [] v next → length bytes ≤ next → Spells bytes v
-whole bytes v next r h = record {
+pub whole : (bytes : List ℕ) (next : ℕ) (r : ReadsValue bytes 0 [] next) → length bytes ≤ next → Spells bytes (in_order r.tree)
+whole bytes next r h = record {
   tree = r.tree;
   text = sym (take_all next bytes h) ∙ run_front (take next bytes) (Whole r.tree) r.reached;
   fits = r.fits;
-  names = r.names;
+  names = refl;
 }
 
-pub trailing : (bytes : List ℕ) (v : Value) (next : ℕ) → ReadsValue bytes 0 [] v next → next < length bytes → IsFirstFault bytes (Trailing next)
-trailing bytes v next r h = record {
+pub trailing : (bytes : List ℕ) (next : ℕ) → ReadsValue bytes 0 [] next → next < length bytes → IsFirstFault bytes (Trailing next)
+trailing bytes next r h = record {
   seen = next;
   here = (record { whole = (r.tree, run_front (take next bytes) (Whole r.tree) r.reached); more = h }, refl);
   first = first bytes next (Whole r.tree) r.reached r.fits r.within;

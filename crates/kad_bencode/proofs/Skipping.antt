@@ -1,9 +1,9 @@
 -- Over the parts of a value that stands at the front.
-use Rattle.std.proofs.Common.{◌≡◌, ℕ, suc, ◌+◌, ◌-◌, ◌<◌, ◌≤◌, true, false, List, [], ◌∷◌, ◌++◌, length, take, drop, get_or, Some, None, refl, sym, ap, ◌∙◌, arith, inl, inr, ⊎_elim, append_assoc, length-append, length-drop, append-nil}
+use Rattle.std.proofs.Common.{◌≡◌, ℕ, suc, ◌+◌, ◌-◌, ◌<◌, ◌≤◌, true, false, List, [], ◌∷◌, ◌++◌, length, take, drop, get_or, Some, None, sym, ap, ◌∙◌, arith, inl, inr, ⊎_elim, append_assoc, length-append, length-drop, append-nil}
 use Rattle.std.proofs.lemmas.Bool.{cases_lt}
 use Rattle.std.proofs.lemmas.List.{length-take-le, take_more}
 use Rattle.std.proofs.Math.Seq.{take-append_seam}
-use Rattle.kad_bencode.specs.Spelling.{text_of, integer_text, string_text, pairs_text, put_all}
+use Rattle.kad_bencode.specs.Spelling.{text_of, integer_text, string_text, pairs_text}
 use Rattle.kad_bencode.specs.Faults.{Open, InList, InPair, pairs_of, BeginsText, IsAt, IsFirstFault, IsTooBig, IsTwice}
 use Rattle.kad_bencode.specs.Machine.{Place, AsValue, AsKey, State, Ready, Keyless, Whole, filled, stored, before, step, run, start, Reached, FitsState, HasByte, AwaitsString, AwaitsInteger}
 use Rattle.kad_bencode.specs.declared.entries.Pair.{Pair}
@@ -11,11 +11,10 @@ use Rattle.kad_bencode.specs.declared.value.Value.{Value}
 use Rattle.kad_bencode.specs.declared.value.Value.TheVariants as value
 use Rattle.kad_bencode.specs.declared.value.Bad.{Bad}
 use Rattle.kad_bencode.specs.declared.value.Bad.TheVariants.{NotBencode, Deep, NumberTooBig, KeyTwice, Trailing}
-use Rattle.kad_bencode.proofs.Folds.{ordered_pairs}
 use Rattle.kad_bencode.proofs.Takes.{text_run, fronts_run, pairs_taken, integer_run, string_run}
 use Rattle.kad_bencode.proofs.Said.{ends_once, no_text, same_some}
 use Rattle.kad_bencode.proofs.First.{first, ended, standing, reached_text, reached_more, reached_back, front_then, front_begins, front_reached, integer_long, string_long}
-use Rattle.kad_bencode.proofs.Nested.{awaits_text, pairs_await, PairsSoFar}
+use Rattle.kad_bencode.proofs.Nested.{awaits_text, pairs_await}
 use Rattle.kad_bencode.specs.Scanning.{IsInside, opens, IsAmid, IsBehind, Begins}
 
 module _ (bytes : List ℕ) (t : Value) (b : Begins bytes t) where
@@ -196,8 +195,7 @@ module _ (bytes : List ℕ) (t : Value) (b : Begins bytes t) where
     awaits_there : (p : Place) → Reached bytes at (before p) → FitsState (before p) → HasByte bytes at 105 false → HasByte bytes at 108 false → HasByte bytes at 100 false → HasByte bytes at 101 false → AwaitsString bytes at p
     awaits_there (AsValue os) r f i l d e = awaits_text bytes at os (record { reached = r; fits = f; within = let k = there in omega (arith, k); goes = λ h x. absurd (e h x) }) i l d
     awaits_there (AsKey os ps) r f i l d e =
-        let so_far : PairsSoFar bytes at os (put_all [] (ordered_pairs ps)) = record { pairs = ps; reached = r; fits = f.0; names = refl } in
-        pairs_await bytes at os (put_all [] (ordered_pairs ps)) so_far f.1 (let k = there in omega (arith, k)) e
+        pairs_await bytes at os (record { pairs = ps; reached = r; fits = f.0 }) f.1 (let k = there in omega (arith, k)) e
 
     pub awaits_string : HasByte bytes at 105 false → HasByte bytes at 108 false → HasByte bytes at 100 false → HasByte bytes at 101 false → AwaitsString bytes at a.place
     awaits_string = awaits_there a.place a.reached fits_there

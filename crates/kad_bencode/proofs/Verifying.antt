@@ -13,7 +13,7 @@ use Rattle.kad_bencode.specs.declared.entries.Pair.{Pair}
 use Rattle.kad_bencode.specs.declared.value.Value.{Value}
 use Rattle.kad_bencode.specs.declared.value.Bad.{Bad}
 use Rattle.kad_bencode.proofs.Said.{run_front, same_some}
-use Rattle.kad_bencode.proofs.Nested.{PairsSoFar, there}
+use Rattle.kad_bencode.proofs.Nested.{PairsSoFar}
 use Rattle.kad_bencode.proofs.Faults.{no_fault, one_fault}
 use Rattle.kad_bencode.specs.Scanning.{Scans}
 use Rattle.std.specs.declared.cmp.Ordering.TheVariants.{Less, Equal, Greater}
@@ -44,7 +44,7 @@ pub fewer : (n : ℕ) (vs : List Value) → AllByRecursion (Fits n) vs → AllBy
 fewer n [] a = tt
 fewer n (v ∷ vs) a = (record { depth = let d = a.0.depth in omega (arith, d); plain = a.0.plain }, fewer n vs a.1)
 
-module _ (bytes : List ℕ) (from at : ℕ) (os : List Open) (entries : List (Pair Value)) (l : PairsSoFar bytes at os entries) (after : from ≤ at) (within : at ≤ length bytes) (begins : Reached bytes from (Keyless os [])) where
+module _ (bytes : List ℕ) (from at : ℕ) (os : List Open) (l : PairsSoFar bytes at os) (after : from ≤ at) (within : at ≤ length bytes) (begins : Reached bytes from (Keyless os [])) where
   pairs_between : take (at - from) (drop from bytes) ≡ pairs_text (pairs_of l.pairs)
   pairs_between =
       let e : from + (at - from) ≡ at = omega (arith, after) in
@@ -59,9 +59,6 @@ module _ (bytes : List ℕ) (from at : ℕ) (os : List Open) (entries : List (Pa
 
   pub are_pairs : ArePairs (take (at - from) (drop from bytes)) l.pairs
   are_pairs = record { text = pairs_between; fits = fewer (suc (length os)) (values_of l.pairs) l.fits.1 }
-
-  pub key_known : (key : List ℕ) (c : Bool) → has_key (keys_of l.pairs) key ≡ c → is_some (value_of entries key) ≡ c
-  key_known key c k = ap (λ es. is_some (value_of es key)) l.names ∙ there l.pairs key ∙ k
 
 -- ---- the greatest key
 

@@ -4,7 +4,7 @@ use Rattle.std.specs.Prelude.{◌≡◌, ℕ, suc, ◌+◌, ◌-◌, ◌*◌, �
 use Rattle.std.specs.List.{AllByRecursion}
 use Rattle.std.specs.Prelude.{Result, Ok, Err}
 use Rattle.kad_bencode.specs.Keys.{keys_of}
-use Rattle.kad_bencode.specs.Spelling.{numeral, string_text, Fits, each_once, has_key, values_of, in_order, is_i64}
+use Rattle.kad_bencode.specs.Spelling.{numeral, string_text, Fits, each_once, has_key, values_of, is_i64}
 use Rattle.kad_bencode.specs.Faults.{Open, InList, InPair, IsFirstFault}
 use Rattle.kad_bencode.specs.declared.entries.Pair.{Pair}
 use Rattle.kad_bencode.specs.declared.value.Value.{Value}
@@ -159,12 +159,11 @@ pub record Awaits (bytes : List ℕ) (at : ℕ) (os : List Open) : Type 0 where
   pub within : at ≤ length bytes
   pub goes : at < length bytes → get_or bytes at 0 ≡ 101 → closed os ≡ None
 
--- the value and where it ends
-pub record ReadsValue (bytes : List ℕ) (at : ℕ) (os : List Open) (v : Value) (next : ℕ) : Type 0 where
+-- a value, and where it ends
+pub record ReadsValue (bytes : List ℕ) (at : ℕ) (os : List Open) (next : ℕ) : Type 0 where
   pub tree : Value
   pub reached : Reached bytes next (filled os tree)
   pub fits : Fits (length os) tree
-  pub names : v ≡ in_order tree
   pub within : next ≤ length bytes
   pub after : at < next
 

@@ -47,7 +47,7 @@ fn value_at(bytes: &[u8], at: usize, depth: usize) -> Result<usize, Bad>
     requires depth { depth ≤ 16 }
     ensures moves { IfOk result (λ next. (at < next) × (next ≤ length bytes.now)) }
     ensures reads { (os : List Open) → length os ≡ depth → Awaits bytes.now at os
-        → Scans bytes.now result (λ next. (v : Value) × ReadsValue bytes.now at os v next) }
+        → Scans bytes.now result (ReadsValue bytes.now at os) }
 {
     if has_byte(bytes, at, b'i') {
         let (_, next) = integer_at(bytes, at)?;
@@ -77,7 +77,7 @@ fn list_at(bytes: &[u8], from: usize, depth: usize) -> Result<usize, Bad>
     ensures moves { IfOk result (λ next. (from < next) × (next ≤ length bytes.now)) }
     ensures reads { (os : List Open) → suc (length os) ≡ depth
         → Reached bytes.now from (Ready (InList [] ∷ os)) → FitsOpen os
-        → Scans bytes.now result (λ next. (v : Value) × ReadsValue bytes.now from os v next) }
+        → Scans bytes.now result (ReadsValue bytes.now from os) }
 {
     let mut at = from;
     'values: while !has_byte(bytes, at, b'e') {
@@ -94,7 +94,7 @@ fn dictionary_at(bytes: &[u8], from: usize, depth: usize) -> Result<usize, Bad>
     ensures moves { IfOk result (λ next. (from < next) × (next ≤ length bytes.now)) }
     ensures reads { (os : List Open) → suc (length os) ≡ depth
         → Reached bytes.now from (Keyless os []) → FitsOpen os
-        → Scans bytes.now result (λ next. (v : Value) × ReadsValue bytes.now from os v next) }
+        → Scans bytes.now result (ReadsValue bytes.now from os) }
 {
     let mut at = from;
     let mut greatest = &bytes[from..from];
@@ -120,7 +120,7 @@ fn unsorted_at(bytes: &[u8], from: usize, start: usize, depth: usize) -> Result<
     ensures reads { (os : List Open) (pairs : List (Pair Value)) → suc (length os) ≡ depth
         → Reached bytes.now from (Keyless os []) → FitsOpen os
         → Reached bytes.now start (Keyless os pairs) → FitsPairs os pairs
-        → Scans bytes.now result (λ next. (v : Value) × ReadsValue bytes.now from os v next) }
+        → Scans bytes.now result (ReadsValue bytes.now from os) }
 {
     let mut places = [0u16; MOST];
     let mut heads = Heads::new();

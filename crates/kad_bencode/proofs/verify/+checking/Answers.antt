@@ -1,31 +1,26 @@
-use Rattle.std.proofs.Common.{List, ◌≤◌, nat_eq, sym, subst, [], ◌∷◌, ◌++◌, refl, ◌∙◌, arith, true, false}
+use Rattle.std.proofs.Common.{◌≤◌, nat_eq, sym, subst, [], ◌∷◌, refl, ◌∙◌, arith}
 use Rattle.std.proofs.lemmas.Result.{err_from_is_err_and}
-use Rattle.kad_bencode.specs.Keys.{put, keys_of}
+use Rattle.kad_bencode.specs.Keys.{keys_of}
 use Rattle.kad_bencode.specs.Faults.{InList, InPair}
 use Rattle.kad_bencode.specs.Machine.{AsKey, AsValue}
-use Rattle.kad_bencode.specs.declared.value.Value.TheVariants as value
 use Rattle.kad_bencode.proofs.Nested.{awaits_integer, integer_value, deep_list, deep_dictionary, list_opened, dictionary_opened, opened_value, awaits_text, text_value, list_awaits, list_more, list_ends, PairsSoFar, pairs_await, key_twice, key_new, pairs_more, pairs_end}
-use Rattle.kad_bencode.proofs.Verifying.{handed, widened, key_known, are_pairs, up_to_more, same_pairs, next_key, not_new, is_fresh, from_eq}
+use Rattle.kad_bencode.proofs.Verifying.{handed, widened, are_pairs, up_to_more, next_key, not_new, is_fresh, from_eq}
 use Rattle.kad_bencode.proofs.Limits.{keys_push}
 use Rattle.kad_bencode.proofs.Reading.{stands_between}
-use Rattle.kad_bencode.specs.Spelling.{put_all, string_text}
-use Rattle.kad_bencode.proofs.Folds.{ordered_pairs}
+use Rattle.kad_bencode.specs.Spelling.{string_text}
 use Rattle.kad_bencode.specs.Filing.{AreFiled}
-use Rattle.kad_bencode.specs.declared.entries.Pair.{Pair}
-use Rattle.kad_bencode.specs.declared.value.Value.{Value}
-use Rattle.kad_bencode.specs.Finding.{IsUpTo}
 use Rattle.kad_bencode.proofs.verify.+checking.Goals as goal
 
 pub value_at-returns-then-has_byte-clause-reads : goal.value_at-returns-then-has_byte-clause-reads
 value_at-returns-then-has_byte-clause-reads t c os d a =
-    (value.Int c.in_ok-next.field-0-0, integer_value c.args.bytes.now c.args.at os c.in_ok-next.field-0-0 c.in_ok-next.next a (c.in_ok-next.ensures.reads os (awaits_integer c.args.bytes.now c.args.at os a)))
+    integer_value c.args.bytes.now c.args.at os c.in_ok-next.field-0-0 c.in_ok-next.next a (c.in_ok-next.ensures.reads os (awaits_integer c.args.bytes.now c.args.at os a))
 
 pub value_at-returns-then-depth-eq-MAX_DEPTH-clause-reads : goal.value_at-returns-then-depth-eq-MAX_DEPTH-clause-reads
 value_at-returns-then-depth-eq-MAX_DEPTH-clause-reads t c os d a = deep_list c.args.bytes.now c.args.at os a (d ∙ c.if-depth-eq-MAX_DEPTH.true) c.if-has_byte-2.ensures
 
 pub value_at-returns-then-has_byte-2-clause-reads : goal.value_at-returns-then-has_byte-2-clause-reads
 value_at-returns-then-has_byte-2-clause-reads t c os d a =
-    widened c.args.bytes.now c.list_at.result _ _ (λ next r. (r.0, opened_value c.args.bytes.now c.args.at os r.0 next r.1))
+    widened c.args.bytes.now c.list_at.result _ _ (opened_value c.args.bytes.now c.args.at os)
     (c.list_at.ensures.reads os (omega (arith, d)) (list_opened c.args.bytes.now c.args.at os a c.if-has_byte-2.ensures) a.fits)
 
 pub value_at-returns-then-depth-eq-MAX_DEPTH-2-clause-reads : goal.value_at-returns-then-depth-eq-MAX_DEPTH-2-clause-reads
@@ -33,7 +28,7 @@ value_at-returns-then-depth-eq-MAX_DEPTH-2-clause-reads t c os d a = deep_dictio
 
 pub value_at-returns-then-has_byte-3-clause-reads : goal.value_at-returns-then-has_byte-3-clause-reads
 value_at-returns-then-has_byte-3-clause-reads t c os d a =
-    widened c.args.bytes.now c.dictionary_at.result _ _ (λ next r. (r.0, opened_value c.args.bytes.now c.args.at os r.0 next r.1))
+    widened c.args.bytes.now c.dictionary_at.result _ _ (opened_value c.args.bytes.now c.args.at os)
     (c.dictionary_at.ensures.reads os (omega (arith, d)) (dictionary_opened c.args.bytes.now c.args.at os a c.if-has_byte-3.ensures) a.fits)
 
 pub value_at-returns-in_err-next-2-clause-reads : goal.value_at-returns-in_err-next-2-clause-reads
@@ -43,7 +38,7 @@ value_at-returns-in_err-next-2-clause-reads t c os d a =
 
 pub value_at-returns-clause-reads : goal.value_at-returns-clause-reads
 value_at-returns-clause-reads t c os d a =
-    (value.Text c.in_ok-next-2.field-0-0.now, text_value c.args.bytes.now c.args.at os _ _ _ refl a (c.in_ok-next-2.ensures.reads (AsValue os) (awaits_text c.args.bytes.now c.args.at os a c.if-has_byte.ensures c.if-has_byte-2.ensures c.if-has_byte-3.ensures)))
+    text_value c.args.bytes.now c.args.at os _ _ a (c.in_ok-next-2.ensures.reads (AsValue os) (awaits_text c.args.bytes.now c.args.at os a c.if-has_byte.ensures c.if-has_byte-2.ensures c.if-has_byte-3.ensures))
 
 -- ---- lists
 
@@ -51,7 +46,7 @@ pub list_at-returns-in_err-at-clause-reads : goal.list_at-returns-in_err-at-clau
 list_at-returns-in_err-at-clause-reads t c os d r f =
     let e = c.values.invariant.so_far os d r f in
     let p = err_from_is_err_and c.from_residual.result c.from_residual.ensures.1 in
-    handed c.args.bytes.now c.from_residual.result _ p.0 _ p.1 p.2 (c.in_err-at.ensures.reads (InList e.1.trees ∷ os) d (list_awaits c.args.bytes.now c.values.at os e.0 e.1 (let few = c.requires.depth in omega (arith, d, few)) f c.values.invariant.within c.values-test.ensures))
+    handed c.args.bytes.now c.from_residual.result _ p.0 _ p.1 p.2 (c.in_err-at.ensures.reads (InList e.trees ∷ os) d (list_awaits c.args.bytes.now c.values.at os e (let few = c.requires.depth in omega (arith, d, few)) f c.values.invariant.within c.values-test.ensures))
 
 pub list_at-values-preserved : goal.list_at-values-preserved
 list_at-values-preserved t c = record {
@@ -59,14 +54,14 @@ list_at-values-preserved t c = record {
   within = omega (arith, c.in_ok-at.ensures.moves);
   so_far = λ os d r f.
       let e = c.values.invariant.so_far os d r f in
-      let v = c.in_ok-at.ensures.reads (InList e.1.trees ∷ os) d (list_awaits c.args.bytes.now c.values.at os e.0 e.1 (let few = c.requires.depth in omega (arith, d, few)) f c.values.invariant.within c.values-test.ensures) in
-      (e.0 ++ v.0 ∷ [], list_more c.args.bytes.now c.values.at os e.0 v.0 c.in_ok-at.at e.1 v.1);
+      let v = c.in_ok-at.ensures.reads (InList e.trees ∷ os) d (list_awaits c.args.bytes.now c.values.at os e (let few = c.requires.depth in omega (arith, d, few)) f c.values.invariant.within c.values-test.ensures) in
+      list_more c.args.bytes.now c.values.at os c.in_ok-at.at e v;
 }
 
 pub list_at-returns-clause-reads : goal.list_at-returns-clause-reads
 list_at-returns-clause-reads t c os d r f =
     let e = c.values.invariant.so_far os d r f in
-    (value.List e.0, list_ends c.args.bytes.now c.args.from c.values.at os e.0 e.1 (let few = c.requires.depth in omega (arith, d, few)) c.values.invariant.after c.values-test.ensures)
+    list_ends c.args.bytes.now c.args.from c.values.at os e (let few = c.requires.depth in omega (arith, d, few)) c.values.invariant.after c.values-test.ensures
 
 -- ---- dictionaries
 
@@ -74,21 +69,20 @@ pub dictionary_at-returns-in_err-key-clause-reads : goal.dictionary_at-returns-i
 dictionary_at-returns-in_err-key-clause-reads t c os d r f =
     let e = c.pairs.invariant.so_far os d r f in
     let p = err_from_is_err_and c.from_residual.result c.from_residual.ensures.1 in
-    handed c.args.bytes.now c.from_residual.result _ p.0 _ p.1 p.2 (c.in_err-key.ensures.reads (AsKey os e.1.pairs) (pairs_await c.args.bytes.now c.pairs.at os e.0 e.1 f c.pairs.invariant.within c.pairs-test.ensures))
+    handed c.args.bytes.now c.from_residual.result _ p.0 _ p.1 p.2 (c.in_err-key.ensures.reads (AsKey os e.0.pairs) (pairs_await c.args.bytes.now c.pairs.at os e.0 f c.pairs.invariant.within c.pairs-test.ensures))
 
 pub dictionary_at-returns-then-not-is_next-clause-reads : goal.dictionary_at-returns-then-not-is_next-clause-reads
 dictionary_at-returns-then-not-is_next-clause-reads t c os d r f =
     let e = c.pairs.invariant.so_far os d r f in
-    c.unsorted_at.ensures.reads os e.1.pairs d r f e.1.reached e.1.fits
+    c.unsorted_at.ensures.reads os e.0.pairs d r f e.0.reached e.0.fits
 
 pub dictionary_at-returns-in_err-at-clause-reads : goal.dictionary_at-returns-in_err-at-clause-reads
 dictionary_at-returns-in_err-at-clause-reads t c os d r f =
     let e = c.pairs.invariant.so_far os d r f in
-    let s = c.in_ok-key.ensures.reads (AsKey os e.1.pairs) (pairs_await c.args.bytes.now c.pairs.at os e.0 e.1 f c.pairs.invariant.within c.pairs-test.ensures) in
-    let n = next_key c.args.bytes.now c.args.from c.pairs.at os e.1.pairs r e.1.reached (nat_eq c.pairs.at c.args.from) (from_eq c.pairs.at c.args.from) c.pairs.greatest.now c.in_ok-key.key.now c.is_next.result (let t = c.if-not-is_next.false in cc) c.is_next.ensures e.2 in
-    let new = key_known c.args.bytes.now c.args.from c.pairs.at os e.0 e.1 c.pairs.invariant.after c.pairs.invariant.within r c.in_ok-key.key.now false n.new in
+    let s = c.in_ok-key.ensures.reads (AsKey os e.0.pairs) (pairs_await c.args.bytes.now c.pairs.at os e.0 f c.pairs.invariant.within c.pairs-test.ensures) in
+    let n = next_key c.args.bytes.now c.args.from c.pairs.at os e.0.pairs r e.0.reached (nat_eq c.pairs.at c.args.from) (from_eq c.pairs.at c.args.from) c.pairs.greatest.now c.in_ok-key.key.now c.is_next.result (let t = c.if-not-is_next.false in cc) c.is_next.ensures e.1 in
     let p = err_from_is_err_and c.from_residual-in_err-at.result c.from_residual-in_err-at.ensures.1 in
-    handed c.args.bytes.now c.from_residual-in_err-at.result _ p.0 _ p.1 p.2 (c.in_err-at.ensures.reads (InPair e.1.pairs c.in_ok-key.key.now ∷ os) d (key_new c.args.bytes.now c.pairs.at os e.0 c.in_ok-key.key.now c.in_ok-key.behind e.1 f s new))
+    handed c.args.bytes.now c.from_residual-in_err-at.result _ p.0 _ p.1 p.2 (c.in_err-at.ensures.reads (InPair e.0.pairs c.in_ok-key.key.now ∷ os) d (key_new c.args.bytes.now c.pairs.at os c.in_ok-key.key.now c.in_ok-key.behind e.0 f s n.new))
 
 pub dictionary_at-pairs-preserved : goal.dictionary_at-pairs-preserved
 dictionary_at-pairs-preserved t c = record {
@@ -96,25 +90,22 @@ dictionary_at-pairs-preserved t c = record {
   within = omega (arith, c.in_ok-at.ensures.moves);
   so_far = λ os d r f.
       let e = c.pairs.invariant.so_far os d r f in
-      let s = c.in_ok-key.ensures.reads (AsKey os e.1.pairs) (pairs_await c.args.bytes.now c.pairs.at os e.0 e.1 f c.pairs.invariant.within c.pairs-test.ensures) in
-      let n = next_key c.args.bytes.now c.args.from c.pairs.at os e.1.pairs r e.1.reached (nat_eq c.pairs.at c.args.from) (from_eq c.pairs.at c.args.from) c.pairs.greatest.now c.in_ok-key.key.now c.is_next.result (let t = c.if-not-is_next.false in cc) c.is_next.ensures e.2 in
-      let new = key_known c.args.bytes.now c.args.from c.pairs.at os e.0 e.1 c.pairs.invariant.after c.pairs.invariant.within r c.in_ok-key.key.now false n.new in
-      let v = c.in_ok-at.ensures.reads (InPair e.1.pairs c.in_ok-key.key.now ∷ os) d (key_new c.args.bytes.now c.pairs.at os e.0 c.in_ok-key.key.now c.in_ok-key.behind e.1 f s new) in
-      let more : PairsSoFar c.args.bytes.now c.in_ok-at.at os (put e.0 c.in_ok-key.key.now v.0) = pairs_more c.args.bytes.now c.pairs.at os e.0 c.in_ok-key.key.now c.in_ok-key.behind v.0 c.in_ok-at.at e.1 new v.1 in
-      let added : List (Pair Value) = e.1.pairs ++ record { key = c.in_ok-key.key.now; value = v.1.tree } ∷ [] in
-      (put e.0 c.in_ok-key.key.now v.0, more, subst (λ ps. IsUpTo c.in_ok-key.key.now (keys_of ps)) (same_pairs c.args.bytes.now c.in_ok-at.at os added more.pairs v.1.reached more.reached) (up_to_more c.in_ok-key.key.now e.1.pairs c.in_ok-key.key.now v.1.tree n));
+      let s = c.in_ok-key.ensures.reads (AsKey os e.0.pairs) (pairs_await c.args.bytes.now c.pairs.at os e.0 f c.pairs.invariant.within c.pairs-test.ensures) in
+      let n = next_key c.args.bytes.now c.args.from c.pairs.at os e.0.pairs r e.0.reached (nat_eq c.pairs.at c.args.from) (from_eq c.pairs.at c.args.from) c.pairs.greatest.now c.in_ok-key.key.now c.is_next.result (let t = c.if-not-is_next.false in cc) c.is_next.ensures e.1 in
+      let v = c.in_ok-at.ensures.reads (InPair e.0.pairs c.in_ok-key.key.now ∷ os) d (key_new c.args.bytes.now c.pairs.at os c.in_ok-key.key.now c.in_ok-key.behind e.0 f s n.new) in
+      (pairs_more c.args.bytes.now c.pairs.at os c.in_ok-key.key.now c.in_ok-key.behind c.in_ok-at.at e.0 n.new v, up_to_more c.in_ok-key.key.now e.0.pairs c.in_ok-key.key.now v.tree n);
 }
 
 pub dictionary_at-returns-clause-reads : goal.dictionary_at-returns-clause-reads
 dictionary_at-returns-clause-reads t c os d r f =
     let e = c.pairs.invariant.so_far os d r f in
-    (value.Dict e.0, pairs_end c.args.bytes.now c.args.from c.pairs.at os e.0 e.1 c.pairs.invariant.after c.pairs-test.ensures)
+    pairs_end c.args.bytes.now c.args.from c.pairs.at os e.0 c.pairs.invariant.after c.pairs-test.ensures
 
 pub dictionary_at-pairs-init : goal.dictionary_at-pairs-init
 dictionary_at-pairs-init t c = record {
   after = omega arith;
   within = c.requires.within;
-  so_far = λ os d r f. ([], record { pairs = []; reached = r; fits = (let few = c.requires.depth in omega (arith, d, few), tt, refl); names = refl }, tt);
+  so_far = λ os d r f. (record { pairs = []; reached = r; fits = (let few = c.requires.depth in omega (arith, d, few), tt, refl) }, tt);
 }
 
 -- ---- dictionaries whose keys are out of order
@@ -124,34 +115,34 @@ unsorted_at-loose-init t c = record {
   after = omega arith;
   within = c.requires.within;
   so_far = λ os ps d r f g h.
-      let so : PairsSoFar c.args.bytes.now c.args.start os (put_all [] (ordered_pairs ps)) = record { pairs = ps; reached = g; fits = h; names = refl } in
-      (put_all [] (ordered_pairs ps), so, c.file_all-count.ensures ps (are_pairs c.args.bytes.now c.args.from c.args.start os (put_all [] (ordered_pairs ps)) so c.requires.order c.requires.within r));
+      let so : PairsSoFar c.args.bytes.now c.args.start os = record { pairs = ps; reached = g; fits = h } in
+      (so, c.file_all-count.ensures ps (are_pairs c.args.bytes.now c.args.from c.args.start os so c.requires.order c.requires.within r));
 }
 
 pub unsorted_at-returns-in_err-key-clause-reads : goal.unsorted_at-returns-in_err-key-clause-reads
 unsorted_at-returns-in_err-key-clause-reads t c os ps d r f g h =
     let e = c.loose.invariant.so_far os ps d r f g h in
     let p = err_from_is_err_and c.from_residual.result c.from_residual.ensures.1 in
-    handed c.args.bytes.now c.from_residual.result _ p.0 _ p.1 p.2 (c.in_err-key.ensures.reads (AsKey os e.1.pairs) (pairs_await c.args.bytes.now c.loose.at os e.0 e.1 f c.loose.invariant.within c.loose-test.ensures))
+    handed c.args.bytes.now c.from_residual.result _ p.0 _ p.1 p.2 (c.in_err-key.ensures.reads (AsKey os e.0.pairs) (pairs_await c.args.bytes.now c.loose.at os e.0 f c.loose.invariant.within c.loose-test.ensures))
 
 pub unsorted_at-returns-then-not-is_new-clause-reads : goal.unsorted_at-returns-then-not-is_new-clause-reads
 unsorted_at-returns-then-not-is_new-clause-reads t c os ps d r f g h =
     let e = c.loose.invariant.so_far os ps d r f g h in
     let after : c.args.from ≤ c.loose.at = omega (arith, c.requires.order, c.loose.invariant.after) in
-    let told = c.is_new.ensures e.1.pairs (are_pairs c.args.bytes.now c.args.from c.loose.at os e.0 e.1 after c.loose.invariant.within r) (c.file-count.ensures.new (keys_of e.1.pairs) e.2) in
-    key_twice c.args.bytes.now c.loose.at os e.0 c.in_ok-key.key.now c.in_ok-key.behind e.1 c.loose.invariant.within
-    (c.in_ok-key.ensures.reads (AsKey os e.1.pairs) (pairs_await c.args.bytes.now c.loose.at os e.0 e.1 f c.loose.invariant.within c.loose-test.ensures))
-    (key_known c.args.bytes.now c.args.from c.loose.at os e.0 e.1 after c.loose.invariant.within r c.in_ok-key.key.now true (not_new _ c.is_new.result told (let t = c.if-not-is_new.true in cc)))
+    let told = c.is_new.ensures e.0.pairs (are_pairs c.args.bytes.now c.args.from c.loose.at os e.0 after c.loose.invariant.within r) (c.file-count.ensures.new (keys_of e.0.pairs) e.1) in
+    key_twice c.args.bytes.now c.loose.at os c.in_ok-key.key.now c.in_ok-key.behind e.0 c.loose.invariant.within
+    (c.in_ok-key.ensures.reads (AsKey os e.0.pairs) (pairs_await c.args.bytes.now c.loose.at os e.0 f c.loose.invariant.within c.loose-test.ensures))
+    (not_new _ c.is_new.result told (let t = c.if-not-is_new.true in cc))
 
 pub unsorted_at-returns-in_err-at-clause-reads : goal.unsorted_at-returns-in_err-at-clause-reads
 unsorted_at-returns-in_err-at-clause-reads t c os ps d r f g h =
     let e = c.loose.invariant.so_far os ps d r f g h in
     let after : c.args.from ≤ c.loose.at = omega (arith, c.requires.order, c.loose.invariant.after) in
-    let s = c.in_ok-key.ensures.reads (AsKey os e.1.pairs) (pairs_await c.args.bytes.now c.loose.at os e.0 e.1 f c.loose.invariant.within c.loose-test.ensures) in
-    let told = c.is_new.ensures e.1.pairs (are_pairs c.args.bytes.now c.args.from c.loose.at os e.0 e.1 after c.loose.invariant.within r) (c.file-count.ensures.new (keys_of e.1.pairs) e.2) in
-    let new = key_known c.args.bytes.now c.args.from c.loose.at os e.0 e.1 after c.loose.invariant.within r c.in_ok-key.key.now false (is_fresh _ c.is_new.result told (let t = c.if-not-is_new.false in cc)) in
+    let s = c.in_ok-key.ensures.reads (AsKey os e.0.pairs) (pairs_await c.args.bytes.now c.loose.at os e.0 f c.loose.invariant.within c.loose-test.ensures) in
+    let told = c.is_new.ensures e.0.pairs (are_pairs c.args.bytes.now c.args.from c.loose.at os e.0 after c.loose.invariant.within r) (c.file-count.ensures.new (keys_of e.0.pairs) e.1) in
+    let new = is_fresh _ c.is_new.result told (let t = c.if-not-is_new.false in cc) in
     let p = err_from_is_err_and c.from_residual-in_err-at.result c.from_residual-in_err-at.ensures.1 in
-    handed c.args.bytes.now c.from_residual-in_err-at.result _ p.0 _ p.1 p.2 (c.in_err-at.ensures.reads (InPair e.1.pairs c.in_ok-key.key.now ∷ os) d (key_new c.args.bytes.now c.loose.at os e.0 c.in_ok-key.key.now c.in_ok-key.behind e.1 f s new))
+    handed c.args.bytes.now c.from_residual-in_err-at.result _ p.0 _ p.1 p.2 (c.in_err-at.ensures.reads (InPair e.0.pairs c.in_ok-key.key.now ∷ os) d (key_new c.args.bytes.now c.loose.at os c.in_ok-key.key.now c.in_ok-key.behind e.0 f s new))
 
 pub unsorted_at-loose-preserved : goal.unsorted_at-loose-preserved
 unsorted_at-loose-preserved t c = record {
@@ -160,18 +151,16 @@ unsorted_at-loose-preserved t c = record {
   so_far = λ os ps d r f g h.
       let e = c.loose.invariant.so_far os ps d r f g h in
       let after : c.args.from ≤ c.loose.at = omega (arith, c.requires.order, c.loose.invariant.after) in
-      let s = c.in_ok-key.ensures.reads (AsKey os e.1.pairs) (pairs_await c.args.bytes.now c.loose.at os e.0 e.1 f c.loose.invariant.within c.loose-test.ensures) in
-      let told = c.is_new.ensures e.1.pairs (are_pairs c.args.bytes.now c.args.from c.loose.at os e.0 e.1 after c.loose.invariant.within r) (c.file-count.ensures.new (keys_of e.1.pairs) e.2) in
-      let new = key_known c.args.bytes.now c.args.from c.loose.at os e.0 e.1 after c.loose.invariant.within r c.in_ok-key.key.now false (is_fresh _ c.is_new.result told (let t = c.if-not-is_new.false in cc)) in
-      let v = c.in_ok-at.ensures.reads (InPair e.1.pairs c.in_ok-key.key.now ∷ os) d (key_new c.args.bytes.now c.loose.at os e.0 c.in_ok-key.key.now c.in_ok-key.behind e.1 f s new) in
-      let more : PairsSoFar c.args.bytes.now c.in_ok-at.at os (put e.0 c.in_ok-key.key.now v.0) = pairs_more c.args.bytes.now c.loose.at os e.0 c.in_ok-key.key.now c.in_ok-key.behind v.0 c.in_ok-at.at e.1 new v.1 in
-      let added : List (Pair Value) = e.1.pairs ++ record { key = c.in_ok-key.key.now; value = v.1.tree } ∷ [] in
+      let s = c.in_ok-key.ensures.reads (AsKey os e.0.pairs) (pairs_await c.args.bytes.now c.loose.at os e.0 f c.loose.invariant.within c.loose-test.ensures) in
+      let told = c.is_new.ensures e.0.pairs (are_pairs c.args.bytes.now c.args.from c.loose.at os e.0 after c.loose.invariant.within r) (c.file-count.ensures.new (keys_of e.0.pairs) e.1) in
+      let new = is_fresh _ c.is_new.result told (let t = c.if-not-is_new.false in cc) in
+      let v = c.in_ok-at.ensures.reads (InPair e.0.pairs c.in_ok-key.key.now ∷ os) d (key_new c.args.bytes.now c.loose.at os c.in_ok-key.key.now c.in_ok-key.behind e.0 f s new) in
       let stands = stands_between c.args.bytes.now c.loose.at c.in_ok-key.behind (string_text c.in_ok-key.key.now) c.loose.invariant.within s.text in
-      let filed : AreFiled c.args.bytes.now c.file-count.result c.file-count.new.places (keys_of added) = subst (AreFiled c.args.bytes.now c.file-count.result c.file-count.new.places) (sym (keys_push e.1.pairs c.in_ok-key.key.now v.1.tree)) (c.file-count.ensures.files (keys_of e.1.pairs) e.2 stands) in
-      (put e.0 c.in_ok-key.key.now v.0, more, subst (λ qs. AreFiled c.args.bytes.now c.file-count.result c.file-count.new.places (keys_of qs)) (same_pairs c.args.bytes.now c.in_ok-at.at os added more.pairs v.1.reached more.reached) filed);
+      let filed = subst (AreFiled c.args.bytes.now c.file-count.result c.file-count.new.places) (sym (keys_push e.0.pairs c.in_ok-key.key.now v.tree)) (c.file-count.ensures.files (keys_of e.0.pairs) e.1 stands) in
+      (pairs_more c.args.bytes.now c.loose.at os c.in_ok-key.key.now c.in_ok-key.behind c.in_ok-at.at e.0 new v, filed);
 }
 
 pub unsorted_at-returns-clause-reads : goal.unsorted_at-returns-clause-reads
 unsorted_at-returns-clause-reads t c os ps d r f g h =
     let e = c.loose.invariant.so_far os ps d r f g h in
-    (value.Dict e.0, pairs_end c.args.bytes.now c.args.from c.loose.at os e.0 e.1 (omega (arith, c.requires.order, c.loose.invariant.after)) c.loose-test.ensures)
+    pairs_end c.args.bytes.now c.args.from c.loose.at os e.0 (omega (arith, c.requires.order, c.loose.invariant.after)) c.loose-test.ensures

@@ -23,7 +23,7 @@ abbrev pub invariant-list_at-values : goal.invariant-list_at-values
 invariant-list_at-values l = record {
   after : l.from ≤ l.at;
   within : l.at ≤ length l.bytes;
-  so_far : (os : List Open) → suc (length os) ≡ l.depth → Reached l.bytes l.from (Ready (InList [] ∷ os)) → FitsOpen os → (values : List Value) × ListSoFar l.bytes l.at os values;
+  so_far : (os : List Open) → suc (length os) ≡ l.depth → Reached l.bytes l.from (Ready (InList [] ∷ os)) → FitsOpen os → ListSoFar l.bytes l.at os;
 }
 
 abbrev pub decreases-list_at-values : goal.decreases-list_at-values
@@ -33,7 +33,7 @@ abbrev pub invariant-dictionary_at-pairs : goal.invariant-dictionary_at-pairs
 invariant-dictionary_at-pairs l = record {
   after : l.from ≤ l.at;
   within : l.at ≤ length l.bytes;
-  so_far : (os : List Open) → suc (length os) ≡ l.depth → Reached l.bytes l.from (Keyless os []) → FitsOpen os → (entries : List (Pair Value)) × (so : PairsSoFar l.bytes l.at os entries) × IsUpTo l.greatest (keys_of so.pairs);
+  so_far : (os : List Open) → suc (length os) ≡ l.depth → Reached l.bytes l.from (Keyless os []) → FitsOpen os → (so : PairsSoFar l.bytes l.at os) × IsUpTo l.greatest (keys_of so.pairs);
 }
 
 abbrev pub decreases-dictionary_at-pairs : goal.decreases-dictionary_at-pairs
@@ -46,7 +46,7 @@ abbrev pub invariant-unsorted_at-loose : goal.invariant-unsorted_at-loose
 invariant-unsorted_at-loose l = record {
   after : l.start ≤ l.at;
   within : l.at ≤ length l.bytes;
-  so_far : (os : List Open) (pairs : List (Pair Value)) → suc (length os) ≡ l.depth → Reached l.bytes l.from (Keyless os []) → FitsOpen os → Reached l.bytes l.start (Keyless os pairs) → FitsPairs os pairs → (entries : List (Pair Value)) × (so : PairsSoFar l.bytes l.at os entries) × AreFiled l.bytes l.count l.places (keys_of so.pairs);
+  so_far : (os : List Open) (pairs : List (Pair Value)) → suc (length os) ≡ l.depth → Reached l.bytes l.from (Keyless os []) → FitsOpen os → Reached l.bytes l.start (Keyless os pairs) → FitsPairs os pairs → (so : PairsSoFar l.bytes l.at os) × AreFiled l.bytes l.count l.places (keys_of so.pairs);
 }
 
 abbrev pub decreases-unsorted_at-loose : goal.decreases-unsorted_at-loose

@@ -1,4 +1,4 @@
-use Rattle.std.proofs.Common.{◌≡◌, ◌<◌, ◌≤◌, ◌++◌, ◌∷◌, arith, ap, sym, take, map, refl}
+use Rattle.std.proofs.Common.{◌<◌, ◌≤◌, ◌∷◌, arith, ap, sym, refl}
 use Rattle.kad_bencode.specs.Spelling.{depth_of, string_text}
 use Rattle.kad_bencode.proofs.Writing.{item_depth, pair_depth, texts_more, pairs_text_more, list_text, dictionary_text}
 use Rattle.kad_bencode.proofs.Putting.{puts_then, puts_same}
