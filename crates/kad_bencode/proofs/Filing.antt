@@ -1,6 +1,5 @@
 -- Keys that are filed by their places.
 use Rattle.std.proofs.Common.{◌≡◌, ℕ, zero, suc, ◌+◌, ◌-◌, ◌≤◌, ◌<◌, Bool, true, false, ◌||◌, List, [], ◌∷◌, ◌++◌, take, drop, length, get_or, refl, sym, ap, ◌∙◌, subst, arith, inl, inr, ◌⊎◌, ⊎_elim, append_assoc, append-nil, length-append}
-use Rattle.std.specs.Prelude.{◌≢◌}
 use Rattle.std.specs.List.{AllByRecursion, insert}
 use Rattle.std.specs.List.Sorted.{IsStrictlySortedBy}
 use Rattle.std.specs.Ordering.{is_eq}
@@ -80,14 +79,6 @@ module _ (bytes places : List ℕ) (keys : List (List ℕ)) (a : AreAt bytes pla
       (sym (reads (get_or keys (i - 1) [])
       (at_place bytes places keys a (i - 1) d (omega (arith, h, p))).1)) ∙ above
   behind_is false i d h reads above = tt
-
-  pub above_is : (i d : ℕ) → i < length places → ((k : List ℕ) → IsAt bytes (get_or places i d) (string_text k) → found ≡ k)
-      → key_cmp key found ≡ Greater → key_cmp key (get_or keys i []) ≡ Greater
-  above_is i d h reads above = ap (key_cmp key) (sym (reads (get_or keys i []) (at_place bytes places keys a i d h).1)) ∙ above
-
-  pub not_above_is : (i d : ℕ) → i < length places → ((k : List ℕ) → IsAt bytes (get_or places i d) (string_text k) → found ≡ k)
-      → key_cmp key found ≢ Greater → key_cmp key (get_or keys i []) ≢ Greater
-  not_above_is i d h reads other = λ e. other (ap (key_cmp key) (reads (get_or keys i []) (at_place bytes places keys a i d h).1) ∙ e)
 
 -- ---- where a key is between its neighbours
 

@@ -1,5 +1,5 @@
 -- Keys by the places where they stand, the lowest key first; no public contract speaks of them.
-use Rattle.std.specs.Prelude.{◌≡◌, ◌≢◌, ℕ, ◌-◌, ◌<◌, ◌≤◌, Bool, true, false, List, [], ◌∷◌, take, length, get_or}
+use Rattle.std.specs.Prelude.{◌≡◌, ℕ, ◌-◌, ◌<◌, ◌≤◌, Bool, true, false, List, [], ◌∷◌, take, length, get_or}
 use Rattle.std.specs.declared.cmp.Ordering.TheVariants.{Greater}
 use Rattle.std.specs.List.Sorted.{IsStrictlySortedBy}
 use Rattle.kad_bencode.specs.Keys.{key_cmp}
@@ -33,9 +33,3 @@ IsBehind keys i key false = Unit {0}
 abbrev pub IsBefore : List (List ℕ) → ℕ → List ℕ → Bool → Type 0
 IsBefore keys i key true = i < length keys → key_cmp (get_or keys i []) key ≡ Greater
 IsBefore keys i key false = Unit {0}
-
--- the key is above the one in front of a place, if there is one, and not above the one there, if there is one: of ascending
--- keys that is one place
-pub record IsPlace (keys : List (List ℕ)) (i : ℕ) (key : List ℕ) : Type 0 where
-  pub above : 0 < i → key_cmp key (get_or keys (i - 1) []) ≡ Greater
-  pub not_above : i < length keys → key_cmp key (get_or keys i []) ≢ Greater

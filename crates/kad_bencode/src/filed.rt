@@ -7,7 +7,7 @@ ghost use Rattle.kad_bencode.specs.Keys.{keys_of, key_cmp};
 ghost use Rattle.kad_bencode.specs.Spelling.{has_key, string_text};
 ghost use Rattle.kad_bencode.specs.Faults.{IsAt};
 ghost use Rattle.kad_bencode.specs.Finding.{ArePairs, IsAbove};
-ghost use Rattle.kad_bencode.specs.Filing.{AreAt, AreFiled, IsBehind, IsBefore, IsPlace};
+ghost use Rattle.kad_bencode.specs.Filing.{AreAt, AreFiled, IsBehind, IsBefore};
 ghost use Rattle.kad_bencode.specs.declared.entries.Pair.{Pair};
 ghost use Rattle.kad_bencode.specs.declared.value.Value.{Value};
 
@@ -42,23 +42,11 @@ fn key_at(bytes: &[u8], place: usize) -> &[u8]
     }
 }
 
-/// Where a key belongs among those filed, by halving. Whether it is new is seen from its neighbours there.
+/// Where a key may belong among those filed, by the keys. Whether it does, and is new, is seen from its neighbours there.
 fn place_of(bytes: &[u8], places: &[u16], key: &[u8]) -> usize
-    ensures within { result ≤ length places.now }
-    ensures place { (keys : List (List ℕ)) → AreAt bytes.now places.now keys
-        → IsPlace keys result key.now }
+    ensures { result ≤ length places.now }
 {
-    let mut low = 0;
-    let mut high = places.len();
-    while low < high {
-        let middle = low + (high - low) / 2;
-        if is_above(key, key_at(bytes, places[middle] as usize)) {
-            low = middle + 1;
-        } else {
-            high = middle;
-        }
-    }
-    low
+    places.partition_point(|place| is_above(key, key_at(bytes, *place as usize)))
 }
 
 /// Whether a key is above the one in front of a place, if there is one.
