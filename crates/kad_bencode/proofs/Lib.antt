@@ -20,6 +20,7 @@ pub mod Putting
 pub mod Paired
 pub mod Filing
 pub mod Parting
+pub mod Above
 pub mod Added
 pub mod Kept
 pub mod Formed

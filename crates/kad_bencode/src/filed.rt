@@ -13,20 +13,26 @@ ghost use Rattle.kad_bencode.specs.declared.value.Value.{Value};
 
 use crate::find::{find, first_pair, string_in};
 use crate::heads::{Heads, head_of};
-use std::cmp::Ordering;
 
 /// How many keys are filed at most: more than a datagram of 4,096 bytes has room for.
 pub(crate) const MOST: usize = 768;
 
-/// Whether a key comes after another.
+/// Whether a key comes after another. Keys are short as a rule, so their bytes are compared one by one.
 pub(crate) fn is_above(a: &[u8], b: &[u8]) -> bool
     ensures { IsAbove (key_cmp a.now b.now) result }
 {
-    match a.cmp(b) {
-        Ordering::Greater => true,
-        Ordering::Equal => false,
-        Ordering::Less => false,
+    let both = a.len().min(b.len());
+    let mut at = 0;
+    while at < both {
+        if a[at] > b[at] {
+            return true;
+        }
+        if a[at] < b[at] {
+            return false;
+        }
+        at += 1;
     }
+    a.len() > b.len()
 }
 
 /// The key whose text stands at a place.
