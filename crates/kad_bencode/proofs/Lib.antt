@@ -21,6 +21,7 @@ pub mod Paired
 pub mod Filing
 pub mod Parting
 pub mod Above
+pub mod Ascending
 pub mod Added
 pub mod Kept
 pub mod Formed

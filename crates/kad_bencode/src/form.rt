@@ -3,7 +3,7 @@
 ghost use Rattle.std.specs.Prelude.{◌≡◌, ℕ, ◌<◌, ◌≤◌, List, [], ◌∷◌, ◌++◌, map, length, flat_map, IfOk, OnOk, true};
 ghost use Rattle.std.specs.List.{AllByRecursion, concat};
 ghost use Rattle.std.specs.List.Sorted.{IsPermutation, IsSortedBy};
-ghost use Rattle.kad_bencode.specs.Keys.{keys_of};
+ghost use Rattle.kad_bencode.specs.Keys.{keys_of, IsAscending};
 ghost use Rattle.kad_bencode.specs.Spelling.{Fits, Spells, each_once, in_order, pairs_text, put_all, text_of};
 ghost use Rattle.kad_bencode.specs.Faults.{pairs_of};
 ghost use Rattle.kad_bencode.specs.Finding.{ArePairs};
@@ -12,6 +12,7 @@ ghost use Rattle.kad_bencode.specs.Written.{Puts};
 ghost use Rattle.kad_bencode.specs.declared.entries.Pair.{Pair};
 ghost use Rattle.kad_bencode.specs.declared.value.Value.{Value};
 
+use crate::filed::is_above;
 use crate::find::first_pair;
 use crate::heads::head_of;
 use crate::into::{put_part, put_string};
@@ -75,11 +76,37 @@ fn put_rows(text: &mut [u8], rows: &[Row<'_>]) -> usize
     at
 }
 
-/// Puts the pairs that stand there into the order of their keys.
+/// Whether the keys of some pairs ascend, as those of a written form do.
+fn ascend(pairs: &[u8]) -> bool
+    ensures { (ps : List (Pair Value)) → ArePairs pairs.now ps → result ≡ true → IsAscending ps }
+{
+    let (mut last, mut rest) = match first_pair(pairs) {
+        Some((key, _, others)) => (key, others),
+        None => return false,
+    };
+    while rest.len() > 0 {
+        match first_pair(rest) {
+            Some((key, _, others)) => {
+                if !is_above(key, last) {
+                    return false;
+                }
+                last = key;
+                rest = others;
+            }
+            None => return false,
+        }
+    }
+    true
+}
+
+/// Puts the pairs that stand there into the order of their keys, if they aren't in it.
 fn order_pairs(alloc: Global, pairs: &mut [u8]) -> Result<(), NoMemory>
     ensures { (ps : List (Pair Value)) → ArePairs pairs.old ps → each_once (keys_of ps) ≡ true
         → OnOk result (pairs.new ≡ pairs_text (pairs_of (put_all [] ps))) }
 {
+    if ascend(pairs) {
+        return Ok(());
+    }
     let copy = Vec::from_slice(alloc, pairs)?;
     let mut rows = rows_of(alloc, copy.as_slice())?;
     sort_rows(&mut rows);
