@@ -1,5 +1,5 @@
 //! The workers of all paths, each with its burst in a thread of its own.
-ghost use Rattle.std.specs.Prelude.{◌≡◌, ◌↔◌, IsTrue, IsOk, IfOk, length};
+ghost use Rattle.std.specs.Prelude.{◌≡◌, ◌↔◌, IsOk, IfOk, length};
 ghost use Rattle.std.specs.List.{All};
 ghost use Rattle.path_worker.specs.Burst.{IsOpened};
 ghost use Rattle.path_worker.specs.Pool.{CanWork, Worked, AllWorked};
@@ -72,19 +72,14 @@ pub(crate) fn burst_all<R: Threads + Wait + Sync, C: Check + Sync>(
     burst_each(rt, book, table, check, pool.as_mut_slice());
 }
 
-/// Whether no worker was without memory.
-fn all_ok(pool: &[Job]) -> bool
-    ensures { IsTrue result ↔ All (λ s. IsOk s.answer) pool.now }
-{
-    pool.iter().all(|job| job.answer.is_ok())
-}
-
-/// The answer of all workers together.
+/// The answer of all workers together: that of the first that was without memory, if there is one.
 pub(crate) fn answer_of(pool: &[Job]) -> Result<(), NoMemory>
     ensures { IsOk result ↔ All (λ s. IsOk s.answer) pool.now }
 {
-    if all_ok(pool) {
-        return Ok(());
+    for job in pool {
+        if let Err(fault) = job.answer {
+            return Err(fault);
+        }
     }
-    Err(NoMemory)
+    Ok(())
 }
