@@ -10,7 +10,7 @@ ghost use Rattle.kad_base.specs.declared.types.Family.TheVariants.{Four};
 ghost use Rattle.kad_text.specs.Text.{SpellsAddr, SpellsBytes, SpellsFamily, SpellsHex, SpellsId, SpellsNumber};
 
 use crate::ipv6::read_v6;
-use hex::FromHex;
+use hex::{FromHex, FromHexError};
 use itoa::Buffer;
 use kad_base::{Addr, Bytes, Family, Id, Ip, List, NoMemory};
 use std::alloc::Global;
@@ -48,7 +48,10 @@ pub fn read_bytes(alloc: Global, text: &str) -> Result<Bytes, NoMemory>
 {
     match hex::decode(alloc, text) {
         Ok(bytes) => Ok(List::from_vec(bytes)),
-        Err(_) => Err(NoMemory),
+        Err(fault) => match fault {
+            FromHexError::OutOfMemory => Err(NoMemory),
+            _ => unreachable!(),
+        },
     }
 }
 
