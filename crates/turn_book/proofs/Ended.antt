@@ -7,7 +7,6 @@ use Rattle.std.proofs.lemmas.List.Elements.{All-push, All-nil, All-head, All-tai
 use Rattle.std.proofs.lemmas.List.Sorted.{All-permutation, IsPermutation-sym}
 use Rattle.std.proofs.lemmas.Bool.{eqb-true}
 use Rattle.kad_base.specs.declared.serial.Made.{Made}
-use Rattle.kad_base.specs.Serial.{calls_of}
 use Rattle.turn_book.specs.Turns.{TurnState, PassState, Closed, fresh, all_fresh, mine}
 
 -- ---- passes that stand in a row in reverse
