@@ -15,6 +15,7 @@ import tempfile
 import time
 from importlib.machinery import SourceFileLoader
 from importlib.util import module_from_spec, spec_from_loader
+from statistics import median
 
 LOADER = SourceFileLoader("edge", os.path.join(os.path.dirname(os.path.realpath(__file__)), "edge"))
 edge = module_from_spec(spec_from_loader("edge", LOADER))
@@ -28,6 +29,7 @@ ASKER = identifier(7)
 KEY = edge.KEY  # of a group
 HASH = "e28910ea0adb94dd45ced75fbff3e135c01bc437"  # of the value 5:hello
 MANY, LONG_ENOUGH = 64, 0.2  # datagrams of one measurement, and the seconds of processor time after which it ends
+EACH = 8  # datagrams of one measurement of which the least counts
 ALONE, PAUSE = 15, 0.02  # datagrams of one measurement with pauses, and the seconds between two
 
 
@@ -53,20 +55,22 @@ def pairs(keys):
     return b"".join(b"%d:" % len(key) + key + b"0:" for key in keys)
 
 
-# How a dictionary may be filled: the order of its keys, and how long they are.
+# How a dictionary may be filled: the order of its keys, how long they are, and what they begin with.
 ORDERS = {
-    "falling": (falling, 2),
-    "any order": (shuffled, 2),
-    "falling, long": (falling, 30),
-    "any order, long": (shuffled, 30),
+    "falling": (falling, 2, b""),
+    "any order": (shuffled, 2, b""),
+    "falling, long": (falling, 30, b""),
+    "any order, long": (shuffled, 30, b""),
+    "any order, alike": (shuffled, 10, b"z" * 8),
 }
 
 
 def fills(room):
     """Pairs of about so many bytes, by each of the orders: as they stand, and ascending."""
     made = []
-    for order, size in ORDERS.values():
-        keys = names(room // len(pairs(names(1, size))), size)
+    for order, size, front in ORDERS.values():
+        each = len(pairs([bytes(size)]))
+        keys = [front + name for name in names(room // each, size - len(front))]
         made.append((pairs(order(keys)), pairs(keys)))
     return made
 
@@ -122,6 +126,10 @@ def saying(place, fill, tx, name, more=b"", tag=b""):
 def tagged(place, fill, ascending, tx, name, more=b""):
     """The same with the tag of the group, which is of the written form, whose keys ascend."""
     return saying(place, fill, tx, name, more, edge.tag(KEY, name, saying(place, ascending, tx, name, more)))
+
+
+# What an answer gives: sixteen nodes, a token and peers.
+GIVEN = b"5:nodes" + text(bytes(16 * 26)) + b"5:token8:xxxxxxxx" + b"6:valuesl" + 16 * text(bytes(6)) + b"e"
 
 
 def putting(fill, token, plain=False):
@@ -250,9 +258,10 @@ class Measured:
         row = self.row()
         return int(row[4].split(":")[1], 16) == 0 and edge.state(self.child) == "S"
 
-    def rest(self):
+    def rest(self, spent=-1.0):
+        """Until it waits, and has spent more than this: what is sent to it isn't at its socket at once on a busy machine."""
         patience = time.monotonic() + 60
-        while not self.is_waiting():
+        while not (self.is_waiting() and self.spent() > spent):
             check(time.monotonic() < patience, "it doesn't get through what it was sent")
             time.sleep(0.0001)
 
@@ -276,7 +285,7 @@ class Measured:
         """The processor time that it takes until it has done what this asks of it, in seconds."""
         began = self.spent()
         act()
-        self.rest()
+        self.rest(began)
         return self.spent() - began
 
     def ask_all(self, queries):
@@ -296,22 +305,32 @@ class Measured:
         self.rest()
         began, sent = self.spent(), 0
         while sent < many and self.spent() < began + LONG_ENOUGH:
+            before = self.spent()
             for at in range(sent, sent + at_once):
                 self.send(datagrams[at % len(datagrams)], host)
             sent += at_once
-            self.rest()
+            self.rest(before)
             self.empty()
         return (self.spent() - began) / sent
 
-    def takes_alone(self, datagrams, host=None):
-        """The processor time that one of these takes where it comes after a pause, in seconds, as the median of some: the
-        system has to wake the process then, and little of it is in the processor's caches."""
+    def least(self, datagram, host=None):
+        """The least processor time that one of some like this takes, in seconds, each once the one before is done with."""
         each = []
-        for at in range(ALONE):
-            each.append(self.spends(lambda: self.send(datagrams[at % len(datagrams)], host)))
+        for _ in range(EACH):
+            each.append(self.spends(lambda: self.send(datagram, host)))
             self.empty()
-            time.sleep(PAUSE)
-        return sorted(each)[ALONE // 2]
+        return min(each)
+
+    def alone(self, kinds, host=None):
+        """The processor time that each of these takes where it comes after a pause, in seconds, as the median of some, in turn: the
+        system has to wake the process then, and little of it is in the processor's caches."""
+        each = [[] for _ in kinds]
+        for _ in range(ALONE):
+            for datagram, times in zip(kinds, each):
+                times.append(self.spends(lambda: self.send(datagram, host)))
+                self.empty()
+                time.sleep(PAUSE)
+        return tuple(map(median, each))
 
     def ask(self, query):
         self.empty()
@@ -379,6 +398,8 @@ def strays(node, sealed):
         senders = [("an answer with another id", b"none", host, name), ("an answer from elsewhere", tx, None, name)]
     for kind, tx_said, host, name in senders:
         plain = lambda fill, _, tx=tx_said, name=name: saying("plain", fill, tx, name)
+        make = lambda fill, _, tx=tx_said, name=name: saying("r", fill, tx, name, GIVEN)
+        rows.append(("%s, r beside nodes" % kind, make, plain, host))
         for place in REPLY_PLACES:
             make = lambda fill, _, place=place, tx=tx_said, name=name: saying(place, fill, tx, name)
             rows.append(("%s, %s" % (kind, place), make, plain, host))
@@ -441,23 +462,74 @@ def library(source, folder):
     raise edge.Failure("no C compiler builds a library that stands before the C library")
 
 
-class Clock:
-    """A clock that is moved ahead for who is started under its environment."""
+# Stands before the C library's own: how many allocations there were, and of how many bytes, stands in a file, which is mapped.
+# glibc has these names for its own calls; what is taken before the file is mapped counts elsewhere.
+COUNTING = r"""
+extern char *getenv(const char *);
+extern int open(const char *, int, ...);
+extern void *mmap(void *, unsigned long, int, int, int, long);
+extern void *__libc_malloc(unsigned long), *__libc_calloc(unsigned long, unsigned long);
+extern void *__libc_realloc(void *, unsigned long);
 
-    def __init__(self):
+static struct { long calls, bytes; } early, *counts = &early;
+
+__attribute__((constructor)) static void begin(void) {
+    counts = mmap(0, 4096, 3, 1, open(getenv("COUNTS"), 2), 0);
+}
+
+static unsigned long counted(unsigned long n) {
+    __atomic_add_fetch(&counts->calls, 1, __ATOMIC_SEQ_CST);
+    __atomic_add_fetch(&counts->bytes, n, __ATOMIC_SEQ_CST);
+    return n;
+}
+
+void *malloc(unsigned long n) { return __libc_malloc(counted(n)); }
+void *calloc(unsigned long n, unsigned long m) { counted(n * m); return __libc_calloc(n, m); }
+void *realloc(void *p, unsigned long n) { return __libc_realloc(p, counted(n)); }
+"""
+
+
+class Page:
+    """A page that is shared with who is started under its environment: a library reads or writes it there."""
+
+    def __init__(self, source, variable):
         self.folder = tempfile.TemporaryDirectory()
-        path = os.path.join(self.folder.name, "ahead")
+        path = os.path.join(self.folder.name, "page")
         with open(path, "wb") as file:
             file.write(bytes(4096))
         with open(path, "r+b") as file:
             self.page = mmap.mmap(file.fileno(), 4096)
+        self.environment = {"LD_PRELOAD": library(source, self.folder.name), variable: path}
+
+    def close(self):
+        self.page.close()
+        self.folder.cleanup()
+
+
+class Clock(Page):
+    """A clock that is moved ahead."""
+
+    def __init__(self):
+        super().__init__(AHEAD, "CLOCK_AHEAD")
         self.ahead = 0
-        self.environment = {"LD_PRELOAD": library(AHEAD, self.folder.name), "CLOCK_AHEAD": path}
 
     def move(self, milliseconds):
         self.ahead += milliseconds
         self.page[:8] = self.ahead.to_bytes(8, "little")
 
-    def close(self):
-        self.page.close()
-        self.folder.cleanup()
+
+class Counts(Page):
+    """Counts allocations."""
+
+    def __init__(self):
+        super().__init__(COUNTING, "COUNTS")
+
+    def so_far(self):
+        return struct.unpack("=qq", self.page[:16])
+
+    def taken(self, node, datagram, host):
+        """How many allocations the node makes for this datagram, and of how many bytes."""
+        before = self.so_far()
+        node.spends(lambda: node.send(datagram, host))
+        node.empty()
+        return tuple(after - there for there, after in zip(before, self.so_far()))
