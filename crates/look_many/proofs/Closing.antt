@@ -1,11 +1,10 @@
 -- What comes back once the three turns are closed, and where nothing was begun.
-use Rattle.std.proofs.Common.{◌≡◌, ℕ, ◌<◌, suc, List, [], length, Option, Result, Ok, Err, IfOk, inl, refl, ap, subst, ◌∙◌}
+use Rattle.std.proofs.Common.{◌≡◌, ℕ, ◌<◌, List, [], ◌∷◌, Option, Result, Ok, Err, IfOk, inl, refl, ap, ◌∙◌, All}
 use Rattle.std.specs.Prelude.{IfErr}
-use Rattle.std.proofs.lemmas.List.Elements.{All-nil}
-use Rattle.kad_base.specs.declared.types.Id.{Id}
+use Rattle.std.proofs.lemmas.List.Elements.{All-head}
 use Rattle.kad_base.specs.declared.types.Event.{Event}
 use Rattle.kad_base.specs.declared.serial.Made.{Made}
-use Rattle.kad_base.specs.Serial.{left_by, IsRun}
+use Rattle.kad_base.specs.Serial.{left_by}
 use Rattle.kad_base.proofs.Grown.{grows_none}
 use Rattle.id_puzzles.specs.Drawn.{WordsState}
 use Rattle.turn_book.proofs.Ended.{none_made}
@@ -31,45 +30,19 @@ use Rattle.look_many.specs.inner.Seats.{Rows}
 use Rattle.look_many.specs.inner.Ends.{Task, FoundBack, StoppedBack}
 use Rattle.look_many.proofs.Promised.{many_looked, many_began}
 
-pub none_began : (targets : List Id) (before after : TableState) (words : WordsState) (told : Option (List Event)) → after ≡ before → NoneBegan targets before after words words told told NoMemory
-none_began targets before after words told is = record {
-  fault_is = refl;
-  no_events = grows_none told (λ events. events ≡ []) refl;
-  same_words = refl;
-  ran = record {
-    tables = [];
-    tables_legal = tt;
-    tables_roles = All-nil (λ (m : Made TableCall TableReply). m.role < suc (length targets));
-    leaves = is;
-    stores = [];
-    stores_legal = tt;
-    stores_roles = All-nil (λ (m : Made PeerCall PeerReply). m.role < suc (length targets));
-    shelves = [];
-    shelves_legal = tt;
-    shelves_roles = All-nil (λ (m : Made ItemCall ItemReply). m.role < suc (length targets));
-  };
-}
+pub none_began : (before after : TableState) (words : WordsState) (told : Option (List Event)) → after ≡ before → NoneBegan before after words words told told NoMemory
+none_began before after words told is = record { fault_is = refl; no_events = grows_none told (λ events. events ≡ []) refl; same_words = refl; same_table = is }
+
+none_of : {A : Type 0} (xs : List A) → All (λ (x : A). ⊥) xs → xs ≡ []
+none_of [] h = refl
+none_of (x ∷ xs) h = absurd (All-head (λ _. ⊥) x xs h)
 
 -- the table's turn was opened, and closed again
-pub opened_alone : (targets : List Id) (turn : TurnState TableState) (row : List TablePass) (before after : TableState) (calls : ℕ) (words : WordsState) (told : Option (List Event)) → Closed TableMay TableStep table_after turn row after calls → turn.start ≡ before → row ≡ all_fresh turn
-    → NoneBegan targets before after words words told told NoMemory
-opened_alone targets turn row before after calls words told t start is = record {
-  fault_is = refl;
-  no_events = grows_none told (λ events. events ≡ []) refl;
-  same_words = refl;
-  ran = record {
-    tables = t.run;
-    tables_legal = subst (λ b. IsRun TableMay TableStep table_after b t.run) start t.legal;
-    tables_roles = none_made TableMay TableStep table_after turn row after calls t turn.roles refl is (λ (m : Made TableCall TableReply). m.role < suc (length targets));
-    leaves = t.left ∙ ap (λ b. left_by table_after b t.run) start;
-    stores = [];
-    stores_legal = tt;
-    stores_roles = All-nil (λ (m : Made PeerCall PeerReply). m.role < suc (length targets));
-    shelves = [];
-    shelves_legal = tt;
-    shelves_roles = All-nil (λ (m : Made ItemCall ItemReply). m.role < suc (length targets));
-  };
-}
+pub opened_alone : (turn : TurnState TableState) (row : List TablePass) (before after : TableState) (calls : ℕ) (words : WordsState) (told : Option (List Event)) → Closed TableMay TableStep table_after turn row after calls → turn.start ≡ before → row ≡ all_fresh turn
+    → NoneBegan before after words words told told NoMemory
+opened_alone turn row before after calls words told t start is =
+    none_began before after words told
+    (t.left ∙ ap (left_by table_after turn.start) (none_of t.run (none_made TableMay TableStep table_after turn row after calls t turn.roles refl is (λ (m : Made TableCall TableReply). ⊥))) ∙ start)
 
 module _ (k : Task) (r : Rows) (before after : TableState) (table_calls : ℕ) (held : List Held) (peers_calls : ℕ) (shelf : List HeldItem) (items_calls : ℕ)
     (t : Closed TableMay TableStep table_after r.tables r.table_row after table_calls) (p : Closed PeersMay PeersStep peers_after r.stores r.peers_row held peers_calls) (i : Closed ItemMay ItemStep item_after r.shelves r.items_row shelf items_calls)

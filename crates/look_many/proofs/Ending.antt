@@ -1,10 +1,10 @@
 -- What is known once the three turns of several lookups are closed.
-use Rattle.std.proofs.Common.{◌≡◌, ℕ, suc, zero, ◌+◌, ◌<◌, ◌==◌, cond, true, false, List, [], ◌∷◌, ◌++◌, map, length, get_or, refl, sym, ap, subst, ◌∙◌, arith, All}
+use Rattle.std.proofs.Common.{◌≡◌, ℕ, suc, zero, ◌+◌, ◌<◌, ◌==◌, cond, true, false, List, [], ◌∷◌, ◌++◌, map, length, get_or, eqb, refl, sym, ap, subst, ◌∙◌, arith, All}
 use Rattle.std.specs.Prelude.{reverse}
 use Rattle.std.specs.List.{flat_map}
 use Rattle.std.proofs.lemmas.Grind.{flat_map-append}
 use Rattle.std.proofs.lemmas.Bool.{eqb-true}
-use Rattle.std.proofs.lemmas.List.Elements.{All-nil, All-cons, All-head, All-tail, All-same, All-append, All-weaker, filter-append}
+use Rattle.std.proofs.lemmas.List.Elements.{All-nil, All-cons, All-head, All-tail, All-same, All-append, All-weaker, filter-append, filter_passes}
 use Rattle.kad_base.specs.declared.types.Id.{Id}
 use Rattle.kad_base.specs.declared.serial.Made.{Made}
 use Rattle.kad_base.specs.Serial.{made, calls_of, left_by, IsRun}
@@ -30,7 +30,7 @@ use Rattle.node_serve.specs.declared.setting.ServeSetting.{ServeSetting}
 use Rattle.serve_crew.specs.Hands.{Hands, TablePass, at_table, at_peers, at_items}
 use Rattle.serve_crew.specs.Runs.{Ran, HadAllMemory, AreCalls}
 use Rattle.look_many.specs.declared.seeker.Seeker.{Seeker}
-use Rattle.look_many.specs.ManyLooked.{seeds_for, seeks}
+use Rattle.look_many.specs.ManyLooked.{seeds_for, seeks, AreOfDriver}
 use Rattle.look_many.specs.inner.Seats.{RolesFrom, Rows, AreBack}
 
 -- ---- the calls for the seeds, before the turn is opened
@@ -99,6 +99,11 @@ module _ {S C R : Type 0} (may : ℕ → C → Type 0) (step : S → ℕ → C �
   one_row : (n : ℕ) → pass.role < n → All (λ (m : Made C R). m.role < n) closed.run
   one_row n few = all_of_one (λ (m : Made C R). m.role < n) (mine_few n pass few)
 
+  -- so all of its calls are of that role
+  role_of_one : All (λ (m : Made C R). m.role ≡ pass.role) closed.run
+  role_of_one = all_of_one (λ (m : Made C R). m.role ≡ pass.role)
+      (All-weaker (λ (m : Made C R). eqb m.role pass.role ≡ true) (λ (m : Made C R). m.role ≡ pass.role) (λ m is. eqb-true m.role pass.role is) (mine pass) (filter_passes (λ (m : Made C R). eqb m.role pass.role) pass.seen))
+
   calls_of_one : calls_of pass.role closed.run ≡ mine pass
   calls_of_one = All-head (λ (x : PassState C R). calls_of x.role closed.run ≡ mine x) pass [] (subst (All (λ (x : PassState C R). calls_of x.role closed.run ≡ mine x)) is closed.in_order)
 
@@ -129,6 +134,13 @@ module _ (server : ServeSetting) (targets : List Id) (r : Rows) (before after : 
     shelves = i.run;
     shelves_legal = subst (λ b. IsRun ItemMay ItemStep item_after b i.run) no_items i.legal;
     shelves_roles = one_row ItemMay ItemStep item_after r.shelves r.items_row host.items shelf items_calls i back.items (suc (length targets)) (let d = back.driver_items in omega (arith, d));
+  }
+
+  pub ended_of_driver : AreOfDriver (suc (length targets)) before after ended_ran
+  unfolding ended_ran
+  ended_of_driver = record {
+    stores = subst (λ n. All (λ (m : Made PeerCall PeerReply). m.role ≡ n) p.run) back.driver_peers (role_of_one PeersMay PeersStep peers_after r.stores r.peers_row host.peers held peers_calls p back.peers);
+    shelves = subst (λ n. All (λ (m : Made ItemCall ItemReply). m.role ≡ n) i.run) back.driver_items (role_of_one ItemMay ItemStep item_after r.shelves r.items_row host.items shelf items_calls i back.items);
   }
 
   -- the driver's calls

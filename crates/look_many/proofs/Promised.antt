@@ -59,7 +59,7 @@ use Rattle.look_many.proofs.Starting.{begin_seeds, all_fresh_of}
 use Rattle.look_many.proofs.Whole.{begins, told_whole, tells_early, ends_at_foreign}
 use Rattle.look_many.proofs.Zips.{zip_length, zip_then, zip_weaker}
 use Rattle.look_many.proofs.Hosting.{ran_on_none}
-use Rattle.look_many.proofs.Ending.{Remembers, ended_ran, ended_memory, driver_calls_are, lookup_calls}
+use Rattle.look_many.proofs.Ending.{Remembers, ended_ran, ended_of_driver, ended_memory, driver_calls_are, lookup_calls}
 
 -- ---- one lookup
 
@@ -291,6 +291,7 @@ module _ (k : Task) (r : Rows) (before after : TableState) (table_calls : ℕ) (
         errands = errands;
         are = record { answers = w.ran.answers; losses = w.ran.losses };
         driver = driver_calls_are k.server k.targets r before after table_calls held peers_calls shelf items_calls t p i start no_peers no_items u.host u.seekers b.back count (map did_of errands) at_t at_p at_i;
+        of_driver = ended_of_driver k.server k.targets r before after table_calls held peers_calls shelf items_calls t p i start no_peers no_items u.host u.seekers b.back count;
         workers = λ n o lt. workers n o lt;
       }
     where
@@ -339,6 +340,7 @@ module _ (k : Task) (r : Rows) (before after : TableState) (table_calls : ℕ) (
           stores = (flat_map (at_peers 0) on, are.stores ∙ ap (flat_map (at_peers 0)) split ∙ flat_map-append (at_peers 0) (calls ++ did) on);
           shelves = (flat_map (at_items 0) on, are.shelves ∙ ap (flat_map (at_items 0)) split ∙ flat_map-append (at_items 0) (calls ++ did) on);
         };
+        of_driver = ended_of_driver k.server k.targets r before after table_calls held peers_calls shelf items_calls t p i start no_peers no_items b.host b.seekers b.back count;
       }
 
 -- where all are over, and there was no memory to say what was found

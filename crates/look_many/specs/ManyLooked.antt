@@ -2,7 +2,7 @@
 -- promise of a lookup by its own journal, whatever the others meet (S/Kademlia, 2007, section 4.4), and the calls on what they
 -- share stand in legal runs.
 use Rattle.std.specs.Prelude.{◌≡◌, ◌≢◌, ◌⊎◌, ℕ, suc, ◌+◌, ◌<◌, ◌≤◌, List, [], ◌∷◌, ◌++◌, length, map, slice_index_or, Option, false}
-use Rattle.std.specs.List.{AllZip, flat_map}
+use Rattle.std.specs.List.{All, AllZip, flat_map}
 use Rattle.kad_base.specs.declared.types.Id.{Id}
 use Rattle.kad_base.specs.declared.types.Addr.{Addr}
 use Rattle.kad_base.specs.declared.types.Contact.{Contact}
@@ -150,6 +150,11 @@ drawn_by words owners = record words { place = words.place + length owners }
 abbrev pub journals_of : List One → List (List Entry)
 journals_of ones = map (λ one. one.journal) ones
 
+-- all calls on the peers and on the items are the driver's: no lookup makes any
+pub record AreOfDriver (n : ℕ) (before after : TableState) (ran : Ran n before after) : Type 0 where
+  pub stores : All (λ m. m.role ≡ 0) ran.stores
+  pub shelves : All (λ m. m.role ≡ 0) ran.shelves
+
 -- What several lookups did. Role 0 of the table's turn is the driver's, and role i + 1 that of the lookup i, which told it of the
 -- contacts that its journal notes, in order.
 pub record ManyLooked (accepts : Accepts) (tags : Tags) (server : ServeSetting) (setting : ManySetting) (targets : List Id) (receives : ℕ) (before after : TableState) (words words' : WordsState) (told told' : Option (List Event)) (many : Many) : Type 0 where
@@ -163,6 +168,7 @@ pub record ManyLooked (accepts : Accepts) (tags : Tags) (server : ServeSetting) 
   pub errands : List Errand
   pub are : AreErrands read errands
   pub driver : AreCalls (suc (length targets)) before after ran 0 (driver_calls server before targets errands)
+  pub of_driver : AreOfDriver (suc (length targets)) before after ran
   pub workers : (i : ℕ) (d : One) → i < length targets → calls_in (calls_of (suc i) ran.tables) ≡ seen_calls (noted (slice_index_or many.outcomes i d).journal)
 
 -- ---- ended early
@@ -186,16 +192,17 @@ pub record ManyBegan (accepts : Accepts) (tags : Tags) (server : ServeSetting) (
   pub errands : List Errand
   pub are : AreErrands read errands
   pub driver : AreFirstCalls (suc (length targets)) before after ran 0 (driver_calls server before targets errands)
+  pub of_driver : AreOfDriver (suc (length targets)) before after ran
 
--- there was no memory to begin
-pub record NoneBegan (targets : List Id) (before after : TableState) (words words' : WordsState) (told told' : Option (List Event)) (fault : ManyFault) : Type 0 where
+-- there was no memory to begin: the table is as it was
+pub record NoneBegan (before after : TableState) (words words' : WordsState) (told told' : Option (List Event)) (fault : ManyFault) : Type 0 where
   pub fault_is : fault ≡ NoMemory
   pub no_events : Grows told told' (λ events. events ≡ [])
   pub same_words : words' ≡ words
-  pub ran : Ran (suc (length targets)) before after
+  pub same_table : after ≡ before
 
 -- the lookups ended early
 abbrev pub ManyStopped : Accepts → Tags → ServeSetting → ManySetting → List Id → ℕ → TableState → TableState → WordsState → WordsState → Option (List Event) → Option (List Event) → ManyFault → Type 0
 ManyStopped accepts tags server setting targets receives before after words words' told told' fault =
     ManyBegan accepts tags server setting targets receives before after words words' told told' fault
-    ⊎ NoneBegan targets before after words words' told told' fault
+    ⊎ NoneBegan before after words words' told told' fault

@@ -28,8 +28,9 @@ use contact_table::Table;
 use id_puzzles::Words;
 use item_store::Items;
 use kad_base::limits::RECEIVE_ROOM;
-use kad_base::{Check, Id, Link, NoMemory, Numbers, Serial};
+use kad_base::{Id, Link, NoMemory, Numbers, Serial};
 use node_serve::ServeSetting;
+use path_worker::PacedCheck;
 use peer_store::Peers;
 use seal_tags::{Seal, SealCheck};
 use serve_crew::ServeWorker;
@@ -40,7 +41,7 @@ use std::thread::Threads;
 use turn_book::{Pass, Passes, Turn, TurnNoMemory};
 
 /// Goes all rounds of the lookups, and then serves on.
-fn go<R: Threads + Wait + Sync, L: Link, C: Check + Sync, G: Seal + SealCheck>(
+fn go<R: Threads + Wait + Sync, L: Link, C: PacedCheck + Sync, G: Seal + SealCheck>(
     rt: &R,
     alloc: Global,
     link: &mut L,
@@ -157,7 +158,7 @@ fn only_pass<S: Serial>(turn: &Turn<S>, row: &mut Passes<S>) -> Pass<S>
 }
 
 /// Makes the lookups and the node that serves of the passes of three turns, goes on with them, and puts all passes back.
-fn work<R: Threads + Wait + Sync, L: Link, C: Check + Sync, G: Seal + SealCheck>(
+fn work<R: Threads + Wait + Sync, L: Link, C: PacedCheck + Sync, G: Seal + SealCheck>(
     rt: &R,
     alloc: Global,
     link: &mut L,
@@ -274,7 +275,7 @@ fn work<R: Threads + Wait + Sync, L: Link, C: Check + Sync, G: Seal + SealCheck>
 /// were made on it. Where a check says that it takes long, the lookups settle at once after a round, each on a thread of its
 /// own. Strangers choose the contacts, so the hasher of the books' indexes is handed in; no answer depends on it.
 /// `Strays` comes with the 1,000,000th datagram for no lookup while a query is open, `LinkFault` where a receive failed.
-pub fn look_many<R: Threads + Wait + Sync, L: Link, C: Check + Sync, G: Seal + SealCheck>(
+pub fn look_many<R: Threads + Wait + Sync, L: Link, C: PacedCheck + Sync, G: Seal + SealCheck>(
     rt: &R,
     alloc: Global,
     link: &mut L,

@@ -18,7 +18,8 @@ use crate::settle::settle_all;
 use crate::wait::earliest;
 use id_puzzles::Words;
 use kad_base::limits::RECEIVE_ROOM;
-use kad_base::{Check, Link, NoMemory};
+use kad_base::{Link, NoMemory};
+use path_worker::PacedCheck;
 use seal_tags::{Seal, SealCheck};
 use serve_crew::ServeWorker;
 use std::alloc::Global;
@@ -84,7 +85,12 @@ fn ask_and_receive<R: Wait, L: Link, G: Seal + SealCheck>(
 }
 
 /// Goes round until every path of each lookup has run out.
-pub(crate) fn go_rounds<R: Threads + Wait + Sync, L: Link, C: Check + Sync, G: Seal + SealCheck>(
+pub(crate) fn go_rounds<
+    R: Threads + Wait + Sync,
+    L: Link,
+    C: PacedCheck + Sync,
+    G: Seal + SealCheck,
+>(
     rt: &R,
     alloc: Global,
     link: &mut L,

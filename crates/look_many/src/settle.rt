@@ -21,6 +21,7 @@ use claim_book::{Book, BookCall, BookReply, Checked};
 use contact_table::{Table, TableCall, TableReply};
 use kad_base::limits::MAX_PATHS;
 use kad_base::{Check, Contact, NoMemory, Report, Serial};
+use path_worker::PacedCheck;
 use std::sync::Wait;
 use std::thread;
 use std::thread::Threads;
@@ -248,7 +249,7 @@ fn several_have_some(seekers: &mut [Seeker]) -> bool
 
 /// Settles what each lookup has: all at once, where checking takes long and more than one has something; else one after
 /// another, since making a thread costs more than the checks do.
-fn settle_each<R: Threads + Wait + Sync, C: Check + Sync>(
+fn settle_each<R: Threads + Wait + Sync, C: PacedCheck + Sync>(
     rt: &R,
     tables: &Turn<Table>,
     check: &C,
@@ -258,7 +259,7 @@ fn settle_each<R: Threads + Wait + Sync, C: Check + Sync>(
     ensures len { length seekers.new ≡ length seekers.old }
     ensures each { EachSettles seekers.old seekers.new }
 {
-    if !check.takes_long() {
+    if !check.is_slow() {
         settle_in_turn(rt, tables, check, seekers);
         return;
     }
@@ -279,7 +280,7 @@ fn all_settled(seekers: &[Seeker]) -> bool
 /// Settles all that the lookups have: each settles its paths in ascending order, and tells the table by its own pass of each
 /// contact that answered, before it notes it. A table that has no memory for one stops that lookup alone, and the contact
 /// stays unsettled; `NoMemory` comes once the others are settled.
-pub(crate) fn settle_all<R: Threads + Wait + Sync, C: Check + Sync>(
+pub(crate) fn settle_all<R: Threads + Wait + Sync, C: PacedCheck + Sync>(
     rt: &R,
     tables: &Turn<Table>,
     check: &C,

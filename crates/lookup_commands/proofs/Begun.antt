@@ -20,7 +20,7 @@ use Rattle.claim_book.proofs.Descent.{own_answers}
 use Rattle.lookup_run.specs.declared.types.LookSetting.{LookSetting}
 use Rattle.lookup_core.specs.declared.quest.AskKind.{AskKind}
 use Rattle.lookup_run.specs.declared.types.Outcome.{Outcome}
-use Rattle.lookup_run.specs.Tells.{Given, Tells, NeverEnds}
+use Rattle.lookup_run.specs.Tells.{Given, HasFewStrays, NeverEnds}
 use Rattle.lookup_run.specs.Lookup.{IsWithinLimits, given_of, TableTold, TellsEarly, Unfinished, EndsByStrays, MeetsFewStrays}
 use Rattle.kad_words.specs.declared.command.LookWords.{LookWords}
 use Rattle.command_base.specs.Printed.{printed, printed_of}
@@ -48,8 +48,8 @@ begun_of kind look called source link start left h = record {
   own_answers = own_answers (book_of kind look called.random) h.journal h.legal;
 }
 
-pub tells_early : (g : Given) (J : List Entry) (events : List Event) → Tells g J events → TellsEarly g J events
-tells_early g J events h = record { front = events; end = h.end; so_far = h.so_far; whole = inl refl }
+pub tells_early : (g : Given) (J : List Entry) (events : List Event) → HasFewStrays g J events max_strays → TellsEarly g J events
+tells_early g J events h = record { front = events; end = h.end; so_far = h.so_far; few = h.few; whole = inl refl }
 
 -- ---- the same over the values that the code has
 

@@ -13,9 +13,7 @@ use Rattle.kad_base.specs.Words.{word}
 use Rattle.kad_base.proofs.Grown.{grows_then, grows_weaker}
 use Rattle.id_puzzles.specs.Drawn.{WordsState}
 use Rattle.lookup_core.specs.declared.quest.AskKind.{AskKind}
-use Rattle.lookup_run.specs.SendFaults.{unsent}
 use Rattle.lookup_run.specs.Tells.{Given, EndsAtStray, NeverEnds}
-use Rattle.lookup_run.proofs.Refusing.{counted_later}
 use Rattle.kad_words.specs.declared.command.LookWords.{LookWords}
 use Rattle.lookup_commands.specs.declared.run_lookup.Reached.{Reached}
 use Rattle.lookup_commands.specs.Announced.{Announcement, tried, asking, Announces, AnnouncesSome}
@@ -114,7 +112,7 @@ module _ (kind : AskKind) (look : LookWords) (owing : Owing) (called : Called) (
         ran = h.ran;
         tells = grows_then before middle after _ _ (TellsSomeThen kind look owing called o.journal) h.tells all
             (λ es fs t a. record { lookup = es; then = fs; whole = refl; peers = o.peers; tokens = o.tokens; items = o.items; tells = t; announces = a });
-        refused = counted_later (length (unsent o.journal)) s s' s'' later h.refused.counted;
+        refused = record { between = s'; refused = h.refused; no_less = later };
       }
 
 -- all of it is a front of it

@@ -10,3 +10,4 @@ pub mod Printing
 pub mod Reaching
 pub mod Storing
 pub mod Lawfully
+pub mod OneText

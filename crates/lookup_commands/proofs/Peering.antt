@@ -7,8 +7,6 @@ use Rattle.kad_base.specs.Outside.{Grows}
 use Rattle.claim_book.specs.Journal.{failed, asked}
 use Rattle.claim_book.specs.Result.{result_of}
 use Rattle.lookup_core.specs.declared.quest.AskKind.TheVariants.{GetPeers}
-use Rattle.lookup_run.specs.SendFaults.{unsent}
-use Rattle.lookup_run.proofs.Refusing.{counted_later}
 use Rattle.kad_words.specs.declared.command.LookWords.{LookWords}
 use Rattle.lookup_commands.specs.declared.run_lookup.Reached.{Reached}
 use Rattle.lookup_commands.specs.Peered.{announcing_to, PeersText}
@@ -42,7 +40,7 @@ peers_at look port called source before middle after f f' f'' s s' s'' r n text 
       announced = n;
       tells = tells;
       no_last_stray = never_then GetPeers look (announcing_to look port) called source (record { before = before; after = after; faults = f; faults' = f''; sends = s; sends' = s'' }) r n tells;
-      refused = counted_later (length (unsent J)) s s' s'' later h.refused.counted;
+      refused = record { between = s'; refused = h.refused; no_less = later };
       text_is =
           is ∙ ap (λ (l : List Contact). printed_peers o.peers (length l) o.counts.asked o.counts.failed o.counts.turned n) h.found
           ∙ ap (λ m. printed_peers o.peers (length (result_of (book_of GetPeers look called.random) J)) m o.counts.failed o.counts.turned n) h.counted.asked

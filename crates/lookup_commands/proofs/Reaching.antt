@@ -15,7 +15,7 @@ use Rattle.lookup_run.specs.declared.types.LookSetting.{LookSetting}
 use Rattle.lookup_run.specs.declared.types.Outcome.{Outcome}
 use Rattle.lookup_core.specs.Sealed.{Accepts}
 use Rattle.lookup_run.specs.Tells.{Given, Tells, HasFewStrays, NeverEnds}
-use Rattle.lookup_run.specs.Rounds.{Rounds, concurrent}
+use Rattle.lookup_run.specs.Rounds.{Scheduling, Rounds, scheduling_by}
 use Rattle.std.specs.List.Sorted.{IsStrictlySortedBy}
 use Rattle.lookup_run.specs.Gathered.{Gathers, addr_cmp}
 use Rattle.lookup_run.specs.Lookup.{given_of, Finished, TellsEarly}
@@ -60,32 +60,32 @@ where_plain : {A : Type 0} (sealed : Bool) (a b : Option (List A)) (P Q : List A
 where_plain true a b P Q g h = grows_weaker a b Q (λ t. true ≡ false → P t) g (λ t q e. absurd (true≢false e))
 where_plain false a b P Q g h = grows_weaker a b P (λ t. false ≡ false → P t) (h refl) (λ t p e. p)
 
-all_told : (g : Given) (o : Outcome) (a b : Option (List Event)) → Grows a b (λ events. Tells g o.journal events) → Grows a b (λ events. Rounds concurrent g o.journal events) → Grows a b (λ events. Gathers g o.journal events o.peers o.tokens o.items)
-    → Grows a b (λ events. HasFewStrays g o.journal events max_strays) → (g.quest.sealed ≡ false → Grows a b (NeverEnds g max_strays)) → Grows a b (TellsAll g o.journal o.peers o.tokens o.items)
-all_told g o a b tells rounds gathers few never =
-    let half = grows_both a b _ _ (λ events. Tells g o.journal events × Rounds concurrent g o.journal events) tells rounds (λ t p q. (p, q)) in
+all_told : (scheduling : Scheduling) (g : Given) (o : Outcome) (a b : Option (List Event)) → Grows a b (λ events. Tells g o.journal events) → Grows a b (λ events. Rounds scheduling g o.journal events) → Grows a b (λ events. Gathers g o.journal events o.peers o.tokens o.items)
+    → Grows a b (λ events. HasFewStrays g o.journal events max_strays) → (g.quest.sealed ≡ false → Grows a b (NeverEnds g max_strays)) → Grows a b (TellsAll scheduling g o.journal o.peers o.tokens o.items)
+all_told scheduling g o a b tells rounds gathers few never =
+    let half = grows_both a b _ _ (λ events. Tells g o.journal events × Rounds scheduling g o.journal events) tells rounds (λ t p q. (p, q)) in
     let rest = grows_both a b _ _ (λ events. Gathers g o.journal events o.peers o.tokens o.items × HasFewStrays g o.journal events max_strays) gathers few (λ t p q. (p, q)) in
-    let All : List Event → Type 0 = (λ events. (Tells g o.journal events × Rounds concurrent g o.journal events) × (Gathers g o.journal events o.peers o.tokens o.items × HasFewStrays g o.journal events max_strays)) in
+    let All : List Event → Type 0 = (λ events. (Tells g o.journal events × Rounds scheduling g o.journal events) × (Gathers g o.journal events o.peers o.tokens o.items × HasFewStrays g o.journal events max_strays)) in
     let all = grows_both a b _ _ All half rest (λ t p q. (p, q)) in
-    grows_both a b All (λ events. g.quest.sealed ≡ false → NeverEnds g max_strays events) (TellsAll g o.journal o.peers o.tokens o.items) all (where_plain g.quest.sealed a b (NeverEnds g max_strays) All all never)
+    grows_both a b All (λ events. g.quest.sealed ≡ false → NeverEnds g max_strays events) (TellsAll scheduling g o.journal o.peers o.tokens o.items) all (where_plain g.quest.sealed a b (NeverEnds g max_strays) All all never)
     (λ t p q. record { tells = p.0.0; rounds = p.0.1; gathers = p.1.0; few_strays = p.1.1; no_last_stray = q })
 
 pub reaches : (kind : AskKind) (look : LookWords) (called : Called) (source : Shown ℕ) (link : Shown Event) (setting : LookSetting) (words left : WordsState) (table : TableState) (o : Outcome) → Has kind look called.random source setting words table
-    → Finished setting called.accepts table words left link.before link.after o → Grows link.before link.after (λ events. Rounds concurrent (given_of setting called.accepts words) o.journal events)
+    → Finished setting called.accepts table words left link.before link.after o → Grows link.before link.after (λ events. Rounds (scheduling_by called.slow) (given_of setting called.accepts words) o.journal events)
     → Grows link.before link.after (λ events. Gathers (given_of setting called.accepts words) o.journal events o.peers o.tokens o.items)
     → Grows link.before link.after (λ events. HasFewStrays (given_of setting called.accepts words) o.journal events max_strays) → (setting.sealed ≡ false → Grows link.before link.after (NeverEnds (given_of setting called.accepts words) max_strays))
     → IsStrictlySortedBy addr_cmp o.peers → RefusedIn o.journal link.sends link.sends'
     → Reaches kind look called source link (record { own = setting.own; outcome = o; words = left })
 reaches kind look called source link setting words left table o h up rounds gathers few never sorted refused =
     let up' : Finished (look_of kind look called.random) called.accepts table (drawn_of called.random) left link.before link.after o = moved kind look called.random source setting words table (λ s w. Finished s called.accepts table w left link.before link.after o) h up in
-    let rounds' = moved kind look called.random source setting words table (λ s w. Grows link.before link.after (λ events. Rounds concurrent (given_of s called.accepts w) o.journal events)) h rounds in
+    let rounds' = moved kind look called.random source setting words table (λ s w. Grows link.before link.after (λ events. Rounds (scheduling_by called.slow) (given_of s called.accepts w) o.journal events)) h rounds in
     let gathers' = moved kind look called.random source setting words table (λ s w. Grows link.before link.after (λ events. Gathers (given_of s called.accepts w) o.journal events o.peers o.tokens o.items)) h gathers in
     let few' = moved kind look called.random source setting words table (λ s w. Grows link.before link.after (λ events. HasFewStrays (given_of s called.accepts w) o.journal events max_strays)) h few in
     let never' = moved kind look called.random source setting words table (λ s w. s.sealed ≡ false → Grows link.before link.after (NeverEnds (given_of s called.accepts w) max_strays)) h never in
     record {
       own_is = ap (λ (s : LookSetting). s.own) h.setting_is;
       ran = ran_out kind look called.random called.accepts source (start_of kind look called.random source setting words table h) (drawn_of called.random) left link.before link.after o h.range up';
-      tells = all_told (lookup_of kind look called) o link.before link.after up'.tells rounds' gathers' few' never';
+      tells = all_told (scheduling_by called.slow) (lookup_of kind look called) o link.before link.after up'.tells rounds' gathers' few' never';
       found = up'.found;
       counted = up'.counted;
       drawn = up'.drawn;
@@ -102,7 +102,7 @@ begun_reached kind look called source link r h =
       journal = r.outcome.journal;
       legal = h.ran.legal;
       seeds_are = h.ran.seeds_are;
-      tells = grows_weaker link.before link.after _ (λ events. TellsEarly (lookup_of kind look called) r.outcome.journal events) h.tells (λ events t. tells_early (lookup_of kind look called) r.outcome.journal events t.tells);
+      tells = grows_weaker link.before link.after _ (λ events. TellsEarly (lookup_of kind look called) r.outcome.journal events) h.tells (λ events t. tells_early (lookup_of kind look called) r.outcome.journal events t.few_strays);
       drawn = h.drawn;
       refused = h.refused;
     })

@@ -11,8 +11,6 @@ use Rattle.item_store.specs.Items.{IsItem}
 use Rattle.lookup_core.specs.declared.quest.AskKind.TheVariants.{GetItem}
 use Rattle.kad_krpc.specs.declared.message.Ask.{Ask}
 use Rattle.lookup_run.specs.declared.types.Token.{Token}
-use Rattle.lookup_run.specs.SendFaults.{unsent}
-use Rattle.lookup_run.proofs.Refusing.{counted_later}
 use Rattle.kad_words.specs.declared.command.LookWords.{LookWords}
 use Rattle.lookup_commands.specs.Announced.{Announcement, announcements}
 use Rattle.lookup_commands.specs.declared.run_lookup.Reached.{Reached}
@@ -53,7 +51,7 @@ puts_at look item called source before middle after f f' f'' s s' s'' r n text h
       stored = n;
       tells = grows_weaker before after _ _ tells (λ events t. (o.peers, t));
       no_last_stray = never_then GetItem look (putting_to item) called source (record { before = before; after = after; faults = f; faults' = f''; sends = s; sends' = s'' }) r n tells;
-      refused = counted_later (length (unsent J)) s s' s'' later h.refused.counted;
+      refused = record { between = s'; refused = h.refused; no_less = later };
       text_is =
           is ∙ ap (λ (l : List Contact). printed_stored look.target (length l) o.counts.asked o.counts.failed o.counts.turned n) h.found
           ∙ ap (λ m. printed_stored look.target (length (result_of (book_of GetItem look called.random) J)) m o.counts.failed o.counts.turned n) h.counted.asked

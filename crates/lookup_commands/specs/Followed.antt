@@ -1,6 +1,6 @@
 -- What the link's events tell of a command that looks up and then says something to each contact of the result that gave a
 -- token: first a whole lookup, and then what is said.
-use Rattle.std.specs.Prelude.{◌≡◌, ℕ, ◌+◌, List, ◌++◌, length}
+use Rattle.std.specs.Prelude.{◌≡◌, ◌≤◌, ℕ, ◌+◌, List, ◌++◌, length}
 use Rattle.kad_base.specs.declared.types.Id.{Id}
 use Rattle.kad_base.specs.declared.types.Addr.{Addr}
 use Rattle.kad_base.specs.declared.types.Contact.{Contact}
@@ -12,7 +12,8 @@ use Rattle.claim_book.specs.Result.{result_of}
 use Rattle.lookup_core.specs.declared.quest.AskKind.{AskKind}
 use Rattle.lookup_run.specs.declared.types.Item.{Item}
 use Rattle.lookup_run.specs.declared.types.Token.{Token}
-use Rattle.lookup_run.specs.SendFaults.{IsCounted, unsent}
+use Rattle.lookup_run.specs.Rounds.{scheduling_by}
+use Rattle.lookup_run.specs.SendFaults.{RefusedIn}
 use Rattle.kad_words.specs.declared.command.LookWords.{LookWords}
 use Rattle.lookup_commands.specs.Announced.{Announcement, Announces, AnnouncesSome, sent_in}
 use Rattle.command_base.specs.Called.{Called}
@@ -32,6 +33,12 @@ owed_by kind look owing random J tokens = owing (own_of look.own random) (result
 abbrev pub next_place : List ℕ → List Entry → ℕ
 next_place random J = (drawn_of random).place + length (asked J)
 
+-- whom the lookup lost to a refused send, the link counted; what was said after it, the link may have refused too
+pub record RefusedFirst (J : List Entry) (before after : ℕ) : Type 0 where
+  pub between : ℕ
+  pub refused : RefusedIn J before between
+  pub no_less : between ≤ after
+
 -- what the events tell: first a whole lookup, and then each thing that is owed
 pub record TellsThen (kind : AskKind) (look : LookWords) (owing : Owing) (called : Called) (J : List Entry) (peers : List Addr) (sent : ℕ) (events : List Event) : Type 0 where
   pub lookup : List Event
@@ -39,7 +46,7 @@ pub record TellsThen (kind : AskKind) (look : LookWords) (owing : Owing) (called
   pub whole : events ≡ lookup ++ then
   pub tokens : List Token
   pub items : List Item
-  pub tells : TellsAll (lookup_of kind look called) J peers tokens items lookup
+  pub tells : TellsAll (scheduling_by called.slow) (lookup_of kind look called) J peers tokens items lookup
   pub announces : Announces called.random (next_place called.random J) (owed_by kind look owing called.random J tokens) then
   pub counts : sent ≡ sent_in then
 
@@ -51,7 +58,7 @@ pub record TellsSomeThen (kind : AskKind) (look : LookWords) (owing : Owing) (ca
   pub peers : List Addr
   pub tokens : List Token
   pub items : List Item
-  pub tells : TellsAll (lookup_of kind look called) J peers tokens items lookup
+  pub tells : TellsAll (scheduling_by called.slow) (lookup_of kind look called) J peers tokens items lookup
   pub announces : AnnouncesSome called.random (next_place called.random J) (owed_by kind look owing called.random J tokens) then
 
 -- a lookup that has run out, after which not all that is owed was said
@@ -59,5 +66,4 @@ pub record AnnouncedSome (kind : AskKind) (look : LookWords) (owing : Owing) (ca
   pub journal : List Entry
   pub ran : HasRunOut kind look called.random source journal
   pub tells : Grows link.before link.after (TellsSomeThen kind look owing called journal)
-  -- the link may have refused some of what was said too
-  pub refused : IsCounted (length (unsent journal)) link.sends link.sends'
+  pub refused : RefusedFirst journal link.sends link.sends'

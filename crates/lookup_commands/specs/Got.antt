@@ -15,6 +15,7 @@ use Rattle.lookup_core.specs.declared.quest.AskKind.TheVariants.{GetItem}
 use Rattle.lookup_run.specs.declared.types.Item.{Item}
 use Rattle.lookup_run.specs.declared.types.Outcome.{Outcome}
 use Rattle.lookup_run.specs.declared.types.Token.{Token}
+use Rattle.lookup_run.specs.Rounds.{Scheduling, scheduling_by}
 use Rattle.lookup_run.specs.SendFaults.{RefusedIn}
 use Rattle.lookup_run.specs.Tells.{Given}
 use Rattle.kad_words.specs.declared.command.LookWords.{LookWords}
@@ -52,8 +53,8 @@ pub record IsPrinted (key : Id) (o : Outcome) (text : List ℕ) : Type 0 where
   pub text_is : text ≡ printed_item item (length o.found) o.counts.asked o.counts.failed o.counts.turned
 
 -- the events tell a whole lookup, whose answers gave these items
-abbrev pub TellsItems : Given → List Entry → List Item → List Event → Type 0
-TellsItems g J items events = (peers : List Addr) × (tokens : List Token) × TellsAll g J peers tokens items events
+abbrev pub TellsItems : Scheduling → Given → List Entry → List Item → List Event → Type 0
+TellsItems scheduling g J items events = (peers : List Addr) × (tokens : List Token) × TellsAll scheduling g J peers tokens items events
 
 -- A lookup for an item that was asked for, and that has run out. The text has the item that was got, which over a link that
 -- tells nothing too isn't too long and has the key for its SHA-1, or says that there is none; and it counts what was found
@@ -62,7 +63,7 @@ pub record GetText (look : LookWords) (called : Called) (source : Shown ℕ) (li
   pub journal : List Entry
   pub ran : HasRunOut GetItem look called.random source journal
   pub items : List Item
-  pub tells : Grows link.before link.after (TellsItems (lookup_of GetItem look called) journal items)
+  pub tells : Grows link.before link.after (TellsItems (scheduling_by called.slow) (lookup_of GetItem look called) journal items)
   pub no_last_stray : NeverInStrays GetItem look called link
   pub refused : RefusedIn journal link.sends link.sends'
   pub item : Option (List ℕ)

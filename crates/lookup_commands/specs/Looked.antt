@@ -16,7 +16,7 @@ use Rattle.claim_book.specs.Lineage.{GoesByOwnAnswers}
 use Rattle.lookup_core.specs.declared.quest.AskKind.{AskKind}
 use Rattle.lookup_core.specs.declared.quest.AskKind.TheVariants.{FindNode}
 use Rattle.lookup_run.specs.Tells.{Tells, EndsAtStray, HasFewStrays, NeverEnds}
-use Rattle.lookup_run.specs.Rounds.{Rounds, concurrent}
+use Rattle.lookup_run.specs.Rounds.{Rounds, scheduling_by}
 use Rattle.lookup_run.specs.Lookup.{Unfinished, EndsByStrays, MeetsFewStrays}
 use Rattle.lookup_run.specs.SendFaults.{RefusedIn}
 use Rattle.kad_words.specs.declared.command.LookWords.{LookWords}
@@ -44,12 +44,12 @@ abbrev pub IsInStrays : AskKind → LookWords → Called → Shown Event → Typ
 IsInStrays kind look called link = (look.sealed ≡ false) × Grows link.before link.after (λ events. (J : List Entry) × EndsAtStray (lookup_of kind look called) J events max_strays)
 
 -- A lookup that was asked for: its journal has run out, the link's events tell it and go by rounds, and the text is its
--- own. So each that is printed has answered.
+-- own. So each that is printed has answered. Unless the check is slow, the paths settle one after another.
 pub record LookupText (kind : AskKind) (look : LookWords) (called : Called) (source : Shown ℕ) (link : Shown Event) (text : List ℕ) : Type 0 where
   pub journal : List Entry
   pub ran : HasRunOut kind look called.random source journal
   pub tells : Grows link.before link.after (λ events. Tells (lookup_of kind look called) journal events)
-  pub rounds : Grows link.before link.after (λ events. Rounds concurrent (lookup_of kind look called) journal events)
+  pub rounds : Grows link.before link.after (λ events. Rounds (scheduling_by called.slow) (lookup_of kind look called) journal events)
   pub few_strays : Grows link.before link.after (λ events. HasFewStrays (lookup_of kind look called) journal events max_strays)
   pub no_last_stray : NeverInStrays kind look called link
   -- over a link that tells nothing too

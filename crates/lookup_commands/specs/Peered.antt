@@ -10,10 +10,9 @@ use Rattle.claim_book.specs.Journal.{asked, failed, turned}
 use Rattle.claim_book.specs.Result.{result_of}
 use Rattle.lookup_core.specs.declared.quest.AskKind.TheVariants.{GetPeers}
 use Rattle.lookup_run.specs.Gathered.{addr_cmp}
-use Rattle.lookup_run.specs.SendFaults.{IsCounted, unsent}
 use Rattle.kad_words.specs.declared.command.LookWords.{LookWords}
 use Rattle.lookup_commands.specs.Announced.{owed}
-use Rattle.lookup_commands.specs.Followed.{AnnouncedSome, Owing, TellsThen}
+use Rattle.lookup_commands.specs.Followed.{AnnouncedSome, Owing, RefusedFirst, TellsThen}
 use Rattle.lookup_commands.specs.Looked.{LookupBegun, NeverInStrays, seek_aim}
 use Rattle.lookup_commands.specs.Printed.{printed_peers}
 use Rattle.command_base.specs.Promise.{Promise, reading}
@@ -37,8 +36,7 @@ pub record PeersText (look : LookWords) (announce : Option ℕ) (called : Called
   pub announced : ℕ
   pub tells : Grows link.before link.after (TellsThen GetPeers look (announcing_to look announce) called journal peers announced)
   pub no_last_stray : NeverInStrays GetPeers look called link
-  -- the link may have refused announcements too
-  pub refused : IsCounted (length (unsent journal)) link.sends link.sends'
+  pub refused : RefusedFirst journal link.sends link.sends'
   pub text_is : text ≡ printed_peers peers (length (result_of (book_of GetPeers look called.random) journal)) (length (asked journal)) (length (failed journal)) (length (turned journal)) announced
 
 -- a lookup for peers that ended early, itself or in its announcements

@@ -20,7 +20,7 @@ use Rattle.lookup_core.specs.declared.quest.AskKind.{AskKind}
 use Rattle.lookup_run.specs.declared.types.Item.{Item}
 use Rattle.lookup_run.specs.declared.types.Token.{Token}
 use Rattle.lookup_run.specs.Tells.{Given, Tells, HasFewStrays, NeverEnds}
-use Rattle.lookup_run.specs.Rounds.{Rounds, concurrent}
+use Rattle.lookup_run.specs.Rounds.{Scheduling, Rounds, scheduling_by}
 use Rattle.lookup_run.specs.Gathered.{Gathers, addr_cmp}
 use Rattle.lookup_run.specs.Lookup.{seeds_in, drawn_for}
 use Rattle.lookup_run.specs.SendFaults.{RefusedIn}
@@ -45,9 +45,9 @@ pub record HasRunOut (kind : AskKind) (look : LookWords) (random : List ℕ) (so
 
 -- what the events of a whole lookup tell: its journal, by rounds, with fewer strays than a lookup takes, and the peers,
 -- tokens and items that its answers gave
-pub record TellsAll (g : Given) (J : List Entry) (peers : List Addr) (tokens : List Token) (items : List Item) (events : List Event) : Type 0 where
+pub record TellsAll (scheduling : Scheduling) (g : Given) (J : List Entry) (peers : List Addr) (tokens : List Token) (items : List Item) (events : List Event) : Type 0 where
   pub tells : Tells g J events
-  pub rounds : Rounds concurrent g J events
+  pub rounds : Rounds scheduling g J events
   pub gathers : Gathers g J events peers tokens items
   pub few_strays : HasFewStrays g J events max_strays
   pub no_last_stray : g.quest.sealed ≡ false → NeverEnds g max_strays events
@@ -56,7 +56,7 @@ pub record TellsAll (g : Given) (J : List Entry) (peers : List Addr) (tokens : L
 pub record Reaches (kind : AskKind) (look : LookWords) (called : Called) (source : Shown ℕ) (link : Shown Event) (reached : Reached) : Type 0 where
   pub own_is : reached.own ≡ own_of look.own called.random
   pub ran : HasRunOut kind look called.random source reached.outcome.journal
-  pub tells : Grows link.before link.after (TellsAll (lookup_of kind look called) reached.outcome.journal reached.outcome.peers reached.outcome.tokens reached.outcome.items)
+  pub tells : Grows link.before link.after (TellsAll (scheduling_by called.slow) (lookup_of kind look called) reached.outcome.journal reached.outcome.peers reached.outcome.tokens reached.outcome.items)
   pub found : reached.outcome.found ≡ result_of (book_of kind look called.random) reached.outcome.journal
   pub counted : Counted reached.outcome.journal reached.outcome.counts
   pub drawn : reached.words ≡ drawn_for (drawn_of called.random) reached.outcome.journal

@@ -9,11 +9,10 @@ use Rattle.claim_book.specs.Journal.{asked, failed, turned}
 use Rattle.claim_book.specs.Result.{result_of}
 use Rattle.item_store.specs.Items.{IsItem}
 use Rattle.lookup_core.specs.declared.quest.AskKind.TheVariants.{GetItem}
-use Rattle.lookup_run.specs.SendFaults.{IsCounted, unsent}
 use Rattle.kad_words.specs.declared.command.LookWords.{LookWords}
 use Rattle.lookup_commands.specs.Announced.{announcements, putting}
 use Rattle.command_base.specs.Called.{Called}
-use Rattle.lookup_commands.specs.Followed.{AnnouncedSome, Owing, TellsThen}
+use Rattle.lookup_commands.specs.Followed.{AnnouncedSome, Owing, RefusedFirst, TellsThen}
 use Rattle.lookup_commands.specs.Looked.{LookupBegun, NeverInStrays, seek_aim}
 use Rattle.lookup_commands.specs.Printed.{printed_stored}
 use Rattle.command_base.specs.Promise.{Aim, Promise, valued}
@@ -37,8 +36,7 @@ pub record PutText (look : LookWords) (item : List ℕ) (called : Called) (sourc
   pub stored : ℕ
   pub tells : Grows link.before link.after (TellsPuts look item called journal stored)
   pub no_last_stray : NeverInStrays GetItem look called link
-  -- the link may have refused puts too
-  pub refused : IsCounted (length (unsent journal)) link.sends link.sends'
+  pub refused : RefusedFirst journal link.sends link.sends'
   pub text_is : text ≡ printed_stored look.target (length (result_of (book_of GetItem look called.random) journal)) (length (asked journal)) (length (failed journal)) (length (turned journal)) stored
 
 -- one that ended early, itself or in its puts

@@ -12,9 +12,10 @@ use crate::printed::print_item;
 use crate::run_lookup::run_lookup;
 use command_base::{Call, Status};
 use item_store::{MAX_ITEM, item_key};
-use kad_base::{Bytes, Check, Id, Link, NoMemory, Source};
+use kad_base::{Bytes, Id, Link, NoMemory, Source};
 use kad_words::LookWords;
 use lookup_run::{AskKind, Item, Outcome};
+use path_worker::PacedCheck;
 use seal_tags::{Seal, SealCheck};
 use std::alloc::Global;
 use std::sync::Wait;
@@ -64,7 +65,7 @@ fn text_of(alloc: Global, key: &Id, outcome: &Outcome) -> Result<Bytes, NoMemory
 }
 
 /// Looks for the item, and makes the text of what was got, or says why there is none. Nothing is written yet.
-pub fn get<R: Threads + Wait + Sync, S: Source, L: Link, C: Check + Sync, G: Seal + SealCheck>(
+pub fn get<R: Threads + Wait + Sync, S: Source, L: Link, C: PacedCheck + Sync, G: Seal + SealCheck>(
     rt: &R,
     alloc: Global,
     look: &LookWords,
@@ -73,16 +74,19 @@ pub fn get<R: Threads + Wait + Sync, S: Source, L: Link, C: Check + Sync, G: Sea
     call: &Call<'_, C, G>,
 ) -> Result<Bytes, Status>
     requires { IsInRange look.now }
-    ensures ok { IfOk result (GetText look.now (called_with call.now.random (G.accepted call.now.seal.now)
+    ensures ok { IfOk result (GetText look.now
+        (called_with call.now.random (C.slow call.now.check.now) (G.accepted call.now.seal.now)
         (G.tag_of call.now.seal.now))
         (shown S.left S.faults source.old source.new)
         (shown_link L.told L.recv_faults L.send_faults link.old link.new)) }
-    ensures cause { IfErr result ((get_promise look.now).cause (called_with call.now.random (G.accepted call.now.seal.now)
+    ensures cause { IfErr result ((get_promise look.now).cause
+        (called_with call.now.random (C.slow call.now.check.now) (G.accepted call.now.seal.now)
         (G.tag_of call.now.seal.now))
         (shown S.left S.faults source.old source.new)
         (shown_link L.told L.recv_faults L.send_faults link.old link.new)) }
     ensures no_memory { IfErr result (λ status. status ≡ Status.NoMemory →
-        LookupBegun AskKind.GetItem look.now (called_with call.now.random (G.accepted call.now.seal.now)
+        LookupBegun AskKind.GetItem look.now
+        (called_with call.now.random (C.slow call.now.check.now) (G.accepted call.now.seal.now)
         (G.tag_of call.now.seal.now))
         (shown S.left S.faults source.old source.new)
         (shown_link L.told L.recv_faults L.send_faults link.old link.new) ⊎ (link.new ≡ link.old)) }

@@ -11,9 +11,10 @@ ghost use Rattle.command_base.specs.Shown.{shown, shown_link};
 use crate::run_lookup::run_lookup;
 use command_base::printed::print;
 use command_base::{Call, Status};
-use kad_base::{Bytes, Check, Link, NoMemory, Source};
+use kad_base::{Bytes, Link, NoMemory, Source};
 use kad_words::LookWords;
 use lookup_run::{AskKind, Outcome};
+use path_worker::PacedCheck;
 use seal_tags::{Seal, SealCheck};
 use std::alloc::Global;
 use std::sync::Wait;
@@ -36,7 +37,13 @@ fn text_of(alloc: Global, outcome: &Outcome) -> Result<Bytes, NoMemory>
 }
 
 /// Looks the target up and makes the text of what was found, or says why there is none. Nothing is written yet.
-pub fn lookup<R: Threads + Wait + Sync, S: Source, L: Link, C: Check + Sync, G: Seal + SealCheck>(
+pub fn lookup<
+    R: Threads + Wait + Sync,
+    S: Source,
+    L: Link,
+    C: PacedCheck + Sync,
+    G: Seal + SealCheck,
+>(
     rt: &R,
     alloc: Global,
     look: &LookWords,
@@ -45,16 +52,19 @@ pub fn lookup<R: Threads + Wait + Sync, S: Source, L: Link, C: Check + Sync, G: 
     call: &Call<'_, C, G>,
 ) -> Result<Bytes, Status>
     requires { IsInRange look.now }
-    ensures ok { IfOk result (LookupText AskKind.FindNode look.now (called_with call.now.random (G.accepted call.now.seal.now)
+    ensures ok { IfOk result (LookupText AskKind.FindNode look.now
+        (called_with call.now.random (C.slow call.now.check.now) (G.accepted call.now.seal.now)
         (G.tag_of call.now.seal.now))
         (shown S.left S.faults source.old source.new)
         (shown_link L.told L.recv_faults L.send_faults link.old link.new)) }
-    ensures cause { IfErr result ((lookup_promise look.now).cause (called_with call.now.random (G.accepted call.now.seal.now)
+    ensures cause { IfErr result ((lookup_promise look.now).cause
+        (called_with call.now.random (C.slow call.now.check.now) (G.accepted call.now.seal.now)
         (G.tag_of call.now.seal.now))
         (shown S.left S.faults source.old source.new)
         (shown_link L.told L.recv_faults L.send_faults link.old link.new)) }
     ensures no_memory { IfErr result (λ status. status ≡ Status.NoMemory →
-        LookupBegun AskKind.FindNode look.now (called_with call.now.random (G.accepted call.now.seal.now)
+        LookupBegun AskKind.FindNode look.now
+        (called_with call.now.random (C.slow call.now.check.now) (G.accepted call.now.seal.now)
         (G.tag_of call.now.seal.now))
         (shown S.left S.faults source.old source.new)
         (shown_link L.told L.recv_faults L.send_faults link.old link.new) ⊎ (link.new ≡ link.old)) }

@@ -16,9 +16,10 @@ use crate::printed::print_peers;
 use crate::run_lookup::{Reached, run_lookup};
 use command_base::{Call, Status};
 use id_puzzles::Words;
-use kad_base::{Bytes, Check, Id, Link, NoMemory, Source};
+use kad_base::{Bytes, Id, Link, NoMemory, Source};
 use kad_words::LookWords;
 use lookup_run::{AskKind, Outcome};
+use path_worker::PacedCheck;
 use seal_tags::{Seal, SealCheck};
 use std::alloc::Global;
 use std::sync::Wait;
@@ -54,7 +55,13 @@ fn announce_told<L: Link>(
 }
 
 /// Looks for peers, announces, and makes the text of what was found, or says why there is none. Nothing is written yet.
-pub fn peers<R: Threads + Wait + Sync, S: Source, L: Link, C: Check + Sync, G: Seal + SealCheck>(
+pub fn peers<
+    R: Threads + Wait + Sync,
+    S: Source,
+    L: Link,
+    C: PacedCheck + Sync,
+    G: Seal + SealCheck,
+>(
     rt: &R,
     alloc: Global,
     look: &LookWords,
@@ -64,16 +71,19 @@ pub fn peers<R: Threads + Wait + Sync, S: Source, L: Link, C: Check + Sync, G: S
     call: &Call<'_, C, G>,
 ) -> Result<Bytes, Status>
     requires { IsInRange look.now }
-    ensures ok { IfOk result (PeersText look.now port (called_with call.now.random (G.accepted call.now.seal.now)
+    ensures ok { IfOk result (PeersText look.now port
+        (called_with call.now.random (C.slow call.now.check.now) (G.accepted call.now.seal.now)
         (G.tag_of call.now.seal.now))
         (shown S.left S.faults source.old source.new)
         (shown_link L.told L.recv_faults L.send_faults link.old link.new)) }
-    ensures cause { IfErr result ((peers_promise look.now port).cause (called_with call.now.random (G.accepted call.now.seal.now)
+    ensures cause { IfErr result ((peers_promise look.now port).cause
+        (called_with call.now.random (C.slow call.now.check.now) (G.accepted call.now.seal.now)
         (G.tag_of call.now.seal.now))
         (shown S.left S.faults source.old source.new)
         (shown_link L.told L.recv_faults L.send_faults link.old link.new)) }
     ensures no_memory { IfErr result (λ status. status ≡ Status.NoMemory →
-        PeersBegun look.now port (called_with call.now.random (G.accepted call.now.seal.now)
+        PeersBegun look.now port
+        (called_with call.now.random (C.slow call.now.check.now) (G.accepted call.now.seal.now)
         (G.tag_of call.now.seal.now))
         (shown S.left S.faults source.old source.new)
         (shown_link L.told L.recv_faults L.send_faults link.old link.new) ⊎ (link.new ≡ link.old)) }

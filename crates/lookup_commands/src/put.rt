@@ -16,9 +16,10 @@ use crate::item::is_item;
 use crate::printed::print_stored;
 use crate::run_lookup::{Reached, run_lookup};
 use command_base::{Call, Status};
-use kad_base::{Bytes, Check, Link, NoMemory, Source};
+use kad_base::{Bytes, Link, NoMemory, Source};
 use kad_words::LookWords;
 use lookup_run::AskKind;
+use path_worker::PacedCheck;
 use seal_tags::{Seal, SealCheck};
 use std::alloc::Global;
 use std::sync::Wait;
@@ -26,7 +27,7 @@ use std::thread::Threads;
 
 /// Stores the item, if the bytes may be one, and makes the text of its key and of how many were given it, or says why there is
 /// none. Nothing is written yet.
-pub fn put<R: Threads + Wait + Sync, S: Source, L: Link, C: Check + Sync, G: Seal + SealCheck>(
+pub fn put<R: Threads + Wait + Sync, S: Source, L: Link, C: PacedCheck + Sync, G: Seal + SealCheck>(
     rt: &R,
     alloc: Global,
     look: &LookWords,
@@ -36,16 +37,19 @@ pub fn put<R: Threads + Wait + Sync, S: Source, L: Link, C: Check + Sync, G: Sea
     call: &Call<'_, C, G>,
 ) -> Result<Bytes, Status>
     requires { IsInRange look.now }
-    ensures ok { IfOk result ((put_promise look.now item.now).text (called_with call.now.random (G.accepted call.now.seal.now)
+    ensures ok { IfOk result ((put_promise look.now item.now).text
+        (called_with call.now.random (C.slow call.now.check.now) (G.accepted call.now.seal.now)
         (G.tag_of call.now.seal.now))
         (shown S.left S.faults source.old source.new)
         (shown_link L.told L.recv_faults L.send_faults link.old link.new)) }
-    ensures cause { IfErr result ((put_promise look.now item.now).cause (called_with call.now.random (G.accepted call.now.seal.now)
+    ensures cause { IfErr result ((put_promise look.now item.now).cause
+        (called_with call.now.random (C.slow call.now.check.now) (G.accepted call.now.seal.now)
         (G.tag_of call.now.seal.now))
         (shown S.left S.faults source.old source.new)
         (shown_link L.told L.recv_faults L.send_faults link.old link.new)) }
     ensures no_memory { IfErr result (λ status. status ≡ Status.NoMemory →
-        PutBegun look.now item.now (called_with call.now.random (G.accepted call.now.seal.now)
+        PutBegun look.now item.now
+        (called_with call.now.random (C.slow call.now.check.now) (G.accepted call.now.seal.now)
         (G.tag_of call.now.seal.now))
         (shown S.left S.faults source.old source.new)
         (shown_link L.told L.recv_faults L.send_faults link.old link.new) ⊎ (link.new ≡ link.old)) }
@@ -66,7 +70,7 @@ pub fn put<R: Threads + Wait + Sync, S: Source, L: Link, C: Check + Sync, G: Sea
 }
 
 /// The same of bytes that may be an item.
-fn store<R: Threads + Wait + Sync, S: Source, L: Link, C: Check + Sync, G: Seal + SealCheck>(
+fn store<R: Threads + Wait + Sync, S: Source, L: Link, C: PacedCheck + Sync, G: Seal + SealCheck>(
     rt: &R,
     alloc: Global,
     look: &LookWords,
@@ -77,16 +81,19 @@ fn store<R: Threads + Wait + Sync, S: Source, L: Link, C: Check + Sync, G: Seal 
 ) -> Result<Bytes, Status>
     requires range { IsInRange look.now }
     requires item { IsItem item.now }
-    ensures ok { IfOk result (PutText look.now item.now (called_with call.now.random (G.accepted call.now.seal.now)
+    ensures ok { IfOk result (PutText look.now item.now
+        (called_with call.now.random (C.slow call.now.check.now) (G.accepted call.now.seal.now)
         (G.tag_of call.now.seal.now))
         (shown S.left S.faults source.old source.new)
         (shown_link L.told L.recv_faults L.send_faults link.old link.new)) }
-    ensures cause { IfErr result (LookupCause GetItem look.now (called_with call.now.random (G.accepted call.now.seal.now)
+    ensures cause { IfErr result (LookupCause GetItem look.now
+        (called_with call.now.random (C.slow call.now.check.now) (G.accepted call.now.seal.now)
         (G.tag_of call.now.seal.now))
         (shown S.left S.faults source.old source.new)
         (shown_link L.told L.recv_faults L.send_faults link.old link.new)) }
     ensures no_memory { IfErr result (λ status. status ≡ Status.NoMemory →
-        PutBegun look.now item.now (called_with call.now.random (G.accepted call.now.seal.now)
+        PutBegun look.now item.now
+        (called_with call.now.random (C.slow call.now.check.now) (G.accepted call.now.seal.now)
         (G.tag_of call.now.seal.now))
         (shown S.left S.faults source.old source.new)
         (shown_link L.told L.recv_faults L.send_faults link.old link.new) ⊎ (link.new ≡ link.old)) }

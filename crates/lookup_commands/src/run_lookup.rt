@@ -16,6 +16,7 @@ use id_puzzles::Words;
 use kad_base::{Check, Contacts, Family, Id, Link, Policy, Source};
 use kad_words::LookWords;
 use lookup_run::{AskKind, LookFault, Outcome, look_up};
+use path_worker::PacedCheck;
 use seal_tags::{Seal, SealCheck};
 use std::alloc::Global;
 use std::sync::Wait;
@@ -59,7 +60,7 @@ pub fn run_lookup<
     R: Threads + Wait + Sync,
     S: Source,
     L: Link,
-    C: Check + Sync,
+    C: PacedCheck + Sync,
     G: Seal + SealCheck,
 >(
     rt: &R,
@@ -71,16 +72,19 @@ pub fn run_lookup<
     call: &Call<'_, C, G>,
 ) -> Result<Reached, Status>
     requires { IsInRange look.now }
-    ensures ok { IfOk result (Reaches kind look.now (called_with call.now.random (G.accepted call.now.seal.now)
+    ensures ok { IfOk result (Reaches kind look.now
+        (called_with call.now.random (C.slow call.now.check.now) (G.accepted call.now.seal.now)
         (G.tag_of call.now.seal.now))
         (shown S.left S.faults source.old source.new)
         (shown_link L.told L.recv_faults L.send_faults link.old link.new)) }
-    ensures cause { IfErr result (LookupCause kind look.now (called_with call.now.random (G.accepted call.now.seal.now)
+    ensures cause { IfErr result (LookupCause kind look.now
+        (called_with call.now.random (C.slow call.now.check.now) (G.accepted call.now.seal.now)
         (G.tag_of call.now.seal.now))
         (shown S.left S.faults source.old source.new)
         (shown_link L.told L.recv_faults L.send_faults link.old link.new)) }
     ensures no_memory { IfErr result (λ status. status ≡ Status.NoMemory →
-        LookupBegun kind look.now (called_with call.now.random (G.accepted call.now.seal.now)
+        LookupBegun kind look.now
+        (called_with call.now.random (C.slow call.now.check.now) (G.accepted call.now.seal.now)
         (G.tag_of call.now.seal.now))
         (shown S.left S.faults source.old source.new)
         (shown_link L.told L.recv_faults L.send_faults link.old link.new) ⊎ (link.new ≡ link.old)) }

@@ -1,5 +1,5 @@
 -- A lookup that ends early: its events tell the journal so far.
-use Rattle.std.proofs.Common.{◌≡◌, ◌⊎◌, ℕ, ◌+◌, List, [], ◌∷◌, ◌++◌, Option, Result, Ok, Err, inl, inr, refl, sym, ap, subst, ◌∙◌}
+use Rattle.std.proofs.Common.{◌≡◌, ◌⊎◌, ℕ, ◌+◌, ◌<◌, List, [], ◌∷◌, ◌++◌, Option, Result, Ok, Err, inl, inr, refl, sym, ap, subst, ◌∙◌, arith}
 use Rattle.std.specs.Prelude.{map, IfOk, IfErr, OnOk, OnErr, IsErrOf}
 use Rattle.std.proofs.lemmas.List.{append-nil}
 use Rattle.kad_base.specs.declared.types.Addr.{Addr}
@@ -44,26 +44,29 @@ ran_of scheduling calls t u v same h = record { run = h.run; is_run = h.is_run; 
 abbrev pub IsEarly : List Event → Type 0
 IsEarly more = (more ≡ []) ⊎ ((from : Addr) × (bytes : List ℕ) × (until : ℕ) × (at : ℕ) × (more ≡ Got from bytes until at ∷ []))
 
-early_of : (scheduling : Scheduling) (g : Given) (work : LookupState) (place b a : ℕ) (es fs : List Event) → Shows scheduling g work place b a es → IsEarly fs → TellsEarly g work.lookup.book.journal (es ++ fs)
-early_of scheduling g work place b a es fs h (inl is) = record { front = es; end = h.end; so_far = so_far_of scheduling g work place b a es h; whole = inl (ap (λ l. es ++ l) is ∙ append-nil es) }
-early_of scheduling g work place b a es fs h (inr got) = record { front = es; end = h.end; so_far = so_far_of scheduling g work place b a es h; whole = inr (got.0, got.1, got.2, got.3, ap (λ l. es ++ l) got.4) }
+few_at : (n : ℕ) (s : Seen) → n < max_strays → s.strays ≡ n → s.strays < max_strays
+few_at n s few is = omega (arith, few, is)
+
+early_of : (scheduling : Scheduling) (g : Given) (work : LookupState) (place b a : ℕ) (es fs : List Event) → work.progress.strays < max_strays → Shows scheduling g work place b a es → IsEarly fs → TellsEarly g work.lookup.book.journal (es ++ fs)
+early_of scheduling g work place b a es fs few h (inl is) = record { front = es; end = h.end; so_far = so_far_of scheduling g work place b a es h; few = few_at work.progress.strays h.end few h.stands.strays; whole = inl (ap (λ l. es ++ l) is ∙ append-nil es) }
+early_of scheduling g work place b a es fs few h (inr got) = record { front = es; end = h.end; so_far = so_far_of scheduling g work place b a es h; few = few_at work.progress.strays h.end few h.stands.strays; whole = inr (got.0, got.1, got.2, got.3, ap (λ l. es ++ l) got.4) }
 
 -- nothing more was told
-pub early_now : (scheduling : Scheduling) (g : Given) (work : LookupState) (place b a : ℕ) (es : List Event) → Shows scheduling g work place b a es → TellsEarly g work.lookup.book.journal es
-early_now scheduling g work place b a es h = record { front = es; end = h.end; so_far = so_far_of scheduling g work place b a es h; whole = inl refl }
+pub early_now : (scheduling : Scheduling) (g : Given) (work : LookupState) (place b a : ℕ) (es : List Event) → work.progress.strays < max_strays → Shows scheduling g work place b a es → TellsEarly g work.lookup.book.journal es
+early_now scheduling g work place b a es few h = record { front = es; end = h.end; so_far = so_far_of scheduling g work place b a es h; few = few_at work.progress.strays h.end few h.stands.strays; whole = inl refl }
 
 -- an end behind a step that the link refused so many sends in
 pub ended_after : (look : LookSetting) (accepts : Accepts) (start : WordsState) (table : TableState) (began : Option (List Event)) (words' : WordsState) (table' : TableState) (told' : Option (List Event)) (J K : List Entry) (a b c : ℕ) → Refuses J K a b → Ended look accepts start table began words' table' told' K b c → Ended look accepts start table began words' table' told' J a c
 ended_after look accepts start table began words' table' told' J K a b c step h = record { unfinished = λ sends refused. h.unfinished sends (refused_more J K sends a b refused step); ran = h.ran }
 
 -- the journal is that from before the step
-pub stops_of : (look : LookSetting) (accepts : Accepts) (words : WordsState) (old new : LookupState) (told told' : Option (List Event)) → Legal (setting_of look) old.lookup.book.journal → new.table ≡ old.table → Grows told told' IsEarly → Stops look accepts words words old new told told'
-stops_of look accepts words old new told told' legal table grows scheduling start from began b a h sends = record {
+pub stops_of : (look : LookSetting) (accepts : Accepts) (words : WordsState) (old new : LookupState) (told told' : Option (List Event)) → Legal (setting_of look) old.lookup.book.journal → old.progress.strays < max_strays → new.table ≡ old.table → Grows told told' IsEarly → Stops look accepts words words old new told told'
+stops_of look accepts words old new told told' legal few table grows scheduling start from began b a h sends = record {
   unfinished = λ first refused. record {
     journal = old.lookup.book.journal;
     legal = legal;
     seeds_are = h.seeds_are;
-    tells = grows_then began told told' _ _ _ h.shows grows (λ es fs p is. early_of scheduling (given_of look accepts start) old words.place b a es fs p is);
+    tells = grows_then began told told' _ _ _ h.shows grows (λ es fs p is. early_of scheduling (given_of look accepts start) old words.place b a es fs few p is);
     drawn = h.drawn;
     refused = refused;
   };

@@ -8,6 +8,8 @@ pub mod Settled
 pub mod OnceSettled
 pub mod OnceEvents
 pub mod Once
+pub mod OnceGiven
+pub mod OnceGathered
 pub mod Alike
 pub mod OnceCalls
 pub mod Expiring

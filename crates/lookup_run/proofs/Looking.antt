@@ -52,7 +52,7 @@ use Rattle.lookup_run.specs.Lookup.{setting_of, given_of, seeds_in, drawn_for, I
 use Rattle.lookup_core.specs.LookupSteps.{as_open}
 use Rattle.lookup_run.specs.inner.DriverInvariant.{Keeps, Walk, Keeping, TraceInvariant}
 use Rattle.lookup_run.specs.inner.RoundSteps.{Begins, IsOver, IsDone, IsBookOf, asks_seeds, IsBegun, Ended}
-use Rattle.lookup_run.proofs.Early.{so_far_of, ran_of}
+use Rattle.lookup_run.proofs.Early.{so_far_of, early_now, ran_of}
 use Rattle.lookup_run.proofs.Fewer.{few_told, never_told}
 use Rattle.lookup_run.proofs.Walking.{told_in_any}
 use Rattle.lookup_core.specs.declared.quest.AskKind.{AskKind}
@@ -180,7 +180,7 @@ never_began look accepts table words told usable sends =
       journal = J;
       legal = legal_seeded (setting_of look) cs fit.few fit.in_order fit.usable;
       seeds_are = seeds_stand look.paths 0 cs;
-      tells = grows_none told _ (record { front = []; end = begun 0; so_far = (seeds_quiet look.paths 0 cs, refl); whole = inl refl });
+      tells = grows_none told _ (record { front = []; end = begun 0; so_far = (seeds_quiet look.paths 0 cs, refl); few = omega arith; whole = inl refl });
       drawn = ap (λ n. record { seed = words.seed; place = n }) place;
       refused = refused_seeded look.paths cs sends;
     }
@@ -288,13 +288,13 @@ pub table_told : (scheduling : Scheduling) (look : LookSetting) (accepts : Accep
 table_told scheduling look accepts start words' table work began told' o d = subst (λ K. TableToldBy scheduling (table_calls look K) table work.table) (sym d.done.journal) d.along.tabled
 
 -- a lookup that is over, and for which there was no memory
-pub over_ended : (scheduling : Scheduling) (look : LookSetting) (accepts : Accepts) (start words' : WordsState) (table : TableState) (work : LookupState) (began told' : Option (List Event)) (b a : ℕ) → Legal (setting_of look) work.lookup.book.journal → TraceInvariant scheduling look accepts start table began words' work b a told' → (sends : ℕ) → Ended look accepts start table began words' work.table told' work.lookup.book.journal sends sends
-over_ended scheduling look accepts start words' table work began told' b a legal h sends = record {
+pub over_ended : (scheduling : Scheduling) (look : LookSetting) (accepts : Accepts) (start words' : WordsState) (table : TableState) (work : LookupState) (began told' : Option (List Event)) (b a : ℕ) → Legal (setting_of look) work.lookup.book.journal → work.progress.strays < max_strays → TraceInvariant scheduling look accepts start table began words' work b a told' → (sends : ℕ) → Ended look accepts start table began words' work.table told' work.lookup.book.journal sends sends
+over_ended scheduling look accepts start words' table work began told' b a legal few h sends = record {
   unfinished = λ first refused. record {
     journal = work.lookup.book.journal;
     legal = legal;
     seeds_are = h.seeds_are;
-    tells = grows_weaker began told' _ _ h.shows (λ es x. record { front = es; end = x.end; so_far = so_far_of scheduling (given_of look accepts start) work words'.place b a es x; whole = inl refl });
+    tells = grows_weaker began told' _ _ h.shows (λ es x. early_now scheduling (given_of look accepts start) work words'.place b a es few x);
     drawn = h.drawn;
     refused = refused;
   };
@@ -358,7 +358,7 @@ ends_of scheduling look accepts words words' table table' book moment begun_ wor
     let along = over.goes words table told (along_of scheduling look accepts words table table' book moment begun_ told mid opening) in
     record {
       done = λ o d. record { keeps = over.keeps; none_open = over.none_open; settled = over.settled; none_asks = over.none_asks; along = along; done = d };
-      left = over_ended scheduling look accepts words words' table work told told' look.paths look.paths (subst (λ (s : Setting). Legal s work.lookup.book.journal) over.keeps.setting legal) along;
+      left = over_ended scheduling look accepts words words' table work told told' look.paths look.paths (subst (λ (s : Setting). Legal s work.lookup.book.journal) over.keeps.setting legal) over.keeps.few_strays along;
       few = few_told scheduling look accepts words table told words' work look.paths look.paths told' over.keeps.few_strays along;
       never = λ plain. never_told scheduling look accepts words table told words' work look.paths look.paths told' plain over.keeps.few_strays along;
     }

@@ -24,7 +24,8 @@ use Rattle.lookup_run.specs.Tells.{Given, Seen, IsEarliest, Waits, Gives, TellsF
 use Rattle.lookup_run.specs.Rounds.{sequential, AllSettled, NoneAsks, AsksInTurn, WaitsInTurn, RoundStep, RoundsFrom, Rounds}
 use Rattle.lookup_run.proofs.OnceEvents.{Apart, apart_gives, free_once, Asks, asks_of, asks_once}
 use Rattle.lookup_run.proofs.Once.{LegalStep, legal_step, legal_split, between_once, between_steps, past}
-use Rattle.lookup_run.proofs.Alike.{bare, Alike, same_begun, step_alike}
+use Rattle.lookup_run.proofs.OnceGiven.{last_seen, rounds_tell, rounds_give, told_once}
+use Rattle.lookup_core.proofs.Received.{seeds_quiet}
 use Rattle.std.proofs.lemmas.List.{append_cancel_left}
 
 -- ---- a send
@@ -178,24 +179,23 @@ no_step g J K P s f fs some l m settled none closed h k = by f h.0 x.gives (λ z
     by (Got from bytes until at) step legal is = step.gives.0.some_open closed
     by (Quiet until at) step legal is = step.gives.0.some_open closed
 
-none_bare : (qs : List OpenQuery) → map bare qs ≡ [] → qs ≡ []
-none_bare [] e = refl
-none_bare (q ∷ qs) e = absurd cc
+ends_from : (g : Given) (J K P : List Entry) (s : Seen) (es : List Event) (f : Event) (fs : List Event) → 0 < g.setting.paths → Legal g.setting J → Legal g.setting K → AllSettled g.setting.paths K → NoneAsks g.setting g.setting.paths K
+    → Apart s.queries → RoundsFrom sequential g J P s (es ++ f ∷ fs) → (k : RoundsFrom sequential g K P s es) → (last_seen sequential g K P s es k).queries ≡ [] → ⊥
+unfolding last_seen
+ends_from g J K P s [] f fs some l m settled none apart h k closed = no_step g J K P s f fs some l m settled none closed h k
+ends_from g J K P s (x ∷ es) f fs some l m settled none apart h k closed =
+    ends_from g J K ((P ++ k.0.between) ++ k.0.gave) k.0.mid es f fs some l m settled none (apart_gives g K s k.0.mid x apart k.0.gives) (past g J K P s x (es ++ f ∷ fs) es some l m apart h k) k.1 closed
 
-ends_from : (g : Given) (J K P : List Entry) (s u t : Seen) (es : List Event) (f : Event) (fs : List Event) → g.quest.sealed ≡ false → 0 < g.setting.paths → Legal g.setting J → Legal g.setting K → AllSettled g.setting.paths K → NoneAsks g.setting g.setting.paths K
-    → Apart s.queries → Apart u.queries → Alike s u → TellsFrom g K u es t → t.queries ≡ [] → RoundsFrom sequential g J P s (es ++ f ∷ fs) → RoundsFrom sequential g K P s es → ⊥
-ends_from g J K P s u t [] f fs plain some l m settled none hs hu a tells closed h k =
-    let shut : u.queries ≡ [] = sym (ap (λ (x : Seen). x.queries) tells) ∙ closed in
-    no_step g J K P s f fs some l m settled none (none_bare s.queries (a.queries ∙ ap (map bare) shut)) h k
-ends_from g J K P s u t (x ∷ es) f fs plain some l m settled none hs hu a tells closed h k =
-    ends_from g J K ((P ++ k.0.between) ++ k.0.gave) k.0.mid tells.0 t es f fs plain some l m settled none (apart_gives g K s k.0.mid x hs k.0.gives) (apart_gives g K u tells.0 x hu tells.1)
-    (step_alike g K K s u k.0.mid tells.0 x plain hs hu a k.0.gives tells.1) tells.2 closed (past g J K P s x (es ++ f ∷ fs) es some l m hs h k) k.1
-
-pub last_call : (g : Given) (J K : List Entry) (events rest : List Event) (f : Event) → g.quest.sealed ≡ false → 0 < g.setting.paths → Legal g.setting J → Legal g.setting K → seeds J ≡ seeds K → Tells g K events → Rounds sequential g K events → Rounds sequential g J (events ++ f ∷ rest) → ⊥
-last_call g J K [] rest f plain some l m same tells k h = (let first : [] ≡ Now k.at ∷ k.rest = k.first in absurd cc)
-last_call g J K (x ∷ es) rest f plain some l m same tells k h =
+pub last_call : (g : Given) (J K : List Entry) (events rest : List Event) (f : Event) → 0 < g.setting.paths → Legal g.setting J → Legal g.setting K → seeds J ≡ seeds K → Tells g K events → Rounds sequential g K events → Rounds sequential g J (events ++ f ∷ rest) → ⊥
+last_call g J K [] rest f some l m same tells k h = (let first : [] ≡ Now k.at ∷ k.rest = k.first in absurd cc)
+last_call g J K (x ∷ es) rest f some l m same tells k h =
     let one = begins_with g K x es k in
     let told = subst (λ y. TellsSoFar g K (y ∷ es) tells.end) one.1 tells.so_far in
-    ends_from g J K (seeded g.setting.paths (seeds K)) (begun one.0) (begun one.0) tells.end es f rest plain some l m k.settled k.none_asks tt tt (same_begun one.0) told.0 tells.none_open
-    (goes_with g J (seeds K) one.0 (es ++ f ∷ rest) (subst (λ y. Rounds sequential g J (y ∷ (es ++ f ∷ rest))) one.1 h) same)
-    (goes_with g K (seeds K) one.0 es (subst (λ y. Rounds sequential g K (y ∷ es)) one.1 k) refl)
+    let P = seeded g.setting.paths (seeds K) in
+    let goes = goes_with g K (seeds K) one.0 es (subst (λ y. Rounds sequential g K (y ∷ es)) one.1 k) refl in
+    let last = last_seen sequential g K P (begun one.0) es goes in
+    let given : last.given ≡ tells.end.given = rounds_give sequential g K P (begun one.0) es goes (sym (seeds_quiet g.setting.paths 0 (seeds K))) ∙ sym told.1 in
+    let is : last ≡ tells.end = told_once g K K (begun one.0) last tells.end es tt (rounds_tell sequential g K P (begun one.0) es goes) told.0 given in
+    ends_from g J K P (begun one.0) es f rest some l m k.settled k.none_asks tt
+    (goes_with g J (seeds K) one.0 (es ++ f ∷ rest) (subst (λ y. Rounds sequential g J (y ∷ (es ++ f ∷ rest))) one.1 h) same) goes
+    (ap (λ (y : Seen). y.queries) is ∙ tells.none_open)

@@ -175,7 +175,7 @@ asks_once s Q p q c d h k =
       ]
     ]
 
-abbrev sent_after : Given → Seen → ℕ → Contact → ℕ → Seen
+abbrev pub sent_after : Given → Seen → ℕ → Contact → ℕ → Seen
 sent_after g s path contact tx = record (gives s (Ask path contact ∷ [])) { queries = s.queries ++ record { path = path; contact = contact; tx = tx; deadline = deadline_of s.moment g.quest.timeout } ∷ []; sends = s.sends + 1 }
 
 pub sent_once : (g : Given) (s t u : Seen) (to : Addr) (bytes : List ℕ) (Q gave gave' : List Entry) → SentGives g s to bytes t → SentGives g s to bytes u → t.given ≡ s.given ++ gave → u.given ≡ s.given ++ gave' → AsksInTurn g.setting Q s gave → AsksInTurn g.setting Q s gave' → LegalAfter g.setting Q gave → LegalAfter g.setting Q gave' → t ≡ u
@@ -186,7 +186,7 @@ sent_once g s t u to bytes Q gave gave' j k tg ug turn turn' l l' =
     let tx = free_once (map query_of s.queries) (word g.seed (g.place + s.sends)) j.tx k.tx j.is_query.id k.is_query.id in
     j.after ∙ ap (λ p. sent_after g s p j.contact j.tx) one.0 ∙ ap (λ c. sent_after g s k.path c j.tx) one.1 ∙ ap (λ n. sent_after g s k.path k.contact n) tx ∙ sym k.after
 
-abbrev unsent_after : Seen → ℕ → Contact → Seen
+abbrev pub unsent_after : Seen → ℕ → Contact → Seen
 unsent_after s path contact = record (gives s (Ask path contact ∷ Lost path contact SendFault ∷ [])) { sends = s.sends + 1 }
 
 pub unsent_once : (g : Given) (s t u : Seen) (to : Addr) (bytes : List ℕ) (Q gave gave' : List Entry) → UnsentGives g s to bytes t → UnsentGives g s to bytes u → t.given ≡ s.given ++ gave → u.given ≡ s.given ++ gave' → AsksInTurn g.setting Q s gave → AsksInTurn g.setting Q s gave' → LegalAfter g.setting Q gave → LegalAfter g.setting Q gave' → t ≡ u

@@ -42,11 +42,6 @@ one_counted a b (inr full) = inr full
 refused_one : (a b : ℕ) → a ≤ b → Rose a b → Refused 1 a b
 refused_one a b le rose = record { counted = one_counted a b rose; none = λ e. absurd (omega (arith, e)); no_less = le }
 
--- a count that went on
-pub counted_later : (n a b c : ℕ) → b ≤ c → IsCounted n a b → IsCounted n a c
-counted_later n a b c le (inl x) = inl (omega (arith, x, le))
-counted_later n a b c le (inr full) = inr (omega (arith, full, le))
-
 -- ---- from journal to journal
 
 pub refuses_none : (J K : List Entry) (a b : ℕ) → unsent K ≡ unsent J → b ≡ a → Refuses J K a b

@@ -218,13 +218,13 @@ settles_path scheduling look p old new told k over below h here queries progress
     }) (settled_more p old.lookup.book.journal h.more new.lookup.book.journal h.journal quiet below here)
 
 -- where it ends early, the journal is that from before, and the table is what some run leaves
-pub stops_settling : (look : LookSetting) (accepts : Accepts) (old new : LookupState) (told : Option (List Event)) → Legal (setting_of look) old.lookup.book.journal → TableRan old.table new.table → (words : WordsState) → Stops look accepts words words old new told told
-stops_settling look accepts old new told legal ran words scheduling start table began b a al sends = record {
+pub stops_settling : (look : LookSetting) (accepts : Accepts) (old new : LookupState) (told : Option (List Event)) → Legal (setting_of look) old.lookup.book.journal → old.progress.strays < max_strays → TableRan old.table new.table → (words : WordsState) → Stops look accepts words words old new told told
+stops_settling look accepts old new told legal few ran words scheduling start table began b a al sends = record {
   unfinished = λ first refused. record {
     journal = old.lookup.book.journal;
     legal = legal;
     seeds_are = al.seeds_are;
-    tells = grows_weaker began told _ _ al.shows (λ es s. early_now scheduling (given_of look accepts start) old words.place b a es s);
+    tells = grows_weaker began told _ _ al.shows (λ es s. early_now scheduling (given_of look accepts start) old words.place b a es few s);
     drawn = al.drawn;
     refused = refused;
   };

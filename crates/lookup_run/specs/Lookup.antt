@@ -81,11 +81,12 @@ pub record Finished (look : LookSetting) (accepts : Accepts) (table : TableState
   pub counted : Counted outcome.journal outcome.counts
   pub drawn : words' ≡ drawn_for words outcome.journal
 
--- the events, without the last one where that is a datagram, tell the journal so far
+-- the events, without the last one where that is a datagram, tell the journal so far, and have fewer strays than a lookup takes
 pub record TellsEarly (g : Given) (J : List Entry) (events : List Event) : Type 0 where
   pub front : List Event
   pub end : Seen
   pub so_far : TellsSoFar g J front end
+  pub few : end.strays < max_strays
   pub whole : (events ≡ front) ⊎ ((from : Addr) × (bytes : List ℕ) × (until : ℕ) × (at : ℕ) × (events ≡ front ++ Got from bytes until at ∷ []))
 
 -- A lookup that ended early: there is a legal journal with the same seeds that the events tell so far, so nobody was asked

@@ -1,6 +1,6 @@
 -- The rounds of a lookup (this project's own): where the settling entries of its journal stand, in which order the paths
 -- ask (S/Kademlia, 2007, section 4.4), and that they ask all that they may before the driver waits.
-use Rattle.std.specs.Prelude.{◌≡◌, ◌≢◌, ℕ, zero, suc, ◌<◌, ◌≤◌, List, [], ◌∷◌, ◌++◌, None, Bool, true}
+use Rattle.std.specs.Prelude.{◌≡◌, ◌≢◌, ℕ, zero, suc, ◌<◌, ◌≤◌, List, [], ◌∷◌, ◌++◌, None, Bool, true, false}
 use Rattle.std.specs.List.{AllByRecursion}
 use Rattle.kad_base.specs.declared.types.Contact.{Contact}
 use Rattle.kad_base.specs.declared.types.Event.{Event}
@@ -33,6 +33,11 @@ is_settling e = settles_on (path_number e) e
 pub data Scheduling : Type 0 where
   sequential : Scheduling
   concurrent : Scheduling
+
+-- by whether a check may take long
+abbrev pub scheduling_by : Bool → Scheduling
+scheduling_by false = sequential
+scheduling_by true = concurrent
 
 -- an entry of path q may stand behind one of path p
 abbrev pub MayFollow : Scheduling → ℕ → ℕ → Type 0

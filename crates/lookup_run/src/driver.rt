@@ -6,7 +6,7 @@ ghost use Rattle.kad_base.specs.Contacts.{IsUsable};
 ghost use Rattle.kad_base.specs.Outside.{Grows};
 ghost use Rattle.contact_table.specs.TableStep.{contacts_of};
 ghost use Rattle.claim_book.specs.RunOut.{RunOut};
-ghost use Rattle.lookup_run.specs.Rounds.{concurrent, sequential};
+ghost use Rattle.lookup_run.specs.Rounds.{concurrent, sequential, scheduling_by};
 ghost use Rattle.lookup_run.specs.Gathered.{IsEachOnce};
 ghost use Rattle.lookup_run.specs.Lookup.{IsWithinLimits, seeds_in, TableTold, LooksUp};
 ghost use Rattle.lookup_run.specs.inner.RoundSteps.{MaySettle, Settles, IsDone, IsClosed, IsBookOf, asks_seeds, IsBegun};
@@ -22,6 +22,7 @@ use contact_table::{Table, TableCall, TableReply};
 use id_puzzles::Words;
 use kad_base::{Check, Contacts, Link, NoMemory, Serial};
 use lookup_core::Lookup;
+use path_worker::PacedCheck;
 use seal_tags::SealCheck;
 use std::alloc::Global;
 use std::hash::RandomState;
@@ -203,14 +204,9 @@ pub fn look_up_alone<L: Link, C: Check, G: SealCheck>(
     )
 }
 
-/// Looks the target up from the k closest contacts of the table, and tells the table who answered and who didn't: asks,
-/// receives and settles in rounds until every path has run out. What a path asks comes from its own seeds and answers
-/// (S/Kademlia, section 4.4). Where the check says that it takes long, the paths settle at once in a round, each on a
-/// thread of its own, where more than one has something to settle; the caller does the work of those that no thread can be
-/// made for. Else they settle one after another: a thread costs more than two hashes. The table comes back on every answer.
-/// A sealed lookup believes no reply without a tag that the seal accepts of who says it; any other never asks the seal.
-/// Strangers choose the contacts, so the hasher of the book's index is handed in; no answer depends on it.
-pub fn look_up<R: Threads + Wait + Sync, L: Link, C: Check + Sync, G: SealCheck>(
+/// The same, but all paths settle at once in a round, each on a thread of its own, if more than one has something to settle;
+/// the caller does the work of those that no thread can be made for.
+fn look_up_together<R: Threads + Wait + Sync, L: Link, C: Check + Sync, G: SealCheck>(
     rt: &R,
     alloc: Global,
     link: &mut L,
@@ -240,4 +236,36 @@ pub fn look_up<R: Threads + Wait + Sync, L: Link, C: Check + Sync, G: SealCheck>
             requires { MaySettle setting.now work }
         { settle_each(rt, alloc, work, setting, check) },
     )
+}
+
+/// Looks the target up from the k closest contacts of the table, and tells the table who answered and who didn't: asks,
+/// receives and settles in rounds until every path has run out. What a path asks comes from its own seeds and answers
+/// (S/Kademlia, section 4.4). If the check is slow, all paths settle at once in a round, on threads; else they settle one
+/// after another, since a thread costs more than two hashes. So under a check that isn't slow the link's events determine
+/// what a lookup did. The table comes back on every answer. A sealed lookup believes no reply without a tag that the seal
+/// accepts of who says it; any other never asks the seal. Strangers choose the contacts, so the hasher of the book's index is
+/// handed in; no answer depends on it.
+pub fn look_up<R: Threads + Wait + Sync, L: Link, C: PacedCheck + Sync, G: SealCheck>(
+    rt: &R,
+    alloc: Global,
+    link: &mut L,
+    words: &mut Words,
+    table: Table,
+    setting: &LookSetting,
+    check: &C,
+    seal: &G,
+    hasher: RandomState,
+) -> (Table, Result<Outcome, LookFault>)
+    requires limits { IsWithinLimits setting.now }
+    requires usable { All (IsUsable setting.now.own) (contacts_of table) }
+    requires place { words.old.place < 2 ^ 59 }
+    ensures { LooksUp (scheduling_by (C.slow check.now)) setting.now (G.accepted seal.now) table result.0 words.old words.new
+        (L.told link.old) (L.told link.new) (L.recv_faults link.old) (L.recv_faults link.new) (L.send_faults link.old)
+        (L.send_faults link.new) (L.kept link.old) (L.kept link.new) result.1 }
+{
+    let slow = check.is_slow();
+    if !slow {
+        return look_up_alone(alloc, link, words, table, setting, check, seal, hasher);
+    }
+    look_up_together(rt, alloc, link, words, table, setting, check, seal, hasher)
 }

@@ -1,5 +1,5 @@
 // Laws of lookups.
-ghost use Rattle.std.specs.Prelude.{◌≡◌, ◌<◌, ◌++◌, ◌∷◌, ℕ, List, false};
+ghost use Rattle.std.specs.Prelude.{◌≡◌, ◌<◌, ◌++◌, ◌∷◌, ℕ, List};
 ghost use Rattle.kad_base.specs.declared.types.Event.{Event};
 ghost use Rattle.claim_book.specs.declared.types.Entry.{Entry};
 ghost use Rattle.claim_book.specs.Journal.{seeds};
@@ -17,15 +17,14 @@ pub fn one_journal()
 {}
 
 /// What a lookup on one thread calls next, of its link, follows from the events before, for one setting, one generator of
-/// words and the same seeds: whether it sends, what and to whom, or until when it receives. Where it isn't sealed and has
-/// ended, nothing follows.
+/// words and the same seeds: whether it sends, what and to whom, or until when it receives. After its end it calls nothing.
 pub fn one_next_call()
     ensures next { (g : Given) (J K : List Entry) (before rest others : List Event) (e f : Event)
         → 0 < g.setting.paths → Legal g.setting J → Legal g.setting K → seeds J ≡ seeds K
         → Rounds sequential g J (before ++ e ∷ rest) → Rounds sequential g K (before ++ f ∷ others)
         → call_of e ≡ call_of f }
     ensures last { (g : Given) (J K : List Entry) (events rest : List Event) (e : Event)
-        → g.quest.sealed ≡ false → 0 < g.setting.paths → Legal g.setting J → Legal g.setting K
-        → seeds J ≡ seeds K → Tells g K events → Rounds sequential g K events
+        → 0 < g.setting.paths → Legal g.setting J → Legal g.setting K → seeds J ≡ seeds K
+        → Tells g K events → Rounds sequential g K events
         → ¬ Rounds sequential g J (events ++ e ∷ rest) }
 {}

@@ -33,8 +33,7 @@ fn has_several(book: &mut Book, paths: u8) -> bool
     false
 }
 
-/// Settles all that the paths have: each on a thread of its own, where checking takes long and more than one has something
-/// to settle; else path by path, since making a thread costs more than the checks do.
+/// Settles all that the paths have: each on a thread of its own if more than one has something to settle, else path by path.
 pub(crate) fn settle_each<R: Threads + Wait + Sync, C: Check + Sync>(
     rt: &R,
     alloc: Global,
@@ -45,9 +44,6 @@ pub(crate) fn settle_each<R: Threads + Wait + Sync, C: Check + Sync>(
     requires { MaySettle look.now work }
     ensures { Settles concurrent look.now work result.0 result.1 }
 {
-    if !check.takes_long() {
-        return settle_paths(work, look, check);
-    }
     let mut work = work;
     if !has_several(&mut work.lookup.book, look.paths) {
         return settle_paths(work, look, check);

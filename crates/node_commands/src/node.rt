@@ -26,6 +26,7 @@ use kad_words::LookWords;
 use look_many::{Many, ManyFault, ManySetting, One, look_many};
 use node_serve::ServeSetting;
 use node_tokens::Tokens;
+use path_worker::PacedCheck;
 use seal_tags::{Seal, SealCheck};
 use std::alloc::Global;
 use std::sync::Wait;
@@ -97,7 +98,7 @@ fn read_start<S: Source, C: Check, G: Seal + SealCheck>(
 }
 
 /// Looks for the targets, while it answers queries, from this table on.
-fn look_all<R: Threads + Wait + Sync, L: Link, C: Check + Sync, G: Seal + SealCheck>(
+fn look_all<R: Threads + Wait + Sync, L: Link, C: PacedCheck + Sync, G: Seal + SealCheck>(
     rt: &R,
     alloc: Global,
     look: &LookWords,
@@ -114,10 +115,12 @@ fn look_all<R: Threads + Wait + Sync, L: Link, C: Check + Sync, G: Seal + SealCh
     requires few { length targets.now ≤ max_lookups }
     requires usable { All (IsUsable own) (contacts_of table) }
     requires proofs { All (Passes look.now.policy) proofs }
-    ensures ok { IfOk result (HasLooked look.now receives (called_with call.now.random (G.accepted call.now.seal.now)
+    ensures ok { IfOk result (HasLooked look.now receives
+        (called_with call.now.random (C.slow call.now.check.now) (G.accepted call.now.seal.now)
         (G.tag_of call.now.seal.now)) targets.now table proofs
         (shown_link L.told L.recv_faults L.send_faults link.old link.new)) }
-    ensures stopped { IfErr result (HasStopped look.now receives (called_with call.now.random (G.accepted call.now.seal.now)
+    ensures stopped { IfErr result (HasStopped look.now receives
+        (called_with call.now.random (C.slow call.now.check.now) (G.accepted call.now.seal.now)
         (G.tag_of call.now.seal.now)) targets.now table proofs
         (shown_link L.told L.recv_faults L.send_faults link.old link.new)) }
     ensures well { ¬ IsErrOf result ManyFault.LinkFault
@@ -202,7 +205,13 @@ fn text_of(alloc: Global, targets: &[Id], many: &Many) -> Result<Bytes, NoMemory
 }
 
 /// Looks for what the input names, and makes the text of what was found, or says why there is none. Nothing is written yet.
-pub fn node<R: Threads + Wait + Sync, S: Source, L: Link, C: Check + Sync, G: Seal + SealCheck>(
+pub fn node<
+    R: Threads + Wait + Sync,
+    S: Source,
+    L: Link,
+    C: PacedCheck + Sync,
+    G: Seal + SealCheck,
+>(
     rt: &R,
     alloc: Global,
     look: &LookWords,
@@ -212,16 +221,19 @@ pub fn node<R: Threads + Wait + Sync, S: Source, L: Link, C: Check + Sync, G: Se
     call: &Call<'_, C, G>,
 ) -> Result<Bytes, Status>
     requires { IsInRange look.now }
-    ensures ok { IfOk result (NodeText look.now receives (called_with call.now.random (G.accepted call.now.seal.now)
+    ensures ok { IfOk result (NodeText look.now receives
+        (called_with call.now.random (C.slow call.now.check.now) (G.accepted call.now.seal.now)
         (G.tag_of call.now.seal.now))
         (shown S.left S.faults source.old source.new)
         (shown_link L.told L.recv_faults L.send_faults link.old link.new)) }
-    ensures cause { IfErr result ((node_promise look.now receives).cause (called_with call.now.random (G.accepted call.now.seal.now)
+    ensures cause { IfErr result ((node_promise look.now receives).cause
+        (called_with call.now.random (C.slow call.now.check.now) (G.accepted call.now.seal.now)
         (G.tag_of call.now.seal.now))
         (shown S.left S.faults source.old source.new)
         (shown_link L.told L.recv_faults L.send_faults link.old link.new)) }
     ensures no_memory { IfErr result (λ status. status ≡ Status.NoMemory →
-        NodeBegun look.now receives (called_with call.now.random (G.accepted call.now.seal.now)
+        NodeBegun look.now receives
+        (called_with call.now.random (C.slow call.now.check.now) (G.accepted call.now.seal.now)
         (G.tag_of call.now.seal.now))
         (shown S.left S.faults source.old source.new)
         (shown_link L.told L.recv_faults L.send_faults link.old link.new) ⊎ (link.new ≡ link.old)) }

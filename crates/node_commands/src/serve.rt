@@ -22,6 +22,7 @@ use contact_table::Table;
 use kad_base::{Bytes, Check, Family, Id, Link, List, NoMemory, Policy, Reports, Source};
 use node_serve::{Node, ServeCounts, ServeFault, ServeSetting, serve_loop};
 use node_tokens::Tokens;
+use path_worker::PacedCheck;
 use seal_tags::{Seal, SealCheck};
 use serve_batches::serve_many;
 use std::alloc::Global;
@@ -86,7 +87,7 @@ fn text_of(alloc: Global, received: u32, replied: u32) -> Result<Bytes, NoMemory
 }
 
 /// Serves alone, from a first look at the link's clock on.
-fn serve_alone<L: Link, C: Check, G: Seal + SealCheck>(
+fn serve_alone<L: Link, C: PacedCheck, G: Seal + SealCheck>(
     alloc: Global,
     service: &Service,
     own: Id,
@@ -100,11 +101,13 @@ fn serve_alone<L: Link, C: Check, G: Seal + SealCheck>(
     requires table { host.table.own ≡ own }
     requires proofs { All (Passes service.now.policy) host.proofs }
     ensures ok { IfOk result (λ counts. HasServed service.now
-        (called_with call.now.random (G.accepted call.now.seal.now) (G.tag_of call.now.seal.now))
+        (called_with call.now.random (C.slow call.now.check.now) (G.accepted call.now.seal.now)
+        (G.tag_of call.now.seal.now))
         (shown_link L.told L.recv_faults L.send_faults link.old link.new) host.table host.proofs
         counts.received counts.replied) }
     ensures begun { IfErr result (λ fault. HasServedSome service.now
-        (called_with call.now.random (G.accepted call.now.seal.now) (G.tag_of call.now.seal.now))
+        (called_with call.now.random (C.slow call.now.check.now) (G.accepted call.now.seal.now)
+        (G.tag_of call.now.seal.now))
         (shown_link L.told L.recv_faults L.send_faults link.old link.new) host.table host.proofs) }
     ensures well { result ≢ Err ServeFault.LinkFault
         → L.recv_faults link.new ≡ L.recv_faults link.old }
@@ -129,7 +132,7 @@ fn serve_alone<L: Link, C: Check, G: Seal + SealCheck>(
 }
 
 /// Serves by several workers at once, from a first look at the link's clock on.
-fn serve_at_once<R: Threads + Wait + Sync, L: Link, C: Check, G: Seal + SealCheck + Sync>(
+fn serve_at_once<R: Threads + Wait + Sync, L: Link, C: PacedCheck, G: Seal + SealCheck + Sync>(
     rt: &R,
     alloc: Global,
     service: &Service,
@@ -143,11 +146,13 @@ fn serve_at_once<R: Threads + Wait + Sync, L: Link, C: Check, G: Seal + SealChec
     requires own { own ≡ own_of service.now.own call.now.random }
     requires proofs { All (Passes service.now.policy) host.proofs }
     ensures ok { IfOk result (λ counts. HasServed service.now
-        (called_with call.now.random (G.accepted call.now.seal.now) (G.tag_of call.now.seal.now))
+        (called_with call.now.random (C.slow call.now.check.now) (G.accepted call.now.seal.now)
+        (G.tag_of call.now.seal.now))
         (shown_link L.told L.recv_faults L.send_faults link.old link.new) host.table host.proofs
         counts.received counts.replied) }
     ensures begun { IfErr result (λ fault. HasServedSome service.now
-        (called_with call.now.random (G.accepted call.now.seal.now) (G.tag_of call.now.seal.now))
+        (called_with call.now.random (C.slow call.now.check.now) (G.accepted call.now.seal.now)
+        (G.tag_of call.now.seal.now))
         (shown_link L.told L.recv_faults L.send_faults link.old link.new) host.table host.proofs) }
     ensures well { result ≢ Err ServeFault.LinkFault
         → L.recv_faults link.new ≡ L.recv_faults link.old }
@@ -180,7 +185,7 @@ fn serve_at_once<R: Threads + Wait + Sync, L: Link, C: Check, G: Seal + SealChec
 }
 
 /// Serves by as many workers as the words say.
-fn serve_by<R: Threads + Wait + Sync, L: Link, C: Check, G: Seal + SealCheck + Sync>(
+fn serve_by<R: Threads + Wait + Sync, L: Link, C: PacedCheck, G: Seal + SealCheck + Sync>(
     rt: &R,
     alloc: Global,
     service: &Service,
@@ -194,11 +199,13 @@ fn serve_by<R: Threads + Wait + Sync, L: Link, C: Check, G: Seal + SealCheck + S
     requires table { host.table.own ≡ own }
     requires proofs { All (Passes service.now.policy) host.proofs }
     ensures ok { IfOk result (λ counts. HasServed service.now
-        (called_with call.now.random (G.accepted call.now.seal.now) (G.tag_of call.now.seal.now))
+        (called_with call.now.random (C.slow call.now.check.now) (G.accepted call.now.seal.now)
+        (G.tag_of call.now.seal.now))
         (shown_link L.told L.recv_faults L.send_faults link.old link.new) host.table host.proofs
         counts.received counts.replied) }
     ensures begun { IfErr result (λ fault. HasServedSome service.now
-        (called_with call.now.random (G.accepted call.now.seal.now) (G.tag_of call.now.seal.now))
+        (called_with call.now.random (C.slow call.now.check.now) (G.accepted call.now.seal.now)
+        (G.tag_of call.now.seal.now))
         (shown_link L.told L.recv_faults L.send_faults link.old link.new) host.table host.proofs) }
     ensures well { result ≢ Err ServeFault.LinkFault
         → L.recv_faults link.new ≡ L.recv_faults link.old }
@@ -213,7 +220,13 @@ fn serve_by<R: Threads + Wait + Sync, L: Link, C: Check, G: Seal + SealCheck + S
 }
 
 /// Serves, and makes the text of how much was served, or says why there is none. Nothing is written yet.
-pub fn serve<R: Threads + Wait + Sync, S: Source, L: Link, C: Check, G: Seal + SealCheck + Sync>(
+pub fn serve<
+    R: Threads + Wait + Sync,
+    S: Source,
+    L: Link,
+    C: PacedCheck,
+    G: Seal + SealCheck + Sync,
+>(
     rt: &R,
     alloc: Global,
     service: &Service,
@@ -222,16 +235,19 @@ pub fn serve<R: Threads + Wait + Sync, S: Source, L: Link, C: Check, G: Seal + S
     call: &Call<'_, C, G>,
 ) -> Result<Bytes, Status>
     requires { AreServiceBounds service.now }
-    ensures ok { IfOk result (ServeText service.now (called_with call.now.random (G.accepted call.now.seal.now)
+    ensures ok { IfOk result (ServeText service.now
+        (called_with call.now.random (C.slow call.now.check.now) (G.accepted call.now.seal.now)
         (G.tag_of call.now.seal.now))
         (shown S.left S.faults source.old source.new)
         (shown_link L.told L.recv_faults L.send_faults link.old link.new)) }
-    ensures cause { IfErr result ((serve_promise service.now).cause (called_with call.now.random (G.accepted call.now.seal.now)
+    ensures cause { IfErr result ((serve_promise service.now).cause
+        (called_with call.now.random (C.slow call.now.check.now) (G.accepted call.now.seal.now)
         (G.tag_of call.now.seal.now))
         (shown S.left S.faults source.old source.new)
         (shown_link L.told L.recv_faults L.send_faults link.old link.new)) }
     ensures no_memory { IfErr result (λ status. status ≡ Status.NoMemory →
-        ServeBegun service.now (called_with call.now.random (G.accepted call.now.seal.now)
+        ServeBegun service.now
+        (called_with call.now.random (C.slow call.now.check.now) (G.accepted call.now.seal.now)
         (G.tag_of call.now.seal.now))
         (shown S.left S.faults source.old source.new)
         (shown_link L.told L.recv_faults L.send_faults link.old link.new) ⊎ (link.new ≡ link.old)) }

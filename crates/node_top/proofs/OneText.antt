@@ -4,7 +4,7 @@ use Rattle.kad_base.specs.declared.types.Event.{Event}
 use Rattle.kad_words.specs.Table.{Word}
 use Rattle.kad_words.specs.Plain.{CommandOf}
 use Rattle.kad_words.specs.declared.command.Command.{Command}
-use Rattle.kad_words.specs.declared.command.Command.TheVariants.{Serve, Table, Refresh, Check, Mint, Sim}
+use Rattle.kad_words.specs.declared.command.Command.TheVariants.{Lookup, Peers, Get, Put, Serve, Table, Refresh, Check, Mint, Sim}
 use Rattle.kad_words.proofs.OneCommand.{command_once}
 use Rattle.node_top.specs.Asked.{AsksPlain}
 use Rattle.command_base.specs.Called.{Called}
@@ -20,6 +20,8 @@ use Rattle.plain_commands.proofs.OneSim.{sim_once}
 use Rattle.plain_commands.proofs.OneText.{check_once, mint_once}
 use Rattle.table_commands.proofs.OneText.{table_text_once, refresh_once}
 use Rattle.node_commands.proofs.OneText.{serve_once}
+use Rattle.lookup_commands.proofs.OneText.{lookup_once, peers_once, get_once, put_once}
+use Rattle.lookup_core.specs.declared.quest.AskKind.TheVariants.{FindNode}
 
 -- ---- of a command
 
@@ -43,13 +45,17 @@ of_seed (Sim (Some seed) nodes hostile k paths alpha timeout) called other sourc
 of_seed (Sim None nodes hostile k paths alpha timeout) called other source again link beside t u ranges named h j = absurd named
 of_seed other_command called other source again link beside t u ranges named h j = absurd named
 
-of_events : (c : Command) (called : Called) (source again : Shown ℕ) (link beside : Shown Event) (t u : List ℕ) → GoesByEvents c → SameInput source again → SameEvents link beside
+of_events : (c : Command) (called : Called) (source again : Shown ℕ) (link beside : Shown Event) (t u : List ℕ) → (promise_of c).ranges → GoesByEvents called.slow c → SameInput source again → SameEvents link beside
     → (promise_of c).text called source link t → (promise_of c).text called again beside u → t ≡ u
-of_events (Serve own k bits policy receives workers sealed) called source again link beside t u goes same events_same h j =
+of_events (Lookup look) called source again link beside t u ranges goes same events_same h j = lookup_once FindNode look called source again link beside t u ranges goes same events_same h j
+of_events (Peers look announce) called source again link beside t u ranges goes same events_same h j = peers_once look announce called source again link beside t u ranges goes same events_same h j
+of_events (Get look) called source again link beside t u ranges goes same events_same h j = get_once look called source again link beside t u ranges goes same events_same h j
+of_events (Put look item) called source again link beside t u ranges goes same events_same h j = put_once look item called source again link beside t u ranges goes same events_same h.1 j.1
+of_events (Serve own k bits policy receives workers sealed) called source again link beside t u ranges goes same events_same h j =
     serve_once (service_of own k bits policy receives workers sealed) called source again link beside t u events_same h j
-of_events (Refresh timeout sealed) called source again link beside t u goes same events_same h j =
+of_events (Refresh timeout sealed) called source again link beside t u ranges goes same events_same h j =
     refresh_once timeout sealed called source again link beside t u same events_same h j
-of_events other called source again link beside t u goes same events_same h j = absurd goes
+of_events other called source again link beside t u ranges goes same events_same h j = absurd goes
 
 -- ---- the laws
 
@@ -67,9 +73,9 @@ seeded_once words command called other source again link beside a b asked named 
     let two = command_once words k.command command k.asked asked in
     of_seed command called other source again link beside a b (ranged words command asked) named (subst (λ (c : Command). (promise_of c).text called source link a) one h.holds) (subst (λ (c : Command). (promise_of c).text other again beside b) two k.holds)
 
-pub told_once : (words : List Word) (command : Command) (called : Called) (source again : Shown ℕ) (link beside : Shown Event) (a b : List ℕ) → CommandOf words command → GoesByEvents command
+pub told_once : (words : List Word) (command : Command) (called : Called) (source again : Shown ℕ) (link beside : Shown Event) (a b : List ℕ) → CommandOf words command → GoesByEvents called.slow command
     → SameInput source again → SameEvents link beside → HasText words called source link a → HasText words called again beside b → a ≡ b
 told_once words command called source again link beside a b asked goes same events_same h k =
     let one = command_once words h.command command h.asked asked in
     let two = command_once words k.command command k.asked asked in
-    of_events command called source again link beside a b goes same events_same (subst (λ (c : Command). (promise_of c).text called source link a) one h.holds) (subst (λ (c : Command). (promise_of c).text called again beside b) two k.holds)
+    of_events command called source again link beside a b (ranged words command asked) goes same events_same (subst (λ (c : Command). (promise_of c).text called source link a) one h.holds) (subst (λ (c : Command). (promise_of c).text called again beside b) two k.holds)

@@ -1,7 +1,7 @@
 -- What the text of a command is made from, where that is less than all that a call is given.
-use Rattle.std.specs.Prelude.{Some}
+use Rattle.std.specs.Prelude.{◌≡◌, Some, Bool, false}
 use Rattle.kad_words.specs.declared.command.Command.{Command}
-use Rattle.kad_words.specs.declared.command.Command.TheVariants.{Serve, Refresh, Mint, Sim}
+use Rattle.kad_words.specs.declared.command.Command.TheVariants.{Lookup, Peers, Get, Put, Serve, Refresh, Mint, Sim}
 
 -- from the words alone: `mint` and `sim` draw from the seed of the words, where these name one
 abbrev pub NamesSeed : Command → Type 0
@@ -9,9 +9,13 @@ NamesSeed (Mint (Some seed) c1 c2 tries) = Unit {0}
 NamesSeed (Sim (Some seed) nodes hostile k paths alpha timeout) = Unit {0}
 NamesSeed other = ⊥
 
--- from the words, the input, what it is called with and the link's events: the commands that take a link, and settle
--- nothing on several threads
-abbrev pub GoesByEvents : Command → Type 0
-GoesByEvents (Serve own k bits policy receives workers sealed) = Unit {0}
-GoesByEvents (Refresh timeout sealed) = Unit {0}
-GoesByEvents other = ⊥
+-- from the words, the input, what it is called with and the link's events: the commands that take a link, if they settle
+-- nothing on several threads; a lookup does so only if the check is slow
+abbrev pub GoesByEvents : Bool → Command → Type 0
+GoesByEvents slow (Lookup look) = slow ≡ false
+GoesByEvents slow (Peers look announce) = slow ≡ false
+GoesByEvents slow (Get look) = slow ≡ false
+GoesByEvents slow (Put look item) = slow ≡ false
+GoesByEvents slow (Serve own k bits policy receives workers sealed) = Unit {0}
+GoesByEvents slow (Refresh timeout sealed) = Unit {0}
+GoesByEvents slow other = ⊥

@@ -16,6 +16,7 @@ use kad_base::{Bytes, Check, Link, Source};
 use kad_words::{Command, takes_link};
 use lookup_commands::{get, lookup, peers, put};
 use node_commands::{node, serve};
+use path_worker::PacedCheck;
 use plain_commands::{check, mint, sim};
 use seal_tags::{Seal, SealCheck};
 use std::alloc::Global;
@@ -28,7 +29,7 @@ fn output_of<
     R: Threads + Wait + Sync,
     S: Source,
     L: Link,
-    C: Check + Sync,
+    C: PacedCheck + Sync,
     G: Seal + SealCheck + Sync,
 >(
     rt: &R,
@@ -39,11 +40,13 @@ fn output_of<
     call: &Call<'_, C, G>,
 ) -> Result<Bytes, Status>
     requires ranges { (promise_of command.now).ranges }
-    ensures ok { IfOk result ((promise_of command.now).text (called_with call.now.random (G.accepted call.now.seal.now)
+    ensures ok { IfOk result ((promise_of command.now).text
+        (called_with call.now.random (C.slow call.now.check.now) (G.accepted call.now.seal.now)
         (G.tag_of call.now.seal.now))
         (shown S.left S.faults source.old source.new)
         (shown_link L.told L.recv_faults L.send_faults link.old link.new)) }
-    ensures cause { IfErr result ((promise_of command.now).cause (called_with call.now.random (G.accepted call.now.seal.now)
+    ensures cause { IfErr result ((promise_of command.now).cause
+        (called_with call.now.random (C.slow call.now.check.now) (G.accepted call.now.seal.now)
         (G.tag_of call.now.seal.now))
         (shown S.left S.faults source.old source.new)
         (shown_link L.told L.recv_faults L.send_faults link.old link.new)) }
@@ -56,7 +59,8 @@ fn output_of<
     ensures reads_well { ¬ IsErrOf result Status.SourceFault
         → S.faults source.new ≡ S.faults source.old }
     ensures no_memory { IfErr result (λ status. status ≡ Status.NoMemory →
-        (promise_of command.now).begun (called_with call.now.random (G.accepted call.now.seal.now)
+        (promise_of command.now).begun
+        (called_with call.now.random (C.slow call.now.check.now) (G.accepted call.now.seal.now)
         (G.tag_of call.now.seal.now))
         (shown S.left S.faults source.old source.new)
         (shown_link L.told L.recv_faults L.send_faults link.old link.new) ⊎ (link.new ≡ link.old)) }
@@ -111,11 +115,11 @@ fn plain_output_of<S: Source, C: Check, G: Seal + SealCheck>(
 ) -> Result<Bytes, Status>
     requires plain { ¬ IsTrue (promise_of command.now).links }
     requires ranges { (promise_of command.now).ranges }
-    ensures ok { (accepts : Accepts) (tags : Tags) (link : Shown Event) → IfOk result
-        ((promise_of command.now).text (called_with call.now.random accepts tags)
+    ensures ok { (slow : Bool) (accepts : Accepts) (tags : Tags) (link : Shown Event) → IfOk result
+        ((promise_of command.now).text (called_with call.now.random slow accepts tags)
         (shown S.left S.faults source.old source.new) link) }
-    ensures cause { (accepts : Accepts) (tags : Tags) (link : Shown Event) → IfErr result
-        ((promise_of command.now).cause (called_with call.now.random accepts tags)
+    ensures cause { (slow : Bool) (accepts : Accepts) (tags : Tags) (link : Shown Event) → IfErr result
+        ((promise_of command.now).cause (called_with call.now.random slow accepts tags)
         (shown S.left S.faults source.old source.new) link) }
     ensures no_input { ¬ IsTrue (promise_of command.now).reads → source.new ≡ source.old }
     ensures at_most { ReadsAtMost (S.left source.old) (S.left source.new) }
@@ -166,7 +170,7 @@ pub(crate) fn asked_output<
     R: Threads + Wait + Sync,
     S: Source,
     L: Link,
-    C: Check + Sync,
+    C: PacedCheck + Sync,
     G: Seal + SealCheck + Sync,
 >(
     rt: &R,
@@ -176,12 +180,13 @@ pub(crate) fn asked_output<
     link: &mut L,
     call: &Call<'_, C, G>,
 ) -> Result<Bytes, Status>
-    ensures ok { IfOk result (HasText (bytes_of words.now) (called_with call.now.random (G.accepted call.now.seal.now)
+    ensures ok { IfOk result (HasText (bytes_of words.now)
+        (called_with call.now.random (C.slow call.now.check.now) (G.accepted call.now.seal.now)
         (G.tag_of call.now.seal.now))
         (shown S.left S.faults source.old source.new)
         (shown_link L.told L.recv_faults L.send_faults link.old link.new)) }
     ensures cause { IfErr result (HasCause (Asks (bytes_of words.now)) (bytes_of words.now)
-        (called_with call.now.random (G.accepted call.now.seal.now)
+        (called_with call.now.random (C.slow call.now.check.now) (G.accepted call.now.seal.now)
         (G.tag_of call.now.seal.now))
         (shown S.left S.faults source.old source.new)
         (shown_link L.told L.recv_faults L.send_faults link.old link.new)) }
@@ -195,7 +200,8 @@ pub(crate) fn asked_output<
     ensures reads_well { ¬ IsErrOf result Status.SourceFault
         → S.faults source.new ≡ S.faults source.old }
     ensures no_memory { IfErr result (λ status. status ≡ Status.NoMemory →
-        HasBegun (bytes_of words.now) (called_with call.now.random (G.accepted call.now.seal.now)
+        HasBegun (bytes_of words.now)
+        (called_with call.now.random (C.slow call.now.check.now) (G.accepted call.now.seal.now)
         (G.tag_of call.now.seal.now))
         (shown S.left S.faults source.old source.new)
         (shown_link L.told L.recv_faults L.send_faults link.old link.new) ⊎ (link.new ≡ link.old)) }

@@ -14,9 +14,9 @@ ghost use Rattle.command_base.specs.Shown.{SameInput, SameEvents, Shown};
 /// one and the source tells it. The words alone give it where `mint` or `sim` names a seed. So what is written follows from
 /// nothing else: no hasher, no clock, no order of threads, and no amount of memory but too little.
 ///
-/// What `serve` and `refresh` write follows from that, the seal and the link's events, where the link tells them. Of the
-/// commands that look up over a link it may follow from how threads take turns, too: which of two paths takes a contact that
-/// both were told of.
+/// What `serve` and `refresh` write follows from that, the seal and the link's events, if the link tells them; and so does what
+/// `lookup`, `peers`, `get` and `put` write, unless the check is slow. Under a slow check, and of `node`, it may follow from how
+/// threads take turns, too: which of two paths takes a contact that both were told of.
 pub fn one_text()
     ensures plain { (words : List Word) (called other : Called) (source again : Shown ℕ)
         (link beside : Shown Event) (a b : List ℕ) → AsksPlain words
@@ -28,7 +28,7 @@ pub fn one_text()
         → HasText words other again beside b → a ≡ b }
     ensures told { (words : List Word) (command : Command) (called : Called)
         (source again : Shown ℕ) (link beside : Shown Event) (a b : List ℕ)
-        → CommandOf words command → GoesByEvents command → SameInput source again
+        → CommandOf words command → GoesByEvents called.slow command → SameInput source again
         → SameEvents link beside → HasText words called source link a
         → HasText words called again beside b → a ≡ b }
 {}

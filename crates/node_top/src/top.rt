@@ -13,6 +13,7 @@ use crate::commands::{asked_output, asked_plainly};
 use command_base::Call;
 use command_base::output::{write_line, write_output};
 use kad_base::{Check, Link, Sink, Source};
+use path_worker::PacedCheck;
 use seal_tags::{GroupSeal, Seal, SealCheck};
 use std::alloc::Global;
 use std::hash::RandomState;
@@ -21,8 +22,8 @@ use std::thread::Threads;
 
 /// Does the command that the words ask for, and answers the status that the program ends with. `words` are those after
 /// the program's name; `random` are 32 bytes that nobody else knows, from which the node's identifier (unless a word
-/// names it) and the transaction ids are drawn. `rt` is the runtime: where the check says that it takes long, `lookup` and
-/// `peers` settle what a round gave on several threads, which wait for each other in turn.
+/// names it) and the transaction ids are drawn. `rt` is the runtime: if the check is slow, what a round of a lookup gave
+/// is settled on several threads, which wait for each other in turn.
 /// Strangers choose what the lookup keeps an index of, so its `hasher` is handed in; nothing that is written depends on it.
 /// `seal` is the group's: a command that the words say is sealed believes no reply without a tag that it accepts, and tags
 /// what it says; no other asks it for anything.
@@ -35,7 +36,7 @@ pub fn run<
     S: Source,
     K: Sink,
     L: Link,
-    C: Check + Sync,
+    C: PacedCheck + Sync,
     G: Seal + SealCheck + Sync,
 >(
     rt: &R,
@@ -53,7 +54,7 @@ pub fn run<
     // and whose paths have run out, that of several lookups at once has one such journal for each, that of a node which
     // served counts what they tell, and that of a refresh is the saved text of the table which they leave of the input's.
     ensures done { result ≡ 0 → IsDone (bytes_of words.now)
-        (called_with random.now (G.accepted seal.now) (G.tag_of seal.now))
+        (called_with random.now (C.slow check.now) (G.accepted seal.now) (G.tag_of seal.now))
         (shown S.left S.faults source.old source.new)
         (shown_link L.told L.recv_faults L.send_faults link.old link.new)
         (shown K.written K.faults sink.old sink.new) }
@@ -66,29 +67,29 @@ pub fn run<
         × HasBadLine (bytes_of words.now) (shown S.left S.faults source.old source.new) }
     ensures link_fault { result ≡ 4 → HasFailed (shown_link L.told L.recv_faults L.send_faults link.old link.new) }
     ensures few_strays { result ≡ 4 → HasNoLastStray (bytes_of words.now)
-        (called_with random.now (G.accepted seal.now) (G.tag_of seal.now))
+        (called_with random.now (C.slow check.now) (G.accepted seal.now) (G.tag_of seal.now))
         (shown S.left S.faults source.old source.new)
         (shown_link L.told L.recv_faults L.send_faults link.old link.new) }
     ensures sink_fault { result ≡ 5 → HasFailed (shown K.written K.faults sink.old sink.new) }
     ensures source_fault { result ≡ 6 → ReadsInput (bytes_of words.now)
         × HasFailed (shown S.left S.faults source.old source.new) }
     ensures strays { result ≡ 7 → HasStrays (bytes_of words.now)
-        (called_with random.now (G.accepted seal.now) (G.tag_of seal.now))
+        (called_with random.now (C.slow check.now) (G.accepted seal.now) (G.tag_of seal.now))
         (shown S.left S.faults source.old source.new)
         (shown_link L.told L.recv_faults L.send_faults link.old link.new) }
     ensures begun { (result ≡ 4) ⊎ (result ≡ 7) → HasStart (bytes_of words.now)
-        (called_with random.now (G.accepted seal.now) (G.tag_of seal.now))
+        (called_with random.now (C.slow check.now) (G.accepted seal.now) (G.tag_of seal.now))
         (shown S.left S.faults source.old source.new) }
     ensures unfinished { (result ≡ 4) ⊎ (result ≡ 7) → HasBegun (bytes_of words.now)
-        (called_with random.now (G.accepted seal.now) (G.tag_of seal.now))
+        (called_with random.now (C.slow check.now) (G.accepted seal.now) (G.tag_of seal.now))
         (shown S.left S.faults source.old source.new)
         (shown_link L.told L.recv_faults L.send_faults link.old link.new) }
     ensures no_memory { result ≡ 9 → HasBegun (bytes_of words.now)
-        (called_with random.now (G.accepted seal.now) (G.tag_of seal.now))
+        (called_with random.now (C.slow check.now) (G.accepted seal.now) (G.tag_of seal.now))
         (shown S.left S.faults source.old source.new)
         (shown_link L.told L.recv_faults L.send_faults link.old link.new) ⊎ (link.new ≡ link.old) }
     ensures no_seeds { result ≡ 8 → HasNoSeeds (bytes_of words.now)
-        (called_with random.now (G.accepted seal.now) (G.tag_of seal.now))
+        (called_with random.now (C.slow check.now) (G.accepted seal.now) (G.tag_of seal.now))
         (shown S.left S.faults source.old source.new) }
     ensures unminted { result ≡ 10 → HasNothing (bytes_of words.now) random.now }
     ensures too_long { result ≡ 11 → ReadsInput (bytes_of words.now)
@@ -103,11 +104,12 @@ pub fn run<
         → OrNoMemory result 3 }
     ensures no_seeds_come { let input = shown S.left S.faults source.old source.new in
         IsTold input → ¬ HasFailed input → HasNoSeeds (bytes_of words.now)
-        (called_with random.now (G.accepted seal.now) (G.tag_of seal.now)) input
+        (called_with random.now (C.slow check.now) (G.accepted seal.now) (G.tag_of seal.now)) input
         → OrNoMemory result 8 }
     ensures strays_come { let told = shown_link L.told L.recv_faults L.send_faults link.old link.new in
         IsTold told → EndsInStrays (bytes_of words.now)
-        (called_with random.now (G.accepted seal.now) (G.tag_of seal.now)) told → OrNoMemory result 7 }
+        (called_with random.now (C.slow check.now) (G.accepted seal.now) (G.tag_of seal.now)) told
+        → OrNoMemory result 7 }
     ensures unminted_comes { HasNothing (bytes_of words.now) random.now → OrNoMemory result 10 }
     ensures too_long_comes { S.left source.new ≢ None
         → ReadsTooMuch (S.left source.old) (S.left source.new)
@@ -119,7 +121,7 @@ pub fn run<
 
     // With what it needs, and no failure, a command is done, want of memory aside.
     ensures complete { GoesWell (bytes_of words.now)
-        (called_with random.now (G.accepted seal.now) (G.tag_of seal.now))
+        (called_with random.now (C.slow check.now) (G.accepted seal.now) (G.tag_of seal.now))
         (shown S.left S.faults source.old source.new)
         (shown_link L.told L.recv_faults L.send_faults link.old link.new)
         (shown K.written K.faults sink.old sink.new)
@@ -130,7 +132,7 @@ pub fn run<
         (shown S.left S.faults source.old source.new)
         (shown K.written K.faults sink.old sink.new) }
     ensures cut_short { result ≡ 5 → CutShort (bytes_of words.now)
-        (called_with random.now (G.accepted seal.now) (G.tag_of seal.now))
+        (called_with random.now (C.slow check.now) (G.accepted seal.now) (G.tag_of seal.now))
         (shown S.left S.faults source.old source.new)
         (shown_link L.told L.recv_faults L.send_faults link.old link.new)
         (shown K.written K.faults sink.old sink.new) }

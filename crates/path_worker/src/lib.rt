@@ -6,10 +6,12 @@
 mod alone;
 mod assign;
 mod calls;
+mod pace;
 mod pool;
 mod together;
 mod worker;
 
 pub use alone::settle_alone;
+pub use pace::PacedCheck;
 pub use together::settle_together;
 pub use worker::Worker;

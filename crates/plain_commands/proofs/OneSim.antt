@@ -79,11 +79,11 @@ same_rest : (s : Simulation) (t u : List ℕ) → IsSimulable s → (a : SimText
 same_rest s t u h a b same before [] [] x y = refl
 same_rest s t u h a b same before [] (f ∷ q) x y =
     absurd
-    (last_call (given s) b.journal a.journal a.events q f refl (let some = h.some_path in omega (arith, some)) b.legal a.legal (sym same) (tells_of s t a) (rounds_of s t a)
+    (last_call (given s) b.journal a.journal a.events q f (let some = h.some_path in omega (arith, some)) b.legal a.legal (sym same) (tells_of s t a) (rounds_of s t a)
     (subst (λ (l : List Event). Rounds sequential (given s) b.journal l) (y ∙ ap (λ (l : List Event). l ++ f ∷ q) (sym (x ∙ append-nil before))) (rounds_of s u b)))
 same_rest s t u h a b same before (e ∷ r) [] x y =
     absurd
-    (last_call (given s) a.journal b.journal b.events r e refl (let some = h.some_path in omega (arith, some)) a.legal b.legal same (tells_of s u b) (rounds_of s u b)
+    (last_call (given s) a.journal b.journal b.events r e (let some = h.some_path in omega (arith, some)) a.legal b.legal same (tells_of s u b) (rounds_of s u b)
     (subst (λ (l : List Event). Rounds sequential (given s) a.journal l) (x ∙ ap (λ (l : List Event). l ++ e ∷ r) (sym (y ∙ append-nil before))) (rounds_of s t a)))
 same_rest s t u h a b same before (e ∷ r) (f ∷ q) x y =
     let call = next_call (given s) a.journal b.journal before r q e f (let some = h.some_path in omega (arith, some)) a.legal b.legal same

@@ -62,7 +62,7 @@ abbrev pub no_key : List ℕ
 no_key = replicate 32 0
 
 abbrev pub sim_called : Simulation → Called
-sim_called s = called_with s.seed (is_group_tag no_key) (group_tag no_key)
+sim_called s = called_with s.seed false (is_group_tag no_key) (group_tag no_key)
 
 -- the values of the words are within the limits
 pub record IsSimulable (s : Simulation) : Type 0 where

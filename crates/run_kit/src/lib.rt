@@ -4,9 +4,10 @@
 
 use fake_net::ScriptLink;
 use id_puzzles::Sha1Check;
-use kad_base::{BytesSink, Check, Link, List, Numbers, Sink, Source, SteadySource};
+use kad_base::{BytesSink, Link, List, Numbers, Sink, Source, SteadySource};
 use kad_words::group_of;
 use node_top::{run, run_plain};
+use path_worker::PacedCheck;
 use seal_tags::{GroupSeal, Seal, SealCheck};
 use std::alloc::{AllocError, Global};
 use std::hash::RandomState;
@@ -43,7 +44,7 @@ pub fn status_of<
     S: Source,
     L: Link,
     K: Sink,
-    C: Check + Sync,
+    C: PacedCheck + Sync,
 >(
     rt: &R,
     words: &[String],
@@ -62,7 +63,7 @@ pub fn status_under<
     S: Source,
     L: Link,
     K: Sink,
-    C: Check + Sync,
+    C: PacedCheck + Sync,
     G: Seal + SealCheck + Sync,
 >(
     rt: &R,
@@ -116,7 +117,7 @@ pub fn play<R: AllocGlobal + RandomSource + Threads + Wait + Sync>(
 }
 
 /// The same under a check of the test's own.
-pub fn play_with<R: AllocGlobal + RandomSource + Threads + Wait + Sync, C: Check + Sync>(
+pub fn play_with<R: AllocGlobal + RandomSource + Threads + Wait + Sync, C: PacedCheck + Sync>(
     rt: &R,
     texts: &[&str],
     input: &str,
@@ -131,7 +132,7 @@ pub fn play_with<R: AllocGlobal + RandomSource + Threads + Wait + Sync, C: Check
 /// The same under a check and a seal of the test's own.
 pub fn play_under<
     R: AllocGlobal + RandomSource + Threads + Wait + Sync,
-    C: Check + Sync,
+    C: PacedCheck + Sync,
     G: Seal + SealCheck + Sync,
 >(
     rt: &R,

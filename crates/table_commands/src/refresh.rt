@@ -15,6 +15,7 @@ use command_base::{Call, Status};
 use contact_table::Table;
 use id_puzzles::Words;
 use kad_base::{Bytes, Link, Source};
+use path_worker::PacedCheck;
 use seal_tags::{Seal, SealCheck};
 use std::alloc::Global;
 use table_file::{SaveFault, read};
@@ -47,7 +48,7 @@ fn read_table<S: Source>(alloc: Global, source: &mut S) -> Result<Table, Status>
 
 /// Refreshes the table of the input, and makes the saved text of the table that results, or says why there is none. Nothing
 /// is written yet.
-pub fn refresh<S: Source, L: Link, C, G: Seal + SealCheck>(
+pub fn refresh<S: Source, L: Link, C: PacedCheck, G: Seal + SealCheck>(
     alloc: Global,
     timeout: u32,
     sealed: bool,
@@ -55,16 +56,19 @@ pub fn refresh<S: Source, L: Link, C, G: Seal + SealCheck>(
     link: &mut L,
     call: &Call<'_, C, G>,
 ) -> Result<Bytes, Status>
-    ensures ok { IfOk result (RefreshText timeout sealed (called_with call.now.random (G.accepted call.now.seal.now)
+    ensures ok { IfOk result (RefreshText timeout sealed
+        (called_with call.now.random (C.slow call.now.check.now) (G.accepted call.now.seal.now)
         (G.tag_of call.now.seal.now))
         (shown S.left S.faults source.old source.new)
         (shown_link L.told L.recv_faults L.send_faults link.old link.new)) }
-    ensures cause { IfErr result ((refresh_promise timeout sealed).cause (called_with call.now.random (G.accepted call.now.seal.now)
+    ensures cause { IfErr result ((refresh_promise timeout sealed).cause
+        (called_with call.now.random (C.slow call.now.check.now) (G.accepted call.now.seal.now)
         (G.tag_of call.now.seal.now))
         (shown S.left S.faults source.old source.new)
         (shown_link L.told L.recv_faults L.send_faults link.old link.new)) }
     ensures no_memory { IfErr result (λ status. status ≡ Status.NoMemory →
-        RefreshBegun timeout sealed (called_with call.now.random (G.accepted call.now.seal.now)
+        RefreshBegun timeout sealed
+        (called_with call.now.random (C.slow call.now.check.now) (G.accepted call.now.seal.now)
         (G.tag_of call.now.seal.now))
         (shown S.left S.faults source.old source.new)
         (shown_link L.told L.recv_faults L.send_faults link.old link.new) ⊎ (link.new ≡ link.old)) }

@@ -2,6 +2,7 @@
 use crate::contacts::contact;
 use id_puzzles::Sha1Check;
 use kad_base::{Check, Policy, Report};
+use path_worker::PacedCheck;
 use std::sync::atomic::{AtomicU32, Ordering};
 
 /// Says of a report what its puzzles say, and lets the first checks of so many contacts, from this
@@ -66,9 +67,15 @@ impl Check for Meeting {
         }
         Sha1Check.check(policy, report)
     }
+}
 
-    /// It waits for others.
-    fn takes_long(&self) -> bool {
+/// It waits for others.
+impl PacedCheck for Meeting {
+    ghost use Rattle.std.specs.Prelude.{true};
+
+    ghost slow = { λ _. true };
+
+    fn is_slow(&self) -> bool {
         true
     }
 }

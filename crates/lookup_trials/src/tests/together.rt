@@ -6,8 +6,9 @@ use bucket_tree::Gone;
 use contact_table::{Table, TableCall, TableReply};
 use fake_net::ScriptLink;
 use id_puzzles::{Sha1Check, Words};
-use kad_base::{Check, NoMemory, Serial};
+use kad_base::{NoMemory, Serial};
 use lookup_run::{AskKind, LookFault, Outcome, look_up, look_up_alone};
+use path_worker::PacedCheck;
 use seal_tags::GroupSeal;
 use std::alloc::Global;
 use std::hash::RandomState;
@@ -18,7 +19,7 @@ use std::thread::Threads;
 use trial_kit::{Meeting, Reply, contact, failing_link, link};
 
 /// What a lookup from these contacts gives over the link, and the table that it leaves.
-fn play<R: Threads + Wait + Sync, C: Check + Sync>(
+fn play<R: Threads + Wait + Sync, C: PacedCheck + Sync>(
     rt: &R,
     alloc: Global,
     contacts: &[u8],

@@ -5,24 +5,24 @@ use Rattle.look_many.proofs.Closing.{none_began, opened_alone, ok_looked, err_st
 use Rattle.look_many.proofs.driver.look_many.Goals as goal
 
 pub returns-in-Err-clause-stopped : goal.returns-in-Err-clause-stopped
-returns-in-Err-clause-stopped g c = inr (none_began c.args.targets.now c.args.table c.take_room.new.table c.args.words.now (g.L.Link.told c.args.link.now) c.take_room.ensures.table)
+returns-in-Err-clause-stopped g c = inr (none_began c.args.table c.take_room.new.table c.args.words.now (g.L.Link.told c.args.link.now) c.take_room.ensures.table)
 
 pub returns-in-Err-new-clause-stopped : goal.returns-in-Err-new-clause-stopped
 returns-in-Err-new-clause-stopped g c =
-    inr (none_began c.args.targets.now c.args.table c.in-Err-new.field-0.state c.args.words.now (g.L.Link.told c.args.link.now) (c.in-Err-new.ensures.refused ∙ c.take_room.ensures.table))
+    inr (none_began c.args.table c.in-Err-new.field-0.state c.args.words.now (g.L.Link.told c.args.link.now) (c.in-Err-new.ensures.refused ∙ c.take_room.ensures.table))
 
 pub returns-in-Err-new-2-clause-stopped : goal.returns-in-Err-new-2-clause-stopped
 returns-in-Err-new-2-clause-stopped g c =
     let closed = c.close-table in
     inr
-    (opened_alone c.args.targets.now c.in-Ok-new.opened.0 c.in-Ok-new.opened.1.passes c.args.table closed.result.0 closed.result.1.calls c.args.words.now (g.L.Link.told c.args.link.now) closed.ensures (c.in-Ok-new.ensures.state ∙ c.take_room.ensures.table)
+    (opened_alone c.in-Ok-new.opened.0 c.in-Ok-new.opened.1.passes c.args.table closed.result.0 closed.result.1.calls c.args.words.now (g.L.Link.told c.args.link.now) closed.ensures (c.in-Ok-new.ensures.state ∙ c.take_room.ensures.table)
     c.in-Ok-new.ensures.passes)
 
 pub returns-in-Err-new-3-clause-stopped : goal.returns-in-Err-new-3-clause-stopped
 returns-in-Err-new-3-clause-stopped g c =
     let closed = c.close-table-in-Err-new-3 in
     inr
-    (opened_alone c.args.targets.now c.in-Ok-new.opened.0 c.in-Ok-new.opened.1.passes c.args.table closed.result.0 closed.result.1.calls c.args.words.now (g.L.Link.told c.args.link.now) closed.ensures (c.in-Ok-new.ensures.state ∙ c.take_room.ensures.table)
+    (opened_alone c.in-Ok-new.opened.0 c.in-Ok-new.opened.1.passes c.args.table closed.result.0 closed.result.1.calls c.args.words.now (g.L.Link.told c.args.link.now) closed.ensures (c.in-Ok-new.ensures.state ∙ c.take_room.ensures.table)
     c.in-Ok-new.ensures.passes)
 
 pub returns-clause-ok : goal.returns-clause-ok

@@ -10,10 +10,10 @@ pub returns-in_err-text_of-clause-no_memory : goal.returns-in_err-text_of-clause
 returns-in_err-text_of-clause-no_memory g c =
     let source = shown g.S.Source.left g.S.Source.faults c.args.source.now c.run_lookup.new.source in
     let link = shown_link g.L.Link.told g.L.Link.recv_faults g.L.Link.send_faults c.args.link.now c.run_lookup.new.link in
-    err_began c.from_residual-in_err-text_of.result _ (c.run_lookup.new.link ≡ c.args.link.now) (begun_reached FindNode c.args.look.now (called_with c.args.call.now.random (g.G.SealCheck.accepted c.args.call.now.seal.now) (g.G.Seal.tag_of c.args.call.now.seal.now)) source link c.in_ok-reached.reached c.in_ok-reached.ensures.ok)
+    err_began c.from_residual-in_err-text_of.result _ (c.run_lookup.new.link ≡ c.args.link.now) (begun_reached FindNode c.args.look.now (called_with c.args.call.now.random (g.C.PacedCheck.slow c.args.call.now.check.now) (g.G.SealCheck.accepted c.args.call.now.seal.now) (g.G.Seal.tag_of c.args.call.now.seal.now)) source link c.in_ok-reached.reached c.in_ok-reached.ensures.ok)
 
 pub returns-clause-ok : goal.returns-clause-ok
 returns-clause-ok g c =
     let source = shown g.S.Source.left g.S.Source.faults c.args.source.now c.run_lookup.new.source in
     let link = shown_link g.L.Link.told g.L.Link.recv_faults g.L.Link.send_faults c.args.link.now c.run_lookup.new.link in
-    looks_reached FindNode c.args.look.now (called_with c.args.call.now.random (g.G.SealCheck.accepted c.args.call.now.seal.now) (g.G.Seal.tag_of c.args.call.now.seal.now)) source link c.in_ok-reached.reached c.in_ok-text_of.field-0 c.in_ok-reached.ensures.ok c.in_ok-text_of.ensures
+    looks_reached FindNode c.args.look.now (called_with c.args.call.now.random (g.C.PacedCheck.slow c.args.call.now.check.now) (g.G.SealCheck.accepted c.args.call.now.seal.now) (g.G.Seal.tag_of c.args.call.now.seal.now)) source link c.in_ok-reached.reached c.in_ok-text_of.field-0 c.in_ok-reached.ensures.ok c.in_ok-text_of.ensures

@@ -16,7 +16,7 @@ returns-in_err-stored-clause-no_memory g c =
     let faults = g.L.Link.recv_faults in
     let sends = g.L.Link.send_faults in
     err_began c.from_residual-in_err-stored.result _ (c.announce.new.link ≡ c.args.link.now)
-    (inr (announced_some GetItem c.args.look.now (putting_to c.args.item.now) (called_with c.args.call.now.random (g.G.SealCheck.accepted c.args.call.now.seal.now) (g.G.Seal.tag_of c.args.call.now.seal.now)) _ (told c.args.link.now) (told c.run_lookup.new.link) (told c.announce.new.link) (faults c.args.link.now) (faults c.run_lookup.new.link) (faults c.announce.new.link) (sends c.args.link.now) (sends c.run_lookup.new.link) (sends c.announce.new.link) c.in_ok-reached.reached
+    (inr (announced_some GetItem c.args.look.now (putting_to c.args.item.now) (called_with c.args.call.now.random (g.C.PacedCheck.slow c.args.call.now.check.now) (g.G.SealCheck.accepted c.args.call.now.seal.now) (g.G.Seal.tag_of c.args.call.now.seal.now)) _ (told c.args.link.now) (told c.run_lookup.new.link) (told c.announce.new.link) (faults c.args.link.now) (faults c.run_lookup.new.link) (faults c.announce.new.link) (sends c.args.link.now) (sends c.run_lookup.new.link) (sends c.announce.new.link) c.in_ok-reached.reached
     c.in_ok-reached.ensures.ok c.announce.ensures.send_faults
     (said_to (putting c.in_ok-reached.reached.own c.args.item.now) c.in_ok-reached.reached.outcome.found _ c.in_ok-reached.reached.outcome.tokens _
     (λ all. Grows (told c.run_lookup.new.link) (told c.announce.new.link) (AnnouncesSome c.in_ok-reached.reached.words.seed c.in_ok-reached.reached.words.place all)) c.as_slice-found.ensures c.as_slice-tokens.ensures c.in_err-stored.ensures.err)))
@@ -27,7 +27,7 @@ returns-in_err-print_stored-clause-no_memory g c =
     let faults = g.L.Link.recv_faults in
     let sends = g.L.Link.send_faults in
     err_began c.from_residual-in_err-print_stored.result _ (c.announce.new.link ≡ c.args.link.now)
-    (inr (announced_some GetItem c.args.look.now (putting_to c.args.item.now) (called_with c.args.call.now.random (g.G.SealCheck.accepted c.args.call.now.seal.now) (g.G.Seal.tag_of c.args.call.now.seal.now)) _ (told c.args.link.now) (told c.run_lookup.new.link) (told c.announce.new.link) (faults c.args.link.now) (faults c.run_lookup.new.link) (faults c.announce.new.link) (sends c.args.link.now) (sends c.run_lookup.new.link) (sends c.announce.new.link) c.in_ok-reached.reached
+    (inr (announced_some GetItem c.args.look.now (putting_to c.args.item.now) (called_with c.args.call.now.random (g.C.PacedCheck.slow c.args.call.now.check.now) (g.G.SealCheck.accepted c.args.call.now.seal.now) (g.G.Seal.tag_of c.args.call.now.seal.now)) _ (told c.args.link.now) (told c.run_lookup.new.link) (told c.announce.new.link) (faults c.args.link.now) (faults c.run_lookup.new.link) (faults c.announce.new.link) (sends c.args.link.now) (sends c.run_lookup.new.link) (sends c.announce.new.link) c.in_ok-reached.reached
     c.in_ok-reached.ensures.ok c.announce.ensures.send_faults (all_some _ _ _ c.in_ok-stored.stored _ _
     (said_to (putting c.in_ok-reached.reached.own c.args.item.now) c.in_ok-reached.reached.outcome.found _ c.in_ok-reached.reached.outcome.tokens _
     (λ all. Grows (told c.run_lookup.new.link) (told c.announce.new.link) (Sends c.in_ok-reached.reached.words.seed c.in_ok-reached.reached.words.place all c.in_ok-stored.stored)) c.as_slice-found.ensures c.as_slice-tokens.ensures c.in_ok-stored.ensures.ok))))
@@ -37,7 +37,7 @@ returns-clause-ok g c =
     let told = g.L.Link.told in
     let faults = g.L.Link.recv_faults in
     let sends = g.L.Link.send_faults in
-    puts_at c.args.look.now c.args.item.now (called_with c.args.call.now.random (g.G.SealCheck.accepted c.args.call.now.seal.now) (g.G.Seal.tag_of c.args.call.now.seal.now)) _ (told c.args.link.now) (told c.run_lookup.new.link) (told c.announce.new.link) (faults c.args.link.now) (faults c.run_lookup.new.link) (faults c.announce.new.link) (sends c.args.link.now) (sends c.run_lookup.new.link) (sends c.announce.new.link) c.in_ok-reached.reached c.in_ok-stored.stored c.in_ok-print_stored.field-0
+    puts_at c.args.look.now c.args.item.now (called_with c.args.call.now.random (g.C.PacedCheck.slow c.args.call.now.check.now) (g.G.SealCheck.accepted c.args.call.now.seal.now) (g.G.Seal.tag_of c.args.call.now.seal.now)) _ (told c.args.link.now) (told c.run_lookup.new.link) (told c.announce.new.link) (faults c.args.link.now) (faults c.run_lookup.new.link) (faults c.announce.new.link) (sends c.args.link.now) (sends c.run_lookup.new.link) (sends c.announce.new.link) c.in_ok-reached.reached c.in_ok-stored.stored c.in_ok-print_stored.field-0
     c.in_ok-reached.ensures.ok c.announce.ensures.send_faults
     (said_to (putting c.in_ok-reached.reached.own c.args.item.now) c.in_ok-reached.reached.outcome.found _ c.in_ok-reached.reached.outcome.tokens _
     (λ all. Grows (told c.run_lookup.new.link) (told c.announce.new.link) (Sends c.in_ok-reached.reached.words.seed c.in_ok-reached.reached.words.place all c.in_ok-stored.stored)) c.as_slice-found.ensures c.as_slice-tokens.ensures c.in_ok-stored.ensures.ok)

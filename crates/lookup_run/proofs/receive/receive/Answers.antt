@@ -18,7 +18,7 @@ returns-in_err-take_datagram-in-Ok-Packet-clause-stops g c =
     let old : LookupState = c.args.work.now in
     let grows = rw p.field-0-is at p.ensures.ok in
     on_err_of c.from_residual.result (λ (words : WordsState). stops_of c.args.look.now (g.G.SealCheck.accepted c.args.seal.now) words old c.take_datagram.new.work _ _
-    (subst (λ (s : Setting). Legal s old.lookup.book.journal) c.requires.may_receive.keeps.setting c.legal.ensures) c.take_datagram.ensures.table
+    (subst (λ (s : Setting). Legal s old.lookup.book.journal) c.requires.may_receive.keeps.setting c.legal.ensures) c.requires.may_receive.keeps.few_strays c.take_datagram.ensures.table
     (grows_weaker _ _ _ _ grows (λ es is. inr (p.from, take p.len c.recv.new.buf, c.wait_for-until.result, p.at, is))))
 
 pub returns-in_err-take_datagram-in-Ok-Packet-clause-strays : goal.returns-in_err-take_datagram-in-Ok-Packet-clause-strays
@@ -61,7 +61,7 @@ returns-in-Err-clause-well g c other = absurd (other refl)
 pub returns-in-Err-clause-stops : goal.returns-in-Err-clause-stops
 returns-in-Err-clause-stops g c words =
     let old : LookupState = c.args.work.now in
-    stops_of c.args.look.now (g.G.SealCheck.accepted c.args.seal.now) words old old _ _ (subst (λ (s : Setting). Legal s old.lookup.book.journal) c.requires.may_receive.keeps.setting c.legal.ensures) refl
+    stops_of c.args.look.now (g.G.SealCheck.accepted c.args.seal.now) words old old _ _ (subst (λ (s : Setting). Legal s old.lookup.book.journal) c.requires.may_receive.keeps.setting c.legal.ensures) c.requires.may_receive.keeps.few_strays refl
     (grows_weaker _ _ _ _ c.in-Err.ensures.err (λ es is. inl is))
 
 pub returns-in-Err-clause-few_strays : goal.returns-in-Err-clause-few_strays

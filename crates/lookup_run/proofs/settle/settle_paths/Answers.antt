@@ -25,7 +25,7 @@ returns-in-Err g c scheduling =
     let work = c.args.work in
     record {
       ok = λ told. tt;
-      stops = λ told accepts words. stops_settling c.args.look.now accepts work c.settle_path.new.work told (subst (λ s. Legal s work.lookup.book.journal) c.requires.keeps.setting c.legal.ensures)
+      stops = λ told accepts words. stops_settling c.args.look.now accepts work c.settle_path.new.work told (subst (λ s. Legal s work.lookup.book.journal) c.requires.keeps.setting c.legal.ensures) c.requires.keeps.few_strays
           (ran_then work.table c.loop-path.work.table c.settle_path.new.work.table (c.loop-path.invariant sequential None).ran c.in-Err.ensures.ran) words;
       fault = c.in-Err.ensures.fault;
     }

@@ -7,14 +7,11 @@ use Rattle.lookup_run.proofs.Settled.{stops_settling}
 use Rattle.lookup_run.proofs.Shuffled.{settles_together, ran_together}
 use Rattle.lookup_run.proofs.together.settle_each.Goals as goal
 
-pub returns-then-not-takes_long : goal.returns-then-not-takes_long
-returns-then-not-takes_long g c = c.settle_paths.ensures concurrent
-
 pub returns-then-not-has_several : goal.returns-then-not-has_several
 returns-then-not-has_several g c =
     let work = c.args.work in
-    let r = c.settle_paths-then-not-has_several.result in
-    subst (λ b. Settles concurrent c.args.look.now (record work { lookup = record { book = b; queries = work.lookup.queries } }) r.0 r.1) c.has_several.ensures.same (c.settle_paths-then-not-has_several.ensures concurrent)
+    let r = c.settle_paths.result in
+    subst (λ b. Settles concurrent c.args.look.now (record work { lookup = record { book = b; queries = work.lookup.queries } }) r.0 r.1) c.has_several.ensures.same (c.settle_paths.ensures concurrent)
 
 pub returns-in-Ok : goal.returns-in-Ok
 returns-in-Ok g c =
@@ -36,6 +33,6 @@ returns-in-Err g c =
     let legal = rw c.has_several.ensures.same at c.legal.ensures in
     record {
       ok = λ told. tt;
-      stops = λ told accepts words. stops_settling c.args.look.now accepts work after told (subst (λ s. Legal s work.lookup.book.journal) c.requires.keeps.setting legal) (ran_together work after left) words;
+      stops = λ told accepts words. stops_settling c.args.look.now accepts work after told (subst (λ s. Legal s work.lookup.book.journal) c.requires.keeps.setting legal) c.requires.keeps.few_strays (ran_together work after left) words;
       fault = refl;
     }

@@ -6,7 +6,7 @@ use Rattle.node_commands.proofs.serve.serve_alone.Goals as goal
 
 pub returns-clause-begun : goal.returns-clause-begun
 returns-clause-begun g c =
-    let called = called_with c.args.call.now.random (g.G.SealCheck.accepted c.args.call.now.seal.now) (g.G.Seal.tag_of c.args.call.now.seal.now) in
+    let called = called_with c.args.call.now.random (g.C.PacedCheck.slow c.args.call.now.check.now) (g.G.SealCheck.accepted c.args.call.now.seal.now) (g.G.Seal.tag_of c.args.call.now.seal.now) in
     let begins = node_begun c.args.service.now c.args.call.now.random c.args.host.table c.args.host.proofs c.args.own c.now-began.result c.new-node.result c.requires.own c.new-node.ensures in
     err_then c.serve_loop.result _ _ c.serve_loop.ensures.begun (λ fault p.
     some_alone c.requires.alone (served_some c.args.service.now called c.args.host.table c.args.host.proofs c.new-node.result c.now-began.result _ _ _ begins c.now-began.ensures.told p))

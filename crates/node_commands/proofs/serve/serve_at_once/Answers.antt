@@ -6,7 +6,7 @@ use Rattle.node_commands.proofs.serve.serve_at_once.Goals as goal
 
 pub returns-clause-ok : goal.returns-clause-ok
 returns-clause-ok g c =
-    let called = called_with c.args.call.now.random (g.G.SealCheck.accepted c.args.call.now.seal.now) (g.G.Seal.tag_of c.args.call.now.seal.now) in
+    let called = called_with c.args.call.now.random (g.C.PacedCheck.slow c.args.call.now.check.now) (g.G.SealCheck.accepted c.args.call.now.seal.now) (g.G.Seal.tag_of c.args.call.now.seal.now) in
     let is = setting_is c.args.service.now c.args.call.now.random c.args.host.proofs c.args.own c.new.result c.requires.own c.new.ensures in
     ok_then c.serve_many-answer.result.1 _ _ c.serve_many-answer.ensures.ok (λ counts p.
     at_once c.requires.several c.serve_many-answer.result.0
@@ -14,7 +14,7 @@ returns-clause-ok g c =
 
 pub returns-clause-begun : goal.returns-clause-begun
 returns-clause-begun g c =
-    let called = called_with c.args.call.now.random (g.G.SealCheck.accepted c.args.call.now.seal.now) (g.G.Seal.tag_of c.args.call.now.seal.now) in
+    let called = called_with c.args.call.now.random (g.C.PacedCheck.slow c.args.call.now.check.now) (g.G.SealCheck.accepted c.args.call.now.seal.now) (g.G.Seal.tag_of c.args.call.now.seal.now) in
     let is = setting_is c.args.service.now c.args.call.now.random c.args.host.proofs c.args.own c.new.result c.requires.own c.new.ensures in
     err_then c.serve_many-answer.result.1 _ _ c.serve_many-answer.ensures.begun (λ fault p.
     some_at_once c.requires.several c.serve_many-answer.result.0 fault

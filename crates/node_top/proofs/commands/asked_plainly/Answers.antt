@@ -28,16 +28,16 @@ returns-in_err-command-clause-cause g c =
 pub returns-clause-asks : goal.returns-clause-asks
 returns-clause-asks g c =
     let none_ : TakesLink (bytes_of c.args.words.now) → ⊥ = search rules in
-    ok_then c.plain_output_of.result _ _ (c.plain_output_of.ensures.ok (called_plainly c.args.call.now.random).accepts (called_plainly c.args.call.now.random).tags nowhere) (λ text t. record { asks = command_plain _ c.in_ok-command.command c.in_ok-command.ensures.command; no_link = none_ })
+    ok_then c.plain_output_of.result _ _ (c.plain_output_of.ensures.ok (called_plainly c.args.call.now.random).slow (called_plainly c.args.call.now.random).accepts (called_plainly c.args.call.now.random).tags nowhere) (λ text t. record { asks = command_plain _ c.in_ok-command.command c.in_ok-command.ensures.command; no_link = none_ })
 
 pub returns-clause-ok : goal.returns-clause-ok
-returns-clause-ok g c = ok_then c.plain_output_of.result _ _ (c.plain_output_of.ensures.ok (called_plainly c.args.call.now.random).accepts (called_plainly c.args.call.now.random).tags nowhere) (λ text t. record { command = c.in_ok-command.command; asked = c.in_ok-command.ensures.command; holds = t })
+returns-clause-ok g c = ok_then c.plain_output_of.result _ _ (c.plain_output_of.ensures.ok (called_plainly c.args.call.now.random).slow (called_plainly c.args.call.now.random).accepts (called_plainly c.args.call.now.random).tags nowhere) (λ text t. record { command = c.in_ok-command.command; asked = c.in_ok-command.ensures.command; holds = t })
 
 pub returns-clause-cause : goal.returns-clause-cause
-returns-clause-cause g c = err_then c.plain_output_of.result _ _ (c.plain_output_of.ensures.cause (called_plainly c.args.call.now.random).accepts (called_plainly c.args.call.now.random).tags nowhere) (λ status h. caused _ _ _ _ nowhere c.in_ok-command.command c.in_ok-command.ensures.command status h)
+returns-clause-cause g c = err_then c.plain_output_of.result _ _ (c.plain_output_of.ensures.cause (called_plainly c.args.call.now.random).slow (called_plainly c.args.call.now.random).accepts (called_plainly c.args.call.now.random).tags nowhere) (λ status h. caused _ _ _ _ nowhere c.in_ok-command.command c.in_ok-command.ensures.command status h)
 
 pub returns-clause-unread : goal.returns-clause-unread
-returns-clause-unread g c = err_then c.plain_output_of.result _ _ (c.plain_output_of.ensures.cause (called_plainly c.args.call.now.random).accepts (called_plainly c.args.call.now.random).tags nowhere) (λ status h two. absurd (unasked c.in_ok-command.command _ _ nowhere status h two))
+returns-clause-unread g c = err_then c.plain_output_of.result _ _ (c.plain_output_of.ensures.cause (called_plainly c.args.call.now.random).slow (called_plainly c.args.call.now.random).accepts (called_plainly c.args.call.now.random).tags nowhere) (λ status h two. absurd (unasked c.in_ok-command.command _ _ nowhere status h two))
 
 pub returns-clause-plain : goal.returns-clause-plain
 returns-clause-plain g c =
@@ -50,7 +50,7 @@ returns-clause-no_input g c = λ none_. c.plain_output_of.ensures.no_input (λ r
 pub returns-clause-no_link : goal.returns-clause-no_link
 returns-clause-no_link g c =
     let none_ : TakesLink (bytes_of c.args.words.now) → ⊥ = search rules in
-    err_then c.plain_output_of.result _ _ (c.plain_output_of.ensures.cause (called_plainly c.args.call.now.random).accepts (called_plainly c.args.call.now.random).tags nowhere)
+    err_then c.plain_output_of.result _ _ (c.plain_output_of.ensures.cause (called_plainly c.args.call.now.random).slow (called_plainly c.args.call.now.random).accepts (called_plainly c.args.call.now.random).tags nowhere)
     (λ status h. linkless c.in_ok-command.command (λ links. none_ (takes_by _ c.in_ok-command.command c.in_ok-command.ensures.command links)) _ _ status h)
 
 pub returns-in_err-command-clause-at_most : goal.returns-in_err-command-clause-at_most
