@@ -43,9 +43,7 @@ same_query (x ∷ qs) p q h (suc k, lt, is) (zero, less, e) same = absurd (all_i
 same_query (x ∷ qs) p q h (suc k, lt, is) (suc j, less, e) same = same_query qs p q h.2 (k, omega (arith, lt), is) (j, omega (arith, less), e) same
 
 same_answered : (c d : Contact) (x y : Answer) → c ≡ d → ◌≡◌ {A = Reply} (reply.Answer x) (reply.Answer y) → ◌≡◌ {A = Answered} (record { contact = c; answer = x }) (record { contact = d; answer = y })
-same_answered c d x y e f =
-    let is : x ≡ y = cc in
-    ap (λ (z : Contact). record { contact = z; answer = x }) e ∙ ap (λ (z : Answer). record { contact = d; answer = z }) is
+same_answered c d x y e f = (let is : x ≡ y = cc in cc)
 
 heard_once : (quest : Quest) (accepts : Accepts) (s : Seen) (from : Addr) (bytes : List ℕ) (a b : Answered) → Apart s.queries → HeardIn quest accepts s from bytes a → HeardIn quest accepts s from bytes b → a ≡ b
 heard_once quest accepts s from bytes a b apart h k =
