@@ -1,5 +1,5 @@
 -- A lookup begins with the seeds of a table, and ends where every path has run out, or early.
-use Rattle.std.proofs.Common.{◌≡◌, ◌≢◌, ℕ, zero, suc, ◌+◌, ◌<◌, ◌≤◌, ◌^◌, List, [], ◌∷◌, ◌++◌, length, drop, get_or, Option, Bool, true, false, Result, Ok, Err, IfOk, inl, inr, refl, sym, ap, subst, ◌∙◌, arith}
+use Rattle.std.proofs.Common.{◌≡◌, ◌≢◌, ℕ, zero, suc, ◌+◌, ◌<◌, ◌≤◌, ◌^◌, List, [], ◌∷◌, ◌++◌, length, get_or, Option, true, false, Result, Ok, Err, IfOk, inl, inr, refl, sym, ap, subst, ◌∙◌, arith}
 use Rattle.std.specs.Prelude.{map, Contains, IsSome, IfErr}
 use Rattle.std.specs.List.{All, AllByRecursion, flat_map}
 use Rattle.std.specs.List.Sorted.{IsStrictlySortedBy}
@@ -10,7 +10,7 @@ use Rattle.kad_base.specs.declared.types.Contact.{Contact}
 use Rattle.kad_base.specs.declared.types.Event.{Event}
 use Rattle.kad_base.specs.declared.types.Event.TheVariants.{Now}
 use Rattle.kad_base.specs.declared.serial.Made.{Made}
-use Rattle.kad_base.specs.Contacts.{among, without, IsUsable}
+use Rattle.kad_base.specs.Contacts.{IsUsable}
 use Rattle.kad_base.specs.Limits.{max_strays}
 use Rattle.kad_base.specs.Outside.{Grows}
 use Rattle.kad_base.proofs.Grown.{grows_weaker, grows_none}
@@ -26,7 +26,7 @@ use Rattle.contact_table.specs.declared.calls.TableReply.TheVariants.{List as Li
 use Rattle.contact_table.specs.TableStep.{TableStep, table_after, contacts_of}
 use Rattle.claim_book.specs.declared.types.Setting.{Setting}
 use Rattle.claim_book.specs.declared.types.Entry.{Entry}
-use Rattle.claim_book.specs.Journal.{seeds, asked, answered, failed, open_any, open_on, things, settled, unsettled}
+use Rattle.claim_book.specs.Journal.{seeds, asked, open_any, unsettled}
 use Rattle.claim_book.specs.Legal.{Legal, seeded_from, seeded}
 use Rattle.lookup_core.proofs.Received.{seeds_quiet}
 use Rattle.claim_book.specs.RunOut.{RunOut}

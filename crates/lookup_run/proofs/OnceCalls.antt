@@ -1,5 +1,5 @@
 -- What a lookup that goes by rounds calls next follows from the events before, and where it ended it calls nothing more.
-use Rattle.std.proofs.Common.{◌≡◌, ℕ, zero, suc, ◌+◌, ◌<◌, ◌≤◌, List, [], ◌∷◌, ◌++◌, length, get_or, Some, false, refl, sym, ap, subst, ◌∙◌, arith}
+use Rattle.std.proofs.Common.{◌≡◌, ℕ, zero, suc, ◌+◌, ◌<◌, ◌≤◌, List, [], ◌∷◌, ◌++◌, Some, refl, sym, ap, subst, ◌∙◌, arith}
 use Rattle.std.specs.Prelude.{map, Contains}
 use Rattle.std.specs.List.{AllByRecursion}
 use Rattle.kad_base.specs.declared.types.Addr.{Addr}
@@ -20,7 +20,7 @@ use Rattle.lookup_core.specs.Matching.{OpenQuery, query_of, IsQuery}
 use Rattle.lookup_core.specs.Quest.{query_message}
 use Rattle.lookup_core.proofs.Lists.{all_in}
 use Rattle.lookup_run.specs.LinkCalls.{LinkCall, sends, receives, call_of}
-use Rattle.lookup_run.specs.Tells.{Given, Seen, IsEarliest, Waits, Gives, TellsFrom, TellsSoFar, Tells, begun}
+use Rattle.lookup_run.specs.Tells.{Given, Seen, IsEarliest, Waits, Gives, TellsSoFar, Tells, begun}
 use Rattle.lookup_run.specs.Rounds.{sequential, AllSettled, NoneAsks, AsksInTurn, WaitsInTurn, RoundStep, RoundsFrom, Rounds}
 use Rattle.lookup_run.proofs.OnceEvents.{Apart, apart_gives, free_once, Asks, asks_of, asks_once}
 use Rattle.lookup_run.proofs.Once.{LegalStep, legal_step, legal_split, between_once, between_steps, past}

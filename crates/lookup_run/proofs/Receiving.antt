@@ -1,11 +1,10 @@
 -- One receive: what its event gives, and that the lookup comes nearer to its end.
-use Rattle.std.proofs.Common.{◌≡◌, ◌≢◌, ◌⊎◌, ℕ, zero, suc, ◌+◌, ◌-◌, ◌*◌, ◌^◌, ◌<◌, ◌≤◌, List, [], ◌∷◌, ◌++◌, length, Option, Bool, true, false, not, ◌||◌, cond, inl, inr, refl, sym, ap, subst, ◌∙◌, arith}
+use Rattle.std.proofs.Common.{◌≡◌, ◌≢◌, ◌⊎◌, ℕ, zero, suc, ◌+◌, ◌-◌, ◌*◌, ◌^◌, ◌<◌, ◌≤◌, List, [], ◌∷◌, ◌++◌, length, Option, true, false, cond, inl, inr, refl, sym, ap, subst, ◌∙◌, arith}
 use Rattle.std.specs.Prelude.{Contains, map, filter, nat_lt}
 use Rattle.std.specs.List.{AllByRecursion, flat_map}
 use Rattle.std.proofs.lemmas.Bool.Decides.{nat_tests}
 use Rattle.std.proofs.lemmas.List.{append-nil, append_assoc, length-append}
 use Rattle.std.proofs.lemmas.List.Concat.{flat_map-append}
-use Rattle.std.proofs.lemmas.List.Elements.{filter-append}
 use Rattle.kad_base.specs.declared.types.Addr.{Addr}
 use Rattle.kad_base.specs.declared.types.Contact.{Contact}
 use Rattle.kad_base.specs.declared.types.Event.{Event}
@@ -19,7 +18,7 @@ use Rattle.query_book.specs.declared.Query.{Query}
 use Rattle.claim_book.specs.declared.types.Entry.{Entry}
 use Rattle.claim_book.specs.declared.types.Entry.TheVariants.{Heard, Lost}
 use Rattle.claim_book.specs.declared.types.Cause.TheVariants.{WrongId, Error}
-use Rattle.claim_book.specs.Journal.{ask_of, seeds, asked, open_any}
+use Rattle.claim_book.specs.Journal.{seeds, asked, open_any}
 use Rattle.claim_book.specs.Legal.{Legal}
 use Rattle.claim_book.specs.State.{BookState}
 use Rattle.lookup_run.specs.declared.types.LookSetting.{LookSetting}
@@ -30,7 +29,7 @@ use Rattle.lookup_core.specs.Reply.{Reply}
 use Rattle.lookup_core.specs.Reply as reply
 use Rattle.lookup_core.specs.Matching.{OpenQuery, Replies, ReplyGives, IsStray}
 use Rattle.lookup_core.specs.Timeouts.{deadline_of, is_overdue, timed_out, closed_at, open_at}
-use Rattle.lookup_run.specs.Tells.{Given, Seen, is_driven, driven, IsEarliest, WaitsUntil, goes_on, Waits, HaveAsked, Receives, Gives, received, receives_seen, after_match}
+use Rattle.lookup_run.specs.Tells.{Given, Seen, driven, IsEarliest, WaitsUntil, goes_on, Waits, HaveAsked, Receives, Gives, received, receives_seen, after_match}
 use Rattle.lookup_run.specs.Rounds.{WaitsInTurn, InTurn}
 use Rattle.lookup_core.specs.Reply.{Answered}
 use Rattle.lookup_run.specs.Gathered.{HeardIn, Hears}
@@ -46,7 +45,7 @@ use Rattle.lookup_core.proofs.Received.{same_deadlines, open_still, all_still, f
 use Rattle.lookup_run.proofs.Refusing.{unsent_left}
 use Rattle.lookup_run.proofs.Walking.{OneEvent, NextStep, along_next}
 use Rattle.lookup_core.proofs.Opens.{opens_kept, each_asked}
-use Rattle.lookup_core.proofs.Lists.{in_cons, in_map, map_in, in_middle, all_in, none_in}
+use Rattle.lookup_core.proofs.Lists.{in_map, map_in, in_middle, all_in}
 use Rattle.lookup_core.proofs.Matching.{to_reply}
 use Rattle.lookup_core.proofs.Lists.{map_append}
 use Rattle.lookup_core.specs.declared.quest.Quest.{Quest}

@@ -1,12 +1,8 @@
 -- How many of the first paths have something to settle: none, one, or more.
-use Rattle.std.proofs.Common.{◌≡◌, ◌≢◌, ◌<◌, ◌+◌, ℕ, List, [], Bool, true, false, inl, inr, refl, ap, ◌∙◌, arith}
-use Rattle.std.specs.Prelude.{slice_get}
+use Rattle.std.proofs.Common.{◌≡◌, ◌≢◌, ◌<◌, ◌+◌, ℕ, List, [], Bool, true, false, inl, inr, ap, ◌∙◌, arith}
 use Rattle.std.proofs.lemmas.Bool.{cases_lt}
 use Rattle.claim_book.specs.declared.types.Entry.{Entry}
-use Rattle.claim_book.specs.declared.calls.BookReply.{BookReply}
-use Rattle.claim_book.specs.declared.calls.BookReply.TheVariants.{Alive, Report as Report_reply, Idle}
-use Rattle.claim_book.specs.Calls.{PullStep}
-use Rattle.claim_book.specs.Journal.{unsettled, first_unsettled}
+use Rattle.claim_book.specs.Journal.{unsettled}
 use Rattle.lookup_run.specs.Rounds.{AllSettled, HasSeveral}
 
 -- one of the first n paths has something, and no other

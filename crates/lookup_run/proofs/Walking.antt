@@ -20,7 +20,7 @@ use Rattle.contact_table.specs.declared.calls.TableReply.TheVariants.{NoMemory}
 use Rattle.contact_table.specs.TableState.{TableState}
 use Rattle.contact_table.specs.TableStep.{TableMay, TableStep, table_after}
 use Rattle.claim_book.specs.declared.types.Entry.{Entry}
-use Rattle.claim_book.specs.Journal.{seed_of, seeds}
+use Rattle.claim_book.specs.Journal.{seeds}
 use Rattle.claim_book.specs.Legal.{seeded}
 use Rattle.lookup_core.proofs.Lists.{all_weaker}
 use Rattle.lookup_run.specs.declared.types.LookSetting.{LookSetting}

@@ -1,7 +1,7 @@
 -- What the transcript of a link tells of the journal of a lookup: which entries its events give, and when. Answers and
 -- error messages are matched to queries by transaction id and source address (BEP 5); who may be asked, and when a path
 -- waits, is Kademlia's (2002, section 2.3) on each of S/Kademlia's disjoint paths (2007, section 4.4).
-use Rattle.std.specs.Prelude.{◌≡◌, ◌≢◌, ◌⊎◌, ℕ, zero, suc, ◌+◌, ◌<◌, ◌≤◌, List, [], ◌∷◌, ◌++◌, length, map, None, false}
+use Rattle.std.specs.Prelude.{◌≡◌, ◌≢◌, ◌⊎◌, ℕ, zero, suc, ◌+◌, ◌<◌, List, [], ◌∷◌, ◌++◌, length, map, None, false}
 use Rattle.std.specs.List.{AllByRecursion}
 use Rattle.kad_base.specs.declared.types.Addr.{Addr}
 use Rattle.kad_base.specs.declared.types.Contact.{Contact}
@@ -11,7 +11,7 @@ use Rattle.kad_base.specs.Words.{word}
 use Rattle.claim_book.specs.declared.types.Setting.{Setting}
 use Rattle.claim_book.specs.declared.types.Cause.TheVariants.{SendFault}
 use Rattle.claim_book.specs.declared.types.Entry.{Entry}
-use Rattle.claim_book.specs.declared.types.Entry.TheVariants.{Ask, Heard, Lost}
+use Rattle.claim_book.specs.declared.types.Entry.TheVariants.{Ask, Lost}
 use Rattle.claim_book.specs.Journal.{may_ask}
 use Rattle.claim_book.specs.Legal.{is_of}
 use Rattle.lookup_core.specs.declared.quest.Quest.{Quest}
