@@ -245,9 +245,8 @@ class Load:
 
     def in_no_order(self):
         """A query, an answer to nobody or a value that is put, with keys in no order in one of its places."""
-        order, size = self.random.choice(list(dear.ORDERS.values()))
-        keys = order(dear.names(self.random.randrange(1, 3_600 // len(dear.pairs(dear.names(1, size)))), size))
-        fill, name = dear.pairs(keys), self.noise.next()
+        fill, _ = self.random.choice(dear.fills(self.random.randrange(200, 3_600)))
+        name = self.noise.next()
         if self.random.random() < 0.2:
             return dear.putting(fill, self.noise.token or self.random.randbytes(8))
         if self.random.random() < 0.5:
