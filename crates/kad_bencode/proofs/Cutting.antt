@@ -16,7 +16,8 @@ use Rattle.kad_bencode.specs.declared.value.Value.TheVariants.{Dict}
 use Rattle.kad_bencode.proofs.Folds.{text_of-dict}
 use Rattle.kad_bencode.proofs.Limits.{dict_fits}
 use Rattle.kad_bencode.proofs.Looking.{all_less}
-use Rattle.kad_bencode.proofs.Parting.{halves, pairs_behind, seam, value_front}
+use Rattle.kad_bencode.proofs.Parting.{halves, seam, value_front}
+use Rattle.kad_bencode.proofs.Putting.{pairs_behind}
 use Rattle.kad_bencode.proofs.Places.{all_above, without_front}
 use Rattle.kad_bencode.proofs.Sorting.{none_there}
 

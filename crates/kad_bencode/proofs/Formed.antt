@@ -1,6 +1,6 @@
 -- A written form names its value, whose text it is; and what a dictionary that was spelled has under its keys has a written
 -- form.
-use Rattle.std.proofs.Common.{◌≡◌, ℕ, suc, ◌+◌, ◌≤◌, Bool, true, false, cond, List, [], ◌∷◌, length, Option, Some, None, refl, sym, ap, ◌∙◌, subst, arith}
+use Rattle.std.proofs.Common.{◌≡◌, ℕ, suc, ◌+◌, ◌≤◌, Bool, true, false, cond, List, [], ◌∷◌, length, Option, Some, refl, sym, ap, ◌∙◌, subst, arith}
 use Rattle.std.specs.Prelude.{option_map}
 use Rattle.std.specs.List.{AllByRecursion}
 use Rattle.std.specs.Ordering.{is_eq}
@@ -13,6 +13,7 @@ use Rattle.kad_bencode.specs.WrittenForm.{IsWrittenForm}
 use Rattle.kad_bencode.specs.declared.entries.Pair.{Pair}
 use Rattle.kad_bencode.specs.declared.value.Value.{Value}
 use Rattle.kad_bencode.specs.declared.value.Value.TheVariants as value
+use Rattle.kad_bencode.proofs.Sorting.{none_some}
 use Rattle.kad_bencode.proofs.Folds.{by_value, in_order-dict, ordered_pairs}
 use Rattle.kad_bencode.proofs.Layers.{int_is, text_is, list_is, dict_is, same_dict}
 use Rattle.kad_bencode.proofs.Limits.{dict_fits}
@@ -50,9 +51,6 @@ pub record IsSound (around : ℕ) (v : Value) : Type 0 where
 
 pub sound_form : (around : ℕ) (v : Value) → IsSound around v → IsWrittenForm around (text_of v)
 sound_form around v s = record { value = v; text = refl; fits = s.fits; ordered = s.ordered }
-
-none_some : {A : Type 0} {x : A} → ◌≡◌ {A = Option A} None (Some x) → ⊥
-none_some e = cc
 
 some_same : {A : Type 0} {x y : A} → ◌≡◌ {A = Option A} (Some x) (Some y) → x ≡ y
 some_same e = cc

@@ -27,6 +27,7 @@ use Rattle.kad_bencode.proofs.Ordered.{spelled_fits}
 use Rattle.kad_bencode.proofs.Paired.{none_left}
 use Rattle.kad_bencode.proofs.Pieces.{Starts, first_byte, starts, text_long}
 use Rattle.kad_bencode.proofs.Sorting.{as_long, sorted_is}
+use Rattle.kad_bencode.proofs.Said.{texts_push}
 use Rattle.kad_bencode.proofs.Verifying.{fewer}
 
 pub carried : {A E : Type 0} {P Q : A → Type 0} (r : Result A E) → ((x : A) → P x → Q x) → IfOk r P → IfOk r Q
@@ -271,12 +272,7 @@ grouped : (v : Value) (vs : List Value) (rest : List ℕ) → tail_of (v ∷ vs)
 grouped v vs rest = ap (λ l. l ++ rest) (append_assoc (text_of v) (concat (map text_of vs)) (101 ∷ [])) ∙ append_assoc (text_of v) (concat (map text_of vs) ++ 101 ∷ []) rest
 
 pushed : (f : Value → Value) (vs : List Value) (v : Value) → concat (map text_of (map f (vs ++ v ∷ []))) ≡ concat (map text_of (map f vs)) ++ text_of (f v)
-pushed f [] v = append-nil (text_of (f v))
-pushed f (w ∷ ws) v = ap (λ l. text_of (f w) ++ l) (pushed f ws v) ∙ sym (append_assoc (text_of (f w)) (concat (map text_of (map f ws))) (text_of (f v)))
-
-pushed_was : (vs : List Value) (v : Value) → concat (map text_of (vs ++ v ∷ [])) ≡ concat (map text_of vs) ++ text_of v
-pushed_was [] v = append-nil (text_of v)
-pushed_was (w ∷ ws) v = ap (λ l. text_of w ++ l) (pushed_was ws v) ∙ sym (append_assoc (text_of w) (concat (map text_of ws)) (text_of v))
+pushed f vs v = ap (λ l. concat (map text_of l)) (map-append f vs (v ∷ [])) ∙ texts_push (map f vs) (f v)
 
 module _ (text : List ℕ) (at b : ℕ) (ts : List Value) (rest : List ℕ) (s : ValuesSoFar text at b ts rest) where
   abbrev front : List ℕ
@@ -348,7 +344,7 @@ module _ (text : List ℕ) (at b : ℕ) (ts : List Value) (rest : List ℕ) (s :
         done = s.done ++ v ∷ [];
         left = vs;
         all = s.all ∙ ap (λ l. s.done ++ l) e ∙ sym (append_assoc s.done (v ∷ []) vs);
-        was = size_was ∙ ap (λ l. suc (length l)) (sym (pushed_was s.done v));
+        was = size_was ∙ ap (λ l. suc (length l)) (sym (texts_push s.done v));
         at_is = size_now ∙ ap (λ l. suc (length l)) (sym (pushed in_order s.done v));
         text_is = q ∙ (λ i. in_front i ++ p i) ∙ sym (append_assoc front (text_of (in_order v)) (tail_of vs rest)) ∙ ap (λ l. (b ∷ l) ++ tail_of vs rest) (sym (pushed in_order s.done v));
         fits = left_fit.1;

@@ -3,6 +3,7 @@ use Rattle.std.proofs.Common.{◌≡◌, ℕ, suc, ◌+◌, ◌-◌, ◌*◌, �
 use Rattle.std.specs.List.{AllByRecursion}
 use Rattle.std.specs.Ordering.{is_eq}
 use Rattle.std.proofs.lemmas.Cmp.{nat_list_cmp_total, eq_by_cmp_equiv}
+use Rattle.std.proofs.lemmas.List.{map-append}
 use Rattle.kad_bencode.specs.Keys.{key_cmp, keys_of}
 use Rattle.kad_bencode.specs.Spelling.{depth_of, is_plain, is_i64, greatest, all_true, has_key, each_once, values_of, Fits}
 use Rattle.kad_bencode.specs.Faults.{Open, InList, InPair}
@@ -48,12 +49,10 @@ all_front P [] x a = (tt, a.0)
 all_front P (y ∷ ys) x a = let r : AllByRecursion P ys × P x = all_front P ys x a.1 in ((a.0, r.0), r.1)
 
 pub values_push : {V : Type 0} (ps : List (Pair V)) (key : List ℕ) (v : V) → values_of (ps ++ record { key = key; value = v } ∷ []) ≡ values_of ps ++ v ∷ []
-values_push [] key v = refl
-values_push (p ∷ ps) key v = ap (λ l. p.value ∷ l) (values_push ps key v)
+values_push ps key v = map-append (λ p. p.value) ps (record { key = key; value = v } ∷ [])
 
 pub keys_push : {V : Type 0} (ps : List (Pair V)) (key : List ℕ) (v : V) → keys_of (ps ++ record { key = key; value = v } ∷ []) ≡ keys_of ps ++ key ∷ []
-keys_push [] key v = refl
-keys_push (p ∷ ps) key v = ap (λ l. p.key ∷ l) (keys_push ps key v)
+keys_push ps key v = map-append (λ p. p.key) ps (record { key = key; value = v } ∷ [])
 
 same_key : (a b : List ℕ) → is_eq (key_cmp a b) ≡ is_eq (key_cmp b a)
 same_key a b = (eq_by_cmp_equiv nat_list_cmp_total).symm a b

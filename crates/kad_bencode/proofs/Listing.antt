@@ -8,18 +8,14 @@ use Rattle.kad_bencode.specs.Faults.{InList}
 use Rattle.kad_bencode.specs.Machine.{Ready, run, HasByte}
 use Rattle.kad_bencode.specs.declared.value.Value.{Value}
 use Rattle.kad_bencode.specs.declared.value.Value.TheVariants as value
-use Rattle.kad_bencode.proofs.Folds.{Each, text_of-list, in_order-list}
-use Rattle.kad_bencode.proofs.Takes.{Takes, takes, values_run}
+use Rattle.kad_bencode.proofs.Folds.{text_of-list, in_order-list}
+use Rattle.kad_bencode.proofs.Takes.{each_takes, values_run}
 use Rattle.kad_bencode.proofs.Limits.{list_fits}
 use Rattle.kad_bencode.specs.Scanning.{Begins}
 use Rattle.kad_bencode.specs.Naming.{AreItems, IsCut, IsListOf, trees_in, trees_at, named_items, named}
 use Rattle.kad_bencode.proofs.Layers.{list_is}
 use Rattle.kad_bencode.proofs.Pieces.{tree_list, text_long, named_is, names_itself}
 use Rattle.kad_bencode.proofs.Verifying.{fewer}
-
-each_takes : (vs : List Value) → Each Takes vs
-each_takes [] = tt
-each_takes (v ∷ vs) = (takes v, each_takes vs)
 
 pub trees_is : (bytes : List ℕ) (vs : List Value) → AreItems bytes vs → trees_in bytes ≡ vs
 trees_is bytes vs a = ap (λ l. trees_at (run (Some (Ready (InList [] ∷ []))) l)) (a.text ∙ sym (append-nil (concat (map text_of vs)))) ∙ ap trees_at (values_run vs (each_takes vs) [] [] [])

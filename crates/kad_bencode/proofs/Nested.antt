@@ -1,5 +1,5 @@
 -- The steps of the reader over values, lists and dictionaries.
-use Rattle.std.proofs.Common.{◌≡◌, ℕ, suc, ◌+◌, ◌-◌, ◌<◌, ◌≤◌, Bool, true, false, cond, List, [], ◌∷◌, ◌++◌, length, take, drop, get_or, Option, Some, None, is_some, option_copied, Bor, ℤ, nat_eq, refl, sym, ap, ◌∙◌, arith, inl, inr}
+use Rattle.std.proofs.Common.{◌≡◌, ℕ, suc, ◌+◌, ◌-◌, ◌<◌, ◌≤◌, Bool, true, false, cond, List, [], ◌∷◌, ◌++◌, length, take, drop, get_or, Option, Some, None, is_some, option_copied, Bor, ℤ, nat_eq, refl, sym, ap, ◌∙◌, arith, ◌⊎◌}
 use Rattle.std.specs.List.{AllByRecursion}
 use Rattle.std.proofs.lemmas.Bool.Decides.{nat_tests}
 use Rattle.std.proofs.lemmas.List.{take_all}
@@ -32,24 +32,16 @@ integer_value bytes at os n next a r = record {
 }
 
 -- a byte that stands at a place
-begun : (bytes : List ℕ) (at b : ℕ) → HasByte bytes at b true → IsAt bytes at (b ∷ [])
+pub begun : (bytes : List ℕ) (at b : ℕ) → HasByte bytes at b true → IsAt bytes at (b ∷ [])
 begun bytes at b h = (drop (suc at) bytes, drop-cons bytes at 0 h.0 ∙ ap (λ x. x ∷ drop (suc at) bytes) h.1)
 
-pub deep_list : (bytes : List ℕ) (at : ℕ) (os : List Open) → Awaits bytes at os → length os ≡ 16 → HasByte bytes at 108 true → IsFirstFault bytes (Deep at)
-deep_list bytes at os a many h =
-    record {
-      seen = at;
-      here = (record { opens = os; front = run_front (take at bytes) (Ready os) a.reached; many = many; begins = inl (begun bytes at 108 h) }, refl);
-      first = first bytes at (Ready os) a.reached a.fits a.within;
-    }
-
-pub deep_dictionary : (bytes : List ℕ) (at : ℕ) (os : List Open) → Awaits bytes at os → length os ≡ 16 → HasByte bytes at 100 true → IsFirstFault bytes (Deep at)
-deep_dictionary bytes at os a many h =
-    record {
-      seen = at;
-      here = (record { opens = os; front = run_front (take at bytes) (Ready os) a.reached; many = many; begins = inr (begun bytes at 100 h) }, refl);
-      first = first bytes at (Ready os) a.reached a.fits a.within;
-    }
+pub too_deep : (bytes : List ℕ) (at : ℕ) (os : List Open) → Awaits bytes at os → length os ≡ 16
+    → IsAt bytes at (108 ∷ []) ⊎ IsAt bytes at (100 ∷ []) → IsFirstFault bytes (Deep at)
+too_deep bytes at os a many h = record {
+  seen = at;
+  here = (record { opens = os; front = run_front (take at bytes) (Ready os) a.reached; many = many; begins = h }, refl);
+  first = first bytes at (Ready os) a.reached a.fits a.within;
+}
 
 pub list_opened : (bytes : List ℕ) (at : ℕ) (os : List Open) → Awaits bytes at os → HasByte bytes at 108 true → Reached bytes (at + 1) (Ready (InList [] ∷ os))
 list_opened bytes at os a h = reached_more bytes at (Ready os) (Ready (InList [] ∷ os)) a.reached h.0 (ap (step (Ready os)) h.1)

@@ -3,8 +3,6 @@ use Rattle.std.proofs.Common.{◌≡◌, ◌≢◌, ℕ, ◌-◌, ◌<◌, ◌�
 use Rattle.std.specs.List.{AllByRecursion}
 use Rattle.std.specs.Ordering.{is_eq, match_ordering}
 use Rattle.std.specs.declared.cmp.Ordering.TheVariants.{Less, Equal, Greater}
-use Rattle.std.proofs.lemmas.Grind.{flat_map-append}
-use Rattle.std.proofs.lemmas.List.{map-append}
 use Rattle.std.proofs.Math.Seq.{take-append_seam, drop-append_seam}
 use Rattle.kad_bencode.specs.Keys.{key_cmp, put, value_of}
 use Rattle.kad_bencode.specs.Spelling.{string_text, pairs_text, text_of, Fits, values_of}
@@ -14,6 +12,7 @@ use Rattle.kad_bencode.specs.Placing.{BeginsAbove, IsParted}
 use Rattle.kad_bencode.specs.declared.entries.Pair.{Pair}
 use Rattle.kad_bencode.specs.declared.value.Value.{Value}
 use Rattle.kad_bencode.specs.declared.value.Value.TheVariants.{Dict}
+use Rattle.kad_bencode.proofs.Putting.{pairs_behind}
 use Rattle.kad_bencode.proofs.Folds.{text_of-dict}
 use Rattle.kad_bencode.proofs.Limits.{all_push, dict_fits}
 use Rattle.kad_bencode.proofs.Looking.{all_less}
@@ -78,11 +77,6 @@ parted_last key rest pairs s h =
     }
 
 -- ---- the text with the pair
-
-pub pairs_behind : (ps qs : List (Pair Value)) → pairs_text (pairs_of (ps ++ qs)) ≡ pairs_text (pairs_of ps) ++ pairs_text (pairs_of qs)
-pairs_behind ps qs =
-    ap pairs_text (map-append (λ (p : Pair Value). record { key = p.key; value = text_of p.value }) ps qs)
-    ∙ flat_map-append (λ (p : Pair (List ℕ)). string_text p.key ++ p.value) (pairs_of ps) (pairs_of qs)
 
 pub value_front : (below others : List (Pair Value)) (key : List ℕ) → AllByRecursion (λ p. key_cmp key p.key ≡ Greater) below → value_of (below ++ others) key ≡ value_of others key
 value_front [] others key h = refl

@@ -1,11 +1,8 @@
 -- A value in its text.
-use Rattle.std.proofs.Common.{◌≡◌, ℕ, ◌^◌, ◌<◌, ◌≤◌, Bool, is_some, w64, true, false, List, [], ◌∷◌, length, take, get_or, Option, Some, None, ℤ, pos, negsuc, refl, sym, ap, ◌∙◌, subst, arith, inl, inr, ◌⊎◌, ⊎_elim, append-nil}
+use Rattle.std.proofs.Common.{◌≡◌, ℕ, ◌<◌, ◌≤◌, Bool, is_some, true, false, List, [], ◌∷◌, length, take, get_or, Option, Some, None, ℤ, pos, negsuc, refl, sym, ap, ◌∙◌, subst, arith, inl, inr, ◌⊎◌, ⊎_elim, append-nil}
 use Rattle.kad_bencode.specs.Keys.{value_of}
 use Rattle.kad_bencode.specs.Parts.{bytes_of, bytes_in, integer_of, integer_in, list_of, list_in, dict_of, dict_in, member_of, member_in}
-use Rattle.std.proofs.lemmas.Bool.Decides.{nat_tests}
-use Rattle.std.proofs.lemmas.Int.{to_z-of_z}
-use mir.Val.{SFits, of_z, to_z}
-use Rattle.kad_bencode.specs.Spelling.{text_of, Spells, in_order, integer_text, is_i64}
+use Rattle.kad_bencode.specs.Spelling.{text_of, Spells, in_order, integer_text}
 use Rattle.kad_bencode.specs.Machine.{Whole, filled, run, start, Reached, HasByte, is_digit}
 use Rattle.kad_bencode.specs.declared.entries.Pair.{Pair}
 use Rattle.kad_bencode.specs.declared.value.Value.{Value}
@@ -142,20 +139,16 @@ module _ (bytes : List ℕ) (v : Value) (s : Spells bytes v) where
       let d = is_dict h in
       subst (Shows o) (sym (ap (λ u. member_of u key) d.1 ∙ dict_is (λ y. member_in y key) d.0)) (f d.0 (subst (Spells bytes) d.1 s))
 
-pub bits : (z : ℤ) → is_i64 z ≡ true → to_z w64 (of_z w64 z) ≡ z
-bits z h = to_z-of_z w64 z (fits z h)
-  where
-    fits : (z : ℤ) → is_i64 z ≡ true → SFits w64 z
-    fits (pos n) h = let k : n < 2 ^ 63 = grind (arith, nat_tests) in record { sfits = k }
-    fits (negsuc n) h = let k : n < 2 ^ 63 = grind (arith, nat_tests) in record { sfits = k }
-
 module _ (bytes : List ℕ) (v : Value) (s : Spells bytes v) where
-  open_list : HasByte bytes 0 108 true → (vs : List Value) × (v ≡ value.List vs)
-  open_list h =
+  pub tree_list : HasByte bytes 0 108 true → (vs : List Value) × (s.tree ≡ value.List vs)
+  tree_list h =
       ⊎_elim (λ (x : (z : ℤ) × (s.tree ≡ value.Int z) × (first_byte s.tree ≡ 105)). absurd (let e : 108 ≡ 105 = sym h.1 ∙ first bytes v s ∙ x.2 in omega (arith, e)))
       (⊎_elim (λ (x : (t : List ℕ) × (s.tree ≡ value.Text t) × (is_digit (first_byte s.tree) ≡ true)). absurd (not_one bytes v s 108 h.1 refl x.2))
-      (⊎_elim (λ (x : (vs : List Value) × (s.tree ≡ value.List vs) × (first_byte s.tree ≡ 108)). by_list bytes v s x.0 x.1)
+      (⊎_elim (λ (x : (vs : List Value) × (s.tree ≡ value.List vs) × (first_byte s.tree ≡ 108)). (x.0, x.1))
       (λ (x : (ps : List (Pair Value)) × (s.tree ≡ value.Dict ps) × (first_byte s.tree ≡ 100)). absurd (let e : 108 ≡ 100 = sym h.1 ∙ first bytes v s ∙ x.2 in omega (arith, e))))) (starts s.tree)
+
+  open_list : HasByte bytes 0 108 true → (vs : List Value) × (v ≡ value.List vs)
+  open_list h = let w = tree_list h in by_list bytes v s w.0 w.1
 
   pub no_list : HasByte bytes 0 108 false → None ≡ list_of v
   no_list h =
@@ -178,13 +171,6 @@ module _ (bytes : List ℕ) (v : Value) (s : Spells bytes v) where
   pub dict_told : (b : Bool) → HasByte bytes 0 100 b → b ≡ is_some (dict_of v)
   dict_told true h = let w = is_dict bytes v s h in sym (ap (λ u. is_some (dict_of u)) w.1 ∙ ap is_some (dict_is dict_in w.0))
   dict_told false h = ap is_some (no_dict h)
-
-  pub tree_list : HasByte bytes 0 108 true → (vs : List Value) × (s.tree ≡ value.List vs)
-  tree_list h =
-      ⊎_elim (λ (x : (z : ℤ) × (s.tree ≡ value.Int z) × (first_byte s.tree ≡ 105)). absurd (let e : 108 ≡ 105 = sym h.1 ∙ first bytes v s ∙ x.2 in omega (arith, e)))
-      (⊎_elim (λ (x : (t : List ℕ) × (s.tree ≡ value.Text t) × (is_digit (first_byte s.tree) ≡ true)). absurd (not_one bytes v s 108 h.1 refl x.2))
-      (⊎_elim (λ (x : (vs : List Value) × (s.tree ≡ value.List vs) × (first_byte s.tree ≡ 108)). (x.0, x.1))
-      (λ (x : (ps : List (Pair Value)) × (s.tree ≡ value.Dict ps) × (first_byte s.tree ≡ 100)). absurd (let e : 108 ≡ 100 = sym h.1 ∙ first bytes v s ∙ x.2 in omega (arith, e))))) (starts s.tree)
 
 pub text_long : (v : Value) → 0 < length (text_of v)
 text_long = by_value (λ v. 0 < length (text_of v))

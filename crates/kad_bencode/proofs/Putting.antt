@@ -55,7 +55,7 @@ length_written n mid f h = ap (λ l. l ++ 58 ∷ []) (sym (decimal_numeral n f) 
 
 -- ---- dictionaries
 
-pairs_behind : (ps qs : List (Pair Value)) → pairs_text (pairs_of (ps ++ qs)) ≡ pairs_text (pairs_of ps) ++ pairs_text (pairs_of qs)
+pub pairs_behind : (ps qs : List (Pair Value)) → pairs_text (pairs_of (ps ++ qs)) ≡ pairs_text (pairs_of ps) ++ pairs_text (pairs_of qs)
 pairs_behind ps qs =
     ap pairs_text (map-append (λ (p : Pair Value). record { key = p.key; value = text_of p.value }) ps qs)
     ∙ flat_map-append (λ (p : Pair (List ℕ)). string_text p.key ++ p.value) (pairs_of ps) (pairs_of qs)

@@ -100,23 +100,26 @@ big_number : (negative : Bool) (n m : ℕ) → n ≡ min m (2 ^ 64 - 1) → is_i
 big_number false n m e h = let k : 2 ^ 63 ≤ n = grind (arith, nat_tests) in let l : 2 ^ 63 ≤ m = omega arith in grind (arith, nat_tests)
 big_number true n m e h = let k : 2 ^ 63 ≤ n - 1 = grind (arith, nat_tests) in let l : 2 ^ 63 ≤ m - 1 = omega arith in grind (arith, nat_tests)
 
-fits_bits : (z : ℤ) → is_i64 z ≡ true → SFits w64 z
-fits_bits (pos n) h = let k : n < 2 ^ 63 = grind (arith, nat_tests) in record { sfits = k }
-fits_bits (negsuc n) h = let k : n < 2 ^ 63 = grind (arith, nat_tests) in record { sfits = k }
+pub bits : (z : ℤ) → is_i64 z ≡ true → to_z w64 (of_z w64 z) ≡ z
+bits z h = to_z-of_z w64 z (fits z h)
+  where
+    fits : (z : ℤ) → is_i64 z ≡ true → SFits w64 z
+    fits (pos n) h = let k : n < 2 ^ 63 = grind (arith, nat_tests) in record { sfits = k }
+    fits (negsuc n) h = let k : n < 2 ^ 63 = grind (arith, nat_tests) in record { sfits = k }
 
 pub number_read : (bytes : List ℕ) (at next : ℕ) (negative : Bool) (os : List Open) (n end : ℕ) (z : ℤ) → AwaitsNumber bytes at next negative os → ReadsDigits bytes next n end → HasByte bytes end 101 true → z ≡ signed negative n → is_i64 (signed negative n) ≡ true → ReadsInteger bytes at os (to_z w64 (of_z w64 z)) (end + 1)
 number_read bytes at next negative os n end z a d h e i =
     let m : ℕ = d.digits.number in
     let same : signed negative m ≡ z = ap (signed negative) (whole_number negative n m d.digits.value i) ∙ sym e in
     let plain : is_i64 z ≡ true = ap is_i64 e ∙ i in
-    let bits : to_z w64 (of_z w64 z) ≡ z = to_z-of_z w64 z (fits_bits z plain) in
+    let whole : to_z w64 (of_z w64 z) ≡ z = bits z plain in
     let after : at < next = a.after in
     let behind : next < end = d.digits.after in
     let end_in : end < length bytes = h.0 in
     record {
       reached = reached_more bytes end (Digits os negative m) (filled os (value.Int (to_z w64 (of_z w64 z)))) (number_reached bytes at next negative os n end a d.digits) h.0
-          (step_end os negative m (get_or bytes end 0) h.1 ∙ ap (λ x. Some (filled os (value.Int x))) (same ∙ sym bits));
-      plain = ap is_i64 bits ∙ plain;
+          (step_end os negative m (get_or bytes end 0) h.1 ∙ ap (λ x. Some (filled os (value.Int x))) (same ∙ sym whole));
+      plain = ap is_i64 whole ∙ plain;
       within = omega arith;
       after = omega arith;
     }

@@ -11,7 +11,7 @@ use Rattle.kad_bencode.specs.declared.value.Value.{Value}
 use Rattle.kad_bencode.specs.declared.value.Value.TheVariants as value
 use Rattle.kad_bencode.proofs.Folds.{text_of-int, text_of-text, text_of-list, text_of-dict}
 use Rattle.kad_bencode.proofs.Numerals.{numeral_digit, numeral_more}
-use Rattle.kad_bencode.proofs.Takes.{body_run, run_append, text_run}
+use Rattle.kad_bencode.proofs.Takes.{body_run, run_append, run_none, text_run}
 
 -- the sign of a number that isn't 0
 abbrev pub sign_text : Bool → List ℕ
@@ -209,15 +209,11 @@ pub record After (st : State) (bs : List ℕ) (s : State) : Type 0 where
   pub says : said s ≡ said st ++ bs
   pub good : Good s
 
-run_none_is : (bs : List ℕ) → run None bs ≡ None
-run_none_is [] = refl
-run_none_is (b ∷ bs) = refl
-
 pub run_says : (bs : List ℕ) (st s : State) → Good st → run (Some st) bs ≡ Some s → After st bs s
 run_says [] st s g = λ h. record { says = ap said (sym (same_some h)) ∙ sym (append-nil (said st)); good = subst Good (same_some h) g }
 run_says (b ∷ bs) st s g =
     elim (step st b) as (λ o. step st b ≡ o → run o bs ≡ Some s → After st (b ∷ bs) s) [
-      | None ↦ λ e h. nothing (sym (run_none_is bs) ∙ h)
+      | None ↦ λ e h. nothing (sym (run_none bs) ∙ h)
       | Some t ↦ λ e h.
           let n : Next st b t = step_says st b t g e in
           let a : After t bs s = run_says bs t s n.good h in
@@ -288,7 +284,7 @@ begins bs st h =
 -- what the machine doesn't take begins no text
 pub no_text : (bs : List ℕ) → run start bs ≡ None → BeginsText bs → ⊥
 no_text bs h t =
-    let e : run start (bs ++ t.0) ≡ None = run_append start bs t.0 ∙ ap (λ o. run o t.0) h ∙ run_none_is t.0 in
+    let e : run start (bs ++ t.0) ≡ None = run_append start bs t.0 ∙ ap (λ o. run o t.0) h ∙ run_none t.0 in
     nothing (sym e ∙ ap (run start) t.1.1 ∙ text_run t.1.0)
 
 pub whole_text : (bs : List ℕ) (t : IsText bs) → run start bs ≡ Some (Whole t.0)
@@ -298,7 +294,7 @@ whole_text bs t = ap (run start) t.1 ∙ text_run t.0
 pub ends_once : (t u : Value) (x : List ℕ) → text_of t ++ x ≡ text_of u → x ≡ []
 ends_once t u [] h = refl
 ends_once t u (b ∷ x) h =
-    let e : run start (text_of t ++ b ∷ x) ≡ None = run_append start (text_of t) (b ∷ x) ∙ ap (λ o. run o (b ∷ x)) (text_run t) ∙ run_none_is x in
+    let e : run start (text_of t ++ b ∷ x) ≡ None = run_append start (text_of t) (b ∷ x) ∙ ap (λ o. run o (b ∷ x)) (text_run t) ∙ run_none x in
     nothing (sym e ∙ ap (run start) h ∙ text_run u)
 
 -- a text names one tree

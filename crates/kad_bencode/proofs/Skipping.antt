@@ -50,6 +50,9 @@ module _ (bytes : List ℕ) (t : Value) (b : Begins bytes t) where
       let e : at ≡ length (text_of t) = let l = not_past at (Ready os) k r in omega (arith, l) in
       let s : Whole t ≡ Ready os = same_some (sym whole ∙ ap (λ j. run start (take j bytes)) (sym e) ∙ r) in cc
 
+  stands_in : (at : ℕ) (text : List ℕ) → 0 < length text → IsAt bytes at text → at + length text ≤ length bytes
+  stands_in at text h s = omega (arith, length-drop at bytes, ap length s.1, length-append text s.0)
+
   -- a first fault in bytes that begin so is that more bytes follow
   pub no_inside : (bad : Bad) → IsFirstFault bytes bad → IsInside bad → ⊥
   no_inside (NotBencode at) f i =
@@ -76,9 +79,6 @@ module _ (bytes : List ℕ) (t : Value) (b : Begins bytes t) where
       let w : at + length (integer_text d.number) ≤ length bytes = stands_in at (integer_text d.number) (integer_long d.number) d.stands in
       let p = not_past (at + length (integer_text d.number)) (filled d.opens (value.Int d.number)) w q in
       omega (arith, l, p, last)
-    where
-      stands_in : (at : ℕ) (text : List ℕ) → 0 < length text → IsAt bytes at text → at + length text ≤ length bytes
-      stands_in at text h s = omega (arith, length-drop at bytes, ap length s.1, length-append text s.0)
   no_inside (KeyTwice at) f i =
       let l = late (KeyTwice at) f in
       let d : IsTwice bytes at f.seen = f.here in
@@ -91,9 +91,6 @@ module _ (bytes : List ℕ) (t : Value) (b : Begins bytes t) where
       let w : at + length (string_text d.key) ≤ length bytes = stands_in at (string_text d.key) (string_long d.key) d.stands in
       let p = not_past (at + length (string_text d.key)) (Ready (InPair d.pairs d.key ∷ d.opens)) w q in
       omega (arith, l, p, last)
-    where
-      stands_in : (at : ℕ) (text : List ℕ) → 0 < length text → IsAt bytes at text → at + length text ≤ length bytes
-      stands_in at text h s = omega (arith, length-drop at bytes, ap length s.1, length-append text s.0)
   no_inside (Trailing at) f i = i
 
   -- ---- parts

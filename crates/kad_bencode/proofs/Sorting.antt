@@ -19,7 +19,7 @@ use Rattle.kad_bencode.proofs.Looking.{equal_keys, no_value, same_key, value_fil
 use Rattle.kad_bencode.proofs.Ordered.{ascending_put_all, none_ascending, none_below, once_ascending}
 use Rattle.kad_bencode.proofs.Places.{all_above, turned_back}
 
-none_some : {A : Type 0} {x : A} → ◌≡◌ {A = Option A} None (Some x) → ⊥
+pub none_some : {A : Type 0} {x : A} → ◌≡◌ {A = Option A} None (Some x) → ⊥
 none_some e = cc
 
 alike : {A : Type 0} (a b : Option A) → ((v : A) → a ≡ Some v → b ≡ Some v) → ((v : A) → b ≡ Some v → a ≡ Some v) → a ≡ b

@@ -122,7 +122,7 @@ takes = by_value Takes
     (λ s os x. ap (λ l. run (Some (Ready os)) (l ++ x)) (text_of-text s) ∙ string_run (AsValue os) s x)
     takes_list takes_dict
 
-each_takes : (vs : List Value) → Each Takes vs
+pub each_takes : (vs : List Value) → Each Takes vs
 each_takes [] = tt
 each_takes (v ∷ vs) = (takes v, each_takes vs)
 

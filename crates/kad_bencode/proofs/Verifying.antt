@@ -1,8 +1,7 @@
 -- What is kept while bytes are checked.
-use Rattle.std.proofs.Common.{◌≡◌, ◌≢◌, ℕ, suc, ◌+◌, ◌-◌, ◌≤◌, Bool, true, false, not, cond, ◌||◌, nat_eq, List, [], ◌∷◌, ◌++◌, length, take, drop, Option, Some, option_map, is_some, Result, Ok, Err, IsOk, refl, sym, ap, ◌∙◌, subst, arith, append_assoc}
+use Rattle.std.proofs.Common.{◌≡◌, ◌≢◌, ℕ, suc, ◌+◌, ◌-◌, ◌≤◌, Bool, true, false, not, cond, ◌||◌, List, [], ◌∷◌, ◌++◌, length, take, drop, Option, Some, option_map, is_some, Result, Ok, Err, IsOk, refl, sym, ap, ◌∙◌, subst, arith, append_assoc}
 use Rattle.std.specs.List.{AllByRecursion}
-use Rattle.std.specs.Ordering.{is_eq, ordering_reverse}
-use Rattle.std.proofs.lemmas.Bool.Decides.{nat_tests}
+use Rattle.std.specs.Ordering.{is_eq}
 use Rattle.std.proofs.lemmas.List.{length-take-le, drop-take}
 use Rattle.std.proofs.Math.Seq.{drop-append_seam}
 use Rattle.kad_bencode.specs.Keys.{key_cmp, keys_of, value_of}
@@ -20,7 +19,7 @@ use Rattle.std.specs.declared.cmp.Ordering.TheVariants.{Less, Equal, Greater}
 use Rattle.std.proofs.lemmas.Cmp.{nat_list_cmp_total}
 use Rattle.std.proofs.lemmas.Map.Lookups.{exact_bytes}
 use Rattle.kad_bencode.proofs.Limits.{keys_push, all_push}
-use Rattle.kad_bencode.proofs.Places.{turned}
+use Rattle.kad_bencode.proofs.Places.{turned, turned_back}
 use Rattle.kad_bencode.proofs.Looking.{same_key}
 use Rattle.kad_bencode.specs.Finding.{ArePairs, IsUpTo, IsNew, IsAbove, IsNext}
 
@@ -61,9 +60,6 @@ module _ (bytes : List ℕ) (from at : ℕ) (os : List Open) (l : PairsSoFar byt
   are_pairs = record { text = pairs_between; fits = fewer (suc (length os)) (values_of l.pairs) l.fits.1 }
 
 -- ---- the greatest key
-
-turned_back : (a b : List ℕ) → key_cmp a b ≡ Greater → key_cmp b a ≡ Less
-turned_back a b h = nat_list_cmp_total.antisymm b a ∙ ap ordering_reverse h
 
 above_all : (keys : List (List ℕ)) (greatest key : List ℕ) → key_cmp key greatest ≡ Greater → IsUpTo greatest keys → (has_key keys key ≡ false) × IsUpTo key keys
 above_all [] greatest key h u = (refl, tt)
@@ -106,9 +102,6 @@ not_new false told e f = absurd (let z : false ≡ true = sym f ∙ e in cc)
 pub is_fresh : (b told : Bool) → told ≡ not b → told ≡ true → b ≡ false
 is_fresh true told e f = absurd (let z : true ≡ false = sym f ∙ e in cc)
 is_fresh false told e f = refl
-
-pub from_eq : (m n : ℕ) → nat_eq m n ≡ true → m ≡ n
-from_eq m n h = grind (arith, nat_tests)
 
 -- ---- the answer is the only one
 

@@ -1,7 +1,8 @@
 use Rattle.std.proofs.Common.{[], ap, ◌∙◌, Some}
 use Rattle.kad_bencode.proofs.Nested.{awaits_integer, awaits_first}
 use Rattle.kad_bencode.proofs.Skipping.{no_inside}
-use Rattle.kad_bencode.proofs.Pieces.{begins, no_int, int_read, bits}
+use Rattle.kad_bencode.proofs.Reading.{bits}
+use Rattle.kad_bencode.proofs.Pieces.{begins, no_int, int_read}
 use Rattle.kad_bencode.proofs.piece.int_in.Goals as goal
 
 pub returns-then-not-has_byte : goal.returns-then-not-has_byte

@@ -1,11 +1,12 @@
-use Rattle.std.proofs.Common.{◌≤◌, nat_eq, sym, subst, [], ◌∷◌, refl, ◌∙◌, arith}
+use Rattle.std.proofs.Common.{◌≤◌, nat_eq, sym, subst, [], ◌∷◌, refl, ◌∙◌, arith, inl, inr}
 use Rattle.std.proofs.lemmas.Result.{err_from_is_err_and}
 use Rattle.kad_bencode.specs.Keys.{keys_of}
 use Rattle.kad_bencode.specs.Faults.{InList, InPair}
 use Rattle.kad_bencode.specs.Machine.{AsKey, AsValue}
-use Rattle.kad_bencode.proofs.Nested.{awaits_integer, integer_value, deep_list, deep_dictionary, list_opened, dictionary_opened, opened_value, awaits_text, text_value, list_awaits, list_more, list_ends, PairsSoFar, pairs_await, key_twice, key_new, pairs_more, pairs_end}
-use Rattle.kad_bencode.proofs.Verifying.{handed, widened, are_pairs, up_to_more, next_key, not_new, is_fresh, from_eq}
+use Rattle.kad_bencode.proofs.Nested.{awaits_integer, integer_value, begun, too_deep, list_opened, dictionary_opened, opened_value, awaits_text, text_value, list_awaits, list_more, list_ends, PairsSoFar, pairs_await, key_twice, key_new, pairs_more, pairs_end}
+use Rattle.kad_bencode.proofs.Verifying.{handed, widened, are_pairs, up_to_more, next_key, not_new, is_fresh}
 use Rattle.kad_bencode.proofs.Limits.{keys_push}
+use Rattle.kad_bencode.proofs.Said.{is_equal}
 use Rattle.kad_bencode.proofs.Reading.{stands_between}
 use Rattle.kad_bencode.specs.Spelling.{string_text}
 use Rattle.kad_bencode.specs.Filing.{AreFiled}
@@ -16,7 +17,7 @@ value_at-returns-then-has_byte-clause-reads t c os d a =
     integer_value c.args.bytes.now c.args.at os c.in_ok-next.field-0-0 c.in_ok-next.next a (c.in_ok-next.ensures.reads os (awaits_integer c.args.bytes.now c.args.at os a))
 
 pub value_at-returns-then-depth-eq-MAX_DEPTH-clause-reads : goal.value_at-returns-then-depth-eq-MAX_DEPTH-clause-reads
-value_at-returns-then-depth-eq-MAX_DEPTH-clause-reads t c os d a = deep_list c.args.bytes.now c.args.at os a (d ∙ c.if-depth-eq-MAX_DEPTH.true) c.if-has_byte-2.ensures
+value_at-returns-then-depth-eq-MAX_DEPTH-clause-reads t c os d a = too_deep c.args.bytes.now c.args.at os a (d ∙ c.if-depth-eq-MAX_DEPTH.true) (inl (begun c.args.bytes.now c.args.at 108 c.if-has_byte-2.ensures))
 
 pub value_at-returns-then-has_byte-2-clause-reads : goal.value_at-returns-then-has_byte-2-clause-reads
 value_at-returns-then-has_byte-2-clause-reads t c os d a =
@@ -24,7 +25,7 @@ value_at-returns-then-has_byte-2-clause-reads t c os d a =
     (c.list_at.ensures.reads os (omega (arith, d)) (list_opened c.args.bytes.now c.args.at os a c.if-has_byte-2.ensures) a.fits)
 
 pub value_at-returns-then-depth-eq-MAX_DEPTH-2-clause-reads : goal.value_at-returns-then-depth-eq-MAX_DEPTH-2-clause-reads
-value_at-returns-then-depth-eq-MAX_DEPTH-2-clause-reads t c os d a = deep_dictionary c.args.bytes.now c.args.at os a (d ∙ c.if-depth-eq-MAX_DEPTH-2.true) c.if-has_byte-3.ensures
+value_at-returns-then-depth-eq-MAX_DEPTH-2-clause-reads t c os d a = too_deep c.args.bytes.now c.args.at os a (d ∙ c.if-depth-eq-MAX_DEPTH-2.true) (inr (begun c.args.bytes.now c.args.at 100 c.if-has_byte-3.ensures))
 
 pub value_at-returns-then-has_byte-3-clause-reads : goal.value_at-returns-then-has_byte-3-clause-reads
 value_at-returns-then-has_byte-3-clause-reads t c os d a =
@@ -80,7 +81,7 @@ pub dictionary_at-returns-in_err-at-clause-reads : goal.dictionary_at-returns-in
 dictionary_at-returns-in_err-at-clause-reads t c os d r f =
     let e = c.pairs.invariant.so_far os d r f in
     let s = c.in_ok-key.ensures.reads (AsKey os e.0.pairs) (pairs_await c.args.bytes.now c.pairs.at os e.0 f c.pairs.invariant.within c.pairs-test.ensures) in
-    let n = next_key c.args.bytes.now c.args.from c.pairs.at os e.0.pairs r e.0.reached (nat_eq c.pairs.at c.args.from) (from_eq c.pairs.at c.args.from) c.pairs.greatest.now c.in_ok-key.key.now c.is_next.result (let t = c.if-not-is_next.false in cc) c.is_next.ensures e.1 in
+    let n = next_key c.args.bytes.now c.args.from c.pairs.at os e.0.pairs r e.0.reached (nat_eq c.pairs.at c.args.from) (is_equal c.pairs.at c.args.from) c.pairs.greatest.now c.in_ok-key.key.now c.is_next.result (let t = c.if-not-is_next.false in cc) c.is_next.ensures e.1 in
     let p = err_from_is_err_and c.from_residual-in_err-at.result c.from_residual-in_err-at.ensures.1 in
     handed c.args.bytes.now c.from_residual-in_err-at.result _ p.0 _ p.1 p.2 (c.in_err-at.ensures.reads (InPair e.0.pairs c.in_ok-key.key.now ∷ os) d (key_new c.args.bytes.now c.pairs.at os c.in_ok-key.key.now c.in_ok-key.behind e.0 f s n.new))
 
@@ -91,7 +92,7 @@ dictionary_at-pairs-preserved t c = record {
   so_far = λ os d r f.
       let e = c.pairs.invariant.so_far os d r f in
       let s = c.in_ok-key.ensures.reads (AsKey os e.0.pairs) (pairs_await c.args.bytes.now c.pairs.at os e.0 f c.pairs.invariant.within c.pairs-test.ensures) in
-      let n = next_key c.args.bytes.now c.args.from c.pairs.at os e.0.pairs r e.0.reached (nat_eq c.pairs.at c.args.from) (from_eq c.pairs.at c.args.from) c.pairs.greatest.now c.in_ok-key.key.now c.is_next.result (let t = c.if-not-is_next.false in cc) c.is_next.ensures e.1 in
+      let n = next_key c.args.bytes.now c.args.from c.pairs.at os e.0.pairs r e.0.reached (nat_eq c.pairs.at c.args.from) (is_equal c.pairs.at c.args.from) c.pairs.greatest.now c.in_ok-key.key.now c.is_next.result (let t = c.if-not-is_next.false in cc) c.is_next.ensures e.1 in
       let v = c.in_ok-at.ensures.reads (InPair e.0.pairs c.in_ok-key.key.now ∷ os) d (key_new c.args.bytes.now c.pairs.at os c.in_ok-key.key.now c.in_ok-key.behind e.0 f s n.new) in
       (pairs_more c.args.bytes.now c.pairs.at os c.in_ok-key.key.now c.in_ok-key.behind c.in_ok-at.at e.0 n.new v, up_to_more c.in_ok-key.key.now e.0.pairs c.in_ok-key.key.now v.tree n);
 }
