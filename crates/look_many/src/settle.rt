@@ -270,11 +270,17 @@ fn settle_each<R: Threads + Wait + Sync, C: PacedCheck + Sync>(
     settle_at_once(rt, tables, check, seekers);
 }
 
-/// Whether no lookup was without memory.
-fn all_settled(seekers: &[Seeker]) -> bool
-    ensures { IsTrue result ↔ All (λ k. IsOk k.settled) seekers.now }
+/// The answer of all lookups together: that of the first that was without memory, if there is one.
+fn answer_of(seekers: &[Seeker]) -> Result<(), NoMemory>
+    ensures { IsOk result ↔ All (λ k. IsOk k.settled) seekers.now }
 {
-    seekers.iter().all(|seeker| seeker.settled.is_ok())
+    for seeker in seekers {
+        match seeker.settled {
+            Ok(()) => {}
+            Err(fault) => return Err(fault),
+        }
+    }
+    Ok(())
 }
 
 /// Settles all that the lookups have: each settles its paths in ascending order, and tells the table by its own pass of each
@@ -300,8 +306,5 @@ pub(crate) fn settle_all<R: Threads + Wait + Sync, C: PacedCheck + Sync>(
         (stand seekers.new line words host told) }
 {
     settle_each(rt, tables, check, seekers);
-    if all_settled(seekers) {
-        return Ok(());
-    }
-    Err(NoMemory)
+    answer_of(seekers)
 }
