@@ -3,7 +3,7 @@ ghost use Rattle.std.specs.Prelude.{◌≡◌, OnOk, IfOk, IfErr, IsTrue, ◌↔
 ghost use Rattle.kad_base.specs.Limits.{max_input};
 ghost use Rattle.command_base.specs.Input.{ReadsAll, ReadsAtMost, Lists, IsAdmitted, Admits, AdmitsOne, IsKept, Keeps, KeepsOne};
 ghost use Rattle.command_base.specs.Promise.{ReportsCause, WholeCause};
-ghost use Rattle.command_base.specs.Shown.{shown};
+ghost use Rattle.command_base.specs.Shown.{shown, FailsLast};
 
 use crate::status::Status;
 use kad_base::limits::MAX_INPUT;
@@ -22,6 +22,8 @@ pub fn read_whole<S: Source>(alloc: Global, source: &mut S) -> Result<Bytes, Sta
     ensures at_most { ReadsAtMost (S.left source.old) (S.left source.new) }
     ensures reads_well { ¬ IsErrOf result Status.SourceFault
         → S.faults source.new ≡ S.faults source.old }
+    ensures last { IsErrOf result Status.SourceFault
+        → FailsLast S.left S.faults source.old source.new }
 {
     let mut bytes = List::new(alloc);
     let mut buf = [0u8; 4096];
@@ -48,6 +50,8 @@ pub fn read_reports<S: Source>(alloc: Global, source: &mut S) -> Result<Reports,
     ensures at_most { ReadsAtMost (S.left source.old) (S.left source.new) }
     ensures reads_well { ¬ IsErrOf result Status.SourceFault
         → S.faults source.new ≡ S.faults source.old }
+    ensures last { IsErrOf result Status.SourceFault
+        → FailsLast S.left S.faults source.old source.new }
 {
     let input = read_whole(alloc, source)?;
     match read_lines(alloc, input.as_slice()) {

@@ -2,7 +2,7 @@
 ghost use Rattle.std.specs.Prelude.{◌≡◌, ◌≢◌, ◌≤◌, ◌<◌, ◌⊎◌, OnOk, OnErr};
 ghost use Rattle.kad_base.specs.Outside.{Grows, Rose};
 ghost use Rattle.command_base.specs.Written.{IsFront};
-ghost use Rattle.command_base.specs.Shown.{shown, HasFailed};
+ghost use Rattle.command_base.specs.Shown.{shown, HasFailed, FailsLast};
 ghost use Rattle.command_base.specs.Endings.{Writes, last_status, number_of, status_line};
 
 use crate::status::{LINE_ROOM, Status};
@@ -18,6 +18,7 @@ fn write_whole<K: Sink>(sink: &mut K, bytes: &[u8]) -> Result<(), Failed>
     ensures faults { K.faults sink.old ≤ K.faults sink.new }
     ensures well { OnOk result (K.faults sink.new ≡ K.faults sink.old) }
     ensures failed { OnErr result (Rose (K.faults sink.old) (K.faults sink.new)) }
+    ensures last { OnErr result (FailsLast K.written K.faults sink.old sink.new) }
 {
     let mut at = 0;
     'writing: while at < bytes.len() {
@@ -38,6 +39,7 @@ pub fn write_output<K: Sink>(sink: &mut K, output: &[u8]) -> u8
         Grows (K.written sink.old) (K.written sink.new) (λ added. IsFront added output.now) }
     ensures well { result ≡ 0 → K.faults sink.new ≡ K.faults sink.old }
     ensures failed { result ≡ 5 → HasFailed (shown K.written K.faults sink.old sink.new) }
+    ensures last { result ≡ 5 → FailsLast K.written K.faults sink.old sink.new }
 {
     match write_whole(sink, output) {
         Ok(()) => 0,
@@ -51,6 +53,8 @@ pub fn write_line<K: Sink>(sink: &mut K, status: &Status) -> u8
     ensures number { result ≡ number_of status.now }
     ensures known { (1 < result) × (result ≤ last_status) × (result ≢ 5) }
     ensures writes { Writes (status_line status.now) (shown K.written K.faults sink.old sink.new) }
+    ensures last { (K.faults sink.new ≡ K.faults sink.old)
+        ⊎ FailsLast K.written K.faults sink.old sink.new }
 {
     let mut room = [0u8; LINE_ROOM];
     let size = status.put_line(&mut room);
