@@ -1,12 +1,10 @@
 -- All lookups settle what they have: the events show the longer journals, and what the driver owes at the next round is kept.
-use Rattle.std.proofs.Common.{◌≡◌, ℕ, zero, suc, ◌+◌, ◌*◌, ◌<◌, ◌≤◌, List, [], ◌∷◌, ◌++◌, length, take, get_or, set, Option, None, true, inl, inr, refl, sym, ap, subst, ◌∙◌, arith, Result, Ok, Err}
+use Rattle.std.proofs.Common.{◌≡◌, ℕ, zero, suc, ◌+◌, ◌*◌, ◌<◌, ◌≤◌, List, [], ◌∷◌, ◌++◌, length, get_or, set, Option, None, true, inl, inr, refl, sym, ap, subst, ◌∙◌, arith, Result, Ok, Err}
 use Rattle.std.specs.Prelude.{map, IsOk, OnOk}
 use Rattle.kad_base.specs.declared.types.NoMemory.{NoMemory}
 use Rattle.std.specs.List.{All, AllByRecursion, AllZip}
 use Rattle.std.proofs.lemmas.Bool.{cases_lt}
-use Rattle.std.proofs.lemmas.List.{length-set, get_or-set_other, get_or_default, take_more}
-use Rattle.std.proofs.lemmas.List.Elements.{All-push}
-use Rattle.std.proofs.Math.Seq.{take-length}
+use Rattle.std.proofs.lemmas.List.{length-set, get_or-set_other, get_or_default}
 use Rattle.std.proofs.lemmas.Grind.{get_or-set_at}
 use Rattle.kad_base.specs.declared.types.Event.{Event}
 use Rattle.kad_base.specs.Limits.{max_paths, max_path_contacts}
@@ -190,14 +188,6 @@ each_some old new len h = zip_each SettlesSome old new len (λ i d lt. (h i d lt
 
 each_whole : (old new : List Seeker) → length new ≡ length old → EachSettles old new → All (λ (k : Seeker). IsOk k.settled) new → AllZip SettlesWhole old new
 each_whole old new len h ok = zip_each SettlesWhole old new len (λ i d lt. whole_where (get_or old i d) (get_or new i d) (h i d lt) (ok i d (omega (arith, lt, len))))
-
--- as far as the search for a failure has come
-pub all_more : (xs : List Seeker) (i : ℕ) (x : Seeker) → i < length xs → x ≡ get_or xs i x → All (λ (k : Seeker). IsOk k.settled) (take i xs) → IsOk x.settled → All (λ (k : Seeker). IsOk k.settled) (take (i + 1) xs)
-all_more xs i x lt is all ok =
-    subst (All (λ (k : Seeker). IsOk k.settled)) (sym (take_more xs i x lt)) (All-push (λ (k : Seeker). IsOk k.settled) (take i xs) (get_or xs i x) all (subst (λ (k : Seeker). IsOk k.settled) is ok))
-
-pub all_of : (xs : List Seeker) (i : ℕ) → i ≡ length xs → All (λ (k : Seeker). IsOk k.settled) (take i xs) → All (λ (k : Seeker). IsOk k.settled) xs
-all_of xs i same all = subst (All (λ (k : Seeker). IsOk k.settled)) (ap (λ n. take n xs) same ∙ take-length xs) all
 
 pub whole_if_ok : (r : Result (Unit {0}) NoMemory) (old new : List Seeker) → length new ≡ length old → EachSettles old new → (IsOk r → All (λ (k : Seeker). IsOk k.settled) new) → OnOk r (AllZip SettlesWhole old new)
 whole_if_ok (Ok u) old new len h all = each_whole old new len h (all refl)

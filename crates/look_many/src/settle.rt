@@ -275,10 +275,7 @@ fn answer_of(seekers: &[Seeker]) -> Result<(), NoMemory>
     ensures { IsOk result ↔ All (λ k. IsOk k.settled) seekers.now }
 {
     for seeker in seekers {
-        match seeker.settled {
-            Ok(()) => {}
-            Err(fault) => return Err(fault),
-        }
+        seeker.settled?;
     }
     Ok(())
 }
