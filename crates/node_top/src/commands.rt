@@ -1,5 +1,5 @@
 //! The commands: a module of a crate below each, and an arm here; and what the words ask for, done.
-ghost use Rattle.std.specs.Prelude.{◌≡◌, ◌≢◌, ◌⊎◌, IfOk, IfErr, IsTrue, IsErrOf};
+ghost use Rattle.std.specs.Prelude.{◌≡◌, ◌≢◌, ◌⊎◌, Bool, IfOk, IfErr, IsTrue, IsErrOf};
 ghost use Rattle.kad_base.specs.declared.types.Event.{Event};
 ghost use Rattle.lookup_core.specs.Sealed.{Accepts};
 ghost use Rattle.node_serve.specs.Sealing.{Tags};
