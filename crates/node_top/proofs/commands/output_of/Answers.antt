@@ -61,4 +61,4 @@ returns-in-Refresh-clause-unread g c = unrefused c.refresh.result _ (Refresh c.i
 pub returns-in_default-clause-unread : goal.returns-in_default-clause-unread
 returns-in_default-clause-unread g c =
     unrefused c.plain_output_of.result _ c.args.command.now ((lawful c.args.command.now).refuses (search rules)) _ _ _
-    (c.plain_output_of.ensures.cause (g.G.SealCheck.accepted c.args.call.now.seal.now) (g.G.Seal.tag_of c.args.call.now.seal.now) nowhere)
+    (c.plain_output_of.ensures.cause (g.C.PacedCheck.slow c.args.call.now.check.now) (g.G.SealCheck.accepted c.args.call.now.seal.now) (g.G.Seal.tag_of c.args.call.now.seal.now) nowhere)
