@@ -178,7 +178,7 @@ pub(crate) fn file_all(
 }
 
 /// Whether a key is among pairs.
-fn has_key(pairs: &[u8], key: &[u8]) -> bool
+pub(crate) fn has_key(pairs: &[u8], key: &[u8]) -> bool
     ensures { (ps : List (Pair Value)) → ArePairs pairs.now ps
         → result ≡ has_key (keys_of ps) key.now }
 {

@@ -10,11 +10,14 @@ ghost use Rattle.kad_bencode.specs.declared.value.Bad.{Bad};
 ghost use Rattle.kad_bencode.specs.Scanning.{Scans};
 ghost use Rattle.kad_bencode.specs.Finding.{IsNext};
 
-use crate::filed::{MOST, file, file_all, is_above, is_new};
+use crate::filed::{MOST, file, file_all, has_key, is_above, is_new};
 use crate::heads::Heads;
 use crate::reader::MAX_DEPTH;
 use crate::scan::{has_byte, integer_at, string_at};
 use crate::value::Bad;
+
+/// How many bytes of pairs are few.
+const FEW_BYTES: usize = 64;
 
 /// Whether the bytes spell a value, all of them, or the fault that is seen first.
 #[inline(always)]
@@ -101,7 +104,7 @@ fn dictionary_at(bytes: &[u8], from: usize, depth: usize) -> Result<usize, Bad>
     'pairs: while !has_byte(bytes, at, b'e') {
         let (key, behind) = string_at(bytes, at)?;
         if !is_next(at == from, greatest, key) {
-            return unsorted_at(bytes, from, at, depth);
+            return small_at(bytes, from, at, depth);
         }
         greatest = key;
         at = value_at(bytes, behind, depth)?;
@@ -109,8 +112,34 @@ fn dictionary_at(bytes: &[u8], from: usize, depth: usize) -> Result<usize, Bad>
     Ok(at + 1)
 }
 
-/// Where a dictionary ends that has pairs from `from` to `start`, and whose next key isn't above all of theirs. It files
-/// its keys in order, so that a new one is known by its neighbours alone.
+/// Where a dictionary ends that has pairs from `from` to `start`, and whose next key isn't above all of theirs. While its
+/// pairs take few bytes, each key is sought among all of them: rows of places would take longer to clear.
+#[cycle(checking)]
+fn small_at(bytes: &[u8], from: usize, start: usize, depth: usize) -> Result<usize, Bad>
+    requires order { from ≤ start }
+    requires within { start ≤ length bytes.now }
+    requires depth { depth ≤ 16 }
+    ensures moves { IfOk result (λ next. (start < next) × (next ≤ length bytes.now)) }
+    ensures reads { (os : List Open) (pairs : List (Pair Value)) → suc (length os) ≡ depth
+        → Reached bytes.now from (Keyless os []) → FitsOpen os
+        → Reached bytes.now start (Keyless os pairs) → FitsPairs os pairs
+        → Scans bytes.now result (ReadsValue bytes.now from os) }
+{
+    let mut at = start;
+    'few: while !has_byte(bytes, at, b'e') {
+        if at - from > FEW_BYTES {
+            return unsorted_at(bytes, from, at, depth);
+        }
+        let (key, behind) = string_at(bytes, at)?;
+        if has_key(&bytes[from..at], key) {
+            return Err(Bad::KeyTwice { at });
+        }
+        at = value_at(bytes, behind, depth)?;
+    }
+    Ok(at + 1)
+}
+
+/// The same for any dictionary. It files its keys in order, so that a new one is known by its neighbours alone.
 #[cycle(checking)]
 fn unsorted_at(bytes: &[u8], from: usize, start: usize, depth: usize) -> Result<usize, Bad>
     requires order { from ≤ start }

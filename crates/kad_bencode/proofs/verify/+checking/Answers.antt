@@ -75,7 +75,7 @@ dictionary_at-returns-in_err-key-clause-reads t c os d r f =
 pub dictionary_at-returns-then-not-is_next-clause-reads : goal.dictionary_at-returns-then-not-is_next-clause-reads
 dictionary_at-returns-then-not-is_next-clause-reads t c os d r f =
     let e = c.pairs.invariant.so_far os d r f in
-    c.unsorted_at.ensures.reads os e.0.pairs d r f e.0.reached e.0.fits
+    c.small_at.ensures.reads os e.0.pairs d r f e.0.reached e.0.fits
 
 pub dictionary_at-returns-in_err-at-clause-reads : goal.dictionary_at-returns-in_err-at-clause-reads
 dictionary_at-returns-in_err-at-clause-reads t c os d r f =
@@ -110,6 +110,61 @@ dictionary_at-pairs-init t c = record {
 }
 
 -- ---- dictionaries whose keys are out of order
+
+pub small_at-few-init : goal.small_at-few-init
+small_at-few-init t c = record {
+  after = omega arith;
+  within = c.requires.within;
+  so_far = λ os ps d r f g h. record { pairs = ps; reached = g; fits = h };
+}
+
+pub small_at-returns-then-at-from-gt-FEW_BYTES-clause-reads : goal.small_at-returns-then-at-from-gt-FEW_BYTES-clause-reads
+small_at-returns-then-at-from-gt-FEW_BYTES-clause-reads t c os ps d r f g h =
+    let e = c.few.invariant.so_far os ps d r f g h in
+    c.unsorted_at.ensures.reads os e.pairs d r f e.reached e.fits
+
+pub small_at-returns-in_err-key-clause-reads : goal.small_at-returns-in_err-key-clause-reads
+small_at-returns-in_err-key-clause-reads t c os ps d r f g h =
+    let e = c.few.invariant.so_far os ps d r f g h in
+    let p = err_from_is_err_and c.from_residual.result c.from_residual.ensures.1 in
+    handed c.args.bytes.now c.from_residual.result _ p.0 _ p.1 p.2 (c.in_err-key.ensures.reads (AsKey os e.pairs) (pairs_await c.args.bytes.now c.few.at os e f c.few.invariant.within c.few-test.ensures))
+
+pub small_at-returns-then-has_key-clause-reads : goal.small_at-returns-then-has_key-clause-reads
+small_at-returns-then-has_key-clause-reads t c os ps d r f g h =
+    let e = c.few.invariant.so_far os ps d r f g h in
+    let after : c.args.from ≤ c.few.at = omega (arith, c.requires.order, c.few.invariant.after) in
+    let told = c.has_key.ensures e.pairs (are_pairs c.args.bytes.now c.args.from c.few.at os e after c.few.invariant.within r) in
+    key_twice c.args.bytes.now c.few.at os c.in_ok-key.key.now c.in_ok-key.behind e c.few.invariant.within
+    (c.in_ok-key.ensures.reads (AsKey os e.pairs) (pairs_await c.args.bytes.now c.few.at os e f c.few.invariant.within c.few-test.ensures))
+    (sym told ∙ c.if-has_key.true)
+
+pub small_at-returns-in_err-at-clause-reads : goal.small_at-returns-in_err-at-clause-reads
+small_at-returns-in_err-at-clause-reads t c os ps d r f g h =
+    let e = c.few.invariant.so_far os ps d r f g h in
+    let after : c.args.from ≤ c.few.at = omega (arith, c.requires.order, c.few.invariant.after) in
+    let s = c.in_ok-key.ensures.reads (AsKey os e.pairs) (pairs_await c.args.bytes.now c.few.at os e f c.few.invariant.within c.few-test.ensures) in
+    let told = c.has_key.ensures e.pairs (are_pairs c.args.bytes.now c.args.from c.few.at os e after c.few.invariant.within r) in
+    let p = err_from_is_err_and c.from_residual-in_err-at.result c.from_residual-in_err-at.ensures.1 in
+    handed c.args.bytes.now c.from_residual-in_err-at.result _ p.0 _ p.1 p.2 (c.in_err-at.ensures.reads (InPair e.pairs c.in_ok-key.key.now ∷ os) d (key_new c.args.bytes.now c.few.at os c.in_ok-key.key.now c.in_ok-key.behind e f s (sym told ∙ c.if-has_key.false)))
+
+pub small_at-few-preserved : goal.small_at-few-preserved
+small_at-few-preserved t c = record {
+  after = omega (arith, c.in_ok-key.ensures.moves, c.in_ok-at.ensures.moves, c.few.invariant.after);
+  within = omega (arith, c.in_ok-at.ensures.moves);
+  so_far = λ os ps d r f g h.
+      let e = c.few.invariant.so_far os ps d r f g h in
+      let after : c.args.from ≤ c.few.at = omega (arith, c.requires.order, c.few.invariant.after) in
+      let s = c.in_ok-key.ensures.reads (AsKey os e.pairs) (pairs_await c.args.bytes.now c.few.at os e f c.few.invariant.within c.few-test.ensures) in
+      let told = c.has_key.ensures e.pairs (are_pairs c.args.bytes.now c.args.from c.few.at os e after c.few.invariant.within r) in
+      let new = sym told ∙ c.if-has_key.false in
+      let v = c.in_ok-at.ensures.reads (InPair e.pairs c.in_ok-key.key.now ∷ os) d (key_new c.args.bytes.now c.few.at os c.in_ok-key.key.now c.in_ok-key.behind e f s new) in
+      pairs_more c.args.bytes.now c.few.at os c.in_ok-key.key.now c.in_ok-key.behind c.in_ok-at.at e new v;
+}
+
+pub small_at-returns-clause-reads : goal.small_at-returns-clause-reads
+small_at-returns-clause-reads t c os ps d r f g h =
+    let e = c.few.invariant.so_far os ps d r f g h in
+    pairs_end c.args.bytes.now c.args.from c.few.at os e (omega (arith, c.requires.order, c.few.invariant.after)) c.few-test.ensures
 
 pub unsorted_at-loose-init : goal.unsorted_at-loose-init
 unsorted_at-loose-init t c = record {
