@@ -1,33 +1,50 @@
 -- What want of memory leaves of a node.
-use Rattle.std.proofs.Common.{◌≡◌, ◌≢◌, ℕ, List, [], ◌++◌, map, length, Bool, true, false, cond, nat_le, refl, sym, subst}
+use Rattle.std.proofs.Common.{◌≡◌, ◌≢◌, ℕ, List, [], ◌∷◌, ◌++◌, map, length, Bool, true, false, cond, nat_le, take, Result, Ok, Err, IfOk, inl, inr, refl, sym, ap, subst, ◌∙◌}
 use Rattle.std.proofs.lemmas.Bool.{leb-true}
-use Rattle.std.specs.Prelude.{Option, None}
+use Rattle.std.specs.Prelude.{Option, Some, None, OnErr}
 use Rattle.kad_base.specs.declared.types.Id.{Id}
 use Rattle.kad_base.specs.declared.types.Addr.{Addr}
 use Rattle.kad_base.specs.declared.types.Contact.{Contact}
+use Rattle.kad_base.specs.declared.types.NoMemory.{NoMemory as Lacks}
 use Rattle.kad_krpc.specs.Records.{ip_bytes}
 use Rattle.kad_krpc.specs.Views.{ask_seen}
 use Rattle.kad_krpc.specs.declared.message.Ask.{Ask}
 use Rattle.kad_krpc.specs.declared.message.Ask.TheVariants.{Ping, FindNode, GetPeers, AnnouncePeer, Get as GetItem, Put as PutItem, Other}
-use Rattle.kad_krpc.specs.declared.message.Message.{Message}
+use Rattle.contact_table.specs.TableState.{TableState}
+use Rattle.contact_table.specs.declared.calls.TableCall.TheVariants.{Closest, Seen}
+use Rattle.contact_table.specs.declared.calls.TableReply.TheVariants.{NoMemory}
 use Rattle.node_tokens.specs.Tokens.{IsAccepted}
 use Rattle.node_serve.specs.declared.asked.Asked.{Asked}
 use Rattle.node_serve.specs.declared.composing.Gained.{Gained}
 use Rattle.node_serve.specs.declared.composing.Gained.TheVariants as gained
+use Rattle.node_serve.specs.declared.holder.Own.{Own}
 use Rattle.node_serve.specs.declared.planning.Wants.{Wants}
 use Rattle.node_serve.specs.declared.planning.Wants.TheVariants.{Name, Nodes, Peers, Place, Item, Keep, RefuseToken, RefuseMutable, RefuseBig, RefuseMethod}
-use Rattle.node_serve.specs.AnswerBy.{setting_of}
+use Rattle.node_serve.specs.declared.setting.ServeSetting.{ServeSetting}
+use Rattle.node_serve.specs.AnswerBy.{Steps, setting_of}
 use Rattle.node_serve.specs.AnswerOf.{IsTokenAccepted, IsPutTaken, LeavesStores, all, peers_purged, items_purged, whole, EndsEarly, told_by}
 use Rattle.node_serve.specs.Asked.{IsAsked}
-use Rattle.node_serve.specs.Calls.{reply_of, is_accepted, answer_with}
+use Rattle.node_serve.specs.Calls.{Did, on_table, on_peers, on_items, reply_of, is_accepted, answer_with}
 use Rattle.item_store.specs.Items.{max_length}
-use Rattle.node_serve.specs.Gains.{IsFor, MayFail, put_wants, reply_gained, wants_of}
-use Rattle.node_serve.specs.Gathered.{Gathers, LeavesPut, LeavesBy, EndsAsked}
+use Rattle.item_store.specs.declared.calls.ItemCall.TheVariants.{Get as Get_call, Put as Keep_call}
+use Rattle.item_store.specs.declared.calls.ItemReply.TheVariants.{NoMemory as No_item_memory}
+use Rattle.peer_store.specs.declared.calls.PeerCall.TheVariants.{List as List_call, Put}
+use Rattle.peer_store.specs.declared.calls.PeerReply.TheVariants.{Listed, NoMemory as No_peer_memory}
+use Rattle.node_serve.specs.Gains.{IsFor, FailsBy, MayFail, did_for, item_reply, put_wants, wants_of}
+use Rattle.node_serve.specs.Gathered.{AnswersAsked, EndsAsked, node_of, own_does, own_stores}
 use Rattle.node_serve.specs.NodeState.{NodeState, Stores, stores_of, with_parts}
 use Rattle.node_serve.specs.Replies.{IsTaken, RepliesWith, peer_for}
+use Rattle.node_serve.specs.Responses.{Ends, unasked, gathering, composing, telling, RepliesTo, StopsAt}
+use Rattle.node_serve.specs.Sealing.{Tags}
 use Rattle.node_serve.proofs.Accepting.{accepted}
-use Rattle.node_serve.proofs.Answering.{main_calls, main_reply}
-use Rattle.node_serve.proofs.Same.{shows}
+use Rattle.node_serve.proofs.Answering.{answered, kept_own, own_steps}
+use Rattle.node_serve.proofs.Responding.{main_calls}
+use Rattle.node_serve.proofs.Same.{shows, steps_cut}
+use Rattle.node_serve.proofs.Wanted.{did_memory}
+
+some_is : {A : Type 0} (o : Option A) (x : A) → o ≡ Some x → o ≢ None
+some_is None x e n = absurd cc
+some_is (Some y) x e n = absurd cc
 
 -- a peer is to be placed
 abbrev IsPlace : Wants → Type 0
@@ -38,14 +55,6 @@ IsPlace other = ⊥
 abbrev IsKeep : Wants → Type 0
 IsKeep (Keep v) = Unit {0}
 IsKeep other = ⊥
-
-crowded_keep : (w : Wants) → IsFor w gained.Crowded → IsKeep w
-crowded_keep (Keep v) h = tt
-crowded_keep w h = absurd h
-
-full_place : (w : Wants) → IsFor w gained.Full → IsPlace w
-full_place (Place key peer) h = tt
-full_place w h = absurd h
 
 module _ (s : NodeState) (from : Addr) (at : ℕ) where
   takes_place : (key : Id) (peer : Addr) (token : List ℕ) (b : Bool) → is_accepted s.tokens (ip_bytes from.ip) at token ≡ b → IsPlace (cond b (Place key peer) RefuseToken) → IsAccepted s.tokens (ip_bytes from.ip) at token
@@ -92,64 +101,94 @@ module _ (s : NodeState) (from : Addr) (at : ℕ) where
   placing (PutItem id token v mutable) h = absurd (puts_place v (is_accepted s.tokens (ip_bytes from.ip) at token) mutable h)
   placing (Other method) h = absurd h
 
-  module _ (tx : List ℕ) (ask : Ask) (told : Option Contact) (stores : Stores) where
-    abbrev Leaves : Type 0
-    Leaves = LeavesStores s from at tx ask told stores
+  module _ (tx : List ℕ) (ask : Ask) (told : Option Contact) (t : TableState) (q : Stores) where
+    -- the table is as it was, and what is kept is one of what want of memory may leave
+    pub record Leaves : Type 0 where
+      pub table : t ≡ s.table
+      pub stores : LeavesStores s from at tx ask told q
 
-    put_leaves : (w : Wants) → (IsPlace w → IsTokenAccepted s from at ask) → (IsKeep w → IsPutTaken s from at ask) → LeavesPut at w (stores_of s) stores → Leaves
-    put_leaves Name may keeps h = all h
-    put_leaves (Nodes target) may keeps h = all h
-    put_leaves (Peers key) may keeps h = all h
-    put_leaves (Place key peer) may keeps h = peers_purged (may tt) h
-    put_leaves (Item key) may keeps h = all h
-    put_leaves (Keep v) may keeps h = items_purged (keeps tt) h
-    put_leaves RefuseToken may keeps h = all h
-    put_leaves RefuseMutable may keeps h = all h
-    put_leaves RefuseBig may keeps h = all h
-    put_leaves RefuseMethod may keeps h = all h
+    -- the calls were made from the node's state on
+    abbrev pub Came : List Did → Type 0
+    Came did = Steps s.table (stores_of s) did t q
 
-    gained_leaves : (w : Wants) (g : Gained) → IsFor w g → (IsPlace w → IsTokenAccepted s from at ask) → (IsKeep w → IsPutTaken s from at ask) → LeavesBy at g (stores_of s) stores → MayFail g → Leaves
-    gained_leaves w gained.Name is may keeps h fails = all h
-    gained_leaves w (gained.Nodes nodes) is may keeps h fails = all h
-    gained_leaves w (gained.Peers list nodes) is may keeps h fails = all h
-    gained_leaves w (gained.Placed stored) is may keeps h fails = absurd fails
-    gained_leaves w gained.Full is may keeps h fails = peers_purged (may (full_place w is)) h
-    gained_leaves w (gained.Item v nodes) is may keeps h fails = all h
-    gained_leaves w (gained.Kept stored) is may keeps h fails = absurd fails
-    gained_leaves w gained.Crowded is may keeps h fails = items_purged (keeps (crowded_keep w is)) h
-    gained_leaves w gained.RefuseToken is may keeps h fails = all h
-    gained_leaves w gained.RefuseMutable is may keeps h fails = all h
-    gained_leaves w gained.RefuseBig is may keeps h fails = all h
-    gained_leaves w gained.RefuseMethod is may keeps h fails = all h
+    came : (did ds : List Did) → did ≡ ds → Came did → Came ds
+    came did ds e st = subst Came e st
 
-module _ (s : NodeState) (asked : Asked) (at : ℕ) (wants : Wants) (next : NodeState) (planned : wants ≡ wants_of (setting_of s) asked.from at (ask_seen asked.ask)) (rest : next ≡ with_parts s s.table (stores_of next)) where
-  may : IsPlace wants → IsTokenAccepted s asked.from at (ask_seen asked.ask)
-  may h = placing s asked.from at (ask_seen asked.ask) (subst IsPlace planned h)
+    fails_leaves : (w : Wants) → (IsPlace w → IsTokenAccepted s from at ask) → (IsKeep w → IsPutTaken s from at ask) → (did : List Did) → FailsBy s.k at w did → Came did → Leaves
+    fails_leaves (Nodes target) may keeps did h st =
+        let e = came did (on_table (Closest target s.k) NoMemory ∷ []) h st in
+        record { table = e.1.0; stores = all e.1.1 }
+    fails_leaves (Peers key) may keeps did (inl h) st =
+        let e = came did (on_peers (List_call key at) No_peer_memory ∷ []) h st in
+        record { table = e.1.0; stores = all e.1.1 }
+    fails_leaves (Peers key) may keeps did (inr h) st =
+        let e = came did (on_peers (List_call key at) (Listed h.0) ∷ on_table (Closest key s.k) NoMemory ∷ []) h.1 st in
+        record { table = e.1.1.0; stores = all e.1.1.1 }
+    fails_leaves (Place key peer) may keeps did h st =
+        let e = came did (on_peers (Put key peer at) No_peer_memory ∷ []) h st in
+        record { table = e.1.0; stores = peers_purged (may tt) e.1.1 }
+    fails_leaves (Item key) may keeps did (inl h) st =
+        let e = came did (on_items (Get_call key at) No_item_memory ∷ []) h st in
+        record { table = e.1.0; stores = all e.1.1 }
+    fails_leaves (Item key) may keeps did (inr h) st =
+        let e = came did (on_items (Get_call key at) (item_reply h.0) ∷ on_table (Closest key s.k) NoMemory ∷ []) h.1 st in
+        record { table = e.1.1.0; stores = all e.1.1.1 }
+    fails_leaves (Keep v) may keeps did h st =
+        let e = came did (on_items (Keep_call v at) No_item_memory ∷ []) h st in
+        record { table = e.1.0; stores = items_purged (keeps tt) e.1.1 }
+    fails_leaves w may keeps did h st = absurd h
 
-  keep : IsKeep wants → IsPutTaken s asked.from at (ask_seen asked.ask)
-  keep h = keeping s asked.from at (ask_seen asked.ask) (subst IsKeep planned h)
+    gained_leaves : (w : Wants) (g : Gained) → IsFor w g → (IsPlace w → IsTokenAccepted s from at ask) → (IsKeep w → IsPutTaken s from at ask) → MayFail g → Came (did_for s.k at w g) → Leaves
+    gained_leaves Name gained.Name is may keeps fails st = record { table = st.0; stores = all st.1 }
+    gained_leaves (Nodes target) (gained.Nodes nodes) is may keeps fails st = record { table = st.1.0; stores = all st.1.1 }
+    gained_leaves (Peers key) (gained.Peers list nodes) is may keeps fails st = record { table = st.1.1.0; stores = all st.1.1.1 }
+    gained_leaves (Place key peer) (gained.Placed stored) is may keeps fails st = absurd fails
+    gained_leaves (Place key peer) gained.Full is may keeps fails st = record { table = st.1.0; stores = peers_purged (may tt) st.1.1 }
+    gained_leaves (Item key) (gained.Item v nodes) is may keeps fails st = record { table = st.1.1.0; stores = all st.1.1.1 }
+    gained_leaves (Keep v) (gained.Kept stored) is may keeps fails st = absurd fails
+    gained_leaves (Keep v) gained.Crowded is may keeps fails st = record { table = st.1.0; stores = items_purged (keeps tt) st.1.1 }
+    gained_leaves RefuseToken gained.RefuseToken is may keeps fails st = record { table = st.0; stores = all st.1 }
+    gained_leaves RefuseMutable gained.RefuseMutable is may keeps fails st = record { table = st.0; stores = all st.1 }
+    gained_leaves RefuseBig gained.RefuseBig is may keeps fails st = record { table = st.0; stores = all st.1 }
+    gained_leaves RefuseMethod gained.RefuseMethod is may keeps fails st = record { table = st.0; stores = all st.1 }
+    gained_leaves w g is may keeps fails st = absurd is
 
-  pub ends_gathering : LeavesPut at wants (stores_of s) (stores_of next) → EndsAsked s asked at next
-  ends_gathering h = record { stores = put_leaves s asked.from at asked.tx.now (ask_seen asked.ask) (told_by s.policy asked.read_only (ask_seen asked.ask) asked.from) (stores_of next) wants may keep h; rest = rest }
+module _ (s : NodeState) (asked : Asked) (at : ℕ) (t : TableState) (q : Stores) where
+  abbrev ask : Ask
+  ask = ask_seen asked.ask
 
-  pub ends_composing : (g : Gained) → Gathers s.k at wants g s.table (stores_of s) (stores_of next) → LeavesBy at g (stores_of s) (stores_of next) → MayFail g → EndsAsked s asked at next
-  ends_composing g gathered h fails = record {
-    stores = gained_leaves s asked.from at asked.tx.now (ask_seen asked.ask) (told_by s.policy asked.read_only (ask_seen asked.ask) asked.from) (stores_of next) wants g gathered.fits may keep h fails;
-    rest = rest;
-  }
+  abbrev told : Option Contact
+  told = told_by s.policy asked.read_only ask asked.from
 
-  pub ends_telling : (told : Option Contact) (g : Gained) (m : Message) → told ≡ told_by s.policy asked.read_only (ask_seen asked.ask) asked.from → told ≢ None → Gathers s.k at wants g s.table (stores_of s) (stores_of next)
-      → m ≡ reply_gained (setting_of s) asked.from at asked.tx.now g → EndsAsked s asked at next
-  ends_telling told g m is some h composed =
+  abbrev Left : Type 0
+  Left = Leaves s asked.from at asked.tx.now ask told t q
+
+  told_leaves : (c : Contact) (g : Gained) (did : List Did) → told ≡ Some c → IsFor (wants_of (setting_of s) asked.from at ask) g
+      → Steps s.table (stores_of s) (did_for s.k at (wants_of (setting_of s) asked.from at ask) g ++ on_table (Seen c) NoMemory ∷ []) t q → Left
+  told_leaves c g did is fits st =
       let S = setting_of s in
-      let ask = ask_seen asked.ask in
-      let tx = asked.tx.now in
-      let shown = shows s asked.from at tx s.table (stores_of next) ask h.did (main_calls s asked at wants g s.table (stores_of s) (stores_of next) planned h) h.memory h.steps in
-      let message : answer_with S asked.from at tx ask (map reply_of h.did ++ []) ≡ m = sym (main_reply s asked at wants g s.table (stores_of s) (stores_of next) planned h m composed []) in
+      let ds = did_for s.k at (wants_of S asked.from at ask) g in
+      let mid = steps_cut s.table t (stores_of s) q ds (on_table (Seen c) NoMemory ∷ []) st in
+      let shown = shows s asked.from at asked.tx.now mid.table mid.stores ask ds (main_calls S asked at g fits) (did_memory s.k at (wants_of S asked.from at ask) g fits) mid.first in
+      let m = answer_with S asked.from at asked.tx.now ask (map reply_of ds ++ []) in
       record {
-        stores = whole m (subst (λ o. o ≢ None) is some) (subst (λ x. RepliesWith s asked.from at tx ask (record { message = x; stores = stores_of next })) message (shown.replies []));
-        rest = rest;
+        table = mid.rest.1.0 ∙ shown.table;
+        stores = whole m (some_is told c is) (subst (λ x. RepliesWith s asked.from at asked.tx.now ask (record { message = m; stores = x })) (sym mid.rest.1.1) (shown.replies []));
       }
+
+  ends_leaves : (did : List Did) → Ends (setting_of s) asked at did → Steps s.table (stores_of s) did t q → Left
+  ends_leaves did (unasked e) st =
+      let none : Steps s.table (stores_of s) [] t q = subst (λ d. Steps s.table (stores_of s) d t q) e st in
+      record { table = none.0; stores = all none.1 }
+  ends_leaves did (gathering h) st = fails_leaves s asked.from at asked.tx.now ask told t q (wants_of (setting_of s) asked.from at ask) (placing s asked.from at ask) (keeping s asked.from at ask) did h st
+  ends_leaves did (composing g fits fails e) st =
+      gained_leaves s asked.from at asked.tx.now ask told t q (wants_of (setting_of s) asked.from at ask) g fits (placing s asked.from at ask) (keeping s asked.from at ask) fails (subst (λ d. Steps s.table (stores_of s) d t q) e st)
+  ends_leaves did (telling c g is fits e) st = told_leaves c g did is fits (subst (λ d. Steps s.table (stores_of s) d t q) e st)
+
+pub ended : (s : ServeSetting) (o u : Own) (asked : Asked) (at : ℕ) → StopsAt own_does s asked at o u → EndsAsked (node_of s o) asked at (node_of s u)
+ended s o u asked at h =
+    let left = ends_leaves (node_of s o) asked at u.table (own_stores u) h.did h.ends (own_steps o u h.did h.run) in
+    record { stores = left.stores; rest = ap (λ t. with_parts (node_of s o) t (own_stores u)) left.table }
 
 pub ends_of : (s : NodeState) (from : Addr) (bytes : List ℕ) (asked : Asked) (at : ℕ) (next : NodeState) → IsAsked from bytes asked → EndsAsked s asked at next → EndsEarly s from bytes at next
 ends_of s from bytes asked at next is ends = record {
@@ -160,3 +199,10 @@ ends_of s from bytes asked at next is ends = record {
   stores = subst (λ (f : Addr). LeavesStores s f at asked.tx.now (ask_seen asked.ask) (told_by s.policy asked.read_only (ask_seen asked.ask) f) (stores_of next)) is.from_is ends.stores;
   rest = ends.rest;
 }
+
+-- what a node's own answer is, by how it ended
+module _ (tag_of : Tags) (s : ServeSetting) (o u : Own) (asked : Asked) (at : ℕ) (out : List ℕ) where
+  pub answers_own : (r : Result ℕ Lacks) → IfOk r (λ n. RepliesTo own_does tag_of s asked at (take n out) o u) → OnErr r (StopsAt own_does s asked at o u)
+      → (u.table.own ≡ o.table.own) × IfOk r (λ n. AnswersAsked tag_of (node_of s o) asked at (take n out) (node_of s u)) × OnErr r (EndsAsked (node_of s o) asked at (node_of s u))
+  answers_own (Ok n) ok err = (kept_own o u ok.did ok.run, answered tag_of s o u asked at (take n out) ok, tt)
+  answers_own (Err e) ok err = (kept_own o u err.did err.run, tt, ended s o u asked at err)

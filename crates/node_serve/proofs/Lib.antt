@@ -8,6 +8,7 @@ pub mod Once
 pub mod Picking
 pub mod Reading
 pub mod Receiving
+pub mod Responding
 pub mod Same
 pub mod Small
 pub mod Tagging

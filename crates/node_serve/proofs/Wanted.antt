@@ -1,21 +1,26 @@
 -- What a query wants has its calls and its reply.
-use Rattle.std.proofs.Common.{◌≡◌, ℕ, List, [], ◌∷◌, ◌++◌, length, Bool, true, false, cond, nat_le, Some, None, refl}
+use Rattle.std.proofs.Common.{◌≡◌, ℕ, List, [], ◌∷◌, ◌++◌, length, map, Bool, true, false, cond, nat_le, Option, Some, None, All, inl, inr, refl, ap}
+use Rattle.std.proofs.lemmas.List.Elements.{All-nil, All-cons}
 use Rattle.kad_base.specs.declared.types.Id.{Id}
 use Rattle.kad_base.specs.declared.types.Addr.{Addr}
 use Rattle.kad_krpc.specs.declared.message.Ask.{Ask}
 use Rattle.kad_krpc.specs.declared.message.Ask.TheVariants.{Ping, FindNode, GetPeers, AnnouncePeer, Get as GetItem, Put as PutItem, Other}
 use Rattle.kad_krpc.specs.Records.{ip_bytes}
 use Rattle.item_store.specs.Items.{max_length}
-use Rattle.item_store.specs.declared.calls.ItemCall.TheVariants.{Put as Keep_call}
+use Rattle.item_store.specs.declared.calls.ItemCall.TheVariants.{Get as Get_call, Put as Keep_call}
+use Rattle.item_store.specs.declared.calls.ItemReply.TheVariants.{Stored as Kept_reply, Full as No_room}
+use Rattle.contact_table.specs.declared.calls.TableCall.TheVariants.{Closest}
+use Rattle.contact_table.specs.declared.calls.TableReply.TheVariants.{List as List_reply}
 use Rattle.node_serve.specs.Replies.{peer_for, bad_token, too_big}
-use Rattle.peer_store.specs.declared.calls.PeerCall.TheVariants.{Put}
+use Rattle.peer_store.specs.declared.calls.PeerCall.TheVariants.{List as List_call, Put}
+use Rattle.peer_store.specs.declared.calls.PeerReply.TheVariants.{Listed, Stored as Stored_reply, Full as Full_reply}
 use Rattle.node_serve.specs.declared.setting.ServeSetting.{ServeSetting}
 use Rattle.node_serve.specs.declared.planning.Wants.{Wants}
 use Rattle.node_serve.specs.declared.planning.Wants.TheVariants.{Name, Nodes, Peers, Place, Item, Keep, RefuseToken, RefuseMutable, RefuseBig, RefuseMethod}
-use Rattle.node_serve.specs.Calls.{Reply, of_peers, of_items, is_accepted, put_calls, calls_for, put_in, kept_in, put_reply, answer_with}
+use Rattle.node_serve.specs.Calls.{Call, Did, on_table, on_peers, on_items, Reply, of_table, of_peers, of_items, call_of, reply_of, HadMemory, HasItemRoom, is_accepted, put_calls, calls_for, put_in, kept_in, put_reply, answer_with}
 use Rattle.node_serve.specs.declared.composing.Gained.{Gained}
 use Rattle.node_serve.specs.declared.composing.Gained.TheVariants as gained
-use Rattle.node_serve.specs.Gains.{IsFor, put_wants, wants_of, calls_wanted, replies_of, reply_gained, reply_wanted}
+use Rattle.node_serve.specs.Gains.{IsFor, FailsBy, did_for, put_wants, wants_of, calls_wanted, item_reply as item_of, reply_gained, reply_wanted}
 
 place_calls : (s : ServeSetting) (at : ℕ) (key : Id) (peer : Addr) (b : Bool) → calls_wanted s.k at (cond b (Place key peer) RefuseToken) ≡ cond b (of_peers (Put key peer at) ∷ []) []
 place_calls s at key peer true = refl
@@ -61,8 +66,47 @@ wanted_reply s from at tx (GetItem id target want) rs = refl
 wanted_reply s from at tx (PutItem id token v mutable) rs = item_reply s from at tx v rs (is_accepted s.tokens (ip_bytes from.ip) at token) mutable
 wanted_reply s from at tx (Other method) rs = refl
 
+-- ---- what was gained
+
+got_memory : (o : Option (List ℕ)) → HasItemRoom (item_of o)
+got_memory None = tt
+got_memory (Some v) = tt
+
+one_had : (d : Did) → HadMemory d → All HadMemory (d ∷ [])
+one_had d h = All-cons HadMemory d [] h (All-nil HadMemory)
+
+pub did_calls : (k at : ℕ) (w : Wants) (g : Gained) → IsFor w g → map call_of (did_for k at w g) ≡ calls_wanted k at w
+did_calls k at Name gained.Name h = refl
+did_calls k at (Nodes target) (gained.Nodes nodes) h = refl
+did_calls k at (Peers key) (gained.Peers list nodes) h = refl
+did_calls k at (Place key peer) (gained.Placed stored) h = refl
+did_calls k at (Place key peer) gained.Full h = refl
+did_calls k at (Item key) (gained.Item v nodes) h = refl
+did_calls k at (Keep v) (gained.Kept stored) h = refl
+did_calls k at (Keep v) gained.Crowded h = refl
+did_calls k at RefuseToken gained.RefuseToken h = refl
+did_calls k at RefuseMutable gained.RefuseMutable h = refl
+did_calls k at RefuseBig gained.RefuseBig h = refl
+did_calls k at RefuseMethod gained.RefuseMethod h = refl
+did_calls k at w g h = absurd h
+
+pub did_memory : (k at : ℕ) (w : Wants) (g : Gained) → IsFor w g → All HadMemory (did_for k at w g)
+did_memory k at Name gained.Name h = All-nil HadMemory
+did_memory k at (Nodes target) (gained.Nodes nodes) h = one_had (on_table (Closest target k) (List_reply nodes)) tt
+did_memory k at (Peers key) (gained.Peers list nodes) h = All-cons HadMemory (on_peers (List_call key at) (Listed list)) (on_table (Closest key k) (List_reply nodes) ∷ []) tt (one_had (on_table (Closest key k) (List_reply nodes)) tt)
+did_memory k at (Place key peer) (gained.Placed stored) h = one_had (on_peers (Put key peer at) (Stored_reply stored)) tt
+did_memory k at (Place key peer) gained.Full h = one_had (on_peers (Put key peer at) Full_reply) tt
+did_memory k at (Item key) (gained.Item v nodes) h = All-cons HadMemory (on_items (Get_call key at) (item_of v)) (on_table (Closest key k) (List_reply nodes) ∷ []) (got_memory v) (one_had (on_table (Closest key k) (List_reply nodes)) tt)
+did_memory k at (Keep v) (gained.Kept stored) h = one_had (on_items (Keep_call v at) (Kept_reply stored)) tt
+did_memory k at (Keep v) gained.Crowded h = one_had (on_items (Keep_call v at) No_room) tt
+did_memory k at RefuseToken gained.RefuseToken h = All-nil HadMemory
+did_memory k at RefuseMutable gained.RefuseMutable h = All-nil HadMemory
+did_memory k at RefuseBig gained.RefuseBig h = All-nil HadMemory
+did_memory k at RefuseMethod gained.RefuseMethod h = All-nil HadMemory
+did_memory k at w g h = absurd h
+
 -- the reply to what was gained is that to what was wanted, whatever is replied to later calls
-pub gained_reply : (s : ServeSetting) (from : Addr) (at : ℕ) (tx : List ℕ) (w : Wants) (g : Gained) → IsFor w g → (more : List Reply) → reply_gained s from at tx g ≡ reply_wanted s from at tx w (replies_of g ++ more)
+pub gained_reply : (s : ServeSetting) (from : Addr) (at : ℕ) (tx : List ℕ) (w : Wants) (g : Gained) → IsFor w g → (more : List Reply) → reply_gained s from at tx g ≡ reply_wanted s from at tx w (map reply_of (did_for s.k at w g) ++ more)
 gained_reply s from at tx Name gained.Name h more = refl
 gained_reply s from at tx (Nodes target) (gained.Nodes nodes) h more = refl
 gained_reply s from at tx (Peers key) (gained.Peers list nodes) h more = refl
@@ -77,3 +121,15 @@ gained_reply s from at tx RefuseMutable gained.RefuseMutable h more = refl
 gained_reply s from at tx RefuseBig gained.RefuseBig h more = refl
 gained_reply s from at tx RefuseMethod gained.RefuseMethod h more = refl
 gained_reply s from at tx w g h more = absurd h
+
+-- ---- what found no memory
+
+pub fails_first : (k at : ℕ) (w : Wants) (did : List Did) → FailsBy k at w did → (left : List Call) × (map call_of did ++ left ≡ calls_wanted k at w)
+fails_first k at (Nodes target) did h = ([], ap (λ d. map call_of d ++ []) h)
+fails_first k at (Peers key) did (inl h) = (of_table (Closest key k) ∷ [], ap (λ d. map call_of d ++ of_table (Closest key k) ∷ []) h)
+fails_first k at (Peers key) did (inr h) = ([], ap (λ d. map call_of d ++ []) h.1)
+fails_first k at (Place key peer) did h = ([], ap (λ d. map call_of d ++ []) h)
+fails_first k at (Item key) did (inl h) = (of_table (Closest key k) ∷ [], ap (λ d. map call_of d ++ of_table (Closest key k) ∷ []) h)
+fails_first k at (Item key) did (inr h) = ([], ap (λ d. map call_of d ++ []) h.1)
+fails_first k at (Keep v) did h = ([], ap (λ d. map call_of d ++ []) h)
+fails_first k at w did h = absurd h

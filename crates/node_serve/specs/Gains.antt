@@ -1,26 +1,26 @@
 -- What a query wants, and what its calls gave, as whoever makes the calls has them: the code between the calls of a
 -- datagram and its reply.
-use Rattle.std.specs.Prelude.{ℕ, ◌≤◌, Bool, true, false, cond, nat_le, List, [], ◌∷◌, drop, length, Option, Some, None, IfSome}
+use Rattle.std.specs.Prelude.{◌≡◌, ◌⊎◌, ℕ, ◌≤◌, Bool, true, false, cond, nat_le, List, [], ◌∷◌, drop, length, Option, Some, None, IfSome}
 use Rattle.kad_base.specs.declared.types.Addr.{Addr}
 use Rattle.kad_krpc.specs.declared.message.Ask.{Ask}
 use Rattle.kad_krpc.specs.declared.message.Ask.TheVariants.{Ping, FindNode, GetPeers, AnnouncePeer, Get as GetItem, Put as PutItem, Other}
 use Rattle.kad_krpc.specs.declared.message.Message.{Message}
 use Rattle.kad_krpc.specs.Records.{ip_bytes}
 use Rattle.contact_table.specs.declared.calls.TableCall.TheVariants.{Closest}
-use Rattle.contact_table.specs.declared.calls.TableReply.TheVariants.{List as List_reply}
+use Rattle.contact_table.specs.declared.calls.TableReply.TheVariants.{List as List_reply, NoMemory as No_table_memory}
 use Rattle.node_serve.specs.Replies.{peer_for, named, server_error, bad_token, no_mutable, too_big, method_unknown}
 use Rattle.peer_store.specs.declared.calls.PeerCall.TheVariants.{List as List_call, Put}
-use Rattle.peer_store.specs.declared.calls.PeerReply.TheVariants.{Listed, Stored as Stored_reply, Full as Full_reply}
+use Rattle.peer_store.specs.declared.calls.PeerReply.TheVariants.{Listed, Stored as Stored_reply, Full as Full_reply, NoMemory as No_peer_memory}
 use Rattle.item_store.specs.Items.{IsItem, max_length}
 use Rattle.item_store.specs.declared.calls.ItemCall.TheVariants.{Get as Get_call, Put as Keep_call}
 use Rattle.item_store.specs.declared.calls.ItemReply.{ItemReply}
-use Rattle.item_store.specs.declared.calls.ItemReply.TheVariants.{Held as Held_reply, Absent, Stored as Kept_reply, Full as No_room}
+use Rattle.item_store.specs.declared.calls.ItemReply.TheVariants.{Held as Held_reply, Absent, Stored as Kept_reply, Full as No_room, NoMemory as No_item_memory}
 use Rattle.node_serve.specs.declared.setting.ServeSetting.{ServeSetting}
 use Rattle.node_serve.specs.declared.planning.Wants.{Wants}
 use Rattle.node_serve.specs.declared.planning.Wants.TheVariants.{Name, Nodes, Peers, Place, Item, Keep, RefuseToken, RefuseMutable, RefuseBig, RefuseMethod}
 use Rattle.node_serve.specs.declared.composing.Gained.{Gained}
 use Rattle.node_serve.specs.declared.composing.Gained.TheVariants as gained
-use Rattle.node_serve.specs.Calls.{Call, of_table, of_peers, of_items, Reply, by_table, by_peers, by_items, is_accepted, found_from, peers_from, item_from, closest_in, peers_in, item_in, put_in, kept_in}
+use Rattle.node_serve.specs.Calls.{Call, of_table, of_peers, of_items, Reply, Did, on_table, on_peers, on_items, is_accepted, found_from, peers_from, item_from, closest_in, peers_in, item_in, put_in, kept_in}
 
 -- what a put wants, by whether its token is accepted and whether it is mutable
 abbrev pub put_wants : Bool → Bool → List ℕ → Wants
@@ -75,20 +75,29 @@ abbrev pub item_reply : Option (List ℕ) → ItemReply
 item_reply None = Absent
 item_reply (Some v) = Held_reply v
 
--- what was gained, as replies
-abbrev pub replies_of : Gained → List Reply
-replies_of gained.Name = []
-replies_of (gained.Nodes nodes) = by_table (List_reply nodes) ∷ []
-replies_of (gained.Peers list nodes) = by_peers (Listed list) ∷ by_table (List_reply nodes) ∷ []
-replies_of (gained.Placed stored) = by_peers (Stored_reply stored) ∷ []
-replies_of gained.Full = by_peers Full_reply ∷ []
-replies_of (gained.Item v nodes) = by_items (item_reply v) ∷ by_table (List_reply nodes) ∷ []
-replies_of (gained.Kept stored) = by_items (Kept_reply stored) ∷ []
-replies_of gained.Crowded = by_items No_room ∷ []
-replies_of gained.RefuseToken = []
-replies_of gained.RefuseMutable = []
-replies_of gained.RefuseBig = []
-replies_of gained.RefuseMethod = []
+-- the calls for it with what was gained, as their replies
+abbrev pub did_for : ℕ → ℕ → Wants → Gained → List Did
+did_for k at (Nodes target) (gained.Nodes nodes) = on_table (Closest target k) (List_reply nodes) ∷ []
+did_for k at (Peers key) (gained.Peers list nodes) = on_peers (List_call key at) (Listed list) ∷ on_table (Closest key k) (List_reply nodes) ∷ []
+did_for k at (Place key peer) (gained.Placed stored) = on_peers (Put key peer at) (Stored_reply stored) ∷ []
+did_for k at (Place key peer) gained.Full = on_peers (Put key peer at) Full_reply ∷ []
+did_for k at (Item key) (gained.Item v nodes) = on_items (Get_call key at) (item_reply v) ∷ on_table (Closest key k) (List_reply nodes) ∷ []
+did_for k at (Keep v) (gained.Kept stored) = on_items (Keep_call v at) (Kept_reply stored) ∷ []
+did_for k at (Keep v) gained.Crowded = on_items (Keep_call v at) No_room ∷ []
+did_for k at wants g = []
+
+-- these are the first calls for it, and the last of them found no memory
+abbrev pub FailsBy : ℕ → ℕ → Wants → List Did → Type 0
+FailsBy k at (Nodes target) did = did ≡ on_table (Closest target k) No_table_memory ∷ []
+FailsBy k at (Peers key) did =
+    (did ≡ on_peers (List_call key at) No_peer_memory ∷ [])
+    ⊎ ((list : List Addr) × (did ≡ on_peers (List_call key at) (Listed list) ∷ on_table (Closest key k) No_table_memory ∷ []))
+FailsBy k at (Place key peer) did = did ≡ on_peers (Put key peer at) No_peer_memory ∷ []
+FailsBy k at (Item key) did =
+    (did ≡ on_items (Get_call key at) No_item_memory ∷ [])
+    ⊎ ((v : Option (List ℕ)) × (did ≡ on_items (Get_call key at) (item_reply v) ∷ on_table (Closest key k) No_table_memory ∷ []))
+FailsBy k at (Keep v) did = did ≡ on_items (Keep_call v at) No_item_memory ∷ []
+FailsBy k at other did = ⊥
 
 -- it is what the calls for this gain
 abbrev pub IsFor : Wants → Gained → Type 0

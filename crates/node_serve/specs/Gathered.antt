@@ -2,60 +2,41 @@
 use Rattle.std.specs.Prelude.{◌≡◌, ℕ, List, map}
 use Rattle.std.specs.List.{All}
 use Rattle.kad_krpc.specs.Views.{ask_seen}
-use Rattle.contact_table.specs.TableState.{TableState}
-use Rattle.peer_store.specs.Peers.{purged}
-use Rattle.item_store.specs.Items.{Held as HeldItem, purged as purged_items}
+use Rattle.contact_table.specs.TableStep.{TableStep, table_after}
+use Rattle.peer_store.specs.PeersStep.{PeersStep, peers_after}
 use Rattle.item_store.specs.ItemSteps.{ItemStep, item_after}
-use Rattle.item_store.specs.declared.calls.ItemCall.TheVariants.{Put as Keep_call}
-use Rattle.item_store.specs.declared.calls.ItemReply.TheVariants.{Stored as Kept_reply, Full as No_room}
 use Rattle.node_serve.specs.AnswerOf.{LeavesStores, told_by}
 use Rattle.node_serve.specs.NodeState.{NodeState, Stores, stores_of, with_parts}
 use Rattle.node_serve.specs.declared.asked.Asked.{Asked}
-use Rattle.node_serve.specs.declared.composing.Gained.{Gained}
-use Rattle.node_serve.specs.declared.composing.Gained.TheVariants as gained
-use Rattle.node_serve.specs.declared.planning.Wants.{Wants}
-use Rattle.node_serve.specs.declared.planning.Wants.TheVariants.{Place, Keep}
-use Rattle.node_serve.specs.Calls.{Did, HadMemory, call_of, reply_of, calls_of, answer_with}
-use Rattle.node_serve.specs.Gains.{IsFor, calls_wanted, replies_of}
+use Rattle.node_serve.specs.declared.holder.Own.{Own}
+use Rattle.node_serve.specs.declared.setting.ServeSetting.{ServeSetting}
+use Rattle.node_serve.specs.Calls.{Did, on_table, on_peers, on_items, HadMemory, call_of, reply_of, calls_of, answer_with}
 use Rattle.node_serve.specs.AnswerBy.{Steps, setting_of}
 use Rattle.node_serve.specs.Sealing.{Tags, sent_form}
 
--- the calls for what is wanted were steps that left the table, and this is what they gave
-pub record Gathers (k at : ℕ) (wants : Wants) (g : Gained) (table : TableState) (old new : Stores) : Type 0 where
-  pub fits : IsFor wants g
-  pub did : List Did
-  pub calls : map call_of did ≡ calls_wanted k at wants
-  pub replies : map reply_of did ≡ replies_of g
-  pub memory : All HadMemory did
-  pub steps : Steps table old did table new
+-- the peers and the items of one's own
+abbrev pub own_stores : Own → Stores
+own_stores o = record { peers = o.peers; items = o.items }
 
--- what a purge of the peers leaves, and a purge of the items
-abbrev pub old_peers_gone : Stores → ℕ → Stores
-old_peers_gone old at = record { peers = purged old.peers at; items = old.items }
+-- the node with this setting that holds this
+abbrev pub node_of : ServeSetting → Own → NodeState
+node_of s o = record {
+  own = s.own;
+  k = s.k;
+  policy = s.policy;
+  table = o.table;
+  peers = o.peers;
+  items = o.items;
+  proofs = s.proofs;
+  tokens = s.tokens;
+  sealed = s.sealed;
+}
 
-abbrev pub old_items_gone : Stores → ℕ → Stores
-old_items_gone old at = record { peers = old.peers; items = purged_items old.items at }
-
--- what putting an item gave, and what it left of the items
-abbrev pub Keeps : ℕ → List ℕ → Gained → List HeldItem → List HeldItem → Type 0
-Keeps at v (gained.Kept stored) old new = ItemStep old 0 (Keep_call v at) (Kept_reply stored) × (new ≡ item_after old 0 (Keep_call v at) (Kept_reply stored))
-Keeps at v gained.Crowded old new = ItemStep old 0 (Keep_call v at) No_room × (new ≡ item_after old 0 (Keep_call v at) No_room)
-Keeps at v other old new = ⊥
-
--- what want of memory leaves of what is kept: all, or what a purge leaves where a peer or an item was to be put there
-abbrev pub LeavesPut : ℕ → Wants → Stores → Stores → Type 0
-LeavesPut at (Place key peer) old new = new ≡ old_peers_gone old at
-LeavesPut at (Keep v) old new = new ≡ old_items_gone old at
-LeavesPut at other old new = new ≡ old
-
--- where a reply may find no memory, what was gained tells of what is kept: all, or what a purge leaves where a peer or an
--- item had no place
-abbrev pub LeavesBy : ℕ → Gained → Stores → Stores → Type 0
-LeavesBy at (gained.Placed stored) old new = Unit {0}
-LeavesBy at gained.Full old new = new ≡ old_peers_gone old at
-LeavesBy at (gained.Kept stored) old new = Unit {0}
-LeavesBy at gained.Crowded old new = new ≡ old_items_gone old at
-LeavesBy at other old new = new ≡ old
+-- a call on what is one's own is a step of it
+abbrev pub own_does : Own → Did → Own → Type 0
+own_does o (on_table call reply) u = TableStep o.table 0 call reply × (u.table ≡ table_after o.table 0 call reply) × (own_stores u ≡ own_stores o)
+own_does o (on_peers call reply) u = PeersStep o.peers 0 call reply × (u.table ≡ o.table) × (own_stores u ≡ record { peers = peers_after o.peers 0 call reply; items = o.items })
+own_does o (on_items call reply) u = ItemStep o.items 0 call reply × (u.table ≡ o.table) × (own_stores u ≡ record { peers = o.peers; items = item_after o.items 0 call reply })
 
 -- the text is what the node sends for the reply to the query, and this the node after it
 pub record AnswersAsked (tag_of : Tags) (s : NodeState) (asked : Asked) (at : ℕ) (text : List ℕ) (next : NodeState) : Type 0 where

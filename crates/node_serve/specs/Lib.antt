@@ -4,10 +4,12 @@ pub mod Asked
 pub mod Calls
 pub mod Gains
 pub mod Gathered
+pub mod Holding
 pub mod NodeState
 pub mod Queries
 pub mod Receives
 pub mod Replies
 pub mod Responded
+pub mod Responses
 pub mod Sealing
 pub mod Sizes

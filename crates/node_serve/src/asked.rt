@@ -82,7 +82,7 @@ fn asker(ask: &AskView) -> Option<Id>
 /// The contact that the table is told of after a query of BEP 5 (Kademlia, 2002, section 2.2): the asker, unless it is
 /// read-only (BEP 43), or the policy asks for puzzles, which a query can't show to be solved. `get` and `put` (BEP 44) and
 /// queries of other names tell it nothing.
-pub fn told_for(policy: Policy, asked: &Asked) -> Option<Contact>
+pub(crate) fn told_for(policy: Policy, asked: &Asked) -> Option<Contact>
     ensures { result ≡ told_by policy asked.now.read_only (ask_seen asked.now.ask) asked.now.from }
 {
     match policy {

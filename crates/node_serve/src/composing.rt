@@ -135,7 +135,7 @@ fn item_found(
 }
 
 /// The reply to a query that came at this moment, under its transaction id, from what its calls gave. It makes no call.
-pub fn compose(
+pub(crate) fn compose(
     alloc: Global,
     setting: &ServeSetting,
     asked: &Asked,

@@ -1,36 +1,36 @@
-//! The calls of a query, made on a table, peers and items of one's own.
-ghost use Rattle.std.specs.Prelude.{◌≡◌, ◌≤◌, ◌≢◌, length, None, IfOk, IfSome, OnOk, OnErr};
-ghost use Rattle.contact_table.specs.TableStep.{TableStep};
+//! The calls of a query, and what they gave.
+ghost use Rattle.std.specs.Prelude.{◌≡◌, ◌≤◌, ℕ, length, Some, IfOk, IfSome, OnOk, OnErr};
 ghost use Rattle.contact_table.specs.declared.calls.TableCall.{TableCall};
 ghost use Rattle.contact_table.specs.declared.calls.TableReply.{TableReply};
-ghost use Rattle.peer_store.specs.PeersStep.{PeersStep};
 ghost use Rattle.peer_store.specs.declared.calls.PeerCall.{PeerCall};
 ghost use Rattle.peer_store.specs.declared.calls.PeerReply.{PeerReply};
-ghost use Rattle.node_serve.specs.AnswerOf.{IsSeen, IsTold};
-ghost use Rattle.item_store.specs.Items.{IsItem, purged};
-ghost use Rattle.item_store.specs.ItemSteps.{ItemStep};
+ghost use Rattle.item_store.specs.Items.{IsItem};
 ghost use Rattle.item_store.specs.declared.calls.ItemCall.{ItemCall};
+ghost use Rattle.item_store.specs.declared.calls.ItemReply.{ItemReply};
+ghost use Rattle.node_serve.specs.Calls.{on_table, on_peers, on_items};
 ghost use Rattle.node_serve.specs.Gains.{IsFew, KeepsItem, item_reply};
-ghost use Rattle.node_serve.specs.Gathered.{Gathers, Keeps, LeavesBy, LeavesPut};
+ghost use Rattle.node_serve.specs.declared.planning.Wants.{Wants};
+ghost use Rattle.node_serve.specs.Responses.{Fails, Gathers, Tells, TellsNot};
 
 use crate::composing::Gained;
+use crate::holder::Hold;
 use crate::planning::Wants;
-use contact_table::{Table, TableCall, TableReply};
-use item_store::{ItemCall, ItemReply, Items};
-use kad_base::{Addrs, Bytes, Contact, Contacts, Id, NoMemory, Serial};
-use peer_store::{PeerCall, PeerReply, Peers};
-
-/// The role under which a node calls what it holds.
-const SERVER: u8 = 0;
+use contact_table::{TableCall, TableReply};
+use item_store::{ItemCall, ItemReply};
+use kad_base::{Addr, Addrs, Bytes, Contact, Contacts, Id, NoMemory};
+use peer_store::{PeerCall, PeerReply};
 
 /// The closest contacts.
-fn closest(table: &mut Table, target: Id, n: u8) -> Result<Contacts, NoMemory>
+fn closest<H: Hold>(hold: &mut H, target: Id, n: u8) -> Result<Contacts, NoMemory>
+    requires { H.ready hold.old }
+    ensures ready { H.ready hold.new }
     ensures few { IfOk result (λ list. length list ≤ n) }
-    ensures ok { IfOk result (λ list. TableStep table.old 0 (TableCall.Closest target n)
-        (TableReply.List list)) }
-    ensures same { table.new ≡ table.old }
+    ensures ok { IfOk result (λ list. H.does hold.old
+        (on_table (TableCall.Closest target n) (TableReply.List list)) hold.new) }
+    ensures err { OnErr result (H.does hold.old
+        (on_table (TableCall.Closest target n) TableReply.NoMemory) hold.new) }
 {
-    match table.apply(SERVER, TableCall::Closest { target, n }) {
+    match hold.call_table(TableCall::Closest { target, n }) {
         TableReply::List { list } => Ok(list),
         TableReply::NoMemory => Err(NoMemory),
         TableReply::Seen { .. } => unreachable!(),
@@ -39,13 +39,16 @@ fn closest(table: &mut Table, target: Id, n: u8) -> Result<Contacts, NoMemory>
 }
 
 /// The peers of the key.
-fn list(peers: &mut Peers, key: Id, at: u64) -> Result<Addrs, NoMemory>
+fn list<H: Hold>(hold: &mut H, key: Id, at: u64) -> Result<Addrs, NoMemory>
+    requires { H.ready hold.old }
+    ensures ready { H.ready hold.new }
     ensures few { IfOk result (λ list. length list ≤ 50) }
-    ensures ok { IfOk result (λ list. PeersStep peers.old 0 (PeerCall.List key at)
-        (PeerReply.Listed list)) }
-    ensures same { peers.new ≡ peers.old }
+    ensures ok { IfOk result (λ list. H.does hold.old
+        (on_peers (PeerCall.List key at) (PeerReply.Listed list)) hold.new) }
+    ensures err { OnErr result (H.does hold.old
+        (on_peers (PeerCall.List key at) PeerReply.NoMemory) hold.new) }
 {
-    match peers.apply(SERVER, PeerCall::List { key, at }) {
+    match hold.call_peers(PeerCall::List { key, at }) {
         PeerReply::Listed { list } => Ok(list),
         PeerReply::NoMemory => Err(NoMemory),
         PeerReply::Stored { .. } => unreachable!(),
@@ -54,12 +57,16 @@ fn list(peers: &mut Peers, key: Id, at: u64) -> Result<Addrs, NoMemory>
 }
 
 /// The item of the key, where one is handed out.
-fn get(items: &mut Items, key: Id, at: u64) -> Result<Option<Bytes>, NoMemory>
+fn get<H: Hold>(hold: &mut H, key: Id, at: u64) -> Result<Option<Bytes>, NoMemory>
+    requires { H.ready hold.old }
+    ensures ready { H.ready hold.new }
     ensures item { IfOk result (λ v. IfSome v IsItem) }
-    ensures ok { IfOk result (λ v. ItemStep items.old 0 (ItemCall.Get key at) (item_reply v)) }
-    ensures same { items.new ≡ items.old }
+    ensures ok { IfOk result (λ v. H.does hold.old
+        (on_items (ItemCall.Get key at) (item_reply v)) hold.new) }
+    ensures err { OnErr result (H.does hold.old
+        (on_items (ItemCall.Get key at) ItemReply.NoMemory) hold.new) }
 {
-    match items.apply(SERVER, ItemCall::Get { key, at }) {
+    match hold.call_items(ItemCall::Get { key, at }) {
         ItemReply::Held { v } => Ok(Some(v)),
         ItemReply::Absent => Ok(None),
         ItemReply::NoMemory => Err(NoMemory),
@@ -68,13 +75,36 @@ fn get(items: &mut Items, key: Id, at: u64) -> Result<Option<Bytes>, NoMemory>
     }
 }
 
-/// Puts the item, once what is old was dropped.
-fn keep(items: &mut Items, v: Bytes, at: u64) -> Result<Gained, NoMemory>
-    requires { IsItem v }
-    ensures ok { IfOk result (λ g. Keeps at v g items.old items.new) }
-    ensures err { OnErr result (items.new ≡ purged items.old at) }
+/// Puts the peer under the key.
+fn place<H: Hold>(hold: &mut H, key: Id, peer: Addr, at: u64) -> Result<Gained, NoMemory>
+    requires { H.ready hold.old }
+    ensures ready { H.ready hold.new }
+    ensures few { IfOk result IsFew }
+    ensures ok { IfOk result (λ g. (k : ℕ) →
+        Gathers H.does k at (Wants.Place key peer) g hold.old hold.new) }
+    ensures err { OnErr result ((k : ℕ) →
+        Fails H.does k at (Wants.Place key peer) hold.old hold.new) }
 {
-    match items.apply(SERVER, ItemCall::Put { v, at }) {
+    match hold.call_peers(PeerCall::Put { key, peer, at }) {
+        PeerReply::Stored { stored } => Ok(Gained::Placed { stored }),
+        PeerReply::Full => Ok(Gained::Full),
+        PeerReply::NoMemory => Err(NoMemory),
+        PeerReply::Listed { .. } => unreachable!(),
+    }
+}
+
+/// Puts the item.
+fn keep<H: Hold>(hold: &mut H, v: Bytes, at: u64) -> Result<Gained, NoMemory>
+    requires ready { H.ready hold.old }
+    requires item { IsItem v }
+    ensures ready { H.ready hold.new }
+    ensures few { IfOk result IsFew }
+    ensures ok { IfOk result (λ g. (k : ℕ) →
+        Gathers H.does k at (Wants.Keep v) g hold.old hold.new) }
+    ensures err { OnErr result ((k : ℕ) →
+        Fails H.does k at (Wants.Keep v) hold.old hold.new) }
+{
+    match hold.call_items(ItemCall::Put { v, at }) {
         ItemReply::Stored { stored } => Ok(Gained::Kept { stored }),
         ItemReply::Full => Ok(Gained::Crowded),
         ItemReply::NoMemory => Err(NoMemory),
@@ -83,55 +113,42 @@ fn keep(items: &mut Items, v: Bytes, at: u64) -> Result<Gained, NoMemory>
     }
 }
 
-/// Makes the calls for what is wanted.
-pub(crate) fn gather(
-    table: &mut Table,
-    peers: &mut Peers,
-    items: &mut Items,
+/// Makes the calls for what is wanted, by a node whose replies name `k` contacts.
+pub(crate) fn gather<H: Hold>(
+    hold: &mut H,
     k: u8,
     at: u64,
     wants: Wants,
 ) -> Result<Gained, NoMemory>
+    requires ready { H.ready hold.old }
     requires few { k ≤ 20 }
     requires item { KeepsItem wants }
-    ensures table { table.new ≡ table.old }
+    ensures ready { H.ready hold.new }
     ensures few { IfOk result IsFew }
-    ensures ok { IfOk result (λ g. Gathers k at wants g table.old
-        (record { peers = peers.old; items = items.old })
-        (record { peers = peers.new; items = items.new })) }
-    ensures left { IfOk result (λ g. LeavesBy at g
-        (record { peers = peers.old; items = items.old })
-        (record { peers = peers.new; items = items.new })) }
-    ensures err { OnErr result (LeavesPut at wants
-        (record { peers = peers.old; items = items.old })
-        (record { peers = peers.new; items = items.new })) }
+    ensures ok { IfOk result (λ g. Gathers H.does k at wants g hold.old hold.new) }
+    ensures err { OnErr result (Fails H.does k at wants hold.old hold.new) }
 {
     match wants {
-        Wants::Nodes { target } => match closest(table, target, k) {
+        Wants::Nodes { target } => match closest(hold, target, k) {
             Ok(nodes) => Ok(Gained::Nodes { nodes }),
             Err(NoMemory) => Err(NoMemory),
         },
-        Wants::Peers { key } => match list(peers, key, at) {
-            Ok(list) => match closest(table, key, k) {
+        Wants::Peers { key } => match list(hold, key, at) {
+            Ok(list) => match closest(hold, key, k) {
                 Ok(nodes) => Ok(Gained::Peers { list, nodes }),
                 Err(NoMemory) => Err(NoMemory),
             },
             Err(NoMemory) => Err(NoMemory),
         },
-        Wants::Place { key, peer } => match peers.apply(SERVER, PeerCall::Put { key, peer, at }) {
-            PeerReply::Stored { stored } => Ok(Gained::Placed { stored }),
-            PeerReply::Full => Ok(Gained::Full),
-            PeerReply::NoMemory => Err(NoMemory),
-            PeerReply::Listed { .. } => unreachable!(),
-        },
-        Wants::Item { key } => match get(items, key, at) {
-            Ok(v) => match closest(table, key, k) {
+        Wants::Place { key, peer } => place(hold, key, peer, at),
+        Wants::Item { key } => match get(hold, key, at) {
+            Ok(v) => match closest(hold, key, k) {
                 Ok(nodes) => Ok(Gained::Item { v, nodes }),
                 Err(NoMemory) => Err(NoMemory),
             },
             Err(NoMemory) => Err(NoMemory),
         },
-        Wants::Keep { v } => keep(items, v, at),
+        Wants::Keep { v } => keep(hold, v, at),
         Wants::Name => Ok(Gained::Name),
         Wants::RefuseToken => Ok(Gained::RefuseToken),
         Wants::RefuseMutable => Ok(Gained::RefuseMutable),
@@ -140,25 +157,28 @@ pub(crate) fn gather(
     }
 }
 
-/// Tells the table that the contact asked. Without memory the table is as it was.
-fn tell_seen(table: &mut Table, contact: Contact) -> Result<(), NoMemory>
-    ensures ok { OnOk result (IsSeen contact table.old table.new) }
-    ensures err { OnErr result (table.new ≡ table.old) }
+/// Tells the table that the contact asked.
+fn tell_seen<H: Hold>(hold: &mut H, contact: Contact) -> Result<(), NoMemory>
+    requires { H.ready hold.old }
+    ensures ready { H.ready hold.new }
+    ensures ok { OnOk result (Tells H.does (Some contact) hold.old hold.new) }
+    ensures err { OnErr result (TellsNot H.does (Some contact) hold.old hold.new) }
 {
-    match table.apply(SERVER, TableCall::Seen { contact }) {
+    match hold.call_table(TableCall::Seen { contact }) {
         TableReply::NoMemory => Err(NoMemory),
         _ => Ok(()),
     }
 }
 
 /// Tells the table who asked, where it is told.
-pub(crate) fn tell(table: &mut Table, told: Option<Contact>) -> Result<(), NoMemory>
-    ensures ok { OnOk result (IsTold told table.old table.new) }
-    ensures err { OnErr result (table.new ≡ table.old) }
-    ensures some { OnErr result (told ≢ None) }
+pub(crate) fn tell<H: Hold>(hold: &mut H, told: Option<Contact>) -> Result<(), NoMemory>
+    requires { H.ready hold.old }
+    ensures ready { H.ready hold.new }
+    ensures ok { OnOk result (Tells H.does told hold.old hold.new) }
+    ensures err { OnErr result (TellsNot H.does told hold.old hold.new) }
 {
     match told {
-        Some(contact) => tell_seen(table, contact),
+        Some(contact) => tell_seen(hold, contact),
         None => Ok(()),
     }
 }

@@ -12,17 +12,14 @@ ghost use Rattle.node_serve.specs.Queries.{IsSilent};
 ghost use Rattle.node_serve.specs.Gathered.{AnswersAsked, EndsAsked};
 ghost use Rattle.node_serve.specs.declared.node.Answered.{Answered};
 
-use crate::asked::{Asked, read_query, told_for};
-use crate::composing::compose;
-use crate::gather::{gather, tell};
-use crate::planning::plan;
-use crate::sealing::seal_reply;
+use crate::asked::{Asked, read_query};
+use crate::holder::Own;
+use crate::replying::respond;
 use crate::setting::ServeSetting;
-use crate::size_bound::write;
 use contact_table::Table;
 use item_store::Items;
 use kad_base::limits::MAX_DATAGRAM;
-use kad_base::{Addr, Id, List, NoMemory, Policy, Reports};
+use kad_base::{Addr, Id, NoMemory, Policy, Reports};
 use node_tokens::Tokens;
 use peer_store::Peers;
 use seal_tags::Seal;
@@ -48,19 +45,18 @@ pub enum Answered {
 pub struct Node {
     alloc: Global,
     setting: ServeSetting,
-    table: Table,
-    peers: Peers,
-    items: Items,
+    held: Own,
 }
 
 impl Model for Node {
     ghost use Rattle.node_serve.specs.NodeState.{NodeState, IsNode};
+    ghost use Rattle.node_serve.specs.Gathered.{node_of};
 
     ghost Value = { NodeState };
 
-    ghost view = { λ n. record { own = n.setting.own; k = n.setting.k; policy = n.setting.policy; table = n.table; peers = n.peers; items = n.items; proofs = n.setting.proofs; tokens = n.setting.tokens; sealed = n.setting.sealed } };
+    ghost view = { λ n. node_of n.setting n.held };
 
-    ghost invariant = { λ n. IsNode (record { own = n.setting.own; k = n.setting.k; policy = n.setting.policy; table = n.table; peers = n.peers; items = n.items; proofs = n.setting.proofs; tokens = n.setting.tokens; sealed = n.setting.sealed }) };
+    ghost invariant = { λ n. IsNode (node_of n.setting n.held) };
 }
 
 impl Node {
@@ -95,9 +91,11 @@ impl Node {
         Node {
             alloc,
             setting,
-            table,
-            peers: Peers::new(alloc),
-            items: Items::new(alloc),
+            held: Own {
+                table,
+                peers: Peers::new(alloc),
+                items: Items::new(alloc),
+            },
         }
     }
 
@@ -108,7 +106,7 @@ impl Node {
         self.setting.tokens.renew(at);
     }
 
-    /// Answers a query: its reply is written in front of `out`, tagged where the node is sealed, and has this many bytes.
+    /// Answers a query from what the node holds: its reply is written in front of `out`, and has this many bytes.
     fn answer_query<G: Seal>(
         &mut self,
         asked: &Asked,
@@ -124,37 +122,15 @@ impl Node {
         ensures room { IfOk result (λ n. n ≤ 4096) }
         ensures err { OnErr result (EndsAsked self.old asked.now at self.new) }
     {
-        let told = told_for(self.setting.policy, asked);
-        let tx = match List::from_slice(self.alloc, asked.tx) {
-            Ok(tx) => tx,
-            Err(NoMemory) => return Err(NoMemory),
-        };
-        let wants = match plan(self.alloc, &self.setting, asked, at) {
-            Ok(wants) => wants,
-            Err(NoMemory) => return Err(NoMemory),
-        };
-        let gained = match gather(
-            &mut self.table,
-            &mut self.peers,
-            &mut self.items,
-            self.setting.k,
+        respond(
+            &mut self.held,
+            self.alloc,
+            &self.setting,
+            asked,
             at,
-            wants,
-        ) {
-            Ok(gained) => gained,
-            Err(NoMemory) => return Err(NoMemory),
-        };
-        let reply = match compose(self.alloc, &self.setting, asked, at, tx, gained) {
-            Ok(reply) => reply,
-            Err(NoMemory) => return Err(NoMemory),
-        };
-        match tell(&mut self.table, told) {
-            Ok(()) => {
-                let length = write(&reply, out);
-                Ok(seal_reply(&self.setting, seal, &reply, length, out))
-            }
-            Err(NoMemory) => Err(NoMemory),
-        }
+            seal,
+            out,
+        )
     }
 
     /// Answers a datagram that came from this address at this moment, in milliseconds. The reply is written in front of

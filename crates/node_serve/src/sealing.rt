@@ -37,7 +37,7 @@ fn put_tag<G: Seal>(
 
 /// Puts the seal's tag into a written reply where the node is sealed: it is the reply that `write` put in front of `out`,
 /// in this many bytes. Answers how many the reply has then. Takes no memory.
-pub fn seal_reply<G: Seal>(
+pub(crate) fn seal_reply<G: Seal>(
     setting: &ServeSetting,
     seal: &G,
     reply: &Message,

@@ -136,7 +136,7 @@ fn size_bound(message: &Message)
 }
 
 /// Writes a reply with few parts in front of `out`, and answers its length, which leaves room for a tag. Takes no memory.
-pub fn write(message: &Message, out: &mut [u8; MAX_DATAGRAM]) -> usize
+pub(crate) fn write(message: &Message, out: &mut [u8; MAX_DATAGRAM]) -> usize
     requires { IsSmall message.now }
     ensures room { result ≤ max_reply }
     ensures form { take result out.new ≡ form message.now }

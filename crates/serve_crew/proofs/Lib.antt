@@ -1,4 +1,3 @@
-pub mod Gathering
 pub mod Growing
 pub mod Responding
 pub mod Remembering

@@ -4,13 +4,16 @@ use Rattle.std.specs.List.{flat_map}
 use Rattle.kad_base.specs.declared.types.Contact.{Contact}
 use Rattle.kad_base.specs.declared.serial.Made.{Made}
 use Rattle.kad_base.specs.Serial.{made}
-use Rattle.turn_book.specs.Turns.{PassState, mine}
+use Rattle.turn_book.specs.Turns.{TurnState, PassState, mine}
+use Rattle.contact_table.specs.TableState.{TableState}
 use Rattle.contact_table.specs.Told.{HasMemory}
 use Rattle.contact_table.specs.declared.calls.TableCall.{TableCall}
 use Rattle.contact_table.specs.declared.calls.TableCall.TheVariants.{Seen}
 use Rattle.contact_table.specs.declared.calls.TableReply.{TableReply}
+use Rattle.peer_store.specs.Peers.{Held}
 use Rattle.peer_store.specs.declared.calls.PeerCall.{PeerCall}
 use Rattle.peer_store.specs.declared.calls.PeerReply.{PeerReply}
+use Rattle.item_store.specs.Items.{Held as HeldItem}
 use Rattle.item_store.specs.declared.calls.ItemCall.{ItemCall}
 use Rattle.item_store.specs.declared.calls.ItemReply.{ItemReply}
 use Rattle.node_serve.specs.Calls.{Did, on_table, on_peers, on_items}
@@ -83,3 +86,13 @@ Called {C} {R} call old new = (reply : R) × Replied call reply old new
 -- it told of a contact, and there was memory
 abbrev pub ToldOf : Contact → TablePass → TablePass → Type 0
 ToldOf c old new = (reply : TableReply) × HasMemory reply × Replied (Seen c) reply old new
+
+-- a call that one of its passes made
+abbrev pub does : Hands → Did → Hands → Type 0
+does old d new = SameHands old new × Grew old new (d ∷ [])
+
+-- the passes are of these turns
+pub record CanWork (tables : TurnState TableState) (stores : TurnState (List Held)) (shelves : TurnState (List HeldItem)) (h : Hands) : Type 0 where
+  pub table : h.table.turn ≡ tables.id
+  pub peers : h.peers.turn ≡ stores.id
+  pub items : h.items.turn ≡ shelves.id

@@ -2,9 +2,7 @@
 //! turn each. It opens no socket and reads no clock.
 #![tactic(auto)]
 
-mod calls;
-mod gather;
-mod respond;
+mod desk;
 mod worker;
 
 pub use worker::ServeWorker;

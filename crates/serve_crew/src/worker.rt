@@ -1,24 +1,50 @@
 //! A worker that answers datagrams, at a turn over the table, one over the peers and one over the items.
-ghost use Rattle.std.specs.Prelude.{◌≡◌, ◌↔◌};
-ghost use Rattle.node_serve.specs.Calls.{IsSetting};
+ghost use Rattle.std.specs.Prelude.{◌≡◌, ◌≤◌, ◌↔◌, ℕ, List, [], ◌∷◌, length, take, IfOk, OnErr};
+ghost use Rattle.kad_base.specs.Limits.{max_answered_tx};
+ghost use Rattle.kad_krpc.specs.Records.{ip_bytes};
+ghost use Rattle.kad_krpc.specs.Views.{ask_seen};
+ghost use Rattle.contact_table.specs.TableState.{TableState};
+ghost use Rattle.contact_table.specs.TableStep.{TableMay, TableStep};
+ghost use Rattle.peer_store.specs.Peers.{Held};
+ghost use Rattle.peer_store.specs.PeersStep.{PeersStep};
+ghost use Rattle.item_store.specs.Items.{Held as HeldItem};
+ghost use Rattle.item_store.specs.ItemSteps.{ItemMay, ItemStep};
+ghost use Rattle.node_serve.specs.Asked.{IsSaid};
+ghost use Rattle.node_serve.specs.Calls.{IsSetting, on_table, on_peers, on_items};
 ghost use Rattle.node_serve.specs.Queries.{IsSilent};
+ghost use Rattle.node_serve.specs.Responses.{RepliesTo, StopsAt};
 ghost use Rattle.node_serve.specs.declared.node.Answered.{Answered};
-ghost use Rattle.serve_crew.specs.Hands.{SameHands};
+ghost use Rattle.serve_crew.specs.Hands.{SameHands, SamePass, Replied, does};
 ghost use Rattle.serve_crew.specs.Serving.{Answers, TellsLost};
 
-use crate::calls::fail;
-use crate::respond::respond;
-use contact_table::Table;
-use item_store::Items;
+use crate::desk::{AtDesk, Desk};
+use contact_table::{Table, TableCall, TableReply};
+use item_store::{ItemCall, ItemReply, Items};
 use kad_base::limits::MAX_DATAGRAM;
-use kad_base::{Addr, Contact, NoMemory};
-use node_serve::{Answered, ServeSetting, read_query};
-use peer_store::Peers;
+use kad_base::{Addr, Contact, NoMemory, Serial};
+use node_serve::{Answered, Asked, ServeSetting, read_query, respond};
+use peer_store::{PeerCall, PeerReply, Peers};
 use seal_tags::Seal;
 use std::alloc::Global;
 use std::marker::Model;
 use std::sync::Wait;
 use turn_book::{Pass, Turn};
+
+/// Makes a call at a turn. Its reply is one that the rules allow in some state.
+fn reply_to<S: Serial, R: Wait>(
+    rt: &R,
+    turn: &Turn<S>,
+    pass: &mut Pass<S>,
+    call: S::Call,
+) -> S::Reply
+    requires own { pass.old.turn ≡ turn.now.id }
+    requires may { S.may pass.old.role call }
+    ensures same { SamePass pass.old pass.new }
+    ensures replied { Replied call result pass.old pass.new }
+    ensures step { (s : S) × S.step s pass.old.role call result }
+{
+    turn.call(rt, pass, call)
+}
 
 /// A worker, with passes of one role at a turn over the routing table, one over the peers and one over the items that a
 /// node keeps for others.
@@ -41,7 +67,7 @@ impl Model for ServeWorker {
 }
 
 impl ServeWorker {
-    ghost use Rattle.serve_crew.specs.Hands.{HasOneRole, hands};
+    ghost use Rattle.serve_crew.specs.Hands.{HasOneRole, hands, does};
 
     /// A worker with these passes. Takes no memory.
     pub fn new(
@@ -71,6 +97,81 @@ impl ServeWorker {
         (self.table, self.peers, self.items)
     }
 
+    /// Makes a call on the table.
+    pub(crate) fn call_table<R: Wait>(
+        &mut self,
+        rt: &R,
+        turn: &Turn<Table>,
+        call: TableCall,
+    ) -> TableReply
+        requires own { self.old.table.turn ≡ turn.now.id }
+        requires may { TableMay self.old.table.role call }
+        ensures does { does self.old (on_table call result) self.new }
+        ensures step { (s : TableState) × (role : ℕ) × TableStep s role call result }
+    {
+        reply_to(rt, turn, &mut self.table, call)
+    }
+
+    /// Makes a call on the peers.
+    pub(crate) fn call_peers<R: Wait>(
+        &mut self,
+        rt: &R,
+        turn: &Turn<Peers>,
+        call: PeerCall,
+    ) -> PeerReply
+        requires own { self.old.peers.turn ≡ turn.now.id }
+        ensures does { does self.old (on_peers call result) self.new }
+        ensures step { (s : List Held) × (role : ℕ) × PeersStep s role call result }
+    {
+        reply_to(rt, turn, &mut self.peers, call)
+    }
+
+    /// Makes a call on the items.
+    pub(crate) fn call_items<R: Wait>(
+        &mut self,
+        rt: &R,
+        turn: &Turn<Items>,
+        call: ItemCall,
+    ) -> ItemReply
+        requires own { self.old.items.turn ≡ turn.now.id }
+        requires may { ItemMay self.old.items.role call }
+        ensures does { does self.old (on_items call result) self.new }
+        ensures step { (s : List HeldItem) × (role : ℕ) × ItemStep s role call result }
+    {
+        reply_to(rt, turn, &mut self.items, call)
+    }
+
+    /// Answers a query at the desk: its reply is written in front of `out`, and has this many bytes.
+    fn answer_query<R: Wait, G: Seal>(
+        &mut self,
+        rt: &R,
+        desk: &Desk,
+        asked: &Asked,
+        at: u64,
+        seal: &G,
+        out: &mut [u8; MAX_DATAGRAM],
+    ) -> Result<usize, NoMemory>
+        requires setting { IsSetting desk.now.setting.now }
+        requires table { self.old.table.turn ≡ desk.now.table.now.id }
+        requires peers { self.old.peers.turn ≡ desk.now.peers.now.id }
+        requires items { self.old.items.turn ≡ desk.now.items.now.id }
+        requires ip { ip_bytes asked.now.from.ip ≡ asked.now.ip }
+        requires short { length asked.now.tx.now ≤ max_answered_tx }
+        requires said { IsSaid (ask_seen asked.now.ask) }
+        ensures ok { IfOk result (λ n. RepliesTo does (G.tag_of seal.now) desk.now.setting.now asked.now at
+            (take n out.new) self.old self.new) }
+        ensures room { IfOk result (λ n. n ≤ 4096) }
+        ensures err { OnErr result (StopsAt does desk.now.setting.now asked.now at self.old self.new) }
+    {
+        let alloc = self.alloc;
+        let mut hold = AtDesk {
+            rt,
+            desk,
+            worker: self,
+        };
+        respond(&mut hold, alloc, desk.setting, asked, at, seal, out)
+    }
+
     /// Answers a datagram that came from this address at this moment, in milliseconds. Its reply is written in front of
     /// `out`, made from what the calls for it were replied, and tagged where the setting is sealed. Where no reply is owed
     /// it makes no call. `NoMemory` leaves the calls that were made before. Reading, writing and tagging take no memory;
@@ -97,28 +198,18 @@ impl ServeWorker {
         ensures answers { Answers (G.tag_of seal.now) setting.now from bytes.now at result out.new
             self.old self.new }
     {
+        let desk = Desk {
+            setting,
+            table: tables,
+            peers: stores,
+            items: shelves,
+        };
         match read_query(from, bytes) {
             None => Answered::Silent,
-            Some(asked) => {
-                match respond(
-                    rt,
-                    self.alloc,
-                    setting,
-                    tables,
-                    stores,
-                    shelves,
-                    &mut self.table,
-                    &mut self.peers,
-                    &mut self.items,
-                    &asked,
-                    at,
-                    seal,
-                    out,
-                ) {
-                    Ok(length) => Answered::Reply(length),
-                    Err(NoMemory) => Answered::NoMemory,
-                }
-            }
+            Some(asked) => match self.answer_query(rt, &desk, &asked, at, seal, out) {
+                Ok(length) => Answered::Reply(length),
+                Err(NoMemory) => Answered::NoMemory,
+            },
         }
     }
 
@@ -130,6 +221,6 @@ impl ServeWorker {
         ensures same { SameHands self.old self.new }
         ensures tells { TellsLost contact self.old self.new }
     {
-        fail(rt, tables, &mut self.table, contact);
+        self.call_table(rt, tables, TableCall::Failed { contact });
     }
 }

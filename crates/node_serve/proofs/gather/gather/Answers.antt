@@ -1,54 +1,76 @@
-use Rattle.std.proofs.Common.{List, sym, subst, IfOk}
+use Rattle.std.proofs.Common.{[], ◌∷◌, refl, sym, subst, inl, inr, IfOk}
+use Rattle.std.specs.Prelude.{OnErr}
+use Rattle.contact_table.specs.declared.calls.TableCall.TheVariants.{Closest}
+use Rattle.contact_table.specs.declared.calls.TableReply.TheVariants.{NoMemory}
+use Rattle.peer_store.specs.declared.calls.PeerCall.TheVariants.{List as List_call}
+use Rattle.peer_store.specs.declared.calls.PeerReply.TheVariants.{Listed, NoMemory as No_peer_memory}
+use Rattle.item_store.specs.declared.calls.ItemCall.TheVariants.{Get as Get_call}
+use Rattle.item_store.specs.declared.calls.ItemReply.TheVariants.{NoMemory as No_item_memory}
 use Rattle.node_serve.specs.declared.composing.Gained.TheVariants as gained
 use Rattle.node_serve.specs.declared.planning.Wants.{Wants}
-use Rattle.peer_store.specs.Peers.{Held}
-use Rattle.item_store.specs.Items.{Held as HeldItem}
-use Rattle.node_serve.specs.NodeState.{Stores}
-use Rattle.node_serve.specs.Gathered.{Gathers}
-use Rattle.node_serve.proofs.Gathering.{nodes, peers, item, placed, no_place, keeps, keeps_left, keeps_few}
+use Rattle.node_serve.specs.declared.planning.Wants.TheVariants.{Place, Keep}
+use Rattle.node_serve.specs.Calls.{on_table, on_peers, on_items}
+use Rattle.node_serve.specs.Gains.{item_reply}
+use Rattle.node_serve.specs.Responses.{Gathers, Fails}
+use Rattle.node_serve.proofs.Gathering.{ok_at, err_at}
 use Rattle.node_serve.proofs.gather.gather.Goals as goal
 
-abbrev both : List Held → List HeldItem → Stores
-both peers items = record { peers = peers; items = items }
-
 pub returns-in-Ok-clause-ok : goal.returns-in-Ok-clause-ok
-returns-in-Ok-clause-ok c =
-    subst (λ (w : Wants). Gathers c.args.k c.args.at w (gained.Nodes c.in-Ok.nodes) c.args.table.now (both c.args.peers.now c.args.items.now) (both c.args.peers.now c.args.items.now)) (sym c.in-Nodes.is)
-    (nodes c.args.k c.args.at c.args.table.now (both c.args.peers.now c.args.items.now) c.in-Nodes.target c.in-Ok.nodes c.in-Ok.ensures.ok)
+returns-in-Ok-clause-ok g c =
+    subst (λ (w : Wants). Gathers g.H.Hold.does c.args.k c.args.at w (gained.Nodes c.in-Ok.nodes) c.args.hold.now c.closest.new.hold) (sym c.in-Nodes.is)
+    (record { fits = tt; run = (c.closest.new.hold, c.in-Ok.ensures.ok, refl) })
+
+pub returns-in-Err-clause-err : goal.returns-in-Err-clause-err
+returns-in-Err-clause-err g c =
+    subst (λ (w : Wants). Fails g.H.Hold.does c.args.k c.args.at w c.args.hold.now c.closest.new.hold) (sym c.in-Nodes.is)
+    (record { did = on_table (Closest c.in-Nodes.target c.args.k) NoMemory ∷ []; fails = refl; run = (c.closest.new.hold, c.in-Err.ensures.err, refl) })
 
 pub returns-in-Ok-closest-clause-ok : goal.returns-in-Ok-closest-clause-ok
-returns-in-Ok-closest-clause-ok c =
-    subst (λ (w : Wants). Gathers c.args.k c.args.at w (gained.Peers c.in-Ok-list.list c.in-Ok-closest.nodes) c.args.table.now (both c.args.peers.now c.args.items.now) (both c.list.new.peers c.args.items.now)) (sym c.in-Peers.is)
-    (peers c.args.k c.args.at c.args.table.now (both c.args.peers.now c.args.items.now) c.in-Peers.key c.in-Ok-list.list c.in-Ok-closest.nodes c.list.new.peers c.in-Ok-list.ensures.ok c.in-Ok-closest.ensures.ok c.in-Ok-list.ensures.same)
+returns-in-Ok-closest-clause-ok g c =
+    subst (λ (w : Wants). Gathers g.H.Hold.does c.args.k c.args.at w (gained.Peers c.in-Ok-list.list c.in-Ok-closest.nodes) c.args.hold.now c.closest-in-Ok-list.new.hold) (sym c.in-Peers.is)
+    (record { fits = tt; run = (c.list.new.hold, c.in-Ok-list.ensures.ok, (c.closest-in-Ok-list.new.hold, c.in-Ok-closest.ensures.ok, refl)) })
 
-pub returns-in-Stored-clause-ok : goal.returns-in-Stored-clause-ok
-returns-in-Stored-clause-ok c =
-    let t = c.args.table.now in
-    let p = both c.args.peers.now c.args.items.now in
-    let q = both c.apply.new.self c.args.items.now in
-    subst (λ (v : Wants). Gathers c.args.k c.args.at v (gained.Placed c.in-Stored.stored) t p q) (sym c.in-Place.is)
-    (placed c.args.k c.args.at t p c.in-Place.key c.in-Place.peer c.in-Stored.stored c.apply.result c.apply.new.self c.in-Stored.is c.apply.ensures.step c.apply.ensures.after)
+pub returns-in-Err-closest-clause-err : goal.returns-in-Err-closest-clause-err
+returns-in-Err-closest-clause-err g c =
+    subst (λ (w : Wants). Fails g.H.Hold.does c.args.k c.args.at w c.args.hold.now c.closest-in-Ok-list.new.hold) (sym c.in-Peers.is)
+    (record { did = on_peers (List_call c.in-Peers.key c.args.at) (Listed c.in-Ok-list.list) ∷ on_table (Closest c.in-Peers.key c.args.k) NoMemory ∷ []; fails = inr (c.in-Ok-list.list, refl); run = (c.list.new.hold, c.in-Ok-list.ensures.ok, (c.closest-in-Ok-list.new.hold, c.in-Err-closest.ensures.err, refl)) })
 
-pub returns-in-Full-clause-ok : goal.returns-in-Full-clause-ok
-returns-in-Full-clause-ok c =
-    let t = c.args.table.now in
-    let p = both c.args.peers.now c.args.items.now in
-    let q = both c.apply.new.self c.args.items.now in
-    subst (λ (v : Wants). Gathers c.args.k c.args.at v gained.Full t p q) (sym c.in-Place.is)
-    (no_place c.args.k c.args.at t p c.in-Place.key c.in-Place.peer c.apply.result c.apply.new.self c.in-Full.is c.apply.ensures.step c.apply.ensures.after)
+pub returns-in-Err-list-clause-err : goal.returns-in-Err-list-clause-err
+returns-in-Err-list-clause-err g c =
+    subst (λ (w : Wants). Fails g.H.Hold.does c.args.k c.args.at w c.args.hold.now c.list.new.hold) (sym c.in-Peers.is)
+    (record { did = on_peers (List_call c.in-Peers.key c.args.at) No_peer_memory ∷ []; fails = inl refl; run = (c.list.new.hold, c.in-Err-list.ensures.err, refl) })
 
-pub returns-in-Ok-closest-2-clause-ok : goal.returns-in-Ok-closest-2-clause-ok
-returns-in-Ok-closest-2-clause-ok c =
-    subst (λ (w : Wants). Gathers c.args.k c.args.at w (gained.Item c.in-Ok-get.v c.in-Ok-closest-2.nodes) c.args.table.now (both c.args.peers.now c.args.items.now) (both c.args.peers.now c.get.new.items)) (sym c.in-Item.is)
-    (item c.args.k c.args.at c.args.table.now (both c.args.peers.now c.args.items.now) c.in-Item.key c.in-Ok-get.v c.in-Ok-closest-2.nodes c.get.new.items c.in-Ok-get.ensures.ok c.in-Ok-closest-2.ensures.ok c.in-Ok-get.ensures.same)
+pub returns-in-Place-clause-ok : goal.returns-in-Place-clause-ok
+returns-in-Place-clause-ok g c =
+    subst (λ (w : Wants). IfOk c.place.result (λ x. Gathers g.H.Hold.does c.args.k c.args.at w x c.args.hold.now c.place.new.hold)) (sym c.in-Place.is)
+    (ok_at c.place.result (λ k x. Gathers g.H.Hold.does k c.args.at (Place c.in-Place.key c.in-Place.peer) x c.args.hold.now c.place.new.hold) c.args.k c.place.ensures.ok)
+
+pub returns-in-Place-clause-err : goal.returns-in-Place-clause-err
+returns-in-Place-clause-err g c =
+    subst (λ (w : Wants). OnErr c.place.result (Fails g.H.Hold.does c.args.k c.args.at w c.args.hold.now c.place.new.hold)) (sym c.in-Place.is)
+    (err_at c.place.result (λ k. Fails g.H.Hold.does k c.args.at (Place c.in-Place.key c.in-Place.peer) c.args.hold.now c.place.new.hold) c.args.k c.place.ensures.err)
 
 pub returns-in-Keep-clause-ok : goal.returns-in-Keep-clause-ok
-returns-in-Keep-clause-ok c =
-    subst (λ (w : Wants). IfOk c.keep.result (λ g. Gathers c.args.k c.args.at w g c.args.table.now (both c.args.peers.now c.args.items.now) (both c.args.peers.now c.keep.new.items))) (sym c.in-Keep.is)
-    (keeps c.args.k c.args.at c.args.table.now (both c.args.peers.now c.args.items.now) c.in-Keep.v c.keep.new.items c.keep.result c.keep.ensures.ok)
+returns-in-Keep-clause-ok g c =
+    subst (λ (w : Wants). IfOk c.keep.result (λ x. Gathers g.H.Hold.does c.args.k c.args.at w x c.args.hold.now c.keep.new.hold)) (sym c.in-Keep.is)
+    (ok_at c.keep.result (λ k x. Gathers g.H.Hold.does k c.args.at (Keep c.in-Keep.v) x c.args.hold.now c.keep.new.hold) c.args.k c.keep.ensures.ok)
 
-pub returns-in-Keep-clause-left : goal.returns-in-Keep-clause-left
-returns-in-Keep-clause-left c = keeps_left c.args.k c.args.at c.args.table.now (both c.args.peers.now c.args.items.now) c.in-Keep.v c.keep.new.items c.keep.result c.keep.ensures.ok
+pub returns-in-Keep-clause-err : goal.returns-in-Keep-clause-err
+returns-in-Keep-clause-err g c =
+    subst (λ (w : Wants). OnErr c.keep.result (Fails g.H.Hold.does c.args.k c.args.at w c.args.hold.now c.keep.new.hold)) (sym c.in-Keep.is)
+    (err_at c.keep.result (λ k. Fails g.H.Hold.does k c.args.at (Keep c.in-Keep.v) c.args.hold.now c.keep.new.hold) c.args.k c.keep.ensures.err)
 
-pub returns-in-Keep-clause-few : goal.returns-in-Keep-clause-few
-returns-in-Keep-clause-few c = keeps_few c.args.k c.args.at c.args.table.now (both c.args.peers.now c.args.items.now) c.in-Keep.v c.keep.new.items c.keep.result c.keep.ensures.ok
+pub returns-in-Ok-closest-2-clause-ok : goal.returns-in-Ok-closest-2-clause-ok
+returns-in-Ok-closest-2-clause-ok g c =
+    subst (λ (w : Wants). Gathers g.H.Hold.does c.args.k c.args.at w (gained.Item c.in-Ok-get.v c.in-Ok-closest-2.nodes) c.args.hold.now c.closest-in-Ok-get.new.hold) (sym c.in-Item.is)
+    (record { fits = tt; run = (c.get.new.hold, c.in-Ok-get.ensures.ok, (c.closest-in-Ok-get.new.hold, c.in-Ok-closest-2.ensures.ok, refl)) })
+
+pub returns-in-Err-closest-2-clause-err : goal.returns-in-Err-closest-2-clause-err
+returns-in-Err-closest-2-clause-err g c =
+    subst (λ (w : Wants). Fails g.H.Hold.does c.args.k c.args.at w c.args.hold.now c.closest-in-Ok-get.new.hold) (sym c.in-Item.is)
+    (record { did = on_items (Get_call c.in-Item.key c.args.at) (item_reply c.in-Ok-get.v) ∷ on_table (Closest c.in-Item.key c.args.k) NoMemory ∷ []; fails = inr (c.in-Ok-get.v, refl); run = (c.get.new.hold, c.in-Ok-get.ensures.ok, (c.closest-in-Ok-get.new.hold, c.in-Err-closest-2.ensures.err, refl)) })
+
+pub returns-in-Err-get-clause-err : goal.returns-in-Err-get-clause-err
+returns-in-Err-get-clause-err g c =
+    subst (λ (w : Wants). Fails g.H.Hold.does c.args.k c.args.at w c.args.hold.now c.get.new.hold) (sym c.in-Item.is)
+    (record { did = on_items (Get_call c.in-Item.key c.args.at) No_item_memory ∷ []; fails = inl refl; run = (c.get.new.hold, c.in-Err-get.ensures.err, refl) })

@@ -1,7 +1,7 @@
 use Rattle.std.proofs.Common.{◌++◌}
 use Rattle.kad_base.specs.Serial.{left_by}
 use Rattle.serve_crew.proofs.Growing.{last_step}
-use Rattle.serve_crew.proofs.calls.reply_to.Goals as goal
+use Rattle.serve_crew.proofs.worker.reply_to.Goals as goal
 
 pub returns-clause-step : goal.returns-clause-step
 returns-clause-step g c = (

@@ -1,56 +1,47 @@
-//! The answer to a query, by calls at three turns.
+//! The one answer to a query, whoever holds what it asks for.
 ghost use Rattle.std.specs.Prelude.{◌≡◌, ◌≤◌, length, take, IfOk, OnErr};
 ghost use Rattle.kad_base.specs.Limits.{max_answered_tx};
 ghost use Rattle.kad_krpc.specs.Records.{ip_bytes};
 ghost use Rattle.kad_krpc.specs.Views.{ask_seen};
 ghost use Rattle.node_serve.specs.Asked.{IsSaid};
 ghost use Rattle.node_serve.specs.Calls.{IsSetting};
-ghost use Rattle.serve_crew.specs.Hands.{SameHands, hands};
-ghost use Rattle.serve_crew.specs.Serving.{RepliesTo, StopsAt};
+ghost use Rattle.node_serve.specs.Responses.{RepliesTo, StopsAt};
 
-use crate::gather::{gather, tell_asker};
-use contact_table::Table;
-use item_store::Items;
+use crate::asked::{Asked, told_for};
+use crate::composing::compose;
+use crate::gather::{gather, tell};
+use crate::holder::Hold;
+use crate::planning::plan;
+use crate::sealing::seal_reply;
+use crate::setting::ServeSetting;
+use crate::size_bound::write;
 use kad_base::limits::MAX_DATAGRAM;
 use kad_base::{List, NoMemory};
-use node_serve::{Asked, ServeSetting, compose, plan, seal_reply, told_for, write};
-use peer_store::Peers;
 use seal_tags::Seal;
 use std::alloc::Global;
-use std::sync::Wait;
-use turn_book::{Pass, Turn};
 
-/// Answers a query: its reply is written in front of `out`, tagged where the setting is sealed, and has this many bytes.
-pub(crate) fn respond<R: Wait, G: Seal>(
-    rt: &R,
+/// Answers a query: its reply is written in front of `out`, tagged where the setting is sealed, and has this many bytes. It
+/// is made from what its calls were replied, before the table is told who asked. `NoMemory` leaves the calls that were made
+/// before. Reading, writing and tagging take no memory; the parts of the reply do, and an item that is put.
+pub fn respond<H: Hold, G: Seal>(
+    hold: &mut H,
     alloc: Global,
     setting: &ServeSetting,
-    tables: &Turn<Table>,
-    stores: &Turn<Peers>,
-    shelves: &Turn<Items>,
-    table: &mut Pass<Table>,
-    peers: &mut Pass<Peers>,
-    items: &mut Pass<Items>,
     asked: &Asked,
     at: u64,
     seal: &G,
     out: &mut [u8; MAX_DATAGRAM],
 ) -> Result<usize, NoMemory>
+    requires ready { H.ready hold.old }
     requires setting { IsSetting setting.now }
-    requires table { table.old.turn ≡ tables.now.id }
-    requires peers { peers.old.turn ≡ stores.now.id }
-    requires items { items.old.turn ≡ shelves.now.id }
     requires ip { ip_bytes asked.now.from.ip ≡ asked.now.ip }
     requires short { length asked.now.tx.now ≤ max_answered_tx }
     requires said { IsSaid (ask_seen asked.now.ask) }
-    ensures same { SameHands (hands table.old peers.old items.old)
-        (hands table.new peers.new items.new) }
-    ensures ok { IfOk result (λ n. RepliesTo (G.tag_of seal.now) setting.now asked.now at
-        (take n out.new) (hands table.old peers.old items.old)
-        (hands table.new peers.new items.new)) }
+    ensures ready { H.ready hold.new }
+    ensures ok { IfOk result (λ n. RepliesTo H.does (G.tag_of seal.now) setting.now asked.now at
+        (take n out.new) hold.old hold.new) }
     ensures room { IfOk result (λ n. n ≤ 4096) }
-    ensures err { OnErr result (StopsAt setting.now asked.now at
-        (hands table.old peers.old items.old) (hands table.new peers.new items.new)) }
+    ensures err { OnErr result (StopsAt H.does setting.now asked.now at hold.old hold.new) }
 {
     let told = told_for(setting.policy, asked);
     let tx = match List::from_slice(alloc, asked.tx) {
@@ -61,9 +52,7 @@ pub(crate) fn respond<R: Wait, G: Seal>(
         Ok(wants) => wants,
         Err(NoMemory) => return Err(NoMemory),
     };
-    let gained = match gather(
-        rt, tables, stores, shelves, table, peers, items, setting.k, at, wants,
-    ) {
+    let gained = match gather(hold, setting.k, at, wants) {
         Ok(gained) => gained,
         Err(NoMemory) => return Err(NoMemory),
     };
@@ -71,7 +60,7 @@ pub(crate) fn respond<R: Wait, G: Seal>(
         Ok(reply) => reply,
         Err(NoMemory) => return Err(NoMemory),
     };
-    match tell_asker(rt, tables, table, told) {
+    match tell(hold, told) {
         Ok(()) => {
             let length = write(&reply, out);
             Ok(seal_reply(setting, seal, &reply, length, out))
