@@ -111,10 +111,4 @@ pub trait Link {
 pub trait Check {
     fn check(&self, policy: Policy, report: &Report) -> bool
         ensures { IsTrue result ↔ Passes policy report.now };
-
-    /// Whether a check may take long, as one that asks somebody: then the paths of a lookup check at once, each on a
-    /// thread of its own. It decides nothing else.
-    fn takes_long(&self) -> bool {
-        false
-    }
 }
