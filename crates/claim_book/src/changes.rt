@@ -15,7 +15,7 @@ ghost use Rattle.claim_book.specs.Claims.{shown, IsKnown, Keeps};
 ghost use Rattle.claim_book.specs.Index.{IsSettledOnly};
 
 use crate::claim_map::{Claims, learn, mark_asked, mark_ended, mark_taken};
-use crate::path::{Path, ask_one, hear_one, lose_one, pass_one, take_one, widen};
+use crate::path::{Path, ask_one, hear_one, lose_one, settle_one, take_one, widen};
 use crate::state::Book;
 use crate::types::{Cause, Entry};
 use kad_base::{Contact, Id, NoMemory, Report, Reports};
@@ -114,18 +114,18 @@ impl Book {
             &mut self.owed,
             Entry::Turned { path, contact },
         );
-        pass_one(&mut self.paths[path as usize]);
+        settle_one(&mut self.paths[path as usize]);
         self.counts.turned += 1;
     }
 
     /// What stands first on the path is settled, and no more comes of it. Takes no memory.
-    pub(crate) fn pass(&mut self, path: u8, entry: Entry)
+    pub(crate) fn settle_only(&mut self, path: u8, entry: Entry)
         requires fits { Fits self.old.setting self.old.journal entry }
         requires only { IsSettledOnly path entry }
         ensures { self.new ≡ added self.old entry }
     {
         put(&mut self.journal, &mut self.owed, entry);
-        pass_one(&mut self.paths[path as usize]);
+        settle_one(&mut self.paths[path as usize]);
     }
 }
 

@@ -119,7 +119,7 @@ pub(crate) fn lose_one(path: &mut Path, contact: &Contact)
 }
 
 /// What stood first is settled.
-pub(crate) fn pass_one(path: &mut Path)
+pub(crate) fn settle_one(path: &mut Path)
     ensures near { path.new.near ≡ path.old.near }
     ensures fresh { path.new.fresh ≡ path.old.fresh }
     ensures count { path.new.count ≡ path.old.count }
@@ -146,7 +146,7 @@ pub(crate) fn take_one(path: &mut Path, setting: &Setting, contact: &Contact)
     ensures gains { Gains setting.now contact.now path.old path.new }
     ensures queue { path.new.queue.items ≡ drop 1 path.old.queue.items }
 {
-    pass_one(path);
+    settle_one(path);
     add_one(path, setting, contact);
 }
 

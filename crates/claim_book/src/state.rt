@@ -194,7 +194,7 @@ impl Book {
         if !self.is_next(path, &contact) {
             return BookReply::NotFront;
         }
-        self.pass(path, Entry::Note { path, contact });
+        self.settle_only(path, Entry::Note { path, contact });
         BookReply::Kept
     }
 
@@ -215,15 +215,15 @@ impl Book {
                 BookReply::Turned
             }
             BookReply::Held { path: by } => {
-                self.pass(path, Entry::Held { path, contact, by });
+                self.settle_only(path, Entry::Held { path, contact, by });
                 BookReply::Held { path: by }
             }
             BookReply::Rejected => {
-                self.pass(path, Entry::Rejected { path, report });
+                self.settle_only(path, Entry::Rejected { path, report });
                 BookReply::Rejected
             }
             BookReply::Skipped => {
-                self.pass(path, Entry::Skipped { path, report });
+                self.settle_only(path, Entry::Skipped { path, report });
                 BookReply::Skipped
             }
             _ => BookReply::NotFront,

@@ -52,7 +52,7 @@ pub fn setting_for(kind: AskKind, look: &LookWords, random: &[u8; 32]) -> LookSe
 }
 
 /// Tells the table that a contact was seen.
-fn tell_seen(table: &mut Table, contact: &Contact) -> Result<(), NoMemory>
+fn notify_seen(table: &mut Table, contact: &Contact) -> Result<(), NoMemory>
     ensures { OnOk result (IsSeen contact.now table.old table.new) }
 {
     let call = TableCall::Seen { contact: *contact };
@@ -75,7 +75,7 @@ pub fn table_of(
 {
     let mut table = Table::new(alloc, own, k, bits)?;
     for contact in contacts {
-        tell_seen(&mut table, contact)?;
+        notify_seen(&mut table, contact)?;
     }
     Ok(table)
 }

@@ -7,7 +7,7 @@ use Rattle.kad_krpc.specs.declared.message.Message.TheVariants as message
 use Rattle.kad_krpc.specs.declared.message.KrpcFault.{KrpcFault}
 use Rattle.kad_krpc.specs.Fields.{Step}
 use Rattle.kad_krpc.specs.Reading.{Says}
-use Rattle.fake_net.specs.declared.script.Asked.{Asked}
+use Rattle.fake_net.specs.declared.script.SentQuery.{SentQuery}
 use Rattle.fake_net.specs.Scripts.{SaysQuery, IsQuery, query_tx, Asks}
 
 -- bytes that say a message say no other
@@ -28,14 +28,14 @@ pub unkept_only : {A E : Type 0} (r : Result A E) (bytes tx : List ℕ) → Says
 unkept_only (Ok x) bytes tx says = tt
 unkept_only (Err e) bytes tx says = record { tx = tx; says = says }
 
-asks_one : (to : Addr) (bytes tx : List ℕ) (old new : List Asked) → SaysQuery bytes tx → ((t : List ℕ) → SaysQuery bytes t → Some tx ≡ Some t)
+asks_one : (to : Addr) (bytes tx : List ℕ) (old new : List SentQuery) → SaysQuery bytes tx → ((t : List ℕ) → SaysQuery bytes t → Some tx ≡ Some t)
     → new ≡ old ++ record { to = to; tx = tx } ∷ [] → Asks to bytes old new
 asks_one to bytes tx old new says only e = record {
   query = λ t q. (let same : tx ≡ t = (let s = only t q in cc) in e ∙ ap (λ (x : List ℕ). old ++ record { to = to; tx = x } ∷ []) same);
   other = λ not. absurd (not tx says);
 }
 
-pub asks_pushed : {A E : Type 0} (r : Result A E) (to : Addr) (bytes : List ℕ) (query : Option (List ℕ)) (tx : List ℕ) (old new : List Asked) → query ≡ Some tx
+pub asks_pushed : {A E : Type 0} (r : Result A E) (to : Addr) (bytes : List ℕ) (query : Option (List ℕ)) (tx : List ℕ) (old new : List SentQuery) → query ≡ Some tx
     → IfSome query (SaysQuery bytes) → ((t : List ℕ) → SaysQuery bytes t → query ≡ Some t) → OnOk r (new ≡ old ++ record { to = to; tx = tx } ∷ []) → OnOk r (Asks to bytes old new)
 asks_pushed (Ok x) to bytes (Some given) tx old new is says only e =
     let same : given ≡ tx = cc in
@@ -43,6 +43,6 @@ asks_pushed (Ok x) to bytes (Some given) tx old new is says only e =
 asks_pushed (Ok x) to bytes None tx old new is says only e = absurd cc
 asks_pushed (Err x) to bytes query tx old new is says only e = tt
 
-pub asks_none : (to : Addr) (bytes : List ℕ) (query : Option (List ℕ)) (old : List Asked) → query ≡ None → ((t : List ℕ) → SaysQuery bytes t → query ≡ Some t)
+pub asks_none : (to : Addr) (bytes : List ℕ) (query : Option (List ℕ)) (old : List SentQuery) → query ≡ None → ((t : List ℕ) → SaysQuery bytes t → query ≡ Some t)
     → Asks to bytes old old
 asks_none to bytes query old is only = record { query = λ t q. (let e = only t q in absurd cc); other = λ not. refl }

@@ -11,7 +11,7 @@ use Rattle.kad_krpc.specs.declared.message.Message.TheVariants as message
 use Rattle.kad_krpc.specs.declared.message.Ask.{Ask}
 use Rattle.kad_krpc.specs.Reading.{Says}
 use Rattle.kad_krpc.specs.Form.{IsWritable, form}
-use Rattle.fake_net.specs.declared.script.Asked.{Asked}
+use Rattle.fake_net.specs.declared.script.SentQuery.{SentQuery}
 use Rattle.fake_net.specs.declared.script.ScriptEvent.{ScriptEvent}
 use Rattle.fake_net.specs.declared.script.ScriptEvent.TheVariants.{Deliver, ToQuery}
 
@@ -19,7 +19,7 @@ use Rattle.fake_net.specs.declared.script.ScriptEvent.TheVariants.{Deliver, ToQu
 -- many sends and receives were made, which of them fail, what happened, where it is told, and how many failed
 pub record Play : Type 0 where
   pub script : List ScriptEvent
-  pub asked : List Asked
+  pub queries : List SentQuery
   pub moment : ℕ
   pub sends : ℕ
   pub receives : ℕ
@@ -35,7 +35,7 @@ one_more n = min (n + 1) (2 ^ 64 - 1)
 
 -- what sends change is as before
 pub record SameSends (old new : Play) : Type 0 where
-  pub asked : new.asked ≡ old.asked
+  pub queries : new.queries ≡ old.queries
   pub sends : new.sends ≡ old.sends
   pub failing : new.failing_sends ≡ old.failing_sends
   pub faults : new.send_faults ≡ old.send_faults
@@ -67,20 +67,20 @@ query_tx (message.Answer tx answer) = None
 query_tx (message.Fault tx code text) = None
 
 -- where the bytes say a query it is the last one sent; else none was added
-pub record Asks (to : Addr) (bytes : List ℕ) (old new : List Asked) : Type 0 where
+pub record Asks (to : Addr) (bytes : List ℕ) (old new : List SentQuery) : Type 0 where
   pub query : (tx : List ℕ) → SaysQuery bytes tx → new ≡ old ++ record { to = to; tx = tx } ∷ []
   pub other : ((tx : List ℕ) → ¬ SaysQuery bytes tx) → new ≡ old
 
 -- the query at the place is the first that was sent to the address
-pub record IsFirstTo (to : Addr) (asked : List Asked) (place : ℕ) (query : Asked) : Type 0 where
-  pub here : slice_get asked place ≡ Some query
+pub record IsFirstTo (to : Addr) (queries : List SentQuery) (place : ℕ) (query : SentQuery) : Type 0 where
+  pub here : slice_get queries place ≡ Some query
   pub is_to : query.to ≡ to
-  pub before : AllWithin (λ q. q.to ≢ to) asked 0 place
+  pub before : AllWithin (λ q. q.to ≢ to) queries 0 place
 
 -- some query is at the place, and is that first one
-pub record IsFirstAt (to : Addr) (asked : List Asked) (place : ℕ) : Type 0 where
-  pub query : Asked
-  pub first : IsFirstTo to asked place query
+pub record IsFirstAt (to : Addr) (queries : List SentQuery) (place : ℕ) : Type 0 where
+  pub query : SentQuery
+  pub first : IsFirstTo to queries place query
 
 -- ---- the script
 
@@ -95,30 +95,30 @@ moment_of (Deliver at from bytes times) = at
 moment_of (ToQuery to at from m) = at
 
 -- bytes that have times left; an answer, once a query was sent to the address
-abbrev pub IsReady : List Asked → ScriptEvent → Type 0
-IsReady asked (Deliver at from bytes times) = 0 < times
-IsReady asked (ToQuery to at from m) = Any (λ q. q.to ≡ to) asked
+abbrev pub IsReady : List SentQuery → ScriptEvent → Type 0
+IsReady queries (Deliver at from bytes times) = 0 < times
+IsReady queries (ToQuery to at from m) = Any (λ q. q.to ≡ to) queries
 
 -- the event at the place is ready by then; each ready one before it is later, and no ready one is sooner
-pub record IsNext (asked : List Asked) (until : ℕ) (script : List ScriptEvent) (place : ℕ) (event : ScriptEvent) : Type 0 where
+pub record IsNext (queries : List SentQuery) (until : ℕ) (script : List ScriptEvent) (place : ℕ) (event : ScriptEvent) : Type 0 where
   pub here : slice_get script place ≡ Some event
-  pub ready : IsReady asked event
+  pub ready : IsReady queries event
   pub soon : moment_of event ≤ until
-  pub first : AllWithin (λ e. IsReady asked e → moment_of event < moment_of e) script 0 place
-  pub earliest : All (λ e. IsReady asked e → moment_of event ≤ moment_of e) script
+  pub first : AllWithin (λ e. IsReady queries e → moment_of event < moment_of e) script 0 place
+  pub earliest : All (λ e. IsReady queries e → moment_of event ≤ moment_of e) script
 
 -- none is ready by then
-abbrev pub NoneNext : List Asked → ℕ → List ScriptEvent → Type 0
-NoneNext asked until script = All (λ e. IsReady asked e → until < moment_of e) script
+abbrev pub NoneNext : List SentQuery → ℕ → List ScriptEvent → Type 0
+NoneNext queries until script = All (λ e. IsReady queries e → until < moment_of e) script
 
 -- some event is at the place, and is the next by then
-pub record IsNextAt (asked : List Asked) (until : ℕ) (script : List ScriptEvent) (place : ℕ) : Type 0 where
+pub record IsNextAt (queries : List SentQuery) (until : ℕ) (script : List ScriptEvent) (place : ℕ) : Type 0 where
   pub event : ScriptEvent
-  pub next : IsNext asked until script place event
+  pub next : IsNext queries until script place event
 
 -- the place of the next by then, if there is one
-abbrev pub Finds : List Asked → ℕ → List ScriptEvent → Option ℕ → Type 0
-Finds asked until script found = MatchOption found (NoneNext asked until script) (IsNextAt asked until script)
+abbrev pub Finds : List SentQuery → ℕ → List ScriptEvent → Option ℕ → Type 0
+Finds queries until script found = MatchOption found (NoneNext queries until script) (IsNextAt queries until script)
 
 -- the message under another transaction id
 abbrev pub under : List ℕ → Message → Message
@@ -127,16 +127,16 @@ under tx (message.Answer old answer) = message.Answer tx answer
 under tx (message.Fault old code text) = message.Fault tx code text
 
 -- the message, under the transaction id of the first query to the address, is written so
-pub record Answers (asked : List Asked) (to : Addr) (m : Message) (bytes : List ℕ) : Type 0 where
+pub record Answers (queries : List SentQuery) (to : Addr) (m : Message) (bytes : List ℕ) : Type 0 where
   pub place : ℕ
-  pub query : Asked
-  pub first : IsFirstTo to asked place query
+  pub query : SentQuery
+  pub first : IsFirstTo to queries place query
   pub written : bytes ≡ form (under query.tx m)
 
 -- the datagram that an event delivers
-abbrev pub Carries : List Asked → ScriptEvent → Addr → List ℕ → Type 0
-Carries asked (Deliver at sender content times) from bytes = (sender ≡ from) × (bytes ≡ content)
-Carries asked (ToQuery to at sender m) from bytes = (sender ≡ from) × Answers asked to m bytes
+abbrev pub Carries : List SentQuery → ScriptEvent → Addr → List ℕ → Type 0
+Carries queries (Deliver at sender content times) from bytes = (sender ≡ from) × (bytes ≡ content)
+Carries queries (ToQuery to at sender m) from bytes = (sender ≡ from) × Answers queries to m bytes
 
 -- what is left of an event once it has delivered: bytes have one time less, and an answer is given once
 abbrev pub left_of : ScriptEvent → List ScriptEvent
@@ -150,18 +150,18 @@ spent script place event = take place script ++ left_of event ++ drop (place + 1
 -- ---- receives
 
 -- the event's datagram is in front of the buffer, cut to the room
-pub record Puts (asked : List Asked) (event : ScriptEvent) (room : ℕ) (buf : List ℕ) (from : Addr) (len : ℕ) : Type 0 where
+pub record Puts (queries : List SentQuery) (event : ScriptEvent) (room : ℕ) (buf : List ℕ) (from : Addr) (len : ℕ) : Type 0 where
   pub bytes : List ℕ
-  pub carries : Carries asked event from bytes
+  pub carries : Carries queries event from bytes
   pub len_is : len ≡ min (length bytes) room
   pub cut : take len buf ≡ take len bytes
 
 -- a datagram came: that of the next event; the moment is the later of the event's and the last one
-pub record Delivers (asked : List Asked) (script : List ScriptEvent) (moment until room : ℕ) (buf : List ℕ) (after : List ScriptEvent) (from : Addr) (len at : ℕ) : Type 0 where
+pub record Delivers (queries : List SentQuery) (script : List ScriptEvent) (moment until room : ℕ) (buf : List ℕ) (after : List ScriptEvent) (from : Addr) (len at : ℕ) : Type 0 where
   pub place : ℕ
   pub event : ScriptEvent
-  pub next : IsNext asked until script place event
-  pub puts : Puts asked event room buf from len
+  pub next : IsNext queries until script place event
+  pub puts : Puts queries event room buf from len
   pub at_is : at ≡ max (moment_of event) moment
   pub left : after ≡ spent script place event
 
@@ -171,23 +171,23 @@ IsAnswer (Deliver at from bytes times) = ⊥
 IsAnswer (ToQuery to at from m) = Unit {0}
 
 -- the next event has to be written first
-pub record AnswerNext (asked : List Asked) (script : List ScriptEvent) (until : ℕ) : Type 0 where
+pub record AnswerNext (queries : List SentQuery) (script : List ScriptEvent) (until : ℕ) : Type 0 where
   pub place : ℕ
   pub event : ScriptEvent
-  pub next : IsNext asked until script place event
+  pub next : IsNext queries until script place event
   pub is_answer : IsAnswer event
 
 -- none came: no event is ready by then, and the moment is the later of `until` and the last one
-pub record Waits (asked : List Asked) (script : List ScriptEvent) (moment until : ℕ) (after : List ScriptEvent) (at : ℕ) : Type 0 where
-  pub nothing : NoneNext asked until script
+pub record Waits (queries : List SentQuery) (script : List ScriptEvent) (moment until : ℕ) (after : List ScriptEvent) (at : ℕ) : Type 0 where
+  pub nothing : NoneNext queries until script
   pub at_is : at ≡ max until moment
   pub left : after ≡ script
 
 -- what a receive gives, given the queries that were sent, the script, the last moment, the moment to wait until and the
 -- length of the buffer; and the buffer and the script after it
-abbrev pub Receives : List Asked → List ScriptEvent → ℕ → ℕ → ℕ → List ℕ → List ScriptEvent → Came → Type 0
-Receives asked script moment until room buf after (Packet from len at) = Delivers asked script moment until room buf after from len at
-Receives asked script moment until room buf after (Quiet at) = Waits asked script moment until after at
+abbrev pub Receives : List SentQuery → List ScriptEvent → ℕ → ℕ → ℕ → List ℕ → List ScriptEvent → Came → Type 0
+Receives queries script moment until room buf after (Packet from len at) = Delivers queries script moment until room buf after from len at
+Receives queries script moment until room buf after (Quiet at) = Waits queries script moment until after at
 
 -- a datagram fits into the room
 abbrev pub IsWithin : Came → ℕ → Type 0

@@ -4,21 +4,21 @@ ghost use Rattle.kad_base.specs.declared.types.Addr.{Addr};
 ghost use Rattle.kad_base.specs.declared.types.Event.{Event};
 ghost use Rattle.fake_net.specs.Network.{Network};
 ghost use Rattle.fake_net.specs.Plays.{Plays, until_of};
-ghost use Rattle.fake_net.specs.declared.script.Asked.{Asked};
+ghost use Rattle.fake_net.specs.declared.script.SentQuery.{SentQuery};
 ghost use Rattle.fake_net.specs.declared.script.ScriptEvent.{ScriptEvent};
 ghost use Rattle.fake_net.specs.Scripts.{IsNext, NoneNext};
 
 /// One event at most is the next.
 pub fn one_next()
-    ensures { (asked : List Asked) (until : ℕ) (script : List ScriptEvent) (p q : ℕ)
-        (a b : ScriptEvent) → IsNext asked until script p a → IsNext asked until script q b
+    ensures { (queries : List SentQuery) (until : ℕ) (script : List ScriptEvent) (p q : ℕ)
+        (a b : ScriptEvent) → IsNext queries until script p a → IsNext queries until script q b
         → p ≡ q }
 {}
 
 /// Where none is ready by then none is the next.
 pub fn none_next()
-    ensures { (asked : List Asked) (until : ℕ) (script : List ScriptEvent) (p : ℕ) (a : ScriptEvent)
-        → NoneNext asked until script → ¬ IsNext asked until script p a }
+    ensures { (queries : List SentQuery) (until : ℕ) (script : List ScriptEvent) (p : ℕ) (a : ScriptEvent)
+        → NoneNext queries until script → ¬ IsNext queries until script p a }
 {}
 
 /// What a network that is received from with wide room gives to a call follows from the events before: to a receive what

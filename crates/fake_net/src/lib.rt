@@ -14,6 +14,6 @@ mod waiting;
 pub use laws::{none_next, one_course, one_next};
 pub use link::ScriptLink;
 pub use replies::Conduct;
-pub use script::{Asked, Script, ScriptEvent};
+pub use script::{Script, ScriptEvent, SentQuery};
 pub use sim_net::SimNet;
 pub use waiting::Waiting;

@@ -4,7 +4,7 @@ ghost use Rattle.kad_base.specs.declared.types.Event.{Event};
 ghost use Rattle.kad_base.specs.Outside.{Grows, EventOf, Arrives, came_at};
 ghost use Rattle.fake_net.specs.Scripts.{one_more, SameSends, SameReceives, Asks, IsQuery, IsWritableEvent, AnswerNext, Receives};
 
-use crate::script::{Asked, Script, ScriptEvent, ask, come};
+use crate::script::{Script, ScriptEvent, SentQuery, ask, come};
 use crate::telling::{came_at, telling, telling_came, telling_sent, telling_unsent};
 use kad_base::{Addr, Came, Event, Failed, Link, List, NoMemory, Numbers};
 use std::alloc::Global;
@@ -17,7 +17,7 @@ use std::marker::Model;
 pub struct ScriptLink {
     alloc: Global,
     script: Vec<ScriptEvent>,
-    asked: List<Asked>,
+    queries: List<SentQuery>,
     moment: u64,
     sends: u64,
     receives: u64,
@@ -36,7 +36,7 @@ impl Model for ScriptLink {
 
     ghost view = { λ s. record {
       script = s.script.items;
-      asked = s.asked;
+      queries = s.queries;
       moment = s.moment;
       sends = s.sends;
       receives = s.receives;
@@ -73,7 +73,7 @@ impl ScriptLink {
     ) -> ScriptLink
         requires { All IsWritableEvent script }
         ensures script { result.script ≡ script }
-        ensures asked { result.asked ≡ [] }
+        ensures queries { result.queries ≡ [] }
         ensures moment { result.moment ≡ start }
         ensures sends { result.sends ≡ 0 }
         ensures receives { result.receives ≡ 0 }
@@ -86,7 +86,7 @@ impl ScriptLink {
         ScriptLink {
             alloc,
             script: script.into_vec(),
-            asked: List::new(alloc),
+            queries: List::new(alloc),
             moment: start,
             sends: 0,
             receives: 0,
@@ -147,8 +147,8 @@ impl Link for ScriptLink {
             (λ t. t ≡ Event.Sent to bytes.now ∷ [])) }
         ensures unsent { OnErr result (Grows self.old.told self.new.told
             (λ t. t ≡ Event.Unsent to bytes.now ∷ [])) }
-        ensures asked { OnOk result (Asks to bytes.now self.old.asked self.new.asked) }
-        ensures unasked { OnErr result (self.new.asked ≡ self.old.asked) }
+        ensures queries { OnOk result (Asks to bytes.now self.old.queries self.new.queries) }
+        ensures no_query { OnErr result (self.new.queries ≡ self.old.queries) }
         ensures sends { self.new.sends ≡ one_more self.old.sends }
         ensures no_fault { OnOk result (self.new.send_faults ≡ self.old.send_faults) }
         ensures fault { OnErr result (self.new.send_faults ≡ one_more self.old.send_faults) }
@@ -164,7 +164,7 @@ impl Link for ScriptLink {
             self.send_faults = one_more(self.send_faults);
             return Err(Failed);
         }
-        match ask(self.alloc, &mut self.asked, to, bytes) {
+        match ask(self.alloc, &mut self.queries, to, bytes) {
             Ok(()) => {
                 self.told = telling_sent(self.alloc, self.told.take(), to, bytes);
                 Ok(())
@@ -183,8 +183,8 @@ impl Link for ScriptLink {
         ensures fails { Contains self.old.failing_receives self.old.receives → IsErr result }
         // It fails by its number, or where the next event is an answer, whose form needs memory.
         ensures only { OnErr result (Contains self.old.failing_receives self.old.receives
-            ⊎ AnswerNext self.old.asked self.old.script until) }
-        ensures came { IfOk result (Receives self.old.asked self.old.script self.old.moment until
+            ⊎ AnswerNext self.old.queries self.old.script until) }
+        ensures came { IfOk result (Receives self.old.queries self.old.script self.old.moment until
             (length buf.old) buf.new self.new.script) }
         ensures arrives { IfOk result (λ came. Arrives came until self.old.moment
             (length buf.old)) }
@@ -211,7 +211,7 @@ impl Link for ScriptLink {
         match come(
             self.alloc,
             &mut self.script,
-            self.asked.as_slice(),
+            self.queries.as_slice(),
             self.moment,
             buf,
             until,

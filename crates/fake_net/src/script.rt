@@ -35,23 +35,23 @@ pub type Script = List<ScriptEvent>;
 
 /// A query that was sent: where to, and its transaction id.
 #[derive(Debug, Drop, PartialEq, Eq)]
-pub struct Asked {
+pub struct SentQuery {
     pub to: Addr,
     pub tx: Bytes,
 }
 
-fn is_to(query: &Asked, to: &Addr) -> bool
+fn is_to(query: &SentQuery, to: &Addr) -> bool
     ensures { IsTrue result ↔ (query.now.to ≡ to.now) }
 {
     query.to == *to
 }
 
 /// The place of the first query that was sent to the address.
-fn first_to(asked: &[Asked], to: &Addr) -> Option<usize>
-    ensures some { IfSome result (IsFirstAt to.now asked.now) }
-    ensures none { IsNone result ↔ All (λ q. q.to ≢ to.now) asked.now }
+fn first_to(queries: &[SentQuery], to: &Addr) -> Option<usize>
+    ensures some { IfSome result (IsFirstAt to.now queries.now) }
+    ensures none { IsNone result ↔ All (λ q. q.to ≢ to.now) queries.now }
 {
-    for (place, query) in asked.iter().enumerate() {
+    for (place, query) in queries.iter().enumerate() {
         if is_to(query, to) {
             return Some(place);
         }
@@ -68,35 +68,35 @@ fn moment(event: &ScriptEvent) -> u64
     }
 }
 
-fn was_asked(asked: &[Asked], to: &Addr) -> bool
-    ensures { IsTrue result ↔ Any (λ q. q.to ≡ to.now) asked.now }
+fn was_asked(queries: &[SentQuery], to: &Addr) -> bool
+    ensures { IsTrue result ↔ Any (λ q. q.to ≡ to.now) queries.now }
 {
-    asked.iter().any(|query| is_to(query, to))
+    queries.iter().any(|query| is_to(query, to))
 }
 
-fn is_ready(event: &ScriptEvent, asked: &[Asked]) -> bool
-    ensures { IsTrue result ↔ IsReady asked.now event.now }
+fn is_ready(event: &ScriptEvent, queries: &[SentQuery]) -> bool
+    ensures { IsTrue result ↔ IsReady queries.now event.now }
 {
     match event {
         ScriptEvent::Deliver { times, .. } => *times > 0,
-        ScriptEvent::ToQuery { to, .. } => was_asked(asked, to),
+        ScriptEvent::ToQuery { to, .. } => was_asked(queries, to),
     }
 }
 
 /// The next of the first events and of one more.
 fn better(
     script: &[ScriptEvent],
-    asked: &[Asked],
+    queries: &[SentQuery],
     until: u64,
     best: Option<usize>,
     place: usize,
 ) -> Option<usize>
     requires place { place < length script.now }
-    requires best { FindsOf asked.now until script.now place best }
-    ensures { FindsOf asked.now until script.now (place + 1) result }
+    requires best { FindsOf queries.now until script.now place best }
+    ensures { FindsOf queries.now until script.now (place + 1) result }
 {
     let event = &script[place];
-    if !is_ready(event, asked) {
+    if !is_ready(event, queries) {
         return best;
     }
     match best {
@@ -108,12 +108,12 @@ fn better(
 }
 
 /// The place of what comes next at or before `until`.
-fn next(script: &[ScriptEvent], asked: &[Asked], until: u64) -> Option<usize>
-    ensures { Finds asked.now until script.now result }
+fn next(script: &[ScriptEvent], queries: &[SentQuery], until: u64) -> Option<usize>
+    ensures { Finds queries.now until script.now result }
 {
     let mut best = None;
     for place in 0..script.len() {
-        best = better(script, asked, until, best, place);
+        best = better(script, queries, until, best, place);
     }
     best
 }
@@ -231,15 +231,20 @@ fn written_under(alloc: Global, message: &Message, tx: &[u8]) -> Result<Bytes, N
 }
 
 /// The written form of the message under the transaction id of the first query to the address.
-fn written(alloc: Global, asked: &[Asked], to: &Addr, message: &Message) -> Result<Bytes, NoMemory>
-    requires asked { Any (λ q. q.to ≡ to.now) asked.now }
+fn written(
+    alloc: Global,
+    queries: &[SentQuery],
+    to: &Addr,
+    message: &Message,
+) -> Result<Bytes, NoMemory>
+    requires queries { Any (λ q. q.to ≡ to.now) queries.now }
     requires writable { IsWritable message.now }
-    ensures { IfOk result (Answers asked.now to.now message.now) }
+    ensures { IfOk result (Answers queries.now to.now message.now) }
 {
-    let Some(place) = first_to(asked, to) else {
+    let Some(place) = first_to(queries, to) else {
         unreachable!();
     };
-    written_under(alloc, message, asked[place].tx.as_slice())
+    written_under(alloc, message, queries[place].tx.as_slice())
 }
 
 /// Puts the bytes in front of the buffer, as many as there is room for.
@@ -257,12 +262,12 @@ pub(crate) fn fill(buf: &mut [u8], bytes: &[u8]) -> usize
 fn deliver(
     alloc: Global,
     event: &ScriptEvent,
-    asked: &[Asked],
+    queries: &[SentQuery],
     buf: &mut [u8],
 ) -> Result<(Addr, usize), NoMemory>
-    requires ready { IsReady asked.now event.now }
+    requires ready { IsReady queries.now event.now }
     requires writable { IsWritableEvent event.now }
-    ensures ok { IfOk result (λ given. Puts asked.now event.now
+    ensures ok { IfOk result (λ given. Puts queries.now event.now
         (length buf.old) buf.new given.0 given.1) }
     ensures err { OnErr result (buf.new ≡ buf.old) }
     ensures only { OnErr result (IsAnswer event.now) }
@@ -276,7 +281,7 @@ fn deliver(
             message,
             ..
         } => {
-            let bytes = written(alloc, asked, to, message)?;
+            let bytes = written(alloc, queries, to, message)?;
             Ok((*from, fill(buf, bytes.as_slice())))
         }
     }
@@ -312,25 +317,25 @@ fn spend(script: &mut Vec<ScriptEvent>, place: usize)
 pub(crate) fn come(
     alloc: Global,
     script: &mut Vec<ScriptEvent>,
-    asked: &[Asked],
+    queries: &[SentQuery],
     moment_before: u64,
     buf: &mut [u8],
     until: u64,
 ) -> Result<Came, NoMemory>
     requires { All IsWritableEvent script.old.items }
-    ensures ok { IfOk result (Receives asked.now script.old.items moment_before until
+    ensures ok { IfOk result (Receives queries.now script.old.items moment_before until
         (length buf.old) buf.new script.new.items) }
     ensures err { OnErr result (script.new.items ≡ script.old.items) }
     ensures kept { OnErr result (buf.new ≡ buf.old) }
-    ensures only { OnErr result (AnswerNext asked.now script.old.items until) }
+    ensures only { OnErr result (AnswerNext queries.now script.old.items until) }
     ensures writable { All IsWritableEvent script.new.items }
 {
-    let Some(place) = next(script.as_slice(), asked, until) else {
+    let Some(place) = next(script.as_slice(), queries, until) else {
         return Ok(Came::Quiet {
             at: until.max(moment_before),
         });
     };
-    let (from, len) = deliver(alloc, &script[place], asked, buf)?;
+    let (from, len) = deliver(alloc, &script[place], queries, buf)?;
     let at = moment(&script[place]).max(moment_before);
     spend(script, place);
     Ok(Came::Packet { from, len, at })
@@ -361,25 +366,25 @@ fn query_in(bytes: &[u8]) -> Option<&[u8]>
 /// Keeps the query that the bytes say, if they say one. Takes memory for it alone.
 pub(crate) fn ask(
     alloc: Global,
-    asked: &mut List<Asked>,
+    queries: &mut List<SentQuery>,
     to: Addr,
     bytes: &[u8],
 ) -> Result<(), NoMemory>
-    ensures ok { OnOk result (Asks to bytes.now asked.old asked.new) }
-    ensures err { OnErr result (asked.new ≡ asked.old) }
+    ensures ok { OnOk result (Asks to bytes.now queries.old queries.new) }
+    ensures err { OnErr result (queries.new ≡ queries.old) }
     ensures only { OnErr result (IsQuery bytes.now) }
 {
     match query_in(bytes) {
-        Some(tx) => keep(alloc, asked, to, tx),
+        Some(tx) => keep(alloc, queries, to, tx),
         None => Ok(()),
     }
 }
 
 /// Keeps a query behind the others.
-fn keep(alloc: Global, asked: &mut List<Asked>, to: Addr, tx: &[u8]) -> Result<(), NoMemory>
-    ensures ok { OnOk result (asked.new ≡ asked.old ++ record { to = to; tx = tx.now } ∷ []) }
-    ensures err { OnErr result (asked.new ≡ asked.old) }
+fn keep(alloc: Global, queries: &mut List<SentQuery>, to: Addr, tx: &[u8]) -> Result<(), NoMemory>
+    ensures ok { OnOk result (queries.new ≡ queries.old ++ record { to = to; tx = tx.now } ∷ []) }
+    ensures err { OnErr result (queries.new ≡ queries.old) }
 {
     let tx = List::from_slice(alloc, tx)?;
-    asked.push(Asked { to, tx })
+    queries.push(SentQuery { to, tx })
 }

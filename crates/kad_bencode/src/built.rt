@@ -6,28 +6,28 @@ ghost use Rattle.kad_bencode.specs.Spelling.{Spells, depth_of, is_i64, text_of};
 use crate::value::Value;
 
 /// An integer is one of 64 bits with a sign.
-fn tell_integer(number: &i64)
+fn law_integer(number: &i64)
     ensures { is_i64 number.now ≡ true }
 {
     let _number = *number;
 }
 
 /// Each integer has 64 bits, and each dictionary's keys ascend.
-fn tell_built(value: &Value)
+fn law_built(value: &Value)
     requires { depth_of value.now ≤ 16 }
     ensures { IsWellBuilt value.now }
 {
     match value {
-        Value::Int(number) => tell_integer(number),
+        Value::Int(number) => law_integer(number),
         Value::Text(_) => {}
         Value::List(values) => {
             'values: for item in values.as_slice() {
-                tell_built(item);
+                law_built(item);
             }
         }
         Value::Dict(entries) => {
             'pairs: for pair in entries.as_slice() {
-                tell_built(&pair.value);
+                law_built(&pair.value);
             }
         }
     }
@@ -39,5 +39,5 @@ pub fn built_is_spelled(value: &Value)
     requires { depth_of value.now ≤ 16 }
     ensures { Spells (text_of value.now) value.now }
 {
-    tell_built(value);
+    law_built(value);
 }

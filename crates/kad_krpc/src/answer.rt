@@ -13,10 +13,10 @@ use crate::fields::{
 use crate::members::{keys, members};
 use crate::message::{Answer, Key, KrpcFault};
 use crate::owned::{maybe_form, maybe_peers, maybe_records, maybe_text};
-use crate::well_typed::{tell_nodes, tell_snodes, tell_values};
+use crate::well_typed::{law_nodes, law_snodes, law_values};
 use kad_base::{Id, NoMemory};
 use kad_bencode::{Items, Piece, put_part};
-use kad_records::{Node, Node6, Proved, Proved6, Records, tell_id};
+use kad_records::{Node, Node6, Proved, Proved6, Records, law_id};
 use std::alloc::Global;
 
 /// What an answer gives, as `Answer` does. Of `values` those that are no strings of 6 or 18 bytes are still among them.
@@ -124,13 +124,13 @@ pub fn own_answer(alloc: Global, answer: AnswerView) -> Result<Answer, NoMemory>
 }
 
 /// The parts of an answer are as long as their types say.
-pub(crate) fn tell_answer(answer: &Answer)
+pub(crate) fn law_answer(answer: &Answer)
     ensures { IsWellAnswer answer.now }
 {
-    tell_id(&answer.id);
-    tell_nodes(&answer.nodes);
-    tell_snodes(&answer.snodes);
-    tell_nodes(&answer.nodes6);
-    tell_snodes(&answer.snodes6);
-    tell_values(&answer.values);
+    law_id(&answer.id);
+    law_nodes(&answer.nodes);
+    law_snodes(&answer.snodes);
+    law_nodes(&answer.nodes6);
+    law_snodes(&answer.snodes6);
+    law_values(&answer.values);
 }

@@ -16,7 +16,7 @@ use crate::members::{keys, members};
 use crate::message::{Ask, Key, KrpcFault, Method, Port, Want};
 use kad_base::{Id, List, NoMemory};
 use kad_bencode::{Piece, put_part};
-use kad_records::tell_id;
+use kad_records::law_id;
 use std::alloc::Global;
 
 /// What a query asks, as `Ask` does.
@@ -478,7 +478,7 @@ pub(crate) fn own_ask(alloc: Global, ask: AskView) -> Result<Ask, NoMemory>
     }
 }
 
-fn tell_port(port: &Port)
+fn law_port(port: &Port)
     ensures { IsWellPort port.now }
 {
     match port {
@@ -489,33 +489,33 @@ fn tell_port(port: &Port)
     }
 }
 
-fn tell_two(a: &Id, b: &Id)
+fn law_two(a: &Id, b: &Id)
     ensures a { IsWellId a.now }
     ensures b { IsWellId b.now }
 {
-    tell_id(a);
-    tell_id(b);
+    law_id(a);
+    law_id(b);
 }
 
 /// The parts of what a query asks are as long as their types say.
-pub(crate) fn tell_ask(ask: &Ask)
+pub(crate) fn law_ask(ask: &Ask)
     ensures { IsWellAsk ask.now }
 {
     match ask {
-        Ask::Ping { id } => tell_id(id),
-        Ask::FindNode { id, target, .. } => tell_two(id, target),
-        Ask::GetPeers { id, info_hash, .. } => tell_two(id, info_hash),
+        Ask::Ping { id } => law_id(id),
+        Ask::FindNode { id, target, .. } => law_two(id, target),
+        Ask::GetPeers { id, info_hash, .. } => law_two(id, info_hash),
         Ask::AnnouncePeer {
             id,
             info_hash,
             port,
             ..
         } => {
-            tell_two(id, info_hash);
-            tell_port(port);
+            law_two(id, info_hash);
+            law_port(port);
         }
-        Ask::Get { id, target, .. } => tell_two(id, target),
-        Ask::Put { id, .. } => tell_id(id),
+        Ask::Get { id, target, .. } => law_two(id, target),
+        Ask::Put { id, .. } => law_id(id),
         Ask::Other { .. } => {}
     }
 }

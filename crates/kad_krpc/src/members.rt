@@ -51,7 +51,7 @@ pub(crate) trait Slots<'a>: Drop {
             → filled self.old (before (behind key.now value.now) look) end };
 
     /// Where no pair is left to look at, the slots stay as they are. The call changes nothing.
-    fn tell_done(&self)
+    fn law_done(&self)
         ensures { filled self.now (λ key. None) self.now };
 }
 
@@ -66,7 +66,7 @@ impl<'a> Slots<'a> for End {
     fn keep(&mut self, _key: &[u8], _value: &Piece<'a>) {}
 
     #[inline(always)]
-    fn tell_done(&self) {}
+    fn law_done(&self) {}
 }
 
 /// The slot of a key, in front of others.
@@ -91,8 +91,8 @@ impl<'a, R: Slots<'a>> Slots<'a> for Slot<'a, R> {
     }
 
     #[inline(always)]
-    fn tell_done(&self) {
-        self.rest.tell_done();
+    fn law_done(&self) {
+        self.rest.law_done();
     }
 }
 
@@ -138,7 +138,7 @@ fn gather<'a, S: Slots<'a>>(mut pairs: Pairs<'a>, slots: S) -> S
     while let Some((key, value)) = pairs.next() {
         filled.keep(key, &value);
     }
-    filled.tell_done();
+    filled.law_done();
     filled
 }
 
@@ -150,7 +150,7 @@ pub(crate) fn members<'a, S: Slots<'a>>(value: &Piece<'a>, slots: S) -> S
     match value.pairs() {
         Some(pairs) => gather(pairs, slots),
         None => {
-            slots.tell_done();
+            slots.law_done();
             slots
         }
     }

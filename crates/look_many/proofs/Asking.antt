@@ -30,7 +30,7 @@ use Rattle.lookup_core.proofs.Opens.{opens_kept, each_asked, asker_new}
 use Rattle.node_serve.specs.declared.setting.ServeSetting.{ServeSetting}
 use Rattle.node_serve.specs.Sealing.{Tags}
 use Rattle.look_many.specs.declared.seeker.Seeker.{Seeker}
-use Rattle.look_many.specs.declared.seeker.Line.{Line}
+use Rattle.look_many.specs.declared.seeker.Progress.{Progress}
 use Rattle.look_many.specs.Mine.{Mine, driven, gives, SentGives, UnsentGives}
 use Rattle.look_many.specs.Many.{Frame, Reading, owned_by, and_then, OneMoves, Gives}
 use Rattle.look_many.specs.inner.Crowd.{whose, Holding, Longer, KeepsMine, framed, ManyShow, IsFrame}
@@ -132,18 +132,18 @@ moves_on G (suc i) (x ∷ ks) d new (m ∷ ms) h k lt step =
     record { each = m ∷ rest.each; moves = (refl, rest.moves); keeps = (k.0, rest.keeps); longer = (same_longer x, rest.longer) }
 
 -- of all lookups' queries it is the next
-owned : (f : Frame) (count place i : ℕ) (read : Reading) (old new : List Seeker) (line : Line) (e : Event) (es : List Event) (h : ManyShow true f count old line place None read es) (G : Quest → Mine → Mine → Type 0) (moved : MovesOn G i old new h.end.each)
-    → Gives (framed true f) (map whose new) h.end e (owned_by i) (record h.end { sends = h.end.sends + 1; each = moved.each }) → ManyShow true f count new line (place + 1) None (and_then read (owned_by i)) (es ++ e ∷ [])
-owned f count place i read old new line e es h G moved gives_it =
-    let st = h.keeps_line in
-    shows_more true f count place (place + 1) None None read (owned_by i) old new line line e es h (record h.end { sends = h.end.sends + 1; each = moved.each }) moved.longer (λ idle. absurd cc) gives_it
+owned : (f : Frame) (count place i : ℕ) (read : Reading) (old new : List Seeker) (progress : Progress) (e : Event) (es : List Event) (h : ManyShow true f count old progress place None read es) (G : Quest → Mine → Mine → Type 0) (moved : MovesOn G i old new h.end.each)
+    → Gives (framed true f) (map whose new) h.end e (owned_by i) (record h.end { sends = h.end.sends + 1; each = moved.each }) → ManyShow true f count new progress (place + 1) None (and_then read (owned_by i)) (es ++ e ∷ [])
+owned f count place i read old new progress e es h G moved gives_it =
+    let st = h.keeps_progress in
+    shows_more true f count place (place + 1) None None read (owned_by i) old new progress progress e es h (record h.end { sends = h.end.sends + 1; each = moved.each }) moved.longer (λ idle. absurd cc) gives_it
     (record { moment = st.moment; sends = (let e = st.sends in omega (arith, e)); got = st.got; foreign = st.foreign; replied = st.replied; receives = st.receives; left = st.left; owed_is = st.owed_is }) moved.keeps
 
-module _ (f : Frame) (count place i path : ℕ) (read : Reading) (old : List Seeker) (d new : Seeker) (line : Line) (asked : Asked) (es : List Event) where
-  sent_on : AllByRecursion Holding old → i < length old → new.quest ≡ (get_or old i d).quest → AsksNext (word f.seed place) (deadline_of line.moment (get_or old i d).quest.timeout) path (get_or old i d).lookup new.lookup asked → ManyShow true f count old line place None read es
-      → ManyShow true f count (set old i new) line (place + 1) None (and_then read (owned_by i)) (es ++ Sent asked.contact.addr (query_bytes (get_or old i d) asked.tx) ∷ [])
+module _ (f : Frame) (count place i path : ℕ) (read : Reading) (old : List Seeker) (d new : Seeker) (progress : Progress) (asked : Asked) (es : List Event) where
+  sent_on : AllByRecursion Holding old → i < length old → new.quest ≡ (get_or old i d).quest → AsksNext (word f.seed place) (deadline_of progress.moment (get_or old i d).quest.timeout) path (get_or old i d).lookup new.lookup asked → ManyShow true f count old progress place None read es
+      → ManyShow true f count (set old i new) progress (place + 1) None (and_then read (owned_by i)) (es ++ Sent asked.contact.addr (query_bytes (get_or old i d) asked.tx) ∷ [])
   sent_on holds lt quest a h =
-      let st = h.keeps_line in
+      let st = h.keeps_progress in
       let s = h.end in
       let one = get_or old i d in
       let to = asked.contact.addr in
@@ -155,36 +155,36 @@ module _ (f : Frame) (count place i path : ℕ) (read : Reading) (old : List See
       let x = sent_step drawn (deadline_of s.moment one.quest.timeout) path one new asked m quest hm km a' in
       record { after = x.after; step = subst (λ (q : Quest). SentGives new.quest drawn (deadline_of s.moment q.timeout) m to bytes x.after) (sym quest) x.step; keeps = x.keeps; longer = x.longer }) in
       let moved = moves_on G i old d new s.each holds h.keeps_each lt step in
-      owned f count place i read old (set old i new) line (Sent to bytes) es h G moved (inl (record { owner = i; owns = refl; none_owed = st.owed_is; each = moved.each; moves = moved.moves; after = refl }))
+      owned f count place i read old (set old i new) progress (Sent to bytes) es h G moved (inl (record { owner = i; owns = refl; none_owed = st.owed_is; each = moved.each; moves = moved.moves; after = refl }))
 
-  unsent_on : (mid : Lookup) → AllByRecursion Holding old → i < length old → new.quest ≡ (get_or old i d).quest → AsksNext (word f.seed place) (deadline_of line.moment (get_or old i d).quest.timeout) path (get_or old i d).lookup mid asked → new.lookup.queries ≡ (get_or old i d).lookup.queries
-      → new.lookup.book ≡ added mid.book (Lost (asker asked.contact mid.book.journal) asked.contact SendFault) → ManyShow true f count old line place None read es
-      → ManyShow true f count (set old i new) line (place + 1) None (and_then read (owned_by i)) (es ++ Unsent asked.contact.addr (query_bytes (get_or old i d) asked.tx) ∷ [])
+  unsent_on : (mid : Lookup) → AllByRecursion Holding old → i < length old → new.quest ≡ (get_or old i d).quest → AsksNext (word f.seed place) (deadline_of progress.moment (get_or old i d).quest.timeout) path (get_or old i d).lookup mid asked → new.lookup.queries ≡ (get_or old i d).lookup.queries
+      → new.lookup.book ≡ added mid.book (Lost (asker asked.contact mid.book.journal) asked.contact SendFault) → ManyShow true f count old progress place None read es
+      → ManyShow true f count (set old i new) progress (place + 1) None (and_then read (owned_by i)) (es ++ Unsent asked.contact.addr (query_bytes (get_or old i d) asked.tx) ∷ [])
   unsent_on mid holds lt quest a queries book h =
-      let st = h.keeps_line in
+      let st = h.keeps_progress in
       let s = h.end in
       let one = get_or old i d in
       let to = asked.contact.addr in
       let bytes = query_bytes one asked.tx in
       let drawn = word f.seed (f.place + s.sends) in
-      let a' : AsksNext drawn (deadline_of line.moment one.quest.timeout) path one.lookup mid asked = subst (λ n. AsksNext (word f.seed n) (deadline_of line.moment one.quest.timeout) path one.lookup mid asked) (sym st.sends) a in
+      let a' : AsksNext drawn (deadline_of progress.moment one.quest.timeout) path one.lookup mid asked = subst (λ n. AsksNext (word f.seed n) (deadline_of progress.moment one.quest.timeout) path one.lookup mid asked) (sym st.sends) a in
       let G = λ (q : Quest) (m n : Mine). UnsentGives q drawn m to bytes n in
-      let moved = moves_on G i old d new s.each holds h.keeps_each lt (λ m hm km. unsent_step drawn (deadline_of line.moment one.quest.timeout) path one new mid asked m quest hm km a' queries book) in
-      owned f count place i read old (set old i new) line (Unsent to bytes) es h G moved (inl (record { owner = i; owns = refl; none_owed = st.owed_is; each = moved.each; moves = moved.moves; after = refl }))
+      let moved = moves_on G i old d new s.each holds h.keeps_each lt (λ m hm km. unsent_step drawn (deadline_of progress.moment one.quest.timeout) path one new mid asked m quest hm km a' queries book) in
+      owned f count place i read old (set old i new) progress (Unsent to bytes) es h G moved (inl (record { owner = i; owns = refl; none_owed = st.owed_is; each = moved.each; moves = moved.moves; after = refl }))
 
 -- whatever was told since any beginning
-pub ask_goes : (accepts : Accepts) (tags : Tags) (server : ServeSetting) (i path : ℕ) (words words' : WordsState) (old : List Seeker) (d new : Seeker) (line : Line) (told told' : Option (List Event)) → AllByRecursion Holding old → i < length old → new.quest ≡ (get_or old i d).quest → words' ≡ record words { place = words.place + 1 }
-    → AsksOver line.moment words path (get_or old i d) new told told' → (f : Frame) (count : ℕ) (read : Reading) (began : Option (List Event)) → IsFrame accepts tags server words.seed f
-    → Grows began told (λ events. ManyShow true f count old line words.place None read events) → Grows began told' (λ events. ManyShow true f count (set old i new) line words'.place None (and_then read (owned_by i)) events)
-ask_goes accepts tags server i path words words' old d new line told told' holds lt quest next (is_sent asked a grows) f count read began is h =
+pub ask_goes : (accepts : Accepts) (tags : Tags) (server : ServeSetting) (i path : ℕ) (words words' : WordsState) (old : List Seeker) (d new : Seeker) (progress : Progress) (told told' : Option (List Event)) → AllByRecursion Holding old → i < length old → new.quest ≡ (get_or old i d).quest → words' ≡ record words { place = words.place + 1 }
+    → AsksOver progress.moment words path (get_or old i d) new told told' → (f : Frame) (count : ℕ) (read : Reading) (began : Option (List Event)) → IsFrame accepts tags server words.seed f
+    → Grows began told (λ events. ManyShow true f count old progress words.place None read events) → Grows began told' (λ events. ManyShow true f count (set old i new) progress words'.place None (and_then read (owned_by i)) events)
+ask_goes accepts tags server i path words words' old d new progress told told' holds lt quest next (is_sent asked a grows) f count read began is h =
     let one = get_or old i d in
     grows_then began told told' _ _ _ h grows (λ es fs shows e.
-    subst (λ n. ManyShow true f count (set old i new) line n None (and_then read (owned_by i)) (es ++ fs)) (sym (ap (λ (w : WordsState). w.place) next))
-    (subst (λ l. ManyShow true f count (set old i new) line (words.place + 1) None (and_then read (owned_by i)) (es ++ l)) (sym e)
-    (sent_on f count words.place i path read old d new line asked es holds lt quest (subst (λ b. AsksNext (word b words.place) (deadline_of line.moment one.quest.timeout) path one.lookup new.lookup asked) (sym is.seed_is) a) shows)))
-ask_goes accepts tags server i path words words' old d new line told told' holds lt quest next (is_unsent asked mid a queries book grows) f count read began is h =
+    subst (λ n. ManyShow true f count (set old i new) progress n None (and_then read (owned_by i)) (es ++ fs)) (sym (ap (λ (w : WordsState). w.place) next))
+    (subst (λ l. ManyShow true f count (set old i new) progress (words.place + 1) None (and_then read (owned_by i)) (es ++ l)) (sym e)
+    (sent_on f count words.place i path read old d new progress asked es holds lt quest (subst (λ b. AsksNext (word b words.place) (deadline_of progress.moment one.quest.timeout) path one.lookup new.lookup asked) (sym is.seed_is) a) shows)))
+ask_goes accepts tags server i path words words' old d new progress told told' holds lt quest next (is_unsent asked mid a queries book grows) f count read began is h =
     let one = get_or old i d in
     grows_then began told told' _ _ _ h grows (λ es fs shows e.
-    subst (λ n. ManyShow true f count (set old i new) line n None (and_then read (owned_by i)) (es ++ fs)) (sym (ap (λ (w : WordsState). w.place) next))
-    (subst (λ l. ManyShow true f count (set old i new) line (words.place + 1) None (and_then read (owned_by i)) (es ++ l)) (sym e)
-    (unsent_on f count words.place i path read old d new line asked es mid holds lt quest (subst (λ b. AsksNext (word b words.place) (deadline_of line.moment one.quest.timeout) path one.lookup mid asked) (sym is.seed_is) a) queries book shows)))
+    subst (λ n. ManyShow true f count (set old i new) progress n None (and_then read (owned_by i)) (es ++ fs)) (sym (ap (λ (w : WordsState). w.place) next))
+    (subst (λ l. ManyShow true f count (set old i new) progress (words.place + 1) None (and_then read (owned_by i)) (es ++ l)) (sym e)
+    (unsent_on f count words.place i path read old d new progress asked es mid holds lt quest (subst (λ b. AsksNext (word b words.place) (deadline_of progress.moment one.quest.timeout) path one.lookup mid asked) (sym is.seed_is) a) queries book shows)))

@@ -30,7 +30,7 @@ use Rattle.node_serve.specs.Sealing.{Tags}
 use Rattle.serve_crew.specs.Hands.{Hands}
 use Rattle.serve_crew.proofs.Growing.{same_none}
 use Rattle.look_many.specs.declared.seeker.Seeker.{Seeker}
-use Rattle.look_many.specs.declared.seeker.Line.{Line}
+use Rattle.look_many.specs.declared.seeker.Progress.{Progress}
 use Rattle.look_many.specs.Many.{nothing_read, owned_by, and_then}
 use Rattle.look_many.specs.Mine.{driven}
 use Rattle.look_many.specs.inner.Crowd.{Holding, NoneAsks, NothingLeft, Longer, DrivenOn, SameSeat, asks_of, queries_of, ManyShow, stand}
@@ -187,9 +187,9 @@ few_all moment [] h = omega arith
 few_all moment (k ∷ ks) h = (let one = h.0.few_asks in let rest = few_all moment ks h.1 in omega (arith, one, rest))
 
 -- it can be asked for more
-pub can_ask : (ks : List Seeker) (i : ℕ) (d : Seeker) (line : Line) (words : WordsState) → MayAskAll ks line words → i < length ks → CanAsk (get_or ks i d).quest line.moment words (get_or ks i d).lookup
-can_ask ks i d line words may lt =
-    let r = all_at (IsReady line.moment) ks i d may.ready lt in
+pub can_ask : (ks : List Seeker) (i : ℕ) (d : Seeker) (progress : Progress) (words : WordsState) → MayAskAll ks progress words → i < length ks → CanAsk (get_or ks i d).quest progress.moment words (get_or ks i d).lookup
+can_ask ks i d progress words may lt =
+    let r = all_at (IsReady progress.moment) ks i d may.ready lt in
     let has = may.has_words in
     let few = may.counted.asks in
     record {
@@ -233,8 +233,8 @@ none_lookup moment zero (k ∷ ks) r h = ((λ q lt. h q (let few = r.0.few_paths
 none_lookup moment (suc i) (k ∷ ks) r h = (h.0, none_lookup moment i ks r.1 h.1)
 
 -- nor may the next lookup
-pub none_next : (i : ℕ) (ks : List Seeker) (line : Line) (words : WordsState) → MayAskAll ks line words → NoneBefore i max_paths ks → NoneBefore (i + 1) 0 ks
-none_next i ks line words may h = (let is : suc i ≡ i + 1 = omega arith in subst (λ n. NoneBefore n 0 ks) is (none_lookup line.moment i ks may.ready h))
+pub none_next : (i : ℕ) (ks : List Seeker) (progress : Progress) (words : WordsState) → MayAskAll ks progress words → NoneBefore i max_paths ks → NoneBefore (i + 1) 0 ks
+none_next i ks progress words may h = (let is : suc i ≡ i + 1 = omega arith in subst (λ n. NoneBefore n 0 ks) is (none_lookup progress.moment i ks may.ready h))
 
 -- none of all may
 pub none_all : (i : ℕ) (ks : List Seeker) → length ks ≤ i → NoneBefore i 0 ks → AllByRecursion NoneAsks ks
@@ -245,24 +245,24 @@ none_all (suc i) (k ∷ ks) le h = (h.0, none_all i ks (omega (arith, le)) h.1)
 -- ---- one ask of all
 
 -- what it leaves of all
-pub record LeavesAll (i p : ℕ) (ks : List Seeker) (new : Seeker) (line : Line) (words' : WordsState) : Type 0 where
-  pub may : MayAskAll (set ks i new) line words'
+pub record LeavesAll (i p : ℕ) (ks : List Seeker) (new : Seeker) (progress : Progress) (words' : WordsState) : Type 0 where
+  pub may : MayAskAll (set ks i new) progress words'
   pub none : NoneBefore i p (set ks i new)
   pub one : asks_of (set ks i new) ≡ asks_of ks + 1
   pub longer : AllZip Longer ks (set ks i new)
   pub driven_on : AllZip DrivenOn ks (set ks i new)
   pub seats : AllZip SameSeat ks (set ks i new)
 
-pub leaves_all : (i p : ℕ) (words words' : WordsState) (ks : List Seeker) (d new : Seeker) (line : Line) (told told' : Option (List Event)) → MayAskAll ks line words → NoneBefore i p ks → i < length ks → new.quest ≡ (get_or ks i d).quest → SameSeat (get_or ks i d) new → Holding new
-    → words' ≡ record words { place = words.place + 1 } → AsksOver line.moment words p (get_or ks i d) new told told' → LeavesAll i p ks new line words'
-leaves_all i p words words' ks d new line told told' may none lt quest seat holds next over =
+pub leaves_all : (i p : ℕ) (words words' : WordsState) (ks : List Seeker) (d new : Seeker) (progress : Progress) (told told' : Option (List Event)) → MayAskAll ks progress words → NoneBefore i p ks → i < length ks → new.quest ≡ (get_or ks i d).quest → SameSeat (get_or ks i d) new → Holding new
+    → words' ≡ record words { place = words.place + 1 } → AsksOver progress.moment words p (get_or ks i d) new told told' → LeavesAll i p ks new progress words'
+leaves_all i p words words' ks d new progress told told' may none lt quest seat holds next over =
     let k = get_or ks i d in
-    let x = leaves line.moment p words k new told told' quest (all_at (IsReady line.moment) ks i d may.ready lt) (all_at NothingLeft ks i d may.settled lt) over in
+    let x = leaves progress.moment p words k new told told' quest (all_at (IsReady progress.moment) ks i d may.ready lt) (all_at NothingLeft ks i d may.settled lt) over in
     let one = asks_set ks i d new lt x.one in
     let opens = queries_set ks i d new lt x.open_more in
-    let ready = all_set (IsReady line.moment) ks i new may.ready x.ready in
+    let ready = all_set (IsReady progress.moment) ks i new may.ready x.ready in
     let few : length (set ks i new) ≤ 16 = subst (λ n. n ≤ 16) (sym (length-set ks i new)) may.few in
-    let all = few_all line.moment (set ks i new) ready in
+    let all = few_all progress.moment (set ks i new) ready in
     let place : words'.place ≡ words.place + 1 = ap (λ (w : WordsState). w.place) next in
     record {
       may = record {
@@ -284,16 +284,16 @@ leaves_all i p words words' ks d new line told told' may none lt quest seat hold
       seats = zip_set SameSeat (λ k. refl) ks i d new seat;
     }
 
-pub asks_one : (accepts : Accepts) (tags : Tags) (server : ServeSetting) (host : Hands) (i p : ℕ) (words words' : WordsState) (ks : List Seeker) (d new : Seeker) (line : Line) (told told' : Option (List Event)) → MayAskAll ks line words → NoneBefore i p ks → i < length ks → new.quest ≡ (get_or ks i d).quest → SameSeat (get_or ks i d) new → Holding new
-    → words' ≡ record words { place = words.place + 1 } → AsksOver line.moment words p (get_or ks i d) new told told' → AsksAll accepts tags server (stand ks line words host told) (stand (set ks i new) line words' host told') [] (i ∷ [])
-asks_one accepts tags server host i p words words' ks d new line told told' may none lt quest seat holds next over =
-    let x = leaves_all i p words words' ks d new line told told' may none lt quest seat holds next over in
+pub asks_one : (accepts : Accepts) (tags : Tags) (server : ServeSetting) (host : Hands) (i p : ℕ) (words words' : WordsState) (ks : List Seeker) (d new : Seeker) (progress : Progress) (told told' : Option (List Event)) → MayAskAll ks progress words → NoneBefore i p ks → i < length ks → new.quest ≡ (get_or ks i d).quest → SameSeat (get_or ks i d) new → Holding new
+    → words' ≡ record words { place = words.place + 1 } → AsksOver progress.moment words p (get_or ks i d) new told told' → AsksAll accepts tags server (stand ks progress words host told) (stand (set ks i new) progress words' host told') [] (i ∷ [])
+asks_one accepts tags server host i p words words' ks d new progress told told' may none lt quest seat holds next over =
+    let x = leaves_all i p words words' ks d new progress told told' may none lt quest seat holds next over in
     record {
       made = i ∷ [];
       advances = record {
         more = owned_by i;
         owners_are = refl;
-        goes = ask_goes accepts tags server i p words words' ks d new line told told' may.holds lt quest next over;
+        goes = ask_goes accepts tags server i p words words' ks d new progress told told' may.holds lt quest next over;
         ran = ran_none host;
         seed = ap (λ (w : WordsState). w.seed) next;
       };
@@ -302,23 +302,23 @@ asks_one accepts tags server host i p words words' ks d new line told told' may 
       driven_on = x.driven_on;
       seats = x.seats;
       may = x.may;
-      line = refl;
+      progress = refl;
       drawn = next;
     }
 
 -- ---- asks after asks
 
 -- none so far
-pub asks_none : (accepts : Accepts) (tags : Tags) (server : ServeSetting) (host : Hands) (words words' : WordsState) (ks ls : List Seeker) (line : Line) (told told' : Option (List Event)) (owners owners' : List ℕ) → MayAskAll ks line words → ls ≡ ks → words' ≡ words → told' ≡ told → owners' ≡ owners
-    → AsksAll accepts tags server (stand ks line words host told) (stand ls line words' host told') owners owners'
-asks_none accepts tags server host words words' ks ls line told told' owners owners' may same same_words same_told same_owners =
+pub asks_none : (accepts : Accepts) (tags : Tags) (server : ServeSetting) (host : Hands) (words words' : WordsState) (ks ls : List Seeker) (progress : Progress) (told told' : Option (List Event)) (owners owners' : List ℕ) → MayAskAll ks progress words → ls ≡ ks → words' ≡ words → told' ≡ told → owners' ≡ owners
+    → AsksAll accepts tags server (stand ks progress words host told) (stand ls progress words' host told') owners owners'
+asks_none accepts tags server host words words' ks ls progress told told' owners owners' may same same_words same_told same_owners =
     let place : words.place ≡ words.place + 0 = omega arith in
-    let still : AsksAll accepts tags server (stand ks line words host told) (stand ks line words host told) owners owners' = record {
+    let still : AsksAll accepts tags server (stand ks progress words host told) (stand ks progress words host told) owners owners' = record {
       made = [];
       advances = record {
         more = nothing_read;
         owners_are = refl;
-        goes = λ f count read began is h. subst (λ r. Grows began told (λ events. ManyShow true f count ks line words.place None r events)) (sym (nothing_after read)) h;
+        goes = λ f count read began is h. subst (λ r. Grows began told (λ events. ManyShow true f count ks progress words.place None r events)) (sym (nothing_after read)) h;
         ran = ran_none host;
         seed = refl;
       };
@@ -327,16 +327,16 @@ asks_none accepts tags server host words words' ks ls line told told' owners own
       driven_on = same_driven ks;
       seats = zip_same SameSeat (λ k. refl) ks;
       may = may;
-      line = refl;
+      progress = refl;
       drawn = ap (λ n. record words { place = n }) place;
     } in
-    subst (λ (l : List Seeker). AsksAll accepts tags server (stand ks line words host told) (stand l line words' host told') owners owners') (sym same)
-    (subst (λ (w : WordsState). AsksAll accepts tags server (stand ks line words host told) (stand ks line w host told') owners owners') (sym same_words)
-    (subst (λ (o : Option (List Event)). AsksAll accepts tags server (stand ks line words host told) (stand ks line words host o) owners owners') (sym same_told) still))
+    subst (λ (l : List Seeker). AsksAll accepts tags server (stand ks progress words host told) (stand l progress words' host told') owners owners') (sym same)
+    (subst (λ (w : WordsState). AsksAll accepts tags server (stand ks progress words host told) (stand ks progress w host told') owners owners') (sym same_words)
+    (subst (λ (o : Option (List Event)). AsksAll accepts tags server (stand ks progress words host told) (stand ks progress words host o) owners owners') (sym same_told) still))
 
-pub asks_then : (accepts : Accepts) (tags : Tags) (server : ServeSetting) (host : Hands) (words words' words'' : WordsState) (ks ls ms : List Seeker) (line : Line) (told told' told'' : Option (List Event)) (owners owners' owners'' : List ℕ) → AsksAll accepts tags server (stand ks line words host told) (stand ls line words' host told') owners owners'
-    → AsksAll accepts tags server (stand ls line words' host told') (stand ms line words'' host told'') owners' owners'' → AsksAll accepts tags server (stand ks line words host told) (stand ms line words'' host told'') owners owners''
-asks_then accepts tags server host words words' words'' ks ls ms line told told' told'' owners owners' owners'' a b =
+pub asks_then : (accepts : Accepts) (tags : Tags) (server : ServeSetting) (host : Hands) (words words' words'' : WordsState) (ks ls ms : List Seeker) (progress : Progress) (told told' told'' : Option (List Event)) (owners owners' owners'' : List ℕ) → AsksAll accepts tags server (stand ks progress words host told) (stand ls progress words' host told') owners owners'
+    → AsksAll accepts tags server (stand ls progress words' host told') (stand ms progress words'' host told'') owners' owners'' → AsksAll accepts tags server (stand ks progress words host told) (stand ms progress words'' host told'') owners owners''
+asks_then accepts tags server host words words' words'' ks ls ms progress told told' told'' owners owners' owners'' a b =
     let g = a.advances in
     let h = b.advances in
     let sum : (words.place + length a.made) + length b.made ≡ words.place + length (a.made ++ b.made) = (let both = length-append a.made b.made in omega (arith, both)) in
@@ -346,7 +346,7 @@ asks_then accepts tags server host words words' words'' ks ls ms line told told'
         more = and_then g.more h.more;
         owners_are = ap (λ l. l ++ h.more.owners) g.owners_are ∙ ap (λ l. a.made ++ l) h.owners_are;
         goes = λ f count read began is x.
-            subst (λ r. Grows began told'' (λ events. ManyShow true f count ms line words''.place None r events)) (then_assoc read g.more h.more)
+            subst (λ r. Grows began told'' (λ events. ManyShow true f count ms progress words''.place None r events)) (then_assoc read g.more h.more)
             (h.goes f count (and_then read g.more) began (record { accepts_is = is.accepts_is; tags_is = is.tags_is; server_is = is.server_is; seed_is = is.seed_is ∙ sym g.seed }) (g.goes f count read began is x));
         ran = ran_then host host host g.more.did g.more.lost h.more.did h.more.lost (same_none host) g.ran h.ran;
         seed = h.seed ∙ g.seed;
@@ -356,14 +356,14 @@ asks_then accepts tags server host words words' words'' ks ls ms line told told'
       driven_on = driven_then ks ls ms a.driven_on b.driven_on;
       seats = seats_then ks ls ms a.seats b.seats;
       may = b.may;
-      line = refl;
+      progress = refl;
       drawn = b.drawn ∙ ap (λ (w : WordsState). record w { place = w.place + length b.made }) a.drawn ∙ ap (λ n. record words { place = n }) sum;
     }
 
 -- its owner was written down behind those before
-pub asks_behind : (accepts : Accepts) (tags : Tags) (server : ServeSetting) (host : Hands) (words words' : WordsState) (ks ls : List Seeker) (line : Line) (told told' : Option (List Event)) (owners owners' one : List ℕ) → AsksAll accepts tags server (stand ks line words host told) (stand ls line words' host told') [] one → owners' ≡ owners ++ one
-    → AsksAll accepts tags server (stand ks line words host told) (stand ls line words' host told') owners owners'
-asks_behind accepts tags server host words words' ks ls line told told' owners owners' one a are = record {
+pub asks_behind : (accepts : Accepts) (tags : Tags) (server : ServeSetting) (host : Hands) (words words' : WordsState) (ks ls : List Seeker) (progress : Progress) (told told' : Option (List Event)) (owners owners' one : List ℕ) → AsksAll accepts tags server (stand ks progress words host told) (stand ls progress words' host told') [] one → owners' ≡ owners ++ one
+    → AsksAll accepts tags server (stand ks progress words host told) (stand ls progress words' host told') owners owners'
+asks_behind accepts tags server host words words' ks ls progress told told' owners owners' one a are = record {
   made = a.made;
   advances = a.advances;
   owners_are = are ∙ ap (λ l. owners ++ l) a.owners_are;
@@ -371,6 +371,6 @@ asks_behind accepts tags server host words words' ks ls line told told' owners o
   driven_on = a.driven_on;
   seats = a.seats;
   may = a.may;
-  line = a.line;
+  progress = a.progress;
   drawn = a.drawn;
 }

@@ -7,7 +7,7 @@ use Rattle.kad_base.specs.declared.types.Addr.{Addr}
 use Rattle.query_book.specs.declared.Query.{Query}
 use Rattle.lookup_core.specs.Sealed.{Accepts}
 use Rattle.look_many.specs.declared.seeker.Seeker.{Seeker}
-use Rattle.look_many.specs.declared.seeker.Line.{Line}
+use Rattle.look_many.specs.declared.seeker.Progress.{Progress}
 use Rattle.look_many.specs.inner.Crowd.{OnlyHeard, asks_of, queries_of}
 use Rattle.look_many.specs.inner.ManySteps.{IsMatchFor, TakesFirst, Expires, HasCounted, MayReceive, Received, after_paid}
 
@@ -69,34 +69,34 @@ same_asks (o ∷ olds) (n ∷ news) h =
 -- ---- the counts
 
 -- so many more datagrams came, of which each was foreign or closed a query
-pub counts_on : (old new : List Seeker) (line line' : Line) → HasCounted old line → asks_of new ≡ asks_of old → line'.received + length (queries_of new) + line.foreign ≤ line.received + length (queries_of old) + line'.foreign → line'.replied ≡ line.replied → line.received ≤ line'.received → HasCounted new line'
-counts_on old new line line' h asks more same later =
+pub counts_on : (old new : List Seeker) (progress progress' : Progress) → HasCounted old progress → asks_of new ≡ asks_of old → progress'.received + length (queries_of new) + progress.foreign ≤ progress.received + length (queries_of old) + progress'.foreign → progress'.replied ≡ progress.replied → progress.received ≤ progress'.received → HasCounted new progress'
+counts_on old new progress progress' h asks more same later =
     let received = h.received in
     let replied = h.replied in
     let few = h.asks in
     record { received = omega (arith, received, asks, more); replied = omega (arith, replied, same, later); asks = omega (arith, few, asks) }
 
 -- there is room to count one datagram more
-pub may_count : (ks : List Seeker) (line : Line) (until : ℕ) (busy : Bool) → MayReceive ks line until busy → line.received + 1 < 2 ^ 64
-may_count ks line until busy may =
+pub may_count : (ks : List Seeker) (progress : Progress) (until : ℕ) (busy : Bool) → MayReceive ks progress until busy → progress.received + 1 < 2 ^ 64
+may_count ks progress until busy may =
     let received = may.counted.received in
     let asks = may.counted.asks in
     let room = may.room in
     omega (arith, received, asks, room)
 
-pub may_count_foreign : (ks : List Seeker) (line : Line) (until : ℕ) (busy : Bool) → MayReceive ks line until busy → line.foreign + 1 < 2 ^ 64
-may_count_foreign ks line until busy may = (let room = may.room in omega (arith, room))
+pub may_count_foreign : (ks : List Seeker) (progress : Progress) (until : ℕ) (busy : Bool) → MayReceive ks progress until busy → progress.foreign + 1 < 2 ^ 64
+may_count_foreign ks progress until busy may = (let room = may.room in omega (arith, room))
 
 -- and one reply more
-pub may_count_reply : (ks : List Seeker) (line line' : Line) (until : ℕ) (busy : Bool) → MayReceive ks line until busy → line'.replied ≡ line.replied → line'.replied + 1 < 2 ^ 64
-may_count_reply ks line line' until busy may same =
-    let received = may_count ks line until busy may in
+pub may_count_reply : (ks : List Seeker) (progress progress' : Progress) (until : ℕ) (busy : Bool) → MayReceive ks progress until busy → progress'.replied ≡ progress.replied → progress'.replied + 1 < 2 ^ 64
+may_count_reply ks progress progress' until busy may same =
+    let received = may_count ks progress until busy may in
     let replied = may.counted.replied in
     omega (arith, received, replied, same)
 
 -- after the reply
-pub paid_received : (busy : Bool) (old new : List Seeker) (line line' : Line) (was_sent : Bool) → line'.replied + 1 ≤ line'.received → Received busy old new line line' → Received busy old new line (after_paid line' was_sent)
-paid_received busy old new line line' true room r = record {
+pub paid_received : (busy : Bool) (old new : List Seeker) (progress progress' : Progress) (was_sent : Bool) → progress'.replied + 1 ≤ progress'.received → Received busy old new progress progress' → Received busy old new progress (after_paid progress' was_sent)
+paid_received busy old new progress progress' true room r = record {
   holds = r.holds;
   longer = r.longer;
   only_heard = r.only_heard;
@@ -112,4 +112,4 @@ paid_received busy old new line line' true room r = record {
   same = r.same;
   none_open = r.none_open;
 }
-paid_received busy old new line line' false room r = r
+paid_received busy old new progress progress' false room r = r

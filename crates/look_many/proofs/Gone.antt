@@ -21,7 +21,7 @@ use Rattle.node_serve.specs.declared.setting.ServeSetting.{ServeSetting}
 use Rattle.node_serve.specs.Sealing.{Tags}
 use Rattle.serve_crew.specs.Hands.{Hands, SameHands, SamePass}
 use Rattle.look_many.specs.declared.seeker.Seeker.{Seeker}
-use Rattle.look_many.specs.declared.seeker.Line.{Line}
+use Rattle.look_many.specs.declared.seeker.Progress.{Progress}
 use Rattle.look_many.specs.declared.seeker.ManyFault.{ManyFault}
 use Rattle.look_many.specs.declared.seeker.ManyFault.TheVariants.{LinkFault, Strays, NoMemory}
 use Rattle.look_many.specs.ManyLooked.{drawn_by}
@@ -89,7 +89,7 @@ module _ (accepts : Accepts) (tags : Tags) (server : ServeSetting) where
     each = each_driven s.seekers t.seekers a.longer a.driven_on a.seats;
   }
 
-  pub gone_received : (s t : Stand) (o : List ℕ) → t.words ≡ s.words → SameHands s.host t.host → Advances true [] accepts tags server s t → ReceivedAll s.seekers t.seekers s.line t.line → HaveGone accepts tags server s t o o
+  pub gone_received : (s t : Stand) (o : List ℕ) → t.words ≡ s.words → SameHands s.host t.host → Advances true [] accepts tags server s t → ReceivedAll s.seekers t.seekers s.progress t.progress → HaveGone accepts tags server s t o o
   gone_received s t o words same a r = record {
     made = [];
     advances = a;
@@ -192,14 +192,14 @@ module _ (accepts : Accepts) (tags : Tags) (server : ServeSetting) where
 pub begins_asked : (accepts : Accepts) (tags : Tags) (server : ServeSetting) (s t : Stand) (o p : List ℕ) → AsksAll accepts tags server s t o p → Begins s → Begins t
 begins_asked accepts tags server s t o p a b = record {
   may = a.may;
-  round_over = ap (λ (l : Line). l.receives) a.line ∙ b.round_over;
-  few_foreign = subst (λ (l : Line). l.foreign < max_strays) (sym a.line) b.few_foreign;
+  round_over = ap (λ (l : Progress). l.receives) a.progress ∙ b.round_over;
+  few_foreign = subst (λ (l : Progress). l.foreign < max_strays) (sym a.progress) b.few_foreign;
 }
 
 pub over_of : (s : Stand) → Begins s → AllByRecursion NoneAsks s.seekers → IsSoonest None (queries_of s.seekers) → AreOver s
 over_of s b none none_open = record { begins = b; none_open = none_open; none_asks = none }
 
-pub await_of : (s : Stand) (deadline : ℕ) → Begins s → AllByRecursion NoneAsks s.seekers → IsSoonest (Some deadline) (queries_of s.seekers) → MayAwait s.seekers s.line
+pub await_of : (s : Stand) (deadline : ℕ) → Begins s → AllByRecursion NoneAsks s.seekers → IsSoonest (Some deadline) (queries_of s.seekers) → MayAwait s.seekers s.progress
 await_of s deadline b none soonest = record {
   holds = b.may.holds;
   some_open = λ none_open. nobody (queries_of s.seekers) soonest none_open;
@@ -250,12 +250,12 @@ module _ (moment later : ℕ) (le : moment ≤ later) where
   pub all_ready_on : (ks ls : List Seeker) → AllByRecursion (IsReady moment) ks → AllZip Longer ks ls → AllZip OnlyHeard ks ls → AllByRecursion (IsReady later) ls
   all_ready_on ks ls r l o = zip_right (IsReady moment) (λ a b. Longer a b × OnlyHeard a b) (IsReady later) ready_on ks ls r (zip_both Longer OnlyHeard (λ a b. Longer a b × OnlyHeard a b) (λ a b x y. (x, y)) ks ls l o)
 
-pub received_of : (s t : Stand) → Begins s → t.words ≡ s.words → ReceivedAll s.seekers t.seekers s.line t.line → t.line.receives ≡ 0 → HaveReceived t
+pub received_of : (s t : Stand) → Begins s → t.words ≡ s.words → ReceivedAll s.seekers t.seekers s.progress t.progress → t.progress.receives ≡ 0 → HaveReceived t
 received_of s t b words r over =
     let asks : asks_of t.seekers ≡ asks_of s.seekers = same_asks s.seekers t.seekers r.only_heard in
     record {
       holds = r.holds;
-      ready = all_ready_on s.line.moment t.line.moment r.later s.seekers t.seekers b.may.ready r.longer r.only_heard;
+      ready = all_ready_on s.progress.moment t.progress.moment r.later s.seekers t.seekers b.may.ready r.longer r.only_heard;
       few = (let n = zip_length Longer s.seekers t.seekers r.longer in let few = b.may.few in omega (arith, n, few));
       has_words = (let w = b.may.has_words in let p = ap (λ (x : WordsState). x.place) words in omega (arith, w, p, asks));
       counted = r.counted;
@@ -263,11 +263,11 @@ received_of s t b words r over =
       few_foreign = r.few_foreign;
     }
 
-pub begins_settled : (s t : Stand) → HaveReceived s → t.words ≡ s.words → t.line ≡ s.line → length t.seekers ≡ length s.seekers → AllZip SettlesSome s.seekers t.seekers → AllZip SettlesWhole s.seekers t.seekers → Begins t
-begins_settled s t h words line len some whole = record {
-  may = subst (λ (l : Line). MayAskAll t.seekers l t.words) (sym line) (subst (MayAskAll t.seekers s.line) (sym words) (settled_may_ask s.seekers t.seekers s.line s.words h.ready h.few h.has_words h.counted len some whole));
-  round_over = ap (λ (l : Line). l.receives) line ∙ h.round_over;
-  few_foreign = subst (λ (l : Line). l.foreign < max_strays) (sym line) h.few_foreign;
+pub begins_settled : (s t : Stand) → HaveReceived s → t.words ≡ s.words → t.progress ≡ s.progress → length t.seekers ≡ length s.seekers → AllZip SettlesSome s.seekers t.seekers → AllZip SettlesWhole s.seekers t.seekers → Begins t
+begins_settled s t h words progress len some whole = record {
+  may = subst (λ (l : Progress). MayAskAll t.seekers l t.words) (sym progress) (subst (MayAskAll t.seekers s.progress) (sym words) (settled_may_ask s.seekers t.seekers s.progress s.words h.ready h.few h.has_words h.counted len some whole));
+  round_over = ap (λ (l : Progress). l.receives) progress ∙ h.round_over;
+  few_foreign = subst (λ (l : Progress). l.foreign < max_strays) (sym progress) h.few_foreign;
 }
 
 -- ---- whose passes are whose

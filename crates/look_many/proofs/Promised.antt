@@ -45,7 +45,7 @@ use Rattle.look_many.specs.declared.found.ManySetting.{ManySetting}
 use Rattle.look_many.specs.declared.found.One.{One}
 use Rattle.look_many.specs.declared.found.Many.{Many}
 use Rattle.look_many.specs.declared.seeker.Seeker.{Seeker}
-use Rattle.look_many.specs.declared.seeker.Line.{Line}
+use Rattle.look_many.specs.declared.seeker.Progress.{Progress}
 use Rattle.look_many.specs.declared.seeker.ManyFault.{ManyFault}
 use Rattle.look_many.specs.declared.seeker.ManyFault.TheVariants.{NoMemory}
 use Rattle.look_many.specs.Many.{Frame, nothing_read, EndsAtForeign}
@@ -217,14 +217,14 @@ module _ (k : Task) (r : Rows) (before after : TableState) (table_calls : ℕ) (
   is_frame s b = record { accepts_is = refl; tags_is = refl; server_is = refl; seed_is = ap (λ (w : WordsState). w.seed) (sym b.words_are) }
 
   -- the first event shows where they begin
-  shown_first : (s : Stand) → Starts k r words told s → Grows told s.told (λ events. ManyShow true frame (count_of s.seekers) s.seekers s.line s.words.place None nothing_read events)
+  shown_first : (s : Stand) → Starts k r words told s → Grows told s.told (λ events. ManyShow true frame (count_of s.seekers) s.seekers s.progress s.words.place None nothing_read events)
   unfolding frame
   shown_first s b =
       grows_weaker told s.told _ _ b.now_told (λ es e.
-      subst (λ l. ManyShow true frame (count_of s.seekers) s.seekers s.line s.words.place None nothing_read l) (sym e)
-      (subst (λ (w : WordsState). ManyShow true frame (count_of s.seekers) s.seekers s.line w.place None nothing_read (Now s.line.moment ∷ [])) (sym b.words_are)
-      (subst (λ (l : Line). ManyShow true frame (count_of s.seekers) s.seekers l words.place None nothing_read (Now s.line.moment ∷ [])) (sym b.line)
-      (begins frame s.line.moment s.seekers (all_fresh_of k.server k.setting before limits small k.targets s.seekers (seekers_for s b))))))
+      subst (λ l. ManyShow true frame (count_of s.seekers) s.seekers s.progress s.words.place None nothing_read l) (sym e)
+      (subst (λ (w : WordsState). ManyShow true frame (count_of s.seekers) s.seekers s.progress w.place None nothing_read (Now s.progress.moment ∷ [])) (sym b.words_are)
+      (subst (λ (l : Progress). ManyShow true frame (count_of s.seekers) s.seekers l words.place None nothing_read (Now s.progress.moment ∷ [])) (sym b.progress)
+      (begins frame s.progress.moment s.seekers (all_fresh_of k.server k.setting before limits small k.targets s.seekers (seekers_for s b))))))
 
   host_table : (s : Stand) → Starts k r words told s → mine s.host.table ≡ []
   host_table s b = ap (λ (h : Hands). mine h.table) b.host
@@ -279,8 +279,8 @@ module _ (k : Task) (r : Rows) (before after : TableState) (table_calls : ℕ) (
             (grows_weaker told u.told _ _ (w.shows frame (count_of s.seekers) told (is_frame s st) (shown_first s st)) (λ es x.
             subst (λ ws. ManyTold frame ws w.read many.received many.replied es) (all_whose k.server k.setting before limits small k.targets s.seekers u.seekers many.outcomes olds w.each b.found)
             (subst (λ n. ManyTold frame (map whose u.seekers) w.read n many.replied es) (sym b.received_are)
-            (subst (λ n. ManyTold frame (map whose u.seekers) w.read u.line.received n es) (sym b.replied_are)
-            (told_whole frame u.words.place u.seekers u.line w.read es (subst (λ n. ManyShow false frame n u.seekers u.line u.words.place None w.read es) same_count x) w.none_open w.enough)))));
+            (subst (λ n. ManyTold frame (map whose u.seekers) w.read u.progress.received n es) (sym b.replied_are)
+            (told_whole frame u.words.place u.seekers u.progress w.read es (subst (λ n. ManyShow false frame n u.seekers u.progress u.words.place None w.read es) same_count x) w.none_open w.enough)))));
         drawn = sym b.words_are ∙ w.drawn ∙ ap (λ x. drawn_by x w.read.owners) st.words_are;
         ran = ended_ran k.server k.targets r before after table_calls held peers_calls shelf items_calls t p i start no_peers no_items u.host u.seekers b.back count;
         memory = ended_memory k.server k.targets r before after table_calls held peers_calls shelf items_calls t p i start no_peers no_items u.host u.seekers b.back count

@@ -13,7 +13,7 @@ use Rattle.node_serve.specs.Sealing.{Tags}
 use Rattle.serve_crew.specs.Hands.{Hands, SameHands}
 use Rattle.serve_crew.proofs.Growing.{same_none, same_more}
 use Rattle.look_many.specs.declared.seeker.Seeker.{Seeker}
-use Rattle.look_many.specs.declared.seeker.Line.{Line}
+use Rattle.look_many.specs.declared.seeker.Progress.{Progress}
 use Rattle.look_many.specs.declared.seeker.ManyFault.{ManyFault}
 use Rattle.look_many.specs.Many.{nothing_read, and_then, WaitsUntil}
 use Rattle.look_many.specs.inner.Crowd.{IsLegal, Longer, DrivenOn, SameSeat, queries_of, ManyShow, Stand, Advances}
@@ -23,8 +23,8 @@ use Rattle.look_many.proofs.Hosting.{ran_none, ran_then}
 use Rattle.look_many.proofs.Telling.{all_longer}
 use Rattle.look_many.proofs.Walking.{nothing_after, then_assoc}
 
-pub may_receive : (ks : List Seeker) (line : Line) (until : ℕ) → MayAwait ks line → WaitsUntil line.receives line.moment (map (λ (q : Query). q.deadline) (queries_of ks)) until → MayReceive ks line until true
-may_receive ks line until may waits = record {
+pub may_receive : (ks : List Seeker) (progress : Progress) (until : ℕ) → MayAwait ks progress → WaitsUntil progress.receives progress.moment (map (λ (q : Query). q.deadline) (queries_of ks)) until → MayReceive ks progress until true
+may_receive ks progress until may waits = record {
   holds = may.holds;
   waits = for_replies refl may.some_open waits may.few_foreign;
   in_turn = may.in_turn;
@@ -34,8 +34,8 @@ may_receive ks line until may waits = record {
 }
 
 -- the next of the round
-pub may_go_on : (old new : List Seeker) (line line' : Line) → Received true old new line line' → line'.receives ≢ 0 → MayAwait new line'
-may_go_on old new line line' r some = record { holds = r.holds; some_open = r.still some; in_turn = λ z. absurd (some z); few_receives = r.few_receives; few_foreign = r.few_foreign refl; counted = r.counted }
+pub may_go_on : (old new : List Seeker) (progress progress' : Progress) → Received true old new progress progress' → progress'.receives ≢ 0 → MayAwait new progress'
+may_go_on old new progress progress' r some = record { holds = r.holds; some_open = r.still some; in_turn = λ z. absurd (some z); few_receives = r.few_receives; few_foreign = r.few_foreign refl; counted = r.counted }
 
 -- ---- one after the other
 
@@ -55,17 +55,17 @@ longer_then (o ∷ olds) [] news g h = absurd g
 longer_then (o ∷ olds) (m ∷ mids) [] g h = absurd h
 longer_then (o ∷ olds) (m ∷ mids) (n ∷ news) g h = (longer_one o m n g.0 h.0, longer_then olds mids news g.1 h.1)
 
-pub received_first : (old new : List Seeker) (line line' : Line) → Received true old new line line' → line.moment ≤ line'.moment → ReceivedAll old new line line'
-received_first old new line line' r later = record { holds = r.holds; longer = r.longer; only_heard = r.only_heard; driven_on = r.driven_on; seats = r.seats; counted = r.counted; later = later; left = (let l = r.left in omega (arith, l)); few_foreign = r.few_foreign refl }
+pub received_first : (old new : List Seeker) (progress progress' : Progress) → Received true old new progress progress' → progress.moment ≤ progress'.moment → ReceivedAll old new progress progress'
+received_first old new progress progress' r later = record { holds = r.holds; longer = r.longer; only_heard = r.only_heard; driven_on = r.driven_on; seats = r.seats; counted = r.counted; later = later; left = (let l = r.left in omega (arith, l)); few_foreign = r.few_foreign refl }
 
-pub received_next : (old mid new : List Seeker) (line between line' : Line) → ReceivedAll old mid line between → Received true mid new between line' → between.moment ≤ line'.moment → ReceivedAll old new line line'
-received_next old mid new line between line' a r later = record { holds = r.holds; longer = longer_then old mid new a.longer r.longer; only_heard = all_then old mid new a.only_heard r.only_heard; driven_on = driven_then old mid new a.driven_on r.driven_on; seats = seats_then old mid new a.seats r.seats; counted = r.counted; later = (let before = a.later in omega (arith, before, later)); left = (let l = r.left in let m = a.left in omega (arith, l, m)); few_foreign = r.few_foreign refl }
+pub received_next : (old mid new : List Seeker) (progress between progress' : Progress) → ReceivedAll old mid progress between → Received true mid new between progress' → between.moment ≤ progress'.moment → ReceivedAll old new progress progress'
+received_next old mid new progress between progress' a r later = record { holds = r.holds; longer = longer_then old mid new a.longer r.longer; only_heard = all_then old mid new a.only_heard r.only_heard; driven_on = driven_then old mid new a.driven_on r.driven_on; seats = seats_then old mid new a.seats r.seats; counted = r.counted; later = (let before = a.later in omega (arith, before, later)); left = (let l = r.left in let m = a.left in omega (arith, l, m)); few_foreign = r.few_foreign refl }
 
 pub advances_none : (busy : Bool) (accepts : Accepts) (tags : Tags) (server : ServeSetting) (s : Stand) → Advances busy [] accepts tags server s s
 advances_none busy accepts tags server s = record {
   more = nothing_read;
   owners_are = refl;
-  goes = λ f count read began is h. subst (λ r. Grows began s.told (λ events. ManyShow busy f count s.seekers s.line s.words.place None r events)) (sym (nothing_after read)) h;
+  goes = λ f count read began is h. subst (λ r. Grows began s.told (λ events. ManyShow busy f count s.seekers s.progress s.words.place None r events)) (sym (nothing_after read)) h;
   ran = ran_none s.host;
   seed = refl;
 }
@@ -75,7 +75,7 @@ advances_then busy m n accepts tags server a b c same g h = record {
   more = and_then g.more h.more;
   owners_are = ap (λ l. l ++ h.more.owners) g.owners_are ∙ ap (λ l. m ++ l) h.owners_are;
   goes = λ f count read began is x.
-      subst (λ r. Grows began c.told (λ events. ManyShow busy f count c.seekers c.line c.words.place None r events)) (then_assoc read g.more h.more)
+      subst (λ r. Grows began c.told (λ events. ManyShow busy f count c.seekers c.progress c.words.place None r events)) (then_assoc read g.more h.more)
       (h.goes f count (and_then read g.more) began (record { accepts_is = is.accepts_is; tags_is = is.tags_is; server_is = is.server_is; seed_is = is.seed_is ∙ sym g.seed }) (g.goes f count read began is x));
   ran = ran_then a.host b.host c.host g.more.did g.more.lost h.more.did h.more.lost same g.ran h.ran;
   seed = h.seed ∙ g.seed;
@@ -96,8 +96,8 @@ stays_then : (olds mids news : List Seeker) → Stays olds mids → Stays mids n
 stays_then olds mids news g h = record { longer = longer_then olds mids news g.longer h.longer; driven_on = driven_then olds mids news g.driven_on h.driven_on; seats = seats_then olds mids news g.seats h.seats }
 
 -- after receives of a round
-pub stays_received : (old new : List Seeker) (line line' : Line) → ReceivedAll old new line line' → Stays old new
-stays_received old new line line' r = record { longer = r.longer; driven_on = r.driven_on; seats = r.seats }
+pub stays_received : (old new : List Seeker) (progress progress' : Progress) → ReceivedAll old new progress progress' → Stays old new
+stays_received old new progress progress' r = record { longer = r.longer; driven_on = r.driven_on; seats = r.seats }
 
 pub ends_now : (busy : Bool) (fault : ManyFault) (accepts : Accepts) (tags : Tags) (server : ServeSetting) (s : Stand) (host' : Hands) (told' : Option (List Event)) → AllByRecursion IsLegal s.seekers → Stops busy fault accepts tags server s told' → RanOn s.host host' → EndsEarly busy fault accepts tags server s host' told'
 ends_now busy fault accepts tags server s host' told' legal stops ran =

@@ -7,15 +7,15 @@ use Rattle.claim_book.specs.Journal.{may_ask}
 use Rattle.claim_book.specs.RunOut.{RunOut}
 use Rattle.node_serve.specs.Receives.{waits_until}
 use Rattle.look_many.specs.declared.seeker.Seeker.{Seeker}
-use Rattle.look_many.specs.declared.seeker.Line.{Line}
+use Rattle.look_many.specs.declared.seeker.Progress.{Progress}
 use Rattle.look_many.specs.Mine.{Whose}
 use Rattle.look_many.specs.inner.Crowd.{whose, NoneAsks, Longer, DrivenOn, SameSeat}
 use Rattle.look_many.specs.inner.ManySteps.{IsRunOut, for_others, MayReceive, MayServe, Received}
 use Rattle.lookup_core.proofs.Received.{none_driven}
 use Rattle.look_many.proofs.Rounding.{Stays}
 
-pub may_serve : (ks : List Seeker) (line : Line) (until : ℕ) → MayServe ks line → 0 < line.left → until ≡ waits_until line.moment → MayReceive ks line until false
-may_serve ks line until may left waits = record {
+pub may_serve : (ks : List Seeker) (progress : Progress) (until : ℕ) → MayServe ks progress → 0 < progress.left → until ≡ waits_until progress.moment → MayReceive ks progress until false
+may_serve ks progress until may left waits = record {
   holds = may.holds;
   waits = for_others refl may.none_open may.over left waits;
   in_turn = λ z. may.none_asks;
@@ -68,8 +68,8 @@ stays_same olds news same seats = record { longer = longer_same olds news same; 
         let tail : map whose news ≡ map whose olds = cc in
         (record { more = []; journal = nothing_more o n head; all_driven = none_driven }, driven_same olds news tail)
 
-pub serve_next : (old new : List Seeker) (line line' : Line) → MayServe old line → 0 < line.left → Received false old new line line' → MayServe new line'
-serve_next old new line line' may some r = record {
+pub serve_next : (old new : List Seeker) (progress progress' : Progress) → MayServe old progress → 0 < progress.left → Received false old new progress progress' → MayServe new progress'
+serve_next old new progress progress' may some r = record {
   holds = r.holds;
   none_open = r.none_open refl;
   over = over_same old new (r.same refl) may.over;

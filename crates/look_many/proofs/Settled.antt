@@ -21,7 +21,7 @@ use Rattle.node_serve.specs.declared.setting.ServeSetting.{ServeSetting}
 use Rattle.node_serve.specs.Sealing.{Tags}
 use Rattle.serve_crew.specs.Hands.{Hands}
 use Rattle.look_many.specs.declared.seeker.Seeker.{Seeker}
-use Rattle.look_many.specs.declared.seeker.Line.{Line}
+use Rattle.look_many.specs.declared.seeker.Progress.{Progress}
 use Rattle.look_many.specs.Mine.{Mine, driven}
 use Rattle.look_many.specs.ManyLooked.{max_lookups}
 use Rattle.look_many.specs.Many.{Frame, Reading, nothing_read, begun}
@@ -61,25 +61,25 @@ each_keeps (x ∷ ks) [] ms h s k = absurd s
 each_keeps (x ∷ ks) (l ∷ ls) [] h s k = absurd k
 each_keeps (x ∷ ks) (l ∷ ls) (m ∷ ms) h s k = (one_keeps x l m h.0 s.0 k.0, each_keeps ks ls ms h.1 s.1 k.1)
 
-shows_settled : (f : Frame) (count place : ℕ) (old new : List Seeker) (line : Line) (read : Reading) (es : List Event) → AllByRecursion Holding old → AllZip SettlesSome old new → ManyShow true f count old line place None read es → ManyShow true f count new line place None read es
-shows_settled f count place old new line read es holds s h = record {
+shows_settled : (f : Frame) (count place : ℕ) (old new : List Seeker) (progress : Progress) (read : Reading) (es : List Event) → AllByRecursion Holding old → AllZip SettlesSome old new → ManyShow true f count old progress place None read es → ManyShow true f count new progress place None read es
+shows_settled f count place old new progress read es holds s h = record {
   at = h.at;
   rest = h.rest;
   first = h.first;
   end = h.end;
   walk = walk_still true f old new (begun count h.at) h.rest h.end read (settled_longer old new s) (λ e. absurd cc) h.walk;
-  keeps_line = h.keeps_line;
+  keeps_progress = h.keeps_progress;
   keeps_each = each_keeps old new h.end.each holds s h.keeps_each;
 }
 
 -- whatever was told since any beginning they go on to tell, and nothing more is read of it
-pub settled_goes : (accepts : Accepts) (tags : Tags) (server : ServeSetting) (line : Line) (words : WordsState) (host : Hands) (told : Option (List Event)) (old new : List Seeker) → AllByRecursion Holding old → AllZip SettlesSome old new
-    → Advances true [] accepts tags server (stand old line words host told) (stand new line words host told)
-settled_goes accepts tags server line words host told old new holds s = record {
+pub settled_goes : (accepts : Accepts) (tags : Tags) (server : ServeSetting) (progress : Progress) (words : WordsState) (host : Hands) (told : Option (List Event)) (old new : List Seeker) → AllByRecursion Holding old → AllZip SettlesSome old new
+    → Advances true [] accepts tags server (stand old progress words host told) (stand new progress words host told)
+settled_goes accepts tags server progress words host told old new holds s = record {
   more = nothing_read;
   owners_are = refl;
   goes = λ f count read began is h. grows_weaker began told _ _ h (λ es shows.
-      subst (λ r. ManyShow true f count new line words.place None r es) (sym (nothing_after read)) (shows_settled f count words.place old new line read es holds s shows));
+      subst (λ r. ManyShow true f count new progress words.place None r es) (sym (nothing_after read)) (shows_settled f count words.place old new progress read es holds s shows));
   ran = ran_none host;
   seed = refl;
 }
@@ -143,8 +143,8 @@ settled_queries [] (l ∷ ls) s = absurd s
 settled_queries (k ∷ ks) [] s = absurd s
 settled_queries (k ∷ ks) (l ∷ ls) s = ap (λ qs. qs ++ queries_of ls) s.0.queries ∙ ap (λ qs. k.lookup.queries ++ qs) (settled_queries ks ls s.1)
 
-pub settled_counted : (ks ls : List Seeker) (line : Line) → HasCounted ks line → AllZip SettlesSome ks ls → HasCounted ls line
-settled_counted ks ls line h s =
+pub settled_counted : (ks ls : List Seeker) (progress : Progress) → HasCounted ks progress → AllZip SettlesSome ks ls → HasCounted ls progress
+settled_counted ks ls progress h s =
     let asks = settled_asks ks ls s in
     let queries = ap length (settled_queries ks ls s) in
     record {
@@ -157,14 +157,14 @@ pub settled_words : (ks ls : List Seeker) (words : WordsState) → HasWords word
 settled_words ks ls words h s = (let asks = settled_asks ks ls s in omega (arith, h, asks))
 
 -- so the next round may begin
-pub settled_may_ask : (ks ls : List Seeker) (line : Line) (words : WordsState) → AllByRecursion (IsReady line.moment) ks → length ks ≤ max_lookups → HasWords words ks → HasCounted ks line → length ls ≡ length ks → AllZip SettlesSome ks ls → AllZip SettlesWhole ks ls → MayAskAll ls line words
-settled_may_ask ks ls line words ready few has_words counted len s whole = record {
+pub settled_may_ask : (ks ls : List Seeker) (progress : Progress) (words : WordsState) → AllByRecursion (IsReady progress.moment) ks → length ks ≤ max_lookups → HasWords words ks → HasCounted ks progress → length ls ≡ length ks → AllZip SettlesSome ks ls → AllZip SettlesWhole ks ls → MayAskAll ls progress words
+settled_may_ask ks ls progress words ready few has_words counted len s whole = record {
   holds = settled_hold ks ls s;
-  ready = settled_ready line.moment ks ls ready s;
+  ready = settled_ready progress.moment ks ls ready s;
   settled = settled_left ks ls whole;
   few = omega (arith, few, len);
   has_words = settled_words ks ls words has_words s;
-  counted = settled_counted ks ls line counted s;
+  counted = settled_counted ks ls progress counted s;
 }
 
 -- ---- each, and all

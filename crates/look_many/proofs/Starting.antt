@@ -95,7 +95,7 @@ module _ (server : ServeSetting) (setting : ManySetting) (table : TableState) (l
   pub all_some : (ts : List Id) (ks : List Seeker) → All_for ts ks → AllByRecursion (λ (k : Seeker). 1 ≤ k.lookup.book.setting.alpha) ks
   all_some ts ks h = each_of (λ (k : Seeker). 1 ≤ k.lookup.book.setting.alpha) (begin_some server setting table limits small) ts ks h
 
-  pub all_begin_at : (ts : List Id) (s : Stand) → All_for ts s.seekers → length ts ≤ max_lookups → s.words.place < 2 ^ 59 → s.line.receives ≡ 0 → s.line.foreign ≡ 0 → s.line.received ≡ 0 → s.line.replied ≡ 0 → Begins s
+  pub all_begin_at : (ts : List Id) (s : Stand) → All_for ts s.seekers → length ts ≤ max_lookups → s.words.place < 2 ^ 59 → s.progress.receives ≡ 0 → s.progress.foreign ≡ 0 → s.progress.received ≡ 0 → s.progress.replied ≡ 0 → Begins s
   all_begin_at ts s h few place receives foreign received replied =
       let none = ap length (no_queries ts s.seekers h) in
       let asks = no_asks ts s.seekers h in
@@ -103,7 +103,7 @@ module _ (server : ServeSetting) (setting : ManySetting) (table : TableState) (l
       record {
         may = record {
           holds = each_of Holding (begin_holds server setting table limits small) ts s.seekers h;
-          ready = each_of (IsReady s.line.moment) (λ t k x. begin_ready server setting table limits small t k x s.line.moment) ts s.seekers h;
+          ready = each_of (IsReady s.progress.moment) (λ t k x. begin_ready server setting table limits small t k x s.progress.moment) ts s.seekers h;
           settled = each_of NothingLeft (begin_left server setting table limits small) ts s.seekers h;
           few = omega (arith, n, few);
           has_words = omega (arith, place, asks);

@@ -29,12 +29,12 @@ use Rattle.node_serve.specs.Sealing.{Tags}
 use Rattle.serve_crew.specs.Hands.{Hands}
 use Rattle.lookup_core.proofs.Received.{same_deadlines as each_deadline}
 use Rattle.look_many.specs.declared.seeker.Seeker.{Seeker}
-use Rattle.look_many.specs.declared.seeker.Line.{Line}
+use Rattle.look_many.specs.declared.seeker.Progress.{Progress}
 use Rattle.look_many.specs.declared.seeker.ManyFault.{ManyFault}
 use Rattle.look_many.specs.declared.seeker.ManyFault.TheVariants.{LinkFault}
 use Rattle.look_many.specs.Mine.{Mine, Whose, HaveAsked, waited}
 use Rattle.look_many.specs.Many.{Frame, Owed, Shown, Reading, nothing_read, and_then, read_of, open_of, deadlines_of, WaitsUntil, IsOver, MayWait, for_replies, for_others, AllHaveAsked, Receives, FirstTakes, IsForeign, Owes, goes_on, after_got, after_quiet}
-use Rattle.look_many.specs.inner.Crowd.{whose, opens, Holding, NoneAsks, Longer, DrivenOn, OnlyHeard, queries_of, KeepsMine, KeepsLine, ManyShow, SameSeat, Ran, Stand, Advances, stand}
+use Rattle.look_many.specs.inner.Crowd.{whose, opens, Holding, NoneAsks, Longer, DrivenOn, OnlyHeard, queries_of, KeepsMine, KeepsProgress, ManyShow, SameSeat, Ran, Stand, Advances, stand}
 use Rattle.look_many.specs.inner.ManySteps.{IsMatchFor, IsNotFor, TakesFirst, Expires, all_lapsed, IsRunOut, WaitsFor, for_replies as waits_replies, for_others as waits_others, MayReceive, Counts, Answers, Handles, is_taken, is_foreign, Comes, Passes, Pays, after_paid, IsLastForeign, Received, ShowsEarly, Stops, EndsByForeign}
 use Rattle.look_many.proofs.Lists.{none_front, none_back}
 use Rattle.look_many.proofs.Several.{all_wait, first_on, all_stray, first_holds, expired_hold}
@@ -96,20 +96,20 @@ each_over [] (m ∷ ms) over k = absurd k
 each_over (x ∷ ks) [] over k = absurd k
 each_over (x ∷ ks) (m ∷ ms) over k = (record { all_given = k.0.given; run_out = over.0.run_out }, each_over ks ms over.1 k.1)
 
-waits_of : (busy : Bool) (f : Frame) (place : ℕ) (ks ls : List Seeker) (line : Line) (s : Shown) (until : ℕ) → WaitsFor ks line until busy → KeepsLine f line place None s → AllZip KeepsMine ks s.each → (busy ≡ false → map whose ls ≡ map whose ks) → MayWait (cond busy 0 f.wanted) (map whose ls) s until
-waits_of busy f place ks ls line s until (waits_replies is some waits few) st k same =
+waits_of : (busy : Bool) (f : Frame) (place : ℕ) (ks ls : List Seeker) (progress : Progress) (s : Shown) (until : ℕ) → WaitsFor ks progress until busy → KeepsProgress f progress place None s → AllZip KeepsMine ks s.each → (busy ≡ false → map whose ls ≡ map whose ks) → MayWait (cond busy 0 f.wanted) (map whose ls) s until
+waits_of busy f place ks ls progress s until (waits_replies is some waits few) st k same =
     for_replies (some_shown ks s.each k some)
-    (subst (λ n. WaitsUntil n s.moment (deadlines_of s.each) until) (sym st.receives) (subst (λ m. WaitsUntil line.receives m (deadlines_of s.each) until) (sym st.moment)
-    (subst (λ l. WaitsUntil line.receives line.moment l until) (sym (same_deadlines ks s.each k)) waits)))
-waits_of busy f place ks ls line s until (waits_others is none over left waits) st k same =
+    (subst (λ n. WaitsUntil n s.moment (deadlines_of s.each) until) (sym st.receives) (subst (λ m. WaitsUntil progress.receives m (deadlines_of s.each) until) (sym st.moment)
+    (subst (λ l. WaitsUntil progress.receives progress.moment l until) (sym (same_deadlines ks s.each k)) waits)))
+waits_of busy f place ks ls progress s until (waits_others is none over left waits) st k same =
     let still : 0 < f.wanted - s.made = subst (λ n. 0 < n) (sym st.left) left in
     for_others (none_shown ks s.each k none) (subst (λ ws. AllZip IsOver ws s.each) (sym (same is)) (each_over ks s.each over k)) (subst (λ b. s.made < cond b 0 f.wanted) (sym is) (omega (arith, still))) (waits ∙ ap waits_until (sym st.moment))
 
-receives_of : (busy : Bool) (f : Frame) (place : ℕ) (ks ls : List Seeker) (line : Line) (s : Shown) (until : ℕ) → MayReceive ks line until busy → KeepsLine f line place None s → AllZip KeepsMine ks s.each → AllZip Longer ks ls → (busy ≡ false → map whose ls ≡ map whose ks) → Receives (cond busy 0 f.wanted) (map whose ls) s until
-receives_of busy f place ks ls line s until may st k g same = record {
+receives_of : (busy : Bool) (f : Frame) (place : ℕ) (ks ls : List Seeker) (progress : Progress) (s : Shown) (until : ℕ) → MayReceive ks progress until busy → KeepsProgress f progress place None s → AllZip KeepsMine ks s.each → AllZip Longer ks ls → (busy ≡ false → map whose ls ≡ map whose ks) → Receives (cond busy 0 f.wanted) (map whose ls) s until
+receives_of busy f place ks ls progress s until may st k g same = record {
   none_owed = st.owed_is;
-  waits = waits_of busy f place ks ls line s until may.waits st k same;
-  asked = subst (λ n. AllHaveAsked n (map whose ls) s.each) (sym st.receives) (all_asked line.receives ks ls s.each may.in_turn k g);
+  waits = waits_of busy f place ks ls progress s until may.waits st k same;
+  asked = subst (λ n. AllHaveAsked n (map whose ls) s.each) (sym st.receives) (all_asked progress.receives ks ls s.each may.in_turn k g);
 }
 
 -- ---- where no query is open nothing of a lookup changes
@@ -130,9 +130,9 @@ all_still at (o ∷ olds) [] e none = absurd e
 all_still at (o ∷ olds) (n ∷ news) e none =
     ap (λ w. w ∷ map whose news) (one_still at o n e.0 (none_front o.lookup.queries (queries_of olds) none)) ∙ ap (λ ws. whose o ∷ ws) (all_still at olds news e.1 (none_back o.lookup.queries (queries_of olds) none))
 
-none_open : (ks : List Seeker) (line : Line) (until : ℕ) (busy : Bool) → WaitsFor ks line until busy → busy ≡ false → queries_of ks ≡ []
-none_open ks line until busy (waits_replies is some waits few) idle = (let t : true ≡ false = sym is ∙ idle in absurd cc)
-none_open ks line until busy (waits_others is none over left waits) idle = none
+none_open : (ks : List Seeker) (progress : Progress) (until : ℕ) (busy : Bool) → WaitsFor ks progress until busy → busy ≡ false → queries_of ks ≡ []
+none_open ks progress until busy (waits_replies is some waits few) idle = (let t : true ≡ false = sym is ∙ idle in absurd cc)
+none_open ks progress until busy (waits_others is none over left waits) idle = none
 
 -- nobody takes a datagram where no query is open
 none_taken : (accepts : Accepts) (from : Addr) (bytes : List ℕ) (old mid : List Seeker) → TakesFirst accepts from bytes old mid → queries_of old ≡ [] → ⊥
@@ -149,19 +149,19 @@ none_taken accepts from bytes old mid t none = at_it t.before (subst (λ l. quer
 -- ---- a datagram
 
 -- what a step leaves: the lookups, and what is read of it
-pub record GotOn (accepts : Accepts) (tags : Tags) (server : ServeSetting) (busy : Bool) (from : Addr) (bytes : List ℕ) (at : ℕ) (old new : List Seeker) (line line' : Line) (until : ℕ) (host host' : Hands) (owed : Option Owed) : Type 0 where
+pub record GotOn (accepts : Accepts) (tags : Tags) (server : ServeSetting) (busy : Bool) (from : Addr) (bytes : List ℕ) (at : ℕ) (old new : List Seeker) (progress progress' : Progress) (until : ℕ) (host host' : Hands) (owed : Option Owed) : Type 0 where
   pub more : Reading
   pub owners_are : more.owners ≡ []
-  pub goes : (f : Frame) (count place : ℕ) (read : Reading) (events : List Event) → f.accepts ≡ accepts → f.tags ≡ tags → f.server ≡ server → ManyShow busy f count old line place None read events
-      → ManyShow busy f count new line' place owed (and_then read more) (events ++ Got from bytes until at ∷ [])
+  pub goes : (f : Frame) (count place : ℕ) (read : Reading) (events : List Event) → f.accepts ≡ accepts → f.tags ≡ tags → f.server ≡ server → ManyShow busy f count old progress place None read events
+      → ManyShow busy f count new progress' place owed (and_then read more) (events ++ Got from bytes until at ∷ [])
   pub ran : Ran host host' more.did more.lost
 
-line_got : (f : Frame) (line line' : Line) (place at foreign foreign' : ℕ) (owed : Option Owed) (s : Shown) (ns : List Mine) (ls : List Seeker) → KeepsLine f line place None s → foreign ≡ foreign' → line' ≡ record { moment = at; receives = goes_on line.receives (length (queries_of ls)); foreign = foreign'; left = line.left - 1; received = line.received + 1; replied = line.replied } → AllZip KeepsMine ls ns
-    → KeepsLine f line' place owed (after_got s at foreign owed ns)
-line_got f line line' place at foreign foreign' owed s ns ls st same is k =
+progress_got : (f : Frame) (progress progress' : Progress) (place at foreign foreign' : ℕ) (owed : Option Owed) (s : Shown) (ns : List Mine) (ls : List Seeker) → KeepsProgress f progress place None s → foreign ≡ foreign' → progress' ≡ record { moment = at; receives = goes_on progress.receives (length (queries_of ls)); foreign = foreign'; left = progress.left - 1; received = progress.received + 1; replied = progress.replied } → AllZip KeepsMine ls ns
+    → KeepsProgress f progress' place owed (after_got s at foreign owed ns)
+progress_got f progress progress' place at foreign foreign' owed s ns ls st same is k =
     let left = st.left in
-    subst (λ (l : Line). KeepsLine f l place owed (after_got s at foreign owed ns)) (sym is)
-    (record { moment = refl; sends = st.sends; got = ap (λ n. n + 1) st.got; foreign = same; replied = st.replied; receives = ap (λ n. goes_on n (length (open_of ns))) st.receives ∙ ap (goes_on line.receives) (same_count ls ns k); left = omega (arith, left); owed_is = refl })
+    subst (λ (l : Progress). KeepsProgress f l place owed (after_got s at foreign owed ns)) (sym is)
+    (record { moment = refl; sends = st.sends; got = ap (λ n. n + 1) st.got; foreign = same; replied = st.replied; receives = ap (λ n. goes_on n (length (open_of ns))) st.receives ∙ ap (goes_on progress.receives) (same_count ls ns k); left = omega (arith, left); owed_is = refl })
 
 -- what is read of a receive
 lost_read : List Did → List Contact → Reading
@@ -172,28 +172,28 @@ unfolding lost_read
 read_is_of did lost ns e = same_reading (lost_read did lost) (read_of did ns) refl refl (sym e)
 
 -- while a query is open the one more isn't the last that is taken
-few_more : (ks : List Seeker) (line counted : Line) (until : ℕ) (busy : Bool) → WaitsFor ks line until busy → Counts busy line counted → queries_of ks ≢ [] → line.foreign + 1 < max_strays
-few_more ks line counted until busy (waits_replies is some waits few) counts any =
-    let is_more : counted.foreign ≡ line.foreign + 1 = ap (λ (l : Line). l.foreign) counts.0 in
+few_more : (ks : List Seeker) (progress counted : Progress) (until : ℕ) (busy : Bool) → WaitsFor ks progress until busy → Counts busy progress counted → queries_of ks ≢ [] → progress.foreign + 1 < max_strays
+few_more ks progress counted until busy (waits_replies is some waits few) counts any =
+    let is_more : counted.foreign ≡ progress.foreign + 1 = ap (λ (l : Progress). l.foreign) counts.0 in
     subst (λ n. n < max_strays) is_more (counts.1 is)
-few_more ks line counted until busy (waits_others is none over left waits) counts any = absurd (any none)
+few_more ks progress counted until busy (waits_others is none over left waits) counts any = absurd (any none)
 
-module _ (accepts : Accepts) (tags : Tags) (server : ServeSetting) (busy : Bool) (from : Addr) (bytes : List ℕ) (until at : ℕ) (old new : List Seeker) (line line' : Line) (host host' : Hands) where
+module _ (accepts : Accepts) (tags : Tags) (server : ServeSetting) (busy : Bool) (from : Addr) (bytes : List ℕ) (until at : ℕ) (old new : List Seeker) (progress progress' : Progress) (host host' : Hands) where
   -- where a lookup takes it
-  got_taken : (c : Comes accepts tags server busy from bytes at old new line line' host host' None) → MayReceive old line until busy → TakesFirst accepts from bytes old c.mid → c.counted ≡ line → c.between ≡ host → GotOn accepts tags server busy from bytes at old new line line' until host host' None
+  got_taken : (c : Comes accepts tags server busy from bytes at old new progress progress' host host' None) → MayReceive old progress until busy → TakesFirst accepts from bytes old c.mid → c.counted ≡ progress → c.between ≡ host → GotOn accepts tags server busy from bytes at old new progress progress' until host host' None
   unfolding lost_read
   got_taken c may t counted between = record {
     more = lost_read [] (all_lapsed at c.mid);
     owners_are = refl;
     goes = λ f count place read events ea et es h.
         let s = h.end in
-        let st = h.keeps_line in
+        let st = h.keeps_progress in
         let first = first_on accepts from bytes at old c.mid new s.each may.holds h.keeps_each t c.expires in
         let on = first.on in
-        let same : busy ≡ false → map whose new ≡ map whose old = (λ idle. absurd (none_taken accepts from bytes old c.mid t (none_open old line until busy may.waits idle))) in
-        let same_foreign : s.foreign ≡ c.counted.foreign = st.foreign ∙ sym (ap (λ (l : Line). l.foreign) counted) in
-        shows_more busy f count place place None None read (lost_read [] (all_lapsed at c.mid)) old new line line' (Got from bytes until at) events h (after_got s at s.foreign None first.after) on.longer same (
-          receives_of busy f place old new line s until may st h.keeps_each on.longer same,
+        let same : busy ≡ false → map whose new ≡ map whose old = (λ idle. absurd (none_taken accepts from bytes old c.mid t (none_open old progress until busy may.waits idle))) in
+        let same_foreign : s.foreign ≡ c.counted.foreign = st.foreign ∙ sym (ap (λ (l : Progress). l.foreign) counted) in
+        shows_more busy f count place place None None read (lost_read [] (all_lapsed at c.mid)) old new progress progress' (Got from bytes until at) events h (after_got s at s.foreign None first.after) on.longer same (
+          receives_of busy f place old new progress s until may st h.keeps_each on.longer same,
           inl (record {
             each = first.after;
             first = subst (λ a. FirstTakes a from bytes at (map whose new) s.each first.after) (sym ea) (first_longer accepts from bytes at old new s.each first.after on.longer first.first);
@@ -201,27 +201,27 @@ module _ (accepts : Accepts) (tags : Tags) (server : ServeSetting) (busy : Bool)
             after = refl;
           }),
         )
-        (line_got f line line' place at s.foreign c.counted.foreign None s first.after new st same_foreign c.line_is on.keeps) on.keeps;
+        (progress_got f progress progress' place at s.foreign c.counted.foreign None s first.after new st same_foreign c.progress_is on.keeps) on.keeps;
     ran = subst (λ h. Ran h host' [] (all_lapsed at c.mid)) between c.ran;
   }
 
   -- where it is for none
-  got_foreign : (owed : Option Owed) (c : Comes accepts tags server busy from bytes at old new line line' host host' owed) → MayReceive old line until busy → AllByRecursion (λ k. IsNotFor accepts from bytes k) old → c.mid ≡ old → Counts busy line c.counted → Answers tags server from bytes at owed host c.between
-      → GotOn accepts tags server busy from bytes at old new line line' until host host' owed
+  got_foreign : (owed : Option Owed) (c : Comes accepts tags server busy from bytes at old new progress progress' host host' owed) → MayReceive old progress until busy → AllByRecursion (λ k. IsNotFor accepts from bytes k) old → c.mid ≡ old → Counts busy progress c.counted → Answers tags server from bytes at owed host c.between
+      → GotOn accepts tags server busy from bytes at old new progress progress' until host host' owed
   unfolding lost_read
   got_foreign owed c may none mid counts answers = record {
     more = lost_read answers.did (all_lapsed at old);
     owners_are = refl;
     goes = λ f count place read events ea et es h.
         let s = h.end in
-        let st = h.keeps_line in
+        let st = h.keeps_progress in
         let expires : AllZip (Expires at) old new = subst (λ l. AllZip (Expires at) l new) mid c.expires in
         let on = all_wait at old new s.each may.holds h.keeps_each expires in
-        let same : busy ≡ false → map whose new ≡ map whose old = (λ idle. all_still at old new expires (none_open old line until busy may.waits idle)) in
-        let few : open_of s.each ≢ [] → s.foreign + 1 < max_strays = (λ some. subst (λ n. n + 1 < max_strays) (sym st.foreign) (few_more old line c.counted until busy may.waits counts (λ none. some (none_shown old s.each h.keeps_each none)))) in
-        let more_foreign : s.foreign + 1 ≡ c.counted.foreign = ap (λ n. n + 1) st.foreign ∙ sym (ap (λ (l : Line). l.foreign) counts.0) in
-        shows_more busy f count place place None owed read (lost_read answers.did (all_lapsed at old)) old new line line' (Got from bytes until at) events h (after_got s at (s.foreign + 1) owed (map (waited at) s.each)) on.longer same (
-          receives_of busy f place old new line s until may st h.keeps_each on.longer same,
+        let same : busy ≡ false → map whose new ≡ map whose old = (λ idle. all_still at old new expires (none_open old progress until busy may.waits idle)) in
+        let few : open_of s.each ≢ [] → s.foreign + 1 < max_strays = (λ some. subst (λ n. n + 1 < max_strays) (sym st.foreign) (few_more old progress c.counted until busy may.waits counts (λ none. some (none_shown old s.each h.keeps_each none)))) in
+        let more_foreign : s.foreign + 1 ≡ c.counted.foreign = ap (λ n. n + 1) st.foreign ∙ sym (ap (λ (l : Progress). l.foreign) counts.0) in
+        shows_more busy f count place place None owed read (lost_read answers.did (all_lapsed at old)) old new progress progress' (Got from bytes until at) events h (after_got s at (s.foreign + 1) owed (map (waited at) s.each)) on.longer same (
+          receives_of busy f place old new progress s until may st h.keeps_each on.longer same,
           inr (record {
             foreign = subst (λ a. IsForeign a from bytes (map whose new) s.each) (sym ea) (foreign_longer accepts from bytes old new s.each on.longer (all_stray accepts from bytes old s.each h.keeps_each none));
             did = answers.did;
@@ -232,14 +232,14 @@ module _ (accepts : Accepts) (tags : Tags) (server : ServeSetting) (busy : Bool)
             after = refl;
           }),
         )
-        (line_got f line line' place at (s.foreign + 1) c.counted.foreign owed s (map (waited at) s.each) new st more_foreign c.line_is on.keeps) on.keeps;
+        (progress_got f progress progress' place at (s.foreign + 1) c.counted.foreign owed s (map (waited at) s.each) new st more_foreign c.progress_is on.keeps) on.keeps;
     ran = subst (λ d. Ran host host' d (all_lapsed at old)) (append-nil answers.did) (ran_then host c.between host' answers.did [] [] (all_lapsed at old) answers.same (ran_answer host c.between answers.did answers.grew (had_memory tags server from bytes at answers.did owed answers.owes)) (subst (λ l. Ran c.between host' [] (all_lapsed at l)) mid c.ran));
   }
 
-  pub got_on : (owed : Option Owed) (c : Comes accepts tags server busy from bytes at old new line line' host host' owed) → MayReceive old line until busy → GotOn accepts tags server busy from bytes at old new line line' until host host' owed
+  pub got_on : (owed : Option Owed) (c : Comes accepts tags server busy from bytes at old new progress progress' host host' owed) → MayReceive old progress until busy → GotOn accepts tags server busy from bytes at old new progress progress' until host host' owed
   got_on owed c may = pick owed c c.handles
     where
-      pick : (owed : Option Owed) (c : Comes accepts tags server busy from bytes at old new line line' host host' owed) → Handles accepts tags server busy from bytes at old c.mid line c.counted host c.between owed → GotOn accepts tags server busy from bytes at old new line line' until host host' owed
+      pick : (owed : Option Owed) (c : Comes accepts tags server busy from bytes at old new progress progress' host host' owed) → Handles accepts tags server busy from bytes at old c.mid progress c.counted host c.between owed → GotOn accepts tags server busy from bytes at old new progress progress' until host host' owed
       pick None c (is_taken t counted between nothing) = got_taken c may t counted between
       pick (Some o) c (is_taken t counted between nothing) = absurd cc
       pick owed c (is_foreign none mid counts answers) = got_foreign owed c may none mid counts answers
@@ -253,62 +253,62 @@ pub all_longer : (ks : List Seeker) → AllZip Longer ks ks
 all_longer [] = tt
 all_longer (k ∷ ks) = (same_longer k, all_longer ks)
 
-paid : (busy : Bool) (f : Frame) (count place : ℕ) (read : Reading) (ks : List Seeker) (line : Line) (owed : Owed) (es : List Event) (was_sent : Bool) → ManyShow busy f count ks line place (Some owed) read es
-    → ManyShow busy f count ks (after_paid line was_sent) place None (and_then read nothing_read) (es ++ tried was_sent owed.to owed.reply ∷ [])
-paid busy f count place read ks line owed es true h =
-    let st = h.keeps_line in
+paid : (busy : Bool) (f : Frame) (count place : ℕ) (read : Reading) (ks : List Seeker) (progress : Progress) (owed : Owed) (es : List Event) (was_sent : Bool) → ManyShow busy f count ks progress place (Some owed) read es
+    → ManyShow busy f count ks (after_paid progress was_sent) place None (and_then read nothing_read) (es ++ tried was_sent owed.to owed.reply ∷ [])
+paid busy f count place read ks progress owed es true h =
+    let st = h.keeps_progress in
     let t : Shown = record h.end { owed = None; replied = h.end.replied + 1 } in
-    shows_more busy f count place place (Some owed) None read nothing_read ks ks line (after_paid line true) (Sent owed.to owed.reply) es h t (all_longer ks) (λ idle. refl) (inr (record { owes = st.owed_is; nothing = refl; after = refl }))
+    shows_more busy f count place place (Some owed) None read nothing_read ks ks progress (after_paid progress true) (Sent owed.to owed.reply) es h t (all_longer ks) (λ idle. refl) (inr (record { owes = st.owed_is; nothing = refl; after = refl }))
     (record { moment = st.moment; sends = st.sends; got = st.got; foreign = st.foreign; replied = ap (λ n. n + 1) st.replied; receives = st.receives; left = st.left; owed_is = refl }) h.keeps_each
-paid busy f count place read ks line owed es false h =
-    let st = h.keeps_line in
+paid busy f count place read ks progress owed es false h =
+    let st = h.keeps_progress in
     let t : Shown = record h.end { owed = None } in
-    shows_more busy f count place place (Some owed) None read nothing_read ks ks line line (Unsent owed.to owed.reply) es h t (all_longer ks) (λ idle. refl) (inr (record { owes = st.owed_is; nothing = refl; after = refl }))
+    shows_more busy f count place place (Some owed) None read nothing_read ks ks progress progress (Unsent owed.to owed.reply) es h t (all_longer ks) (λ idle. refl) (inr (record { owes = st.owed_is; nothing = refl; after = refl }))
     (record { moment = st.moment; sends = st.sends; got = st.got; foreign = st.foreign; replied = st.replied; receives = st.receives; left = st.left; owed_is = refl }) h.keeps_each
 
 -- the reply that is owed is sent, and then none is
-pays_on : (busy : Bool) (f : Frame) (count place : ℕ) (read : Reading) (ks : List Seeker) (line : Line) (owed : Option Owed) (was_sent : Bool) (es fs : List Event) → Pays owed was_sent fs → ManyShow busy f count ks line place owed read es → ManyShow busy f count ks (after_paid line was_sent) place None read (es ++ fs)
-pays_on busy f count place read ks line None was_sent es fs is h =
-    subst (λ b. ManyShow busy f count ks (after_paid line b) place None read (es ++ fs)) (sym is.0) (subst (ManyShow busy f count ks line place None read) (sym (ap (λ l. es ++ l) is.1 ∙ append-nil es)) h)
-pays_on busy f count place read ks line (Some owed) was_sent es fs is h =
-    subst (λ l. ManyShow busy f count ks (after_paid line was_sent) place None read (es ++ l)) (sym is) (subst (λ r. ManyShow busy f count ks (after_paid line was_sent) place None r (es ++ tried was_sent owed.to owed.reply ∷ [])) (nothing_after read) (paid busy f count place read ks line owed es was_sent h))
+pays_on : (busy : Bool) (f : Frame) (count place : ℕ) (read : Reading) (ks : List Seeker) (progress : Progress) (owed : Option Owed) (was_sent : Bool) (es fs : List Event) → Pays owed was_sent fs → ManyShow busy f count ks progress place owed read es → ManyShow busy f count ks (after_paid progress was_sent) place None read (es ++ fs)
+pays_on busy f count place read ks progress None was_sent es fs is h =
+    subst (λ b. ManyShow busy f count ks (after_paid progress b) place None read (es ++ fs)) (sym is.0) (subst (ManyShow busy f count ks progress place None read) (sym (ap (λ l. es ++ l) is.1 ∙ append-nil es)) h)
+pays_on busy f count place read ks progress (Some owed) was_sent es fs is h =
+    subst (λ l. ManyShow busy f count ks (after_paid progress was_sent) place None read (es ++ l)) (sym is) (subst (λ r. ManyShow busy f count ks (after_paid progress was_sent) place None r (es ++ tried was_sent owed.to owed.reply ∷ [])) (nothing_after read) (paid busy f count place read ks progress owed es was_sent h))
 
 -- ---- whatever was told since any beginning
 
 -- a datagram, and what it was owed
-pub got_advances : (accepts : Accepts) (tags : Tags) (server : ServeSetting) (busy : Bool) (from : Addr) (bytes : List ℕ) (until at : ℕ) (old new : List Seeker) (line line' after : Line) (host host' : Hands) (owed : Option Owed) (was_sent : Bool) (words : WordsState) (told mid told' : Option (List Event)) → after ≡ after_paid line' was_sent
-    → GotOn accepts tags server busy from bytes at old new line line' until host host' owed → Grows told mid (λ es. es ≡ Got from bytes until at ∷ []) → Grows mid told' (Pays owed was_sent) → Advances busy [] accepts tags server (stand old line words host told) (stand new after words host' told')
-got_advances accepts tags server busy from bytes until at old new line line' after host host' owed was_sent words told mid told' paid on got pays = record {
+pub got_advances : (accepts : Accepts) (tags : Tags) (server : ServeSetting) (busy : Bool) (from : Addr) (bytes : List ℕ) (until at : ℕ) (old new : List Seeker) (progress progress' after : Progress) (host host' : Hands) (owed : Option Owed) (was_sent : Bool) (words : WordsState) (told mid told' : Option (List Event)) → after ≡ after_paid progress' was_sent
+    → GotOn accepts tags server busy from bytes at old new progress progress' until host host' owed → Grows told mid (λ es. es ≡ Got from bytes until at ∷ []) → Grows mid told' (Pays owed was_sent) → Advances busy [] accepts tags server (stand old progress words host told) (stand new after words host' told')
+got_advances accepts tags server busy from bytes until at old new progress progress' after host host' owed was_sent words told mid told' paid on got pays = record {
   more = on.more;
   owners_are = on.owners_are;
   goes = λ f count read began is h.
       grows_then began mid told' _ _ _
-      (grows_then began told mid _ _ _ h got (λ es fs shows e. subst (λ l. ManyShow busy f count new line' words.place owed (and_then read on.more) (es ++ l)) (sym e) (on.goes f count words.place read es is.accepts_is is.tags_is is.server_is shows)))
-      pays (λ es fs shows p. subst (λ (l : Line). ManyShow busy f count new l words.place None (and_then read on.more) (es ++ fs)) (sym paid) (pays_on busy f count words.place (and_then read on.more) new line' owed was_sent es fs p shows));
+      (grows_then began told mid _ _ _ h got (λ es fs shows e. subst (λ l. ManyShow busy f count new progress' words.place owed (and_then read on.more) (es ++ l)) (sym e) (on.goes f count words.place read es is.accepts_is is.tags_is is.server_is shows)))
+      pays (λ es fs shows p. subst (λ (l : Progress). ManyShow busy f count new l words.place None (and_then read on.more) (es ++ fs)) (sym paid) (pays_on busy f count words.place (and_then read on.more) new progress' owed was_sent es fs p shows));
   ran = on.ran;
   seed = refl;
 }
 
 -- no datagram
-quiet_on : (busy : Bool) (until at : ℕ) (old new : List Seeker) (line line' : Line) (host host' : Hands) (f : Frame) (count place : ℕ) (read : Reading) (es : List Event) → MayReceive old line until busy → Passes at old new line line' host host' → ManyShow busy f count old line place None read es
-    → ManyShow busy f count new line' place None (and_then read (lost_read [] (all_lapsed at old))) (es ++ Quiet until at ∷ [])
-quiet_on busy until at old new line line' host host' f count place read es may c h =
+quiet_on : (busy : Bool) (until at : ℕ) (old new : List Seeker) (progress progress' : Progress) (host host' : Hands) (f : Frame) (count place : ℕ) (read : Reading) (es : List Event) → MayReceive old progress until busy → Passes at old new progress progress' host host' → ManyShow busy f count old progress place None read es
+    → ManyShow busy f count new progress' place None (and_then read (lost_read [] (all_lapsed at old))) (es ++ Quiet until at ∷ [])
+quiet_on busy until at old new progress progress' host host' f count place read es may c h =
     let s = h.end in
-    let st = h.keeps_line in
+    let st = h.keeps_progress in
     let left = st.left in
     let on = all_wait at old new s.each may.holds h.keeps_each c.expires in
-    let same : busy ≡ false → map whose new ≡ map whose old = (λ idle. all_still at old new c.expires (none_open old line until busy may.waits idle)) in
-    shows_more busy f count place place None None read (lost_read [] (all_lapsed at old)) old new line line' (Quiet until at) es h (after_quiet s at) on.longer same
-    (receives_of busy f place old new line s until may st h.keeps_each on.longer same, read_is_of [] (all_lapsed at old) (map (waited at) s.each) on.lost, refl)
-    (subst (λ (l : Line). KeepsLine f l place None (after_quiet s at)) (sym c.line_is) (record { moment = refl; sends = st.sends; got = st.got; foreign = st.foreign; replied = st.replied; receives = refl; left = omega (arith, left); owed_is = refl })) on.keeps
+    let same : busy ≡ false → map whose new ≡ map whose old = (λ idle. all_still at old new c.expires (none_open old progress until busy may.waits idle)) in
+    shows_more busy f count place place None None read (lost_read [] (all_lapsed at old)) old new progress progress' (Quiet until at) es h (after_quiet s at) on.longer same
+    (receives_of busy f place old new progress s until may st h.keeps_each on.longer same, read_is_of [] (all_lapsed at old) (map (waited at) s.each) on.lost, refl)
+    (subst (λ (l : Progress). KeepsProgress f l place None (after_quiet s at)) (sym c.progress_is) (record { moment = refl; sends = st.sends; got = st.got; foreign = st.foreign; replied = st.replied; receives = refl; left = omega (arith, left); owed_is = refl })) on.keeps
 
-pub quiet_advances : (accepts : Accepts) (tags : Tags) (server : ServeSetting) (busy : Bool) (until at : ℕ) (old new : List Seeker) (line line' : Line) (host host' : Hands) (words : WordsState) (told told' : Option (List Event))
-    → MayReceive old line until busy → Passes at old new line line' host host' → Grows told told' (λ es. es ≡ Quiet until at ∷ []) → Advances busy [] accepts tags server (stand old line words host told) (stand new line' words host' told')
+pub quiet_advances : (accepts : Accepts) (tags : Tags) (server : ServeSetting) (busy : Bool) (until at : ℕ) (old new : List Seeker) (progress progress' : Progress) (host host' : Hands) (words : WordsState) (told told' : Option (List Event))
+    → MayReceive old progress until busy → Passes at old new progress progress' host host' → Grows told told' (λ es. es ≡ Quiet until at ∷ []) → Advances busy [] accepts tags server (stand old progress words host told) (stand new progress' words host' told')
 unfolding lost_read
-quiet_advances accepts tags server busy until at old new line line' host host' words told told' may c quiet = record {
+quiet_advances accepts tags server busy until at old new progress progress' host host' words told told' may c quiet = record {
   more = lost_read [] (all_lapsed at old);
   owners_are = refl;
-  goes = λ f count read began is h. grows_then began told told' _ _ _ h quiet (λ es fs shows e. subst (λ l. ManyShow busy f count new line' words.place None (and_then read (lost_read [] (all_lapsed at old))) (es ++ l)) (sym e) (quiet_on busy until at old new line line' host host' f count words.place read es may c shows));
+  goes = λ f count read began is h. grows_then began told told' _ _ _ h quiet (λ es fs shows e. subst (λ l. ManyShow busy f count new progress' words.place None (and_then read (lost_read [] (all_lapsed at old))) (es ++ l)) (sym e) (quiet_on busy until at old new progress progress' host host' f count words.place read es may c shows));
   ran = c.ran;
   seed = refl;
 }
@@ -343,21 +343,21 @@ few_next n k = elim (next_in n k) [
 ]
 
 -- the count of foreign datagrams after it
-record Counted (busy : Bool) (old mid : List Seeker) (line counted : Line) : Type 0 where
-  most : counted.foreign ≤ line.foreign + 1
+record Counted (busy : Bool) (old mid : List Seeker) (progress counted : Progress) : Type 0 where
+  most : counted.foreign ≤ progress.foreign + 1
   few : busy ≡ true → counted.foreign < max_strays
-  closes : length (queries_of mid) + line.foreign + 1 ≡ length (queries_of old) + counted.foreign
+  closes : length (queries_of mid) + progress.foreign + 1 ≡ length (queries_of old) + counted.foreign
 
-few_while : (ks : List Seeker) (line : Line) (until : ℕ) (busy : Bool) → WaitsFor ks line until busy → busy ≡ true → line.foreign < max_strays
-few_while ks line until busy (waits_replies is some waits few) is_busy = few
-few_while ks line until busy (waits_others is none over left waits) is_busy = (let t : true ≡ false = sym is_busy ∙ is in absurd cc)
+few_while : (ks : List Seeker) (progress : Progress) (until : ℕ) (busy : Bool) → WaitsFor ks progress until busy → busy ≡ true → progress.foreign < max_strays
+few_while ks progress until busy (waits_replies is some waits few) is_busy = few
+few_while ks progress until busy (waits_others is none over left waits) is_busy = (let t : true ≡ false = sym is_busy ∙ is in absurd cc)
 
-counted_of : (accepts : Accepts) (tags : Tags) (server : ServeSetting) (busy : Bool) (from : Addr) (bytes : List ℕ) (at : ℕ) (old mid : List Seeker) (line counted : Line) (host between : Hands) (owed : Option Owed) → (busy ≡ true → line.foreign < max_strays) → Handles accepts tags server busy from bytes at old mid line counted host between owed → Counted busy old mid line counted
-counted_of accepts tags server busy from bytes at old mid line counted host between owed few (is_taken t is b o) =
+counted_of : (accepts : Accepts) (tags : Tags) (server : ServeSetting) (busy : Bool) (from : Addr) (bytes : List ℕ) (at : ℕ) (old mid : List Seeker) (progress counted : Progress) (host between : Hands) (owed : Option Owed) → (busy ≡ true → progress.foreign < max_strays) → Handles accepts tags server busy from bytes at old mid progress counted host between owed → Counted busy old mid progress counted
+counted_of accepts tags server busy from bytes at old mid progress counted host between owed few (is_taken t is b o) =
     let one = closes_one accepts from bytes old mid t in
-    subst (Counted busy old mid line) (sym is) (record { most = omega arith; few = few; closes = omega (arith, one) })
-counted_of accepts tags server busy from bytes at old mid line counted host between owed few (is_foreign none m counts answers) =
-    let is : counted.foreign ≡ line.foreign + 1 = ap (λ (l : Line). l.foreign) counts.0 in
+    subst (Counted busy old mid progress) (sym is) (record { most = omega arith; few = few; closes = omega (arith, one) })
+counted_of accepts tags server busy from bytes at old mid progress counted host between owed few (is_foreign none m counts answers) =
+    let is : counted.foreign ≡ progress.foreign + 1 = ap (λ (l : Progress). l.foreign) counts.0 in
     let same : length (queries_of mid) ≡ length (queries_of old) = ap (λ l. length (queries_of l)) m in
     record { most = omega (arith, is); few = counts.1; closes = omega (arith, is, same) }
 
@@ -383,15 +383,15 @@ taken_longer accepts from bytes [] behind one after m =
     (record { more = h.hears.entry ∷ []; quest = m.quest; setting = ap (λ (b : BookState). b.setting) h.hears.after; journal = ap (λ (b : BookState). b.journal) h.hears.after }, all_longer behind)
 taken_longer accepts from bytes (k ∷ before) behind one after m = (same_longer k, taken_longer accepts from bytes before behind one after m)
 
-handled_longer : (accepts : Accepts) (tags : Tags) (server : ServeSetting) (busy : Bool) (from : Addr) (bytes : List ℕ) (at : ℕ) (old mid : List Seeker) (line counted : Line) (host between : Hands) (owed : Option Owed) → Handles accepts tags server busy from bytes at old mid line counted host between owed → AllZip Longer old mid
-handled_longer accepts tags server busy from bytes at old mid line counted host between owed (is_taken t is b o) =
+handled_longer : (accepts : Accepts) (tags : Tags) (server : ServeSetting) (busy : Bool) (from : Addr) (bytes : List ℕ) (at : ℕ) (old mid : List Seeker) (progress counted : Progress) (host between : Hands) (owed : Option Owed) → Handles accepts tags server busy from bytes at old mid progress counted host between owed → AllZip Longer old mid
+handled_longer accepts tags server busy from bytes at old mid progress counted host between owed (is_taken t is b o) =
     subst (λ l. AllZip Longer l mid) (sym t.were) (subst (AllZip Longer (t.before ++ t.one ∷ t.behind)) (sym t.are) (taken_longer accepts from bytes t.before t.behind t.one t.after t.takes))
-handled_longer accepts tags server busy from bytes at old mid line counted host between owed (is_foreign none m counts answers) = subst (AllZip Longer old) (sym m) (all_longer old)
+handled_longer accepts tags server busy from bytes at old mid progress counted host between owed (is_foreign none m counts answers) = subst (AllZip Longer old) (sym m) (all_longer old)
 
 -- where no query is open the datagram changes no lookup
-handled_idle : (accepts : Accepts) (tags : Tags) (server : ServeSetting) (busy : Bool) (from : Addr) (bytes : List ℕ) (at : ℕ) (old mid : List Seeker) (line counted : Line) (host between : Hands) (owed : Option Owed) → Handles accepts tags server busy from bytes at old mid line counted host between owed → queries_of old ≡ [] → mid ≡ old
-handled_idle accepts tags server busy from bytes at old mid line counted host between owed (is_taken t is b o) none = absurd (none_taken accepts from bytes old mid t none)
-handled_idle accepts tags server busy from bytes at old mid line counted host between owed (is_foreign none m counts answers) idle = m
+handled_idle : (accepts : Accepts) (tags : Tags) (server : ServeSetting) (busy : Bool) (from : Addr) (bytes : List ℕ) (at : ℕ) (old mid : List Seeker) (progress counted : Progress) (host between : Hands) (owed : Option Owed) → Handles accepts tags server busy from bytes at old mid progress counted host between owed → queries_of old ≡ [] → mid ≡ old
+handled_idle accepts tags server busy from bytes at old mid progress counted host between owed (is_taken t is b o) none = absurd (none_taken accepts from bytes old mid t none)
+handled_idle accepts tags server busy from bytes at old mid progress counted host between owed (is_foreign none m counts answers) idle = m
 
 -- and none is open afterwards
 all_closed : (at : ℕ) (olds news : List Seeker) → AllZip (Expires at) olds news → queries_of olds ≡ [] → queries_of news ≡ []
@@ -401,68 +401,68 @@ all_closed at (o ∷ olds) [] e none = absurd e
 all_closed at (o ∷ olds) (n ∷ news) e none =
     ap (λ l. l ++ queries_of news) (e.0.loses.queries ∙ ap (filter (λ (q : Query). nat_lt at q.deadline)) (none_front o.lookup.queries (queries_of olds) none)) ∙ all_closed at olds news e.1 (none_back o.lookup.queries (queries_of olds) none)
 
-handled_only : (accepts : Accepts) (tags : Tags) (server : ServeSetting) (busy : Bool) (from : Addr) (bytes : List ℕ) (at : ℕ) (old mid : List Seeker) (line counted : Line) (host between : Hands) (owed : Option Owed) → Handles accepts tags server busy from bytes at old mid line counted host between owed → AllZip OnlyHeard old mid
-handled_only accepts tags server busy from bytes at old mid line counted host between owed (is_taken t is b o) = first_taken accepts from bytes old mid t
-handled_only accepts tags server busy from bytes at old mid line counted host between owed (is_foreign none m counts answers) = subst (AllZip OnlyHeard old) (sym m) (only_same_all old)
+handled_only : (accepts : Accepts) (tags : Tags) (server : ServeSetting) (busy : Bool) (from : Addr) (bytes : List ℕ) (at : ℕ) (old mid : List Seeker) (progress counted : Progress) (host between : Hands) (owed : Option Owed) → Handles accepts tags server busy from bytes at old mid progress counted host between owed → AllZip OnlyHeard old mid
+handled_only accepts tags server busy from bytes at old mid progress counted host between owed (is_taken t is b o) = first_taken accepts from bytes old mid t
+handled_only accepts tags server busy from bytes at old mid progress counted host between owed (is_foreign none m counts answers) = subst (AllZip OnlyHeard old) (sym m) (only_same_all old)
 
-handled_driven : (accepts : Accepts) (tags : Tags) (server : ServeSetting) (busy : Bool) (from : Addr) (bytes : List ℕ) (at : ℕ) (old mid : List Seeker) (line counted : Line) (host between : Hands) (owed : Option Owed) → Handles accepts tags server busy from bytes at old mid line counted host between owed → AllZip DrivenOn old mid
-handled_driven accepts tags server busy from bytes at old mid line counted host between owed (is_taken t is b o) = first_driven accepts from bytes old mid t
-handled_driven accepts tags server busy from bytes at old mid line counted host between owed (is_foreign none m counts answers) = subst (AllZip DrivenOn old) (sym m) (same_driven old)
+handled_driven : (accepts : Accepts) (tags : Tags) (server : ServeSetting) (busy : Bool) (from : Addr) (bytes : List ℕ) (at : ℕ) (old mid : List Seeker) (progress counted : Progress) (host between : Hands) (owed : Option Owed) → Handles accepts tags server busy from bytes at old mid progress counted host between owed → AllZip DrivenOn old mid
+handled_driven accepts tags server busy from bytes at old mid progress counted host between owed (is_taken t is b o) = first_driven accepts from bytes old mid t
+handled_driven accepts tags server busy from bytes at old mid progress counted host between owed (is_foreign none m counts answers) = subst (AllZip DrivenOn old) (sym m) (same_driven old)
 
-handled_seats : (accepts : Accepts) (tags : Tags) (server : ServeSetting) (busy : Bool) (from : Addr) (bytes : List ℕ) (at : ℕ) (old mid : List Seeker) (line counted : Line) (host between : Hands) (owed : Option Owed) → Handles accepts tags server busy from bytes at old mid line counted host between owed → AllZip SameSeat old mid
-handled_seats accepts tags server busy from bytes at old mid line counted host between owed (is_taken t is b o) = first_seats accepts from bytes old mid t
-handled_seats accepts tags server busy from bytes at old mid line counted host between owed (is_foreign none m counts answers) = subst (AllZip SameSeat old) (sym m) (same_seats old)
+handled_seats : (accepts : Accepts) (tags : Tags) (server : ServeSetting) (busy : Bool) (from : Addr) (bytes : List ℕ) (at : ℕ) (old mid : List Seeker) (progress counted : Progress) (host between : Hands) (owed : Option Owed) → Handles accepts tags server busy from bytes at old mid progress counted host between owed → AllZip SameSeat old mid
+handled_seats accepts tags server busy from bytes at old mid progress counted host between owed (is_taken t is b o) = first_seats accepts from bytes old mid t
+handled_seats accepts tags server busy from bytes at old mid progress counted host between owed (is_foreign none m counts answers) = subst (AllZip SameSeat old) (sym m) (same_seats old)
 
-come_received : (accepts : Accepts) (tags : Tags) (server : ServeSetting) (busy : Bool) (from : Addr) (bytes : List ℕ) (until at : ℕ) (old new : List Seeker) (line line' : Line) (host host' : Hands) (owed : Option Owed) → MayReceive old line until busy → Comes accepts tags server busy from bytes at old new line line' host host' owed → Received busy old new line line'
-come_received accepts tags server busy from bytes until at old new line line' host host' owed may c =
-    let n = line.receives in
+come_received : (accepts : Accepts) (tags : Tags) (server : ServeSetting) (busy : Bool) (from : Addr) (bytes : List ℕ) (until at : ℕ) (old new : List Seeker) (progress progress' : Progress) (host host' : Hands) (owed : Option Owed) → MayReceive old progress until busy → Comes accepts tags server busy from bytes at old new progress progress' host host' owed → Received busy old new progress progress'
+come_received accepts tags server busy from bytes until at old new progress progress' host host' owed may c =
+    let n = progress.receives in
     let k = length (queries_of new) in
-    let counted = counted_of accepts tags server busy from bytes at old c.mid line c.counted host c.between owed (few_while old line until busy may.waits) c.handles in
+    let counted = counted_of accepts tags server busy from bytes at old c.mid progress c.counted host c.between owed (few_while old progress until busy may.waits) c.handles in
     let most = counted.most in
     let closes = counted.closes in
     let fewer = fewer_expired at c.mid new c.expires in
-    let only = all_then old c.mid new (handled_only accepts tags server busy from bytes at old c.mid line c.counted host c.between owed c.handles) (all_expired at c.mid new c.expires) in
-    let more : line'.received ≡ line.received + 1 = ap (λ (l : Line). l.received) c.line_is in
-    let same_replied : line'.replied ≡ line.replied = ap (λ (l : Line). l.replied) c.line_is in
-    let receives : line'.receives ≡ goes_on n k = ap (λ (l : Line). l.receives) c.line_is in
-    let same_foreign : line'.foreign ≡ c.counted.foreign = ap (λ (l : Line). l.foreign) c.line_is in
+    let only = all_then old c.mid new (handled_only accepts tags server busy from bytes at old c.mid progress c.counted host c.between owed c.handles) (all_expired at c.mid new c.expires) in
+    let more : progress'.received ≡ progress.received + 1 = ap (λ (l : Progress). l.received) c.progress_is in
+    let same_replied : progress'.replied ≡ progress.replied = ap (λ (l : Progress). l.replied) c.progress_is in
+    let receives : progress'.receives ≡ goes_on n k = ap (λ (l : Progress). l.receives) c.progress_is in
+    let same_foreign : progress'.foreign ≡ c.counted.foreign = ap (λ (l : Progress). l.foreign) c.progress_is in
     let expires_idle : busy ≡ false → AllZip (Expires at) old new =
-    (λ idle. subst (λ l. AllZip (Expires at) l new) (handled_idle accepts tags server busy from bytes at old c.mid line c.counted host c.between owed c.handles (none_open old line until busy may.waits idle)) c.expires) in
+    (λ idle. subst (λ l. AllZip (Expires at) l new) (handled_idle accepts tags server busy from bytes at old c.mid progress c.counted host c.between owed c.handles (none_open old progress until busy may.waits idle)) c.expires) in
     record {
       holds = expired_hold at c.mid new c.expires;
-      longer = mid_longer at old c.mid new (handled_longer accepts tags server busy from bytes at old c.mid line c.counted host c.between owed c.handles) c.expires;
+      longer = mid_longer at old c.mid new (handled_longer accepts tags server busy from bytes at old c.mid progress c.counted host c.between owed c.handles) c.expires;
       only_heard = only;
-      driven_on = driven_then old c.mid new (handled_driven accepts tags server busy from bytes at old c.mid line c.counted host c.between owed c.handles) (expired_driven at c.mid new c.expires);
-      seats = seats_then old c.mid new (handled_seats accepts tags server busy from bytes at old c.mid line c.counted host c.between owed c.handles) (expired_seats at c.mid new c.expires);
-      counted = counts_on old new line line' may.counted (same_asks old new only) (omega (arith, closes, fewer, more, same_foreign)) same_replied (omega (arith, more));
+      driven_on = driven_then old c.mid new (handled_driven accepts tags server busy from bytes at old c.mid progress c.counted host c.between owed c.handles) (expired_driven at c.mid new c.expires);
+      seats = seats_then old c.mid new (handled_seats accepts tags server busy from bytes at old c.mid progress c.counted host c.between owed c.handles) (expired_seats at c.mid new c.expires);
+      counted = counts_on old new progress progress' may.counted (same_asks old new only) (omega (arith, closes, fewer, more, same_foreign)) same_replied (omega (arith, more));
       round = subst (λ m. (m ≡ 0) ⊎ (m ≡ n + 1)) (sym receives) (next_in n k);
       few_receives = subst (λ m. m < max_round_receives) (sym receives) (few_next n k);
       still = λ some none. (goes_more n k (λ z. some (receives ∙ z))).some (ap length none);
-      left = ap (λ (l : Line). l.left) c.line_is;
+      left = ap (λ (l : Progress). l.left) c.progress_is;
       foreign = omega (arith, same_foreign, most);
       few_foreign = λ is_busy. subst (λ m. m < max_strays) (sym same_foreign) (counted.few is_busy);
-      same = λ idle. all_still at old new (expires_idle idle) (none_open old line until busy may.waits idle);
-      none_open = λ idle. all_closed at old new (expires_idle idle) (none_open old line until busy may.waits idle);
+      same = λ idle. all_still at old new (expires_idle idle) (none_open old progress until busy may.waits idle);
+      none_open = λ idle. all_closed at old new (expires_idle idle) (none_open old progress until busy may.waits idle);
     }
 
 -- and after its reply
-pub got_received : (accepts : Accepts) (tags : Tags) (server : ServeSetting) (busy : Bool) (from : Addr) (bytes : List ℕ) (until at : ℕ) (old new : List Seeker) (line line' after : Line) (host host' : Hands) (owed : Option Owed) (was_sent : Bool) → after ≡ after_paid line' was_sent → MayReceive old line until busy → Comes accepts tags server busy from bytes at old new line line' host host' owed → Received busy old new line after
-got_received accepts tags server busy from bytes until at old new line line' after host host' owed was_sent paid may c =
-    let more : line'.received ≡ line.received + 1 = ap (λ (l : Line). l.received) c.line_is in
-    let same : line'.replied ≡ line.replied = ap (λ (l : Line). l.replied) c.line_is in
+pub got_received : (accepts : Accepts) (tags : Tags) (server : ServeSetting) (busy : Bool) (from : Addr) (bytes : List ℕ) (until at : ℕ) (old new : List Seeker) (progress progress' after : Progress) (host host' : Hands) (owed : Option Owed) (was_sent : Bool) → after ≡ after_paid progress' was_sent → MayReceive old progress until busy → Comes accepts tags server busy from bytes at old new progress progress' host host' owed → Received busy old new progress after
+got_received accepts tags server busy from bytes until at old new progress progress' after host host' owed was_sent paid may c =
+    let more : progress'.received ≡ progress.received + 1 = ap (λ (l : Progress). l.received) c.progress_is in
+    let same : progress'.replied ≡ progress.replied = ap (λ (l : Progress). l.replied) c.progress_is in
     let replied = may.counted.replied in
-    subst (Received busy old new line) (sym paid) (paid_received busy old new line line' was_sent (omega (arith, more, same, replied)) (come_received accepts tags server busy from bytes until at old new line line' host host' owed may c))
+    subst (Received busy old new progress) (sym paid) (paid_received busy old new progress progress' was_sent (omega (arith, more, same, replied)) (come_received accepts tags server busy from bytes until at old new progress progress' host host' owed may c))
 
 -- there is room to count it
-pub got_may_count : (accepts : Accepts) (tags : Tags) (server : ServeSetting) (busy : Bool) (from : Addr) (bytes : List ℕ) (until at : ℕ) (old new : List Seeker) (line line' : Line) (host host' : Hands) (owed : Option Owed) → MayReceive old line until busy → Comes accepts tags server busy from bytes at old new line line' host host' owed → line'.replied + 1 < 2 ^ 64
-got_may_count accepts tags server busy from bytes until at old new line line' host host' owed may c = may_count_reply old line line' until busy may (ap (λ (l : Line). l.replied) c.line_is)
+pub got_may_count : (accepts : Accepts) (tags : Tags) (server : ServeSetting) (busy : Bool) (from : Addr) (bytes : List ℕ) (until at : ℕ) (old new : List Seeker) (progress progress' : Progress) (host host' : Hands) (owed : Option Owed) → MayReceive old progress until busy → Comes accepts tags server busy from bytes at old new progress progress' host host' owed → progress'.replied + 1 < 2 ^ 64
+got_may_count accepts tags server busy from bytes until at old new progress progress' host host' owed may c = may_count_reply old progress progress' until busy may (ap (λ (l : Progress). l.replied) c.progress_is)
 
-pub quiet_received : (busy : Bool) (until at : ℕ) (old new : List Seeker) (line line' : Line) (host host' : Hands) → MayReceive old line until busy → Passes at old new line line' host host' → Received busy old new line line'
-quiet_received busy until at old new line line' host host' may c =
-    let receives : line'.receives ≡ 0 = ap (λ (l : Line). l.receives) c.line_is in
-    let same_foreign : line'.foreign ≡ line.foreign = ap (λ (l : Line). l.foreign) c.line_is in
-    let same_received : line'.received ≡ line.received = ap (λ (l : Line). l.received) c.line_is in
-    let same_replied : line'.replied ≡ line.replied = ap (λ (l : Line). l.replied) c.line_is in
+pub quiet_received : (busy : Bool) (until at : ℕ) (old new : List Seeker) (progress progress' : Progress) (host host' : Hands) → MayReceive old progress until busy → Passes at old new progress progress' host host' → Received busy old new progress progress'
+quiet_received busy until at old new progress progress' host host' may c =
+    let receives : progress'.receives ≡ 0 = ap (λ (l : Progress). l.receives) c.progress_is in
+    let same_foreign : progress'.foreign ≡ progress.foreign = ap (λ (l : Progress). l.foreign) c.progress_is in
+    let same_received : progress'.received ≡ progress.received = ap (λ (l : Progress). l.received) c.progress_is in
+    let same_replied : progress'.replied ≡ progress.replied = ap (λ (l : Progress). l.replied) c.progress_is in
     let fewer = fewer_expired at old new c.expires in
     let only = all_expired at old new c.expires in
     record {
@@ -471,42 +471,42 @@ quiet_received busy until at old new line line' host host' may c =
       only_heard = only;
       driven_on = expired_driven at old new c.expires;
       seats = expired_seats at old new c.expires;
-      counted = counts_on old new line line' may.counted (same_asks old new only) (omega (arith, fewer, same_received, same_foreign)) same_replied (omega (arith, same_received));
+      counted = counts_on old new progress progress' may.counted (same_asks old new only) (omega (arith, fewer, same_received, same_foreign)) same_replied (omega (arith, same_received));
       round = inl receives;
       few_receives = omega (arith, receives);
       still = λ some none. absurd (some receives);
-      left = ap (λ (l : Line). l.left) c.line_is;
+      left = ap (λ (l : Progress). l.left) c.progress_is;
       foreign = omega (arith, same_foreign);
-      few_foreign = λ is_busy. subst (λ m. m < max_strays) (sym same_foreign) (few_while old line until busy may.waits is_busy);
-      same = λ idle. all_still at old new c.expires (none_open old line until busy may.waits idle);
-      none_open = λ idle. all_closed at old new c.expires (none_open old line until busy may.waits idle);
+      few_foreign = λ is_busy. subst (λ m. m < max_strays) (sym same_foreign) (few_while old progress until busy may.waits is_busy);
+      same = λ idle. all_still at old new c.expires (none_open old progress until busy may.waits idle);
+      none_open = λ idle. all_closed at old new c.expires (none_open old progress until busy may.waits idle);
     }
 
 -- a reply changes no moment
-pub paid_moment : (line : Line) (was_sent : Bool) → (after_paid line was_sent).moment ≡ line.moment
-paid_moment line true = refl
-paid_moment line false = refl
+pub paid_moment : (progress : Progress) (was_sent : Bool) → (after_paid progress was_sent).moment ≡ progress.moment
+paid_moment progress true = refl
+paid_moment progress false = refl
 
 -- no moment is before the last
-pub got_later : (accepts : Accepts) (tags : Tags) (server : ServeSetting) (busy : Bool) (from : Addr) (bytes : List ℕ) (at : ℕ) (old new : List Seeker) (line line' after : Line) (host host' : Hands) (owed : Option Owed) (was_sent : Bool) → after ≡ after_paid line' was_sent → Comes accepts tags server busy from bytes at old new line line' host host' owed → line.moment ≤ at → line.moment ≤ after.moment
-got_later accepts tags server busy from bytes at old new line line' after host host' owed was_sent paid c later = subst (λ m. line.moment ≤ m) (sym (ap (λ (l : Line). l.moment) paid ∙ paid_moment line' was_sent ∙ ap (λ (l : Line). l.moment) c.line_is)) later
+pub got_later : (accepts : Accepts) (tags : Tags) (server : ServeSetting) (busy : Bool) (from : Addr) (bytes : List ℕ) (at : ℕ) (old new : List Seeker) (progress progress' after : Progress) (host host' : Hands) (owed : Option Owed) (was_sent : Bool) → after ≡ after_paid progress' was_sent → Comes accepts tags server busy from bytes at old new progress progress' host host' owed → progress.moment ≤ at → progress.moment ≤ after.moment
+got_later accepts tags server busy from bytes at old new progress progress' after host host' owed was_sent paid c later = subst (λ m. progress.moment ≤ m) (sym (ap (λ (l : Progress). l.moment) paid ∙ paid_moment progress' was_sent ∙ ap (λ (l : Progress). l.moment) c.progress_is)) later
 
-pub quiet_later : (at : ℕ) (old new : List Seeker) (line line' : Line) (host host' : Hands) → Passes at old new line line' host host' → line.moment ≤ at → line.moment ≤ line'.moment
-quiet_later at old new line line' host host' c later = subst (λ m. line.moment ≤ m) (sym (ap (λ (l : Line). l.moment) c.line_is)) later
+pub quiet_later : (at : ℕ) (old new : List Seeker) (progress progress' : Progress) (host host' : Hands) → Passes at old new progress progress' host host' → progress.moment ≤ at → progress.moment ≤ progress'.moment
+quiet_later at old new progress progress' host host' c later = subst (λ m. progress.moment ≤ m) (sym (ap (λ (l : Progress). l.moment) c.progress_is)) later
 
 -- ---- ended early
 
 abbrev pub IsEarly : ManyFault → List Event → Type 0
 IsEarly fault more = (more ≡ []) ⊎ ((fault ≢ LinkFault) × (from : Addr) × (bytes : List ℕ) × (until : ℕ) × (at : ℕ) × (more ≡ Got from bytes until at ∷ []))
 
-early_of : (busy : Bool) (fault : ManyFault) (f : Frame) (count : ℕ) (old : Stand) (read : Reading) (es fs : List Event) → ManyShow busy f count old.seekers old.line old.words.place None read es → IsEarly fault fs → ShowsEarly busy fault f count old read (es ++ fs)
+early_of : (busy : Bool) (fault : ManyFault) (f : Frame) (count : ℕ) (old : Stand) (read : Reading) (es fs : List Event) → ManyShow busy f count old.seekers old.progress old.words.place None read es → IsEarly fault fs → ShowsEarly busy fault f count old read (es ++ fs)
 early_of busy fault f count old read es fs h (inl is) = record { front = es; shows = h; whole = inl (ap (λ l. es ++ l) is ∙ append-nil es) }
 early_of busy fault f count old read es fs h (inr got) = record { front = es; shows = h; whole = inr (got.0, got.1, got.2, got.3, got.4, ap (λ l. es ++ l) got.5) }
 
 pub stops_early : (busy : Bool) (fault : ManyFault) (accepts : Accepts) (tags : Tags) (server : ServeSetting) (old : Stand) (told' : Option (List Event)) → Grows old.told told' (IsEarly fault) → Stops busy fault accepts tags server old told'
 stops_early busy fault accepts tags server old told' grows f count read began is h = grows_then began old.told told' _ _ _ h grows (λ es fs shows e. early_of busy fault f count old read es fs shows e)
 
-pub ends_by_foreign : (busy : Bool) (accepts : Accepts) (tags : Tags) (server : ServeSetting) (from : Addr) (bytes : List ℕ) (until at : ℕ) (old : Stand) (told' : Option (List Event)) → MayReceive old.seekers old.line until busy → IsLastForeign accepts from bytes busy old.seekers old.line
+pub ends_by_foreign : (busy : Bool) (accepts : Accepts) (tags : Tags) (server : ServeSetting) (from : Addr) (bytes : List ℕ) (until at : ℕ) (old : Stand) (told' : Option (List Event)) → MayReceive old.seekers old.progress until busy → IsLastForeign accepts from bytes busy old.seekers old.progress
     → Grows old.told told' (λ es. es ≡ Got from bytes until at ∷ []) → EndsByForeign busy accepts tags server old told'
 ends_by_foreign busy accepts tags server from bytes until at old told' may last grows f count read began is h =
     grows_then began old.told told' _ _ _ h grows (λ es fs shows e. record {
@@ -517,19 +517,19 @@ ends_by_foreign busy accepts tags server from bytes until at old told' may last 
       until = until;
       at = at;
       last = ap (λ l. es ++ l) e;
-      some_open = some_shown old.seekers shows.end.each shows.keeps_each (some_waits old.seekers old.line until busy may.waits last.is_open);
+      some_open = some_shown old.seekers shows.end.each shows.keeps_each (some_waits old.seekers old.progress until busy may.waits last.is_open);
       foreign = subst (λ a. IsForeign a from bytes (map whose old.seekers) shows.end.each) (sym is.accepts_is) (all_stray accepts from bytes old.seekers shows.end.each shows.keeps_each last.none);
-      number_is = ap (λ n. n + 1) shows.keeps_line.foreign ∙ last.last;
+      number_is = ap (λ n. n + 1) shows.keeps_progress.foreign ∙ last.last;
     })
   where
-    some_waits : (ks : List Seeker) (line : Line) (until : ℕ) (busy : Bool) → WaitsFor ks line until busy → busy ≡ true → queries_of ks ≢ []
-    some_waits ks line until busy (waits_replies is some waits few) is_busy = some
-    some_waits ks line until busy (waits_others is none over left waits) is_busy = (let t : true ≡ false = sym is_busy ∙ is in absurd cc)
+    some_waits : (ks : List Seeker) (progress : Progress) (until : ℕ) (busy : Bool) → WaitsFor ks progress until busy → busy ≡ true → queries_of ks ≢ []
+    some_waits ks progress until busy (waits_replies is some waits few) is_busy = some
+    some_waits ks progress until busy (waits_others is none over left waits) is_busy = (let t : true ≡ false = sym is_busy ∙ is in absurd cc)
 
 -- what holds of each lookup before the time passes
-pub handled_hold : (accepts : Accepts) (tags : Tags) (server : ServeSetting) (busy : Bool) (from : Addr) (bytes : List ℕ) (at : ℕ) (old mid : List Seeker) (line counted : Line) (host between : Hands) (owed : Option Owed) → AllByRecursion Holding old → Handles accepts tags server busy from bytes at old mid line counted host between owed → AllByRecursion Holding mid
-handled_hold accepts tags server busy from bytes at old mid line counted host between owed holds (is_taken t is b o) = first_holds accepts from bytes old mid holds t
-handled_hold accepts tags server busy from bytes at old mid line counted host between owed holds (is_foreign none m counts answers) = subst (AllByRecursion Holding) (sym m) holds
+pub handled_hold : (accepts : Accepts) (tags : Tags) (server : ServeSetting) (busy : Bool) (from : Addr) (bytes : List ℕ) (at : ℕ) (old mid : List Seeker) (progress counted : Progress) (host between : Hands) (owed : Option Owed) → AllByRecursion Holding old → Handles accepts tags server busy from bytes at old mid progress counted host between owed → AllByRecursion Holding mid
+handled_hold accepts tags server busy from bytes at old mid progress counted host between owed holds (is_taken t is b o) = first_holds accepts from bytes old mid holds t
+handled_hold accepts tags server busy from bytes at old mid progress counted host between owed holds (is_foreign none m counts answers) = subst (AllByRecursion Holding) (sym m) holds
 
 -- a fault that is passed on is that of the call
 pub err_moved : {T U : Type 0} (x fault : ManyFault) → IsErrOf {T = T} {E = ManyFault} (Err x) fault → IsErrOf {T = U} {E = ManyFault} (Err x) fault

@@ -12,10 +12,10 @@ use Rattle.lookup_core.specs.declared.quest.Quest.{Quest}
 use Rattle.lookup_core.specs.Matching.{IsStray}
 use Rattle.lookup_core.specs.Sealed.{Accepts}
 use Rattle.look_many.specs.declared.seeker.Seeker.{Seeker}
-use Rattle.look_many.specs.declared.seeker.Line.{Line}
+use Rattle.look_many.specs.declared.seeker.Progress.{Progress}
 use Rattle.look_many.specs.Mine.{Mine, Whose, HasAsked, HaveAsked, SentGives, UnsentGives, MatchGives}
 use Rattle.look_many.specs.Many.{Frame, Owed, Shown, Reading, nothing_read, and_then, OneMoves, AsksOne, MayWait, for_replies, for_others, AllHaveAsked, Receives, FirstTakes, IsForeign, IsTaken, IsAnsweredFor, Gives, GivesFrom, begun}
-use Rattle.look_many.specs.inner.Crowd.{whose, Longer, KeepsMine, framed, KeepsLine, ManyShow}
+use Rattle.look_many.specs.inner.Crowd.{whose, Longer, KeepsMine, framed, KeepsProgress, ManyShow}
 
 -- ---- readings
 
@@ -130,14 +130,14 @@ walk_on : (f : Frame) (ws : List Whose) (s : Shown) (es : List Event) (m : Shown
 walk_on f ws s [] m read e one t h step = (t, one, nothing_read, subst (λ (x : Shown). Gives f ws x e one t) h.0 step, (refl, refl), ap (λ r. and_then r one) h.1 ∙ sym (nothing_after one))
 walk_on f ws s (x ∷ es) m read e one t h step = (h.0, h.1, and_then h.2 one, h.3, walk_on f ws h.0 es m h.2 e one t h.4 step, ap (λ r. and_then r one) h.5 ∙ then_assoc h.1 h.2 one)
 
-pub shows_more : (busy : Bool) (f : Frame) (count place place' : ℕ) (owed owed' : Option Owed) (read one : Reading) (ks ls : List Seeker) (line line' : Line) (e : Event) (es : List Event) (h : ManyShow busy f count ks line place owed read es) (t : Shown) → AllZip Longer ks ls → (busy ≡ false → map whose ls ≡ map whose ks)
-    → Gives (framed busy f) (map whose ls) h.end e one t → KeepsLine f line' place' owed' t → AllZip KeepsMine ls t.each → ManyShow busy f count ls line' place' owed' (and_then read one) (es ++ e ∷ [])
-shows_more busy f count place place' owed owed' read one ks ls line line' e es h t g same gives keeps_line keeps_each = record {
+pub shows_more : (busy : Bool) (f : Frame) (count place place' : ℕ) (owed owed' : Option Owed) (read one : Reading) (ks ls : List Seeker) (progress progress' : Progress) (e : Event) (es : List Event) (h : ManyShow busy f count ks progress place owed read es) (t : Shown) → AllZip Longer ks ls → (busy ≡ false → map whose ls ≡ map whose ks)
+    → Gives (framed busy f) (map whose ls) h.end e one t → KeepsProgress f progress' place' owed' t → AllZip KeepsMine ls t.each → ManyShow busy f count ls progress' place' owed' (and_then read one) (es ++ e ∷ [])
+shows_more busy f count place place' owed owed' read one ks ls progress progress' e es h t g same gives keeps_progress keeps_each = record {
   at = h.at;
   rest = h.rest ++ e ∷ [];
   first = ap (λ l. l ++ e ∷ []) h.first;
   end = t;
   walk = walk_on (framed busy f) (map whose ls) (begun count h.at) h.rest h.end read e one t (walk_still busy f ks ls (begun count h.at) h.rest h.end read g same h.walk) gives;
-  keeps_line = keeps_line;
+  keeps_progress = keeps_progress;
   keeps_each = keeps_each;
 }

@@ -6,7 +6,7 @@ use Rattle.kad_base.specs.declared.types.Event.{Event}
 use Rattle.kad_base.specs.declared.types.Event.TheVariants.{Now, Sent, Unsent, Got, Quiet}
 use Rattle.lookup_core.specs.LookupSteps.{as_open}
 use Rattle.look_many.specs.declared.seeker.Seeker.{Seeker}
-use Rattle.look_many.specs.declared.seeker.Line.{Line}
+use Rattle.look_many.specs.declared.seeker.Progress.{Progress}
 use Rattle.look_many.specs.declared.seeker.ManyFault.{ManyFault}
 use Rattle.look_many.specs.Mine.{Mine, Whose, driven}
 use Rattle.look_many.specs.Many.{Frame, Shown, Reading, nothing_read, MayWait, for_replies, for_others, Receives, IsTaken, IsAnsweredFor, Gives, GivesFrom, fresh, begun, ManyTellSoFar, ManyTell, EndsAtForeign}
@@ -28,7 +28,7 @@ begins f at ks h = record {
   first = refl;
   end = begun (count_of ks) at;
   walk = (refl, refl);
-  keeps_line = record { moment = refl; sends = omega arith; got = refl; foreign = refl; replied = refl; receives = refl; left = omega arith; owed_is = refl };
+  keeps_progress = record { moment = refl; sends = omega arith; got = refl; foreign = refl; replied = refl; receives = refl; left = omega arith; owed_is = refl };
   keeps_each = each_fresh ks h;
 }
 
@@ -60,8 +60,8 @@ walk_whole : (busy : Bool) (f : Frame) (ws : List Whose) (s : Shown) (es : List 
 walk_whole true f ws s es t read h = walk_more f ws s es t read h
 walk_whole false f ws s es t read h = h
 
-pub goes_on_with : (f : Frame) (count place : ℕ) (ks : List Seeker) (line : Line) (read : Reading) (events : List Event) → ManyShow true f count ks line place None read events → ManyShow false f count ks line place None read events
-goes_on_with f count place ks line read events h = record { at = h.at; rest = h.rest; first = h.first; end = h.end; walk = walk_more f (map whose ks) (begun count h.at) h.rest h.end read h.walk; keeps_line = h.keeps_line; keeps_each = h.keeps_each }
+pub goes_on_with : (f : Frame) (count place : ℕ) (ks : List Seeker) (progress : Progress) (read : Reading) (events : List Event) → ManyShow true f count ks progress place None read events → ManyShow false f count ks progress place None read events
+goes_on_with f count place ks progress read events h = record { at = h.at; rest = h.rest; first = h.first; end = h.end; walk = walk_more f (map whose ks) (begun count h.at) h.rest h.end read h.walk; keeps_progress = h.keeps_progress; keeps_each = h.keeps_each }
 
 -- ---- the ends
 
@@ -71,25 +71,25 @@ each_given [] (m ∷ ms) h = absurd h
 each_given (k ∷ ks) [] h = absurd h
 each_given (k ∷ ks) (m ∷ ms) h = (h.0.given, each_given ks ms h.1)
 
-pub tells_so_far : (busy : Bool) (f : Frame) (place : ℕ) (ks : List Seeker) (line : Line) (read : Reading) (events : List Event) (h : ManyShow busy f (count_of ks) ks line place None read events) → ManyTellSoFar f (map whose ks) events read h.end
-tells_so_far busy f place ks line read events h =
+pub tells_so_far : (busy : Bool) (f : Frame) (place : ℕ) (ks : List Seeker) (progress : Progress) (read : Reading) (events : List Event) (h : ManyShow busy f (count_of ks) ks progress place None read events) → ManyTellSoFar f (map whose ks) events read h.end
+tells_so_far busy f place ks progress read events h =
     subst (λ l. ManyTellSoFar f (map whose ks) l read h.end) (sym h.first)
-    (walk_whole busy f (map whose ks) (begun (count_of ks) h.at) h.rest h.end read h.walk, each_given ks h.end.each h.keeps_each, h.keeps_line.owed_is)
+    (walk_whole busy f (map whose ks) (begun (count_of ks) h.at) h.rest h.end read h.walk, each_given ks h.end.each h.keeps_each, h.keeps_progress.owed_is)
 
-pub tells_whole : (f : Frame) (place : ℕ) (ks : List Seeker) (line : Line) (read : Reading) (events : List Event) → ManyShow false f (count_of ks) ks line place None read events → queries_of ks ≡ [] → line.left ≡ 0 → ManyTell f (map whose ks) events read
-tells_whole f place ks line read events h none over = record {
+pub tells_whole : (f : Frame) (place : ℕ) (ks : List Seeker) (progress : Progress) (read : Reading) (events : List Event) → ManyShow false f (count_of ks) ks progress place None read events → queries_of ks ≡ [] → progress.left ≡ 0 → ManyTell f (map whose ks) events read
+tells_whole f place ks progress read events h none over = record {
   end = h.end;
-  so_far = tells_so_far false f place ks line read events h;
+  so_far = tells_so_far false f place ks progress read events h;
   none_open = none_shown ks h.end.each h.keeps_each none;
-  enough = (let left = h.keeps_line.left in omega (arith, left, over));
+  enough = (let left = h.keeps_progress.left in omega (arith, left, over));
 }
 
-pub told_whole : (f : Frame) (place : ℕ) (ks : List Seeker) (line : Line) (read : Reading) (events : List Event) → ManyShow false f (count_of ks) ks line place None read events → queries_of ks ≡ [] → line.left ≡ 0 → ManyTold f (map whose ks) read line.received line.replied events
+pub told_whole : (f : Frame) (place : ℕ) (ks : List Seeker) (progress : Progress) (read : Reading) (events : List Event) → ManyShow false f (count_of ks) ks progress place None read events → queries_of ks ≡ [] → progress.left ≡ 0 → ManyTold f (map whose ks) read progress.received progress.replied events
 unfolding tells_whole
-told_whole f place ks line read events h none over = record { tell = tells_whole f place ks line read events h none over; received_are = sym h.keeps_line.got; replied_are = sym h.keeps_line.replied }
+told_whole f place ks progress read events h none over = record { tell = tells_whole f place ks progress read events h none over; received_are = sym h.keeps_progress.got; replied_are = sym h.keeps_progress.replied }
 
 pub tells_early : (busy : Bool) (fault : ManyFault) (f : Frame) (old : Stand) (read : Reading) (events : List Event) → ShowsEarly busy fault f (count_of old.seekers) old read events → TellsEarly fault f (map whose old.seekers) read events
-tells_early busy fault f old read events h = record { front = h.front; end = h.shows.end; so_far = tells_so_far busy f old.words.place old.seekers old.line read h.front h.shows; whole = h.whole }
+tells_early busy fault f old read events h = record { front = h.front; end = h.shows.end; so_far = tells_so_far busy f old.words.place old.seekers old.progress read h.front h.shows; whole = h.whole }
 
 pub ends_at_foreign : (busy : Bool) (f : Frame) (old : Stand) (read : Reading) (number : ℕ) (events : List Event) → ShowsForeign busy f (count_of old.seekers) old read number events → EndsAtForeign f (map whose old.seekers) events read number
 ends_at_foreign busy f old read number events h = record {
@@ -99,7 +99,7 @@ ends_at_foreign busy f old read number events h = record {
   bytes = h.bytes;
   until = h.until;
   at = h.at;
-  so_far = tells_so_far busy f old.words.place old.seekers old.line read h.front h.shows;
+  so_far = tells_so_far busy f old.words.place old.seekers old.progress read h.front h.shows;
   last = h.last;
   some_open = h.some_open;
   foreign = h.foreign;

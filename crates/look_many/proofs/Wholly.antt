@@ -58,7 +58,7 @@ all_over (k ∷ ks) legal some holds left none idle = (
 pub some_still : (ks ls : List Seeker) → AllByRecursion (λ (k : Seeker). 1 ≤ k.lookup.book.setting.alpha) ks → AllZip Goes ks ls → AllByRecursion (λ (k : Seeker). 1 ≤ k.lookup.book.setting.alpha) ls
 some_still ks ls h g = zip_right (λ (k : Seeker). 1 ≤ k.lookup.book.setting.alpha) Goes (λ (k : Seeker). 1 ≤ k.lookup.book.setting.alpha) (λ a b x y. subst (λ (s : Setting). 1 ≤ s.alpha) (sym y.lives.setting) x) ks ls h g
 
-pub may_serve_on : (s : Stand) → AreOver s → AllByRecursion IsLegal s.seekers → AllByRecursion (λ (k : Seeker). 1 ≤ k.lookup.book.setting.alpha) s.seekers → s.line.left < 2 ^ 32 → MayServe s.seekers s.line
+pub may_serve_on : (s : Stand) → AreOver s → AllByRecursion IsLegal s.seekers → AllByRecursion (λ (k : Seeker). 1 ≤ k.lookup.book.setting.alpha) s.seekers → s.progress.left < 2 ^ 32 → MayServe s.seekers s.progress
 may_serve_on s o legal some left = record {
   holds = o.begins.may.holds;
   none_open = o.none_open;
@@ -76,17 +76,17 @@ module _ (accepts : Accepts) (tags : Tags) (server : ServeSetting) where
   frame_on f a b same is = record { accepts_is = is.accepts_is; tags_is = is.tags_is; server_is = is.server_is; seed_is = is.seed_is ∙ sym same }
 
   -- what the rounds show, as nothing was read before them
-  since : (busy : Bool) (made : List ℕ) (s t : Stand) (a : Advances true made accepts tags server s t) → SinceBegun accepts tags server s t.told (λ f count events. ManyShow true f count t.seekers t.line t.words.place None a.more events)
+  since : (busy : Bool) (made : List ℕ) (s t : Stand) (a : Advances true made accepts tags server s t) → SinceBegun accepts tags server s t.told (λ f count events. ManyShow true f count t.seekers t.progress t.words.place None a.more events)
   since busy made s t a f count began is h = a.goes f count nothing_read began is h
 
-  pub went_whole : (s t u : Stand) (owners : List ℕ) → HaveGone accepts tags server s t [] owners → AreOver t → u.words ≡ t.words → SameHands t.host u.host → Advances false [] accepts tags server t u → MayServe u.seekers u.line → map whose u.seekers ≡ map whose t.seekers → AllZip SameSeat t.seekers u.seekers → u.line.left ≡ 0 → AllByRecursion IsLegal u.seekers
+  pub went_whole : (s t u : Stand) (owners : List ℕ) → HaveGone accepts tags server s t [] owners → AreOver t → u.words ≡ t.words → SameHands t.host u.host → Advances false [] accepts tags server t u → MayServe u.seekers u.progress → map whose u.seekers ≡ map whose t.seekers → AllZip SameSeat t.seekers u.seekers → u.progress.left ≡ 0 → AllByRecursion IsLegal u.seekers
       → WentWhole accepts tags server s u owners
   went_whole s t u owners h o words same a may journals seats left legal =
       let stays = stays_same t.seekers u.seekers journals seats in
       record {
         read = and_then h.advances.more a.more;
         shows = λ f count began is x.
-            a.goes f count h.advances.more began (frame_on f s.words t.words h.advances.seed is) (grows_weaker began t.told _ _ (since true h.made s t h.advances f count began is x) (λ es y. goes_on_with f count t.words.place t.seekers t.line h.advances.more es y));
+            a.goes f count h.advances.more began (frame_on f s.words t.words h.advances.seed is) (grows_weaker began t.told _ _ (since true h.made s t h.advances f count began is x) (λ es y. goes_on_with f count t.words.place t.seekers t.progress h.advances.more es y));
         owners_are = h.owners_are ∙ sym h.advances.owners_are ∙ sym (append-nil h.advances.more.owners) ∙ ap (λ l. h.advances.more.owners ++ l) (sym a.owners_are);
         drawn = words ∙ h.drawn ∙ ap (drawn_by s.words) (sym h.advances.owners_are ∙ sym (append-nil h.advances.more.owners) ∙ ap (λ l. h.advances.more.owners ++ l) (sym a.owners_are));
         ran = ran_then s.host t.host u.host h.advances.more.did h.advances.more.lost a.more.did a.more.lost h.same h.advances.ran a.ran;
@@ -119,7 +119,7 @@ module _ (accepts : Accepts) (tags : Tags) (server : ServeSetting) where
     read = and_then h.advances.more e.advances.more;
     shows = λ f count began is x.
         e.stops f count (and_then h.advances.more e.advances.more) began (frame_on f s.words e.last.words (e.advances.seed ∙ h.advances.seed) is)
-        (e.advances.goes f count h.advances.more began (frame_on f s.words t.words h.advances.seed is) (grows_weaker began t.told _ _ (since true h.made s t h.advances f count began is x) (λ es y. goes_on_with f count t.words.place t.seekers t.line h.advances.more es y)));
+        (e.advances.goes f count h.advances.more began (frame_on f s.words t.words h.advances.seed is) (grows_weaker began t.told _ _ (since true h.made s t h.advances f count began is x) (λ es y. goes_on_with f count t.words.place t.seekers t.progress h.advances.more es y)));
     strays = λ is_strays. absurd (other is_strays);
     drawn = words ∙ h.drawn ∙ ap (drawn_by s.words) (sym h.advances.owners_are ∙ sym (append-nil h.advances.more.owners) ∙ ap (λ l. h.advances.more.owners ++ l) (sym e.advances.owners_are));
     same = hands_then s.host t.host e.last.host h.same e.same;

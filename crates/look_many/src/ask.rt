@@ -14,7 +14,7 @@ ghost use Rattle.serve_crew.specs.Hands.{Hands};
 ghost use Rattle.look_many.specs.inner.Crowd.{Holding, NoneAsks, SameSeat, asks_of, stand};
 ghost use Rattle.look_many.specs.inner.ManySteps.{AsksOver, AsksAll, MayAskAll, NoneBefore};
 
-use crate::seeker::{Line, Seeker};
+use crate::seeker::{Progress, Seeker};
 use id_puzzles::Words;
 use kad_base::limits::MAX_PATHS;
 use kad_base::{Link, NoMemory};
@@ -81,19 +81,19 @@ fn ask_one<L: Link>(
     seekers: &mut [Seeker],
     i: usize,
     words: &mut Words,
-    line: &Line,
+    progress: &Progress,
     path: u8,
 ) -> bool
     requires within { i < length seekers.old }
-    requires may { MayAskAll seekers.old line.now words.old }
+    requires may { MayAskAll seekers.old progress.now words.old }
     requires none_before { NoneBefore i path seekers.old }
     ensures len { length seekers.new ≡ length seekers.old }
     ensures asks { result ≡ true → (accepts : Accepts) (tags : Tags) (server : ServeSetting)
         (host : Hands) → AsksAll accepts tags server
-        (stand seekers.old line.now words.old host (L.told link.old))
-        (stand seekers.new line.now words.new host (L.told link.new)) [] (i ∷ []) }
+        (stand seekers.old progress.now words.old host (L.told link.old))
+        (stand seekers.new progress.now words.new host (L.told link.new)) [] (i ∷ []) }
     ensures one { result ≡ true → asks_of seekers.new ≡ asks_of seekers.old + 1 }
-    ensures may { result ≡ true → MayAskAll seekers.new line.now words.new }
+    ensures may { result ≡ true → MayAskAll seekers.new progress.now words.new }
     ensures none_before { result ≡ true → NoneBefore i path seekers.new }
     ensures none { result ≡ false → NoneBefore i (path + 1) seekers.new }
     ensures same { result ≡ false → seekers.new ≡ seekers.old }
@@ -103,7 +103,7 @@ fn ask_one<L: Link>(
     ensures recv_faults { L.recv_faults link.new ≡ L.recv_faults link.old }
     ensures kept { L.kept link.new ≡ L.kept link.old }
 {
-    ask_next(link, &mut seekers[i], words, line.moment, path)
+    ask_next(link, &mut seekers[i], words, progress.moment, path)
 }
 
 /// Asks what the path asks now, and writes down whose the query is; false where it may ask none. The room for that is taken
@@ -113,20 +113,20 @@ fn ask_written<L: Link>(
     seekers: &mut [Seeker],
     i: usize,
     words: &mut Words,
-    line: &Line,
+    progress: &Progress,
     path: u8,
     owners: &mut Vec<u64>,
 ) -> Result<bool, NoMemory>
     requires within { i < length seekers.old }
-    requires may { MayAskAll seekers.old line.now words.old }
+    requires may { MayAskAll seekers.old progress.now words.old }
     requires none_before { NoneBefore i path seekers.old }
     ensures len { length seekers.new ≡ length seekers.old }
     ensures asks { (accepts : Accepts) (tags : Tags) (server : ServeSetting) (host : Hands)
         → AsksAll accepts tags server
-        (stand seekers.old line.now words.old host (L.told link.old))
-        (stand seekers.new line.now words.new host (L.told link.new)) owners.old.items owners.new.items }
+        (stand seekers.old progress.now words.old host (L.told link.old))
+        (stand seekers.new progress.now words.new host (L.told link.new)) owners.old.items owners.new.items }
     ensures one { result ≡ Ok true → asks_of seekers.new ≡ asks_of seekers.old + 1 }
-    ensures may { MayAskAll seekers.new line.now words.new }
+    ensures may { MayAskAll seekers.new progress.now words.new }
     ensures none_before { NoneBefore i path seekers.new }
     ensures none { result ≡ Ok false → NoneBefore i (path + 1) seekers.new }
     ensures moment { L.moment link.new ≡ L.moment link.old }
@@ -136,7 +136,7 @@ fn ask_written<L: Link>(
     if owners.reserve(1).is_err() {
         return Err(NoMemory);
     }
-    if !ask_one(link, seekers, i, words, line, path) {
+    if !ask_one(link, seekers, i, words, progress, path) {
         return Ok(false);
     }
     owners.push_reserved(i as u64);
@@ -149,26 +149,26 @@ fn ask_path<L: Link>(
     seekers: &mut [Seeker],
     i: usize,
     words: &mut Words,
-    line: &Line,
+    progress: &Progress,
     path: u8,
     owners: &mut Vec<u64>,
 ) -> Result<(), NoMemory>
     requires within { i < length seekers.old }
-    requires may { MayAskAll seekers.old line.now words.old }
+    requires may { MayAskAll seekers.old progress.now words.old }
     requires none_before { NoneBefore i path seekers.old }
     ensures len { length seekers.new ≡ length seekers.old }
     ensures asks { (accepts : Accepts) (tags : Tags) (server : ServeSetting) (host : Hands)
         → AsksAll accepts tags server
-        (stand seekers.old line.now words.old host (L.told link.old))
-        (stand seekers.new line.now words.new host (L.told link.new)) owners.old.items owners.new.items }
-    ensures may { MayAskAll seekers.new line.now words.new }
+        (stand seekers.old progress.now words.old host (L.told link.old))
+        (stand seekers.new progress.now words.new host (L.told link.new)) owners.old.items owners.new.items }
+    ensures may { MayAskAll seekers.new progress.now words.new }
     ensures none { OnOk result (NoneBefore i (path + 1) seekers.new) }
     ensures moment { L.moment link.new ≡ L.moment link.old }
     ensures recv_faults { L.recv_faults link.new ≡ L.recv_faults link.old }
     ensures kept { L.kept link.new ≡ L.kept link.old }
 {
     'asking: loop {
-        match ask_written(link, seekers, i, words, line, path, owners) {
+        match ask_written(link, seekers, i, words, progress, path, owners) {
             Ok(true) => {}
             Ok(false) => return Ok(()),
             Err(NoMemory) => return Err(NoMemory),
@@ -182,25 +182,25 @@ fn ask_lookup<L: Link>(
     seekers: &mut [Seeker],
     i: usize,
     words: &mut Words,
-    line: &Line,
+    progress: &Progress,
     owners: &mut Vec<u64>,
 ) -> Result<(), NoMemory>
     requires within { i < length seekers.old }
-    requires may { MayAskAll seekers.old line.now words.old }
+    requires may { MayAskAll seekers.old progress.now words.old }
     requires none_before { NoneBefore i 0 seekers.old }
     ensures len { length seekers.new ≡ length seekers.old }
     ensures asks { (accepts : Accepts) (tags : Tags) (server : ServeSetting) (host : Hands)
         → AsksAll accepts tags server
-        (stand seekers.old line.now words.old host (L.told link.old))
-        (stand seekers.new line.now words.new host (L.told link.new)) owners.old.items owners.new.items }
-    ensures may { MayAskAll seekers.new line.now words.new }
+        (stand seekers.old progress.now words.old host (L.told link.old))
+        (stand seekers.new progress.now words.new host (L.told link.new)) owners.old.items owners.new.items }
+    ensures may { MayAskAll seekers.new progress.now words.new }
     ensures none { OnOk result (NoneBefore (i + 1) 0 seekers.new) }
     ensures moment { L.moment link.new ≡ L.moment link.old }
     ensures recv_faults { L.recv_faults link.new ≡ L.recv_faults link.old }
     ensures kept { L.kept link.new ≡ L.kept link.old }
 {
     for path in 0..MAX_PATHS {
-        match ask_path(link, seekers, i, words, line, path, owners) {
+        match ask_path(link, seekers, i, words, progress, path, owners) {
             Ok(()) => {}
             Err(NoMemory) => return Err(NoMemory),
         }
@@ -214,22 +214,22 @@ pub(crate) fn ask_all<L: Link>(
     link: &mut L,
     seekers: &mut [Seeker],
     words: &mut Words,
-    line: &Line,
+    progress: &Progress,
     owners: &mut Vec<u64>,
 ) -> Result<(), NoMemory>
-    requires may { MayAskAll seekers.old line.now words.old }
+    requires may { MayAskAll seekers.old progress.now words.old }
     ensures len { length seekers.new ≡ length seekers.old }
     ensures asks { (accepts : Accepts) (tags : Tags) (server : ServeSetting) (host : Hands)
         → AsksAll accepts tags server
-        (stand seekers.old line.now words.old host (L.told link.old))
-        (stand seekers.new line.now words.new host (L.told link.new)) owners.old.items owners.new.items }
+        (stand seekers.old progress.now words.old host (L.told link.old))
+        (stand seekers.new progress.now words.new host (L.told link.new)) owners.old.items owners.new.items }
     ensures none { OnOk result (AllByRecursion NoneAsks seekers.new) }
     ensures moment { L.moment link.new ≡ L.moment link.old }
     ensures recv_faults { L.recv_faults link.new ≡ L.recv_faults link.old }
     ensures kept { L.kept link.new ≡ L.kept link.old }
 {
     for i in 0..seekers.len() {
-        match ask_lookup(link, seekers, i, words, line, owners) {
+        match ask_lookup(link, seekers, i, words, progress, owners) {
             Ok(()) => {}
             Err(NoMemory) => return Err(NoMemory),
         }

@@ -21,7 +21,7 @@ use crate::host::Desk;
 use crate::legal::all_legal;
 use crate::opening::{next_pass, open_books, seat_all, stack_up};
 use crate::rounds::go_rounds;
-use crate::seeker::{Line, ManyFault, Seeker};
+use crate::seeker::{ManyFault, Progress, Seeker};
 use crate::serving::serve_on;
 use claim_book::Book;
 use contact_table::Table;
@@ -48,7 +48,7 @@ fn go<R: Threads + Wait + Sync, L: Link, C: PacedCheck + Sync, G: Seal + SealChe
     desk: &Desk,
     host: &mut ServeWorker,
     seekers: &mut [Seeker],
-    line: &mut Line,
+    progress: &mut Progress,
     words: &mut Words,
     owners: &mut Vec<u64>,
     check: &C,
@@ -57,18 +57,18 @@ fn go<R: Threads + Wait + Sync, L: Link, C: PacedCheck + Sync, G: Seal + SealChe
     requires setting { IsSetting desk.now.setting.now }
     requires own { IsOfDesk desk.now host.old }
     requires seated { AllByRecursion (IsSeated desk.now.table.now) seekers.old }
-    requires begins { Begins (stand seekers.old line.old words.old host.old (L.told link.old)) }
+    requires begins { Begins (stand seekers.old progress.old words.old host.old (L.told link.old)) }
     requires some_query { AllByRecursion (λ k. 1 ≤ k.lookup.book.setting.alpha) seekers.old }
     requires none_owned { owners.old.items ≡ [] }
-    requires moment { L.moment link.old ≡ line.old.moment }
+    requires moment { L.moment link.old ≡ progress.old.moment }
     ensures same { SameHands host.old host.new }
     ensures len { length seekers.new ≡ length seekers.old }
     ensures seats { SameSeats seekers.old seekers.new }
     ensures went { OnOk result (WentWhole (G.accepted seal.now) (G.tag_of seal.now) desk.now.setting.now
-        (stand seekers.old line.old words.old host.old (L.told link.old))
-        (stand seekers.new line.new words.new host.new (L.told link.new)) owners.new.items) }
+        (stand seekers.old progress.old words.old host.old (L.told link.old))
+        (stand seekers.new progress.new words.new host.new (L.told link.new)) owners.new.items) }
     ensures ends { IfErr result (λ fault. EndsWhole fault (G.accepted seal.now) (G.tag_of seal.now)
-        desk.now.setting.now (stand seekers.old line.old words.old host.old (L.told link.old))
+        desk.now.setting.now (stand seekers.old progress.old words.old host.old (L.told link.old))
         words.new host.new (L.told link.new)) }
     ensures link { IsErrOf result ManyFault.LinkFault
         → Rose (L.recv_faults link.old) (L.recv_faults link.new) }
@@ -79,16 +79,16 @@ fn go<R: Threads + Wait + Sync, L: Link, C: PacedCheck + Sync, G: Seal + SealChe
 {
     let mut out = [0u8; 4096];
     match go_rounds(
-        rt, alloc, link, desk, host, seekers, line, words, owners, check, seal, &mut out,
+        rt, alloc, link, desk, host, seekers, progress, words, owners, check, seal, &mut out,
     ) {
         Ok(()) => {}
         Err(fault) => return Err(fault),
     }
     all_legal(seekers);
-    let _left = line.left;
+    let _left = progress.left;
     let mut buf = [0u8; RECEIVE_ROOM];
     match serve_on(
-        rt, alloc, link, desk, host, seekers, line, seal, &mut buf, &mut out,
+        rt, alloc, link, desk, host, seekers, progress, seal, &mut buf, &mut out,
     ) {
         Ok(()) => {
             all_legal(seekers);
@@ -225,7 +225,7 @@ fn work<R: Threads + Wait + Sync, L: Link, C: PacedCheck + Sync, G: Seal + SealC
         targets,
         &mut room.seekers,
     );
-    let mut line = Line {
+    let mut progress = Progress {
         moment: link.now(),
         receives: 0,
         foreign: 0,
@@ -241,7 +241,7 @@ fn work<R: Threads + Wait + Sync, L: Link, C: PacedCheck + Sync, G: Seal + SealC
         desk,
         &mut host,
         room.seekers.as_mut_slice(),
-        &mut line,
+        &mut progress,
         words,
         &mut owners,
         check,
@@ -260,8 +260,8 @@ fn work<R: Threads + Wait + Sync, L: Link, C: PacedCheck + Sync, G: Seal + SealC
         Ok(outcomes) => Ok(Many {
             outcomes,
             owners: Numbers::from_vec(owners),
-            received: line.received,
-            replied: line.replied,
+            received: progress.received,
+            replied: progress.replied,
         }),
         Err(NoMemory) => Err(ManyFault::NoMemory),
     }

@@ -10,7 +10,7 @@ ghost use Rattle.look_many.specs.inner.Crowd.{Holding, SameSeat, Advances, stand
 ghost use Rattle.look_many.specs.inner.ManySteps.{owed_in, IsOfDesk, Counts, Handles, Comes, Passes, Pays, after_paid, IsLastForeign, MayReceive, Received, Stops, EndsByForeign, RanOn};
 
 use crate::host::{Desk, answer, expire_all};
-use crate::seeker::{Line, ManyFault, Seeker};
+use crate::seeker::{ManyFault, Progress, Seeker};
 use crate::take::take;
 use crate::wait::round_after;
 use kad_base::limits::MAX_STRAYS;
@@ -21,18 +21,18 @@ use std::alloc::Global;
 use std::sync::Wait;
 
 /// Counts a foreign datagram. While a query is open, the last that is taken is a fault.
-fn count_foreign(line: &mut Line, busy: bool) -> Result<(), ManyFault>
-    requires few { busy ≡ true → line.old.foreign < max_strays }
-    requires room { line.old.foreign + 1 < 2 ^ 64 }
-    ensures ok { OnOk result (Counts busy line.old line.new) }
+fn count_foreign(progress: &mut Progress, busy: bool) -> Result<(), ManyFault>
+    requires few { busy ≡ true → progress.old.foreign < max_strays }
+    requires room { progress.old.foreign + 1 < 2 ^ 64 }
+    ensures ok { OnOk result (Counts busy progress.old progress.new) }
     ensures err { IfErr result (λ fault. (fault ≡ ManyFault.Strays) × (busy ≡ true)
-        × (line.old.foreign + 1 ≡ max_strays)) }
+        × (progress.old.foreign + 1 ≡ max_strays)) }
 {
-    let foreign = line.foreign + 1;
+    let foreign = progress.foreign + 1;
     if busy && foreign == u64::from(MAX_STRAYS) {
         return Err(ManyFault::Strays);
     }
-    line.foreign = foreign;
+    progress.foreign = foreign;
     Ok(())
 }
 
@@ -44,7 +44,7 @@ fn handle<R: Wait, G: Seal + SealCheck>(
     desk: &Desk,
     host: &mut ServeWorker,
     seekers: &mut [Seeker],
-    line: &mut Line,
+    progress: &mut Progress,
     seal: &G,
     busy: bool,
     from: Addr,
@@ -55,18 +55,18 @@ fn handle<R: Wait, G: Seal + SealCheck>(
     requires setting { IsSetting desk.now.setting.now }
     requires own { IsOfDesk desk.now host.old }
     requires holds { AllByRecursion Holding seekers.old }
-    requires few { busy ≡ true → line.old.foreign < max_strays }
-    requires room { line.old.foreign + 1 < 2 ^ 64 }
+    requires few { busy ≡ true → progress.old.foreign < max_strays }
+    requires room { progress.old.foreign + 1 < 2 ^ 64 }
     ensures same { SameHands host.old host.new }
     ensures len { length seekers.new ≡ length seekers.old }
     ensures seats { AllZip SameSeat seekers.old seekers.new }
     ensures ok { IfOk result (λ reply. Handles (G.accepted seal.now) (G.tag_of seal.now)
-        desk.now.setting.now busy from bytes.now at seekers.old seekers.new line.old line.new host.old
+        desk.now.setting.now busy from bytes.now at seekers.old seekers.new progress.old progress.new host.old
         host.new (owed_in reply from out.new)) }
     ensures short { IfOk result (λ reply. IfSome reply (λ n. n ≤ 4096)) }
-    ensures received { OnOk result (line.new.received ≡ line.old.received) }
+    ensures received { OnOk result (progress.new.received ≡ progress.old.received) }
     ensures strays { IsErrOf result ManyFault.Strays
-        → IsLastForeign (G.accepted seal.now) from bytes.now busy seekers.old line.old }
+        → IsLastForeign (G.accepted seal.now) from bytes.now busy seekers.old progress.old }
     ensures link { ¬ IsErrOf result ManyFault.LinkFault }
     ensures ran_on { OnErr result (RanOn host.old host.new) }
 {
@@ -75,7 +75,7 @@ fn handle<R: Wait, G: Seal + SealCheck>(
         Ok(false) => {}
         Err(NoMemory) => return Err(ManyFault::NoMemory),
     }
-    match count_foreign(line, busy) {
+    match count_foreign(progress, busy) {
         Ok(()) => {}
         Err(fault) => return Err(fault),
     }
@@ -92,7 +92,7 @@ fn came<R: Wait, G: Seal + SealCheck>(
     desk: &Desk,
     host: &mut ServeWorker,
     seekers: &mut [Seeker],
-    line: &mut Line,
+    progress: &mut Progress,
     seal: &G,
     busy: bool,
     from: Addr,
@@ -103,55 +103,55 @@ fn came<R: Wait, G: Seal + SealCheck>(
     requires setting { IsSetting desk.now.setting.now }
     requires own { IsOfDesk desk.now host.old }
     requires holds { AllByRecursion Holding seekers.old }
-    requires few { busy ≡ true → line.old.foreign < max_strays }
-    requires room { line.old.foreign + 1 < 2 ^ 64 }
-    requires few_receives { line.old.receives < max_round_receives }
-    requires few_received { line.old.received + 1 < 2 ^ 64 }
+    requires few { busy ≡ true → progress.old.foreign < max_strays }
+    requires room { progress.old.foreign + 1 < 2 ^ 64 }
+    requires few_receives { progress.old.receives < max_round_receives }
+    requires few_received { progress.old.received + 1 < 2 ^ 64 }
     ensures same { SameHands host.old host.new }
     ensures len { length seekers.new ≡ length seekers.old }
     ensures seats { AllZip SameSeat seekers.old seekers.new }
     ensures ok { IfOk result (λ reply. Comes (G.accepted seal.now) (G.tag_of seal.now)
-        desk.now.setting.now busy from bytes.now at seekers.old seekers.new line.old line.new host.old
+        desk.now.setting.now busy from bytes.now at seekers.old seekers.new progress.old progress.new host.old
         host.new (owed_in reply from out.new)) }
     ensures short { IfOk result (λ reply. IfSome reply (λ n. n ≤ 4096)) }
     ensures strays { IsErrOf result ManyFault.Strays
-        → IsLastForeign (G.accepted seal.now) from bytes.now busy seekers.old line.old }
+        → IsLastForeign (G.accepted seal.now) from bytes.now busy seekers.old progress.old }
     ensures link { ¬ IsErrOf result ManyFault.LinkFault }
     ensures ran_on { OnErr result (RanOn host.old host.new) }
 {
     let reply = match handle(
-        rt, alloc, desk, host, seekers, line, seal, busy, from, bytes, at, out,
+        rt, alloc, desk, host, seekers, progress, seal, busy, from, bytes, at, out,
     ) {
         Ok(reply) => reply,
         Err(fault) => return Err(fault),
     };
     expire_all(rt, desk, host, seekers, at);
-    line.moment = at;
-    line.receives = round_after(line.receives, seekers);
-    line.left = line.left.saturating_sub(1);
-    line.received += 1;
+    progress.moment = at;
+    progress.receives = round_after(progress.receives, seekers);
+    progress.left = progress.left.saturating_sub(1);
+    progress.received += 1;
     Ok(reply)
 }
 
 /// No datagram came until that moment: all lookups lose who is overdue, and the round is over.
-fn pass<R: Wait>(
+fn none_came<R: Wait>(
     rt: &R,
     desk: &Desk,
     host: &mut ServeWorker,
     seekers: &mut [Seeker],
-    line: &mut Line,
+    progress: &mut Progress,
     at: u64,
 )
     requires own { IsOfDesk desk.now host.old }
     requires holds { AllByRecursion Holding seekers.old }
     ensures same { SameHands host.old host.new }
     ensures len { length seekers.new ≡ length seekers.old }
-    ensures passes { Passes at seekers.old seekers.new line.old line.new host.old host.new }
+    ensures passes { Passes at seekers.old seekers.new progress.old progress.new host.old host.new }
 {
     expire_all(rt, desk, host, seekers, at);
-    line.moment = at;
-    line.receives = 0;
-    line.left = line.left.saturating_sub(1);
+    progress.moment = at;
+    progress.receives = 0;
+    progress.left = progress.left.saturating_sub(1);
 }
 
 /// Sends the reply that a datagram is owed, if it is owed one: its first bytes of `out`. Whether it was sent.
@@ -173,12 +173,12 @@ fn pay<L: Link>(link: &mut L, to: Addr, reply: Option<usize>, out: &[u8; 4096]) 
 }
 
 /// Counts a reply that was sent.
-fn count_reply(line: &mut Line, was_sent: bool)
-    requires { line.old.replied + 1 < 2 ^ 64 }
-    ensures { line.new ≡ after_paid line.old was_sent }
+fn count_reply(progress: &mut Progress, was_sent: bool)
+    requires { progress.old.replied + 1 < 2 ^ 64 }
+    ensures { progress.new ≡ after_paid progress.old was_sent }
 {
     if was_sent {
-        line.replied += 1;
+        progress.replied += 1;
     }
 }
 
@@ -192,7 +192,7 @@ pub(crate) fn receive_until<R: Wait, L: Link, G: Seal + SealCheck>(
     desk: &Desk,
     host: &mut ServeWorker,
     seekers: &mut [Seeker],
-    line: &mut Line,
+    progress: &mut Progress,
     seal: &G,
     busy: bool,
     until: u64,
@@ -201,26 +201,26 @@ pub(crate) fn receive_until<R: Wait, L: Link, G: Seal + SealCheck>(
 ) -> Result<(), ManyFault>
     requires setting { IsSetting desk.now.setting.now }
     requires own { IsOfDesk desk.now host.old }
-    requires may { MayReceive seekers.old line.old until busy }
+    requires may { MayReceive seekers.old progress.old until busy }
     requires room { length buf.old ≡ max_datagram + 1 }
-    requires moment { L.moment link.old ≡ line.old.moment }
+    requires moment { L.moment link.old ≡ progress.old.moment }
     ensures same { SameHands host.old host.new }
     ensures len { length seekers.new ≡ length seekers.old }
     ensures seats { AllZip SameSeat seekers.old seekers.new }
     ensures goes { OnOk result ((words : WordsState) → Advances busy [] (G.accepted seal.now)
         (G.tag_of seal.now) desk.now.setting.now
-        (stand seekers.old line.old words host.old (L.told link.old))
-        (stand seekers.new line.new words host.new (L.told link.new))) }
-    ensures received { OnOk result (Received busy seekers.old seekers.new line.old line.new) }
-    ensures later { OnOk result (line.old.moment ≤ line.new.moment) }
-    ensures moment { OnOk result (L.moment link.new ≡ line.new.moment) }
+        (stand seekers.old progress.old words host.old (L.told link.old))
+        (stand seekers.new progress.new words host.new (L.told link.new))) }
+    ensures received { OnOk result (Received busy seekers.old seekers.new progress.old progress.new) }
+    ensures later { OnOk result (progress.old.moment ≤ progress.new.moment) }
+    ensures moment { OnOk result (L.moment link.new ≡ progress.new.moment) }
     ensures stops { IfErr result (λ fault. (words : WordsState) → Stops busy fault
         (G.accepted seal.now) (G.tag_of seal.now) desk.now.setting.now
-        (stand seekers.old line.old words host.old (L.told link.old)) (L.told link.new)) }
+        (stand seekers.old progress.old words host.old (L.told link.old)) (L.told link.new)) }
     ensures ran_on { OnErr result (RanOn host.old host.new) }
     ensures strays { IsErrOf result ManyFault.Strays → (words : WordsState)
         → EndsByForeign busy (G.accepted seal.now) (G.tag_of seal.now) desk.now.setting.now
-        (stand seekers.old line.old words host.old (L.told link.old)) (L.told link.new) }
+        (stand seekers.old progress.old words host.old (L.told link.old)) (L.told link.new) }
     ensures busy { IsErrOf result ManyFault.Strays → busy ≡ true }
     ensures link { IsErrOf result ManyFault.LinkFault
         → Rose (L.recv_faults link.old) (L.recv_faults link.new) }
@@ -237,7 +237,7 @@ pub(crate) fn receive_until<R: Wait, L: Link, G: Seal + SealCheck>(
                 desk,
                 host,
                 seekers,
-                line,
+                progress,
                 seal,
                 busy,
                 from,
@@ -247,14 +247,14 @@ pub(crate) fn receive_until<R: Wait, L: Link, G: Seal + SealCheck>(
             ) {
                 Ok(reply) => {
                     let was_sent = pay(link, from, reply, out);
-                    count_reply(line, was_sent);
+                    count_reply(progress, was_sent);
                     Ok(())
                 }
                 Err(fault) => Err(fault),
             }
         }
         Ok(Came::Quiet { at }) => {
-            pass(rt, desk, host, seekers, line, at);
+            none_came(rt, desk, host, seekers, progress, at);
             Ok(())
         }
         Err(_) => Err(ManyFault::LinkFault),

@@ -12,7 +12,7 @@ ghost use Rattle.look_many.specs.inner.ManySteps.{IsOfDesk, MayAwait, Received, 
 use crate::host::Desk;
 use crate::legal::all_legal;
 use crate::receive::receive_until;
-use crate::seeker::{Line, ManyFault, Seeker};
+use crate::seeker::{ManyFault, Progress, Seeker};
 use crate::wait::wait_until;
 use kad_base::Link;
 use seal_tags::{Seal, SealCheck};
@@ -29,32 +29,32 @@ fn receive<R: Wait, L: Link, G: Seal + SealCheck>(
     desk: &Desk,
     host: &mut ServeWorker,
     seekers: &mut [Seeker],
-    line: &mut Line,
+    progress: &mut Progress,
     seal: &G,
     buf: &mut [u8],
     out: &mut [u8; 4096],
 ) -> Result<(), ManyFault>
     requires setting { IsSetting desk.now.setting.now }
     requires own { IsOfDesk desk.now host.old }
-    requires may { MayAwait seekers.old line.old }
+    requires may { MayAwait seekers.old progress.old }
     requires room { length buf.old ≡ max_datagram + 1 }
-    requires moment { L.moment link.old ≡ line.old.moment }
+    requires moment { L.moment link.old ≡ progress.old.moment }
     ensures same { SameHands host.old host.new }
     ensures len { length seekers.new ≡ length seekers.old }
     ensures seats { AllZip SameSeat seekers.old seekers.new }
     ensures goes { OnOk result ((words : WordsState) → Advances true [] (G.accepted seal.now)
         (G.tag_of seal.now) desk.now.setting.now
-        (stand seekers.old line.old words host.old (L.told link.old))
-        (stand seekers.new line.new words host.new (L.told link.new))) }
-    ensures received { OnOk result (Received true seekers.old seekers.new line.old line.new) }
-    ensures later { OnOk result (line.old.moment ≤ line.new.moment) }
-    ensures moment { OnOk result (L.moment link.new ≡ line.new.moment) }
+        (stand seekers.old progress.old words host.old (L.told link.old))
+        (stand seekers.new progress.new words host.new (L.told link.new))) }
+    ensures received { OnOk result (Received true seekers.old seekers.new progress.old progress.new) }
+    ensures later { OnOk result (progress.old.moment ≤ progress.new.moment) }
+    ensures moment { OnOk result (L.moment link.new ≡ progress.new.moment) }
     ensures stops { IfErr result (λ fault. (words : WordsState) → EndsEarly true fault
         (G.accepted seal.now) (G.tag_of seal.now) desk.now.setting.now
-        (stand seekers.old line.old words host.old (L.told link.old)) host.new (L.told link.new)) }
+        (stand seekers.old progress.old words host.old (L.told link.old)) host.new (L.told link.new)) }
     ensures strays { IsErrOf result ManyFault.Strays → (words : WordsState)
         → EndsLast (G.accepted seal.now) (G.tag_of seal.now) desk.now.setting.now
-        (stand seekers.old line.old words host.old (L.told link.old)) host.new (L.told link.new) }
+        (stand seekers.old progress.old words host.old (L.told link.old)) host.new (L.told link.new) }
     ensures link { IsErrOf result ManyFault.LinkFault
         → Rose (L.recv_faults link.old) (L.recv_faults link.new) }
     ensures recv_faults { L.recv_faults link.old ≤ L.recv_faults link.new }
@@ -63,9 +63,9 @@ fn receive<R: Wait, L: Link, G: Seal + SealCheck>(
     ensures kept { L.kept link.new ≡ L.kept link.old }
 {
     all_legal(seekers);
-    let until = wait_until(line, seekers);
+    let until = wait_until(progress, seekers);
     match receive_until(
-        rt, alloc, link, desk, host, seekers, line, seal, true, until, buf, out,
+        rt, alloc, link, desk, host, seekers, progress, seal, true, until, buf, out,
     ) {
         Ok(()) => Ok(()),
         Err(fault) => Err(fault),
@@ -80,32 +80,32 @@ pub(crate) fn receive_round<R: Wait, L: Link, G: Seal + SealCheck>(
     desk: &Desk,
     host: &mut ServeWorker,
     seekers: &mut [Seeker],
-    line: &mut Line,
+    progress: &mut Progress,
     seal: &G,
     buf: &mut [u8],
     out: &mut [u8; 4096],
 ) -> Result<(), ManyFault>
     requires setting { IsSetting desk.now.setting.now }
     requires own { IsOfDesk desk.now host.old }
-    requires may { MayAwait seekers.old line.old }
+    requires may { MayAwait seekers.old progress.old }
     requires room { length buf.old ≡ max_datagram + 1 }
-    requires moment { L.moment link.old ≡ line.old.moment }
+    requires moment { L.moment link.old ≡ progress.old.moment }
     ensures same { SameHands host.old host.new }
     ensures len { length seekers.new ≡ length seekers.old }
     ensures seats { AllZip SameSeat seekers.old seekers.new }
     ensures goes { OnOk result ((words : WordsState) → Advances true [] (G.accepted seal.now)
         (G.tag_of seal.now) desk.now.setting.now
-        (stand seekers.old line.old words host.old (L.told link.old))
-        (stand seekers.new line.new words host.new (L.told link.new))) }
-    ensures received { OnOk result (ReceivedAll seekers.old seekers.new line.old line.new) }
-    ensures over { OnOk result (line.new.receives ≡ 0) }
-    ensures moment { OnOk result (L.moment link.new ≡ line.new.moment) }
+        (stand seekers.old progress.old words host.old (L.told link.old))
+        (stand seekers.new progress.new words host.new (L.told link.new))) }
+    ensures received { OnOk result (ReceivedAll seekers.old seekers.new progress.old progress.new) }
+    ensures over { OnOk result (progress.new.receives ≡ 0) }
+    ensures moment { OnOk result (L.moment link.new ≡ progress.new.moment) }
     ensures stops { IfErr result (λ fault. (words : WordsState) → EndsEarly true fault
         (G.accepted seal.now) (G.tag_of seal.now) desk.now.setting.now
-        (stand seekers.old line.old words host.old (L.told link.old)) host.new (L.told link.new)) }
+        (stand seekers.old progress.old words host.old (L.told link.old)) host.new (L.told link.new)) }
     ensures strays { IsErrOf result ManyFault.Strays → (words : WordsState)
         → EndsLast (G.accepted seal.now) (G.tag_of seal.now) desk.now.setting.now
-        (stand seekers.old line.old words host.old (L.told link.old)) host.new (L.told link.new) }
+        (stand seekers.old progress.old words host.old (L.told link.old)) host.new (L.told link.new) }
     ensures link { IsErrOf result ManyFault.LinkFault
         → Rose (L.recv_faults link.old) (L.recv_faults link.new) }
     ensures recv_faults { L.recv_faults link.old ≤ L.recv_faults link.new }
@@ -113,12 +113,16 @@ pub(crate) fn receive_round<R: Wait, L: Link, G: Seal + SealCheck>(
         → L.recv_faults link.new ≡ L.recv_faults link.old }
     ensures kept { L.kept link.new ≡ L.kept link.old }
 {
-    match receive(rt, alloc, link, desk, host, seekers, line, seal, buf, out) {
+    match receive(
+        rt, alloc, link, desk, host, seekers, progress, seal, buf, out,
+    ) {
         Ok(()) => {}
         Err(fault) => return Err(fault),
     }
-    'receiving: while line.receives != 0 {
-        match receive(rt, alloc, link, desk, host, seekers, line, seal, buf, out) {
+    'receiving: while progress.receives != 0 {
+        match receive(
+            rt, alloc, link, desk, host, seekers, progress, seal, buf, out,
+        ) {
             Ok(()) => {}
             Err(fault) => return Err(fault),
         }

@@ -13,7 +13,7 @@ use crate::ask::ask_all;
 use crate::host::Desk;
 use crate::legal::all_legal;
 use crate::round::receive_round;
-use crate::seeker::{Line, ManyFault, Seeker};
+use crate::seeker::{ManyFault, Progress, Seeker};
 use crate::settle::settle_all;
 use crate::wait::earliest;
 use id_puzzles::Words;
@@ -34,7 +34,7 @@ fn ask_and_receive<R: Wait, L: Link, G: Seal + SealCheck>(
     desk: &Desk,
     host: &mut ServeWorker,
     seekers: &mut [Seeker],
-    line: &mut Line,
+    progress: &mut Progress,
     words: &mut Words,
     owners: &mut Vec<u64>,
     seal: &G,
@@ -43,22 +43,22 @@ fn ask_and_receive<R: Wait, L: Link, G: Seal + SealCheck>(
 ) -> Result<bool, ManyFault>
     requires setting { IsSetting desk.now.setting.now }
     requires own { IsOfDesk desk.now host.old }
-    requires begins { Begins (stand seekers.old line.old words.old host.old (L.told link.old)) }
+    requires begins { Begins (stand seekers.old progress.old words.old host.old (L.told link.old)) }
     requires room { length buf.old ≡ max_datagram + 1 }
-    requires moment { L.moment link.old ≡ line.old.moment }
+    requires moment { L.moment link.old ≡ progress.old.moment }
     ensures same { SameHands host.old host.new }
     ensures len { length seekers.new ≡ length seekers.old }
     ensures seats { SameSeats seekers.old seekers.new }
     ensures goes { OnOk result (HaveGone (G.accepted seal.now) (G.tag_of seal.now) desk.now.setting.now
-        (stand seekers.old line.old words.old host.old (L.told link.old))
-        (stand seekers.new line.new words.new host.new (L.told link.new)) owners.old.items owners.new.items) }
+        (stand seekers.old progress.old words.old host.old (L.told link.old))
+        (stand seekers.new progress.new words.new host.new (L.told link.new)) owners.old.items owners.new.items) }
     ensures received { IfOk result (λ more. more ≡ true
-        → HaveReceived (stand seekers.new line.new words.new host.new (L.told link.new))) }
+        → HaveReceived (stand seekers.new progress.new words.new host.new (L.told link.new))) }
     ensures over { IfOk result (λ more. more ≡ false
-        → AreOver (stand seekers.new line.new words.new host.new (L.told link.new))) }
-    ensures moment { OnOk result (L.moment link.new ≡ line.new.moment) }
+        → AreOver (stand seekers.new progress.new words.new host.new (L.told link.new))) }
+    ensures moment { OnOk result (L.moment link.new ≡ progress.new.moment) }
     ensures ends { IfErr result (λ fault. EndGoing fault (G.accepted seal.now) (G.tag_of seal.now)
-        desk.now.setting.now (stand seekers.old line.old words.old host.old (L.told link.old))
+        desk.now.setting.now (stand seekers.old progress.old words.old host.old (L.told link.old))
         words.new host.new (L.told link.new)) }
     ensures link { IsErrOf result ManyFault.LinkFault
         → Rose (L.recv_faults link.old) (L.recv_faults link.new) }
@@ -67,7 +67,7 @@ fn ask_and_receive<R: Wait, L: Link, G: Seal + SealCheck>(
         → L.recv_faults link.new ≡ L.recv_faults link.old }
     ensures kept { L.kept link.new ≡ L.kept link.old }
 {
-    match ask_all(link, seekers, words, line, owners) {
+    match ask_all(link, seekers, words, progress, owners) {
         Ok(()) => {}
         Err(NoMemory) => {
             all_legal(seekers);
@@ -78,7 +78,9 @@ fn ask_and_receive<R: Wait, L: Link, G: Seal + SealCheck>(
         Some(_) => {}
         None => return Ok(false),
     }
-    match receive_round(rt, alloc, link, desk, host, seekers, line, seal, buf, out) {
+    match receive_round(
+        rt, alloc, link, desk, host, seekers, progress, seal, buf, out,
+    ) {
         Ok(()) => Ok(true),
         Err(fault) => Err(fault),
     }
@@ -97,7 +99,7 @@ pub(crate) fn go_rounds<
     desk: &Desk,
     host: &mut ServeWorker,
     seekers: &mut [Seeker],
-    line: &mut Line,
+    progress: &mut Progress,
     words: &mut Words,
     owners: &mut Vec<u64>,
     check: &C,
@@ -107,18 +109,18 @@ pub(crate) fn go_rounds<
     requires setting { IsSetting desk.now.setting.now }
     requires own { IsOfDesk desk.now host.old }
     requires seated { AllByRecursion (IsSeated desk.now.table.now) seekers.old }
-    requires begins { Begins (stand seekers.old line.old words.old host.old (L.told link.old)) }
-    requires moment { L.moment link.old ≡ line.old.moment }
+    requires begins { Begins (stand seekers.old progress.old words.old host.old (L.told link.old)) }
+    requires moment { L.moment link.old ≡ progress.old.moment }
     ensures same { SameHands host.old host.new }
     ensures len { length seekers.new ≡ length seekers.old }
     ensures seats { SameSeats seekers.old seekers.new }
     ensures goes { OnOk result (HaveGone (G.accepted seal.now) (G.tag_of seal.now) desk.now.setting.now
-        (stand seekers.old line.old words.old host.old (L.told link.old))
-        (stand seekers.new line.new words.new host.new (L.told link.new)) owners.old.items owners.new.items) }
-    ensures over { OnOk result (AreOver (stand seekers.new line.new words.new host.new (L.told link.new))) }
-    ensures moment { OnOk result (L.moment link.new ≡ line.new.moment) }
+        (stand seekers.old progress.old words.old host.old (L.told link.old))
+        (stand seekers.new progress.new words.new host.new (L.told link.new)) owners.old.items owners.new.items) }
+    ensures over { OnOk result (AreOver (stand seekers.new progress.new words.new host.new (L.told link.new))) }
+    ensures moment { OnOk result (L.moment link.new ≡ progress.new.moment) }
     ensures ends { IfErr result (λ fault. EndGoing fault (G.accepted seal.now) (G.tag_of seal.now)
-        desk.now.setting.now (stand seekers.old line.old words.old host.old (L.told link.old))
+        desk.now.setting.now (stand seekers.old progress.old words.old host.old (L.told link.old))
         words.new host.new (L.told link.new)) }
     ensures link { IsErrOf result ManyFault.LinkFault
         → Rose (L.recv_faults link.old) (L.recv_faults link.new) }
@@ -130,7 +132,7 @@ pub(crate) fn go_rounds<
     let mut buf = [0u8; RECEIVE_ROOM];
     'rounds: for _ in rt.forever() {
         match ask_and_receive(
-            rt, alloc, link, desk, host, seekers, line, words, owners, seal, &mut buf, out,
+            rt, alloc, link, desk, host, seekers, progress, words, owners, seal, &mut buf, out,
         ) {
             Ok(true) => {}
             Ok(false) => return Ok(()),

@@ -32,7 +32,7 @@ pub(crate) struct Seeker {
 /// one begins a round), how many datagrams were for no lookup, how many receives are still wanted, how many datagrams came
 /// in all, and how many replies were sent.
 #[derive(Clone, Copy, Debug)]
-pub(crate) struct Line {
+pub(crate) struct Progress {
     pub moment: u64,
     pub receives: u32,
     pub foreign: u64,

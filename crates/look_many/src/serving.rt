@@ -12,7 +12,7 @@ ghost use Rattle.look_many.specs.inner.ManySteps.{IsOfDesk, MayServe, EndsEarly}
 use crate::host::Desk;
 use crate::legal::all_legal;
 use crate::receive::receive_until;
-use crate::seeker::{Line, ManyFault, Seeker};
+use crate::seeker::{ManyFault, Progress, Seeker};
 use kad_base::Link;
 use seal_tags::{Seal, SealCheck};
 use serve_crew::ServeWorker;
@@ -30,31 +30,31 @@ fn serve_one<R: Wait, L: Link, G: Seal + SealCheck>(
     desk: &Desk,
     host: &mut ServeWorker,
     seekers: &mut [Seeker],
-    line: &mut Line,
+    progress: &mut Progress,
     seal: &G,
     buf: &mut [u8],
     out: &mut [u8; 4096],
 ) -> Result<(), ManyFault>
     requires setting { IsSetting desk.now.setting.now }
     requires own { IsOfDesk desk.now host.old }
-    requires may { MayServe seekers.old line.old }
-    requires left { 0 < line.old.left }
+    requires may { MayServe seekers.old progress.old }
+    requires left { 0 < progress.old.left }
     requires room { length buf.old ≡ max_datagram + 1 }
-    requires moment { L.moment link.old ≡ line.old.moment }
+    requires moment { L.moment link.old ≡ progress.old.moment }
     ensures same { SameHands host.old host.new }
     ensures len { length seekers.new ≡ length seekers.old }
     ensures seats { AllZip SameSeat seekers.old seekers.new }
     ensures goes { OnOk result ((words : WordsState) → Advances false [] (G.accepted seal.now)
         (G.tag_of seal.now) desk.now.setting.now
-        (stand seekers.old line.old words host.old (L.told link.old))
-        (stand seekers.new line.new words host.new (L.told link.new))) }
-    ensures may { OnOk result (MayServe seekers.new line.new) }
+        (stand seekers.old progress.old words host.old (L.told link.old))
+        (stand seekers.new progress.new words host.new (L.told link.new))) }
+    ensures may { OnOk result (MayServe seekers.new progress.new) }
     ensures journals { OnOk result (map whose seekers.new ≡ map whose seekers.old) }
-    ensures left { OnOk result (line.new.left ≡ line.old.left - 1) }
-    ensures moment { OnOk result (L.moment link.new ≡ line.new.moment) }
+    ensures left { OnOk result (progress.new.left ≡ progress.old.left - 1) }
+    ensures moment { OnOk result (L.moment link.new ≡ progress.new.moment) }
     ensures stops { IfErr result (λ fault. (words : WordsState) → EndsEarly false fault
         (G.accepted seal.now) (G.tag_of seal.now) desk.now.setting.now
-        (stand seekers.old line.old words host.old (L.told link.old)) host.new (L.told link.new)) }
+        (stand seekers.old progress.old words host.old (L.told link.old)) host.new (L.told link.new)) }
     ensures strays { ¬ IsErrOf result ManyFault.Strays }
     ensures link { IsErrOf result ManyFault.LinkFault
         → Rose (L.recv_faults link.old) (L.recv_faults link.new) }
@@ -64,9 +64,9 @@ fn serve_one<R: Wait, L: Link, G: Seal + SealCheck>(
     ensures kept { L.kept link.new ≡ L.kept link.old }
 {
     all_legal(seekers);
-    let until = line.moment.saturating_add(PATIENCE);
+    let until = progress.moment.saturating_add(PATIENCE);
     match receive_until(
-        rt, alloc, link, desk, host, seekers, line, seal, false, until, buf, out,
+        rt, alloc, link, desk, host, seekers, progress, seal, false, until, buf, out,
     ) {
         Ok(()) => Ok(()),
         Err(fault) => Err(fault),
@@ -82,30 +82,30 @@ pub(crate) fn serve_on<R: Wait, L: Link, G: Seal + SealCheck>(
     desk: &Desk,
     host: &mut ServeWorker,
     seekers: &mut [Seeker],
-    line: &mut Line,
+    progress: &mut Progress,
     seal: &G,
     buf: &mut [u8],
     out: &mut [u8; 4096],
 ) -> Result<(), ManyFault>
     requires setting { IsSetting desk.now.setting.now }
     requires own { IsOfDesk desk.now host.old }
-    requires may { MayServe seekers.old line.old }
+    requires may { MayServe seekers.old progress.old }
     requires room { length buf.old ≡ max_datagram + 1 }
-    requires moment { L.moment link.old ≡ line.old.moment }
+    requires moment { L.moment link.old ≡ progress.old.moment }
     ensures same { SameHands host.old host.new }
     ensures len { length seekers.new ≡ length seekers.old }
     ensures seats { AllZip SameSeat seekers.old seekers.new }
     ensures goes { OnOk result ((words : WordsState) → Advances false [] (G.accepted seal.now)
         (G.tag_of seal.now) desk.now.setting.now
-        (stand seekers.old line.old words host.old (L.told link.old))
-        (stand seekers.new line.new words host.new (L.told link.new))) }
-    ensures may { OnOk result (MayServe seekers.new line.new) }
+        (stand seekers.old progress.old words host.old (L.told link.old))
+        (stand seekers.new progress.new words host.new (L.told link.new))) }
+    ensures may { OnOk result (MayServe seekers.new progress.new) }
     ensures journals { OnOk result (map whose seekers.new ≡ map whose seekers.old) }
-    ensures over { OnOk result (line.new.left ≡ 0) }
-    ensures moment { OnOk result (L.moment link.new ≡ line.new.moment) }
+    ensures over { OnOk result (progress.new.left ≡ 0) }
+    ensures moment { OnOk result (L.moment link.new ≡ progress.new.moment) }
     ensures stops { IfErr result (λ fault. (words : WordsState) → EndsEarly false fault
         (G.accepted seal.now) (G.tag_of seal.now) desk.now.setting.now
-        (stand seekers.old line.old words host.old (L.told link.old)) host.new (L.told link.new)) }
+        (stand seekers.old progress.old words host.old (L.told link.old)) host.new (L.told link.new)) }
     ensures strays { ¬ IsErrOf result ManyFault.Strays }
     ensures link { IsErrOf result ManyFault.LinkFault
         → Rose (L.recv_faults link.old) (L.recv_faults link.new) }
@@ -114,8 +114,10 @@ pub(crate) fn serve_on<R: Wait, L: Link, G: Seal + SealCheck>(
         → L.recv_faults link.new ≡ L.recv_faults link.old }
     ensures kept { L.kept link.new ≡ L.kept link.old }
 {
-    'serving: while line.left != 0 {
-        match serve_one(rt, alloc, link, desk, host, seekers, line, seal, buf, out) {
+    'serving: while progress.left != 0 {
+        match serve_one(
+            rt, alloc, link, desk, host, seekers, progress, seal, buf, out,
+        ) {
             Ok(()) => {}
             Err(fault) => return Err(fault),
         }

@@ -11,7 +11,7 @@ ghost use Rattle.lookup_core.specs.Sealed.{Accepts};
 ghost use Rattle.node_serve.specs.declared.setting.ServeSetting.{ServeSetting};
 ghost use Rattle.node_serve.specs.Sealing.{Tags};
 ghost use Rattle.serve_crew.specs.Hands.{Hands, SamePass, ToldOf};
-ghost use Rattle.look_many.specs.declared.seeker.Line.{Line as Line_value};
+ghost use Rattle.look_many.specs.declared.seeker.Progress.{Progress as Progress_value};
 ghost use Rattle.look_many.specs.inner.Crowd.{Holding, Advances, stand};
 ghost use Rattle.look_many.specs.inner.ManySteps.{IsSeated, SettlesSome, SettlesWhole};
 ghost use Rattle.look_many.specs.inner.SettleSteps.{CanSettle, SettlesOn, Settles, EachSettles, HasSome, SeveralHaveSome};
@@ -31,7 +31,7 @@ use turn_book::{Pass, Turn};
 const MAX_LOOKUPS: usize = 16;
 
 /// Tells the table that the contact answered.
-fn tell_seen<R: Wait>(
+fn notify_seen<R: Wait>(
     rt: &R,
     tables: &Turn<Table>,
     pass: &mut Pass<Table>,
@@ -61,7 +61,7 @@ fn note_seen<R: Wait>(
     ensures ok { OnOk result (SettlesOn path seeker.old seeker.new) }
     ensures err { OnErr result (SettlesSome seeker.old seeker.new) }
 {
-    match tell_seen(rt, tables, &mut seeker.pass, contact) {
+    match notify_seen(rt, tables, &mut seeker.pass, contact) {
         Ok(()) => {}
         Err(NoMemory) => return Err(NoMemory),
     }
@@ -297,10 +297,10 @@ pub(crate) fn settle_all<R: Threads + Wait + Sync, C: PacedCheck + Sync>(
     ensures len { length seekers.new ≡ length seekers.old }
     ensures some { AllZip SettlesSome seekers.old seekers.new }
     ensures whole { OnOk result (AllZip SettlesWhole seekers.old seekers.new) }
-    ensures goes { (accepts : Accepts) (tags : Tags) (server : ServeSetting) (line : Line_value)
+    ensures goes { (accepts : Accepts) (tags : Tags) (server : ServeSetting) (progress : Progress_value)
         (words : WordsState) (host : Hands) (told : Option (List Event))
-        → Advances true [] accepts tags server (stand seekers.old line words host told)
-        (stand seekers.new line words host told) }
+        → Advances true [] accepts tags server (stand seekers.old progress words host told)
+        (stand seekers.new progress words host told) }
 {
     settle_each(rt, tables, check, seekers);
     answer_of(seekers)

@@ -5,7 +5,7 @@ ghost use Rattle.look_many.specs.Many.{WaitsUntil, goes_on};
 ghost use Rattle.look_many.specs.inner.Crowd.{queries_of};
 ghost use Rattle.look_many.specs.inner.ManySteps.{sooner_of, IsSoonest};
 
-use crate::seeker::{Line, Seeker};
+use crate::seeker::{Progress, Seeker};
 
 /// The earlier of two moments that may be missing.
 fn sooner(one: Option<u64>, other: Option<u64>) -> Option<u64>
@@ -32,13 +32,13 @@ pub(crate) fn earliest(seekers: &[Seeker]) -> Option<u64>
 }
 
 /// How long the next receive waits while a query is open.
-pub(crate) fn wait_until(line: &Line, seekers: &[Seeker]) -> u64
+pub(crate) fn wait_until(progress: &Progress, seekers: &[Seeker]) -> u64
     requires { queries_of seekers.now ≢ [] }
-    ensures { WaitsUntil line.now.receives line.now.moment
+    ensures { WaitsUntil progress.now.receives progress.now.moment
         (map (λ q. q.deadline) (queries_of seekers.now)) result }
 {
     match earliest(seekers) {
-        Some(deadline) => lookup_core::wait_until(line.receives, line.moment, deadline),
+        Some(deadline) => lookup_core::wait_until(progress.receives, progress.moment, deadline),
         None => unreachable!(),
     }
 }

@@ -68,8 +68,8 @@ nearest_more {K} R best more all lists places i list lt same at is e =
     ∙ e)
 
 -- the next list that is passed
-pub pass_more : {K : Type 0} (R : K → K → Ordering) (c : K) (lists all : List (List K)) (places : List ℕ) (i v : ℕ) (list : List K) → i < length lists → length places ≡ length lists → list ≡ get_or lists i list → v ≡ place_after R c list (get_or places i 0) → rests (take i lists) (take i places) ++ map (after R c) (rests (drop i lists) (drop i places)) ≡ all → rests (take (i + 1) lists) (take (i + 1) (set places i v)) ++ map (after R c) (rests (drop (i + 1) lists) (drop (i + 1) (set places i v))) ≡ all
-pass_more {K} R c lists all places i v list lt same at is e =
+pub advance_more : {K : Type 0} (R : K → K → Ordering) (c : K) (lists all : List (List K)) (places : List ℕ) (i v : ℕ) (list : List K) → i < length lists → length places ≡ length lists → list ≡ get_or lists i list → v ≡ place_after R c list (get_or places i 0) → rests (take i lists) (take i places) ++ map (after R c) (rests (drop i lists) (drop i places)) ≡ all → rests (take (i + 1) lists) (take (i + 1) (set places i v)) ++ map (after R c) (rests (drop (i + 1) lists) (drop (i + 1) (set places i v))) ≡ all
+advance_more {K} R c lists all places i v list lt same at is e =
     let next : suc i ≡ i + 1 = omega arith in
     subst (λ (m : ℕ). rests (take m lists) (take m (set places i v)) ++ map (after R c) (rests (drop m lists) (drop m (set places i v))) ≡ all) next
     (rests_step R c lists places i v list lt same (is ∙ ap (λ (l : List K). place_after R c l (get_or places i 0)) at) ∙ e)

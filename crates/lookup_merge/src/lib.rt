@@ -26,7 +26,7 @@ pub fn merge(alloc: Global, target: &Id, k: u8, lists: &[Contacts]) -> Result<Co
             None => return Ok(found),
             Some(contact) => {
                 found.push(contact)?;
-                pass(target, lists, places.as_mut_slice(), &contact);
+                advance(target, lists, places.as_mut_slice(), &contact);
             }
         }
     }
@@ -77,7 +77,7 @@ fn nearer(target: &Id, best: Option<Contact>, next: Option<Contact>) -> Option<C
 }
 
 /// Goes on to the next place in each list that has the contact at its place.
-fn pass(target: &Id, lists: &[Contacts], places: &mut [usize], contact: &Contact)
+fn advance(target: &Id, lists: &[Contacts], places: &mut [usize], contact: &Contact)
     requires { length places.old ≡ length lists.now }
     ensures same { length places.new ≡ length lists.now }
     ensures passed { rests lists.now places.new ≡ map (after (closeness target.now) contact.now)

@@ -13,7 +13,7 @@ use kad_base::{Contact, Serial};
 pub(crate) const DRIVER: u8 = 0;
 
 /// Tells the table that the contact didn't answer.
-fn tell_failed(table: &mut Table, contact: Contact)
+fn notify_failed(table: &mut Table, contact: Contact)
     ensures { TableTold (record { role = 0; call = Failed contact } ∷ []) table.old table.new }
 {
     table.apply(DRIVER, TableCall::Failed { contact });
@@ -25,6 +25,6 @@ pub(crate) fn expire(work: &mut LookupState, at: u64)
     ensures { Expires at work.old work.new }
 {
     while let Some(contact) = work.lookup.overdue(at) {
-        tell_failed(&mut work.table, contact);
+        notify_failed(&mut work.table, contact);
     }
 }

@@ -15,8 +15,8 @@ use Rattle.kad_text.specs.Text.{SpellsId}
 use Rattle.kad_text.proofs.HexSpelling.{spells_digits}
 use Rattle.kad_text.proofs.OneSpelling.{id_once}
 use Rattle.kad_base.specs.Limits.{max_lookups}
-use Rattle.node_commands.specs.declared.finds.Line.{Line}
-use Rattle.node_commands.specs.declared.finds.Line.TheVariants.{Nothing, Told, Wanted}
+use Rattle.node_commands.specs.declared.finds.InputLine.{InputLine}
+use Rattle.node_commands.specs.declared.finds.InputLine.TheVariants.{Nothing, Told, Wanted}
 use Rattle.kad_text.specs.Lines.{IsBad, IsContactLine, IsPassedOver}
 use Rattle.node_commands.specs.FindLines.{IsBadBehind, IsFindLine, IsFirstBadBehind, Naming, Says, SaysMore, report_in, target_in}
 use Rattle.kad_text.proofs.LineLaws.{AllZip-push, IsTurn, turned}
@@ -48,7 +48,7 @@ find_once line a b s t =
     let same = append_cancel_left (codes "find ") s.id t.id (sym s.spelled ∙ t.spelled) in
     id_once t.id a b (subst (λ (l : List ℕ). SpellsId l a) same s.spells_id) t.spells_id
 
-said_once : (line : List ℕ) (a b : Line) → Says line a → Says line b → a ≡ b
+said_once : (line : List ℕ) (a b : InputLine) → Says line a → Says line b → a ≡ b
 said_once line Nothing Nothing s t = refl
 said_once line Nothing (Told b) s t = absurd (not_passed_over _ b t s)
 said_once line Nothing (Wanted b) s t = absurd (find_not_passed _ b t s)
@@ -59,13 +59,13 @@ said_once line (Wanted a) Nothing s t = absurd (find_not_passed _ a s t)
 said_once line (Wanted a) (Told b) s t = absurd (find_not_contact _ a b s t)
 said_once line (Wanted a) (Wanted b) s t = ap Wanted (find_once _ a b s t)
 
-all_said_once : (input : List (List ℕ)) (a b : List Line) → AllZip Says input a → AllZip Says input b → a ≡ b
+all_said_once : (input : List (List ℕ)) (a b : List InputLine) → AllZip Says input a → AllZip Says input b → a ≡ b
 all_said_once [] [] [] s t = refl
 all_said_once [] [] (y ∷ b) s t = absurd t
 all_said_once [] (x ∷ a) b s t = absurd s
 all_said_once (line ∷ input) [] b s t = absurd s
 all_said_once (line ∷ input) (x ∷ a) [] s t = absurd t
-all_said_once (line ∷ input) (x ∷ a) (y ∷ b) s t = ap (λ (z : Line). z ∷ a) (said_once line x y s.0 t.0) ∙ ap (λ (l : List Line). y ∷ l) (all_said_once input a b s.1 t.1)
+all_said_once (line ∷ input) (x ∷ a) (y ∷ b) s t = ap (λ (z : InputLine). z ∷ a) (said_once line x y s.0 t.0) ∙ ap (λ (l : List InputLine). y ∷ l) (all_said_once input a b s.1 t.1)
 
 -- an input names one thing
 pub reports_once : (input : List (List ℕ)) (a b : List Report) (x y : List Id) → Naming input a x → Naming input b y → a ≡ b
@@ -92,7 +92,7 @@ untexted line id e u target f =
     let s = find_cut line id target e f in
     u (IsUtf8-from_ascii id (IsAscii-from_all id (ascii_of id (hex_visible 20 id target.0 s))))
 
-pub unsaid : (line : List ℕ) → ((target : Id) → ¬ IsFindLine (strip_carriage_return line) target) → IsBad line → (said : Line) → ¬ Says line said
+pub unsaid : (line : List ℕ) → ((target : Id) → ¬ IsFindLine (strip_carriage_return line) target) → IsBad line → (said : InputLine) → ¬ Says line said
 unsaid line f b Nothing s = b None s
 unsaid line f b (Told report) s = b (Some report) s
 unsaid line f b (Wanted target) s = f target s
@@ -100,24 +100,24 @@ unsaid line f b (Wanted target) s = f target s
 -- ---- a bad line stands in no input that is read
 
 -- what the lines of a split input say
-record Cut (before after : List (List ℕ)) (line : List ℕ) (said : List Line) : Type 0 where
-  pub front : List Line
-  pub it : Line
-  pub back : List Line
+record Cut (before after : List (List ℕ)) (line : List ℕ) (said : List InputLine) : Type 0 where
+  pub front : List InputLine
+  pub it : InputLine
+  pub back : List InputLine
   pub whole_is : said ≡ front ++ it ∷ back
   pub each : AllZip Says before front
   pub says : Says line it
 
-cut : (before after : List (List ℕ)) (line : List ℕ) (said : List Line) → AllZip Says (before ++ line ∷ after) said → Cut before after line said
+cut : (before after : List (List ℕ)) (line : List ℕ) (said : List InputLine) → AllZip Says (before ++ line ∷ after) said → Cut before after line said
 cut [] after line [] s = absurd s
 cut [] after line (x ∷ said) s = record { front = []; it = x; back = said; whole_is = refl; each = tt; says = s.0 }
 cut (l ∷ before) after line [] s = absurd s
 cut (l ∷ before) after line (x ∷ said) s =
     let c = cut before after line said s.1 in
-    record { front = x ∷ c.front; it = c.it; back = c.back; whole_is = ap (λ (r : List Line). x ∷ r) c.whole_is; each = (s.0, c.each); says = c.says }
+    record { front = x ∷ c.front; it = c.it; back = c.back; whole_is = ap (λ (r : List InputLine). x ∷ r) c.whole_is; each = (s.0, c.each); says = c.says }
 
 -- the targets of a front and a line are no more than those of all
-front_few : (front back : List Line) (it : Line) → length (flat_map target_in front ++ target_in it) ≤ length (flat_map target_in (front ++ it ∷ back))
+front_few : (front back : List InputLine) (it : InputLine) → length (flat_map target_in front ++ target_in it) ≤ length (flat_map target_in (front ++ it ∷ back))
 front_few front back it =
     let all = ap length (flat_map-append target_in front (it ∷ back)) in
     let first = length-append (flat_map target_in front) (flat_map target_in (it ∷ back)) in
@@ -220,10 +220,10 @@ none_named = record { said = []; each = tt; reports_are = refl; targets_are = re
 
 -- ---- what is bad behind others
 
-pub never_said : (targets : List Id) (line : List ℕ) → ((said : Line) → ¬ Says line said) → IsBadBehind targets line
+pub never_said : (targets : List Id) (line : List ℕ) → ((said : InputLine) → ¬ Says line said) → IsBadBehind targets line
 never_said targets line none_ said says = absurd (none_ said says)
 
 pub one_too_many : (targets : List Id) (line : List ℕ) (target : Id) → Says line (Wanted target) → max_lookups < length (targets ++ target ∷ []) → IsBadBehind targets line
 one_too_many targets line target s much said says =
     let same = said_once line (Wanted target) said s says in
-    subst (λ (x : Line). max_lookups < length (targets ++ target_in x)) same much
+    subst (λ (x : InputLine). max_lookups < length (targets ++ target_in x)) same much

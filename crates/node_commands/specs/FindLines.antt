@@ -7,8 +7,8 @@ use Rattle.kad_base.specs.declared.types.Id.{Id}
 use Rattle.kad_base.specs.declared.types.Report.{Report}
 use Rattle.kad_text.specs.Text.{SpellsId}
 use Rattle.kad_base.specs.Limits.{max_lookups}
-use Rattle.node_commands.specs.declared.finds.Line.{Line}
-use Rattle.node_commands.specs.declared.finds.Line.TheVariants.{Nothing, Told, Wanted}
+use Rattle.node_commands.specs.declared.finds.InputLine.{InputLine}
+use Rattle.node_commands.specs.declared.finds.InputLine.TheVariants.{Nothing, Told, Wanted}
 use Rattle.kad_text.specs.Lines.{lines, IsPassedOver, IsContactLine}
 
 -- the word, a space, and the target: an identifier
@@ -19,23 +19,23 @@ pub record IsFindLine (line : List ℕ) (target : Id) : Type 0 where
 
 -- what a good line says: nothing where it is passed over, the report of a contact line, or a target. A carriage return at its
 -- end isn't looked at
-abbrev pub Says : List ℕ → Line → Type 0
+abbrev pub Says : List ℕ → InputLine → Type 0
 Says line Nothing = IsPassedOver (strip_carriage_return line)
 Says line (Told report) = IsContactLine (strip_carriage_return line) report
 Says line (Wanted target) = IsFindLine (strip_carriage_return line) target
 
-abbrev pub report_in : Line → List Report
+abbrev pub report_in : InputLine → List Report
 report_in (Told report) = report ∷ []
 report_in other = []
 
-abbrev pub target_in : Line → List Id
+abbrev pub target_in : InputLine → List Id
 target_in (Wanted target) = target ∷ []
 target_in other = []
 
 -- each line is good, these are the reports of the contact lines and the targets, each in order, and no more targets are named
 -- than are looked for at once
 pub record Naming (input : List (List ℕ)) (reports : List Report) (targets : List Id) : Type 0 where
-  pub said : List Line
+  pub said : List InputLine
   pub each : AllZip Says input said
   pub reports_are : reports ≡ flat_map report_in said
   pub targets_are : targets ≡ flat_map target_in said
@@ -43,7 +43,7 @@ pub record Naming (input : List (List ℕ)) (reports : List Report) (targets : L
 
 -- behind lines that said these reports and targets one line more is good, and this is what all say
 pub record SaysMore (line : List ℕ) (reports : List Report) (targets : List Id) (reports' : List Report) (targets' : List Id) : Type 0 where
-  pub said : Line
+  pub said : InputLine
   pub says : Says line said
   pub reports_are : reports' ≡ reports ++ report_in said
   pub targets_are : targets' ≡ targets ++ target_in said
@@ -51,7 +51,7 @@ pub record SaysMore (line : List ℕ) (reports : List Report) (targets : List Id
 
 -- behind lines that name these targets the line says nothing, or it is one target too many
 abbrev pub IsBadBehind : List Id → List ℕ → Type 0
-IsBadBehind targets line = (said : Line) → Says line said → max_lookups < length (targets ++ target_in said)
+IsBadBehind targets line = (said : InputLine) → Says line said → max_lookups < length (targets ++ target_in said)
 
 -- the line of this number, counted from 1, is so, and each before it is good
 pub record IsFirstBadBehind (input : List (List ℕ)) (number : ℕ) : Type 0 where

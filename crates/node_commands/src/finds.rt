@@ -3,7 +3,7 @@ ghost use Rattle.std.specs.Prelude.{◌≡◌, ◌≤◌, ◌<◌, ◌++◌, [],
 ghost use Rattle.kad_base.specs.declared.types.Id.{Id};
 ghost use Rattle.kad_base.specs.declared.types.Report.{Report};
 ghost use Rattle.kad_base.specs.Limits.{max_lookups};
-ghost use Rattle.node_commands.specs.declared.finds.Line.{Line};
+ghost use Rattle.node_commands.specs.declared.finds.InputLine.{InputLine};
 ghost use Rattle.node_commands.specs.FindLines.{IsBadBehind, IsFindLine, IsFirstBadBehind, Naming, Says, SaysMore};
 ghost use Rattle.kad_text.specs.Lines.{lines};
 
@@ -15,7 +15,7 @@ use std::alloc::Global;
 
 /// What a good line says.
 #[derive(Clone, Copy, Debug, PartialEq, Eq)]
-pub enum Line {
+pub enum InputLine {
     /// It is passed over.
     Nothing,
     /// The report of a contact line.
@@ -64,12 +64,12 @@ fn take_line(reports: &mut Reports, targets: &mut List<Id>, line: &[u8]) -> Resu
     ensures bad { result ≡ Err FindFault.Bad → IsBadBehind targets.old line.now }
 {
     match read_any(line) {
-        Ok(Line::Nothing) => Ok(()),
-        Ok(Line::Told(report)) => match reports.push(report) {
+        Ok(InputLine::Nothing) => Ok(()),
+        Ok(InputLine::Told(report)) => match reports.push(report) {
             Ok(()) => Ok(()),
             Err(NoMemory) => Err(FindFault::NoMemory),
         },
-        Ok(Line::Wanted(target)) => take_target(targets, target),
+        Ok(InputLine::Wanted(target)) => take_target(targets, target),
         Err(BadLine) => Err(FindFault::Bad),
     }
 }
@@ -90,14 +90,14 @@ fn take_target(targets: &mut List<Id>, target: Id) -> Result<(), FindFault>
 }
 
 /// Reads one line.
-fn read_any(line: &[u8]) -> Result<Line, BadLine>
-    ensures { MatchResult result (λ said. Says line.now said) (λ _. (said : Line) → ¬ Says line.now said) }
+fn read_any(line: &[u8]) -> Result<InputLine, BadLine>
+    ensures { MatchResult result (λ said. Says line.now said) (λ _. (said : InputLine) → ¬ Says line.now said) }
 {
     match read_target(without_return(line)) {
-        Some(target) => Ok(Line::Wanted(target)),
+        Some(target) => Ok(InputLine::Wanted(target)),
         None => match read_line(line) {
-            Ok(None) => Ok(Line::Nothing),
-            Ok(Some(report)) => Ok(Line::Told(report)),
+            Ok(None) => Ok(InputLine::Nothing),
+            Ok(Some(report)) => Ok(InputLine::Told(report)),
             Err(BadLine) => Err(BadLine),
         },
     }

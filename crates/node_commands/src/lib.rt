@@ -7,5 +7,5 @@ pub mod node;
 pub mod printed;
 pub mod serve;
 
-pub use finds::{Finds, Line, one_bad_find, one_naming};
+pub use finds::{Finds, InputLine, one_bad_find, one_naming};
 pub use serve::Service;

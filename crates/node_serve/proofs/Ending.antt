@@ -22,7 +22,7 @@ use Rattle.node_serve.specs.declared.planning.Wants.{Wants}
 use Rattle.node_serve.specs.declared.planning.Wants.TheVariants.{Name, Nodes, Peers, Place, Item, Keep, RefuseToken, RefuseMutable, RefuseBig, RefuseMethod}
 use Rattle.node_serve.specs.declared.setting.ServeSetting.{ServeSetting}
 use Rattle.node_serve.specs.AnswerBy.{Steps, setting_of}
-use Rattle.node_serve.specs.AnswerOf.{IsTokenAccepted, IsPutTaken, LeavesStores, all, peers_purged, items_purged, whole, EndsEarly, told_by}
+use Rattle.node_serve.specs.AnswerOf.{IsTokenAccepted, IsPutTaken, LeavesStores, all, peers_purged, items_purged, whole, EndsEarly, notify_by}
 use Rattle.node_serve.specs.Asked.{IsAsked}
 use Rattle.node_serve.specs.Calls.{Did, on_table, on_peers, on_items, reply_of, is_accepted, answer_with}
 use Rattle.item_store.specs.Items.{max_length}
@@ -158,7 +158,7 @@ module _ (s : NodeState) (asked : Asked) (at : ℕ) (t : TableState) (q : Stores
   ask = ask_seen asked.ask
 
   abbrev told : Option Contact
-  told = told_by s.policy asked.read_only ask asked.from
+  told = notify_by s.policy asked.read_only ask asked.from
 
   abbrev Left : Type 0
   Left = Leaves s asked.from at asked.tx.now ask told t q
@@ -196,7 +196,7 @@ ends_of s from bytes asked at next is ends = record {
   read_only = asked.read_only;
   ask = ask_seen asked.ask;
   query = is.query;
-  stores = subst (λ (f : Addr). LeavesStores s f at asked.tx.now (ask_seen asked.ask) (told_by s.policy asked.read_only (ask_seen asked.ask) f) (stores_of next)) is.from_is ends.stores;
+  stores = subst (λ (f : Addr). LeavesStores s f at asked.tx.now (ask_seen asked.ask) (notify_by s.policy asked.read_only (ask_seen asked.ask) f) (stores_of next)) is.from_is ends.stores;
   rest = ends.rest;
 }
 

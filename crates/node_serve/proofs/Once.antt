@@ -12,7 +12,7 @@ use Rattle.contact_table.specs.declared.calls.TableReply.{TableReply}
 use Rattle.contact_table.specs.declared.calls.TableReply.TheVariants as reply
 use Rattle.contact_table.specs.TableState.{TableState, SoundTable}
 use Rattle.contact_table.specs.Told.{HasMemory}
-use Rattle.node_serve.specs.AnswerOf.{AnswerOf, IsTold, told_by}
+use Rattle.node_serve.specs.AnswerOf.{AnswerOf, IsTold, notify_by}
 use Rattle.node_serve.specs.NodeState.{NodeState, Stores, stores_of, with_parts}
 use Rattle.node_serve.specs.Replies.{Announces, Puts, Outcome, RepliesWith, refused, full, added, strange, changing, long, crowded, kept}
 use Rattle.kad_krpc.proofs.ReadBack.{one_said}
@@ -119,10 +119,10 @@ module _ (s : NodeState) (from : Addr) (bytes : List ℕ) (at : ℕ) (m n : Mess
   one_next sound =
       let r = same_mark a.tx b.tx a.read_only b.read_only a.ask b.ask query_same in
       let q = same_ask a.tx b.tx a.read_only b.read_only a.ask b.ask query_same in
-      let told : IsTold (told_by s.policy b.read_only b.ask from) s.table x.table =
-      subst (λ mark. IsTold (told_by s.policy mark b.ask from) s.table x.table) r
-      (subst (λ ask. IsTold (told_by s.policy a.read_only ask from) s.table x.table) q a.told) in
-      let table = told_once (told_by s.policy b.read_only b.ask from) s.table x.table y.table sound told b.told in
+      let told : IsTold (notify_by s.policy b.read_only b.ask from) s.table x.table =
+      subst (λ mark. IsTold (notify_by s.policy mark b.ask from) s.table x.table) r
+      (subst (λ ask. IsTold (notify_by s.policy a.read_only ask from) s.table x.table) q a.told) in
+      let table = told_once (notify_by s.policy b.read_only b.ask from) s.table x.table y.table sound told b.told in
       let stores = ap (λ (o : Outcome). o.stores) outcome_same in
       a.rest
       ∙ ap (λ t. with_parts s t (stores_of x)) table

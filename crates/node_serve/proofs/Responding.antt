@@ -14,7 +14,7 @@ use Rattle.node_serve.specs.declared.asked.Asked.{Asked}
 use Rattle.node_serve.specs.declared.composing.Gained.{Gained}
 use Rattle.node_serve.specs.declared.planning.Wants.{Wants}
 use Rattle.node_serve.specs.declared.setting.ServeSetting.{ServeSetting}
-use Rattle.node_serve.specs.AnswerOf.{told_by}
+use Rattle.node_serve.specs.AnswerOf.{notify_by}
 use Rattle.node_serve.specs.Calls.{Call, Did, on_table, of_table, Reply, HadMemory, call_of, reply_of, calls_for, calls_told, calls_of, answer_with}
 use Rattle.node_serve.specs.Gains.{IsFor, MayFail, FailsBy, did_for, calls_wanted, reply_gained, reply_wanted, wants_of}
 use Rattle.node_serve.specs.Holding.{Runs}
@@ -34,7 +34,7 @@ module _ (s : ServeSetting) (asked : Asked) (at : ℕ) where
   wanted = wants_of s asked.from at ask
 
   abbrev pub asker : Option Contact
-  asker = told_by s.policy asked.read_only ask asked.from
+  asker = notify_by s.policy asked.read_only ask asked.from
 
   abbrev pub all_calls : List Call
   all_calls = calls_of s asked.from at asked.read_only ask

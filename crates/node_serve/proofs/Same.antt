@@ -25,7 +25,7 @@ use Rattle.contact_table.specs.declared.calls.TableReply.TheVariants.{List as Li
 use Rattle.aged_map.specs.declared.aged.Stored.{Stored}
 use Rattle.aged_map.specs.declared.aged.Stored.TheVariants.{New, Renewed}
 use Rattle.peer_store.specs.Peers.{Held, Pair, pair_cmp, purged, with_add, listed}
-use Rattle.node_serve.specs.AnswerOf.{AnswerOf, IsTold, told_by}
+use Rattle.node_serve.specs.AnswerOf.{AnswerOf, IsTold, notify_by}
 use Rattle.item_store.specs.Items.{Held as HeldItem, IsItems, Holds, HasNoPlace as HasNoRoom, max_length, key_cmp, key_of, handed_out, purged as purged_items, with_item}
 use Rattle.item_store.specs.ItemSteps.{ItemStep, StoredStep, item_after}
 use Rattle.item_store.specs.declared.calls.ItemCall.TheVariants.{Get as Get_call, Put as Keep_call}
@@ -244,7 +244,7 @@ pub by_calls : (s : NodeState) (from : Addr) (bytes : List ℕ) (at : ℕ) (m : 
 by_calls s from bytes at m x a sound =
     let S = setting_of s in
     let main = part s from at a.tx a.ask (record { message = m; stores = stores_of x }) sound a.replies in
-    let told = told_part (told_by s.policy a.read_only a.ask from) s.table x.table (stores_of x) a.told in
+    let told = told_part (notify_by s.policy a.read_only a.ask from) s.table x.table (stores_of x) a.told in
     record {
       tx = a.tx;
       read_only = a.read_only;
@@ -445,7 +445,7 @@ told_shows (Some c) t v q r did calls memory st =
 pub by_rules : (s : NodeState) (from : Addr) (bytes : List ℕ) (at : ℕ) (m : Message) (x : NodeState) → AnswerBy s from bytes at m x → AnswerOf s from bytes at m x
 by_rules s from bytes at m x b =
     let S = setting_of s in
-    let o = told_by s.policy b.read_only b.ask from in
+    let o = notify_by s.policy b.read_only b.ask from in
     let c = cut (calls_for S from at b.ask) (calls_told o) b.did b.calls in
     let memory : All HadMemory (c.front ++ c.back) = subst (All HadMemory) c.whole b.memory in
     let mid = steps_cut s.table x.table (stores_of s) (stores_of x) c.front c.back (subst (λ l. Steps s.table (stores_of s) l x.table (stores_of x)) c.whole b.steps) in

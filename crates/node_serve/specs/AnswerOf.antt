@@ -41,10 +41,10 @@ contact_at from None = None
 contact_at from (Some id) = Some (record { id = id; addr = from })
 
 -- the asker, unless it is read-only or the node asks for puzzles, which a query can't show to be solved
-abbrev pub told_by : Policy → Bool → Ask → Addr → Option Contact
-told_by Plain false ask from = contact_at from (asker_of ask)
-told_by Plain true ask from = None
-told_by (Puzzled c1 c2) read_only ask from = None
+abbrev pub notify_by : Policy → Bool → Ask → Addr → Option Contact
+notify_by Plain false ask from = contact_at from (asker_of ask)
+notify_by Plain true ask from = None
+notify_by (Puzzled c1 c2) read_only ask from = None
 
 -- the table was told that the contact was seen, and had the memory for it
 pub record IsSeen (c : Contact) (before after : TableState) : Type 0 where
@@ -66,7 +66,7 @@ pub record AnswerOf (s : NodeState) (from : Addr) (bytes : List ℕ) (at : ℕ) 
   pub ask : Ask
   pub query : IsQuery from bytes tx read_only ask
   pub replies : RepliesWith s from at tx ask (record { message = reply; stores = stores_of next })
-  pub told : IsTold (told_by s.policy read_only ask from) s.table next.table
+  pub told : IsTold (notify_by s.policy read_only ask from) s.table next.table
   pub rest : next ≡ with_parts s next.table (stores_of next)
 
 -- the text is what the node sends for the reply, with its tag where it is sealed
@@ -101,7 +101,7 @@ pub record EndsEarly (s : NodeState) (from : Addr) (bytes : List ℕ) (at : ℕ)
   pub read_only : Bool
   pub ask : Ask
   pub query : IsQuery from bytes tx read_only ask
-  pub stores : LeavesStores s from at tx ask (told_by s.policy read_only ask from) (stores_of next)
+  pub stores : LeavesStores s from at tx ask (notify_by s.policy read_only ask from) (stores_of next)
   pub rest : next ≡ with_parts s s.table (stores_of next)
 
 -- ---- by what was answered

@@ -21,7 +21,7 @@ use Rattle.contact_table.specs.declared.calls.TableReply.{TableReply}
 use Rattle.contact_table.specs.declared.calls.TableReply.TheVariants.{List as List_reply}
 use Rattle.contact_table.specs.Told.{HasMemory}
 use Rattle.node_tokens.specs.Tokens.{TokensState, epoch_at, token_of}
-use Rattle.node_serve.specs.AnswerOf.{told_by}
+use Rattle.node_serve.specs.AnswerOf.{notify_by}
 use Rattle.node_serve.specs.Replies.{of_ipv4, snodes_by, where_some, peer_for, named, server_error, bad_token, no_mutable, too_big, method_unknown}
 use Rattle.peer_store.specs.declared.calls.PeerCall.{PeerCall}
 use Rattle.peer_store.specs.declared.calls.PeerCall.TheVariants.{List as List_call, Put}
@@ -113,7 +113,7 @@ calls_told (Some c) = of_table (Seen c) ∷ []
 
 -- the calls that a query makes, in order: what it asks, and then, where the table is told of the asker, that
 abbrev pub calls_of : ServeSetting → Addr → ℕ → Bool → Ask → List Call
-calls_of s from at read_only ask = calls_for s from at ask ++ calls_told (told_by s.policy read_only ask from)
+calls_of s from at read_only ask = calls_for s from at ask ++ calls_told (notify_by s.policy read_only ask from)
 
 -- ---- the reply
 

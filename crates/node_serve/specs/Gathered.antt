@@ -5,7 +5,7 @@ use Rattle.kad_krpc.specs.Views.{ask_seen}
 use Rattle.contact_table.specs.TableStep.{TableStep, table_after}
 use Rattle.peer_store.specs.PeersStep.{PeersStep, peers_after}
 use Rattle.item_store.specs.ItemSteps.{ItemStep, item_after}
-use Rattle.node_serve.specs.AnswerOf.{LeavesStores, told_by}
+use Rattle.node_serve.specs.AnswerOf.{LeavesStores, notify_by}
 use Rattle.node_serve.specs.NodeState.{NodeState, Stores, stores_of, with_parts}
 use Rattle.node_serve.specs.declared.asked.Asked.{Asked}
 use Rattle.node_serve.specs.declared.holder.Own.{Own}
@@ -49,5 +49,5 @@ pub record AnswersAsked (tag_of : Tags) (s : NodeState) (asked : Asked) (at : �
 
 -- the query's answer found no memory
 pub record EndsAsked (s : NodeState) (asked : Asked) (at : ℕ) (next : NodeState) : Type 0 where
-  pub stores : LeavesStores s asked.from at asked.tx.now (ask_seen asked.ask) (told_by s.policy asked.read_only (ask_seen asked.ask) asked.from) (stores_of next)
+  pub stores : LeavesStores s asked.from at asked.tx.now (ask_seen asked.ask) (notify_by s.policy asked.read_only (ask_seen asked.ask) asked.from) (stores_of next)
   pub rest : next ≡ with_parts s s.table (stores_of next)

@@ -8,7 +8,7 @@ use Rattle.contact_table.specs.Told.{HasMemory}
 use Rattle.contact_table.specs.declared.calls.TableCall.TheVariants.{Seen}
 use Rattle.contact_table.specs.declared.calls.TableReply.{TableReply}
 use Rattle.contact_table.specs.declared.calls.TableReply.TheVariants.{NoMemory}
-use Rattle.node_serve.specs.AnswerOf.{told_by}
+use Rattle.node_serve.specs.AnswerOf.{notify_by}
 use Rattle.node_serve.specs.Calls.{Did, on_table, HadMemory, call_of, reply_of, calls_of, answer_with}
 use Rattle.node_serve.specs.Gains.{IsFor, MayFail, FailsBy, did_for, wants_of}
 use Rattle.node_serve.specs.Holding.{Runs}
@@ -34,7 +34,7 @@ pub data Ends (s : ServeSetting) (asked : Asked) (at : ℕ) (did : List Did) : T
   unasked : did ≡ [] → Ends s asked at did
   gathering : FailsBy s.k at (wants_of s asked.from at (ask_seen asked.ask)) did → Ends s asked at did
   composing : (g : Gained) → IsFor (wants_of s asked.from at (ask_seen asked.ask)) g → MayFail g → did ≡ did_for s.k at (wants_of s asked.from at (ask_seen asked.ask)) g → Ends s asked at did
-  telling : (c : Contact) (g : Gained) → told_by s.policy asked.read_only (ask_seen asked.ask) asked.from ≡ Some c → IsFor (wants_of s asked.from at (ask_seen asked.ask)) g
+  telling : (c : Contact) (g : Gained) → notify_by s.policy asked.read_only (ask_seen asked.ask) asked.from ≡ Some c → IsFor (wants_of s asked.from at (ask_seen asked.ask)) g
       → did ≡ did_for s.k at (wants_of s asked.from at (ask_seen asked.ask)) g ++ on_table (Seen c) NoMemory ∷ [] → Ends s asked at did
 
 -- there was no memory for the answer to the query

@@ -3,7 +3,7 @@ ghost use Rattle.std.specs.Prelude.{◌≡◌, ℕ, Bool, List, MatchOption, IsN
 ghost use Rattle.kad_krpc.specs.declared.message.Ask.{Ask};
 ghost use Rattle.kad_krpc.specs.Records.{ip_bytes};
 ghost use Rattle.kad_krpc.specs.Views.{ask_seen, message_seen};
-ghost use Rattle.node_serve.specs.AnswerOf.{asker_of, contact_at, told_by};
+ghost use Rattle.node_serve.specs.AnswerOf.{asker_of, contact_at, notify_by};
 ghost use Rattle.node_serve.specs.Queries.{IsNotAnswered, IsSilent};
 ghost use Rattle.node_serve.specs.Asked.{IsAsked, IsOf};
 
@@ -82,8 +82,8 @@ fn asker(ask: &AskView) -> Option<Id>
 /// The contact that the table is told of after a query of BEP 5 (Kademlia, 2002, section 2.2): the asker, unless it is
 /// read-only (BEP 43), or the policy asks for puzzles, which a query can't show to be solved. `get` and `put` (BEP 44) and
 /// queries of other names tell it nothing.
-pub(crate) fn told_for(policy: Policy, asked: &Asked) -> Option<Contact>
-    ensures { result ≡ told_by policy asked.now.read_only (ask_seen asked.now.ask) asked.now.from }
+pub(crate) fn notify_for(policy: Policy, asked: &Asked) -> Option<Contact>
+    ensures { result ≡ notify_by policy asked.now.read_only (ask_seen asked.now.ask) asked.now.from }
 {
     match policy {
         Policy::Puzzled { .. } => None,

@@ -158,7 +158,7 @@ pub(crate) fn gather<H: Hold>(
 }
 
 /// Tells the table that the contact asked.
-fn tell_seen<H: Hold>(hold: &mut H, contact: Contact) -> Result<(), NoMemory>
+fn notify_seen<H: Hold>(hold: &mut H, contact: Contact) -> Result<(), NoMemory>
     requires { H.ready hold.old }
     ensures ready { H.ready hold.new }
     ensures ok { OnOk result (Tells H.does (Some contact) hold.old hold.new) }
@@ -171,14 +171,14 @@ fn tell_seen<H: Hold>(hold: &mut H, contact: Contact) -> Result<(), NoMemory>
 }
 
 /// Tells the table who asked, where it is told.
-pub(crate) fn tell<H: Hold>(hold: &mut H, told: Option<Contact>) -> Result<(), NoMemory>
+pub(crate) fn notify<H: Hold>(hold: &mut H, told: Option<Contact>) -> Result<(), NoMemory>
     requires { H.ready hold.old }
     ensures ready { H.ready hold.new }
     ensures ok { OnOk result (Tells H.does told hold.old hold.new) }
     ensures err { OnErr result (TellsNot H.does told hold.old hold.new) }
 {
     match told {
-        Some(contact) => tell_seen(hold, contact),
+        Some(contact) => notify_seen(hold, contact),
         None => Ok(()),
     }
 }

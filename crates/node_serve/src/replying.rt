@@ -7,9 +7,9 @@ ghost use Rattle.node_serve.specs.Asked.{IsSaid};
 ghost use Rattle.node_serve.specs.Calls.{IsSetting};
 ghost use Rattle.node_serve.specs.Responses.{RepliesTo, StopsAt};
 
-use crate::asked::{Asked, told_for};
+use crate::asked::{Asked, notify_for};
 use crate::composing::compose;
-use crate::gather::{gather, tell};
+use crate::gather::{gather, notify};
 use crate::holder::Hold;
 use crate::planning::plan;
 use crate::sealing::seal_reply;
@@ -43,7 +43,7 @@ pub fn respond<H: Hold, G: Seal>(
     ensures room { IfOk result (λ n. n ≤ 4096) }
     ensures err { OnErr result (StopsAt H.does setting.now asked.now at hold.old hold.new) }
 {
-    let told = told_for(setting.policy, asked);
+    let notified = notify_for(setting.policy, asked);
     let tx = match List::from_slice(alloc, asked.tx) {
         Ok(tx) => tx,
         Err(NoMemory) => return Err(NoMemory),
@@ -60,7 +60,7 @@ pub fn respond<H: Hold, G: Seal>(
         Ok(reply) => reply,
         Err(NoMemory) => return Err(NoMemory),
     };
-    match tell(hold, told) {
+    match notify(hold, notified) {
         Ok(()) => {
             let length = write(&reply, out);
             Ok(seal_reply(setting, seal, &reply, length, out))

@@ -9,7 +9,7 @@ use kad_words::{Command, WordsFault, read};
 use std::alloc::Global;
 
 /// The command that the words ask for. Words that ask for none are told apart without memory.
-pub(crate) fn asked(alloc: Global, words: &[String]) -> Result<Command, Status>
+pub(crate) fn read_command(alloc: Global, words: &[String]) -> Result<Command, Status>
     ensures command { IfOk result (CommandOf (bytes_of words.now)) }
     ensures usage { IfErr result (λ status. status ≡ Status.Usage → ¬ Asks (bytes_of words.now)) }
     ensures no_memory { IfErr result (λ status. status ≡ Status.NoMemory

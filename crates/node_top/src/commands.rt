@@ -10,7 +10,7 @@ ghost use Rattle.command_base.specs.Endings.{EndsUnasked, number_of};
 ghost use Rattle.command_base.specs.Input.{ReadsAtMost};
 ghost use Rattle.command_base.specs.Shown.{Shown, shown, shown_link, nowhere};
 
-use crate::asked::asked;
+use crate::asked::read_command;
 use command_base::{Call, Status};
 use kad_base::{Bytes, Check, Link, Source};
 use kad_words::{Command, takes_link};
@@ -209,7 +209,7 @@ pub(crate) fn asked_output<
     ensures no_input { ¬ ReadsInput (bytes_of words.now) → source.new ≡ source.old }
     ensures no_link { AsksPlain (bytes_of words.now) → link.new ≡ link.old }
 {
-    let command = asked(alloc, words)?;
+    let command = read_command(alloc, words)?;
     output_of(rt, alloc, &command, source, link, call)
 }
 
@@ -239,6 +239,6 @@ pub(crate) fn asked_plainly<S: Source, C: Check, G: Seal + SealCheck>(
     if takes_link(words) {
         return Err(Status::Usage);
     }
-    let command = asked(alloc, words)?;
+    let command = read_command(alloc, words)?;
     plain_output_of(alloc, &command, source, call)
 }

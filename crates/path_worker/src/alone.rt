@@ -69,13 +69,13 @@ fn note_seen(path: u8, book: &mut Book, table: &mut Table, contact: Contact) -> 
     ensures ok { OnOk result (SettlesOne path book.old book.new table.old table.new) }
     ensures err { OnErr result (IsStuck path book.old book.new table.old table.new) }
 {
-    tell_seen(path, table, contact)?;
+    notify_seen(path, table, contact)?;
     book.apply(path + 1, BookCall::Note { contact });
     Ok(())
 }
 
 /// Tells the table that the contact answered.
-fn tell_seen(path: u8, table: &mut Table, contact: Contact) -> Result<(), NoMemory>
+fn notify_seen(path: u8, table: &mut Table, contact: Contact) -> Result<(), NoMemory>
     requires { path < max_paths }
     ensures ok { OnOk result (IsTold path contact table.old table.new) }
     ensures err { OnErr result (table.new ≡ table.old) }

@@ -6,7 +6,7 @@ ghost use Rattle.table_refresh.specs.inner.Steps.{Awaits, AwaitEnds, Tries, TryE
 
 use crate::ping::{open_ping, send_ping};
 use crate::receive::receive;
-use crate::tell::tell_failed;
+use crate::tell::notify_failed;
 use crate::types::{Progress, RefreshFault, Setting, Tried};
 use id_puzzles::Words;
 use kad_base::{Contact, Link};
@@ -77,7 +77,7 @@ fn try_head<L: Link, G: SealCheck>(
 {
     let query = open_ping(words, head, work.moment, setting.timeout);
     if !send_ping(link, &setting.own, &query) {
-        return Ok(tell_failed(&mut work.table, head));
+        return Ok(notify_failed(&mut work.table, head));
     }
     await_reply(alloc, link, work, buf, setting, &query, seal)
 }

@@ -7,7 +7,7 @@ ghost use Rattle.table_refresh.specs.Refreshed.{Stops};
 ghost use Rattle.table_refresh.specs.inner.Steps.{FailsAt, TakesNone, TakesStray, TakesDatagram, StopsGot, Takes};
 
 use crate::pong::{Pong, pong_of};
-use crate::tell::{tell_failed, tell_seen};
+use crate::tell::{notify_failed, notify_seen};
 use crate::types::{Progress, RefreshFault, Setting, Tried};
 use kad_base::{Addr, Came, Link};
 use lookup_core::stray_more;
@@ -20,7 +20,7 @@ fn fail(work: &mut Progress, query: &Query, at: u64) -> Tried
     ensures { FailsAt query.now at work.old work.new result }
 {
     work.moment = at;
-    let kept = tell_failed(&mut work.table, query.contact);
+    let kept = notify_failed(&mut work.table, query.contact);
     Tried::Over { kept }
 }
 
@@ -73,7 +73,7 @@ fn take_datagram<G: SealCheck>(
     match pong_of(alloc, setting, seal, query, from, bytes) {
         Ok(Pong::Stray) => take_stray(work, query, at),
         Ok(Pong::Answer) => {
-            match tell_seen(&mut work.table, query.contact) {
+            match notify_seen(&mut work.table, query.contact) {
                 Ok(()) => {}
                 Err(_) => return Err(RefreshFault::NoMemory),
             }

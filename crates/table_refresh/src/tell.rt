@@ -11,7 +11,7 @@ use kad_base::{Contact, NoMemory, Serial};
 const REFRESHER: u8 = 0;
 
 /// Tells the table that the contact answered. Without memory the table is as it was.
-pub(crate) fn tell_seen(table: &mut Table, contact: Contact) -> Result<(), NoMemory>
+pub(crate) fn notify_seen(table: &mut Table, contact: Contact) -> Result<(), NoMemory>
     ensures ok { OnOk result (IsSeen contact table.old table.new) }
     ensures err { OnErr result (table.new ≡ table.old) }
 {
@@ -23,7 +23,7 @@ pub(crate) fn tell_seen(table: &mut Table, contact: Contact) -> Result<(), NoMem
 }
 
 /// Tells the table that the contact didn't answer; true where the table keeps it. Takes no memory.
-pub(crate) fn tell_failed(table: &mut Table, contact: Contact) -> bool
+pub(crate) fn notify_failed(table: &mut Table, contact: Contact) -> bool
     ensures { FailsKept contact result table.old table.new }
 {
     match table.apply(REFRESHER, TableCall::Failed { contact }) {

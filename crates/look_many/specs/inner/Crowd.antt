@@ -19,7 +19,7 @@ use Rattle.node_serve.specs.Calls.{Did, HadMemory}
 use Rattle.node_serve.specs.Sealing.{Tags}
 use Rattle.serve_crew.specs.Hands.{Hands, Grew}
 use Rattle.look_many.specs.declared.seeker.Seeker.{Seeker}
-use Rattle.look_many.specs.declared.seeker.Line.{Line}
+use Rattle.look_many.specs.declared.seeker.Progress.{Progress}
 use Rattle.look_many.specs.Mine.{Mine, Whose, driven}
 use Rattle.look_many.specs.ManyLooked.{Errand, did_of, answer_in, loss_in}
 use Rattle.look_many.specs.Many.{Frame, Owed, Shown, Reading, and_then, GivesFrom, begun}
@@ -89,14 +89,14 @@ pub record KeepsMine (k : Seeker) (m : Mine) : Type 0 where
 -- ---- all of them
 
 -- and who drives them just this; `left` is how many receives are still wanted
-pub record KeepsLine (f : Frame) (line : Line) (place : ℕ) (owed : Option Owed) (s : Shown) : Type 0 where
-  pub moment : s.moment ≡ line.moment
+pub record KeepsProgress (f : Frame) (progress : Progress) (place : ℕ) (owed : Option Owed) (s : Shown) : Type 0 where
+  pub moment : s.moment ≡ progress.moment
   pub sends : f.place + s.sends ≡ place
-  pub got : s.got ≡ line.received
-  pub foreign : s.foreign ≡ line.foreign
-  pub replied : s.replied ≡ line.replied
-  pub receives : s.receives ≡ line.receives
-  pub left : f.wanted - s.made ≡ line.left
+  pub got : s.got ≡ progress.received
+  pub foreign : s.foreign ≡ progress.foreign
+  pub replied : s.replied ≡ progress.replied
+  pub receives : s.receives ≡ progress.receives
+  pub left : f.wanted - s.made ≡ progress.left
   pub owed_is : s.owed ≡ owed
 
 -- while lookups are open no receive is made for others, so their journals may grow
@@ -104,13 +104,13 @@ abbrev pub framed : Bool → Frame → Frame
 framed busy f = record f { wanted = cond busy 0 f.wanted }
 
 -- the events show where all lookups stand, and which reply is owed; `busy` while lookups may ask or wait
-pub record ManyShow (busy : Bool) (f : Frame) (count : ℕ) (ks : List Seeker) (line : Line) (place : ℕ) (owed : Option Owed) (read : Reading) (events : List Event) : Type 0 where
+pub record ManyShow (busy : Bool) (f : Frame) (count : ℕ) (ks : List Seeker) (progress : Progress) (place : ℕ) (owed : Option Owed) (read : Reading) (events : List Event) : Type 0 where
   pub at : ℕ
   pub rest : List Event
   pub first : events ≡ Now at ∷ rest
   pub end : Shown
   pub walk : GivesFrom (framed busy f) (map whose ks) (begun count at) rest end read
-  pub keeps_line : KeepsLine f line place owed end
+  pub keeps_progress : KeepsProgress f progress place owed end
   pub keeps_each : AllZip KeepsMine ks end.each
 
 -- a lookup of which no event told yet
@@ -137,13 +137,13 @@ pub record Ran (old new : Hands) (did : List Did) (lost : List Contact) : Type 0
 -- where all stand: the lookups, their link, the words, the node that serves and what was told
 pub record Stand : Type 0 where
   pub seekers : List Seeker
-  pub line : Line
+  pub progress : Progress
   pub words : WordsState
   pub host : Hands
   pub told : Option (List Event)
 
-abbrev pub stand : List Seeker → Line → WordsState → Hands → Option (List Event) → Stand
-stand seekers line words host told = record { seekers = seekers; line = line; words = words; host = host; told = told }
+abbrev pub stand : List Seeker → Progress → WordsState → Hands → Option (List Event) → Stand
+stand seekers progress words host told = record { seekers = seekers; progress = progress; words = words; host = host; told = told }
 
 -- what the lookups share is this
 pub record IsFrame (accepts : Accepts) (tags : Tags) (server : ServeSetting) (seed : List ℕ) (f : Frame) : Type 0 where
@@ -158,7 +158,7 @@ pub record Advances (busy : Bool) (made : List ℕ) (accepts : Accepts) (tags : 
   pub more : Reading
   pub owners_are : more.owners ≡ made
   pub goes : (f : Frame) (count : ℕ) (read : Reading) (began : Option (List Event)) → IsFrame accepts tags server old.words.seed f
-      → Grows began old.told (λ events. ManyShow busy f count old.seekers old.line old.words.place None read events)
-      → Grows began new.told (λ events. ManyShow busy f count new.seekers new.line new.words.place None (and_then read more) events)
+      → Grows began old.told (λ events. ManyShow busy f count old.seekers old.progress old.words.place None read events)
+      → Grows began new.told (λ events. ManyShow busy f count new.seekers new.progress new.words.place None (and_then read more) events)
   pub ran : Ran old.host new.host more.did more.lost
   pub seed : new.words.seed ≡ old.words.seed

@@ -36,9 +36,9 @@ pub record Starts (k : Task) (r : Rows) (words : WordsState) (told : Option (Lis
   pub seekers : AllZip (IsSeekerFor k.server k.setting r.tables.start) k.targets s.seekers
   pub passes : map (λ x. x.pass) s.seekers ≡ map (fresh r.tables.id) (range_with_len 1 (length k.targets))
   pub host : s.host ≡ hands (fresh r.tables.id 0) (fresh r.stores.id 0) (fresh r.shelves.id 0)
-  pub line : s.line ≡ record { moment = s.line.moment; receives = 0; foreign = 0; left = k.receives; received = 0; replied = 0 }
+  pub progress : s.progress ≡ record { moment = s.progress.moment; receives = 0; foreign = 0; left = k.receives; received = 0; replied = 0 }
   pub words_are : s.words ≡ words
-  pub now_told : Grows told s.told (λ events. events ≡ Now s.line.moment ∷ [])
+  pub now_told : Grows told s.told (λ events. events ≡ Now s.progress.moment ∷ [])
 
 -- all are over, and this is what they found
 pub record FoundBack (k : Task) (r : Rows) (words words' : WordsState) (told told' : Option (List Event)) (many : Many) : Type 0 where
@@ -53,8 +53,8 @@ pub record FoundBack (k : Task) (r : Rows) (words words' : WordsState) (told tol
   pub words_are : new.words ≡ words'
   pub found : AllZip (λ x one. IsDone x.lookup.book one) new.seekers many.outcomes
   pub owners_are : many.owners ≡ owners
-  pub received_are : many.received ≡ new.line.received
-  pub replied_are : many.replied ≡ new.line.replied
+  pub received_are : many.received ≡ new.progress.received
+  pub replied_are : many.replied ≡ new.progress.replied
 
 -- they ended early
 pub record StoppedBack (k : Task) (r : Rows) (words words' : WordsState) (told told' : Option (List Event)) (fault : ManyFault) : Type 0 where

@@ -56,19 +56,19 @@ pub record HaveGone (accepts : Accepts) (tags : Tags) (server : ServeSetting) (o
 
 -- where a round begins
 pub record Begins (s : Stand) : Type 0 where
-  pub may : MayAskAll s.seekers s.line s.words
-  pub round_over : s.line.receives ≡ 0
-  pub few_foreign : s.line.foreign < max_strays
+  pub may : MayAskAll s.seekers s.progress s.words
+  pub round_over : s.progress.receives ≡ 0
+  pub few_foreign : s.progress.foreign < max_strays
 
 -- the receives of a round were made
 pub record HaveReceived (s : Stand) : Type 0 where
   pub holds : AllByRecursion Holding s.seekers
-  pub ready : AllByRecursion (IsReady s.line.moment) s.seekers
+  pub ready : AllByRecursion (IsReady s.progress.moment) s.seekers
   pub few : length s.seekers ≤ max_lookups
   pub has_words : HasWords s.words s.seekers
-  pub counted : HasCounted s.seekers s.line
-  pub round_over : s.line.receives ≡ 0
-  pub few_foreign : s.line.foreign < max_strays
+  pub counted : HasCounted s.seekers s.progress
+  pub round_over : s.progress.receives ≡ 0
+  pub few_foreign : s.progress.foreign < max_strays
 
 -- no query is open, and every path of each has run out
 pub record AreOver (s : Stand) : Type 0 where
@@ -101,13 +101,13 @@ SameSeats olds news = AllZip (λ old new. SamePass old.pass new.pass) olds news
 abbrev pub SinceBegun : Accepts → Tags → ServeSetting → Stand → Option (List Event) → (Frame → ℕ → List Event → Type 0) → Type 0
 SinceBegun accepts tags server old told' P =
     (f : Frame) (count : ℕ) (began : Option (List Event)) → IsFrame accepts tags server old.words.seed f
-    → Grows began old.told (λ events. ManyShow true f count old.seekers old.line old.words.place None nothing_read events)
+    → Grows began old.told (λ events. ManyShow true f count old.seekers old.progress old.words.place None nothing_read events)
     → Grows began told' (λ events. P f count events)
 
 -- all lookups are over, and then as many receives were made as are wanted
 pub record WentWhole (accepts : Accepts) (tags : Tags) (server : ServeSetting) (old new : Stand) (owners : List ℕ) : Type 0 where
   pub read : Reading
-  pub shows : SinceBegun accepts tags server old new.told (λ f count events. ManyShow false f count new.seekers new.line new.words.place None read events)
+  pub shows : SinceBegun accepts tags server old new.told (λ f count events. ManyShow false f count new.seekers new.progress new.words.place None read events)
   pub owners_are : owners ≡ read.owners
   pub drawn : new.words ≡ drawn_by old.words read.owners
   pub ran : Ran old.host new.host read.did read.lost
@@ -115,7 +115,7 @@ pub record WentWhole (accepts : Accepts) (tags : Tags) (server : ServeSetting) (
   pub legal : AllByRecursion IsLegal new.seekers
   pub over : AllByRecursion IsRunOut new.seekers
   pub none_open : queries_of new.seekers ≡ []
-  pub enough : new.line.left ≡ 0
+  pub enough : new.progress.left ≡ 0
 
 -- they ended early: the events, perhaps without the last, show a last stand, and the node that serves perhaps went beyond it
 pub record EndsWhole (fault : ManyFault) (accepts : Accepts) (tags : Tags) (server : ServeSetting) (old : Stand) (words' : WordsState) (host' : Hands) (told' : Option (List Event)) : Type 0 where

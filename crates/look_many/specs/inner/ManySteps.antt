@@ -40,7 +40,7 @@ use Rattle.node_serve.specs.Sealing.{Tags}
 use Rattle.serve_crew.specs.Hands.{Hands, Grew, SameHands, SamePass}
 use Rattle.look_many.specs.declared.host.Desk.{Desk}
 use Rattle.look_many.specs.declared.seeker.Seeker.{Seeker}
-use Rattle.look_many.specs.declared.seeker.Line.{Line}
+use Rattle.look_many.specs.declared.seeker.Progress.{Progress}
 use Rattle.look_many.specs.declared.seeker.ManyFault.{ManyFault}
 use Rattle.look_many.specs.declared.seeker.ManyFault.TheVariants.{LinkFault}
 use Rattle.look_many.specs.ManyLooked.{noted, max_lookups}
@@ -126,33 +126,33 @@ pub record IsRunOut (k : Seeker) : Type 0 where
   pub run_out : (p : ℕ) → p < k.lookup.book.setting.paths → RunOut k.lookup.book.setting p k.lookup.book.journal
 
 -- by whether some query is open
-pub data WaitsFor (ks : List Seeker) (line : Line) (until : ℕ) (busy : Bool) : Type 0 where
-  for_replies : busy ≡ true → queries_of ks ≢ [] → WaitsUntil line.receives line.moment (map (λ q. q.deadline) (queries_of ks)) until → line.foreign < max_strays → WaitsFor ks line until busy
-  for_others : busy ≡ false → queries_of ks ≡ [] → AllByRecursion IsRunOut ks → 0 < line.left → until ≡ waits_until line.moment → WaitsFor ks line until busy
+pub data WaitsFor (ks : List Seeker) (progress : Progress) (until : ℕ) (busy : Bool) : Type 0 where
+  for_replies : busy ≡ true → queries_of ks ≢ [] → WaitsUntil progress.receives progress.moment (map (λ q. q.deadline) (queries_of ks)) until → progress.foreign < max_strays → WaitsFor ks progress until busy
+  for_others : busy ≡ false → queries_of ks ≡ [] → AllByRecursion IsRunOut ks → 0 < progress.left → until ≡ waits_until progress.moment → WaitsFor ks progress until busy
 
 -- the most asks of all lookups: sixteen at most, each of which asks no contact twice, nor more than its paths have
 abbrev pub max_all_asks : ℕ
 max_all_asks = max_lookups * (max_paths * max_path_contacts)
 
 -- Each datagram that came was foreign or closed a query, and no reply was sent without one.
-pub record HasCounted (ks : List Seeker) (line : Line) : Type 0 where
-  pub received : line.received + length (queries_of ks) ≤ line.foreign + asks_of ks
-  pub replied : line.replied ≤ line.received
+pub record HasCounted (ks : List Seeker) (progress : Progress) : Type 0 where
+  pub received : progress.received + length (queries_of ks) ≤ progress.foreign + asks_of ks
+  pub replied : progress.replied ≤ progress.received
   pub asks : asks_of ks ≤ max_all_asks
 
 -- a receive may be made until then
-pub record MayReceive (ks : List Seeker) (line : Line) (until : ℕ) (busy : Bool) : Type 0 where
+pub record MayReceive (ks : List Seeker) (progress : Progress) (until : ℕ) (busy : Bool) : Type 0 where
   pub holds : AllByRecursion Holding ks
-  pub waits : WaitsFor ks line until busy
-  pub in_turn : line.receives ≡ 0 → AllByRecursion NoneAsks ks
-  pub few_receives : line.receives < max_round_receives
-  pub room : line.foreign + max_all_asks + 1 < 2 ^ 64
-  pub counted : HasCounted ks line
+  pub waits : WaitsFor ks progress until busy
+  pub in_turn : progress.receives ≡ 0 → AllByRecursion NoneAsks ks
+  pub few_receives : progress.receives < max_round_receives
+  pub room : progress.foreign + max_all_asks + 1 < 2 ^ 64
+  pub counted : HasCounted ks progress
 
 -- ---- a receive
 
 -- one foreign datagram more; while a query is open it isn't the last that is taken
-abbrev pub Counts : Bool → Line → Line → Type 0
+abbrev pub Counts : Bool → Progress → Progress → Type 0
 Counts busy old new = (new ≡ record old { foreign = old.foreign + 1 }) × (busy ≡ true → new.foreign < max_strays)
 
 -- what a length says is owed: so many bytes, to the source
@@ -168,26 +168,26 @@ pub record Answers (tags : Tags) (server : ServeSetting) (from : Addr) (bytes : 
   pub same : SameHands old new
 
 -- the datagram was for a lookup, or is foreign: then it is counted and answered
-pub data Handles (accepts : Accepts) (tags : Tags) (server : ServeSetting) (busy : Bool) (from : Addr) (bytes : List ℕ) (at : ℕ) (old new : List Seeker) (line line' : Line) (host host' : Hands) (owed : Option Owed) : Type 0 where
-  is_taken : TakesFirst accepts from bytes old new → line' ≡ line → host' ≡ host → owed ≡ None → Handles accepts tags server busy from bytes at old new line line' host host' owed
-  is_foreign : AllByRecursion (λ k. IsNotFor accepts from bytes k) old → new ≡ old → Counts busy line line' → Answers tags server from bytes at owed host host'
-      → Handles accepts tags server busy from bytes at old new line line' host host' owed
+pub data Handles (accepts : Accepts) (tags : Tags) (server : ServeSetting) (busy : Bool) (from : Addr) (bytes : List ℕ) (at : ℕ) (old new : List Seeker) (progress progress' : Progress) (host host' : Hands) (owed : Option Owed) : Type 0 where
+  is_taken : TakesFirst accepts from bytes old new → progress' ≡ progress → host' ≡ host → owed ≡ None → Handles accepts tags server busy from bytes at old new progress progress' host host' owed
+  is_foreign : AllByRecursion (λ k. IsNotFor accepts from bytes k) old → new ≡ old → Counts busy progress progress' → Answers tags server from bytes at owed host host'
+      → Handles accepts tags server busy from bytes at old new progress progress' host host' owed
 
 -- a datagram came at that moment: it was handled, and then all lost who was overdue
-pub record Comes (accepts : Accepts) (tags : Tags) (server : ServeSetting) (busy : Bool) (from : Addr) (bytes : List ℕ) (at : ℕ) (old new : List Seeker) (line line' : Line) (host host' : Hands) (owed : Option Owed) : Type 0 where
+pub record Comes (accepts : Accepts) (tags : Tags) (server : ServeSetting) (busy : Bool) (from : Addr) (bytes : List ℕ) (at : ℕ) (old new : List Seeker) (progress progress' : Progress) (host host' : Hands) (owed : Option Owed) : Type 0 where
   pub mid : List Seeker
-  pub counted : Line
+  pub counted : Progress
   pub between : Hands
-  pub handles : Handles accepts tags server busy from bytes at old mid line counted host between owed
+  pub handles : Handles accepts tags server busy from bytes at old mid progress counted host between owed
   pub expires : AllZip (Expires at) mid new
   pub ran : Ran between host' [] (all_lapsed at mid)
-  pub line_is : line' ≡ record { moment = at; receives = goes_on line.receives (length (queries_of new)); foreign = counted.foreign; left = line.left - 1; received = line.received + 1; replied = line.replied }
+  pub progress_is : progress' ≡ record { moment = at; receives = goes_on progress.receives (length (queries_of new)); foreign = counted.foreign; left = progress.left - 1; received = progress.received + 1; replied = progress.replied }
 
 -- no datagram came: all lost who was overdue, and the round is over
-pub record Passes (at : ℕ) (old new : List Seeker) (line line' : Line) (host host' : Hands) : Type 0 where
+pub record Passes (at : ℕ) (old new : List Seeker) (progress progress' : Progress) (host host' : Hands) : Type 0 where
   pub expires : AllZip (Expires at) old new
   pub ran : Ran host host' [] (all_lapsed at old)
-  pub line_is : line' ≡ record { moment = at; receives = 0; foreign = line.foreign; left = line.left - 1; received = line.received; replied = line.replied }
+  pub progress_is : progress' ≡ record { moment = at; receives = 0; foreign = progress.foreign; left = progress.left - 1; received = progress.received; replied = progress.replied }
 
 -- what is owed was sent, or the link refused it; nothing is sent where nothing is owed
 abbrev pub Pays : Option Owed → Bool → List Event → Type 0
@@ -195,9 +195,9 @@ Pays None was_sent events = (was_sent ≡ false) × (events ≡ [])
 Pays (Some owed) was_sent events = events ≡ tried was_sent owed.to owed.reply ∷ []
 
 -- one reply more, where it was sent
-abbrev pub after_paid : Line → Bool → Line
-after_paid line true = record line { replied = line.replied + 1 }
-after_paid line false = line
+abbrev pub after_paid : Progress → Bool → Progress
+after_paid progress true = record progress { replied = progress.replied + 1 }
+after_paid progress false = progress
 
 -- the worker's passes are of the turns of the desk, in the role of the driver
 pub record IsOfDesk (desk : Desk) (host : Hands) : Type 0 where
@@ -207,25 +207,25 @@ pub record IsOfDesk (desk : Desk) (host : Hands) : Type 0 where
   pub items : host.items.turn ≡ desk.items.now.id
 
 -- the last foreign datagram that is taken while a query is open
-pub record IsLastForeign (accepts : Accepts) (from : Addr) (bytes : List ℕ) (busy : Bool) (ks : List Seeker) (line : Line) : Type 0 where
+pub record IsLastForeign (accepts : Accepts) (from : Addr) (bytes : List ℕ) (busy : Bool) (ks : List Seeker) (progress : Progress) : Type 0 where
   pub none : AllByRecursion (λ k. IsNotFor accepts from bytes k) ks
   pub is_open : busy ≡ true
-  pub last : line.foreign + 1 ≡ max_strays
+  pub last : progress.foreign + 1 ≡ max_strays
 
 -- what a receive leaves, beside what it told
-pub record Received (busy : Bool) (old new : List Seeker) (line line' : Line) : Type 0 where
+pub record Received (busy : Bool) (old new : List Seeker) (progress progress' : Progress) : Type 0 where
   pub holds : AllByRecursion Holding new
   pub longer : AllZip Longer old new
   pub only_heard : AllZip OnlyHeard old new
   pub driven_on : AllZip DrivenOn old new
   pub seats : AllZip SameSeat old new
-  pub counted : HasCounted new line'
-  pub round : (line'.receives ≡ 0) ⊎ (line'.receives ≡ line.receives + 1)
-  pub few_receives : line'.receives < max_round_receives
-  pub still : line'.receives ≢ 0 → queries_of new ≢ []
-  pub left : line'.left ≡ line.left - 1
-  pub foreign : line'.foreign ≤ line.foreign + 1
-  pub few_foreign : busy ≡ true → line'.foreign < max_strays
+  pub counted : HasCounted new progress'
+  pub round : (progress'.receives ≡ 0) ⊎ (progress'.receives ≡ progress.receives + 1)
+  pub few_receives : progress'.receives < max_round_receives
+  pub still : progress'.receives ≢ 0 → queries_of new ≢ []
+  pub left : progress'.left ≡ progress.left - 1
+  pub foreign : progress'.foreign ≤ progress.foreign + 1
+  pub few_foreign : busy ≡ true → progress'.foreign < max_strays
   pub same : busy ≡ false → map whose new ≡ map whose old
   pub none_open : busy ≡ false → queries_of new ≡ []
 
@@ -234,19 +234,19 @@ pub record Received (busy : Bool) (old new : List Seeker) (line line' : Line) : 
 -- the events, without the last one where that is a datagram and no receive failed, show where all lookups stood
 pub record ShowsEarly (busy : Bool) (fault : ManyFault) (f : Frame) (count : ℕ) (old : Stand) (read : Reading) (events : List Event) : Type 0 where
   pub front : List Event
-  pub shows : ManyShow busy f count old.seekers old.line old.words.place None read front
+  pub shows : ManyShow busy f count old.seekers old.progress old.words.place None read front
   pub whole : (events ≡ front) ⊎ ((fault ≢ LinkFault) × (from : Addr) × (bytes : List ℕ) × (until : ℕ) × (at : ℕ) × (events ≡ front ++ Got from bytes until at ∷ []))
 
 -- where a step ends all early: what the events showed before it, and perhaps one datagram more
 abbrev pub Stops : Bool → ManyFault → Accepts → Tags → ServeSetting → Stand → Option (List Event) → Type 0
 Stops busy fault accepts tags server old told' =
     (f : Frame) (count : ℕ) (read : Reading) (began : Option (List Event)) → IsFrame accepts tags server old.words.seed f
-    → Grows began old.told (λ events. ManyShow busy f count old.seekers old.line old.words.place None read events) → Grows began told' (λ events. ShowsEarly busy fault f count old read events)
+    → Grows began old.told (λ events. ManyShow busy f count old.seekers old.progress old.words.place None read events) → Grows began told' (λ events. ShowsEarly busy fault f count old read events)
 
 -- the events end with the foreign datagram of this number, before which a query was open
 pub record ShowsForeign (busy : Bool) (f : Frame) (count : ℕ) (old : Stand) (read : Reading) (number : ℕ) (events : List Event) : Type 0 where
   pub front : List Event
-  pub shows : ManyShow busy f count old.seekers old.line old.words.place None read front
+  pub shows : ManyShow busy f count old.seekers old.progress old.words.place None read front
   pub from : Addr
   pub bytes : List ℕ
   pub until : ℕ
@@ -260,7 +260,7 @@ pub record ShowsForeign (busy : Bool) (f : Frame) (count : ℕ) (old : Stand) (r
 abbrev pub EndsByForeign : Bool → Accepts → Tags → ServeSetting → Stand → Option (List Event) → Type 0
 EndsByForeign busy accepts tags server old told' =
     (f : Frame) (count : ℕ) (read : Reading) (began : Option (List Event)) → IsFrame accepts tags server old.words.seed f
-    → Grows began old.told (λ events. ManyShow busy f count old.seekers old.line old.words.place None read events) → Grows began told' (λ events. ShowsForeign busy f count old read max_strays events)
+    → Grows began old.told (λ events. ManyShow busy f count old.seekers old.progress old.words.place None read events) → Grows began told' (λ events. ShowsForeign busy f count old read max_strays events)
 
 -- the node that serves made these calls, and maybe more
 abbrev pub RanOn : Hands → Hands → Type 0
@@ -293,35 +293,35 @@ pub record EndsLast (accepts : Accepts) (tags : Tags) (server : ServeSetting) (o
 -- ---- rounds
 
 -- a receive may be made that waits for a reply
-pub record MayAwait (ks : List Seeker) (line : Line) : Type 0 where
+pub record MayAwait (ks : List Seeker) (progress : Progress) : Type 0 where
   pub holds : AllByRecursion Holding ks
   pub some_open : queries_of ks ≢ []
-  pub in_turn : line.receives ≡ 0 → AllByRecursion NoneAsks ks
-  pub few_receives : line.receives < max_round_receives
-  pub few_foreign : line.foreign < max_strays
-  pub counted : HasCounted ks line
+  pub in_turn : progress.receives ≡ 0 → AllByRecursion NoneAsks ks
+  pub few_receives : progress.receives < max_round_receives
+  pub few_foreign : progress.foreign < max_strays
+  pub counted : HasCounted ks progress
 
 -- a receive may be made that waits for others than the lookups, which are over
-pub record MayServe (ks : List Seeker) (line : Line) : Type 0 where
+pub record MayServe (ks : List Seeker) (progress : Progress) : Type 0 where
   pub holds : AllByRecursion Holding ks
   pub none_open : queries_of ks ≡ []
   pub over : AllByRecursion IsRunOut ks
   pub none_asks : AllByRecursion NoneAsks ks
-  pub few_receives : line.receives < max_round_receives
-  pub room : line.foreign + line.left + max_all_asks < 2 ^ 64
-  pub counted : HasCounted ks line
+  pub few_receives : progress.receives < max_round_receives
+  pub room : progress.foreign + progress.left + max_all_asks < 2 ^ 64
+  pub counted : HasCounted ks progress
 
 -- what the receives of a round leave, beside what they told
-pub record ReceivedAll (old new : List Seeker) (line line' : Line) : Type 0 where
+pub record ReceivedAll (old new : List Seeker) (progress progress' : Progress) : Type 0 where
   pub holds : AllByRecursion Holding new
   pub longer : AllZip Longer old new
   pub only_heard : AllZip OnlyHeard old new
   pub driven_on : AllZip DrivenOn old new
   pub seats : AllZip SameSeat old new
-  pub counted : HasCounted new line'
-  pub later : line.moment ≤ line'.moment
-  pub left : line'.left ≤ line.left
-  pub few_foreign : line'.foreign < max_strays
+  pub counted : HasCounted new progress'
+  pub later : progress.moment ≤ progress'.moment
+  pub left : progress'.left ≤ progress.left
+  pub few_foreign : progress'.foreign < max_strays
 
 -- ---- asking
 
@@ -357,13 +357,13 @@ abbrev pub HasWords : WordsState → List Seeker → Type 0
 HasWords words ks = words.place < 2 ^ 59 + asks_of ks
 
 -- where a round begins
-pub record MayAskAll (ks : List Seeker) (line : Line) (words : WordsState) : Type 0 where
+pub record MayAskAll (ks : List Seeker) (progress : Progress) (words : WordsState) : Type 0 where
   pub holds : AllByRecursion Holding ks
-  pub ready : AllByRecursion (IsReady line.moment) ks
+  pub ready : AllByRecursion (IsReady progress.moment) ks
   pub settled : AllByRecursion NothingLeft ks
   pub few : length ks ≤ max_lookups
   pub has_words : HasWords words ks
-  pub counted : HasCounted ks line
+  pub counted : HasCounted ks progress
 
 -- contacts were asked, and their queries' owners were written down
 pub record AsksAll (accepts : Accepts) (tags : Tags) (server : ServeSetting) (old new : Stand) (owners owners' : List ℕ) : Type 0 where
@@ -373,8 +373,8 @@ pub record AsksAll (accepts : Accepts) (tags : Tags) (server : ServeSetting) (ol
   pub longer : AllZip Longer old.seekers new.seekers
   pub driven_on : AllZip DrivenOn old.seekers new.seekers
   pub seats : AllZip SameSeat old.seekers new.seekers
-  pub may : MayAskAll new.seekers new.line new.words
-  pub line : new.line ≡ old.line
+  pub may : MayAskAll new.seekers new.progress new.words
+  pub progress : new.progress ≡ old.progress
   pub drawn : new.words ≡ record old.words { place = old.words.place + length made }
 
 -- ---- settling

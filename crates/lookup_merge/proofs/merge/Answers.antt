@@ -31,16 +31,16 @@ pub loop-preserved : goal.loop-preserved
 loop-preserved c =
     let R = closeness c.args.target.now in
     let x = c.in-Some.contact in
-    let new = c.pass.new.places in
+    let new = c.advance.new.places in
     let lists = c.args.lists.now in
     let is = ap (λ (l : List ℕ). nearest_of R None (rests lists l)) (sym c.as_slice.ensures.value) ∙ sym c.nearest.ensures ∙ c.in-Some.is in
-    let long : c.loop.places.len ≡ length new = sym c.as_mut_slice.ensures.len ∙ ap length c.as_mut_slice.ensures.value ∙ c.loop.invariant.same ∙ sym c.pass.ensures.same in
+    let long : c.loop.places.len ≡ length new = sym c.as_mut_slice.ensures.len ∙ ap length c.as_mut_slice.ensures.value ∙ c.loop.invariant.same ∙ sym c.advance.ensures.same in
     let whole = written c.loop.places.len new c.loop.places.items long in
     record {
-      same = ap length whole ∙ c.pass.ensures.same;
+      same = ap length whole ∙ c.advance.ensures.same;
       whole = merge_more (closeness_total c.args.target.now) (closeness_exact c.args.target.now) x (rests lists c.loop.places.items) _ c.loop.found _ _ c.args.k c.loop.counter
           c.loop-test.true (rests_rise R lists c.loop.places.items (recursion_from_All (IsStrictlySortedBy R) lists c.requires)) is
-          (ap (rests lists) whole ∙ c.pass.ensures.passed ∙ ap (λ (l : List ℕ). map (after R x) (rests lists l)) c.as_mut_slice.ensures.value)
+          (ap (rests lists) whole ∙ c.advance.ensures.passed ∙ ap (λ (l : List ℕ). map (after R x) (rests lists l)) c.as_mut_slice.ensures.value)
           c.in_ok-push-in-Some.ensures.ok c.loop.invariant.whole;
     }
 

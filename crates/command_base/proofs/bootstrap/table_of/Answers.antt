@@ -5,4 +5,4 @@ pub loop-contact-init : goal.loop-contact-init
 loop-contact-init c = told_none _ _ c.in_ok-table.ensures
 
 pub loop-contact-preserved : goal.loop-contact-preserved
-loop-contact-preserved c = told_more c.args.contacts.now c.loop-contact.contact-index _ _ c.loop-contact.table c.tell_seen.new.table c.loop-contact-test.true c.loop-contact.invariant c.in_ok-tell_seen.ensures
+loop-contact-preserved c = told_more c.args.contacts.now c.loop-contact.contact-index _ _ c.loop-contact.table c.notify_seen.new.table c.loop-contact-test.true c.loop-contact.invariant c.in_ok-notify_seen.ensures

@@ -13,4 +13,4 @@ loop-key-preserved g c = λ end f.
 pub returns : goal.returns
 returns g c =
     c.loop-key.invariant c.loop-key.filled
-    (subst (λ pairs. g.S.Slots.filled c.loop-key.filled (value_of pairs) c.loop-key.filled) (sym c.in_default.ensures.0) c.tell_done.ensures)
+    (subst (λ pairs. g.S.Slots.filled c.loop-key.filled (value_of pairs) c.loop-key.filled) (sym c.in_default.ensures.0) c.law_done.ensures)

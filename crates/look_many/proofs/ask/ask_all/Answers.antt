@@ -7,7 +7,7 @@ loop-i-init g c =
     let r = c.requires in
     record {
       len = refl;
-      asks = λ accepts tags server host. asks_none accepts tags server host c.args.words.now c.args.words.now c.args.seekers.now c.args.seekers.now c.args.line.now _ _ c.args.owners.now.items c.args.owners.now.items r.may refl refl refl refl;
+      asks = λ accepts tags server host. asks_none accepts tags server host c.args.words.now c.args.words.now c.args.seekers.now c.args.seekers.now c.args.progress.now _ _ c.args.owners.now.items c.args.owners.now.items r.may refl refl refl refl;
       may = r.may;
       none_before = none_here c.args.seekers.now;
       moment = refl;
@@ -22,7 +22,7 @@ loop-i-preserved g c =
     let new = c.ask_lookup.new in
     record {
       len = e.len ∙ i.len;
-      asks = λ accepts tags server host. asks_then accepts tags server host c.args.words.now c.loop-i.words new.words c.args.seekers.now c.loop-i.seekers new.seekers c.args.line.now _ _ _ c.args.owners.now.items c.loop-i.owners.items new.owners.items (i.asks accepts tags server host) (e.asks accepts tags server host);
+      asks = λ accepts tags server host. asks_then accepts tags server host c.args.words.now c.loop-i.words new.words c.args.seekers.now c.loop-i.seekers new.seekers c.args.progress.now _ _ _ c.args.owners.now.items c.loop-i.owners.items new.owners.items (i.asks accepts tags server host) (e.asks accepts tags server host);
       may = e.may;
       none_before = c.in-Ok.ensures.none;
       moment = e.moment ∙ i.moment;
@@ -33,7 +33,7 @@ loop-i-preserved g c =
 pub returns-in-Err-clause-asks : goal.returns-in-Err-clause-asks
 returns-in-Err-clause-asks g c accepts tags server host =
     let new = c.ask_lookup.new in
-    asks_then accepts tags server host c.args.words.now c.loop-i.words new.words c.args.seekers.now c.loop-i.seekers new.seekers c.args.line.now _ _ _ c.args.owners.now.items c.loop-i.owners.items new.owners.items (c.loop-i.invariant.asks accepts tags server host) (c.ask_lookup.ensures.asks accepts tags server host)
+    asks_then accepts tags server host c.args.words.now c.loop-i.words new.words c.args.seekers.now c.loop-i.seekers new.seekers c.args.progress.now _ _ _ c.args.owners.now.items c.loop-i.owners.items new.owners.items (c.loop-i.invariant.asks accepts tags server host) (c.ask_lookup.ensures.asks accepts tags server host)
 
 pub returns-clause-none : goal.returns-clause-none
 returns-clause-none g c =

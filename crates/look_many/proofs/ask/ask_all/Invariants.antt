@@ -10,8 +10,8 @@ use Rattle.look_many.proofs.ask.ask_all.Given as goal
 abbrev pub invariant-loop-i : goal.invariant-loop-i
 invariant-loop-i g l = record {
   len : length l.seekers ≡ length l.fn.seekers;
-  asks : (accepts : Accepts) (tags : Tags) (server : ServeSetting) (host : Hands) → AsksAll accepts tags server (stand l.fn.seekers l.line l.fn.words host (g.L.Link.told l.fn.link)) (stand l.seekers l.line l.words host (g.L.Link.told l.link)) l.fn.owners.items l.owners.items;
-  may : MayAskAll l.seekers l.line l.words;
+  asks : (accepts : Accepts) (tags : Tags) (server : ServeSetting) (host : Hands) → AsksAll accepts tags server (stand l.fn.seekers l.progress l.fn.words host (g.L.Link.told l.fn.link)) (stand l.seekers l.progress l.words host (g.L.Link.told l.link)) l.fn.owners.items l.owners.items;
+  may : MayAskAll l.seekers l.progress l.words;
   none_before : NoneBefore l.i 0 l.seekers;
   moment : g.L.Link.moment l.link ≡ g.L.Link.moment l.fn.link;
   faults : g.L.Link.recv_faults l.link ≡ g.L.Link.recv_faults l.fn.link;

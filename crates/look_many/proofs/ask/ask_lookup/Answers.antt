@@ -9,7 +9,7 @@ loop-path-init g c =
     let r = c.requires in
     record {
       len = refl;
-      asks = λ accepts tags server host. asks_none accepts tags server host c.args.words.now c.args.words.now c.args.seekers.now c.args.seekers.now c.args.line.now _ _ c.args.owners.now.items c.args.owners.now.items r.may refl refl refl refl;
+      asks = λ accepts tags server host. asks_none accepts tags server host c.args.words.now c.args.words.now c.args.seekers.now c.args.seekers.now c.args.progress.now _ _ c.args.owners.now.items c.args.owners.now.items r.may refl refl refl refl;
       may = r.may;
       none_before = r.none_before;
       moment = refl;
@@ -24,7 +24,7 @@ loop-path-preserved g c =
     let new = c.ask_path.new in
     record {
       len = e.len ∙ i.len;
-      asks = λ accepts tags server host. asks_then accepts tags server host c.args.words.now c.loop-path.words new.words c.args.seekers.now c.loop-path.seekers new.seekers c.args.line.now _ _ _ c.args.owners.now.items c.loop-path.owners.items new.owners.items (i.asks accepts tags server host) (e.asks accepts tags server host);
+      asks = λ accepts tags server host. asks_then accepts tags server host c.args.words.now c.loop-path.words new.words c.args.seekers.now c.loop-path.seekers new.seekers c.args.progress.now _ _ _ c.args.owners.now.items c.loop-path.owners.items new.owners.items (i.asks accepts tags server host) (e.asks accepts tags server host);
       may = e.may;
       none_before = c.in-Ok.ensures.none;
       moment = e.moment ∙ i.moment;
@@ -35,10 +35,10 @@ loop-path-preserved g c =
 pub returns-in-Err-clause-asks : goal.returns-in-Err-clause-asks
 returns-in-Err-clause-asks g c accepts tags server host =
     let new = c.ask_path.new in
-    asks_then accepts tags server host c.args.words.now c.loop-path.words new.words c.args.seekers.now c.loop-path.seekers new.seekers c.args.line.now _ _ _ c.args.owners.now.items c.loop-path.owners.items new.owners.items (c.loop-path.invariant.asks accepts tags server host) (c.ask_path.ensures.asks accepts tags server host)
+    asks_then accepts tags server host c.args.words.now c.loop-path.words new.words c.args.seekers.now c.loop-path.seekers new.seekers c.args.progress.now _ _ _ c.args.owners.now.items c.loop-path.owners.items new.owners.items (c.loop-path.invariant.asks accepts tags server host) (c.ask_path.ensures.asks accepts tags server host)
 
 pub returns-clause-none : goal.returns-clause-none
 returns-clause-none g c =
     let i = c.loop-path.invariant in
     let all : c.loop-path.path ≡ max_paths = (let over = c.loop-path-test.false in let few = c.loop-path.auto.path-end in omega (arith, over, few)) in
-    none_next c.args.i c.loop-path.seekers c.args.line.now c.loop-path.words i.may (subst (λ n. NoneBefore c.args.i n c.loop-path.seekers) all i.none_before)
+    none_next c.args.i c.loop-path.seekers c.args.progress.now c.loop-path.words i.may (subst (λ n. NoneBefore c.args.i n c.loop-path.seekers) all i.none_before)

@@ -7,7 +7,7 @@ asking-init g c =
     let r = c.requires in
     record {
       len = refl;
-      asks = λ accepts tags server host. asks_none accepts tags server host c.args.words.now c.args.words.now c.args.seekers.now c.args.seekers.now c.args.line.now _ _ c.args.owners.now.items c.args.owners.now.items r.may refl refl refl refl;
+      asks = λ accepts tags server host. asks_none accepts tags server host c.args.words.now c.args.words.now c.args.seekers.now c.args.seekers.now c.args.progress.now _ _ c.args.owners.now.items c.args.owners.now.items r.may refl refl refl refl;
       may = r.may;
       none_before = r.none_before;
       moment = refl;
@@ -22,7 +22,7 @@ asking-preserved g c =
     let new = c.ask_written.new in
     record {
       len = e.len ∙ i.len;
-      asks = λ accepts tags server host. asks_then accepts tags server host c.args.words.now c.asking.words new.words c.args.seekers.now c.asking.seekers new.seekers c.args.line.now _ _ _ c.args.owners.now.items c.asking.owners.items new.owners.items (i.asks accepts tags server host) (e.asks accepts tags server host);
+      asks = λ accepts tags server host. asks_then accepts tags server host c.args.words.now c.asking.words new.words c.args.seekers.now c.asking.seekers new.seekers c.args.progress.now _ _ _ c.args.owners.now.items c.asking.owners.items new.owners.items (i.asks accepts tags server host) (e.asks accepts tags server host);
       may = e.may;
       none_before = e.none_before;
       moment = e.moment ∙ i.moment;
@@ -33,9 +33,9 @@ asking-preserved g c =
 pub returns-in-Ok-false-clause-asks : goal.returns-in-Ok-false-clause-asks
 returns-in-Ok-false-clause-asks g c accepts tags server host =
     let new = c.ask_written.new in
-    asks_then accepts tags server host c.args.words.now c.asking.words new.words c.args.seekers.now c.asking.seekers new.seekers c.args.line.now _ _ _ c.args.owners.now.items c.asking.owners.items new.owners.items (c.asking.invariant.asks accepts tags server host) (c.ask_written.ensures.asks accepts tags server host)
+    asks_then accepts tags server host c.args.words.now c.asking.words new.words c.args.seekers.now c.asking.seekers new.seekers c.args.progress.now _ _ _ c.args.owners.now.items c.asking.owners.items new.owners.items (c.asking.invariant.asks accepts tags server host) (c.ask_written.ensures.asks accepts tags server host)
 
 pub returns-in-Err-clause-asks : goal.returns-in-Err-clause-asks
 returns-in-Err-clause-asks g c accepts tags server host =
     let new = c.ask_written.new in
-    asks_then accepts tags server host c.args.words.now c.asking.words new.words c.args.seekers.now c.asking.seekers new.seekers c.args.line.now _ _ _ c.args.owners.now.items c.asking.owners.items new.owners.items (c.asking.invariant.asks accepts tags server host) (c.ask_written.ensures.asks accepts tags server host)
+    asks_then accepts tags server host c.args.words.now c.asking.words new.words c.args.seekers.now c.asking.seekers new.seekers c.args.progress.now _ _ _ c.args.owners.now.items c.asking.owners.items new.owners.items (c.asking.invariant.asks accepts tags server host) (c.ask_written.ensures.asks accepts tags server host)

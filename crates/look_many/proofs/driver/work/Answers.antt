@@ -7,7 +7,7 @@ use Rattle.contact_table.specs.declared.calls.TableCall.{TableCall}
 use Rattle.contact_table.specs.declared.calls.TableReply.{TableReply}
 use Rattle.serve_crew.specs.Hands.{hands}
 use Rattle.look_many.specs.declared.seeker.Seeker.{Seeker}
-use Rattle.look_many.specs.declared.seeker.Line.{Line}
+use Rattle.look_many.specs.declared.seeker.Progress.{Progress}
 use Rattle.look_many.specs.inner.Crowd.{Stand, stand}
 use Rattle.look_many.specs.inner.Seats.{IsSeekerFor, rows}
 use Rattle.look_many.specs.inner.Ends.{Starts, task}
@@ -399,11 +399,11 @@ returns-in-Err-clause-stopped g c =
     ∙ ap (λ l. c.go-ended.new.host.table ∷ map (λ (k : Seeker). k.pass) (reverse l)) back in
     let peers_is : c.push-2.new.self.passes ≡ c.go-ended.new.host.peers ∷ [] = c.push-2.ensures.list ∙ ap (λ l. l ++ c.into_passes-table_pass.result.1 ∷ []) c.only_pass-peers_pass.ensures.row ∙ ap (λ x. x ∷ []) c.into_passes-table_pass.ensures.peers in
     let items_is : c.push-3.new.self.passes ≡ c.go-ended.new.host.items ∷ [] = c.push-3.ensures.list ∙ ap (λ l. l ++ c.into_passes-table_pass.result.2 ∷ []) c.only_pass-items_pass.ensures.row ∙ ap (λ x. x ∷ []) c.into_passes-table_pass.ensures.items in
-    let line : Line = record { moment = c.now.result; receives = 0; foreign = 0; left = c.args.receives; received = 0; replied = 0 } in
-    let old : Stand = stand vs line c.args.words.now c.new-host.result (g.L.Link.told c.now.new.self) in
+    let progress : Progress = record { moment = c.now.result; receives = 0; foreign = 0; left = c.args.receives; received = 0; replied = 0 } in
+    let old : Stand = stand vs progress c.args.words.now c.new-host.result (g.L.Link.told c.now.new.self) in
     let job = task (g.G.SealCheck.accepted c.args.seal.now) (g.G.Seal.tag_of c.args.seal.now) server setting ts c.args.receives in
     let all = rows T P I c.gather.new.row.passes c.push-2.new.self.passes c.push-3.new.self.passes in
-    let begun : Starts job all c.args.words.now (g.L.Link.told c.args.link.now) old = record { seekers = seekers; passes = passes; host = is_host; line = refl; words_are = refl; now_told = c.now.ensures.told } in
+    let begun : Starts job all c.args.words.now (g.L.Link.told c.args.link.now) old = record { seekers = seekers; passes = passes; host = is_host; progress = refl; words_are = refl; now_told = c.now.ensures.told } in
     record { old = old; starts = begun; host = c.go-ended.new.host; seekers = ls; len = len; ends = c.in-Err.ensures.ends; back = are_back T P I (length ts) vs ls c.new-host.result c.go-ended.new.host count passes is_host c.go-ended.ensures.same c.go-ended.ensures.seats len c.gather.new.row.passes c.push-2.new.self.passes c.push-3.new.self.passes row_is peers_is items_is }
 
 pub finish_all-requires : goal.finish_all-requires
@@ -452,11 +452,11 @@ returns-in-Ok-finish_all-clause-ok g c =
     ∙ ap (λ l. c.go-ended.new.host.table ∷ map (λ (k : Seeker). k.pass) (reverse l)) back in
     let peers_is : c.push-2.new.self.passes ≡ c.go-ended.new.host.peers ∷ [] = c.push-2.ensures.list ∙ ap (λ l. l ++ c.into_passes-table_pass.result.1 ∷ []) c.only_pass-peers_pass.ensures.row ∙ ap (λ x. x ∷ []) c.into_passes-table_pass.ensures.peers in
     let items_is : c.push-3.new.self.passes ≡ c.go-ended.new.host.items ∷ [] = c.push-3.ensures.list ∙ ap (λ l. l ++ c.into_passes-table_pass.result.2 ∷ []) c.only_pass-items_pass.ensures.row ∙ ap (λ x. x ∷ []) c.into_passes-table_pass.ensures.items in
-    let line : Line = record { moment = c.now.result; receives = 0; foreign = 0; left = c.args.receives; received = 0; replied = 0 } in
-    let old : Stand = stand vs line c.args.words.now c.new-host.result (g.L.Link.told c.now.new.self) in
+    let progress : Progress = record { moment = c.now.result; receives = 0; foreign = 0; left = c.args.receives; received = 0; replied = 0 } in
+    let old : Stand = stand vs progress c.args.words.now c.new-host.result (g.L.Link.told c.now.new.self) in
     let job = task (g.G.SealCheck.accepted c.args.seal.now) (g.G.Seal.tag_of c.args.seal.now) server setting ts c.args.receives in
     let all = rows T P I c.gather.new.row.passes c.push-2.new.self.passes c.push-3.new.self.passes in
-    let begun : Starts job all c.args.words.now (g.L.Link.told c.args.link.now) old = record { seekers = seekers; passes = passes; host = is_host; line = refl; words_are = refl; now_told = c.now.ensures.told } in
+    let begun : Starts job all c.args.words.now (g.L.Link.told c.args.link.now) old = record { seekers = seekers; passes = passes; host = is_host; progress = refl; words_are = refl; now_told = c.now.ensures.told } in
     record {
       old = old;
       new = _;
@@ -499,9 +499,9 @@ returns-clause-stopped g c =
     ∙ ap (λ l. c.go-ended.new.host.table ∷ map (λ (k : Seeker). k.pass) (reverse l)) back in
     let peers_is : c.push-2.new.self.passes ≡ c.go-ended.new.host.peers ∷ [] = c.push-2.ensures.list ∙ ap (λ l. l ++ c.into_passes-table_pass.result.1 ∷ []) c.only_pass-peers_pass.ensures.row ∙ ap (λ x. x ∷ []) c.into_passes-table_pass.ensures.peers in
     let items_is : c.push-3.new.self.passes ≡ c.go-ended.new.host.items ∷ [] = c.push-3.ensures.list ∙ ap (λ l. l ++ c.into_passes-table_pass.result.2 ∷ []) c.only_pass-items_pass.ensures.row ∙ ap (λ x. x ∷ []) c.into_passes-table_pass.ensures.items in
-    let line : Line = record { moment = c.now.result; receives = 0; foreign = 0; left = c.args.receives; received = 0; replied = 0 } in
-    let old : Stand = stand vs line c.args.words.now c.new-host.result (g.L.Link.told c.now.new.self) in
+    let progress : Progress = record { moment = c.now.result; receives = 0; foreign = 0; left = c.args.receives; received = 0; replied = 0 } in
+    let old : Stand = stand vs progress c.args.words.now c.new-host.result (g.L.Link.told c.now.new.self) in
     let job = task (g.G.SealCheck.accepted c.args.seal.now) (g.G.Seal.tag_of c.args.seal.now) server setting ts c.args.receives in
     let all = rows T P I c.gather.new.row.passes c.push-2.new.self.passes c.push-3.new.self.passes in
-    let begun : Starts job all c.args.words.now (g.L.Link.told c.args.link.now) old = record { seekers = seekers; passes = passes; host = is_host; line = refl; words_are = refl; now_told = c.now.ensures.told } in
+    let begun : Starts job all c.args.words.now (g.L.Link.told c.args.link.now) old = record { seekers = seekers; passes = passes; host = is_host; progress = refl; words_are = refl; now_told = c.now.ensures.told } in
     record { old = old; starts = begun; host = c.go-ended.new.host; seekers = ls; len = len; ends = ends_finished job old _ _ c.go-ended.ensures.same c.in-Ok.ensures.went; back = are_back T P I (length ts) vs ls c.new-host.result c.go-ended.new.host count passes is_host c.go-ended.ensures.same c.go-ended.ensures.seats len c.gather.new.row.passes c.push-2.new.self.passes c.push-3.new.self.passes row_is peers_is items_is }

@@ -14,7 +14,7 @@ returns-in-Err-clause-ends g c =
     let accepts = g.G.SealCheck.accepted c.args.seal.now in
     let tags = g.G.Seal.tag_of c.args.seal.now in
     let server = c.args.desk.now.setting.now in
-    ends_asked accepts tags server (stand c.args.seekers.now c.args.line.now c.args.words.now c.args.host.now (g.L.Link.told c.args.link.now)) (stand c.ask_all.new.seekers c.args.line.now c.ask_all.new.words c.args.host.now (g.L.Link.told c.ask_all.new.link)) _ _ refl (c.ask_all.ensures.asks accepts tags server c.args.host.now) c.all_legal.ensures
+    ends_asked accepts tags server (stand c.args.seekers.now c.args.progress.now c.args.words.now c.args.host.now (g.L.Link.told c.args.link.now)) (stand c.ask_all.new.seekers c.args.progress.now c.ask_all.new.words c.args.host.now (g.L.Link.told c.ask_all.new.link)) _ _ refl (c.ask_all.ensures.asks accepts tags server c.args.host.now) c.all_legal.ensures
 
 pub returns-in-None-clause-seats : goal.returns-in-None-clause-seats
 returns-in-None-clause-seats g c = seats_of _ _ (c.ask_all.ensures.asks (g.G.SealCheck.accepted c.args.seal.now) (g.G.Seal.tag_of c.args.seal.now) c.args.desk.now.setting.now c.args.host.now).seats
@@ -40,7 +40,7 @@ receive_round-requires-clause-may g c =
     let tags = g.G.Seal.tag_of c.args.seal.now in
     let server = c.args.desk.now.setting.now in
     let begins = begins_asked accepts tags server _ _ _ _ (c.ask_all.ensures.asks accepts tags server c.args.host.now) c.requires.begins in
-    await_of (stand c.ask_all.new.seekers c.args.line.now c.ask_all.new.words c.args.host.now (g.L.Link.told c.ask_all.new.link)) c.in-Some.field-0 begins c.in-Ok.ensures.none c.in-Some.ensures
+    await_of (stand c.ask_all.new.seekers c.args.progress.now c.ask_all.new.words c.args.host.now (g.L.Link.told c.ask_all.new.link)) c.in-Some.field-0 begins c.in-Ok.ensures.none c.in-Some.ensures
 
 pub returns-in-Ok-receive_round-clause-seats : goal.returns-in-Ok-receive_round-clause-seats
 returns-in-Ok-receive_round-clause-seats g c =
@@ -51,7 +51,7 @@ returns-in-Ok-receive_round-clause-goes g c =
     let accepts = g.G.SealCheck.accepted c.args.seal.now in
     let tags = g.G.Seal.tag_of c.args.seal.now in
     let server = c.args.desk.now.setting.now in
-    gone_then accepts tags server _ (stand c.ask_all.new.seekers c.args.line.now c.ask_all.new.words c.args.host.now (g.L.Link.told c.ask_all.new.link)) _ _ _ _
+    gone_then accepts tags server _ (stand c.ask_all.new.seekers c.args.progress.now c.ask_all.new.words c.args.host.now (g.L.Link.told c.ask_all.new.link)) _ _ _ _
     (gone_asked accepts tags server _ _ _ _ refl (c.ask_all.ensures.asks accepts tags server c.args.host.now))
     (gone_received accepts tags server _ _ _ refl c.receive_round.ensures.same (c.in-Ok-receive_round.ensures.goes c.ask_all.new.words) c.in-Ok-receive_round.ensures.received)
 
@@ -61,7 +61,7 @@ returns-in-Ok-receive_round-clause-received g c = λ e.
     let tags = g.G.Seal.tag_of c.args.seal.now in
     let server = c.args.desk.now.setting.now in
     let begins = begins_asked accepts tags server _ _ _ _ (c.ask_all.ensures.asks accepts tags server c.args.host.now) c.requires.begins in
-    received_of (stand c.ask_all.new.seekers c.args.line.now c.ask_all.new.words c.args.host.now (g.L.Link.told c.ask_all.new.link)) _ begins refl c.in-Ok-receive_round.ensures.received c.in-Ok-receive_round.ensures.over
+    received_of (stand c.ask_all.new.seekers c.args.progress.now c.ask_all.new.words c.args.host.now (g.L.Link.told c.ask_all.new.link)) _ begins refl c.in-Ok-receive_round.ensures.received c.in-Ok-receive_round.ensures.over
 
 pub returns-in-Err-receive_round-clause-seats : goal.returns-in-Err-receive_round-clause-seats
 returns-in-Err-receive_round-clause-seats g c =
@@ -73,7 +73,7 @@ returns-in-Err-receive_round-clause-ends g c =
     let tags = g.G.Seal.tag_of c.args.seal.now in
     let server = c.args.desk.now.setting.now in
     let is_fault : c.in-Err-receive_round.fault ≡ Strays → IsErrOf c.receive_round.result Strays = λ e. c.in-Err-receive_round.is ∙ ap (λ (x : ManyFault). Err x) e in
-    let mid = stand c.ask_all.new.seekers c.args.line.now c.ask_all.new.words c.args.host.now (g.L.Link.told c.ask_all.new.link) in
+    let mid = stand c.ask_all.new.seekers c.args.progress.now c.ask_all.new.words c.args.host.now (g.L.Link.told c.ask_all.new.link) in
     ends_behind accepts tags server c.in-Err-receive_round.fault _ mid _ _ _ _ _
     (gone_asked accepts tags server _ mid _ _ refl (c.ask_all.ensures.asks accepts tags server c.args.host.now))
     (ends_received accepts tags server c.in-Err-receive_round.fault mid _ _ (λ is. c.receive_round.ensures.strays (is_fault is) c.ask_all.new.words) (c.in-Err-receive_round.ensures.stops c.ask_all.new.words))

@@ -21,14 +21,14 @@ returns-in-Ok-false-clause-seats g c = seats_then c.args.seekers.now c.rounds.se
 
 pub returns-in-Ok-false-clause-goes : goal.returns-in-Ok-false-clause-goes
 returns-in-Ok-false-clause-goes g c =
-    gone_then (g.G.SealCheck.accepted c.args.seal.now) (g.G.Seal.tag_of c.args.seal.now) c.args.desk.now.setting.now _ (stand c.rounds.seekers c.rounds.line c.rounds.words c.rounds.host (g.L.Link.told c.rounds.link)) _ _ _ _ c.rounds.invariant.gone c.in-Ok-false.ensures.goes
+    gone_then (g.G.SealCheck.accepted c.args.seal.now) (g.G.Seal.tag_of c.args.seal.now) c.args.desk.now.setting.now _ (stand c.rounds.seekers c.rounds.progress c.rounds.words c.rounds.host (g.L.Link.told c.rounds.link)) _ _ _ _ c.rounds.invariant.gone c.in-Ok-false.ensures.goes
 
 pub returns-in-Err-clause-seats : goal.returns-in-Err-clause-seats
 returns-in-Err-clause-seats g c = seats_then c.args.seekers.now c.rounds.seekers c.ask_and_receive.new.seekers c.rounds.invariant.seats c.ask_and_receive.ensures.seats
 
 pub returns-in-Err-clause-ends : goal.returns-in-Err-clause-ends
 returns-in-Err-clause-ends g c =
-    ends_behind (g.G.SealCheck.accepted c.args.seal.now) (g.G.Seal.tag_of c.args.seal.now) c.args.desk.now.setting.now c.in-Err.fault _ (stand c.rounds.seekers c.rounds.line c.rounds.words c.rounds.host (g.L.Link.told c.rounds.link)) _ _ _ _ _ c.rounds.invariant.gone c.in-Err.ensures.ends
+    ends_behind (g.G.SealCheck.accepted c.args.seal.now) (g.G.Seal.tag_of c.args.seal.now) c.args.desk.now.setting.now c.in-Err.fault _ (stand c.rounds.seekers c.rounds.progress c.rounds.words c.rounds.host (g.L.Link.told c.rounds.link)) _ _ _ _ _ c.rounds.invariant.gone c.in-Err.ensures.ends
 
 pub settle_all-requires-clause-own : goal.settle_all-requires-clause-own
 settle_all-requires-clause-own g c κs within = seated_still c.args.desk.now.table.now c.rounds.seekers c.ask_and_receive.new.seekers c.rounds.invariant.seated c.ask_and_receive.ensures.seats
@@ -44,12 +44,12 @@ rounds-preserved g c =
     let accepts = g.G.SealCheck.accepted c.args.seal.now in
     let tags = g.G.Seal.tag_of c.args.seal.now in
     let server = c.args.desk.now.setting.now in
-    let begun : Stand = stand c.rounds.seekers c.rounds.line c.rounds.words c.rounds.host (g.L.Link.told c.rounds.link) in
-    let mid : Stand = stand c.ask_and_receive.new.seekers c.ask_and_receive.new.line c.ask_and_receive.new.words c.ask_and_receive.new.host (g.L.Link.told c.ask_and_receive.new.link) in
-    let now : Stand = stand c.settle_all.new.seekers c.ask_and_receive.new.line c.ask_and_receive.new.words c.ask_and_receive.new.host (g.L.Link.told c.ask_and_receive.new.link) in
+    let begun : Stand = stand c.rounds.seekers c.rounds.progress c.rounds.words c.rounds.host (g.L.Link.told c.rounds.link) in
+    let mid : Stand = stand c.ask_and_receive.new.seekers c.ask_and_receive.new.progress c.ask_and_receive.new.words c.ask_and_receive.new.host (g.L.Link.told c.ask_and_receive.new.link) in
+    let now : Stand = stand c.settle_all.new.seekers c.ask_and_receive.new.progress c.ask_and_receive.new.words c.ask_and_receive.new.host (g.L.Link.told c.ask_and_receive.new.link) in
     let whole = c.in-Ok.ensures.whole in
     let received = c.in-Ok-true.ensures.received c.in-Ok-true.field-0-test in
-    let settles = c.settle_all.ensures.goes accepts tags server c.ask_and_receive.new.line c.ask_and_receive.new.words c.ask_and_receive.new.host (g.L.Link.told c.ask_and_receive.new.link) in
+    let settles = c.settle_all.ensures.goes accepts tags server c.ask_and_receive.new.progress c.ask_and_receive.new.words c.ask_and_receive.new.host (g.L.Link.told c.ask_and_receive.new.link) in
     let seats = seats_then c.args.seekers.now c.rounds.seekers c.ask_and_receive.new.seekers c.rounds.invariant.seats c.ask_and_receive.ensures.seats in
     let settled = seats_settled c.ask_and_receive.new.seekers c.settle_all.new.seekers c.settle_all.ensures.some in
     record {
@@ -74,9 +74,9 @@ returns-in-Err-settle_all-clause-ends g c =
     let accepts = g.G.SealCheck.accepted c.args.seal.now in
     let tags = g.G.Seal.tag_of c.args.seal.now in
     let server = c.args.desk.now.setting.now in
-    let begun : Stand = stand c.rounds.seekers c.rounds.line c.rounds.words c.rounds.host (g.L.Link.told c.rounds.link) in
-    let mid : Stand = stand c.ask_and_receive.new.seekers c.ask_and_receive.new.line c.ask_and_receive.new.words c.ask_and_receive.new.host (g.L.Link.told c.ask_and_receive.new.link) in
-    let now : Stand = stand c.settle_all.new.seekers c.ask_and_receive.new.line c.ask_and_receive.new.words c.ask_and_receive.new.host (g.L.Link.told c.ask_and_receive.new.link) in
-    let settles = c.settle_all.ensures.goes accepts tags server c.ask_and_receive.new.line c.ask_and_receive.new.words c.ask_and_receive.new.host (g.L.Link.told c.ask_and_receive.new.link) in
+    let begun : Stand = stand c.rounds.seekers c.rounds.progress c.rounds.words c.rounds.host (g.L.Link.told c.rounds.link) in
+    let mid : Stand = stand c.ask_and_receive.new.seekers c.ask_and_receive.new.progress c.ask_and_receive.new.words c.ask_and_receive.new.host (g.L.Link.told c.ask_and_receive.new.link) in
+    let now : Stand = stand c.settle_all.new.seekers c.ask_and_receive.new.progress c.ask_and_receive.new.words c.ask_and_receive.new.host (g.L.Link.told c.ask_and_receive.new.link) in
+    let settles = c.settle_all.ensures.goes accepts tags server c.ask_and_receive.new.progress c.ask_and_receive.new.words c.ask_and_receive.new.host (g.L.Link.told c.ask_and_receive.new.link) in
     ends_behind accepts tags server _ _ begun _ _ _ _ _ c.rounds.invariant.gone
     (ends_behind accepts tags server _ begun mid _ _ _ _ _ (c.in-Ok-true.ensures.goes) (ends_settled accepts tags server mid now refl refl settles c.settle_all.ensures.some c.all_legal.ensures))

@@ -10,7 +10,7 @@ pub serving-init : goal.serving-init
 serving-init g c = record {
   may = c.requires.may;
   journals = refl;
-  goes = λ words. advances_none false (g.G.SealCheck.accepted c.args.seal.now) (g.G.Seal.tag_of c.args.seal.now) c.args.desk.now.setting.now (stand c.args.seekers.now c.args.line.now words c.args.host.now (g.L.Link.told c.args.link.now));
+  goes = λ words. advances_none false (g.G.SealCheck.accepted c.args.seal.now) (g.G.Seal.tag_of c.args.seal.now) c.args.desk.now.setting.now (stand c.args.seekers.now c.args.progress.now words c.args.host.now (g.L.Link.told c.args.link.now));
   same = same_none c.args.host.now;
   room = search rules;
   moment = search rules;
@@ -28,8 +28,8 @@ serving-preserved g c =
     record {
       may = r.may;
       journals = r.journals ∙ h.journals;
-      goes = λ words. advances_then false [] [] (g.G.SealCheck.accepted c.args.seal.now) (g.G.Seal.tag_of c.args.seal.now) c.args.desk.now.setting.now (stand c.args.seekers.now c.args.line.now words c.args.host.now (g.L.Link.told c.args.link.now))
-          (stand c.serving.seekers c.serving.line words c.serving.host (g.L.Link.told c.serving.link)) (stand new.seekers new.line words new.host (g.L.Link.told new.link)) h.same (h.goes words) (r.goes words);
+      goes = λ words. advances_then false [] [] (g.G.SealCheck.accepted c.args.seal.now) (g.G.Seal.tag_of c.args.seal.now) c.args.desk.now.setting.now (stand c.args.seekers.now c.args.progress.now words c.args.host.now (g.L.Link.told c.args.link.now))
+          (stand c.serving.seekers c.serving.progress words c.serving.host (g.L.Link.told c.serving.link)) (stand new.seekers new.progress words new.host (g.L.Link.told new.link)) h.same (h.goes words) (r.goes words);
       same = same_more c.args.host.now c.serving.host new.host h.same r.same;
       room = search rules;
       moment = search rules;
@@ -42,8 +42,8 @@ serving-preserved g c =
 pub returns-in-Err-clause-stops : goal.returns-in-Err-clause-stops
 returns-in-Err-clause-stops g c words =
     let h = c.serving.invariant in
-    ends_after false c.in-Err.fault (g.G.SealCheck.accepted c.args.seal.now) (g.G.Seal.tag_of c.args.seal.now) c.args.desk.now.setting.now (stand c.args.seekers.now c.args.line.now words c.args.host.now (g.L.Link.told c.args.link.now))
-    (stand c.serving.seekers c.serving.line words c.serving.host (g.L.Link.told c.serving.link)) c.serve_one.new.host (g.L.Link.told c.serve_one.new.link) h.same (stays_same c.args.seekers.now c.serving.seekers h.journals h.seats) (h.goes words) (c.in-Err.ensures.stops words)
+    ends_after false c.in-Err.fault (g.G.SealCheck.accepted c.args.seal.now) (g.G.Seal.tag_of c.args.seal.now) c.args.desk.now.setting.now (stand c.args.seekers.now c.args.progress.now words c.args.host.now (g.L.Link.told c.args.link.now))
+    (stand c.serving.seekers c.serving.progress words c.serving.host (g.L.Link.told c.serving.link)) c.serve_one.new.host (g.L.Link.told c.serve_one.new.link) h.same (stays_same c.args.seekers.now c.serving.seekers h.journals h.seats) (h.goes words) (c.in-Err.ensures.stops words)
 
 pub returns-in-Err-clause-seats : goal.returns-in-Err-clause-seats
 returns-in-Err-clause-seats g c = seats_then c.args.seekers.now c.serving.seekers c.serve_one.new.seekers c.serving.invariant.seats c.serve_one.ensures.seats

@@ -9,12 +9,12 @@ use Rattle.look_many.proofs.serving.serve_on.Given as goal
 
 abbrev pub invariant-serving : goal.invariant-serving
 invariant-serving g l = record {
-  may : MayServe l.seekers l.line;
+  may : MayServe l.seekers l.progress;
   journals : map whose l.seekers ≡ map whose l.fn.seekers;
-  goes : (words : WordsState) → Advances false [] (g.G.SealCheck.accepted l.seal) (g.G.Seal.tag_of l.seal) l.desk.setting.now (stand l.fn.seekers l.fn.line words l.fn.host (g.L.Link.told l.fn.link)) (stand l.seekers l.line words l.host (g.L.Link.told l.link));
+  goes : (words : WordsState) → Advances false [] (g.G.SealCheck.accepted l.seal) (g.G.Seal.tag_of l.seal) l.desk.setting.now (stand l.fn.seekers l.fn.progress words l.fn.host (g.L.Link.told l.fn.link)) (stand l.seekers l.progress words l.host (g.L.Link.told l.link));
   same : SameHands l.fn.host l.host;
   room : length l.buf ≡ max_datagram + 1;
-  moment : g.L.Link.moment l.link ≡ l.line.moment;
+  moment : g.L.Link.moment l.link ≡ l.progress.moment;
   len : length l.seekers ≡ length l.fn.seekers;
   seats : AllZip SameSeat l.fn.seekers l.seekers;
   faults : g.L.Link.recv_faults l.link ≡ g.L.Link.recv_faults l.fn.link;
@@ -22,4 +22,4 @@ invariant-serving g l = record {
 }
 
 abbrev pub decreases-serving : goal.decreases-serving
-decreases-serving g l = l.line.left
+decreases-serving g l = l.progress.left

@@ -11,5 +11,5 @@ pub returns-clause-whole : goal.returns-clause-whole
 returns-clause-whole g c = whole_if_ok c.answer_of.result c.args.seekers.now c.settle_each.new.seekers c.settle_each.ensures.len c.settle_each.ensures.each c.answer_of.ensures.0
 
 pub returns-clause-goes : goal.returns-clause-goes
-returns-clause-goes g c accepts tags server line words host told =
-    settled_goes accepts tags server line words host told c.args.seekers.now c.settle_each.new.seekers c.requires.holds (each_some c.args.seekers.now c.settle_each.new.seekers c.settle_each.ensures.len c.settle_each.ensures.each)
+returns-clause-goes g c accepts tags server progress words host told =
+    settled_goes accepts tags server progress words host told c.args.seekers.now c.settle_each.new.seekers c.requires.holds (each_some c.args.seekers.now c.settle_each.new.seekers c.settle_each.ensures.len c.settle_each.ensures.each)

@@ -14,8 +14,8 @@ overdue-requires c = c.loop-contact.invariant.one.holds
 pub loop-contact-preserved : goal.loop-contact-preserved
 loop-contact-preserved c =
     let w : LookupState = c.loop-contact.work in
-    let v : LookupState = record w { lookup = c.overdue.new.self; table = c.tell_failed.new.table } in
-    oldest_expires c.args.at c.args.work.now w v c.in-Some.contact c.loop-contact.invariant c.in-Some.ensures.some c.tell_failed.ensures refl refl
+    let v : LookupState = record w { lookup = c.overdue.new.self; table = c.notify_failed.new.table } in
+    oldest_expires c.args.at c.args.work.now w v c.in-Some.contact c.loop-contact.invariant c.in-Some.ensures.some c.notify_failed.ensures refl refl
 
 pub returns : goal.returns
 returns c =

@@ -11,19 +11,19 @@ write-length-requires g c =
     let short : length tx ≤ 32 = subst (λ (t : List ℕ). length t ≤ 32) (sym c.in-Ok.ensures) c.requires.short in
     subst IsSmall (sym c.in-Ok-compose.ensures.message) (gained_small c.args.setting.now c.args.asked.now.from c.args.at tx short c.in-Ok-gather.gained c.in-Ok-gather.ensures.few)
 
-pub returns-in-Ok-tell-clause-ok : goal.returns-in-Ok-tell-clause-ok
-returns-in-Ok-tell-clause-ok g c =
+pub returns-in-Ok-notify-clause-ok : goal.returns-in-Ok-notify-clause-ok
+returns-in-Ok-notify-clause-ok g c =
     let s = c.args.setting.now in
     let asked = c.args.asked.now in
     let gained = c.in-Ok-gather.gained in
-    replies_to s asked c.args.at g.H.Hold.does (g.G.Seal.tag_of c.args.seal.now) c.in-Ok-plan.wants c.in-Ok-plan.ensures.wants c.told_for-told.result c.told_for-told.ensures
-    gained c.in-Ok-compose.reply (take c.seal_reply.result c.seal_reply.new.out) c.args.hold.now c.gather.new.hold c.tell.new.hold c.in-Ok-gather.ensures.ok
-    (c.in-Ok-compose.ensures.message ∙ ap (λ (t : List ℕ). reply_gained s asked.from c.args.at t gained) c.in-Ok.ensures) c.seal_reply.ensures.form c.in-Ok-tell.ensures.ok
+    replies_to s asked c.args.at g.H.Hold.does (g.G.Seal.tag_of c.args.seal.now) c.in-Ok-plan.wants c.in-Ok-plan.ensures.wants c.notify_for-notified.result c.notify_for-notified.ensures
+    gained c.in-Ok-compose.reply (take c.seal_reply.result c.seal_reply.new.out) c.args.hold.now c.gather.new.hold c.notify.new.hold c.in-Ok-gather.ensures.ok
+    (c.in-Ok-compose.ensures.message ∙ ap (λ (t : List ℕ). reply_gained s asked.from c.args.at t gained) c.in-Ok.ensures) c.seal_reply.ensures.form c.in-Ok-notify.ensures.ok
 
 pub returns-clause-err : goal.returns-clause-err
 returns-clause-err g c =
-    stop_telling c.args.setting.now c.args.asked.now c.args.at g.H.Hold.does c.in-Ok-plan.wants c.in-Ok-plan.ensures.wants c.told_for-told.result c.told_for-told.ensures
-    c.in-Ok-gather.gained c.args.hold.now c.gather.new.hold c.tell.new.hold c.in-Ok-gather.ensures.ok c.in-Err-tell.ensures.err
+    stop_telling c.args.setting.now c.args.asked.now c.args.at g.H.Hold.does c.in-Ok-plan.wants c.in-Ok-plan.ensures.wants c.notify_for-notified.result c.notify_for-notified.ensures
+    c.in-Ok-gather.gained c.args.hold.now c.gather.new.hold c.notify.new.hold c.in-Ok-gather.ensures.ok c.in-Err-notify.ensures.err
 
 pub returns-in-Err-clause-err : goal.returns-in-Err-clause-err
 returns-in-Err-clause-err g c = stop_first c.args.setting.now c.args.asked.now c.args.at g.H.Hold.does c.args.hold.now

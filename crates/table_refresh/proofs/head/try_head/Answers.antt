@@ -6,8 +6,8 @@ use Rattle.table_refresh.proofs.head.try_head.Goals as goal
 pub returns-then-not-send_ping-clause-ok : goal.returns-then-not-send_ping-clause-ok
 returns-then-not-send_ping-clause-ok g c =
     let old : Progress = c.args.work.now in
-    unsent_tries c.args.setting.now (g.G.SealCheck.accepted c.args.seal.now) c.args.head c.args.words.now c.open_ping-query.new.words old (record old { table = c.tell_failed.new.table }) c.tell_failed.result c.open_ping-query.result _ _
-    (record { query = c.open_ping-query.ensures.query; drawn = c.open_ping-query.ensures.words }) c.tell_failed.ensures refl refl (c.if-not-send_ping.ensures.unsent refl)
+    unsent_tries c.args.setting.now (g.G.SealCheck.accepted c.args.seal.now) c.args.head c.args.words.now c.open_ping-query.new.words old (record old { table = c.notify_failed.new.table }) c.notify_failed.result c.open_ping-query.result _ _
+    (record { query = c.open_ping-query.ensures.query; drawn = c.open_ping-query.ensures.words }) c.notify_failed.ensures refl refl (c.if-not-send_ping.ensures.unsent refl)
 
 pub returns-clause-ok : goal.returns-clause-ok
 returns-clause-ok g c =

@@ -24,6 +24,6 @@ overflow_add-self c = (let few = few_turned c.self.inside.setting c.self.inside.
 pub invariant_of-self : goal.invariant_of-self
 invariant_of-self c =
     let fits = subst (λ (b : BookState). Fits b.setting b.journal (Turned c.args.path c.args.contact)) (sym c.self.view_is) c.requires in
-    let e = c.pass_one.ensures in
+    let e = c.settle_one.ensures in
     whole_turned c.self.inside.setting c.self.inside.journal.items _ c.args.path c.args.contact _ _ _ _ _ _ _ _ _ _ c.self.invariant fits
     c.put.ensures.items c.put.ensures.owed c.put.ensures.room c.index_mut.ensures.value e.near e.fresh e.count e.opens e.queue refl refl refl

@@ -1,7 +1,7 @@
 use Rattle.std.proofs.Common.{◌≡◌, ◌++◌, length, map, take, drop}
 use Rattle.kad_distance.specs.Order.{closeness}
 use Rattle.lookup_merge.specs.Rests.{rests, after}
-use Rattle.lookup_merge.proofs.pass.Given as goal
+use Rattle.lookup_merge.proofs.advance.Given as goal
 
 abbrev pub invariant-loop-i : goal.invariant-loop-i
 invariant-loop-i l = record {

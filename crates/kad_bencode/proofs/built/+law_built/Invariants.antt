@@ -3,10 +3,10 @@ use Rattle.std.specs.List.{AllByRecursion}
 use Rattle.kad_bencode.specs.Built.{IsWellBuilt}
 use Rattle.kad_bencode.specs.Spelling.{depth_of}
 use Rattle.kad_bencode.proofs.Kept.{PairsBuilt}
-use Rattle.kad_bencode.proofs.built.+tell_built.Given as goal
+use Rattle.kad_bencode.proofs.built.+law_built.Given as goal
 
-abbrev pub decreases-tell_built : goal.decreases-tell_built
-decreases-tell_built l = depth_of l.value.now
+abbrev pub decreases-law_built : goal.decreases-law_built
+decreases-law_built l = depth_of l.value.now
 
 abbrev pub invariant-values : goal.invariant-values
 invariant-values l = AllByRecursion IsWellBuilt (drop l.item-index l.item-items) → AllByRecursion IsWellBuilt l.item-items
