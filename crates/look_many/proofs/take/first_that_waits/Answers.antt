@@ -1,7 +1,7 @@
 use Rattle.std.proofs.Common.{Some, refl, sym, ap, subst, ◌∙◌}
 use Rattle.std.proofs.lemmas.Option.{slice_get-get_or}
 use Rattle.look_many.specs.inner.ManySteps.{IsNotFor}
-use Rattle.look_many.proofs.Lists.{all_more}
+use Rattle.look_many.proofs.Lists.{all_more, all_taken}
 use Rattle.look_many.proofs.take.first_that_waits.Goals as goal
 
 pub returns-in-Ok-Some : goal.returns-in-Ok-Some
@@ -17,3 +17,8 @@ loop-i-preserved g c bytes reads =
     let accepts = g.G.SealCheck.accepted c.args.seal.now in
     let none = (rw c.in-Ok-None.field-0-is at c.in-Ok-None.ensures) bytes reads in
     all_more (λ k. IsNotFor accepts c.args.from bytes k) c.loop-i.i c.args.seekers.now c.index-seekers-i.result c.loop-i-test.true (c.loop-i.invariant bytes reads) (subst (λ k. IsNotFor accepts c.args.from bytes k) c.index-seekers-i.is none)
+
+pub returns : goal.returns
+returns g c bytes reads =
+    let accepts = g.G.SealCheck.accepted c.args.seal.now in
+    all_taken (λ k. IsNotFor accepts c.args.from bytes k) c.loop-i.i c.args.seekers.now c.loop-i-test.false (c.loop-i.invariant bytes reads)

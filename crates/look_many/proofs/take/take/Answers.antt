@@ -56,3 +56,6 @@ returns-in-Ok-None-clause-seats g c = same_seats c.args.seekers.now
 
 pub returns-in-Err-clause-seats : goal.returns-in-Err-clause-seats
 returns-in-Err-clause-seats g c = same_seats c.args.seekers.now
+
+pub returns-in-Ok-None-clause-ok : goal.returns-in-Ok-None-clause-ok
+returns-in-Ok-None-clause-ok g c = ((rw c.in-Ok-None.field-0-is at c.in-Ok-None.ensures) c.args.bytes.now c.in-Some.ensures, refl)
