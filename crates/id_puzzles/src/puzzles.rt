@@ -6,7 +6,7 @@ ghost use Rattle.kad_base.specs.Puzzles.{hash, Passes, Solves};
 use crate::bits::{begins_with_zeros, digest};
 use kad_base::{Check, Policy, Proof, Report, xor};
 
-/// Whether the report passes under the policy. One without a proof passes under `Plain` alone.
+/// Whether the report passes under the policy. One without a proof passes only under `Plain`.
 pub fn passes(policy: Policy, report: &Report) -> bool
     ensures { IsTrue result ↔ Passes policy report.now }
 {

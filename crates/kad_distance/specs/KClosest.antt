@@ -13,7 +13,7 @@ by_ordering Less a b c = a
 by_ordering Equal a b c = b
 by_ordering Greater a b c = c
 
--- x in its place among ys, where it isn't there
+-- x in its place among ys, if it isn't there
 abbrev pub put : {K : Type 0} → (K → K → Ordering) → List K → K → List K
 put R [] x = x ∷ []
 put R (y ∷ ys) x = by_ordering (R y x) (y ∷ put R ys x) (y ∷ ys) (x ∷ y ∷ ys)

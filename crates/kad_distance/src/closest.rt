@@ -21,7 +21,7 @@ pub fn place(target: &Id, list: &[Contact], contact: &Contact) -> usize
     list.partition_point(|other| compare(target, other, contact).is_lt())
 }
 
-/// Puts a contact in its place among the k closest, where it isn't there, and drops what is then past the first k.
+/// Puts a contact in its place among the k closest, if it isn't there, and drops what is then past the first k.
 /// Takes no memory: there is room for k.
 pub fn put_closest(near: &mut Vec<Contact>, target: &Id, k: usize, contact: &Contact)
     requires sorted { IsStrictlySortedBy (closeness target.now) near.old.items }

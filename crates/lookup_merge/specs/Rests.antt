@@ -9,12 +9,12 @@ rests [] places = []
 rests (list ∷ lists) [] = []
 rests (list ∷ lists) (place ∷ places) = drop place list ∷ rests lists places
 
--- the first of a list, where it has one
+-- the first of a list, if it has one
 abbrev pub first : {K : Type 0} → List K → Option K
 first [] = None
 first (x ∷ xs) = Some x
 
--- the lower one, where both are there
+-- the lower one, if both are there
 abbrev pub nearer_of : {K : Type 0} → (K → K → Ordering) → Option K → Option K → Option K
 nearer_of R best None = best
 nearer_of R None (Some x) = Some x
