@@ -86,7 +86,7 @@ id_at at bytes = record { 0 = part at 20 bytes }
 abbrev pub node_in : Family → List ℕ → Contact
 node_in family bytes = record { id = id_at 0 bytes; addr = addr_at family 20 bytes }
 
--- the proof within the bytes of a node: 32 bytes of public key and 20 of X, behind the identifier
+-- the proof within the bytes of a node: 32 bytes of public key and 20 of X, after the identifier
 abbrev pub proof_in : List ℕ → Proof
 proof_in bytes = record { key = part 20 32 bytes; x = part 52 20 bytes }
 

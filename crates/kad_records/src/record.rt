@@ -46,7 +46,7 @@ pub fn read_addr6(bytes: &[u8], at: usize) -> Addr
 }
 
 /// Reads one compact record from `at` on, with an address of `A` bytes: identifier, address, port in network order. Those
-/// of BEP 5 have an IPv4 address (`A` = 4, 26 bytes), those of BEP 32 one of IPv6 (`A` = 16, 38 bytes). `None` where fewer
+/// of BEP 5 have an IPv4 address (`A` = 4, 26 bytes), those of BEP 32 one of IPv6 (`A` = 16, 38 bytes). `None` if fewer
 /// than 22 + `A` bytes stand there. Takes no memory.
 pub fn split_record<const A: usize>(bytes: &[u8], at: usize) -> Option<([u8; 20], [u8; A], u16)>
     ensures none { IsNone result ↔ length bytes.now < at + (22 + A) }

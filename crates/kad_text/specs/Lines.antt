@@ -40,7 +40,7 @@ pub record IsContactLine (line : List ℕ) (report : Report) : Type 0 where
   pub spells_addr : SpellsAddr address report.contact.addr
   pub ends : EndsWithProof rest report.proof
 
--- what a good line tells: nothing where it is passed over, or the report of a contact line. A carriage return at its end
+-- what a good line tells: nothing if it is skipped, or the report of a contact line. A carriage return at its end
 -- isn't looked at
 abbrev pub Tells : List ℕ → Option Report → Type 0
 Tells line None = IsPassedOver (strip_carriage_return line)

@@ -2,7 +2,7 @@
 ghost use Rattle.std.specs.Prelude.{◌≡◌, ◌↔◌, IsTrue, MatchOption};
 ghost use Rattle.kad_text.specs.Cut.{IsCut, Lacks};
 
-/// Cuts a text at the first byte of this value: what stands before it, and behind it.
+/// Cuts a text at the first byte of this value: what stands before it, and after it.
 pub fn cut(text: &[u8], at: u8) -> Option<(&[u8], &[u8])>
     ensures { MatchOption result (Lacks at text.now)
         (λ parts. IsCut at text.now parts.0.now parts.1.now) }

@@ -47,7 +47,7 @@ fn groups_of(text: &[u8]) -> Option<([u8; 16], &[u8])>
     Some((ip, rest))
 }
 
-/// Reads a group, its two bytes, behind what stands in front of it, and hands out the rest.
+/// Reads a group, its two bytes, after what stands in front of it, and hands out the rest.
 fn group_of(text: &[u8], lead: u8) -> Option<(u8, u8, &[u8])>
     requires { IsMark lead }
     ensures { let lower = str_to_ascii_lowercase text.now in
@@ -69,7 +69,7 @@ fn pair_of(digits: &[u8]) -> Option<[u8; 2]>
     <[u8; 2]>::from_hex(digits).ok()
 }
 
-/// Reads what stands behind the groups: a bracket, a colon and the port.
+/// Reads what comes after the groups: a bracket, a colon and the port.
 fn port_of(text: &[u8]) -> Option<u16>
     ensures { MatchOption result
         ((port : ℕ) → port < 2 ^ 16 → text.now ≢ codes "]:" ++ decimal port)

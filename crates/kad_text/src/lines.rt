@@ -56,7 +56,7 @@ pub fn read_lines(alloc: Global, bytes: &[u8]) -> Result<Reports, LinesFault>
     Ok(reports)
 }
 
-/// Reads one line: the report of a contact line, or nothing where the line is passed over.
+/// Reads one line: the report of a contact line, or nothing if the line is skipped.
 pub fn read_line(line: &[u8]) -> Result<Option<Report>, BadLine>
     ensures { MatchResult result (λ told. Tells line.now told) (λ _. IsBad line.now) }
 {

@@ -1,4 +1,4 @@
-//! How numbers, identifiers, addresses and contacts are printed, behind what was printed before.
+//! How numbers, identifiers, addresses and contacts are printed, after what was printed before.
 ghost use Rattle.std.specs.Prelude.{◌≡◌, ◌++◌, ◌∷◌, [], OnOk, decimal, length};
 ghost use Rattle.hex.specs.Hex.{encode_lower, IsBytes};
 ghost use Rattle.kad_base.specs.declared.types.Ip.TheVariants.{V4, V6};
@@ -36,7 +36,7 @@ pub fn put_id(output: &mut Bytes, id: &Id) -> Result<(), NoMemory>
     put_digits(output, id.0)
 }
 
-/// Two bytes as four hex digits, behind a byte.
+/// Two bytes as four hex digits, after a byte.
 fn put_group(output: &mut Bytes, lead: u8, group: [u8; 2]) -> Result<(), NoMemory>
     ensures { OnOk result (output.new ≡ output.old ++ ((lead ∷ []) ++ encode_lower group)) }
 {

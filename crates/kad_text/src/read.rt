@@ -41,7 +41,7 @@ fn are_digits(text: &[u8]) -> bool
     text.iter().all(|digit| digit.is_ascii_hexdigit())
 }
 
-/// Reads bytes in hex, two digits a byte, of either case, however many there are. Nothing but want of memory refuses them.
+/// Reads bytes in hex, two digits a byte, of either case, however many there are. They are refused only if out of memory.
 pub fn read_bytes(alloc: Global, text: &str) -> Result<Bytes, NoMemory>
     requires { (bytes : List ℕ) × SpellsBytes text.now bytes }
     ensures { IfOk result (λ bytes. SpellsBytes text.now bytes) }
