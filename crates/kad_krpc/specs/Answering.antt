@@ -20,23 +20,23 @@ use Rattle.kad_krpc.specs.Fields.{Step, Look, then, needed, optional, id_of, rec
 
 -- ---- read
 
--- the value of `nodes`: records of 26 bytes, where it is there
+-- the value of `nodes`: records of 26 bytes, if it is there
 abbrev pub nodes_by : Option Value → Step (Option (List Contact))
 nodes_by nodes = records_by 26 (node_in Four) key.Nodes nodes
 
--- the value of `snodes`: records of 78 bytes, where it is there (this project's own)
+-- the value of `snodes`: records of 78 bytes, if it is there (this project's own)
 abbrev pub snodes_by : Option Value → Step (Option (List Report))
 snodes_by snodes = records_by 78 (proved_in Four) key.Snodes snodes
 
--- the value of `nodes6`: records of 38 bytes, where it is there (BEP 32)
+-- the value of `nodes6`: records of 38 bytes, if it is there (BEP 32)
 abbrev pub nodes6_by : Option Value → Step (Option (List Contact))
 nodes6_by nodes6 = records_by 38 (node_in Six) key.Nodes6 nodes6
 
--- the value of `snodes6`: records of 90 bytes, where it is there (this project's own)
+-- the value of `snodes6`: records of 90 bytes, if it is there (this project's own)
 abbrev pub snodes6_by : Option Value → Step (Option (List Report))
 snodes6_by snodes6 = records_by 90 (proved_in Six) key.Snodes6 snodes6
 
--- the value of `values`: peers, where it is there
+-- the value of `values`: peers, if it is there
 abbrev pub values_by : Option Value → Step (Option (List Addr))
 values_by values = then (optional list_of key.Values values) (λ values. Ok (peers_in values))
 

@@ -142,7 +142,7 @@ ask_by (Some method) name a = arguments_at method a
 abbrev pub ask_of : List ℕ → Option Value → Step Ask
 ask_of name a = ask_by (method_in name) name a
 
--- a query is read-only exactly where `ro` is the integer 1
+-- a query is read-only exactly if `ro` is the integer 1
 abbrev pub is_one : Option ℤ → Bool
 is_one None = false
 is_one (Some (pos n)) = nat_eq n 1
@@ -173,7 +173,7 @@ announced id info_hash Implied token =
 abbrev pub two_ids : Id → List ℕ → Id → List (Pair Value)
 two_ids id key other = pair (codes "id") (Text id.0) ++ pair key (Text other.0)
 
--- a word of `want`, where it is said
+-- a word of `want`, if it is said
 abbrev pub word_if : Bool → List ℕ → List Value
 word_if true word = Text word ∷ []
 word_if false word = []
@@ -182,11 +182,11 @@ word_if false word = []
 abbrev pub want_value : Want → Value
 want_value want = Values (word_if want.four (codes "n4") ++ word_if want.six (codes "n6"))
 
--- what is wanted, where anything is
+-- what is wanted, if anything is
 abbrev pub some_want : Want → Option Want
 some_want want = cond (want.four || want.six) (Some want) None
 
--- whose contacts are wanted, where it is said
+-- whose contacts are wanted, if it is said
 abbrev pub want_pair : Want → List (Pair Value)
 want_pair want = maybe (codes "want") want_value (some_want want)
 

@@ -65,12 +65,12 @@ id_in (Some bytes) = cond (nat_eq (length bytes) 20) (Some (record { 0 = bytes }
 abbrev pub id_of : Value → Option Id
 id_of v = id_in (bytes_of v)
 
--- the records of a string, of this many bytes each, where the string is there
+-- the records of a string, of this many bytes each, if the string is there
 abbrev pub records : {A : Type 0} → ℕ → (List ℕ → A) → Key → Option (List ℕ) → Step (Option (List A))
 records size read key None = Ok None
 records size read key (Some bytes) = cond (nat_eq (length bytes % size) 0) (Ok (Some (records_in size read bytes))) (Err (Records key (length bytes)))
 
--- the records that the value of a key is, where it is there
+-- the records that the value of a key is, if it is there
 abbrev pub records_by : {A : Type 0} → ℕ → (List ℕ → A) → Key → Option Value → Step (Option (List A))
 records_by size read key v = then (optional bytes_of key v) (λ bytes. records size read key bytes)
 

@@ -36,7 +36,7 @@ abbrev pub code_text : Option ℤ → Option (List ℕ) → Option (ℤ × List 
 code_text (Some code) (Some text) = Some (code, text)
 code_text code text = None
 
--- the first two of a list's values, where they are an integer and a string
+-- the first two of a list's values, if they are an integer and a string
 abbrev pub code_text_in : Option (List Value) → Option (ℤ × List ℕ)
 code_text_in None = None
 code_text_in (Some []) = None

@@ -77,7 +77,7 @@ fn is_implied(number: Option<i64>) -> bool
     }
 }
 
-/// The port that is announced. `port` is read only where it isn't implied.
+/// The port that is announced. `port` is read only if it isn't implied.
 fn read_port(implied_port: Option<Piece>, port: Option<Piece>) -> Result<Port, KrpcFault>
     ensures { result ≡ port_by implied_port.entry port.entry }
 {
@@ -204,7 +204,7 @@ fn read_get<'a>(a: &Piece<'a>, id: Id) -> Result<AskView<'a>, KrpcFault>
     Ok(AskView::Get { id, target, want })
 }
 
-/// What is put. It is mutable where there is a `k`, of any kind.
+/// What is put. It is mutable if there is a `k`, of any kind.
 fn read_putting<'a>(
     id: Id,
     token: Option<Piece<'a>>,
@@ -255,7 +255,7 @@ fn method_of(name: &[u8]) -> Option<Method>
     None
 }
 
-/// What a method asks behind who asks it.
+/// What a method asks after who asks it.
 fn read_rest<'a>(method: Method, a: &Piece<'a>, id: Id) -> Result<AskView<'a>, KrpcFault>
     ensures { ask_outcome result ≡ rest_at method (member_of a.now) id }
 {
@@ -336,7 +336,7 @@ fn put_one_id(buf: &mut [u8], at: usize, id: &Id) -> usize
     put_part(buf, at, b"e")
 }
 
-/// Puts whose contacts are wanted, where it is said.
+/// Puts whose contacts are wanted, if it is said.
 #[inline(always)]
 fn put_want(buf: &mut [u8], at: usize, want: Want) -> usize
     ensures { PutsPairs buf.old buf.new at (want_pair want) result }
@@ -414,7 +414,7 @@ pub(crate) fn name(ask: &Ask) -> &[u8]
     }
 }
 
-/// Says that a query is read-only, where it is.
+/// Says that a query is read-only, if it is.
 #[inline(always)]
 pub(crate) fn put_ro(buf: &mut [u8], at: usize, read_only: bool) -> usize
     ensures { PutsPairs buf.old buf.new at (read_only_pair read_only) result }

@@ -144,7 +144,7 @@ pub(crate) fn optional_int(value: Option<Piece>, key: Key) -> Result<Option<i64>
     }
 }
 
-/// The records of a string, where it is there.
+/// The records of a string, if it is there.
 fn records_of<'a, R: Record>(
     string: Option<&'a [u8]>,
     key: Key,
@@ -210,7 +210,7 @@ pub(crate) fn put_id(buf: &mut [u8], at: usize, id: &Id) -> usize
     put_part(buf, at, &id.0)
 }
 
-/// Puts a key with a string, where there is one.
+/// Puts a key with a string, if there is one.
 #[inline(always)]
 pub(crate) fn put_maybe_text(buf: &mut [u8], at: usize, key: &[u8], text: &Option<Bytes>) -> usize
     ensures { PutsPairs buf.old buf.new at (maybe key.now value.Text text.now) result }
@@ -221,7 +221,7 @@ pub(crate) fn put_maybe_text(buf: &mut [u8], at: usize, key: &[u8], text: &Optio
     }
 }
 
-/// Puts a key with a value, by its written form, where there is one.
+/// Puts a key with a value, by its written form, if there is one.
 #[inline(always)]
 pub(crate) fn put_maybe_form(buf: &mut [u8], at: usize, key: &[u8], form: &Option<Bytes>) -> usize
     requires { IfSome form.now IsCarried }
@@ -233,7 +233,7 @@ pub(crate) fn put_maybe_form(buf: &mut [u8], at: usize, key: &[u8], form: &Optio
     }
 }
 
-/// Puts a key with the string of records, where there are any.
+/// Puts a key with the string of records, if there are any.
 #[inline(always)]
 pub(crate) fn put_maybe_records<R: Record>(
     buf: &mut [u8],
@@ -253,7 +253,7 @@ pub(crate) fn put_maybe_records<R: Record>(
     }
 }
 
-/// Puts a key with the list of peers, where there is one.
+/// Puts a key with the list of peers, if there is one.
 #[inline(always)]
 pub(crate) fn put_maybe_peers(buf: &mut [u8], at: usize, key: &[u8], peers: &Option<Addrs>) -> usize
     ensures { PutsPairs buf.old buf.new at (maybe key.now peers_value peers.now) result }

@@ -5,7 +5,7 @@ ghost use Rattle.kad_krpc.specs.Form.{IsWritable, form, is_mutable};
 ghost use Rattle.kad_krpc.specs.WellTyped.{IsWell};
 ghost use Rattle.kad_krpc.specs.Reading.{Says};
 
-/// The written form of a message says it, where its arrays and numbers are as its types have them.
+/// The written form of a message says it, if its arrays and numbers are as its types have them.
 pub fn form_says()
     ensures { (m : Message) → IsWell m → IsWritable m → Says (form m) m }
 {}

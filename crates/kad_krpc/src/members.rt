@@ -23,7 +23,7 @@ fn same(a: &[u8], b: &[u8]) -> bool
     equal(a, b)
 }
 
-/// Keeps what was found already, or else this value, if it stands behind the key that is wanted.
+/// Keeps what was found already, or else this value, if it comes after the key that is wanted.
 #[inline(always)]
 fn fill<'a>(slot: &mut Option<Piece<'a>>, wanted: &[u8], key: &[u8], value: &Piece<'a>)
     ensures { slot.new ≡ first_of slot.old (behind key.now value.now wanted.now) }
@@ -36,7 +36,7 @@ fn fill<'a>(slot: &mut Option<Piece<'a>>, wanted: &[u8], key: &[u8], value: &Pie
     }
 }
 
-/// Slots for the values of keys, one behind another.
+/// Slots for the values of keys, one after another.
 pub(crate) trait Slots<'a>: Drop {
     ghost use Rattle.std.specs.Prelude.{ℕ, List, None};
     ghost use Rattle.kad_krpc.specs.Fields.{Look};
@@ -45,7 +45,7 @@ pub(crate) trait Slots<'a>: Drop {
     /// What the slots are once the pairs with these values were looked at.
     ghost filled: { Self → Look → Self → Type 0 };
 
-    /// Keeps a value in each slot whose key it stands behind, and that is not filled.
+    /// Keeps a value in each slot whose key it comes after, and that is not filled.
     fn keep(&mut self, key: &[u8], value: &Piece<'a>)
         ensures { (look : Look) (end : Self) → filled self.new look end
             → filled self.old (before (behind key.now value.now) look) end };
@@ -109,7 +109,7 @@ impl<'a, R: Drop> Slot<'a, R> {
         }
     }
 
-    /// What was found, and the slots behind it.
+    /// What was found, and the slots after it.
     #[inline(always)]
     pub(crate) fn take(self) -> (Option<Piece<'a>>, R)
         ensures found { result.0 ≡ self.entry.found }

@@ -53,7 +53,7 @@ pub enum Ask {
         target: Id,
         want: Want,
     },
-    /// Gives an item of BEP 44. `v` is the written form of its value, of any kind. It is mutable where the arguments have
+    /// Gives an item of BEP 44. `v` is the written form of its value, of any kind. It is mutable if the arguments have
     /// the key `k`; nothing else of a mutable item is read, and none is written.
     Put {
         id: Id,
@@ -84,7 +84,7 @@ pub enum Port {
     Implied,
 }
 
-/// The dictionary `r` of an answer. Where a key is missing its part is `None`.
+/// The dictionary `r` of an answer. If a key is missing its part is `None`.
 #[derive(Debug, Drop, PartialEq, Eq)]
 pub struct Answer {
     /// Who answered.

@@ -28,7 +28,7 @@ fn peer(bytes: &[u8]) -> Option<Addr>
     }
 }
 
-/// Appends the peer of a value, where it is a string of one.
+/// Appends the peer of a value, if it is a string of one.
 fn push_peer(peers: &mut Addrs, value: &Piece) -> Result<(), NoMemory>
     ensures { OnOk result (peers.new ≡ peers.old ++ option_to_list (peer_in (bytes_of value.now))) }
 {
@@ -60,7 +60,7 @@ fn peers_of(alloc: Global, values: Items) -> Result<Addrs, NoMemory>
     Ok(peers)
 }
 
-/// What records say, where there are any.
+/// What records say, if there are any.
 pub(crate) fn maybe_records<R: Record>(
     alloc: Global,
     records: Option<Records<R>>,
@@ -82,7 +82,7 @@ pub(crate) fn maybe_text(alloc: Global, text: Option<&[u8]>) -> Result<Option<By
     }
 }
 
-/// The written form of a value, where there is one.
+/// The written form of a value, if there is one.
 pub(crate) fn maybe_form(alloc: Global, value: Option<Piece>) -> Result<Option<Bytes>, NoMemory>
     ensures { IfOk result (λ o. o ≡ option_map text_of value.entry) }
 {

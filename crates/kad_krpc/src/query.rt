@@ -21,7 +21,7 @@ fn put_name(buf: &mut [u8; 160], at: usize, name: &[u8]) -> usize
     put_bytes(buf, at, name)
 }
 
-/// Writes the text of a query of two identifiers in front of `buf`, with what stands behind these and behind the method.
+/// Writes the text of a query of two identifiers in front of `buf`, with what comes after these and after the method.
 #[inline(always)]
 fn text_into(
     buf: &mut [u8; 160],
@@ -126,8 +126,8 @@ fn query_into(
     said_into(buf, own, key, sought, b"", method, read_only, tx)
 }
 
-/// Writes the `find_node` query (BEP 5) in front of `buf`, and answers its length: 94 bytes, 7 more where it is read-only
-/// (BEP 43), and 12 more where it asks for contacts of IPv6 by `want` (BEP 32). The transaction id is the four bytes of `tx`,
+/// Writes the `find_node` query (BEP 5) in front of `buf`, and answers its length: 94 bytes, 7 more if it is read-only
+/// (BEP 43), and 12 more if it asks for contacts of IPv6 by `want` (BEP 32). The transaction id is the four bytes of `tx`,
 /// the lowest first.
 pub fn find_node_into(
     buf: &mut [u8; 160],
@@ -152,8 +152,8 @@ pub fn find_node_into(
     )
 }
 
-/// Writes the `get_peers` query (BEP 5) in front of `buf`, and answers its length: 97 bytes, 7 more where it is read-only
-/// (BEP 43), and 12 more where it asks for contacts of IPv6 by `want` (BEP 32). The transaction id is the four bytes of `tx`,
+/// Writes the `get_peers` query (BEP 5) in front of `buf`, and answers its length: 97 bytes, 7 more if it is read-only
+/// (BEP 43), and 12 more if it asks for contacts of IPv6 by `want` (BEP 32). The transaction id is the four bytes of `tx`,
 /// the lowest first.
 pub fn get_peers_into(
     buf: &mut [u8; 160],
@@ -178,8 +178,8 @@ pub fn get_peers_into(
     )
 }
 
-/// Writes the `get` query (BEP 44) in front of `buf`, and answers its length: 88 bytes, 7 more where it is read-only
-/// (BEP 43), and 12 more where it asks for contacts of IPv6 by `want` (BEP 32). The transaction id is the four bytes of `tx`,
+/// Writes the `get` query (BEP 44) in front of `buf`, and answers its length: 88 bytes, 7 more if it is read-only
+/// (BEP 43), and 12 more if it asks for contacts of IPv6 by `want` (BEP 32). The transaction id is the four bytes of `tx`,
 /// the lowest first.
 pub fn get_into(
     buf: &mut [u8; 160],

@@ -78,7 +78,7 @@ pub fn with_tag(alloc: Global, bytes: &[u8], tag: &[u8]) -> Result<Bytes, NoMemo
 }
 
 /// Puts the pair of a tag into the written form that the first `len` bytes of `buf` are, and answers its new length;
-/// `None` where it is longer than `buf`, whose bytes are then any. Takes no memory.
+/// `None` if it is longer than `buf`, whose bytes are then any. Takes no memory.
 pub fn tag_into(buf: &mut [u8; 4096], len: usize, tag: &[u8]) -> Option<usize>
     requires within { len ≤ 4096 }
     requires written { (pairs : List (Pair Value)) × IsUntagged (take len buf.old) pairs }

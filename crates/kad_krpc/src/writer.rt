@@ -79,7 +79,7 @@ fn put_message(buf: &mut [u8], message: &Message) -> usize
     }
 }
 
-/// Writes the written form of a message in front of `buf`, and answers its length; `None` where it is longer than `buf`,
+/// Writes the written form of a message in front of `buf`, and answers its length; `None` if it is longer than `buf`,
 /// whose bytes are then any. Takes no memory.
 pub fn encode_into(message: &Message, buf: &mut [u8; 4096]) -> Option<usize>
     requires forms { HasForms message.now }

@@ -44,7 +44,7 @@ fn key_block(key: &[u8]) -> [u8; 64]
     filled(key)
 }
 
-/// The key with zeros behind it.
+/// The key with zeros after it.
 fn filled(key: &[u8]) -> [u8; 64]
     requires { length key.now ≤ 64 }
     ensures { result ≡ filled key.now }
@@ -65,7 +65,7 @@ fn mixed(block: &[u8; 64], pad: u8) -> [u8; 64]
     bytes
 }
 
-/// SHA-1 of the block and the two parts behind it.
+/// SHA-1 of the block and the two parts after it.
 #[tactic(auto, unfolding(kad_base::specs::Puzzles::hash))]
 fn digest(block: &[u8; 64], first: &[u8], second: &[u8]) -> [u8; 20]
     ensures { result ≡ hash (block.now ++ (first.now ++ second.now)) }

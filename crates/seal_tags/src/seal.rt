@@ -9,7 +9,7 @@ pub trait Seal {
     /// The tag of what the node with this identifier says.
     ghost tag_of: { Self → Id → List ℕ → List ℕ };
 
-    /// Puts the tag of the body in front of `out`, and answers how many bytes it has, 1 to 64. The bytes of `out` behind
+    /// Puts the tag of the body in front of `out`, and answers how many bytes it has, 1 to 64. The bytes of `out` after
     /// it stay as they were. Takes no memory.
     fn tag(&self, id: &Id, body: &[u8], out: &mut [u8; 64]) -> usize
         ensures some { 0 < result }
