@@ -11,7 +11,7 @@ use Rattle.fake_net.specs.Network.{Network}
 use Rattle.fake_net.specs.Queue.{Gets, QueuedBy}
 
 -- The network plays the events, and then stands at the moment while these answers wait. It begins at moment 0, and none
--- waits. Asked for the moment it tells the last one. No send fails, and what the datagram brings about waits behind the
+-- waits. Asked for the moment it tells the last one. No send fails, and what the datagram brings about waits after the
 -- others. A receive gives the answer that comes first by then, which waits no longer, or is quiet. Where the receives are
 -- wide, each has room for one byte more than the longest datagram that is believed; else any room.
 pub data PlaysTo (net : Network) (wide : Bool) : List Event → ℕ → List Waiting → Type 0 where
@@ -34,7 +34,7 @@ pub record SimKept : Type 0 where
   pub network : Network
   pub wide : Bool
 
--- the moment that an event's receive waits for, where it is a receive's
+-- the moment that an event's receive waits for, if it is a receive's
 abbrev pub until_of : Event → Option ℕ
 until_of (Now at) = None
 until_of (Sent to bytes) = None

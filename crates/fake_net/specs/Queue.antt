@@ -9,7 +9,7 @@ use Rattle.fake_net.specs.declared.waiting.Waiting.{Waiting}
 use Rattle.fake_net.specs.Network.{Network}
 use Rattle.fake_net.specs.Replies.{BringsAbout}
 
--- what a network holds: what it follows from, the last told moment, what happened, where it is told, the answers that wait,
+-- what a network holds: what it follows from, the last told moment, what happened, if it is told, the answers that wait,
 -- in the order in which they were sent for, and whether each receive had room for all that is believed
 pub record SimState : Type 0 where
   pub network : Network

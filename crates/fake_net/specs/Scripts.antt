@@ -16,7 +16,7 @@ use Rattle.fake_net.specs.declared.script.ScriptEvent.{ScriptEvent}
 use Rattle.fake_net.specs.declared.script.ScriptEvent.TheVariants.{Deliver, ToQuery}
 
 -- what a link holds: what is left of the script, the queries that were sent, oldest first, the last told moment, how
--- many sends and receives were made, which of them fail, what happened, where it is told, and how many failed
+-- many sends and receives were made, which of them fail, what happened, if it is told, and how many failed
 pub record Play : Type 0 where
   pub script : List ScriptEvent
   pub queries : List SentQuery

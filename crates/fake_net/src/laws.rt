@@ -15,7 +15,7 @@ pub fn one_next()
         → p ≡ q }
 {}
 
-/// Where none is ready by then none is the next.
+/// If none is ready by then none is the next.
 pub fn none_next()
     ensures { (queries : List SentQuery) (until : ℕ) (script : List ScriptEvent) (p : ℕ) (a : ScriptEvent)
         → NoneNext queries until script → ¬ IsNext queries until script p a }

@@ -98,7 +98,7 @@ impl ScriptLink {
         }
     }
 
-    /// The transcript, and `None` where it isn't told. Takes no memory.
+    /// The transcript, and `None` if it isn't told. Takes no memory.
     pub fn events(&self) -> Option<&[Event]>
         ensures { MatchOption result (self.now.told ≡ None)
             (λ events. self.now.told ≡ Some events.now) }
@@ -134,10 +134,10 @@ impl Link for ScriptLink {
         at
     }
 
-    /// Keeps the query that the bytes say, if they say one. Takes memory for the query and for the transcript alone.
+    /// Keeps the query that the bytes say, if they say one. Takes memory only for the query and for the transcript.
     fn send(&mut self, to: Addr, bytes: &[u8]) -> Result<(), Failed>
         ensures fails { Contains self.old.failing_sends self.old.sends → IsErr result }
-        // Where it tells its transcript afterwards, it failed by its number.
+        // If it tells its transcript afterwards, it failed by its number.
         ensures only { OnErr result (Contains self.old.failing_sends self.old.sends
             ⊎ (self.new.told ≡ None)) }
         // Else it failed for a query that there was no memory to keep.
@@ -181,7 +181,7 @@ impl Link for ScriptLink {
     /// answer's written form and for the transcript alone.
     fn recv(&mut self, buf: &mut [u8], until: u64) -> Result<Came, Failed>
         ensures fails { Contains self.old.failing_receives self.old.receives → IsErr result }
-        // It fails by its number, or where the next event is an answer, whose form needs memory.
+        // It fails by its number, or if the next event is an answer, whose form needs memory.
         ensures only { OnErr result (Contains self.old.failing_receives self.old.receives
             ⊎ AnswerNext self.old.queries self.old.script until) }
         ensures came { IfOk result (Receives self.old.queries self.old.script self.old.moment until

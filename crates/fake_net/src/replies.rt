@@ -135,7 +135,7 @@ fn reply(
 }
 
 /// When an answer of node `i` comes to what was sent at the moment: 10 to 49 milliseconds later, by the node's number, and
-/// at the last moment of all where the sum is past it.
+/// at the last moment of all if the sum is past it.
 fn comes_at(moment: u64, i: u32) -> u64
     ensures { result ≡ comes_at moment i }
 {
@@ -208,7 +208,7 @@ fn find_node_in(bytes: &[u8]) -> Option<(&[u8], Id)>
     }
 }
 
-/// The answer that a datagram to an address brings about, if one. Takes memory for the answer alone.
+/// The answer that a datagram to an address brings about, if one. Takes memory only for the answer.
 pub(crate) fn answer(
     alloc: Global,
     nodes: &Nodes,

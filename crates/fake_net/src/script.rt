@@ -118,7 +118,7 @@ fn next(script: &[ScriptEvent], queries: &[SentQuery], until: u64) -> Option<usi
     best
 }
 
-/// The items of a list again, where there is one.
+/// The items of a list again, if there is one.
 fn copied<T: Copy + Drop>(
     alloc: Global,
     items: &Option<List<T>>,
@@ -363,7 +363,7 @@ fn query_in(bytes: &[u8]) -> Option<&[u8]>
     }
 }
 
-/// Keeps the query that the bytes say, if they say one. Takes memory for it alone.
+/// Keeps the query that the bytes say, if they say one. Takes memory only for it.
 pub(crate) fn ask(
     alloc: Global,
     queries: &mut List<SentQuery>,
@@ -380,7 +380,7 @@ pub(crate) fn ask(
     }
 }
 
-/// Keeps a query behind the others.
+/// Keeps a query after the others.
 fn keep(alloc: Global, queries: &mut List<SentQuery>, to: Addr, tx: &[u8]) -> Result<(), NoMemory>
     ensures ok { OnOk result (queries.new ≡ queries.old ++ record { to = to; tx = tx.now } ∷ []) }
     ensures err { OnErr result (queries.new ≡ queries.old) }

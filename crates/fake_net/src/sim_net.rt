@@ -19,7 +19,7 @@ use std::alloc::Global;
 use std::marker::Model;
 
 /// A whole network in memory, hostile nodes among them, that follows from a seed. Its clock begins at 0, and its calls
-/// never fail. Where it finds no memory for an answer or for its transcript it is short, for good: it tells nothing then,
+/// never fail. If it finds no memory for an answer or for its transcript it is short, for good: it tells nothing then,
 /// and answers may be missing.
 #[derive(Drop)]
 pub struct SimNet {
@@ -111,7 +111,7 @@ impl SimNet {
     }
 }
 
-/// Puts the answer that a datagram brings about behind those that wait, where there is memory for it.
+/// Puts the answer that a datagram brings about after those that wait, if there is memory for it.
 fn queue(
     alloc: Global,
     nodes: &Nodes,
@@ -189,7 +189,7 @@ impl Link for SimNet {
     }
 
     /// Never fails. Gives the answer that comes first, where it comes at or before `until`, cut to the buffer; of two that
-    /// come at one moment the one that was sent for first. Memory is taken for the transcript alone.
+    /// come at one moment the one that was sent for first. Memory is taken only for the transcript.
     fn recv(&mut self, buf: &mut [u8], until: u64) -> Result<Came, Failed>
         ensures received { IsOk result }
         ensures came { IfOk result (Gets self.old.waiting self.old.moment until

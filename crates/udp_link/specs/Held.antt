@@ -3,13 +3,13 @@ use Rattle.std.specs.Prelude.{◌≡◌, ◌≤◌, ℕ, List, [], ◌∷◌, �
 use Rattle.kad_base.specs.declared.types.Addr.{Addr}
 use Rattle.udp_link.specs.declared.room.Held.{Held}
 
--- one datagram more behind those that were held, of at most one byte more than one may have that is believed
+-- one datagram more after those that were held, of at most one byte more than one may have that is believed
 pub record OneMore (before after : List Held) : Type 0 where
   pub last : Held
   pub were : after ≡ before ++ last ∷ []
   pub length_is : length last.bytes.items ≤ 4097
 
--- some datagrams more, behind those that were held
+-- some datagrams more, after those that were held
 pub record More (before after : List Held) : Type 0 where
   pub more : List Held
   pub were : after ≡ before ++ more

@@ -61,7 +61,7 @@ impl<'a, R: Clock> Model for UdpLink<'a, R> {
 }
 
 impl<'a, R: Clock + Net + AllocGlobal> UdpLink<'a, R> {
-    /// Fails where the system binds no socket to the address, or its clock can't be read. A process that was started
+    /// Fails if the system binds no socket to the address, or its clock can't be read. A process that was started
     /// with standard input closed fails too: the socket would have its place, and datagrams be read as the input.
     pub fn bind(rt: &'a R, addr: Addr) -> Result<Self, Failed>
         ensures { IfOk result (λ link. link ≡ record {
@@ -103,7 +103,7 @@ impl<'a, R: Clock> UdpLink<'a, R> {
         Ok(elapsed.min(LAST_MOMENT).max(self.last))
     }
 
-    /// Asks the socket once, for the time that is left; `None` where the system ended the wait before its time.
+    /// Asks the socket once, for the time that is left; `None` if the system ended the wait before its time.
     fn ask(&mut self, buf: &mut [u8], until: u64) -> io::Result<Option<Came>>
         ensures came { IfOk result (λ asked. IfSome asked
             (λ came. Arrives came until self.old.moment (length buf.old))) }
@@ -141,7 +141,7 @@ impl<'a, R: Clock> UdpLink<'a, R> {
         Err(Failed)
     }
 
-    /// Gives the oldest datagram of the room, or where there is none what the socket gives.
+    /// Gives the oldest datagram of the room, or if there is none what the socket gives.
     fn next(&mut self, buf: &mut [u8], until: u64) -> Result<Came, Failed>
         ensures came { IfOk result (λ came. Arrives came until self.old.moment (length buf.old)) }
         ensures ends { IfOk result (λ came. came_at came < 2 ^ 62) }
@@ -159,7 +159,7 @@ impl<'a, R: Clock> UdpLink<'a, R> {
         }
     }
 
-    /// Counts a send, and takes what has come into the room where there were enough of them. Afterwards sends wait, as they
+    /// Counts a send, and takes what has come into the room if there were enough of them. Afterwards sends wait, as they
     /// did before.
     fn take_meanwhile(&mut self)
         ensures { self.new ≡ self.old }
@@ -170,7 +170,7 @@ impl<'a, R: Clock> UdpLink<'a, R> {
         }
         self.sends = 0;
         self.room.take_all(self.alloc, &mut self.socket);
-        // Where this fails, the next receive says it again.
+        // If this fails, the next receive says it again.
         let _ = self.socket.set_waits(true);
     }
 }

@@ -31,7 +31,7 @@ impl TimedSocket {
     }
 
     /// Asks the system to keep more of what comes until it is received (socket(7), `SO_RCVBUF`). It grants as much as its own
-    /// limit allows; where it refuses, the socket keeps the room that it has.
+    /// limit allows; if it refuses, the socket keeps the room that it has.
     pub(crate) fn widen(&self) {
         let mut room = [0u8; 16];
         room[..4].copy_from_slice(&ROOM_FOR_ARRIVALS.to_ne_bytes());
@@ -58,7 +58,7 @@ impl TimedSocket {
         self.socket.recv_from(buf)
     }
 
-    /// Says whether receives wait, and sends where the system has no room for more, where that isn't said already.
+    /// Says whether receives wait, and sends if the system has no room for more, if that isn't said already.
     pub(crate) fn set_waits(&mut self, waits: bool) -> io::Result<()>
         ensures waits { OnOk result (self.new.waits ≡ waits) }
         ensures same { self.new.timeout ≡ self.old.timeout }
@@ -70,7 +70,7 @@ impl TimedSocket {
         Ok(())
     }
 
-    /// Says how long receives wait, where that isn't said already.
+    /// Says how long receives wait, if that isn't said already.
     fn set_timeout(&mut self, timeout: Duration) -> io::Result<()>
         ensures timeout { OnOk result (self.new.timeout ≡ Some timeout) }
         ensures same { self.new.waits ≡ self.old.waits }
@@ -83,7 +83,7 @@ impl TimedSocket {
     }
 }
 
-/// From one moment to another, in milliseconds: `None` where the other has passed.
+/// From one moment to another, in milliseconds: `None` if the other has passed.
 pub(crate) fn time_left(until: u64, at: u64) -> Option<Duration>
     ensures passed { IsNone result ↔ (until ≤ at) }
     ensures left { IfSome result (λ left. as_nanos left ≡ (until - at) * 1_000_000) }
