@@ -16,7 +16,7 @@ abbrev pub has_moment : {V : Type 0} → (V → ℕ) → ℕ → Option V → Bo
 has_moment moment m None = false
 has_moment moment m (Some v) = moment v == m
 
--- there is a mark of a moment and a key exactly where the key's value has the moment
+-- there is a mark of a moment and a key exactly if the key's value has the moment
 abbrev pub AreMarked : {K V : Type 0} → (K → K → Ordering) → (V → ℕ) → List (K × V) → List (ℕ × K) → Type 0
 AreMarked {K} cmp moment held marks = (m : ℕ) (k : K) → list_any (is_at (mark_cmp cmp (m, k))) marks ≡ has_moment moment m (lookup (is_at (cmp k)) held)
 

@@ -12,7 +12,7 @@ pub record Refill (live : List Live) (spares : List Contact) (live' : List Live)
   pub spares_are : spares ≡ spares' ++ newest ∷ []
   pub live_are : live' ≡ live ++ fresh newest ∷ []
 
--- it does, where there is a spare
+-- it does, if there is a spare
 abbrev pub Refilled : List Live → List Contact → Gone → List Live → List Contact → Type 0
 Refilled live spares Removed live' spares' = (spares ≡ []) × (live' ≡ live) × (spares' ≡ [])
 Refilled live spares Replaced live' spares' = Refill live spares live' spares'

@@ -20,7 +20,7 @@ states_of rows = map state_of rows
 abbrev pub kept_in : RowState → List Contact
 kept_in row = live_in row ++ row.spares
 
--- none of the contacts has the identifier of one behind it
+-- none of the contacts has the identifier of one after it
 abbrev pub distinct : List Contact → Bool
 distinct [] = true
 distinct (c ∷ cs) = not (list_any (λ x. same_id x.id c.id) cs) && distinct cs

@@ -45,7 +45,7 @@ fn fresh(contact: Contact) -> Live
     }
 }
 
-/// Puts the contact's entry at the end, where it has one. Takes no memory.
+/// Puts the contact's entry at the end, if it has one. Takes no memory.
 fn renew(live: &mut Vec<Live>, contact: Contact)
     requires room { length live.old.items ≤ vec_capacity live.old }
     requires known { among (map contact_of live.old.items) contact ≡ true }
@@ -91,7 +91,7 @@ fn spare(spares: &mut Vec<Contact>, k: u8, contact: Contact) -> Result<(), NoMem
     }
 }
 
-/// Puts the newest spare at the end of the live entries, where there is one.
+/// Puts the newest spare at the end of the live entries, if there is one.
 fn refill(live: &mut Vec<Live>, spares: &mut Vec<Contact>) -> Gone
     requires { length live.old.items < vec_capacity live.old }
     ensures refilled { Refilled live.old.items spares.old.items result live.new.items

@@ -42,7 +42,7 @@ pub(crate) fn fork(alloc: Global, low: Node, high: Node) -> Result<Node, NoMemor
     Ok(Node::Fork(boxed(alloc, low)?, boxed(alloc, high)?))
 }
 
-/// Appends the live contacts of a tree to a list, row by row. On want of memory the list may have some of them.
+/// Appends the live contacts of a tree to a list, row by row. If out of memory the list may have some of them.
 pub(crate) fn list_live(node: &Node, list: &mut Contacts, at: u8) -> Result<(), NoMemory>
     requires hangs { HangsAt at node.now }
     requires short { All IsShort (rows_of node.now) }
@@ -57,7 +57,7 @@ pub(crate) fn list_live(node: &Node, list: &mut Contacts, at: u8) -> Result<(), 
     }
 }
 
-/// Appends the prefixes of a tree to a list, in ascending order. On want of memory the list may have some of them.
+/// Appends the prefixes of a tree to a list, in ascending order. If out of memory the list may have some of them.
 pub(crate) fn list_prefixes(node: &Node, list: &mut Prefixes, at: u8) -> Result<(), NoMemory>
     requires hangs { HangsAt at node.now }
     requires short { All IsShort (rows_of node.now) }
@@ -72,7 +72,7 @@ pub(crate) fn list_prefixes(node: &Node, list: &mut Prefixes, at: u8) -> Result<
     }
 }
 
-/// Appends the rows of a tree to a list, in memory of their own. On want of memory the list may have some of them.
+/// Appends the rows of a tree to a list, in memory of their own. If out of memory the list may have some of them.
 pub(crate) fn list_rows(node: &Node, alloc: Global, list: &mut Rows, at: u8) -> Result<(), NoMemory>
     requires hangs { HangsAt at node.now }
     requires short { All IsShort (rows_of node.now) }

@@ -34,7 +34,7 @@ fn leaf_of(alloc: Global, setting: &Setting, row: &Row, path: &Prefix) -> Result
     Ok(leaf(alloc, bucket)?)
 }
 
-/// The tree under a prefix that has the first rows from a place on, and the place behind them.
+/// The tree under a prefix that has the first rows from a place on, and the place after them.
 fn tree_of(
     alloc: Global,
     setting: &Setting,

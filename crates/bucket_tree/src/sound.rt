@@ -69,7 +69,7 @@ fn are_at_home(own: &Id, prefix: &Prefix, contacts: &[Contact]) -> bool
     true
 }
 
-/// None of the contacts has the identifier of one behind it.
+/// None of the contacts has the identifier of one after it.
 fn are_distinct(contacts: &[Contact]) -> bool
     ensures { result ≡ distinct contacts.now }
 {

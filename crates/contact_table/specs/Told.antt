@@ -44,7 +44,7 @@ replies_in run = map (λ e. e.reply) run
 abbrev pub seen_calls : List Contact → List TableCall
 seen_calls contacts = map Seen contacts
 
--- the reply isn't want of memory
+-- the reply isn't out of memory
 abbrev pub HasMemory : TableReply → Type 0
 HasMemory NoMemory = ⊥
 HasMemory other = Unit {0}

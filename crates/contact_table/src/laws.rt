@@ -12,7 +12,7 @@ ghost use Rattle.contact_table.specs.TableState.{TableState, SoundTable};
 ghost use Rattle.contact_table.specs.TableStep.{TableMay, TableStep, table_after, contacts_of};
 ghost use Rattle.contact_table.specs.Told.{HasMemory, calls_in, replies_in, held_in, new_table, seen_calls, told_by};
 
-/// A call of a sound table has one outcome, want of memory aside: its reply and the state that it leaves follow from the
+/// A call of a sound table has one outcome, unless it is out of memory: its reply and the state that it leaves follow from the
 /// state and the call. So do the replies of a run and the state at its end from the calls: an input gives one table.
 pub fn one_outcome()
     ensures reply { (s : TableState) (role other : ℕ) (call : TableCall) (x y : TableReply)
@@ -52,7 +52,7 @@ pub fn holds_what_it_was_told()
         → All (Contains (told_by run)) (contacts_of (left_by table_after (new_table own k b) run)) }
 {}
 
-/// A new table that was told of contacts, want of memory aside, names none as closest exactly where it was told of none. The
+/// A new table that was told of contacts, and not out of memory, names none as closest exactly if it was told of none. The
 /// table's own identifier is no contact's: it would take none in of those. So a lookup lacks contacts to begin with exactly
 /// where its input gives none.
 pub fn names_none_of_none()

@@ -13,7 +13,7 @@ pub record TokensState : Type 0 where
 abbrev pub epoch_at : TokensState → ℕ → ℕ
 epoch_at t at = (at - t.began) / 300000
 
--- the secret of an epoch: the bytes of the five drawn words of its own, far behind those that a lookup draws
+-- the secret of an epoch: the bytes of the five drawn words of its own, far after those that a lookup draws
 unfoldable pub secret_of : List ℕ → ℕ → List ℕ
 secret_of seed epoch = drawn_bytes seed (2 ^ 40 + 5 * epoch) 5
 
@@ -27,7 +27,7 @@ pub record AreSecrets (seed : List ℕ) (epoch : ℕ) (secret before : List ℕ)
   pub secret_is : secret ≡ secret_of seed epoch
   pub before_is : before ≡ secret_of seed (epoch - 1)
 
--- the token is that of the address in the epoch of the moment, or in the epoch before it, where there is one
+-- the token is that of the address in the epoch of the moment, or in the epoch before it, if there is one
 abbrev pub IsAccepted : TokensState → List ℕ → ℕ → List ℕ → Type 0
 IsAccepted t ip at token =
     (token ≡ token_of t.seed (epoch_at t at) ip) ⊎ ((0 < epoch_at t at) × (token ≡ token_of t.seed (epoch_at t at - 1) ip))

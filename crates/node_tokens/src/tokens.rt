@@ -24,7 +24,7 @@ pub struct Tokens {
     /// The epoch whose secrets are kept.
     epoch: u64,
     secret: [u8; 20],
-    /// The secret of the epoch before, where there is one.
+    /// The secret of the epoch before, if there is one.
     before: [u8; 20],
 }
 

@@ -16,7 +16,7 @@ pub record SiblingList : Type 0 where
   pub own : Id
   pub list : List Contact
 
--- none has the own identifier, they are no more than the list may have, and each is closer to it than those behind it
+-- none has the own identifier, they are no more than the list may have, and each is closer to it than those after it
 pub record IsSiblings (s : SiblingList) : Type 0 where
   pub sorted : IsStrictlySortedBy (closeness s.own) s.list
   pub few : length s.list ≤ max_siblings

@@ -89,7 +89,7 @@ impl Siblings {
         put_closest(&mut self.contacts, &self.own, MAX_SIBLINGS, &contact);
     }
 
-    /// Takes the contact out, where it is there. Takes no memory.
+    /// Takes the contact out, if it is there. Takes no memory.
     pub fn remove(&mut self, contact: &Contact)
         ensures own { self.new.own ≡ self.old.own }
         ensures list { self.new.list ≡ without_one self.old contact.now }

@@ -1,4 +1,4 @@
--- A table that is being read: the lines that were taken, and the lines that may not stand behind them.
+-- A table that is being read: the lines that were taken, and the lines that may not come after them.
 use Rattle.std.specs.Prelude.{◌≡◌, ◌≢◌, ◌<◌, List, ℕ, [], ◌∷◌, ◌++◌, length, map, flat_map}
 use Rattle.kad_base.specs.declared.types.Contact.{Contact}
 use Rattle.bucket_tree.specs.declared.rows.Row.{Row}
@@ -26,7 +26,7 @@ lines_of_draft (draft.InRow head rows row) = head_line head ∷ (flat_map row_li
 lines_of_draft (draft.InSiblings head rows siblings) = head_line head ∷ (flat_map row_lines rows ++ map line.Sibling siblings)
 lines_of_draft (draft.Ended saved) = lines_of saved
 
--- behind the rows stands a sibling
+-- after the rows stands a sibling
 abbrev pub IsDraft : Draft → Type 0
 IsDraft draft.Empty = Unit {0}
 IsDraft (draft.Started head) = Unit {0}
@@ -34,7 +34,7 @@ IsDraft (draft.InRow head rows row) = Unit {0}
 IsDraft (draft.InSiblings head rows siblings) = 0 < length siblings
 IsDraft (draft.Ended saved) = Unit {0}
 
--- no table has this line behind these
+-- no table has this line after these
 abbrev pub IsUnfit : List Line → Line → Type 0
 IsUnfit lines next = (saved : Saved) (more : List Line) → lines_of saved ≢ lines ++ next ∷ more
 

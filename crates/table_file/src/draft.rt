@@ -28,13 +28,13 @@ pub(crate) enum Draft {
     Started {
         head: Head,
     },
-    /// A line of a row, to which more may be added, behind whole rows.
+    /// A line of a row, to which more may be added, after whole rows.
     InRow {
         head: Head,
         rows: Rows,
         row: Row,
     },
-    /// A sibling, behind all rows.
+    /// A sibling, after all rows.
     InSiblings {
         head: Head,
         rows: Rows,
@@ -49,7 +49,7 @@ pub(crate) enum Draft {
 /// Why a line isn't taken.
 #[derive(Clone, Copy)]
 pub(crate) enum Misfit {
-    /// No saved text has it behind the lines before.
+    /// No saved text has it after the lines before.
     Misplaced,
     NoMemory,
 }

@@ -1,4 +1,4 @@
-//! How a prefix is printed, behind what was printed before.
+//! How a prefix is printed, after what was printed before.
 ghost use Rattle.std.specs.Prelude.{◌≡◌, ◌≤◌, ◌++◌, OnOk, length, map};
 ghost use Rattle.table_file.specs.SavedText.{bit_text, prefix_text};
 
