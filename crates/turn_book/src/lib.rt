@@ -3,7 +3,7 @@
 //! knows the beginning of the run that its holder has seen.
 //!
 //! Such a run is a legal sequential history of Herlihy and Wing (1990). Nothing is claimed of the order in time between
-//! calls of two passes. The run exists in proofs alone: at run time there is one word and one slot. A caller spins with
+//! calls of two passes. The run exists only in proofs: at run time there is one word and one slot. A caller spins with
 //! exponential backoff, and takes no memory beyond what the object's own step takes. Nothing here knows what the object
 //! is.
 #![tactic(auto)]

@@ -43,7 +43,7 @@ pub struct Told {
 }
 
 impl<S: Serial> Turn<S> {
-    /// Opens a turn with this state, and makes a pass for each of `n` roles. The one error is want of memory.
+    /// Opens a turn with this state, and makes a pass for each of `n` roles. It fails only if out of memory.
     pub fn new(alloc: Global, state: S, n: u8) -> Result<(Turn<S>, Passes<S>), TurnNoMemory<S>>
         requires some { 0 < n }
         requires few { n ≤ 64 }
