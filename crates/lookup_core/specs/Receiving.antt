@@ -10,7 +10,7 @@ pub record IsEarliest (deadlines : List ℕ) (moment : ℕ) : Type 0 where
   pub one : Contains deadlines moment
   pub least : AllByRecursion (λ d. moment ≤ d) deadlines
 
--- the earliest deadline of the queries, where there is one
+-- the earliest deadline of the queries, if there is one
 abbrev pub IsSoonest : Option ℕ → List Query → Type 0
 IsSoonest None qs = qs ≡ []
 IsSoonest (Some d) qs = IsEarliest (map (λ q. q.deadline) qs) d

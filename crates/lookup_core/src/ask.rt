@@ -29,7 +29,7 @@ pub struct Asked {
     pub tx: u32,
 }
 
-/// The contact that the path asks now; `None` where it may ask none.
+/// The contact that the path asks now; `None` if it may ask none.
 fn next(book: &mut Book, path: u8) -> Option<Contact>
     ensures contact { result ≡ may_ask book.old.setting path book.old.journal }
     ensures after { book.new ≡ asked_more path book.old result }
@@ -69,7 +69,7 @@ fn open(
 }
 
 impl Lookup {
-    /// Opens a query to the contact that the path asks now, under the next word; `None` where it may ask none, and
+    /// Opens a query to the contact that the path asks now, under the next word; `None` if it may ask none, and
     /// then no word is drawn. The caller sends it, and says by `unsent` where it can't.
     pub fn ask(&mut self, words: &mut Words, quest: &Quest, moment: u64, path: u8) -> Option<Asked>
         requires { CanAsk quest.now moment words.old self.old }

@@ -8,7 +8,7 @@ use claim_book::Cause;
 use kad_base::{Contact, Serial};
 
 impl Lookup {
-    /// Loses the contact of the oldest query, where it is overdue at the moment, and hands it out; `None` where no query
+    /// Loses the contact of the oldest query, if it is overdue at the moment, and hands it out; `None` if no query
     /// is overdue. The caller tells its table.
     pub fn overdue(&mut self, at: u64) -> Option<Contact>
         requires { Holds self.old }

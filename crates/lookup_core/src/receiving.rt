@@ -35,7 +35,7 @@ pub fn round_after(receives: u32, earliest: Option<u64>) -> u32
     0
 }
 
-/// One stray more; `None` where it is the last that is taken, which ends whoever waits.
+/// One stray more; `None` if it is the last that is taken, which ends whoever waits.
 pub fn stray_more(strays: u32) -> Option<u32>
     requires { strays < max_strays }
     ensures { MatchOption result (strays + 1 ≡ max_strays)
@@ -49,7 +49,7 @@ pub fn stray_more(strays: u32) -> Option<u32>
 }
 
 impl Lookup {
-    /// The earliest deadline of the open queries; `None` where none is open.
+    /// The earliest deadline of the open queries; `None` if none is open.
     pub fn earliest(&self) -> Option<u64>
         ensures { IsSoonest result self.now.queries }
     {

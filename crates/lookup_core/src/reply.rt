@@ -27,7 +27,7 @@ pub struct SaidView<'a> {
     pub top: Piece<'a>,
 }
 
-/// The word whose four bytes the transaction id is; `None` where it has another length.
+/// The word whose four bytes the transaction id is; `None` if it has another length.
 fn id_of(bytes: &[u8]) -> Option<u32>
     ensures { MatchOption result (IsNoId bytes.now) (λ w. bytes.now ≡ word_bytes w) }
 {
@@ -37,7 +37,7 @@ fn id_of(bytes: &[u8]) -> Option<u32>
     }
 }
 
-/// An answer under this transaction id; `None` where no query of ours has it.
+/// An answer under this transaction id; `None` if no query of ours has it.
 fn answer_to<'a>(tx: &[u8], answer: AnswerView<'a>, top: Piece<'a>) -> Option<SaidView<'a>>
     ensures says { MatchOption result (SaysNothing (Message.Answer tx.now (answer_seen answer.entry)))
         (λ said. SaysAll (Message.Answer tx.now (answer_seen answer.entry)) (said_seen said)) }
@@ -53,7 +53,7 @@ fn answer_to<'a>(tx: &[u8], answer: AnswerView<'a>, top: Piece<'a>) -> Option<Sa
     }
 }
 
-/// An error message under this transaction id; `None` where no query of ours has it. Its text is passed over.
+/// An error message under this transaction id; `None` if no query of ours has it. Its text is passed over.
 fn error_to<'a>(tx: &[u8], code: i64, top: Piece<'a>) -> Option<SaidView<'a>>
     ensures says { (text : List ℕ) → MatchOption result (SaysNothing (Message.Fault tx.now code text))
         (λ said. SaysAll (Message.Fault tx.now code text) (said_seen said)) }

@@ -32,7 +32,7 @@ pub record Ran (n : ℕ) (before after : TableState) : Type 0 where
   pub shelves_legal : IsRun ItemMay ItemStep item_after [] shelves
   pub shelves_roles : All (λ m. m.role < n) shelves
 
--- no reply in the runs is want of memory
+-- no reply in the runs is out of memory
 pub record HadAllMemory (n : ℕ) (before after : TableState) (ran : Ran n before after) : Type 0 where
   pub tables : All (λ m. HasMemory m.reply) ran.tables
   pub stores : All (λ m. HasRoom m.reply) ran.stores
