@@ -23,7 +23,7 @@ first_given c (command ∷ rest) = value_of (option_word c.entry.name) (pairs_of
 abbrev pub bound_by : List Word → Option Word
 bound_by words = first_given bind_option words
 
--- the family that a value of `--family` names: that of IPv6 where it is 6, and else that of IPv4
+-- the family that a value of `--family` names: that of IPv6 if it is 6, and else that of IPv4
 abbrev pub family_named : Option Word → Family
 family_named None = Four
 family_named (Some text) = cond (bytes_eq text (codes "6")) Six Four

@@ -46,7 +46,7 @@ IsOfKind Address text = (addr : Addr) × SpellsAddr text addr
 abbrev pub Belongs : List Entry → Word × Word → Type 0
 Belongs entries p = IsSomeAnd (kind_named entries p.0) (λ kind. IsValue p.1 × IsOfKind kind p.1)
 
--- the words are these pairs, each belongs to the options, and none stands twice
+-- the words are these pairs, each belongs to the options, and none is there twice
 pub record InPairs (entries : List Entry) (words : List Word) (pairs : List (Word × Word)) : Type 0 where
   pub joined : words ≡ words_of pairs
   pub belong : All (Belongs entries) pairs

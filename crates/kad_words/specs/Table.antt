@@ -1,5 +1,5 @@
 -- The commands and their options, which are this project's own: one line an option, with what its value is, whether it
--- has to stand or what stands for it, and the commands that have it; and what the words of each command ask for.
+-- is required or what holds without it, and the commands that have it; and what the words of each command ask for.
 use Rattle.std.specs.Prelude.{◌≡◌, Bool, true, false, ℕ, List, [], ◌∷◌, ◌++◌, map, filter, codes, bytes_eq, find, option_map, is_some, replicate, Option, Some, None}
 use Rattle.std.specs.List.{list_any}
 use Rattle.kad_base.specs.declared.types.Family.{Family}
@@ -24,7 +24,7 @@ use Rattle.kad_words.specs.declared.choice.Need.TheVariants.{Required, Optional,
 abbrev pub Word : Type 0
 Word = List ℕ
 
--- what a command knows of an option: its name, what its value is, and what holds where it doesn't stand
+-- what a command knows of an option: its name, what its value is, and what holds if it isn't given
 pub record Entry : Type 0 where
   pub name : Word
   pub kind : Kind
@@ -183,7 +183,7 @@ options_of command = map (λ (c : Choice). c.entry) (filter (λ (c : Choice). li
 abbrev pub option_word : Word → Word
 option_word name = codes "--" ++ name
 
--- what the value of an option is, where it is one of these
+-- what the value of an option is, if it is one of these
 abbrev pub kind_named : List Entry → Word → Option Kind
 kind_named entries word = option_map (λ (e : Entry). e.kind) (find (λ (e : Entry). bytes_eq (option_word e.name) word) entries)
 
@@ -193,7 +193,7 @@ kind_named entries word = option_map (λ (e : Entry). e.kind) (find (λ (e : Ent
 abbrev pub Values : Type 0
 Values = Word → Option Word
 
--- what the values give for an option of each kind: an identifier, a seed, a number, a family, or whether it stands
+-- what the values give for an option of each kind: an identifier, a seed, a number, a family, or whether it is given
 abbrev pub MayIdOf : Choice → Values → Option Id → Type 0
 MayIdOf c value id = MayBeGiven SpellsId (value c.entry.name) id
 
@@ -212,7 +212,7 @@ FamilyOf c value family = FamilyBy c.entry.kind c.entry.need (value c.entry.name
 abbrev pub StandsOf : Choice → Values → Bool → Type 0
 StandsOf c value stands = stands ≡ is_some (value c.entry.name)
 
--- the policy is plain where neither number of bits stands. Where one stands, the other is its default
+-- the policy is plain if neither number of bits is given. If one is given, the other is its default
 abbrev pub PolicyBy : Option Word → Option Word → Policy → Type 0
 PolicyBy None None policy.Plain = Unit {0}
 PolicyBy None None (policy.Puzzled c1 c2) = ⊥
@@ -230,7 +230,7 @@ PolicyOf value p = PolicyBy (value c1_option.entry.name) (value c2_option.entry.
 abbrev pub key_of : List ℕ → Id
 key_of item = record { 0 = hash item }
 
--- the target where the words name none: 20 zero bytes
+-- the target if the words name none: 20 zero bytes
 abbrev pub no_target : Id
 no_target = record { 0 = replicate 20 0 }
 
@@ -246,11 +246,11 @@ pub record IsLookAt (goal : Id) (value : Values) (look : LookWords) : Type 0 whe
   pub policy : PolicyOf value look.policy
   pub sealed : StandsOf group_option value look.sealed
 
--- the same, where the target is the value of `goal`, and the family is that of the words
+-- the same, if the target is the value of `goal`, and the family is that of the words
 abbrev pub IsLook : Entry → Values → LookWords → Type 0
 IsLook goal value look = (IsGiven SpellsId (value goal.name) look.target × FamilyOf family_option value look.family) × IsLookAt look.target value look
 
--- the same, where the target is the key of an item, which is the value of an option
+-- the same, if the target is the key of an item, which is the value of an option
 abbrev pub IsLookOf : Entry → Values → List ℕ → LookWords → Type 0
 IsLookOf goal value item look = (IsGiven SpellsBytes (value goal.name) item × FamilyOf family_option value look.family) × IsLookAt (key_of item) value look
 
@@ -259,7 +259,7 @@ abbrev pub AreLooks : Values → LookWords → Type 0
 AreLooks value look = (look.family ≡ Four) × IsLookAt no_target value look
 
 -- a part of a command, and the option that gives it: an identifier, a seed, a number, a number that may be left out,
--- whether it stands; or a policy, a lookup with the option that names its target, an item and the lookup of its key, or
+-- whether it is given; or a policy, a lookup with the option that names its target, an item and the lookup of its key, or
 -- lookups whose targets no option names
 pub data Part : Type 0 where
   gives_id : Choice → Option Id → Part

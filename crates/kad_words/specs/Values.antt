@@ -1,4 +1,4 @@
--- What the value of an option gives, where it stands and where it doesn't.
+-- What the value of an option gives, if it is given and if it isn't.
 use Rattle.std.specs.Prelude.{◌≡◌, ℕ, List, Option, Some, None}
 use Rattle.kad_base.specs.declared.types.Family.{Family}
 use Rattle.kad_text.specs.Text.{SpellsFamily, SpellsNumber, version}
@@ -7,7 +7,7 @@ use Rattle.kad_words.specs.declared.choice.Kind.TheVariants.{IpVersion, Number}
 use Rattle.kad_words.specs.declared.choice.Need.{Need}
 use Rattle.kad_words.specs.declared.choice.Need.TheVariants.{OrElse}
 
--- the value of an option that has to stand spells this
+-- the value of an option that is required spells this
 abbrev pub IsGiven : {T : Type 0} → (List ℕ → T → Type 0) → Option (List ℕ) → T → Type 0
 IsGiven Spells None x = ⊥
 IsGiven Spells (Some value) x = Spells value x

@@ -9,8 +9,8 @@ use crate::grammar::value_of;
 use kad_base::{Addr, Family, Ip};
 use kad_text::read::read_addr;
 
-/// The address to bind: the value of the first word pair `--bind`, pairs counted after the command. Where there is none,
-/// or its value is no address, zeros with port 0, by which the system chooses: those of IPv6 where the first word pair
+/// The address to bind: the value of the first word pair `--bind`, pairs counted after the command. If there is none,
+/// or its value is no address, zeros with port 0, by which the system chooses: those of IPv6 if the first word pair
 /// `--family` has the value 6, and else those of IPv4.
 pub fn bind_of(words: &[String]) -> Addr
     ensures { let texts = map (λ w. string_bytes w) words.now in

@@ -1,4 +1,4 @@
-//! An option: its name, what its value is, and what holds where it doesn't stand.
+//! An option: its name, what its value is, and what holds if it isn't given.
 ghost use Rattle.std.specs.Prelude.{◌≡◌, ◌↔◌, IsTrue, option_map};
 ghost use Rattle.kad_words.specs.Table.{option_word};
 ghost use Rattle.kad_words.specs.Plain.{IsOfKind, IsThere, IsValue};
@@ -22,7 +22,7 @@ pub(crate) enum Kind {
     Address,
 }
 
-/// What holds where an option doesn't stand.
+/// What holds if an option isn't given.
 #[derive(Clone, Copy, Debug, PartialEq, Eq)]
 pub(crate) enum Need {
     /// The words are not of the plain form.

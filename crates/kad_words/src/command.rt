@@ -21,7 +21,7 @@ use std::alloc::Global;
 use thiserror::Error;
 
 /// A command, with a value for each of its options. `--bind` is in none (see `bind_of`), and of `--group` only that it
-/// stands (see `group_of`).
+/// is given (see `group_of`).
 #[derive(Debug, Drop, PartialEq, Eq)]
 pub enum Command {
     /// Look for the nodes closest to an identifier.
@@ -96,7 +96,7 @@ pub enum Command {
     },
 }
 
-/// The options that every lookup has: the target, the node's own identifier where it is named, Kademlia's k, the
+/// The options that every lookup has: the target, the node's own identifier if it is named, Kademlia's k, the
 /// disjoint paths, alpha on each, how long to wait for an answer, in milliseconds, Kademlia's b, which contacts pass, the
 /// network it is in, which BEP 32 keeps apart by family, and whether an answer has to carry a group's tag.
 #[derive(Clone, Copy, Debug, PartialEq, Eq)]

@@ -1,5 +1,5 @@
-//! The plain form: the words after a command are pairs of one of its options and a value, none stands twice, and those
-//! that have to stand are there. It takes no memory.
+//! The plain form: the words after a command are pairs of one of its options and a value, none is there twice, and those
+//! that are required are there. It takes no memory.
 ghost use Rattle.std.specs.Prelude.{◌≡◌, ◌↔◌, ◌==◌, length, map, string_bytes, IsTrue, is_some, option_map};
 ghost use Rattle.kad_words.specs.Table.{kind_named, option_word};
 ghost use Rattle.kad_words.specs.Listed.{entries_of};
@@ -16,7 +16,7 @@ pub(crate) fn is_plain(words: &[String], choices: &[Choice]) -> bool
     are_pairs(words, choices) && are_there(words, choices)
 }
 
-/// Whether the words are pairs of one of these options and a value of it, and none of them stands twice.
+/// Whether the words are pairs of one of these options and a value of it, and none of them is there twice.
 fn are_pairs(words: &[String], choices: &[Choice]) -> bool
     ensures { let texts = map (λ w. string_bytes w) words.now in
         IsTrue result ↔ InPairs (entries_of choices.now) texts (pairs_of texts) }
@@ -56,7 +56,7 @@ pub(crate) fn is_among(word: &str, choices: &[Choice]) -> bool
     kind_named(choices, word).is_some()
 }
 
-/// What the value of an option is, where the word is one of these.
+/// What the value of an option is, if the word is one of these.
 fn kind_named(choices: &[Choice], word: &str) -> Option<Kind>
     ensures { result ≡ kind_named (entries_of choices.now) word.now }
 {
@@ -98,7 +98,7 @@ fn value_named<'a>(words: &'a [String], name: &str) -> Option<&'a str>
     None
 }
 
-/// Whether each option that has to stand has a value.
+/// Whether each option that is required has a value.
 fn are_there(words: &[String], choices: &[Choice]) -> bool
     ensures { IsTrue result ↔ AreThere (entries_of choices.now)
         (pairs_of (map (λ w. string_bytes w) words.now)) }

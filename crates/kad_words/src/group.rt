@@ -1,4 +1,4 @@
-//! The group whose answers alone are believed, and whose tag replies carry: what the words say of its key, before a
+//! The group of which only the answers are believed, and whose tag replies carry: what the words say of its key, before a
 //! command is read. It takes no memory.
 ghost use Rattle.std.specs.Prelude.{◌↔◌, ℕ, List, IsTrue, MatchOption, map, string_bytes};
 ghost use Rattle.kad_words.specs.Grouped.{HasGroup, IsGroup, LacksGroup};
@@ -7,7 +7,7 @@ use crate::command::{kind_named, options};
 use crate::grammar::{is_among, value_of};
 use kad_text::read::read_hex;
 
-/// The key of the group: the value of the first word pair `--group`, pairs counted after the command. `None` where there is
+/// The key of the group: the value of the first word pair `--group`, pairs counted after the command. `None` if there is
 /// none, or its value isn't 64 hex digits.
 pub fn group_of(words: &[String]) -> Option<[u8; 32]>
     ensures { let texts = map (λ w. string_bytes w) words.now in

@@ -1,5 +1,5 @@
 //! The values of the options, taken by clap: one command without subcommands, whose arguments all take one value. Of
-//! words of the plain form clap finds each value under its option's name, and its one refusal is want of memory.
+//! words of the plain form clap finds each value under its option's name, and it refuses them only if out of memory.
 ghost use Rattle.std.specs.Prelude.{◌≡◌, ◌<◌, List, ℕ, length, drop, map, string_bytes, IfOk, IsTrue};
 ghost use Rattle.clap.specs.Words.{app_of};
 ghost use Rattle.kad_words.specs.Table.{Word};

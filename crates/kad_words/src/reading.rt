@@ -13,7 +13,7 @@ use clap::ArgMatches;
 use kad_base::NoMemory;
 use std::alloc::Global;
 
-/// Reads the words of a command line, those after the program's name. `Usage` comes exactly where they aren't of the
+/// Reads the words of a command line, those after the program's name. `Usage` comes exactly if they aren't of the
 /// plain form, whatever memory there is.
 pub fn read(alloc: Global, words: &[String]) -> Result<Command, WordsFault>
     ensures command { IfOk result (λ c. CommandOf (map (λ w. string_bytes w) words.now) c) }
@@ -44,7 +44,7 @@ fn made(alloc: Global, kind: CommandKind, matches: &ArgMatches) -> Result<Comman
     }
 }
 
-/// The command that words name, where they are of the plain form.
+/// The command that words name, if they are of the plain form.
 fn plain_kind(words: &[String]) -> Option<CommandKind>
     ensures { let texts = map (λ w. string_bytes w) words.now in
         MatchOption result (¬ IsPlain texts) (λ kind. IsPlainBy kind texts) }

@@ -14,7 +14,7 @@ use kad_base::{Bytes, Family, Id, NoMemory, Policy};
 use kad_text::read::{read_bytes, read_family, read_hex, read_id, read_number};
 use std::alloc::Global;
 
-/// The identifier of an option that has to stand.
+/// The identifier of an option that is required.
 pub(crate) fn needed_id(matches: &ArgMatches, choice: &Choice) -> Id
     requires fits { Fits (entry_of choice.now) (taken_of matches.now choice.now.name.now) }
     requires kind { choice.now.kind ≡ Kind.Identifier }
@@ -33,7 +33,7 @@ pub(crate) fn id(matches: &ArgMatches, choice: &Choice) -> Option<Id>
     read_id(matches.get_str(choice.name)?)
 }
 
-/// The bytes of an option that has to stand, however many there are.
+/// The bytes of an option that is required, however many there are.
 pub(crate) fn needed_bytes(
     alloc: Global,
     matches: &ArgMatches,
@@ -112,14 +112,14 @@ pub(crate) fn port(matches: &ArgMatches, choice: &Choice) -> Option<u16>
     Some(read_number(matches.get_str(choice.name)?, least, most)? as u16)
 }
 
-/// Whether an option stands.
+/// Whether an option is given.
 pub(crate) fn stands(matches: &ArgMatches, choice: &Choice) -> bool
     ensures { result ≡ is_some (taken_of matches.now choice.now.name.now) }
 {
     matches.get_str(choice.name).is_some()
 }
 
-/// Which contacts pass: all, where neither number of bits stands. Where one stands, the other is its default.
+/// Which contacts pass: all, if neither number of bits is given. If one is given, the other is its default.
 pub(crate) fn policy(matches: &ArgMatches) -> Policy
     requires first { Fits c1_option.entry (taken_of matches.now c1_option.entry.name) }
     requires second { Fits c2_option.entry (taken_of matches.now c2_option.entry.name) }
