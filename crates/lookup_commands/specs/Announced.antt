@@ -21,7 +21,7 @@ use Rattle.lookup_commands.specs.declared.announce.Said.TheVariants.{Item, Peer}
 -- the event of a send, and how many of the events are sends that the link took
 pub use Rattle.node_serve.specs.Receives.{is_sent, sent_in, tried}
 
--- the port 0 stands for the one that the datagram comes from
+-- port 0 means the one that the datagram comes from
 abbrev pub port_of : ℕ → Port
 port_of zero = Implied
 port_of (suc n) = Given (suc n)
@@ -53,7 +53,7 @@ MaySay (Item own v) = IsCarried v.now
 abbrev pub announcement : (List ℕ → Ask) → Token → Announcement
 announcement asks t = record { to = t.contact.addr; ask = asks t.token }
 
--- the first of the tokens that the contact gave; none where it gave none
+-- the first of the tokens that the contact gave; none if it gave none
 abbrev pub first_from : List Token → Contact → List Token
 first_from tokens c = take 1 (filter (λ t. same t.contact c) tokens)
 
@@ -64,7 +64,7 @@ tokens_for found tokens = flat_map (first_from tokens) found
 abbrev pub announcements : (List ℕ → Ask) → List Contact → List Token → List Announcement
 announcements asks found tokens = map (announcement asks) (tokens_for found tokens)
 
--- what is owed to those that were found: nothing where no port was told
+-- what is owed to those that were found: nothing if no port was told
 abbrev pub owed : Option ℕ → Id → Id → List Contact → List Token → List Announcement
 owed None own key found tokens = []
 owed (Some port) own key found tokens = announcements (announcing own key port) found tokens

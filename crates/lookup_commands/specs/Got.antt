@@ -1,5 +1,5 @@
 -- What the command `get` promises: that its text has the first item of the key which the answers of a lookup gave (BEP 44,
--- `get`), and says that there is none only where no answer gave one.
+-- `get`), and says that there is none only if no answer gave one.
 use Rattle.std.specs.Prelude.{◌≡◌, ◌≤◌, ℕ, List, ◌∷◌, ◌++◌, length, Option, Some, None}
 use Rattle.std.specs.List.{All}
 use Rattle.kad_base.specs.declared.types.Addr.{Addr}
@@ -41,7 +41,7 @@ pub record IsFirst (key : Id) (items : List Item) (v : List ℕ) : Type 0 where
   pub none_before : All (λ i. ¬ IsItemOf key i.v) before
   pub is_of : IsItemOf key v
 
--- that one, or none where none of them is
+-- that one, or none if none of them is
 abbrev pub IsGot : Id → List Item → Option (List ℕ) → Type 0
 IsGot key items None = All (λ i. ¬ IsItemOf key i.v) items
 IsGot key items (Some v) = IsFirst key items v

@@ -79,7 +79,7 @@ pub record MeetsFew (kind : AskKind) (look : LookWords) (called : Called) (sourc
 
 -- ---- why there is no text
 
--- why a lookup ended behind its input
+-- why a lookup ended after its input
 abbrev pub SeekCause : AskKind → LookWords → Called → Shown ℕ → Shown Event → Status → Type 0
 SeekCause kind look called source link LinkFault = HasFailed link × LookupBegun kind look called source link × MeetsFew kind look called source link
 SeekCause kind look called source link Strays = EndsByLastStray kind look called source link × LookupBegun kind look called source link

@@ -1,5 +1,5 @@
 -- What the command `peers` promises: that its text names the peers which the answers of a lookup gave (BEP 5, `get_peers`),
--- and that then, where it is told a port, it announces it to each contact of the result that gave a token.
+-- and that then, if it is told a port, it announces it to each contact of the result that gave a token.
 use Rattle.std.specs.Prelude.{◌≡◌, ◌⊎◌, ℕ, List, length, Option}
 use Rattle.std.specs.List.Sorted.{IsStrictlySortedBy}
 use Rattle.kad_base.specs.declared.types.Addr.{Addr}
@@ -21,7 +21,7 @@ use Rattle.command_base.specs.Called.{Called}
 use Rattle.lookup_commands.specs.Reached.{HasRunOut}
 use Rattle.command_base.specs.Started.{book_of}
 
--- what is announced to the contacts of the result: nothing where no port was told
+-- what is announced to the contacts of the result: nothing if no port was told
 abbrev pub announcing_to : LookWords → Option ℕ → Owing
 announcing_to look announce own found tokens = owed announce own look.target found tokens
 

@@ -14,7 +14,7 @@ use std::alloc::Global;
 /// What is said to whoever gave a token.
 #[derive(Clone, Copy)]
 pub enum Said<'a> {
-    /// That the node `own` is a peer of the key, at this port. The port 0 stands for the one that the datagram comes from.
+    /// That the node `own` is a peer of the key, at this port. Port 0 means the one that the datagram comes from.
     Peer { own: Id, key: Id, port: u16 },
     /// That the immutable item whose written form is `v` be kept. The node `own` says so.
     Item { own: Id, v: &'a [u8] },
@@ -64,7 +64,7 @@ fn datagram(alloc: Global, said: &Said<'_>, tx: u32, token: &Token) -> Result<By
     encode(alloc, &message)
 }
 
-/// Sends the announcement to the contact that gave the token; false where the link refused it.
+/// Sends the announcement to the contact that gave the token; false if the link refused it.
 fn send_one<L: Link>(
     alloc: Global,
     link: &mut L,
@@ -96,7 +96,7 @@ fn is_from(token: &Token, contact: &Contact) -> bool
 }
 
 /// Announces to the contact by the first token that it gave, under the next drawn word, and answers how many datagrams
-/// were sent: at most one. Nothing is drawn or sent where it gave none.
+/// were sent: at most one. Nothing is drawn or sent if it gave none.
 fn announce_to<L: Link>(
     alloc: Global,
     link: &mut L,

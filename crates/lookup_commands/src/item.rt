@@ -23,7 +23,7 @@ pub fn is_item(alloc: Global, bytes: &[u8]) -> Result<bool, NoMemory>
     is_form(alloc, bytes)
 }
 
-/// Whether the bytes spell a value where they stand in two lists, as an item's value stands in two dictionaries of a message.
+/// Whether the bytes spell a value inside two lists, as an item's value is inside two dictionaries of a message.
 fn nests_within(alloc: Global, bytes: &[u8]) -> Result<bool, NoMemory>
     ensures { IfOk result (λ nests. IsTrue nests
         ↔ ((v : Value) × Spells (within_lists bytes.now) v)) }

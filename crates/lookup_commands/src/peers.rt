@@ -1,4 +1,4 @@
-//! The command `peers`: looks for peers of a key, makes the text of those that the answers named, and where it is told a
+//! The command `peers`: looks for peers of a key, makes the text of those that the answers named, and if it is told a
 //! port announces it to the contacts of the result.
 ghost use Rattle.std.specs.Prelude.{◌≡◌, ◌≤◌, ◌⊎◌, ◌+◌, ◌^◌, length, IfOk, IfErr, OnErr, IsErrOf};
 ghost use Rattle.kad_base.specs.Outside.{Grows};
@@ -25,7 +25,7 @@ use std::alloc::Global;
 use std::sync::Wait;
 use std::thread::Threads;
 
-/// Announces what the words tell to announce, and answers how many datagrams were sent: none where no port was told.
+/// Announces what the words tell to announce, and answers how many datagrams were sent: none if no port was told.
 fn announce_told<L: Link>(
     alloc: Global,
     link: &mut L,

@@ -22,7 +22,7 @@ use std::alloc::Global;
 use std::sync::Wait;
 use std::thread::Threads;
 
-/// Who looked up, what was found, and the words from which its transaction ids were drawn, as far as they were.
+/// Who looked up, what was found, and the words from which its transaction ids were drawn, if any were.
 #[derive(Drop)]
 pub struct Reached {
     pub own: Id,
@@ -30,7 +30,7 @@ pub struct Reached {
     pub words: Words,
 }
 
-/// The contacts that the input gives, where there are some.
+/// The contacts that the input gives, if there are some.
 pub fn read_contacts<S: Source, C: Check>(
     alloc: Global,
     source: &mut S,

@@ -17,7 +17,7 @@ pub record IsFindLine (line : List ℕ) (target : Id) : Type 0 where
   pub spelled : line ≡ codes "find " ++ id
   pub spells_id : SpellsId id target
 
--- what a good line says: nothing where it is passed over, the report of a contact line, or a target. A carriage return at its
+-- what a good line says: nothing if it is skipped, the report of a contact line, or a target. A carriage return at its
 -- end isn't looked at
 abbrev pub Says : List ℕ → InputLine → Type 0
 Says line Nothing = IsPassedOver (strip_carriage_return line)
@@ -41,7 +41,7 @@ pub record Naming (input : List (List ℕ)) (reports : List Report) (targets : L
   pub targets_are : targets ≡ flat_map target_in said
   pub few : length targets ≤ max_lookups
 
--- behind lines that said these reports and targets one line more is good, and this is what all say
+-- after lines that said these reports and targets one line more is good, and this is what all say
 pub record SaysMore (line : List ℕ) (reports : List Report) (targets : List Id) (reports' : List Report) (targets' : List Id) : Type 0 where
   pub said : InputLine
   pub says : Says line said
@@ -49,7 +49,7 @@ pub record SaysMore (line : List ℕ) (reports : List Report) (targets : List Id
   pub targets_are : targets' ≡ targets ++ target_in said
   pub few : length targets' ≤ max_lookups
 
--- behind lines that name these targets the line says nothing, or it is one target too many
+-- after lines that name these targets the line says nothing, or it is one target too many
 abbrev pub IsBadBehind : List Id → List ℕ → Type 0
 IsBadBehind targets line = (said : InputLine) → Says line said → max_lookups < length (targets ++ target_in said)
 

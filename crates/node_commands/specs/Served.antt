@@ -1,6 +1,6 @@
 -- What the command `serve` promises: that its events are receive calls, that each query among the datagrams which came was
 -- answered by the reply that a node owes it (BEP 5), as the datagrams before had left the node, and that nothing else was
--- sent. Where several workers answer, these are batches, which they answered at once.
+-- sent. If several workers answer, these are batches, which they answered at once.
 use Rattle.std.specs.Prelude.{◌≡◌, ℕ, ◌≤◌, List, ◌∷◌, map}
 use Rattle.kad_base.specs.declared.types.Family.TheVariants.{Four}
 use Rattle.kad_base.specs.declared.types.Contact.{Contact}

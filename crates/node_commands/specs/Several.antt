@@ -1,6 +1,6 @@
 -- What the command `node` promises: that its text is that of the journals of several lookups that have all run out, which the
 -- link's events tell together, while a node answered what was for none of them (S/Kademlia, 2007, section 4.4, over Kademlia,
--- 2002, section 2.3; BEP 5); and what they are where they ended early. The lines that name targets are this project's own.
+-- 2002, section 2.3; BEP 5); and what they are if they ended early. The lines that name targets are this project's own.
 use Rattle.std.specs.Prelude.{◌≡◌, ◌≢◌, ◌⊎◌, ◌<◌, ℕ, List, [], ◌∷◌, ◌++◌, true}
 use Rattle.std.specs.List.{AllZip, IsDistinct}
 use Rattle.kad_base.specs.declared.types.Contact.{Contact}
@@ -39,7 +39,7 @@ use Rattle.command_base.specs.Promise.{Aim, Promise, ReadingCause, reading}
 use Rattle.command_base.specs.Shown.{Shown, IsTold, HasFailed}
 use Rattle.command_base.specs.Started.{own_of, drawn_of, IsInRange, StartsWith}
 
--- ---- what it goes by
+-- ---- its setting
 
 -- what the node answers by: the epochs of its tokens count from the moment 0
 abbrev pub server_of : LookWords → List ℕ → List Report → ServeSetting
@@ -64,7 +64,7 @@ pub record Names (source : Shown ℕ) (reports : List Report) (targets : List Id
   pub read : ReadsAll source.before source.after input
   pub good_lines : Naming (lines input) reports targets
 
--- an input that a node goes on with: where it names a target, it gives some contact to begin with
+-- an input that a node goes on with: if it names a target, it gives some contact to begin with
 pub record GivesStart (look : LookWords) (random : List ℕ) (source : Shown ℕ) : Type 0 where
   pub reports : List Report
   pub targets : List Id
@@ -146,7 +146,7 @@ abbrev pub LooksFrom : LookWords → ℕ → Called → List Id → TableState �
 LooksFrom look receives called targets table proofs link after left many =
     ManyLooked called.accepts called.tags (server_of look called.random proofs) (each_of look) targets receives table after (drawn_of called.random) left link.before link.after many
 
--- the same where they ended early
+-- the same if they ended early
 abbrev pub StopsFrom : LookWords → ℕ → Called → List Id → TableState → List Report → Shown Event → TableState → WordsState → ManyFault → Type 0
 StopsFrom look receives called targets table proofs link after left by =
     ManyStopped called.accepts called.tags (server_of look called.random proofs) (each_of look) targets receives table after (drawn_of called.random) left link.before link.after by
@@ -210,14 +210,14 @@ pub record EndsFinds (look : LookWords) (receives : ℕ) (called : Called) (even
 abbrev pub ShowsLastForeign : LookWords → ℕ → Called → Shown Event → Type 0
 ShowsLastForeign look receives called link = Grows link.before link.after (λ events. EndsFinds look receives called events × (¬ TellsFinds look receives called events))
 
--- why it ended behind its input
+-- why it ended after its input
 abbrev pub NodeCause : LookWords → ℕ → Called → Shown ℕ → Shown Event → Status → Type 0
 NodeCause look receives called source link LinkFault = HasFailed link × NodeEnds look receives called source link fault.LinkFault
 NodeCause look receives called source link Strays = NodeEnds look receives called source link fault.Strays
 NodeCause look receives called source link NoSeeds = GivesNobody look called.random source
 NodeCause look receives called source link other = ⊥
 
--- what it needs: a good input, with a node to begin with where it names a target, no failure and few strays
+-- what it needs: a good input, with a node to begin with if it names a target, no failure and few strays
 pub record NodeGoesWell (look : LookWords) (receives : ℕ) (called : Called) (source : Shown ℕ) (link : Shown Event) : Type 0 where
   pub told : IsTold source
   pub reads : ¬ HasFailed source

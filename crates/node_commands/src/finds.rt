@@ -57,7 +57,7 @@ enum FindFault {
     NoMemory,
 }
 
-/// Takes what a line says, if it is good behind those that said the reports and the targets.
+/// Takes what a line says, if it is good after those that said the reports and the targets.
 fn take_line(reports: &mut Reports, targets: &mut List<Id>, line: &[u8]) -> Result<(), FindFault>
     requires { length targets.old ≤ max_lookups }
     ensures ok { OnOk result (SaysMore line.now reports.old targets.old reports.new targets.new) }

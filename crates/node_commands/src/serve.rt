@@ -1,4 +1,4 @@
-//! The command `serve`: a node that answers queries, alone or by several workers at once, and in the end the text of how
+//! The command `serve`: a node that answers queries, by one worker or several at once, and in the end the text of how
 //! many datagrams came and how many replies it sent.
 ghost use Rattle.std.specs.Prelude.{◌≡◌, ◌≢◌, ◌≤◌, ◌⊎◌, Err, IfOk, IfErr, IsErrOf};
 ghost use Rattle.std.specs.List.{All};
@@ -29,7 +29,7 @@ use std::alloc::Global;
 use std::sync::Wait;
 use std::thread::Threads;
 
-/// What the words of `serve` say: the node's own identifier where they name it, Kademlia's k and b, which contacts pass,
+/// What the words of `serve` say: the node's own identifier if they name it, Kademlia's k and b, which contacts pass,
 /// how many receive calls are made, how many workers answer, and whether what it says is tagged.
 #[derive(Clone, Copy, Debug, PartialEq, Eq)]
 pub struct Service {
@@ -86,7 +86,7 @@ fn text_of(alloc: Global, received: u32, replied: u32) -> Result<Bytes, NoMemory
     Ok(output)
 }
 
-/// Serves alone, from a first look at the link's clock on.
+/// Serves on one thread, from a first look at the link's clock on.
 fn serve_alone<L: Link, C: PacedCheck, G: Seal + SealCheck>(
     alloc: Global,
     service: &Service,

@@ -78,7 +78,7 @@ pub record IsSimulable (s : Simulation) : Type 0 where
 abbrev pub report_of : List ℕ → ℕ → Report
 report_of seed i = record { contact = node seed i; proof = None }
 
--- the first k nodes, or all where there are fewer
+-- the first k nodes, or all if there are fewer
 abbrev pub first_nodes : Simulation → List Report
 first_nodes s = map (report_of s.seed) (numbers (min s.nodes s.k))
 

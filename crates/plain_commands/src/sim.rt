@@ -163,9 +163,9 @@ fn begin<C: Check>(
     })
 }
 
-/// Looks the network's target up from its first k nodes, or from all where there are fewer, and makes the line of what was
+/// Looks the network's target up from its first k nodes, or from all if there are fewer, and makes the line of what was
 /// found. Nothing is written yet. The network never fails, and gives fewer datagrams than a lookup takes strays, so that
-/// only want of memory ends it early. A network that is short has lost events, and so gives no line.
+/// it ends early only if out of memory. A network that is short has lost events, and so gives no line.
 pub fn sim<C: Check, G: Seal + SealCheck>(
     alloc: Global,
     simulation: &Simulation,

@@ -89,7 +89,7 @@ pub record RefreshText (timeout : ℕ) (sealed : Bool) (called : Called) (source
 abbrev pub RefreshBegun : ℕ → Bool → Called → Shown ℕ → Shown Event → Type 0
 RefreshBegun timeout sealed called source link = ((by : RefreshFault) × RefreshEnds timeout sealed called source link by) ⊎ ((after : TableState) × Refreshes timeout sealed called source link after)
 
--- why it ended behind its input
+-- why it ended after its input
 abbrev pub RefreshCause : ℕ → Bool → Called → Shown ℕ → Shown Event → Status → Type 0
 RefreshCause timeout sealed called source link LinkFault = HasFailed link × RefreshEnds timeout sealed called source link fault.LinkFault
 RefreshCause timeout sealed called source link Strays = RefreshEnds timeout sealed called source link fault.Strays
