@@ -115,7 +115,7 @@ HasNoSeeds words called source = OfCommand words (λ c. (¬ (promise_of c).refus
 abbrev pub HasStrays : List Word → Called → Shown ℕ → Shown Event → Type 0
 HasStrays words called source link = OfCommand words (λ c. (promise_of c).strays called source link)
 
--- the words ask for a command, and the link's events have fewer strays than it takes, where it counts them
+-- the words ask for a command, and the link's events have fewer strays than it takes, if it counts them
 abbrev pub HasNoLastStray : List Word → Called → Shown ℕ → Shown Event → Type 0
 HasNoLastStray words called source link = OfCommand words (λ c. (promise_of c).few called source link)
 
@@ -146,7 +146,7 @@ HasCause asks words called source link status = IsCaused words called source lin
 
 -- ---- what it needs
 
--- what a command that ends well goes by
+-- what a command needs to end well
 pub record GoesWell (words : List Word) (called : Called) (source : Shown ℕ) (link : Shown Event) (sink : Shown ℕ) : Type 0 where
   pub command : Command
   pub asked : CommandOf words command

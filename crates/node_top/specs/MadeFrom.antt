@@ -1,9 +1,9 @@
--- What the text of a command is made from, where that is less than all that a call is given.
+-- What the text of a command is made from, if that is less than all that a call is given.
 use Rattle.std.specs.Prelude.{◌≡◌, Some, Bool, false}
 use Rattle.kad_words.specs.declared.command.Command.{Command}
 use Rattle.kad_words.specs.declared.command.Command.TheVariants.{Lookup, Peers, Get, Put, Serve, Refresh, Mint, Sim}
 
--- from the words alone: `mint` and `sim` draw from the seed of the words, where these name one
+-- from the words only: `mint` and `sim` draw from the seed of the words, if these name one
 abbrev pub NamesSeed : Command → Type 0
 NamesSeed (Mint (Some seed) c1 c2 tries) = Unit {0}
 NamesSeed (Sim (Some seed) nodes hostile k paths alpha timeout) = Unit {0}

@@ -10,8 +10,8 @@ ghost use Rattle.node_top.specs.Commands.{HasText, ReadsInput};
 ghost use Rattle.node_top.specs.MadeFrom.{NamesSeed, GoesByEvents};
 ghost use Rattle.command_base.specs.Shown.{SameInput, SameEvents, Shown};
 
-/// A command that takes no link has one text: that of its words, of the 32 random bytes, and of the input where it reads
-/// one and the source tells it. The words alone give it where `mint` or `sim` names a seed. So what is written follows from
+/// A command that takes no link has one text: that of its words, of the 32 random bytes, and of the input if it reads
+/// one and the source tells it. Only the words give it if `mint` or `sim` names a seed. So what is written follows from
 /// nothing else: no hasher, no clock, no order of threads, and no amount of memory but too little.
 ///
 /// What `serve` and `refresh` write follows from that, the seal and the link's events, if the link tells them; and so does what

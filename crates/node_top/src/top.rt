@@ -28,9 +28,9 @@ use std::thread::Threads;
 /// `seal` is the group's: a command that the words say is sealed believes no reply without a tag that it accepts, and tags
 /// what it says; no other asks it for anything.
 ///
-/// Each command's module says what it writes, `status` with what number and line a command ends that writes no output, and
-/// `docs/COMMANDS.md` both; what words a command has is the business of `kad_words`. At 0 the output was written whole, and
-/// at 5 a front of it. The commands that take no link are done as by `run_plain`.
+/// Each command's module says what it writes, `status` the number and line of each ending without output, and
+/// `docs/COMMANDS.md` both; `kad_words` says which words a command takes. At 0 the output was written whole, and at 5 only
+/// its beginning. The commands that take no link are done as by `run_plain`.
 pub fn run<
     R: Threads + Wait + Sync,
     S: Source,
@@ -98,7 +98,7 @@ pub fn run<
     ensures unsound { result ≡ 13 → HasUnsound (bytes_of words.now)
         (shown S.left S.faults source.old source.new) }
 
-    // Where the source, or the link, goes on telling, each of these causes brings its status, want of memory aside.
+    // If the source, or the link, tells to the end, each of these causes brings its status, or that of out of memory.
     ensures bad_line_comes { let input = shown S.left S.faults source.old source.new in
         IsTold input → ¬ HasFailed input → HasBadLine (bytes_of words.now) input
         → OrNoMemory result 3 }
@@ -119,7 +119,7 @@ pub fn run<
         IsTold input → ¬ HasFailed input → HasUnsound (bytes_of words.now) input
         → OrNoMemory result 13 }
 
-    // With what it needs, and no failure, a command is done, want of memory aside.
+    // With what it needs, and no failure, a command is done, unless it is out of memory.
     ensures complete { GoesWell (bytes_of words.now)
         (called_with random.now (C.slow check.now) (G.accepted seal.now) (G.tag_of seal.now))
         (shown S.left S.faults source.old source.new)
@@ -127,7 +127,7 @@ pub fn run<
         (shown K.written K.faults sink.old sink.new)
         → OrNoMemory result 0 }
 
-    // What was written: the line of the status, or at 5 a front of the text.
+    // What was written: the line of the status, or at 5 only the beginning of the text.
     ensures line { result ≢ 0 → result ≢ 5 → WritesLine (bytes_of words.now) result
         (shown S.left S.faults source.old source.new)
         (shown K.written K.faults sink.old sink.new) }
@@ -145,10 +145,10 @@ pub fn run<
     ensures unasked { EndsUnasked result → link.new ≡ link.old }
     ensures no_link { AsksPlain (bytes_of words.now) → link.new ≡ link.old }
 
-    // What a link keeps whose receives have room for 4,097 bytes: so each of them has.
+    // The link keeps its ghost value, so each receive had a buffer of exactly 4,097 bytes.
     ensures kept { L.kept link.new ≡ L.kept link.old }
 
-    // No call that failed is made again: a read failed at 6 alone, a receive at 4 alone, and at 0 no write did.
+    // No failed call is ignored: a read failed only at 6, a receive only at 4, and no write at 0.
     ensures reads_well { result ≢ 6 → S.faults source.new ≡ S.faults source.old }
     ensures hears_well { result ≢ 4 → L.recv_faults link.new ≡ L.recv_faults link.old }
     ensures writes_well { result ≡ 0 → K.faults sink.new ≡ K.faults sink.old }
@@ -178,7 +178,7 @@ pub fn run<
 /// made from a seed, and writes the counts of the lookup and how many of the closest nodes that aren't hostile it found. It
 /// waits by the network's own clock, which takes no time.
 ///
-/// The statuses and their lines are those of `run`. 2 comes also where the words ask for another command; 4, 7, 8, 12 and
+/// The statuses and their lines are those of `run`. 2 comes also if the words ask for another command; 4, 7, 8, 12 and
 /// 13 don't come.
 pub fn run_plain<S: Source, K: Sink, C: Check>(
     alloc: Global,
@@ -208,7 +208,7 @@ pub fn run_plain<S: Source, K: Sink, C: Check>(
     ensures too_long { result ≡ 11 → ReadsInput (bytes_of words.now)
         × ReadsTooMuch (S.left source.old) (S.left source.new) }
 
-    // Where the source goes on telling, each of these causes brings its status, want of memory aside.
+    // If the source tells to the end, each of these causes brings its status, or that of out of memory.
     ensures bad_line_comes { let input = shown S.left S.faults source.old source.new in
         AsksPlain (bytes_of words.now) → IsTold input → ¬ HasFailed input
         → HasBadLine (bytes_of words.now) input → OrNoMemory result 3 }
@@ -217,13 +217,13 @@ pub fn run_plain<S: Source, K: Sink, C: Check>(
         → ReadsTooMuch (S.left source.old) (S.left source.new)
         → OrNoMemory result 11 }
 
-    // With what it needs, and no failure, a command is done, want of memory aside.
+    // With what it needs, and no failure, a command is done, unless it is out of memory.
     ensures complete { GoesPlainlyWell (bytes_of words.now) (called_plainly random.now)
         (shown S.left S.faults source.old source.new)
         (shown K.written K.faults sink.old sink.new)
         → OrNoMemory result 0 }
 
-    // What was written: the line of the status, or at 5 a front of the text.
+    // What was written: the line of the status, or at 5 only the beginning of the text.
     ensures line { result ≢ 0 → result ≢ 5 → WritesLine (bytes_of words.now) result
         (shown S.left S.faults source.old source.new)
         (shown K.written K.faults sink.old sink.new) }
@@ -237,7 +237,7 @@ pub fn run_plain<S: Source, K: Sink, C: Check>(
     ensures no_input { ¬ ReadsInput (bytes_of words.now) → source.new ≡ source.old }
     ensures at_most { ReadsAtMost (S.left source.old) (S.left source.new) }
 
-    // No call that failed is made again: a read failed at 6 alone, and at 0 no write did.
+    // No failed call is ignored: a read failed only at 6, and no write at 0.
     ensures reads_well { result ≢ 6 → S.faults source.new ≡ S.faults source.old }
     ensures writes_well { result ≡ 0 → K.faults sink.new ≡ K.faults sink.old }
     ensures by_command { AsksPlain (bytes_of words.now)
