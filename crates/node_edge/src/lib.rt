@@ -1,5 +1,5 @@
 //! The edge of the program: the standard streams, the words with the key of a group, and why the node isn't started. What the
-//! node does with them stands above.
+//! node does with them is above.
 #![tactic(auto)]
 
 mod group;

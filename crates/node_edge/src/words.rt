@@ -10,7 +10,7 @@ use std::io::ErrorKind;
 use std::rt::Env;
 use std::{env, io};
 
-/// The words after the program's name, and behind them a group's key where only the environment names one.
+/// The words after the program's name, and after them a group's key if only the environment names one.
 pub fn words_of<R: Env + AllocGlobal>(rt: &R) -> Result<Vec<String>, Refusal> {
     let mut words = words_given(rt)?;
     if lacks_group(words.as_slice()) {
@@ -40,7 +40,7 @@ fn refusal_of(error: &io::Error) -> Refusal
     }
 }
 
-/// The key of a group in the environment, where nobody reads it who may list processes and their words. An empty one
+/// The key of a group in the environment, which those who may list processes and their words can't read. An empty one
 /// counts as none. One that isn't UTF-8 is no key either, as the empty word is none.
 fn key_given<R: Env + AllocGlobal>(rt: &R) -> Result<Option<String>, Refusal> {
     match env::var(rt, "NOLZAVIRT_GROUP") {
@@ -51,7 +51,7 @@ fn key_given<R: Env + AllocGlobal>(rt: &R) -> Result<Option<String>, Refusal> {
     }
 }
 
-/// Puts a group's key behind the words, as its option.
+/// Puts a group's key after the words, as its option.
 fn put_group(alloc: Global, words: &mut Vec<String>, key: String) -> Result<(), AllocError>
     ensures { OnOk result (map (λ w. string_bytes w) words.new.items
         ≡ map (λ w. string_bytes w) words.old.items ++ codes "--group" ∷ string_bytes key ∷ []) }

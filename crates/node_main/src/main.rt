@@ -1,5 +1,5 @@
 //! The program: the real words, random bytes, socket and standard streams, and one call of the node, which takes the
-//! socket where the command needs one.
+//! socket if the command needs one.
 #![tactic(auto)]
 
 use id_puzzles::Sha1Check;
@@ -15,7 +15,7 @@ use std::sync::Wait;
 use std::thread::Threads;
 use udp_link::UdpLink;
 
-/// Takes the words, then draws, then binds where the command takes a link, and runs the node; its status.
+/// Takes the words, then draws, then binds if the command takes a link, and runs the node; its status.
 fn started<R>(rt: &R) -> Result<u8, Refusal>
 where
     R: Env + AllocGlobal + RandomSource + Net + Clock + Input + Print + Threads + Wait + Sync,
