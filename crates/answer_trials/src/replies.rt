@@ -79,7 +79,7 @@ impl Text {
         }
     }
 
-    /// The text with a part behind it, where there is room.
+    /// The text with a part after it, if there is room.
     pub fn then(mut self, part: &[u8]) -> Text {
         for byte in part {
             if self.len < 5000 {
@@ -90,7 +90,7 @@ impl Text {
         self
     }
 
-    /// The text with a number below 10,000 behind it, in base ten.
+    /// The text with a number below 10,000 after it, in base ten.
     pub fn number(self, n: usize) -> Text {
         let mut text = self;
         if n >= 1000 {

@@ -198,7 +198,7 @@ fn calls_are_replied_to(rt: HostRuntime) -> Result<(), Fail> {
     Ok(())
 }
 
-/// The peers of a key, where there is memory to list them.
+/// The peers of a key, if there is memory to list them.
 fn listed(peers: &mut Peers, n: u8, at: u64) -> Option<Vec<Addr>> {
     match peers.apply(0, PeerCall::List { key: number(n), at }) {
         PeerReply::Listed { list } => Some(list.into_vec()),

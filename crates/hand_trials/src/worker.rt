@@ -195,7 +195,7 @@ fn outcome(entry: &Entry) -> Settled {
     }
 }
 
-/// Whether the book's journal has these entries behind its first ones, and no others.
+/// Whether the book's journal has these entries after its first ones, and no others.
 fn tells(book: Book, first: usize, wanted: &[Settled]) -> bool {
     let journal = book.into_journal();
     let Some(entries) = journal.as_slice().get(first..) else {
@@ -320,7 +320,7 @@ fn answered(rt: &impl Abort, alloc: Global, hasher: RandomState, paths: u8) -> R
 }
 
 /// All its paths settled at once: how many entries the journal has then, and whether the table has
-/// these contacts. `None` where memory is short.
+/// these contacts. `None` if memory is short.
 fn settled_at_once<R: Threads + Wait + Abort + Sync>(
     rt: &R,
     alloc: Global,

@@ -46,7 +46,7 @@ impl Draws {
         Id(bytes)
     }
 
-    /// So many different numbers below `n`, or all of them where there are no more (Floyd's algorithm: Bentley and
+    /// So many different numbers below `n`, or all of them if there are no more (Floyd's algorithm: Bentley and
     /// Floyd, 1987).
     pub fn some_below(
         &mut self,

@@ -36,7 +36,7 @@ pub struct StudyLink<'a> {
     recv_faults: u64,
 }
 
-/// Puts an answer behind those that come no later.
+/// Puts an answer after those that come no later.
 fn put(waiting: &mut Vec<Waiting>, answer: Waiting) -> Result<(), Failed> {
     let place = waiting.partition_point(|other| other.at <= answer.at);
     match waiting.insert(place, answer) {
@@ -115,7 +115,7 @@ impl<'a> StudyLink<'a> {
         write_answer(self.alloc, node.contact.id, nodes, &waiting.tx, buf)
     }
 
-    /// The answer to a query to this address, where one will come.
+    /// The answer to a query to this address, if one will come.
     fn answer_to(&self, to: Addr, bytes: &[u8]) -> Option<Waiting> {
         let node = self.network.node_at(to)?;
         if node.hostile && self.attack == Attack::Silent {
@@ -152,7 +152,7 @@ impl<'a> Link for StudyLink<'a> {
         self.moment
     }
 
-    /// It fails for want of memory alone.
+    /// It fails only if out of memory.
     fn send(&mut self, to: Addr, bytes: &[u8]) -> Result<(), Failed> {
         if self.misleads(to) {
             self.misled = self.misled.saturating_add(1);
@@ -169,7 +169,7 @@ impl<'a> Link for StudyLink<'a> {
         }
     }
 
-    /// It fails for want of memory alone. Time passes here: to the next answer, or to `until`.
+    /// It fails only if out of memory. Time passes here: to the next answer, or to `until`.
     fn recv(&mut self, buf: &mut [u8], until: u64) -> Result<Came, Failed> {
         let Some(waiting) = take_due(&mut self.waiting, until) else {
             self.moment = until.max(self.moment);

@@ -3,7 +3,7 @@ use crate::draws::Draws;
 use kad_base::{Addr, Contact, Id, Ip};
 use std::alloc::{AllocError, Global};
 
-/// How many nodes of each of its buckets a node knows, or all where there are fewer.
+/// How many nodes of each of its buckets a node knows, or all if there are fewer.
 const KNOWN_OF_BUCKET: usize = 8;
 
 /// The shortest time that a node takes to answer, in milliseconds, and by how many that of two nodes may differ.

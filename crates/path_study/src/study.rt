@@ -117,7 +117,7 @@ impl Tally {
     }
 }
 
-/// What a lookup of the study is set to; `None` where the numbers are not within a lookup's limits.
+/// What a lookup of the study is set to; `None` if the numbers are not within a lookup's limits.
 fn look_setting(setting: &StudySetting, own: Id, target: Id) -> Option<LookSetting>
     ensures limits { IfSome result IsWithinLimits }
     ensures some { IfSome result (λ look. 1 ≤ look.k) }

@@ -48,7 +48,7 @@ impl StudySetting {
         }
     }
 
-    /// Sets what an option names; `None` where there is no such option, or the value isn't one of its values.
+    /// Sets what an option names; `None` if there is no such option, or the value isn't one of its values.
     fn set(&mut self, option: &str, value: &str) -> Option<()> {
         match option {
             "--seed" => self.seed = read_hex(value)?,
@@ -79,7 +79,7 @@ fn read_small(text: &str, most: u8) -> Option<u8> {
     u8::try_from(read_number(text, 1, u32::from(most))?).ok()
 }
 
-/// The setting that the words ask for; `None` where they are no pairs of an option and a value of its own.
+/// The setting that the words ask for; `None` if they are no pairs of an option and a value of its own.
 pub fn read(words: &[String]) -> Option<StudySetting> {
     let mut setting = StudySetting::usual();
     for pair in words.chunks(2) {

@@ -115,7 +115,7 @@ fn a_batch_is_answered_in_its_order(rt: HostRuntime) -> Result<(), Fail> {
     Ok(())
 }
 
-/// Who asks is told to the table behind its own answer, and is named to who asks in the next batch.
+/// Who asks is told to the table after its own answer, and is named to who asks in the next batch.
 #[test]
 fn a_later_batch_names_who_asked_before(rt: HostRuntime) -> Result<(), Fail> {
     let alloc = rt.alloc();

@@ -83,7 +83,7 @@ fn is_same(buckets: &Buckets, flat: &Flat) -> Option<bool> {
     Some(has_same_live(buckets, flat)? && has_same_prefixes(buckets, flat)?)
 }
 
-/// Whether both answer alike to one drawn call, without want of memory.
+/// Whether both answer alike to one drawn call, and neither is out of memory.
 fn answers_one_alike(buckets: &mut Buckets, flat: &mut Flat, draws: &mut Draws) -> bool {
     let contact = draws.near();
     if draws.byte() % 4 == 0 {

@@ -97,7 +97,7 @@ fn uniform(n: u8, port: u16) -> Contact {
     }
 }
 
-/// Whether 40 contacts and their failures are each answered, and then the closest n, without want of memory.
+/// Whether 40 contacts and their failures are each answered, and then the closest n, and none is out of memory.
 fn has_memory(alloc: Global, k: u8, b: u8, port: u16) -> Option<bool>
     requires some_live { 0 < k }
     requires few_live { k ≤ 20 }

@@ -84,7 +84,7 @@ fn uniform(n: u8, port: u16) -> Contact {
     }
 }
 
-/// How many of 40 contacts that a role tells of at that port are among the n closest, where there is memory throughout.
+/// How many of 40 contacts that a role tells of at that port are among the n closest, if there is memory throughout.
 fn found(alloc: Global, role: u8, port: u16, n: u8) -> Option<usize> {
     let mut table = Table::new(alloc, number(0), 20, 5).ok()?;
     for i in 1..=40u8 {

@@ -17,7 +17,7 @@ const SIBLING: &[u8] = b"sibling 0000000000000000000000000000000000000001 127.0.
 
 const END: &[u8] = b"end\n";
 
-/// Its whole lines end behind 51, 57, 120, 184 and 188 bytes.
+/// Its whole lines end after 51, 57, 120, 184 and 188 bytes.
 const WHOLE: &[u8] =
     b"table ffffffffffffffffffffffffffffffffffffffff 8 1\nrow -\nlive 0000000000000000000000000000000000000001 127.0.0.1:6001 0\nsibling 0000000000000000000000000000000000000001 127.0.0.1:6001\nend\n";
 
@@ -51,13 +51,13 @@ fn in_a_row(alloc: Global, part: &[u8]) -> Result<u32, NoMemory> {
     )
 }
 
-/// The line that is named of two lines behind these, and the last line.
+/// The line that is named of two lines after these, and the last line.
 fn in_order(alloc: Global, one: &[u8], two: &[u8]) -> Result<u32, NoMemory> {
     let both = joined(alloc, one, two, b"")?;
     in_a_row(alloc, both.as_slice())
 }
 
-/// The line that that many bytes of `WHOLE` lack: the one behind their whole lines.
+/// The line that that many bytes of `WHOLE` lack: the one after their whole lines.
 fn lacking(count: usize) -> u32 {
     if count < 51 {
         return 1;

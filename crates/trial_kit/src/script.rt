@@ -154,7 +154,7 @@ fn event(alloc: Global, reply: &Reply) -> Result<ScriptEvent, NoMemory>
     }
 }
 
-/// The script with these replies behind it.
+/// The script with these replies after it.
 pub fn with_replies(alloc: Global, script: Script, replies: &[Reply]) -> Result<Script, NoMemory>
     requires { All IsWritableEvent script }
     ensures { IfOk result (All IsWritableEvent) }

@@ -50,7 +50,7 @@ const ERROR: &[u8] =
 /// The same without a tag.
 const PLAIN_ERROR: &[u8] = b"d1:eli202e12:Server Errore1:t4:\xa0\x8d\xed\x1a1:y1:ee";
 
-/// How the one contact that is asked ends: `None` where it is heard.
+/// How the one contact that is asked ends: `None` if it is heard.
 fn cause_in(outcome: &Outcome) -> Option<Cause> {
     for entry in outcome.journal.as_slice() {
         if let Entry::Lost { cause, .. } = entry {

@@ -194,7 +194,7 @@ fn eight_paths_settle_at_once(rt: HostRuntime) -> Result<(), Fail> {
     Ok(())
 }
 
-/// A receive that fails behind a round that settled at once.
+/// A receive that fails after a round that settled at once.
 #[test]
 fn a_failing_receive_ends_it(rt: HostRuntime) -> Result<(), Fail> {
     let replies = [Reply::naming(1, 10, 3), Reply::naming(2, 10, 4)];

@@ -389,7 +389,7 @@ fn begun(plan: Plan) -> Lookup {
 }
 
 impl Lookup {
-    /// The closest node that was not asked, where fewer than k that answered are closer.
+    /// The closest node that was not asked, if fewer than k that answered are closer.
     fn next(&self) -> Option<usize> {
         let mut answered = 0usize;
         for (node, fate) in self.fates.iter().enumerate() {

@@ -263,7 +263,7 @@ fn a_seventeenth_identifier_is_a_bad_line(rt: HostRuntime) -> Result<(), Fail> {
     ends(&rt, input.as_str(), 3, "bad line 17\n")
 }
 
-/// A digit is missing, one is too many, the word is another, and a blank stands behind it or twice before it.
+/// A digit is missing, one is too many, the word is another, and a blank comes after it or twice before it.
 #[test]
 fn what_only_looks_like_a_find_line_is_bad(rt: HostRuntime) -> Result<(), Fail> {
     let zeros = "find 000000000000000000000000000000000000000";
@@ -373,7 +373,7 @@ fn the_lookups_may_need_more_receives(rt: HostRuntime) -> Result<(), Fail> {
     shows(&rt, ONE, TWO_FINDS, link, 0, BOTH_FOUND)
 }
 
-/// Behind the last answer it waits for a minute from the last moment that it was told.
+/// After the last answer it waits for a minute from the last moment that it was told.
 #[test]
 fn a_node_that_nobody_asks_waits_for_a_minute(rt: HostRuntime) -> Result<(), Fail> {
     let alloc = rt.alloc();

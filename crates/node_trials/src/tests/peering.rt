@@ -204,7 +204,7 @@ fn a_contact_learnt_on_the_way_gives_its_peers(rt: HostRuntime) -> Result<(), Fa
     Ok(())
 }
 
-/// What stands before the values of an answer of contact n, and behind those of the answer to the
+/// What stands before the values of an answer of contact n, and after those of the answer to the
 /// first query and of that to the second.
 fn answer_head(n: u8) -> [u8; 41] {
     let mut head = *b"d1:rd2:id20:\0\0\0\0\0\0\0\0\0\0\0\0\0\0\0\0\0\0\0\x016:valuesl";

@@ -110,7 +110,7 @@ const FOUND_THIRD: &str =
 const FOUND_BOTH: &str =
     "a3f8d018d15eae79bd519fbef98c5e3cfb23369e 127.0.0.1:6002\nc27d85cec2a31b5c03e13af0dbac44b20e0a9112 127.0.0.1:6003\nfound 2 asked 2 failed 0 turned 0\n";
 
-/// The answer of the third node to the first query up to the length of its proved nodes, and behind
+/// The answer of the third node to the first query up to the length of its proved nodes, and after
 /// them.
 const THIRD_HEAD: &[u8] =
     b"d1:rd2:id20:\xa3\xf8\xd0\x18\xd1\x5e\xae\x79\xbd\x51\x9f\xbe\xf9\x8c\x5e\x3c\xfb\x23\x36\x9e6:snodes";
@@ -121,7 +121,7 @@ const THIRD_END: &[u8] = b"e1:t4:\xa0\x8d\xed\x1a1:y1:re";
 const FIRST_ANSWER: &[u8] =
     b"d1:rd2:id20:\xc2\x7d\x85\xce\xc2\xa3\x1b\x5c\x03\xe1\x3a\xf0\xdb\xac\x44\xb2\x0e\x0a\x91\x12e1:t4:\xa8\x36\xef\xcc1:y1:re";
 
-/// What stands behind the key in the record of the first node: its value, its address and its port.
+/// What comes after the key in the record of the first node: its value, its address and its port.
 const FIRST_REST: [u8; 26] = [
     0, 0, 0, 0, 0, 0, 0, 0, 0, 0, 0, 0, 0, 0, 0, 0, 0, 0, 0, 0x24, 127, 0, 0, 1, 0x17, 0x73,
 ];

@@ -60,7 +60,7 @@ fn an_answer_with_more_keys_is_heard(rt: HostRuntime) -> Result<(), Fail> {
 }
 
 /// Datagrams that would be contact 1's answer to the first query, if they weren't refused: a key
-/// twice; a byte behind the end; a number of twenty digits; lists to a depth of 17.
+/// twice; a byte after the end; a number of twenty digits; lists to a depth of 17.
 const REFUSED: [&[u8]; 4] = [
     b"d1:rd2:id20:\0\0\0\0\0\0\0\0\0\0\0\0\0\0\0\0\0\0\0\x012:id20:\0\0\0\0\0\0\0\0\0\0\0\0\0\0\0\0\0\0\0\x01e1:t4:\xa0\x8d\xed\x1a1:y1:re",
     b"d1:rd2:id20:\0\0\0\0\0\0\0\0\0\0\0\0\0\0\0\0\0\0\0\x01e1:t4:\xa0\x8d\xed\x1a1:y1:rex",

@@ -6,7 +6,7 @@ use std::alloc::Global;
 use std::process::Abort;
 use std::test::Fail;
 
-/// The text of a read put: what stands in front of the value, the value, and what stands behind it.
+/// The text of a read put: what stands in front of the value, the value, and what comes after it.
 fn putting(alloc: Global, v: &[u8]) -> Result<Vec<u8>, Fail> {
     let mut text = Vec::new(alloc);
     text.extend_from_slice(b"d1:ad2:id20:abcdefghij01234567895:token8:aoeusnth1:v")?;
@@ -199,7 +199,7 @@ fn a_value_nests_fourteen_deep_and_no_deeper(rt: HostRuntime) -> Result<(), Fail
     let text = answering(alloc, deep.as_slice())?;
     again(&rt, alloc, text.as_slice());
     let deeper = nested(alloc, 15)?;
-    // The fifteenth list stands behind 52 bytes of the put, or 35 of the answer, and 14 more.
+    // The fifteenth list comes after 52 bytes of the put, or 35 of the answer, and 14 more.
     let text = putting(alloc, deeper.as_slice())?;
     refuses(
         &rt,

@@ -59,7 +59,7 @@ fn queries_for_contacts_of_ipv6_are_written(rt: HostRuntime) {
     );
 }
 
-/// A `find_node` query with this text behind its target.
+/// A `find_node` query with this text after its target.
 fn find_node_text(alloc: Global, behind: &[u8]) -> Result<Vec<u8>, Fail> {
     let mut text = Vec::new(alloc);
     text.extend_from_slice(b"d1:ad2:id20:abcdefghij01234567896:target20:mnopqrstuvwxyz123456")?;
@@ -111,7 +111,7 @@ fn a_want_that_is_no_list_counts_as_missing(rt: HostRuntime) -> Result<(), Fail>
     wants(&rt, alloc, b"4:wantd2:n62:n6e", NOTHING)
 }
 
-/// That a query which wants this is written with this text behind its info hash, and read again.
+/// That a query which wants this is written with this text after its info hash, and read again.
 fn is_written(rt: &impl Abort, alloc: Global, want: Want, behind: &[u8]) -> Result<(), Fail> {
     let mut text = Vec::new(alloc);
     text.extend_from_slice(b"d1:ad2:id20:abcdefghij01234567899:info_hash20:mnopqrstuvwxyz123456")?;
@@ -140,7 +140,7 @@ fn want_is_written_where_something_is_wanted(rt: HostRuntime) -> Result<(), Fail
     is_written(&rt, alloc, BOTH, b"4:wantl2:n42:n6e")
 }
 
-/// An answer with this text behind its identifier.
+/// An answer with this text after its identifier.
 fn answer_text(alloc: Global, behind: &[u8]) -> Result<Vec<u8>, Fail> {
     let mut text = Vec::new(alloc);
     text.extend_from_slice(b"d1:rd2:id20:abcdefghij0123456789")?;
@@ -301,7 +301,7 @@ fn two_peers(alloc: Global) -> Result<Addrs, Fail> {
     Ok(values)
 }
 
-/// All parts, their keys ascending: each stands behind the one that it begins with, and `nodes6` before `snodes`.
+/// All parts, their keys ascending: each comes after the one that it begins with, and `nodes6` before `snodes`.
 #[test]
 fn a_whole_answer_is_read_and_written(rt: HostRuntime) -> Result<(), Fail> {
     let alloc = rt.alloc();
