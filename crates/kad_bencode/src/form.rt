@@ -1,19 +1,21 @@
 //! Turns texts into written forms where they stand (BEP 3: the keys of a dictionary are sorted as raw strings). Nothing
-//! moves but the pairs of dictionaries, and a dictionary's pairs are sorted once.
-ghost use Rattle.std.specs.Prelude.{◌≡◌, ℕ, ◌<◌, ◌≤◌, List, [], ◌∷◌, ◌++◌, map, length, flat_map, IfOk, OnOk, true};
+//! moves but the pairs of dictionaries, and a dictionary's pairs are sorted once. How long each value of a dictionary is
+//! is kept as it is formed, so that nothing is scanned again for what stands around it.
+ghost use Rattle.std.specs.Prelude.{◌≡◌, ℕ, ◌+◌, ◌<◌, ◌≤◌, List, [], ◌∷◌, ◌++◌, map, length, drop, flat_map, IfOk, MatchOption, OnOk, true};
 ghost use Rattle.std.specs.List.{AllByRecursion, concat};
 ghost use Rattle.std.specs.List.Sorted.{IsPermutation, IsSortedBy};
 ghost use Rattle.kad_bencode.specs.Keys.{keys_of, IsAscending};
-ghost use Rattle.kad_bencode.specs.Spelling.{Fits, Spells, each_once, in_order, pairs_text, put_all, text_of};
+ghost use Rattle.kad_bencode.specs.Spelling.{Fits, Spells, each_once, in_order, pairs_text, put_all, string_text, text_of, values_of};
 ghost use Rattle.kad_bencode.specs.Faults.{pairs_of};
 ghost use Rattle.kad_bencode.specs.Finding.{ArePairs};
-ghost use Rattle.kad_bencode.specs.Forming.{comes_before, row_text, AreRows};
+ghost use Rattle.kad_bencode.specs.Forming.{comes_before, dict_text, row_text, AreRows, AreSizes};
+ghost use Rattle.kad_bencode.specs.Naming.{pairs_named};
 ghost use Rattle.kad_bencode.specs.Written.{Puts};
 ghost use Rattle.kad_bencode.specs.declared.entries.Pair.{Pair};
 ghost use Rattle.kad_bencode.specs.declared.value.Value.{Value};
 
 use crate::filed::is_above;
-use crate::find::first_pair;
+use crate::find::string_in;
 use crate::heads::head_of;
 use crate::into::{put_part, put_string};
 use crate::scan::{has_byte, past};
@@ -28,19 +30,40 @@ struct Row<'a> {
     text: &'a [u8],
 }
 
+/// The first pair, whose value's text has this size: its key, that text, and the pairs behind it.
+fn cut_pair(pairs: &[u8], size: usize) -> Option<(&[u8], &[u8], &[u8])>
+    ensures { (p : Pair Value) (ps : List (Pair Value)) → ArePairs pairs.now (p ∷ ps)
+        → size ≡ length (text_of p.value)
+        → MatchOption result ⊥ (λ x. (x.0.now ≡ p.key) × (x.1.now ≡ text_of p.value)
+        × ArePairs x.2.now ps) }
+{
+    match string_in(pairs) {
+        Some((key, from)) => {
+            let behind = &pairs[from..];
+            if size > behind.len() {
+                return None;
+            }
+            Some((key, &behind[..size], &behind[size..]))
+        }
+        None => None,
+    }
+}
+
 /// The pairs, in the order of the text.
-fn rows_of(alloc: Global, pairs: &[u8]) -> Result<Vec<Row<'_>>, NoMemory>
-    ensures { (ps : List (Pair Value)) → ArePairs pairs.now ps
+fn rows_of<'a>(alloc: Global, pairs: &'a [u8], sizes: &[usize]) -> Result<Vec<Row<'a>>, NoMemory>
+    ensures { (ps : List (Pair Value)) → ArePairs pairs.now ps → AreSizes sizes.now ps
         → IfOk result (λ rows. AreRows rows.items ps) }
 {
     let mut rows = Vec::new(alloc);
     let mut rest = pairs;
-    while rest.len() > 0 {
-        match first_pair(rest) {
+    let mut i = 0;
+    while i < sizes.len() {
+        match cut_pair(rest, sizes[i]) {
             Some((key, text, others)) => {
                 let head = head_of(key);
                 rows.push(Row { head, key, text })?;
                 rest = others;
+                i += 1;
             }
             None => return Ok(rows),
         }
@@ -77,21 +100,27 @@ fn put_rows(text: &mut [u8], rows: &[Row<'_>]) -> usize
 }
 
 /// Whether the keys of some pairs ascend, as those of a written form do.
-fn ascend(pairs: &[u8]) -> bool
-    ensures { (ps : List (Pair Value)) → ArePairs pairs.now ps → result ≡ true → IsAscending ps }
+fn ascend(pairs: &[u8], sizes: &[usize]) -> bool
+    ensures { (ps : List (Pair Value)) → ArePairs pairs.now ps → AreSizes sizes.now ps
+        → result ≡ true → IsAscending ps }
 {
-    let (mut last, mut rest) = match first_pair(pairs) {
+    if sizes.len() < 2 {
+        return true;
+    }
+    let (mut last, mut rest) = match cut_pair(pairs, sizes[0]) {
         Some((key, _, others)) => (key, others),
         None => return false,
     };
-    while rest.len() > 0 {
-        match first_pair(rest) {
+    let mut i = 1;
+    while i < sizes.len() {
+        match cut_pair(rest, sizes[i]) {
             Some((key, _, others)) => {
                 if !is_above(key, last) {
                     return false;
                 }
                 last = key;
                 rest = others;
+                i += 1;
             }
             None => return false,
         }
@@ -100,18 +129,32 @@ fn ascend(pairs: &[u8]) -> bool
 }
 
 /// Puts the pairs that stand there into the order of their keys, if they aren't in it.
-fn order_pairs(alloc: Global, pairs: &mut [u8]) -> Result<(), NoMemory>
-    ensures { (ps : List (Pair Value)) → ArePairs pairs.old ps → each_once (keys_of ps) ≡ true
+fn order_pairs(alloc: Global, pairs: &mut [u8], sizes: &[usize]) -> Result<(), NoMemory>
+    ensures { (ps : List (Pair Value)) → ArePairs pairs.old ps → AreSizes sizes.now ps → each_once (keys_of ps) ≡ true
         → OnOk result (pairs.new ≡ pairs_text (pairs_of (put_all [] ps))) }
 {
-    if ascend(pairs) {
+    if ascend(pairs, sizes) {
         return Ok(());
     }
     let copy = Vec::from_slice(alloc, pairs)?;
-    let mut rows = rows_of(alloc, copy.as_slice())?;
+    let mut rows = rows_of(alloc, copy.as_slice(), sizes)?;
     sort_rows(&mut rows);
     let _end = put_rows(pairs, rows.as_slice());
     Ok(())
+}
+
+/// Where the key at a place ends.
+fn key_end(text: &[u8], at: usize) -> usize
+    requires { at ≤ length text.now }
+    ensures within { result ≤ length text.now }
+    ensures moves { at < length text.now → at < result }
+    ensures ends { (key rest : List ℕ) → drop at text.now ≡ string_text key ++ rest
+        → result ≡ at + length (string_text key) }
+{
+    match string_in(&text[at..]) {
+        Some((_, size)) => at + size,
+        None => text.len(),
+    }
 }
 
 /// Turns the value at the front into its written form, and answers how long it is.
@@ -126,18 +169,12 @@ fn form_value(alloc: Global, text: &mut [u8]) -> Result<usize, NoMemory>
         return form_values(alloc, text);
     }
     if has_byte(text, 0, b'd') {
-        let end = form_values(alloc, text)?;
-        if end < 2 {
-            return Ok(end);
-        }
-        order_pairs(alloc, &mut text[1..end - 1])?;
-        return Ok(end);
+        return form_pairs(alloc, text);
     }
     Ok(past(text))
 }
 
-/// Turns the values between the first byte and the end of a list, or the keys and values of a dictionary, into their written
-/// forms, and answers where it ends.
+/// Turns a list into its written form, and answers where it ends.
 #[cycle(forming)]
 fn form_values(alloc: Global, text: &mut [u8]) -> Result<usize, NoMemory>
     requires { 0 < length text.old }
@@ -155,6 +192,32 @@ fn form_values(alloc: Global, text: &mut [u8]) -> Result<usize, NoMemory>
         }
         let size = form_value(alloc, &mut text[at..])?;
         at += size;
+    }
+    Ok(at)
+}
+
+/// Turns a dictionary into its written form, and answers where it ends.
+#[cycle(forming)]
+fn form_pairs(alloc: Global, text: &mut [u8]) -> Result<usize, NoMemory>
+    requires { 0 < length text.old }
+    ensures within { IfOk result (λ n. n ≤ length text.old) }
+    ensures moves { IfOk result (λ n. 0 < n) }
+    ensures forms { (ps : List (Pair Value)) (rest : List ℕ)
+        → text.old ≡ dict_text ps ++ rest → AllByRecursion (Fits 0) (values_of ps) → each_once (keys_of ps) ≡ true
+        → IfOk result (λ n. (n ≡ length (dict_text ps))
+        × (text.new ≡ dict_text (put_all [] (pairs_named ps)) ++ rest)) }
+{
+    let mut sizes = Vec::new(alloc);
+    let mut at = 1;
+    'pairs: while at < text.len() {
+        if has_byte(text, at, b'e') {
+            order_pairs(alloc, &mut text[1..at], sizes.as_slice())?;
+            return Ok(at + 1);
+        }
+        let behind = key_end(text, at);
+        let size = form_value(alloc, &mut text[behind..])?;
+        sizes.push(size)?;
+        at = behind + size;
     }
     Ok(at)
 }
