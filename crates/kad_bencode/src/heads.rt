@@ -15,13 +15,22 @@ pub(crate) struct Heads {
     pub(crate) room: [u16; MOST],
 }
 
-/// The first eight bytes of a key as a number, the first of them the highest; a shorter key as if zeros came after it.
+/// The first eight bytes of a key as a number, the first of them the highest; a shorter key as if zeros came after it. The
+/// lowest bit is left out, so that a difference of two has a sign.
 pub(crate) fn head_of(key: &[u8]) -> u64 {
     let mut head = 0;
     for i in 0..key.len().min(8) {
         head |= (key[i] as u64) << (56 - 8 * i);
     }
-    head
+    head / 2
+}
+
+/// 1 where the first head is below the second, and 0 elsewhere. It is computed: where keys come in any order, a processor
+/// guesses every second branch wrong.
+fn is_lower(a: u64, b: u64) -> usize
+    ensures { result ≤ 1 }
+{
+    (a.wrapping_sub(b) >> 63) as usize
 }
 
 impl Heads {
@@ -37,14 +46,12 @@ impl Heads {
         ensures { result ≤ length places.now }
     {
         let mut low = 0;
-        let mut high = places.len();
-        while low < high {
-            let middle = low + (high - low) / 2;
-            if self.heads[places[middle] as usize / 4 % MANY] < head {
-                low = middle + 1;
-            } else {
-                high = middle;
-            }
+        let mut left = places.len();
+        while left > 0 {
+            let half = left - left / 2;
+            let there = self.heads[places[low + half - 1] as usize / 4 % MANY];
+            low += half * is_lower(there, head);
+            left /= 2;
         }
         low
     }

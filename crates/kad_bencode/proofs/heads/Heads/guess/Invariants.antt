@@ -1,11 +1,8 @@
-use Rattle.std.proofs.Common.{◌-◌, ◌≤◌, length}
+use Rattle.std.proofs.Common.{◌+◌, ◌≤◌, length}
 use Rattle.kad_bencode.proofs.heads.Heads.guess.Given as goal
 
-abbrev pub invariant-loop-low : goal.invariant-loop-low
-invariant-loop-low l = record {
-  order : l.low ≤ l.high;
-  within : l.high ≤ length l.places;
-}
+abbrev pub invariant-loop-left : goal.invariant-loop-left
+invariant-loop-left l = l.low + l.left ≤ length l.places
 
-abbrev pub decreases-loop-low : goal.decreases-loop-low
-decreases-loop-low l = l.high - l.low
+abbrev pub decreases-loop-left : goal.decreases-loop-left
+decreases-loop-left l = l.left
