@@ -19,10 +19,16 @@ use Rattle.kad_words.specs.declared.choice.Kind.TheVariants.{IpVersion, Number}
 use Rattle.kad_words.specs.declared.choice.Need.{Need}
 use Rattle.kad_words.specs.declared.choice.Need.TheVariants.{OrElse}
 use Rattle.kad_words.specs.declared.command.Command.{Command}
-use Rattle.kad_words.specs.declared.command.Command.TheVariants.{Lookup}
+use Rattle.kad_words.specs.declared.command.Command.TheVariants.{Lookup, Serve, Node, Table, Refresh, Mint, Sim}
 use Rattle.kad_words.specs.declared.command.CommandKind.{CommandKind}
 use Rattle.kad_words.specs.declared.command.CommandKind.TheVariants as kind
 use Rattle.kad_words.specs.declared.command.LookWords.{LookWords}
+use Rattle.kad_words.specs.declared.command.MintWords.{MintWords}
+use Rattle.kad_words.specs.declared.command.NodeWords.{NodeWords}
+use Rattle.kad_words.specs.declared.command.RefreshWords.{RefreshWords}
+use Rattle.kad_words.specs.declared.command.ServeWords.{ServeWords}
+use Rattle.kad_words.specs.declared.command.SimWords.{SimWords}
+use Rattle.kad_words.specs.declared.command.TableWords.{TableWords}
 use Rattle.kad_words.specs.Values.{FamilyBy, IsGiven, IsGivenOr, MayBeGiven, MayNumberBy, NumberBy}
 use Rattle.kad_words.proofs.Checks.{pairs_are}
 use Rattle.kad_words.proofs.Listing.{one_word}
@@ -207,8 +213,66 @@ all_small : (a : Command) → list_all is_small (parts_of a) ≡ true
 all_small (Lookup a) = refl
 all_small other = refl
 
+-- ---- words that give the same parts are the same
+
+serve_once : (a b : ServeWords) → parts_of (Serve a) ≡ parts_of (Serve b) → a ≡ b
+serve_once a b same =
+    let own_is : a.own ≡ b.own = cc in
+    let k_is : a.k ≡ b.k = cc in
+    let bits_is : a.bits ≡ b.bits = cc in
+    let policy_is : a.policy ≡ b.policy = cc in
+    let receives_is : a.receives ≡ b.receives = cc in
+    let workers_is : a.workers ≡ b.workers = cc in
+    let sealed_is : a.sealed ≡ b.sealed = cc in
+    λ i. record { own = own_is i; k = k_is i; bits = bits_is i; policy = policy_is i; receives = receives_is i; workers = workers_is i; sealed = sealed_is i }
+
+node_once : (a b : NodeWords) → parts_of (Node a) ≡ parts_of (Node b) → a ≡ b
+node_once a b same =
+    let look_is : a.look ≡ b.look = cc in
+    let receives_is : a.receives ≡ b.receives = cc in
+    λ i. record { look = look_is i; receives = receives_is i }
+
+table_once : (a b : TableWords) → parts_of (Table a) ≡ parts_of (Table b) → a ≡ b
+table_once a b same =
+    let own_is : a.own ≡ b.own = cc in
+    let k_is : a.k ≡ b.k = cc in
+    let bits_is : a.bits ≡ b.bits = cc in
+    let policy_is : a.policy ≡ b.policy = cc in
+    λ i. record { own = own_is i; k = k_is i; bits = bits_is i; policy = policy_is i }
+
+refresh_once : (a b : RefreshWords) → parts_of (Refresh a) ≡ parts_of (Refresh b) → a ≡ b
+refresh_once a b same =
+    let timeout_is : a.timeout ≡ b.timeout = cc in
+    let sealed_is : a.sealed ≡ b.sealed = cc in
+    λ i. record { timeout = timeout_is i; sealed = sealed_is i }
+
+mint_once : (a b : MintWords) → parts_of (Mint a) ≡ parts_of (Mint b) → a ≡ b
+mint_once a b same =
+    let seed_is : a.seed ≡ b.seed = cc in
+    let c1_is : a.c1 ≡ b.c1 = cc in
+    let c2_is : a.c2 ≡ b.c2 = cc in
+    let tries_is : a.tries ≡ b.tries = cc in
+    λ i. record { seed = seed_is i; c1 = c1_is i; c2 = c2_is i; tries = tries_is i }
+
+sim_once : (a b : SimWords) → parts_of (Sim a) ≡ parts_of (Sim b) → a ≡ b
+sim_once a b same =
+    let seed_is : a.seed ≡ b.seed = cc in
+    let nodes_is : a.nodes ≡ b.nodes = cc in
+    let hostile_is : a.hostile ≡ b.hostile = cc in
+    let k_is : a.k ≡ b.k = cc in
+    let paths_is : a.paths ≡ b.paths = cc in
+    let alpha_is : a.alpha ≡ b.alpha = cc in
+    let timeout_is : a.timeout ≡ b.timeout = cc in
+    λ i. record { seed = seed_is i; nodes = nodes_is i; hostile = hostile_is i; k = k_is i; paths = paths_is i; alpha = alpha_is i; timeout = timeout_is i }
+
 made_once : (a b : Command) → kind_of a ≡ kind_of b → parts_of a ≡ parts_of b → a ≡ b
 made_once (Lookup a) (Lookup b) e same = cc
+made_once (Serve a) (Serve b) e same = ap Serve (serve_once a b same)
+made_once (Node a) (Node b) e same = ap Node (node_once a b same)
+made_once (Table a) (Table b) e same = ap Table (table_once a b same)
+made_once (Refresh a) (Refresh b) e same = ap Refresh (refresh_once a b same)
+made_once (Mint a) (Mint b) e same = ap Mint (mint_once a b same)
+made_once (Sim a) (Sim b) e same = ap Sim (sim_once a b same)
 made_once other (Lookup b) e same = cc
 made_once a b e same = cc
 

@@ -234,6 +234,21 @@ key_of item = record { 0 = hash item }
 abbrev pub no_target : Id
 no_target = record { 0 = replicate 20 0 }
 
+-- a lookup over IPv4 that names these: its own identifier is drawn, buckets split by one bit, and every report passes
+abbrev pub plain_look : Id → ℕ → ℕ → ℕ → ℕ → LookWords
+plain_look goal k paths alpha timeout = record {
+  target = goal;
+  own = None;
+  k = k;
+  paths = paths;
+  alpha = alpha;
+  timeout = timeout;
+  bits = 1;
+  policy = policy.Plain;
+  family = Four;
+  sealed = false;
+}
+
 -- the options of a lookup with this target, but for its family
 pub record IsLookAt (goal : Id) (value : Values) (look : LookWords) : Type 0 where
   pub target : look.target ≡ goal
@@ -295,15 +310,15 @@ parts_of (Lookup look) = gives_look target_option look ∷ []
 parts_of (Peers look announce) = gives_look key_option look ∷ may_give_number announce_option announce ∷ []
 parts_of (Get look) = gives_look key_option look ∷ []
 parts_of (Put look item) = gives_item value_option item look ∷ []
-parts_of (Serve own k bits policy receives workers sealed) =
-    gives_id own_option own ∷ gives_number k_option k ∷ gives_number bits_option bits ∷ gives_policy policy ∷ gives_number receives_option receives ∷ gives_number workers_option workers ∷ says_whether group_option sealed ∷ []
-parts_of (Node look receives) = gives_looks look ∷ gives_number node_receives_option receives ∷ []
-parts_of (Table own k bits policy) = gives_id own_option own ∷ gives_number k_option k ∷ gives_number bits_option bits ∷ gives_policy policy ∷ []
-parts_of (Refresh timeout sealed) = gives_number timeout_option timeout ∷ says_whether group_option sealed ∷ []
+parts_of (Serve words) =
+    gives_id own_option words.own ∷ gives_number k_option words.k ∷ gives_number bits_option words.bits ∷ gives_policy words.policy ∷ gives_number receives_option words.receives ∷ gives_number workers_option words.workers ∷ says_whether group_option words.sealed ∷ []
+parts_of (Node words) = gives_looks words.look ∷ gives_number node_receives_option words.receives ∷ []
+parts_of (Table words) = gives_id own_option words.own ∷ gives_number k_option words.k ∷ gives_number bits_option words.bits ∷ gives_policy words.policy ∷ []
+parts_of (Refresh words) = gives_number timeout_option words.timeout ∷ says_whether group_option words.sealed ∷ []
 parts_of (Check policy) = gives_policy policy ∷ []
-parts_of (Mint seed c1 c2 tries) = gives_seed seed_option seed ∷ gives_number c1_option c1 ∷ gives_number c2_option c2 ∷ gives_number tries_option tries ∷ []
-parts_of (Sim seed nodes hostile k paths alpha timeout) =
-    gives_seed seed_option seed ∷ gives_number nodes_option nodes ∷ gives_number hostile_option hostile ∷ gives_number k_option k ∷ gives_number paths_option paths ∷ gives_number alpha_option alpha ∷ gives_number timeout_option timeout ∷ []
+parts_of (Mint words) = gives_seed seed_option words.seed ∷ gives_number c1_option words.c1 ∷ gives_number c2_option words.c2 ∷ gives_number tries_option words.tries ∷ []
+parts_of (Sim words) =
+    gives_seed seed_option words.seed ∷ gives_number nodes_option words.nodes ∷ gives_number hostile_option words.hostile ∷ gives_number k_option words.k ∷ gives_number paths_option words.paths ∷ gives_number alpha_option words.alpha ∷ gives_number timeout_option words.timeout ∷ []
 
 -- what the values of a command line ask for
 abbrev pub Says : Values → Command → Type 0
@@ -315,13 +330,13 @@ kind_of (Lookup look) = kind.Lookup
 kind_of (Peers look announce) = kind.Peers
 kind_of (Get look) = kind.Get
 kind_of (Put look item) = kind.Put
-kind_of (Serve own k bits policy receives workers sealed) = kind.Serve
-kind_of (Node look receives) = kind.Node
-kind_of (Table own k bits policy) = kind.Table
-kind_of (Refresh timeout sealed) = kind.Refresh
+kind_of (Serve words) = kind.Serve
+kind_of (Node words) = kind.Node
+kind_of (Table words) = kind.Table
+kind_of (Refresh words) = kind.Refresh
 kind_of (Check policy) = kind.Check
-kind_of (Mint seed c1 c2 tries) = kind.Mint
-kind_of (Sim seed nodes hostile k paths alpha timeout) = kind.Sim
+kind_of (Mint words) = kind.Mint
+kind_of (Sim words) = kind.Sim
 
 abbrev pub word_of : Command → Word
 word_of command = kind_word (kind_of command)

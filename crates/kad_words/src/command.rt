@@ -1,6 +1,6 @@
 //! The commands: what each asks for, its word, its options, and how it is made of their values.
 ghost use Rattle.std.specs.Prelude.{◌≡◌, IfOk, MatchOption};
-ghost use Rattle.kad_words.specs.Table.{check, get, lookup, mint, node, peers, put, refresh, serve, sim, table, family_option, kind_word, key_of, links, options_of, word_of, IsLook, IsLookAt, Says};
+ghost use Rattle.kad_words.specs.Table.{check, get, lookup, mint, node, peers, put, refresh, serve, sim, table, family_option, kind_word, key_of, links, options_of, plain_look, word_of, IsLook, IsLookAt, Says};
 ghost use Rattle.kad_words.specs.Listed.{entries_of, entry_of};
 ghost use Rattle.kad_words.specs.Taken.{taken_of};
 ghost use Rattle.kad_words.specs.Fitting.{AllFit, Fits, LookFits};
@@ -43,56 +43,33 @@ pub enum Command {
         look: LookWords,
         value: Bytes,
     },
-    /// Answer queries, for that many receive calls, by so many workers. `sealed` is whether replies carry a group's tag.
+    /// Answer queries.
     Serve {
-        own: Option<Id>,
-        k: u8,
-        bits: u8,
-        policy: Policy,
-        receives: u32,
-        workers: u8,
-        sealed: bool,
+        words: ServeWords,
     },
-    /// Look for several identifiers at once, which the input names, and answer queries meanwhile, and on until that many
-    /// receive calls were made at least. The target in `look` is 20 zero bytes, and the family is that of IPv4.
+    /// Look for several identifiers at once, which the input names, and answer queries meanwhile.
     Node {
-        look: LookWords,
-        receives: u32,
+        words: NodeWords,
     },
     /// Make the routing table of the IPv4 contacts of contact lines, and print it as a saved text.
     Table {
-        own: Option<Id>,
-        k: u8,
-        bits: u8,
-        policy: Policy,
+        words: TableWords,
     },
-    /// Ping the least recently seen contact of each bucket of a saved table, and save what results. `timeout` is in
-    /// milliseconds; `sealed` is whether a reply has to carry a group's tag.
+    /// Ping the least recently seen contact of each bucket of a saved table, and save what results.
     Refresh {
-        timeout: u32,
-        sealed: bool,
+        words: RefreshWords,
     },
     /// Say which contact lines pass a policy.
     Check {
         policy: Policy,
     },
-    /// Find an identifier that solves both puzzles, from a seed, in that many tries.
+    /// Find an identifier that solves both puzzles, from a seed.
     Mint {
-        seed: Option<[u8; 32]>,
-        c1: u8,
-        c2: u8,
-        tries: u32,
+        words: MintWords,
     },
-    /// Look up in a network that is made from a seed: that many nodes, of which `hostile` in a hundred are hostile.
-    /// `timeout` is in milliseconds.
+    /// Look up in a network that is made from a seed.
     Sim {
-        seed: Option<[u8; 32]>,
-        nodes: u32,
-        hostile: u8,
-        k: u8,
-        paths: u8,
-        alpha: u8,
-        timeout: u32,
+        words: SimWords,
     },
 }
 
@@ -111,6 +88,85 @@ pub struct LookWords {
     pub policy: Policy,
     pub family: Family,
     pub sealed: bool,
+}
+
+/// The options of `serve`: the node's own identifier where it is named, Kademlia's k and b, which contacts pass, how many
+/// receive calls are made, how many workers answer, and whether replies carry a group's tag.
+#[derive(Clone, Copy, Debug, PartialEq, Eq)]
+pub struct ServeWords {
+    pub own: Option<Id>,
+    pub k: u8,
+    pub bits: u8,
+    pub policy: Policy,
+    pub receives: u32,
+    pub workers: u8,
+    pub sealed: bool,
+}
+
+/// The options of `node`: those of its lookups, whose target is 20 zero bytes and whose family is that of IPv4; and how many
+/// receive calls it makes at least.
+#[derive(Clone, Copy, Debug, PartialEq, Eq)]
+pub struct NodeWords {
+    pub look: LookWords,
+    pub receives: u32,
+}
+
+/// The options of `table`: the table's own identifier where it is named, Kademlia's k and b, and which contacts pass.
+#[derive(Clone, Copy, Debug, PartialEq, Eq)]
+pub struct TableWords {
+    pub own: Option<Id>,
+    pub k: u8,
+    pub bits: u8,
+    pub policy: Policy,
+}
+
+/// The options of `refresh`: how long to wait for a reply, in milliseconds, and whether a reply has to carry a group's tag.
+#[derive(Clone, Copy, Debug, PartialEq, Eq)]
+pub struct RefreshWords {
+    pub timeout: u32,
+    pub sealed: bool,
+}
+
+/// The options of `mint`: the seed where it is named, how many bits each puzzle asks for, and in how many tries.
+#[derive(Clone, Copy, Debug, PartialEq, Eq)]
+pub struct MintWords {
+    pub seed: Option<[u8; 32]>,
+    pub c1: u8,
+    pub c2: u8,
+    pub tries: u32,
+}
+
+/// The options of `sim`: the seed where it is named, how many nodes the network has, of which `hostile` in a hundred are
+/// hostile; and of the lookup Kademlia's k, the disjoint paths, alpha on each, and how long to wait for an answer, in
+/// milliseconds.
+#[derive(Clone, Copy, Debug, PartialEq, Eq)]
+pub struct SimWords {
+    pub seed: Option<[u8; 32]>,
+    pub nodes: u32,
+    pub hostile: u8,
+    pub k: u8,
+    pub paths: u8,
+    pub alpha: u8,
+    pub timeout: u32,
+}
+
+/// The options of a lookup over IPv4 that names these, draws its own identifier, splits buckets by one bit, and takes every
+/// report.
+pub fn plain_look(target: Id, k: u8, paths: u8, alpha: u8, timeout: u32) -> LookWords
+    ensures { result ≡ plain_look target k paths alpha timeout }
+{
+    LookWords {
+        target,
+        own: None,
+        k,
+        paths,
+        alpha,
+        timeout,
+        bits: 1,
+        policy: Policy::Plain,
+        family: Family::Four,
+        sealed: false,
+    }
 }
 
 /// Why words give no command.
@@ -351,7 +407,7 @@ fn serve(matches: &ArgMatches) -> Command
     ensures says { Says (taken_of matches.now) result }
     ensures word { word_of result ≡ serve }
 {
-    Command::Serve {
+    let words = ServeWords {
         own: id(matches, &OWN),
         k: small(matches, &K),
         bits: small(matches, &BITS),
@@ -359,7 +415,8 @@ fn serve(matches: &ArgMatches) -> Command
         receives: number(matches, &RECEIVES),
         workers: small(matches, &WORKERS),
         sealed: stands(matches, &GROUP),
-    }
+    };
+    Command::Serve { words }
 }
 
 fn node(matches: &ArgMatches) -> Command
@@ -367,10 +424,11 @@ fn node(matches: &ArgMatches) -> Command
     ensures says { Says (taken_of matches.now) result }
     ensures word { word_of result ≡ node }
 {
-    Command::Node {
+    let words = NodeWords {
         look: look_at(matches, Id([0; 20]), Family::Four),
         receives: number(matches, &NODE_RECEIVES),
-    }
+    };
+    Command::Node { words }
 }
 
 fn table(matches: &ArgMatches) -> Command
@@ -378,12 +436,13 @@ fn table(matches: &ArgMatches) -> Command
     ensures says { Says (taken_of matches.now) result }
     ensures word { word_of result ≡ table }
 {
-    Command::Table {
+    let words = TableWords {
         own: id(matches, &OWN),
         k: small(matches, &K),
         bits: small(matches, &BITS),
         policy: policy(matches),
-    }
+    };
+    Command::Table { words }
 }
 
 fn refresh(matches: &ArgMatches) -> Command
@@ -391,10 +450,11 @@ fn refresh(matches: &ArgMatches) -> Command
     ensures says { Says (taken_of matches.now) result }
     ensures word { word_of result ≡ refresh }
 {
-    Command::Refresh {
+    let words = RefreshWords {
         timeout: number(matches, &TIMEOUT),
         sealed: stands(matches, &GROUP),
-    }
+    };
+    Command::Refresh { words }
 }
 
 fn check(matches: &ArgMatches) -> Command
@@ -412,12 +472,13 @@ fn mint(matches: &ArgMatches) -> Command
     ensures says { Says (taken_of matches.now) result }
     ensures word { word_of result ≡ mint }
 {
-    Command::Mint {
+    let words = MintWords {
         seed: seed(matches, &SEED),
         c1: small(matches, &C1),
         c2: small(matches, &C2),
         tries: number(matches, &TRIES),
-    }
+    };
+    Command::Mint { words }
 }
 
 fn sim(matches: &ArgMatches) -> Command
@@ -425,7 +486,7 @@ fn sim(matches: &ArgMatches) -> Command
     ensures says { Says (taken_of matches.now) result }
     ensures word { word_of result ≡ sim }
 {
-    Command::Sim {
+    let words = SimWords {
         seed: seed(matches, &SEED),
         nodes: number(matches, &NODES),
         hostile: small(matches, &HOSTILE),
@@ -433,5 +494,6 @@ fn sim(matches: &ArgMatches) -> Command
         paths: small(matches, &PATHS),
         alpha: small(matches, &ALPHA),
         timeout: number(matches, &TIMEOUT),
-    }
+    };
+    Command::Sim { words }
 }

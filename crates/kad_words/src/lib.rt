@@ -13,6 +13,9 @@ mod reading;
 mod values;
 
 pub use bind::{bind_of, takes_link};
-pub use command::{Command, CommandKind, LookWords, WordsFault};
+pub use command::{
+    Command, CommandKind, LookWords, MintWords, NodeWords, RefreshWords, ServeWords, SimWords,
+    TableWords, WordsFault, plain_look,
+};
 pub use group::{group_of, lacks_group};
 pub use reading::{one_command, read};

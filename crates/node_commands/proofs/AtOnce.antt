@@ -13,7 +13,7 @@ use Rattle.node_serve.specs.declared.service.ServeFault.{ServeFault}
 use Rattle.node_serve.specs.declared.service.ServeFault.TheVariants.{NoMemory}
 use Rattle.node_serve.specs.declared.setting.ServeSetting.{ServeSetting}
 use Rattle.serve_batches.specs.ManyServed.{ManyServed, ManyBegun}
-use Rattle.node_commands.specs.declared.serve.Service.{Service}
+use Rattle.kad_words.specs.declared.command.ServeWords.{ServeWords}
 use Rattle.command_base.specs.Called.{Called}
 use Rattle.node_commands.specs.Served.{setting_of, Served, ServedSome, ServedAtOnce, ServedSomeAtOnce, HasServed, HasServedSome, alone, at_once, some_alone, some_at_once}
 use Rattle.command_base.specs.Shown.{Shown}
@@ -27,16 +27,16 @@ happens_then a b c began P Q g h f = record {
   holds = f h.events h.holds;
 }
 
-abbrev setting_by : Service → List Report → Id → TokensState → ServeSetting
+abbrev setting_by : ServeWords → List Report → Id → TokensState → ServeSetting
 setting_by service proofs own tokens = record { own = own; k = service.k; policy = service.policy; proofs = proofs; tokens = tokens; sealed = service.sealed }
 
 -- what the workers answer by, as the code has it
-pub setting_is : (service : Service) (random : List ℕ) (proofs : List Report) (own : Id) (tokens : TokensState) → own ≡ own_of service.own random → tokens ≡ record { seed = random; began = 0 }
+pub setting_is : (service : ServeWords) (random : List ℕ) (proofs : List Report) (own : Id) (tokens : TokensState) → own ≡ own_of service.own random → tokens ≡ record { seed = random; began = 0 }
     → record { own = own; k = service.k; policy = service.policy; proofs = proofs; tokens = tokens; sealed = service.sealed } ≡ setting_of service random proofs
 setting_is service random proofs own tokens mine drawn =
     ap (λ (id : Id). setting_by service proofs id tokens) mine ∙ ap (λ (t : TokensState). setting_by service proofs (own_of service.own random) t) drawn
 
-pub served_at_once : (service : Service) (called : Called) (table after : TableState) (proofs : List Report) (setting : ServeSetting) (began received replied : ℕ) (a b c : Option (List Event))
+pub served_at_once : (service : ServeWords) (called : Called) (table after : TableState) (proofs : List Report) (setting : ServeSetting) (began received replied : ℕ) (a b c : Option (List Event))
     → setting ≡ setting_of service called.random proofs → Grows a b (λ es. es ≡ Now began ∷ [])
     → Happens b c (ManyServed called.tags setting service.workers began service.receives table after received replied)
     → Happens a c (ServedAtOnce service called table after proofs received replied)
@@ -48,7 +48,7 @@ served_at_once service called table after proofs setting began received replied 
       serves = subst (λ (s : ServeSetting). ManyServed called.tags s service.workers began service.receives table after received replied es) is p;
     })
 
-pub begun_at_once : (service : Service) (called : Called) (table after : TableState) (proofs : List Report) (setting : ServeSetting) (began : ℕ) (fault : ServeFault) (a b c : Option (List Event))
+pub begun_at_once : (service : ServeWords) (called : Called) (table after : TableState) (proofs : List Report) (setting : ServeSetting) (began : ℕ) (fault : ServeFault) (a b c : Option (List Event))
     → setting ≡ setting_of service called.random proofs → Grows a b (λ es. es ≡ Now began ∷ [])
     → Happens b c (ManyBegun called.tags setting service.workers began service.receives table after fault)
     → Happens a c (ServedSomeAtOnce service called table after proofs fault)
@@ -62,7 +62,7 @@ begun_at_once service called table after proofs setting began fault a b c is g h
 
 -- ---- all that was served is some
 
-module _ (service : Service) (called : Called) (link : Shown Event) (table : TableState) (proofs : List Report) (received replied : ℕ) where
+module _ (service : ServeWords) (called : Called) (link : Shown Event) (table : TableState) (proofs : List Report) (received replied : ℕ) where
   alone_some : Grows link.before link.after (Served service called table proofs received replied) → Grows link.before link.after (ServedSome service called table proofs)
   alone_some g = grows_weaker link.before link.after _ _ g (λ es s. record {
     began = s.began;

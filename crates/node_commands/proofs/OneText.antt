@@ -10,7 +10,7 @@ use Rattle.command_base.specs.Shown.{SameEvents, Shown}
 use Rattle.node_commands.specs.Printed.{printed_served}
 use Rattle.contact_table.specs.TableState.{TableState}
 use Rattle.node_serve.specs.Receives.{got_in, sent_in}
-use Rattle.node_commands.specs.declared.serve.Service.{Service}
+use Rattle.kad_words.specs.declared.command.ServeWords.{ServeWords}
 use Rattle.command_base.proofs.Repeated.{added_once}
 
 -- so many datagrams came, and so many replies were sent
@@ -18,7 +18,7 @@ record Counted (received replied : ℕ) (events : List Event) : Type 0 where
   received_are : received ≡ got_in events
   replied_are : replied ≡ sent_in events
 
-counted : (service : Service) (called : Called) (link : Shown Event) (table : TableState) (proofs : List Report) (received replied : ℕ) → HasServed service called link table proofs received replied
+counted : (service : ServeWords) (called : Called) (link : Shown Event) (table : TableState) (proofs : List Report) (received replied : ℕ) → HasServed service called link table proofs received replied
     → Grows link.before link.after (Counted received replied)
 counted service called link table proofs received replied (alone one g) =
     grows_weaker link.before link.after _ _ g (λ es s. record { received_are = s.serves.received_are ∙ sym (ap got_in s.whole); replied_are = s.serves.replied_are ∙ sym (ap sent_in s.whole) })
@@ -28,7 +28,7 @@ counted service called link table proofs received replied (at_once several after
       replied_are = h.holds.serves.replied_are ∙ sym (ap sent_in h.holds.whole) ∙ sym (ap sent_in is);
     })
 
-pub serve_once : (service : Service) (called : Called) (source again : Shown ℕ) (link beside : Shown Event) (t u : List ℕ) → SameEvents link beside
+pub serve_once : (service : ServeWords) (called : Called) (source again : Shown ℕ) (link beside : Shown Event) (t u : List ℕ) → SameEvents link beside
     → ServeText service called source link t → ServeText service called again beside u → t ≡ u
 serve_once service called source again link beside t u same a b =
     let x = counted service called link a.table a.proofs a.received a.replied a.tells in

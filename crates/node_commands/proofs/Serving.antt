@@ -20,7 +20,7 @@ use Rattle.contact_table.specs.Told.{new_table}
 use Rattle.lookup_run.specs.Lookup.{TableTold}
 use Rattle.node_serve.specs.NodeState.{NodeState, new_node}
 use Rattle.node_serve.specs.Receives.{ServeState, ServesAll, ServesSome}
-use Rattle.node_commands.specs.declared.serve.Service.{Service}
+use Rattle.kad_words.specs.declared.command.ServeWords.{ServeWords}
 use Rattle.command_base.specs.declared.status.Status.{Status}
 use Rattle.command_base.specs.declared.status.Status.TheVariants.{LinkFault}
 use Rattle.command_base.specs.Endings.{EndsUnasked as EndsBefore}
@@ -37,12 +37,12 @@ use Rattle.command_base.proofs.Ranges.{within, table_in_range}
 -- ---- the command
 
 -- the node that it begins with, as the code has it
-pub node_begun : (service : Service) (random : List ℕ) (table : TableState) (proofs : List Report) (own : Id) (began : ℕ) (node : NodeState) → own ≡ own_of service.own random
+pub node_begun : (service : ServeWords) (random : List ℕ) (table : TableState) (proofs : List Report) (own : Id) (began : ℕ) (node : NodeState) → own ≡ own_of service.own random
     → node ≡ new_node own service.k service.policy table proofs random began service.sealed → record { node = node; moment = began } ≡ begun_at service random table proofs began
 node_begun service random table proofs own began node mine is =
     ap (λ n. record { node = n; moment = began }) (is ∙ ap (λ (id : Id). new_node id service.k service.policy table proofs random began service.sealed) mine)
 
-pub served_all : (service : Service) (called : Called) (table : TableState) (proofs : List Report) (node : NodeState) (began received replied : ℕ) (a b c : Option (List Event))
+pub served_all : (service : ServeWords) (called : Called) (table : TableState) (proofs : List Report) (node : NodeState) (began received replied : ℕ) (a b c : Option (List Event))
     → record { node = node; moment = began } ≡ begun_at service called.random table proofs began → Grows a b (λ es. es ≡ Now began ∷ []) → Grows b c (ServesAll called.tags (record { node = node; moment = began }) service.receives received replied)
     → Grows a c (Served service called table proofs received replied)
 served_all service called table proofs node began received replied a b c begins g h =
@@ -53,7 +53,7 @@ served_all service called table proofs node began received replied a b c begins 
       serves = subst (λ (s : ServeState). ServesAll called.tags s service.receives received replied fs) begins p;
     })
 
-pub served_some : (service : Service) (called : Called) (table : TableState) (proofs : List Report) (node : NodeState) (began : ℕ) (a b c : Option (List Event))
+pub served_some : (service : ServeWords) (called : Called) (table : TableState) (proofs : List Report) (node : NodeState) (began : ℕ) (a b c : Option (List Event))
     → record { node = node; moment = began } ≡ begun_at service called.random table proofs began → Grows a b (λ es. es ≡ Now began ∷ []) → Grows b c (ServesSome called.tags (record { node = node; moment = began }) service.receives)
     → Grows a c (ServedSome service called table proofs)
 served_some service called table proofs node began a b c begins g h =
@@ -65,7 +65,7 @@ served_some service called table proofs node began a b c begins g h =
     })
 
 -- what it begins with, as the code has it
-pub hosted : (service : Service) (random : List ℕ) (source : Shown ℕ) (own : Id) (reports read : List Report) (contacts cs : List Contact) (proofs : List Report) (table : TableState) → own ≡ own_of service.own random → Lists source reports → read ≡ reports
+pub hosted : (service : ServeWords) (random : List ℕ) (source : Shown ℕ) (own : Id) (reports read : List Report) (contacts cs : List Contact) (proofs : List Report) (table : TableState) → own ≡ own_of service.own random → Lists source reports → read ≡ reports
     → Admits own Four service.policy read contacts → Keeps own Four service.policy read proofs → cs ≡ contacts → TableTold (map seen_call cs) (new_table own service.k service.bits) table → Hosts service random source table proofs
 hosted service random source own reports read contacts cs proofs table mine lists is admits keeps same told = record {
   reports = reports;
@@ -103,7 +103,7 @@ kept_pass own family policy (r ∷ rs) kept h =
 pub served_pieces : (received replied : ℕ) → codes "received " ++ (decimal received ++ (codes " replied " ++ decimal replied)) ≡ served_text received replied
 served_pieces received replied = sym (append_assoc (codes "received " ++ decimal received) (codes " replied ") (decimal replied) ∙ append_assoc (codes "received ") (decimal received) (codes " replied " ++ decimal replied))
 
-pub service_in_range : (value : Values) (service : Service) → NumberOf k_option value service.k → NumberOf bits_option value service.bits → NumberOf workers_option value service.workers → AreServiceBounds service
+pub service_in_range : (value : Values) (service : ServeWords) → NumberOf k_option value service.k → NumberOf bits_option value service.bits → NumberOf workers_option value service.workers → AreServiceBounds service
 service_in_range value service is_k is_bits is_workers =
     let workers = within 1 8 1 (omega arith) (omega arith) _ service.workers is_workers in
     record { table = table_in_range value service.k service.bits is_k is_bits; some_worker = workers.above; few_workers = workers.below }

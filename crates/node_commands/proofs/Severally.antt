@@ -32,6 +32,7 @@ use Rattle.look_many.specs.declared.found.One.{One}
 use Rattle.look_many.specs.declared.seeker.ManyFault.{ManyFault}
 use Rattle.look_many.specs.declared.seeker.ManyFault.TheVariants as fault
 use Rattle.kad_words.specs.declared.command.LookWords.{LookWords}
+use Rattle.kad_words.specs.declared.command.NodeWords.{NodeWords}
 use Rattle.command_base.specs.declared.status.Status.{Status}
 use Rattle.command_base.specs.declared.status.Status.TheVariants.{LinkFault, Strays, NoSeeds}
 use Rattle.command_base.specs.Called.{Called}
@@ -163,25 +164,25 @@ module _ (look : LookWords) (receives : ℕ) (called : Called) (source : Shown �
   in_ends other c = absurd c
 
   -- an input that gave no start
-  pub no_start : (s : Status) → FindsCause look called.random source s → (node_promise look receives).cause called source link s
+  pub no_start : (s : Status) → FindsCause look called.random source s → (node_promise (record { look = look; receives = receives })).cause called source link s
   no_start LinkFault h = absurd h
   no_start Strays h = absurd h
   no_start other h = h
 
-pub node_lawful : (look : LookWords) (receives : ℕ) → Lawful (node_promise look receives)
-node_lawful look receives = reading_lawful (node_aim look receives) (record {
+pub node_lawful : (words : NodeWords) → Lawful (node_promise words)
+node_lawful words = reading_lawful (node_aim words.look words.receives) (record {
   good = λ called source link written t. names_good source t.ran.starts.reports t.ran.targets t.ran.starts.names;
   apart = finds_apart;
   seedless = λ called source n. names_good source n.reports n.targets n.names;
   unrestored = λ source unsound. absurd unsound;
   sound = λ called source link written told t unsound. unsound;
-  seeded = λ called source link written told t n. start_or_nobody look called.random source told (starts_given look called.random source t.ran.targets t.ran.table t.ran.proofs t.ran.starts) n;
-  few = λ called source link written told t last. not_foreign look receives called source link told (ran_tells look receives called source link t.ran) last;
-  uncalled = λ called link told same last. uncalled_not_foreign look receives called link told same last;
-  behind = λ called source link s c. behind look receives called source link s c;
+  seeded = λ called source link written told t n. start_or_nobody words.look called.random source told (starts_given words.look called.random source t.ran.targets t.ran.table t.ran.proofs t.ran.starts) n;
+  few = λ called source link written told t last. not_foreign words.look words.receives called source link told (ran_tells words.look words.receives called source link t.ran) last;
+  uncalled = λ called link told same last. uncalled_not_foreign words.look words.receives called link told same last;
+  behind = λ called source link s c. behind words.look words.receives called source link s c;
   well = λ called source link n. (n.told, n.reads, names_good source n.start.reports n.start.targets n.start.names);
-  needed = λ called source link s n c. needed look receives called source link s n c;
-  in_ends = λ called source link s c. in_ends look receives called source link s c;
+  needed = λ called source link s n c. needed words.look words.receives called source link s n c;
+  in_ends = λ called source link s c. in_ends words.look words.receives called source link s c;
   seeks = λ none_ called source n. none_ refl;
   counts = λ none_ called source link last. none_ refl;
   restores = λ none_ source unsound. unsound;

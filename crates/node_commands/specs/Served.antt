@@ -15,7 +15,7 @@ use Rattle.node_serve.specs.NodeState.{new_node}
 use Rattle.node_serve.specs.Receives.{ServeState, ServesAll, ServesSome}
 use Rattle.node_serve.specs.declared.service.ServeFault.{ServeFault}
 use Rattle.node_serve.specs.declared.setting.ServeSetting.{ServeSetting}
-use Rattle.node_commands.specs.declared.serve.Service.{Service}
+use Rattle.kad_words.specs.declared.command.ServeWords.{ServeWords}
 use Rattle.command_base.specs.Input.{Lists, Admits, Keeps}
 use Rattle.node_commands.specs.Printed.{printed_served}
 use Rattle.command_base.specs.Promise.{Promise, host_aim, reading}
@@ -28,7 +28,7 @@ use Rattle.serve_batches.specs.ManyServed.{ManyServed, ManyBegun}
 
 -- the contacts of the input that are usable and pass, in order, were told to a new table; and of these the reports are kept
 -- that have a proof
-pub record Hosts (service : Service) (random : List ℕ) (source : Shown ℕ) (table : TableState) (proofs : List Report) : Type 0 where
+pub record Hosts (service : ServeWords) (random : List ℕ) (source : Shown ℕ) (table : TableState) (proofs : List Report) : Type 0 where
   pub reports : List Report
   pub lists : Lists source reports
   pub contacts : List Contact
@@ -37,14 +37,14 @@ pub record Hosts (service : Service) (random : List ℕ) (source : Shown ℕ) (t
   pub keeps : Keeps (own_of service.own random) Four service.policy reports proofs
 
 -- the node as it begins at a moment
-abbrev pub begun_at : Service → List ℕ → TableState → List Report → ℕ → ServeState
+abbrev pub begun_at : ServeWords → List ℕ → TableState → List Report → ℕ → ServeState
 begun_at service random table proofs began = record {
   node = new_node (own_of service.own random) service.k service.policy table proofs random began service.sealed;
   moment = began;
 }
 
 -- what several workers answer by: the epochs of their tokens count from the moment 0
-abbrev pub setting_of : Service → List ℕ → List Report → ServeSetting
+abbrev pub setting_of : ServeWords → List ℕ → List Report → ServeSetting
 setting_of service random proofs = record {
   own = own_of service.own random;
   k = service.k;
@@ -57,50 +57,50 @@ setting_of service random proofs = record {
 -- ---- the command
 
 -- the values of its words are within the limits
-pub record AreServiceBounds (service : Service) : Type 0 where
+pub record AreServiceBounds (service : ServeWords) : Type 0 where
   pub table : AreTableBounds service.k service.bits
   pub some_worker : 1 ≤ service.workers
   pub few_workers : service.workers ≤ 8
 
 -- what its events tell: the moment at which it begins, and then its receive calls
-pub record Served (service : Service) (called : Called) (table : TableState) (proofs : List Report) (received replied : ℕ) (events : List Event) : Type 0 where
+pub record Served (service : ServeWords) (called : Called) (table : TableState) (proofs : List Report) (received replied : ℕ) (events : List Event) : Type 0 where
   pub began : ℕ
   pub then : List Event
   pub whole : events ≡ Now began ∷ then
   pub serves : ServesAll called.tags (begun_at service called.random table proofs began) service.receives received replied then
 
-pub record ServedSome (service : Service) (called : Called) (table : TableState) (proofs : List Report) (events : List Event) : Type 0 where
+pub record ServedSome (service : ServeWords) (called : Called) (table : TableState) (proofs : List Report) (events : List Event) : Type 0 where
   pub began : ℕ
   pub then : List Event
   pub whole : events ≡ Now began ∷ then
   pub serves : ServesSome called.tags (begun_at service called.random table proofs began) service.receives then
 
 -- what the events of several workers tell: the moment at which they begin, and then their batches
-pub record ServedAtOnce (service : Service) (called : Called) (table after : TableState) (proofs : List Report) (received replied : ℕ) (events : List Event) : Type 0 where
+pub record ServedAtOnce (service : ServeWords) (called : Called) (table after : TableState) (proofs : List Report) (received replied : ℕ) (events : List Event) : Type 0 where
   pub began : ℕ
   pub then : List Event
   pub whole : events ≡ Now began ∷ then
   pub serves : ManyServed called.tags (setting_of service called.random proofs) service.workers began service.receives table after received replied then
 
-pub record ServedSomeAtOnce (service : Service) (called : Called) (table after : TableState) (proofs : List Report) (fault : ServeFault) (events : List Event) : Type 0 where
+pub record ServedSomeAtOnce (service : ServeWords) (called : Called) (table after : TableState) (proofs : List Report) (fault : ServeFault) (events : List Event) : Type 0 where
   pub began : ℕ
   pub then : List Event
   pub whole : events ≡ Now began ∷ then
   pub serves : ManyBegun called.tags (setting_of service called.random proofs) service.workers began service.receives table after fault then
 
 -- what happened over the link, by how many workers answer
-pub data HasServed (service : Service) (called : Called) (link : Shown Event) (table : TableState) (proofs : List Report) (received replied : ℕ) : Type 0 where
+pub data HasServed (service : ServeWords) (called : Called) (link : Shown Event) (table : TableState) (proofs : List Report) (received replied : ℕ) : Type 0 where
   alone : service.workers ≡ 1 → Grows link.before link.after (Served service called table proofs received replied) → HasServed service called link table proofs received replied
   at_once : 2 ≤ service.workers → (after : TableState) → Happens link.before link.after (ServedAtOnce service called table after proofs received replied)
       → HasServed service called link table proofs received replied
 
-pub data HasServedSome (service : Service) (called : Called) (link : Shown Event) (table : TableState) (proofs : List Report) : Type 0 where
+pub data HasServedSome (service : ServeWords) (called : Called) (link : Shown Event) (table : TableState) (proofs : List Report) : Type 0 where
   some_alone : service.workers ≡ 1 → Grows link.before link.after (ServedSome service called table proofs) → HasServedSome service called link table proofs
   some_at_once : 2 ≤ service.workers → (after : TableState) → (fault : ServeFault) → Happens link.before link.after (ServedSomeAtOnce service called table after proofs fault)
       → HasServedSome service called link table proofs
 
 -- a whole service, whose text counts the datagrams that came and the replies that were sent
-pub record ServeText (service : Service) (called : Called) (source : Shown ℕ) (link : Shown Event) (text : List ℕ) : Type 0 where
+pub record ServeText (service : ServeWords) (called : Called) (source : Shown ℕ) (link : Shown Event) (text : List ℕ) : Type 0 where
   pub table : TableState
   pub proofs : List Report
   pub hosts : Hosts service called.random source table proofs
@@ -110,7 +110,7 @@ pub record ServeText (service : Service) (called : Called) (source : Shown ℕ) 
   pub text_is : text ≡ printed_served received replied
 
 -- one that ended early
-pub record ServeBegun (service : Service) (called : Called) (source : Shown ℕ) (link : Shown Event) : Type 0 where
+pub record ServeBegun (service : ServeWords) (called : Called) (source : Shown ℕ) (link : Shown Event) : Type 0 where
   pub table : TableState
   pub proofs : List Report
   pub hosts : Hosts service called.random source table proofs
@@ -118,5 +118,5 @@ pub record ServeBegun (service : Service) (called : Called) (source : Shown ℕ)
 
 -- ---- what it promises
 
-abbrev pub serve_promise : Service → Promise
+abbrev pub serve_promise : ServeWords → Promise
 serve_promise service = reading (host_aim (AreServiceBounds service) (λ called source link text. ServeText service called source link text) (λ called source link. ServeBegun service called source link))

@@ -27,6 +27,7 @@ use Rattle.look_many.specs.declared.found.One.{One}
 use Rattle.look_many.specs.declared.seeker.ManyFault.{ManyFault}
 use Rattle.look_many.specs.declared.seeker.ManyFault.TheVariants as fault
 use Rattle.kad_words.specs.declared.command.LookWords.{LookWords}
+use Rattle.kad_words.specs.declared.command.NodeWords.{NodeWords}
 use Rattle.command_base.specs.declared.status.Status.{Status}
 use Rattle.command_base.specs.declared.status.Status.TheVariants.{LinkFault, Strays, NoSeeds}
 use Rattle.command_base.specs.Called.{Called}
@@ -244,5 +245,5 @@ node_aim look receives = record {
   needs = λ called source link. NodeGoesWell look receives called source link;
 }
 
-abbrev pub node_promise : LookWords → ℕ → Promise
-node_promise look receives = reading (node_aim look receives)
+abbrev pub node_promise : NodeWords → Promise
+node_promise words = reading (node_aim words.look words.receives)

@@ -8,4 +8,3 @@ pub mod printed;
 pub mod serve;
 
 pub use finds::{Finds, InputLine, one_bad_find, one_naming};
-pub use serve::Service;

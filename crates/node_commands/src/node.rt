@@ -22,7 +22,7 @@ use contact_table::Table;
 use id_puzzles::Words;
 use kad_base::{Bytes, Check, Contact, Family, Id, Link, List, NoMemory, Reports, Source};
 use kad_text::lines::LinesFault;
-use kad_words::LookWords;
+use kad_words::{LookWords, NodeWords};
 use look_many::{Many, ManyFault, ManySetting, One, look_many};
 use node_serve::ServeSetting;
 use node_tokens::Tokens;
@@ -214,25 +214,24 @@ pub fn node<
 >(
     rt: &R,
     alloc: Global,
-    look: &LookWords,
-    receives: u32,
+    words: &NodeWords,
     source: &mut S,
     link: &mut L,
     call: &Call<'_, C, G>,
 ) -> Result<Bytes, Status>
-    requires { IsInRange look.now }
-    ensures ok { IfOk result (NodeText look.now receives
+    requires { IsInRange words.now.look }
+    ensures ok { IfOk result (NodeText words.now.look words.now.receives
         (called_with call.now.random (C.slow call.now.check.now) (G.accepted call.now.seal.now)
         (G.tag_of call.now.seal.now))
         (shown S.left S.faults source.old source.new)
         (shown_link L.told L.recv_faults L.send_faults link.old link.new)) }
-    ensures cause { IfErr result ((node_promise look.now receives).cause
+    ensures cause { IfErr result ((node_promise words.now).cause
         (called_with call.now.random (C.slow call.now.check.now) (G.accepted call.now.seal.now)
         (G.tag_of call.now.seal.now))
         (shown S.left S.faults source.old source.new)
         (shown_link L.told L.recv_faults L.send_faults link.old link.new)) }
     ensures no_memory { IfErr result (λ status. status ≡ Status.NoMemory →
-        NodeBegun look.now receives
+        NodeBegun words.now.look words.now.receives
         (called_with call.now.random (C.slow call.now.check.now) (G.accepted call.now.seal.now)
         (G.tag_of call.now.seal.now))
         (shown S.left S.faults source.old source.new)
@@ -245,8 +244,8 @@ pub fn node<
     ensures reads_well { ¬ IsErrOf result Status.SourceFault
         → S.faults source.new ≡ S.faults source.old }
 {
-    let own = own_id(look.own, &call.random);
-    let start = read_start(alloc, look, own, source, call)?;
+    let own = own_id(words.look.own, &call.random);
+    let start = read_start(alloc, &words.look, own, source, call)?;
     let Start {
         table,
         proofs,
@@ -255,8 +254,8 @@ pub fn node<
     let ended = look_all(
         rt,
         alloc,
-        look,
-        receives,
+        &words.look,
+        words.receives,
         own,
         table,
         proofs,

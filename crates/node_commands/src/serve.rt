@@ -19,7 +19,8 @@ use command_base::input::{admitted, kept, read_reports};
 use command_base::printed::add_line;
 use command_base::{Call, Status};
 use contact_table::Table;
-use kad_base::{Bytes, Check, Family, Id, Link, List, NoMemory, Policy, Reports, Source};
+use kad_base::{Bytes, Check, Family, Id, Link, List, NoMemory, Reports, Source};
+use kad_words::ServeWords;
 use node_serve::{Node, ServeCounts, ServeFault, ServeSetting, serve_loop};
 use node_tokens::Tokens;
 use path_worker::PacedCheck;
@@ -28,19 +29,6 @@ use serve_batches::serve_many;
 use std::alloc::Global;
 use std::sync::Wait;
 use std::thread::Threads;
-
-/// What the words of `serve` say: the node's own identifier if they name it, Kademlia's k and b, which contacts pass,
-/// how many receive calls are made, how many workers answer, and whether what it says is tagged.
-#[derive(Clone, Copy, Debug, PartialEq, Eq)]
-pub struct Service {
-    pub own: Option<Id>,
-    pub k: u8,
-    pub bits: u8,
-    pub policy: Policy,
-    pub receives: u32,
-    pub workers: u8,
-    pub sealed: bool,
-}
 
 /// What a node begins with: its routing table, and the reports that it keeps.
 #[derive(Drop)]
@@ -52,7 +40,7 @@ struct Host {
 /// Reads the contacts of the input, tells a new routing table of those of IPv4, and keeps the reports that have a proof.
 fn read_host<S: Source, C: Check, G: Seal + SealCheck>(
     alloc: Global,
-    service: &Service,
+    service: &ServeWords,
     own: Id,
     source: &mut S,
     call: &Call<'_, C, G>,
@@ -89,7 +77,7 @@ fn text_of(alloc: Global, received: u32, replied: u32) -> Result<Bytes, NoMemory
 /// Serves on one thread, from a first look at the link's clock on.
 fn serve_alone<L: Link, C: PacedCheck, G: Seal + SealCheck>(
     alloc: Global,
-    service: &Service,
+    service: &ServeWords,
     own: Id,
     host: Host,
     link: &mut L,
@@ -135,7 +123,7 @@ fn serve_alone<L: Link, C: PacedCheck, G: Seal + SealCheck>(
 fn serve_at_once<R: Threads + Wait + Sync, L: Link, C: PacedCheck, G: Seal + SealCheck + Sync>(
     rt: &R,
     alloc: Global,
-    service: &Service,
+    service: &ServeWords,
     own: Id,
     host: Host,
     link: &mut L,
@@ -188,7 +176,7 @@ fn serve_at_once<R: Threads + Wait + Sync, L: Link, C: PacedCheck, G: Seal + Sea
 fn serve_by<R: Threads + Wait + Sync, L: Link, C: PacedCheck, G: Seal + SealCheck + Sync>(
     rt: &R,
     alloc: Global,
-    service: &Service,
+    service: &ServeWords,
     own: Id,
     host: Host,
     link: &mut L,
@@ -229,7 +217,7 @@ pub fn serve<
 >(
     rt: &R,
     alloc: Global,
-    service: &Service,
+    service: &ServeWords,
     source: &mut S,
     link: &mut L,
     call: &Call<'_, C, G>,

@@ -6,8 +6,8 @@ use Rattle.contact_table.specs.TableState.{TableState}
 use Rattle.kad_words.specs.Table.{Says, Values, Word}
 use Rattle.kad_words.specs.Plain.{CommandOf, values_of}
 use Rattle.kad_words.specs.declared.command.Command.{Command}
+use Rattle.kad_words.specs.declared.command.ServeWords.{ServeWords}
 use Rattle.kad_words.specs.declared.command.Command.TheVariants.{Lookup, Peers, Get, Put, Node, Mint}
-use Rattle.node_commands.specs.declared.serve.Service.{Service}
 use Rattle.node_top.specs.Commands.{promise_of}
 use Rattle.node_commands.specs.Served.{Hosts}
 use Rattle.command_base.specs.Input.{IsGood, Lists}
@@ -26,7 +26,7 @@ use Rattle.command_base.proofs.Staged.{made_lawful}
 good_by : (source : Shown ℕ) (reports : List Report) → Lists source reports → IsGood source
 good_by source reports lists = record { reports = reports; lists = lists }
 
-hosts_good : (service : Service) (random : List ℕ) (source : Shown ℕ) (table : TableState) (proofs : List Report) → Hosts service random source table proofs → IsGood source
+hosts_good : (service : ServeWords) (random : List ℕ) (source : Shown ℕ) (table : TableState) (proofs : List Report) → Hosts service random source table proofs → IsGood source
 hosts_good service random source table proofs h = record { reports = h.reports; lists = h.lists }
 
 -- the ways in which a promise is made
@@ -40,7 +40,7 @@ lawful (Lookup look) = lookup_lawful look
 lawful (Peers look announce) = peers_lawful look announce
 lawful (Get look) = get_lawful look
 lawful (Put look item) = put_lawful look item
-lawful (Mint seed c1 c2 tries) = mint_lawful seed c1 c2 tries
+lawful (Mint words) = mint_lawful words
 lawful other = search (rules, forms)
 
 in_ranges : (command : Command) (value : Values) → Says value command → (promise_of command).ranges
@@ -48,7 +48,7 @@ in_ranges (Lookup look) value s = look_in_range _ value look s.0.1
 in_ranges (Peers look announce) value s = look_in_range _ value look s.0.1
 in_ranges (Get look) value s = look_in_range _ value look s.0.1
 in_ranges (Put look item) value s = look_in_range _ value look s.0.1
-in_ranges (Node look receives) value s = look_in_range _ value look s.0.1
+in_ranges (Node words) value s = look_in_range _ value words.look s.0.1
 in_ranges other value s = search (rules, limits)
 
 pub ranged : (words : List Word) (command : Command) → CommandOf words command → (promise_of command).ranges

@@ -1,5 +1,5 @@
 -- A command that takes no link has one text, and one that goes by a link's events has one by these.
-use Rattle.std.proofs.Common.{◌≡◌, ℕ, List, Some, None, IsTrue, refl, subst}
+use Rattle.std.proofs.Common.{◌≡◌, ℕ, List, IsTrue, refl, ap, subst}
 use Rattle.kad_base.specs.declared.types.Event.{Event}
 use Rattle.kad_words.specs.Table.{Word}
 use Rattle.kad_words.specs.Plain.{CommandOf}
@@ -8,16 +8,14 @@ use Rattle.kad_words.specs.declared.command.Command.TheVariants.{Lookup, Peers, 
 use Rattle.kad_words.proofs.OneCommand.{command_once}
 use Rattle.node_top.specs.Asked.{AsksPlain}
 use Rattle.command_base.specs.Called.{Called}
-use Rattle.node_top.specs.Commands.{promise_of, service_of, simulation_of, HasText, ReadsInput}
-use Rattle.plain_commands.specs.Minted.{seed_of, MintText}
-use Rattle.plain_commands.specs.Simulated.{SimText}
+use Rattle.node_top.specs.Commands.{promise_of, HasText, ReadsInput}
+use Rattle.plain_commands.specs.Minted.{seed_of}
 use Rattle.table_commands.specs.Tabled.{TableText}
 use Rattle.node_top.specs.MadeFrom.{NamesSeed, GoesByEvents}
 use Rattle.command_base.specs.Shown.{SameInput, SameEvents, Shown}
 use Rattle.node_top.proofs.Asking.{takes_by}
 use Rattle.node_top.proofs.Lawfully.{ranged}
-use Rattle.plain_commands.proofs.OneSim.{sim_once}
-use Rattle.plain_commands.proofs.OneText.{check_once, mint_once}
+use Rattle.plain_commands.proofs.OneText.{check_once, mint_once, seed_once, simulated_once}
 use Rattle.table_commands.proofs.OneText.{table_text_once, refresh_once}
 use Rattle.node_commands.proofs.OneText.{serve_once}
 use Rattle.lookup_commands.proofs.OneText.{lookup_once, peers_once, get_once, put_once}
@@ -27,22 +25,19 @@ use Rattle.lookup_core.specs.declared.quest.AskKind.TheVariants.{FindNode}
 
 of_command : (c : Command) (called other : Called) (source again : Shown ℕ) (link beside : Shown Event) (t u : List ℕ) → (promise_of c).ranges → ¬ IsTrue (promise_of c).links → called.random ≡ other.random → (IsTrue (promise_of c).reads → SameInput source again)
     → (promise_of c).text called source link t → (promise_of c).text other again beside u → t ≡ u
-of_command (Table own k bits policy) called other source again link beside t u ranges none_ random same h j =
-    table_text_once own k bits policy other.random source again t u ranges (same refl) (subst (λ (r : List ℕ). TableText own k bits policy r source t) random h) j
+of_command (Table words) called other source again link beside t u ranges none_ random same h j =
+    table_text_once words other.random source again t u ranges (same refl) (subst (λ (r : List ℕ). TableText words r source t) random h) j
 of_command (Check policy) called other source again link beside t u ranges none_ random same h j = check_once policy source again t u (same refl) h j
-of_command (Mint seed c1 c2 tries) called other source again link beside t u ranges none_ random same h j =
-    mint_once (seed_of seed other.random) c1 c2 tries t u (subst (λ (r : List ℕ). MintText (seed_of seed r) c1 c2 tries t) random h.0) j.0
-of_command (Sim seed nodes hostile k paths alpha timeout) called other source again link beside t u ranges none_ random same h j =
-    sim_once (simulation_of seed nodes hostile k paths alpha timeout other.random) t u (ranges other.random) (subst (λ (r : List ℕ). SimText (simulation_of seed nodes hostile k paths alpha timeout r) t) random h.0) j.0
+of_command (Mint words) called other source again link beside t u ranges none_ random same h j = mint_once words called.random other.random t u (ap (seed_of words.seed) random) h.0 j.0
+of_command (Sim words) called other source again link beside t u ranges none_ random same h j =
+    simulated_once words called.random other.random t u (ap (seed_of words.seed) random) (ranges other.random) h.0 j.0
 of_command other_command called other source again link beside t u ranges none_ random same h j = absurd (none_ refl)
 
 of_seed : (c : Command) (called other : Called) (source again : Shown ℕ) (link beside : Shown Event) (t u : List ℕ) → (promise_of c).ranges → NamesSeed c
     → (promise_of c).text called source link t → (promise_of c).text other again beside u → t ≡ u
-of_seed (Mint (Some seed) c1 c2 tries) called other source again link beside t u ranges named h j = mint_once seed c1 c2 tries t u h.0 j.0
-of_seed (Mint None c1 c2 tries) called other source again link beside t u ranges named h j = absurd named
-of_seed (Sim (Some seed) nodes hostile k paths alpha timeout) called other source again link beside t u ranges named h j =
-    sim_once (simulation_of (Some seed) nodes hostile k paths alpha timeout other.random) t u (ranges other.random) h.0 j.0
-of_seed (Sim None nodes hostile k paths alpha timeout) called other source again link beside t u ranges named h j = absurd named
+of_seed (Mint words) called other source again link beside t u ranges named h j = mint_once words called.random other.random t u (seed_once words.seed called.random other.random named) h.0 j.0
+of_seed (Sim words) called other source again link beside t u ranges named h j =
+    simulated_once words called.random other.random t u (seed_once words.seed called.random other.random named) (ranges other.random) h.0 j.0
 of_seed other_command called other source again link beside t u ranges named h j = absurd named
 
 of_events : (c : Command) (called : Called) (source again : Shown ℕ) (link beside : Shown Event) (t u : List ℕ) → (promise_of c).ranges → GoesByEvents called.slow c → SameInput source again → SameEvents link beside
@@ -51,10 +46,10 @@ of_events (Lookup look) called source again link beside t u ranges goes same eve
 of_events (Peers look announce) called source again link beside t u ranges goes same events_same h j = peers_once look announce called source again link beside t u ranges goes same events_same h j
 of_events (Get look) called source again link beside t u ranges goes same events_same h j = get_once look called source again link beside t u ranges goes same events_same h j
 of_events (Put look item) called source again link beside t u ranges goes same events_same h j = put_once look item called source again link beside t u ranges goes same events_same h.1 j.1
-of_events (Serve own k bits policy receives workers sealed) called source again link beside t u ranges goes same events_same h j =
-    serve_once (service_of own k bits policy receives workers sealed) called source again link beside t u events_same h j
-of_events (Refresh timeout sealed) called source again link beside t u ranges goes same events_same h j =
-    refresh_once timeout sealed called source again link beside t u same events_same h j
+of_events (Serve words) called source again link beside t u ranges goes same events_same h j =
+    serve_once words called source again link beside t u events_same h j
+of_events (Refresh words) called source again link beside t u ranges goes same events_same h j =
+    refresh_once words called source again link beside t u same events_same h j
 of_events other called source again link beside t u ranges goes same events_same h j = absurd goes
 
 -- ---- the laws

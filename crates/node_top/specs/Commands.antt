@@ -9,8 +9,6 @@ use Rattle.kad_words.specs.Table.{Word}
 use Rattle.kad_words.specs.Plain.{CommandOf}
 use Rattle.kad_words.specs.declared.command.Command.{Command}
 use Rattle.kad_words.specs.declared.command.Command.TheVariants.{Lookup, Peers, Get, Put, Serve, Node, Table, Refresh, Check, Mint, Sim}
-use Rattle.node_commands.specs.declared.serve.Service.{Service}
-use Rattle.plain_commands.specs.declared.sim.Simulation.{Simulation}
 use Rattle.command_base.specs.declared.status.Status.{Status}
 use Rattle.command_base.specs.declared.status.Status.TheVariants.{Usage, NoMemory}
 use Rattle.node_top.specs.Asked.{AsksPlain}
@@ -19,7 +17,7 @@ use Rattle.lookup_commands.specs.Got.{get_promise}
 use Rattle.node_commands.specs.Served.{serve_promise}
 use Rattle.node_commands.specs.Several.{node_promise}
 use Rattle.lookup_commands.specs.Looked.{lookup_promise}
-use Rattle.plain_commands.specs.Minted.{seed_of, mint_promise}
+use Rattle.plain_commands.specs.Minted.{mint_promise}
 use Rattle.lookup_commands.specs.Peered.{peers_promise}
 use Rattle.table_commands.specs.Refreshing.{refresh_promise}
 use Rattle.command_base.specs.Input.{IsBadLine}
@@ -30,34 +28,18 @@ use Rattle.plain_commands.specs.Simulated.{sim_promise}
 use Rattle.lookup_commands.specs.Stored.{put_promise}
 use Rattle.table_commands.specs.Tabled.{table_promise}
 
--- what the words of `serve` say
-abbrev pub service_of : Option Id → ℕ → ℕ → Policy → ℕ → ℕ → Bool → Service
-service_of own k bits policy receives workers sealed = record { own = own; k = k; bits = bits; policy = policy; receives = receives; workers = workers; sealed = sealed }
-
--- the simulation of the words
-abbrev pub simulation_of : Option (List ℕ) → ℕ → ℕ → ℕ → ℕ → ℕ → ℕ → List ℕ → Simulation
-simulation_of seed nodes hostile k paths alpha timeout random = record {
-  seed = seed_of seed random;
-  nodes = nodes;
-  hostile = hostile;
-  k = k;
-  paths = paths;
-  alpha = alpha;
-  timeout = timeout;
-}
-
 abbrev pub promise_of : Command → Promise
 promise_of (Lookup look) = lookup_promise look
 promise_of (Peers look announce) = peers_promise look announce
 promise_of (Get look) = get_promise look
 promise_of (Put look item) = put_promise look item
-promise_of (Serve own k bits policy receives workers sealed) = serve_promise (service_of own k bits policy receives workers sealed)
-promise_of (Node look receives) = node_promise look receives
-promise_of (Table own k bits policy) = table_promise own k bits policy
-promise_of (Refresh timeout sealed) = refresh_promise timeout sealed
+promise_of (Serve words) = serve_promise words
+promise_of (Node words) = node_promise words
+promise_of (Table words) = table_promise words
+promise_of (Refresh words) = refresh_promise words
 promise_of (Check policy) = check_promise policy
-promise_of (Mint seed c1 c2 tries) = mint_promise seed c1 c2 tries
-promise_of (Sim seed nodes hostile k paths alpha timeout) = sim_promise (simulation_of seed nodes hostile k paths alpha timeout)
+promise_of (Mint words) = mint_promise words
+promise_of (Sim words) = sim_promise words
 
 -- ---- the command that the words ask for
 

@@ -1,12 +1,12 @@
 -- What the text of a command is made from, if that is less than all that a call is given.
-use Rattle.std.specs.Prelude.{◌≡◌, Some, Bool, false}
+use Rattle.std.specs.Prelude.{◌≡◌, IsSome, Bool, false}
 use Rattle.kad_words.specs.declared.command.Command.{Command}
 use Rattle.kad_words.specs.declared.command.Command.TheVariants.{Lookup, Peers, Get, Put, Serve, Refresh, Mint, Sim}
 
 -- from the words only: `mint` and `sim` draw from the seed of the words, if these name one
 abbrev pub NamesSeed : Command → Type 0
-NamesSeed (Mint (Some seed) c1 c2 tries) = Unit {0}
-NamesSeed (Sim (Some seed) nodes hostile k paths alpha timeout) = Unit {0}
+NamesSeed (Mint words) = IsSome words.seed
+NamesSeed (Sim words) = IsSome words.seed
 NamesSeed other = ⊥
 
 -- from the words, the input, what it is called with and the link's events: the commands that take a link, if they settle
@@ -16,6 +16,6 @@ GoesByEvents slow (Lookup look) = slow ≡ false
 GoesByEvents slow (Peers look announce) = slow ≡ false
 GoesByEvents slow (Get look) = slow ≡ false
 GoesByEvents slow (Put look item) = slow ≡ false
-GoesByEvents slow (Serve own k bits policy receives workers sealed) = Unit {0}
-GoesByEvents slow (Refresh timeout sealed) = Unit {0}
+GoesByEvents slow (Serve words) = Unit {0}
+GoesByEvents slow (Refresh words) = Unit {0}
 GoesByEvents slow other = ⊥

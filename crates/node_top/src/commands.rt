@@ -76,32 +76,9 @@ fn output_of<
         Command::Put { look, ref value } => {
             put::put(rt, alloc, &look, value.as_slice(), source, link, call)
         }
-        Command::Serve {
-            own,
-            k,
-            bits,
-            policy,
-            receives,
-            workers,
-            sealed,
-        } => {
-            let service = serve::Service {
-                own,
-                k,
-                bits,
-                policy,
-                receives,
-                workers,
-                sealed,
-            };
-            serve::serve(rt, alloc, &service, source, link, call)
-        }
-        Command::Node { look, receives } => {
-            node::node(rt, alloc, &look, receives, source, link, call)
-        }
-        Command::Refresh { timeout, sealed } => {
-            refresh::refresh(alloc, timeout, sealed, source, link, call)
-        }
+        Command::Serve { words } => serve::serve(rt, alloc, &words, source, link, call),
+        Command::Node { words } => node::node(rt, alloc, &words, source, link, call),
+        Command::Refresh { words } => refresh::refresh(alloc, &words, source, link, call),
         _ => plain_output_of(alloc, command, source, call),
     }
 }
@@ -127,40 +104,10 @@ fn plain_output_of<S: Source, C: Check, G: Seal + SealCheck>(
         → S.faults source.new ≡ S.faults source.old }
 {
     match *command {
-        Command::Table {
-            own,
-            k,
-            bits,
-            policy,
-        } => table::table(alloc, own, k, bits, policy, source, call),
+        Command::Table { words } => table::table(alloc, &words, source, call),
         Command::Check { policy } => check::check(alloc, policy, source, call),
-        Command::Mint {
-            seed,
-            c1,
-            c2,
-            tries,
-        } => mint::mint(alloc, &mint::seed_for(seed, &call.random), c1, c2, tries),
-        Command::Sim {
-            seed,
-            nodes,
-            hostile,
-            k,
-            paths,
-            alpha,
-            timeout,
-        } => {
-            let seed = mint::seed_for(seed, &call.random);
-            let simulation = sim::Simulation {
-                seed,
-                nodes,
-                hostile,
-                k,
-                paths,
-                alpha,
-                timeout,
-            };
-            sim::sim(alloc, &simulation, call)
-        }
+        Command::Mint { words } => mint::mint(alloc, &words, &call.random),
+        Command::Sim { words } => sim::sim(alloc, &words, call),
         _ => Err(Status::Usage),
     }
 }

@@ -1,9 +1,10 @@
 -- What `mint` makes excludes that there is nothing to be found.
-use Rattle.std.proofs.Common.{◌≡◌, ℕ, List, [], ◌∷◌, Option, inl, inr, refl, sym, ap, subst, ◌∙◌, ◌+◌, ◌++◌}
+use Rattle.std.proofs.Common.{◌≡◌, ℕ, List, [], ◌∷◌, inl, inr, refl, sym, ap, subst, ◌∙◌, ◌+◌, ◌++◌}
 use Rattle.std.proofs.lemmas.Bool.{cases_order}
 use Rattle.kad_base.specs.declared.types.Event.{Event}
 use Rattle.kad_base.specs.Puzzles.{hash}
 use Rattle.id_puzzles.specs.Minting.{key_at, IsFirstKey, HasNoFirstValue}
+use Rattle.kad_words.specs.declared.command.MintWords.{MintWords}
 use Rattle.command_base.specs.declared.status.Status.{Status}
 use Rattle.command_base.specs.declared.status.Status.TheVariants.{NoMemory, Unminted}
 use Rattle.plain_commands.specs.Minted.{seed_of, MintText, MintCause, FindsNothing, mint_promise, minted_line}
@@ -25,27 +26,27 @@ first_key_once seed c1 tries a b s t =
       ]
     ]
 
-pub minted_not_nothing : (seed : List ℕ) (c1 c2 tries : ℕ) (text : List ℕ) → MintText seed c1 c2 tries text → FindsNothing seed c1 c2 tries → ⊥
-minted_not_nothing seed c1 c2 tries text m n =
+pub minted_not_nothing : (words : MintWords) (random text : List ℕ) → MintText words random text → FindsNothing words random → ⊥
+minted_not_nothing words random text m n =
     elim n [
       | inl no_key ↦ no_key m.first_key.number m.first_key.in_tries m.first_key.solves
       | inr no_value ↦
-          (let same = first_key_once seed c1 tries no_value.key m.key no_value.first_key m.first_key in
-          let none_ = subst (λ (key : List ℕ). HasNoFirstValue (hash key) c2 tries) same no_value.no_value in
+          (let same = first_key_once (seed_of words.seed random) words.c1 words.tries no_value.key m.key no_value.first_key m.first_key in
+          let none_ = subst (λ (key : List ℕ). HasNoFirstValue (hash key) words.c2 words.tries) same no_value.no_value in
           none_ m.first_value.number m.first_value.in_tries m.first_value.solves)
     ]
 
-pub mint_lawful : (seed : Option (List ℕ)) (c1 c2 tries : ℕ) → Lawful (mint_promise seed c1 c2 tries)
-mint_lawful seed c1 c2 tries =
-    unread_lawful (10 ∷ []) (Unit {0}) (λ random text. MintText (seed_of seed random) c1 c2 tries text) (λ random. FindsNothing (seed_of seed random) c1 c2 tries)
-    (λ random text t nothing. minted_not_nothing (seed_of seed random) c1 c2 tries text t nothing) (λ random nothing. inl refl)
+pub mint_lawful : (words : MintWords) → Lawful (mint_promise words)
+mint_lawful words =
+    unread_lawful (10 ∷ []) (Unit {0}) (λ random text. MintText words random text) (λ random. FindsNothing words random)
+    (λ random text t nothing. minted_not_nothing words random text t nothing) (λ random nothing. inl refl)
 
 -- its own cause is that of its promise, where nothing was read
-pub mint_cause : (seed : Option (List ℕ)) (c1 c2 tries : ℕ) (called : Called) (source : Shown ℕ) (link : Shown Event) → source.after ≡ source.before → (from : List ℕ) → from ≡ seed_of seed called.random
-    → (s : Status) → MintCause from c1 c2 tries s → (mint_promise seed c1 c2 tries).cause called source link s
-mint_cause seed c1 c2 tries called source link same from is NoMemory h = tt
-mint_cause seed c1 c2 tries called source link same from is Unminted h = (subst (λ (seed : List ℕ). FindsNothing seed c1 c2 tries) is h, same)
-mint_cause seed c1 c2 tries called source link same from is other h = h
+pub mint_cause : (words : MintWords) (called : Called) (source : Shown ℕ) (link : Shown Event) → source.after ≡ source.before
+    → (s : Status) → MintCause words called.random s → (mint_promise words).cause called source link s
+mint_cause words called source link same NoMemory h = tt
+mint_cause words called source link same Unminted h = (h, same)
+mint_cause words called source link same other h = h
 
 pub minted_pieces : (id key x a b d : List ℕ) → a ≡ encode_lower id → b ≡ encode_lower key → d ≡ encode_lower x
     → a ++ (32 ∷ (b ++ (32 ∷ (d ++ (10 ∷ []))))) ≡ minted_line id key x

@@ -4,6 +4,7 @@ use Rattle.std.specs.Prelude.{◌≡◌, ◌⊎◌, ℕ, List, [], ◌∷◌, �
 use Rattle.hex.specs.Hex.{encode_lower}
 use Rattle.kad_base.specs.Puzzles.{hash}
 use Rattle.id_puzzles.specs.Minting.{IsFirstKey, IsFirstValue, HasNoKey, HasNoValue}
+use Rattle.kad_words.specs.declared.command.MintWords.{MintWords}
 use Rattle.command_base.specs.declared.status.Status.{Status}
 use Rattle.command_base.specs.declared.status.Status.TheVariants.{NoMemory, Unminted}
 use Rattle.command_base.specs.Printed.{line_of}
@@ -20,22 +21,22 @@ minted_line id key x = line_of (encode_lower id ++ codes " " ++ encode_lower key
 
 -- the text names the first key of the seed that solves the static puzzle, and the first X that solves the dynamic puzzle
 -- of its identifier, each within the tries
-pub record MintText (seed : List ℕ) (c1 c2 tries : ℕ) (text : List ℕ) : Type 0 where
+pub record MintText (words : MintWords) (random text : List ℕ) : Type 0 where
   pub key : List ℕ
   pub x : List ℕ
-  pub first_key : IsFirstKey seed c1 tries key
-  pub first_value : IsFirstValue (hash key) c2 tries x
+  pub first_key : IsFirstKey (seed_of words.seed random) words.c1 words.tries key
+  pub first_value : IsFirstValue (hash key) words.c2 words.tries x
   pub text_is : text ≡ minted_line (hash key) key x
 
 -- no key within the tries solves the static puzzle, or no X the dynamic puzzle of the first that does
-abbrev pub FindsNothing : List ℕ → ℕ → ℕ → ℕ → Type 0
-FindsNothing seed c1 c2 tries = HasNoKey seed c1 tries ⊎ HasNoValue seed c1 c2 tries
+abbrev pub FindsNothing : MintWords → List ℕ → Type 0
+FindsNothing words random = HasNoKey (seed_of words.seed random) words.c1 words.tries ⊎ HasNoValue (seed_of words.seed random) words.c1 words.c2 words.tries
 
 -- why nothing was minted
-abbrev pub MintCause : List ℕ → ℕ → ℕ → ℕ → Status → Type 0
-MintCause seed c1 c2 tries NoMemory = Unit {0}
-MintCause seed c1 c2 tries Unminted = FindsNothing seed c1 c2 tries
-MintCause seed c1 c2 tries other = ⊥
+abbrev pub MintCause : MintWords → List ℕ → Status → Type 0
+MintCause words random NoMemory = Unit {0}
+MintCause words random Unminted = FindsNothing words random
+MintCause words random other = ⊥
 
-abbrev pub mint_promise : Option (List ℕ) → ℕ → ℕ → ℕ → Promise
-mint_promise seed c1 c2 tries = unread (10 ∷ []) (Unit {0}) (λ random text. MintText (seed_of seed random) c1 c2 tries text) (λ random. FindsNothing (seed_of seed random) c1 c2 tries)
+abbrev pub mint_promise : MintWords → Promise
+mint_promise words = unread (10 ∷ []) (Unit {0}) (λ random text. MintText words random text) (λ random. FindsNothing words random)

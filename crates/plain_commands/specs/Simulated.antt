@@ -24,7 +24,10 @@ use Rattle.lookup_core.specs.declared.quest.AskKind.TheVariants.{FindNode}
 use Rattle.lookup_run.specs.Tells.{Tells}
 use Rattle.lookup_run.specs.Rounds.{Rounds, sequential}
 use Rattle.lookup_run.specs.Lookup.{seeds_in}
+use Rattle.kad_words.specs.Table.{plain_look}
 use Rattle.kad_words.specs.declared.command.LookWords.{LookWords}
+use Rattle.kad_words.specs.declared.command.SimWords.{SimWords}
+use Rattle.plain_commands.specs.Minted.{seed_of}
 use Rattle.plain_commands.specs.declared.sim.Simulation.{Simulation}
 use Rattle.plain_commands.specs.declared.sim.Start.{Start}
 use Rattle.seal_tags.specs.Seals.{group_tag, is_group_tag}
@@ -34,6 +37,21 @@ use Rattle.command_base.specs.Printed.{line_of, counts_text}
 use Rattle.command_base.specs.Promise.{Promise, unread}
 use Rattle.command_base.specs.Started.{own_of, look_of, book_of, lookup_of, StartsWith}
 
+-- the simulation of the words, by the seed that they name or random bytes are
+abbrev pub simulation_by : SimWords → List ℕ → Simulation
+simulation_by words seed = record {
+  seed = seed;
+  nodes = words.nodes;
+  hostile = words.hostile;
+  k = words.k;
+  paths = words.paths;
+  alpha = words.alpha;
+  timeout = words.timeout;
+}
+
+abbrev pub simulation_of : SimWords → List ℕ → Simulation
+simulation_of words random = simulation_by words (seed_of words.seed random)
+
 -- the network of a simulation
 abbrev pub network_of : Simulation → Network
 network_of s = record { seed = s.seed; count = s.nodes; hostile = s.hostile }
@@ -41,18 +59,7 @@ network_of s = record { seed = s.seed; count = s.nodes; hostile = s.hostile }
 -- the options of its lookup: the target and the node's own identifier are drawn from the seed, buckets split by one bit,
 -- and every report passes
 abbrev pub look_to : Id → Simulation → LookWords
-look_to target s = record {
-  target = target;
-  own = None;
-  k = s.k;
-  paths = s.paths;
-  alpha = s.alpha;
-  timeout = s.timeout;
-  bits = 1;
-  policy = Plain;
-  family = Four;
-  sealed = false;
-}
+look_to target s = plain_look target s.k s.paths s.alpha s.timeout
 
 abbrev pub sim_look : Simulation → LookWords
 sim_look s = look_to (target_of s.seed) s
@@ -130,6 +137,5 @@ pub record SimText (s : Simulation) (text : List ℕ) : Type 0 where
   pub own_answers : GoesByOwnAnswers (book_of FindNode (sim_look s) s.seed) journal
   pub text_is : text ≡ line_of (sim_text_of s journal)
 
--- by the simulation that the random bytes give
-abbrev pub sim_promise : (List ℕ → Simulation) → Promise
-sim_promise simulation = unread [] ((random : List ℕ) → IsSimulable (simulation random)) (λ random text. SimText (simulation random) text) (λ random. ⊥)
+abbrev pub sim_promise : SimWords → Promise
+sim_promise words = unread [] ((random : List ℕ) → IsSimulable (simulation_of words random)) (λ random text. SimText (simulation_of words random) text) (λ random. ⊥)

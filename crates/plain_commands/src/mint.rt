@@ -5,6 +5,7 @@ ghost use Rattle.plain_commands.specs.Minted.{seed_of, minted_line, MintText, Mi
 use command_base::Status;
 use id_puzzles::{Minted, Unminted};
 use kad_base::{Bytes, List, NoMemory};
+use kad_words::MintWords;
 use std::alloc::{AllocError, Global};
 
 /// The seed of the words, or the random bytes.
@@ -39,13 +40,14 @@ fn text_of(alloc: Global, minted: &Minted) -> Result<Bytes, NoMemory>
     List::from_slice(alloc, line.as_bytes())
 }
 
-/// Mints from the seed, with that many tries for each puzzle, and makes the text, or says why there is none. Nothing is
-/// written yet.
-pub fn mint(alloc: Global, seed: &[u8; 32], c1: u8, c2: u8, tries: u32) -> Result<Bytes, Status>
-    ensures ok { IfOk result (MintText seed.now c1 c2 tries) }
-    ensures cause { IfErr result (MintCause seed.now c1 c2 tries) }
+/// Mints from the seed of the words, or from the random bytes where they name none, and makes the text, or says why there is
+/// none. Nothing is written yet.
+pub fn mint(alloc: Global, words: &MintWords, random: &[u8; 32]) -> Result<Bytes, Status>
+    ensures ok { IfOk result (MintText words.now random.now) }
+    ensures cause { IfErr result (MintCause words.now random.now) }
 {
-    match id_puzzles::mint(seed, c1, c2, tries) {
+    let seed = seed_for(words.seed, random);
+    match id_puzzles::mint(&seed, words.c1, words.c2, words.tries) {
         Ok(minted) => Ok(text_of(alloc, &minted)?),
         Err(Unminted::Keys) => Err(Status::Unminted),
         Err(Unminted::Values) => Err(Status::Unminted),

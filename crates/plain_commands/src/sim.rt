@@ -4,8 +4,9 @@ ghost use Rattle.std.specs.Prelude.{◌≡◌, ◌≤◌, map, length, IfOk, IfE
 ghost use Rattle.kad_base.specs.Contacts.{among};
 ghost use Rattle.fake_net.specs.Network.{numbers};
 ghost use Rattle.command_base.specs.Printed.{line_of};
-ghost use Rattle.plain_commands.specs.Simulated.{network_of, look_to, IsSimulable, report_of, count_among, sim_text, Begins, SimText};
+ghost use Rattle.plain_commands.specs.Simulated.{network_of, look_to, simulation_of, IsSimulable, report_of, count_among, sim_text, Begins, SimText};
 
+use crate::mint::seed_for;
 use command_base::bootstrap::{FIRST_TX, setting_for, table_of};
 use command_base::input::admitted;
 use command_base::printed::add_line;
@@ -13,10 +14,8 @@ use command_base::{Call, Status};
 use contact_table::Table;
 use fake_net::SimNet;
 use id_puzzles::Words;
-use kad_base::{
-    Bytes, Check, Contact, Contacts, Family, Id, List, NoMemory, Policy, Report, Reports, is_same,
-};
-use kad_words::LookWords;
+use kad_base::{Bytes, Check, Contact, Contacts, Id, List, NoMemory, Report, Reports, is_same};
+use kad_words::{LookWords, SimWords, plain_look};
 use lookup_run::{AskKind, LookFault, LookSetting, Outcome, look_up_alone};
 use seal_tags::{GroupSeal, Seal, SealCheck};
 use std::alloc::{AllocError, Global};
@@ -37,18 +36,13 @@ pub struct Simulation {
 fn look_to(target: Id, simulation: &Simulation) -> LookWords
     ensures { result ≡ look_to target simulation.now }
 {
-    LookWords {
+    plain_look(
         target,
-        own: None,
-        k: simulation.k,
-        paths: simulation.paths,
-        alpha: simulation.alpha,
-        timeout: simulation.timeout,
-        bits: 1,
-        policy: Policy::Plain,
-        family: Family::Four,
-        sealed: false,
-    }
+        simulation.k,
+        simulation.paths,
+        simulation.alpha,
+        simulation.timeout,
+    )
 }
 
 /// The first nodes of the network, as reports without a proof.
@@ -166,7 +160,7 @@ fn begin<C: Check>(
 /// Looks the network's target up from its first k nodes, or from all if there are fewer, and makes the line of what was
 /// found. Nothing is written yet. The network never fails, and gives fewer datagrams than a lookup takes strays, so that
 /// it ends early only if out of memory. A network that is short has lost events, and so gives no line.
-pub fn sim<C: Check, G: Seal + SealCheck>(
+fn simulate<C: Check, G: Seal + SealCheck>(
     alloc: Global,
     simulation: &Simulation,
     call: &Call<'_, C, G>,
@@ -208,4 +202,33 @@ pub fn sim<C: Check, G: Seal + SealCheck>(
         Err(LookFault::LinkFault) => unreachable!(),
         Err(LookFault::Strays) => unreachable!(),
     }
+}
+
+/// The simulation of the words, by the random bytes where they name no seed.
+fn simulation_for(words: &SimWords, random: &[u8; 32]) -> Simulation
+    ensures { result ≡ simulation_of words.now random.now }
+{
+    Simulation {
+        seed: seed_for(words.seed, random),
+        nodes: words.nodes,
+        hostile: words.hostile,
+        k: words.k,
+        paths: words.paths,
+        alpha: words.alpha,
+        timeout: words.timeout,
+    }
+}
+
+/// Looks up in the network of the words, and makes the line of what was found. Nothing is written yet.
+pub fn sim<C: Check, G: Seal + SealCheck>(
+    alloc: Global,
+    words: &SimWords,
+    call: &Call<'_, C, G>,
+) -> Result<Bytes, Status>
+    requires { IsSimulable (simulation_of words.now call.now.random) }
+    ensures ok { IfOk result (SimText (simulation_of words.now call.now.random)) }
+    ensures cause { IfErr result (λ status. status ≡ Status.NoMemory) }
+{
+    let simulation = simulation_for(words, &call.random);
+    simulate(alloc, &simulation, call)
 }

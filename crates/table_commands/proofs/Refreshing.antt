@@ -1,9 +1,10 @@
 -- The command `refresh`, from its input to its end.
-use Rattle.std.proofs.Common.{◌≢◌, ℕ, List, [], ◌∷◌, Bool, None, inl, inr, refl, subst}
+use Rattle.std.proofs.Common.{◌≢◌, ℕ, List, [], ◌∷◌, None, inl, inr, refl, subst}
 use Rattle.kad_base.specs.declared.types.Event.{Event}
 use Rattle.contact_table.specs.SavedState.{state_of}
 use Rattle.contact_table.specs.TableState.{SoundTable, TableState}
 use Rattle.contact_table.specs.declared.saved.Saved.{Saved}
+use Rattle.kad_words.specs.declared.command.RefreshWords.{RefreshWords}
 use Rattle.table_file.specs.Reading.{IsBadLine as IsBadSavedLine}
 use Rattle.table_file.specs.SavedText.{IsSavedText}
 use Rattle.table_file.proofs.SavedOnce.{saved_once}
@@ -39,8 +40,8 @@ sound_or_not source table told r n =
 
 -- ---- the laws of its promise
 
-module _ (timeout : ℕ) (sealed : Bool) (called : Called) (source : Shown ℕ) (link : Shown Event) where
-  behind : (s : Status) → RefreshCause timeout sealed called source link s → Behind (refresh_aim timeout sealed) called source link s
+module _ (words : RefreshWords) (called : Called) (source : Shown ℕ) (link : Shown Event) where
+  behind : (s : Status) → RefreshCause words called source link s → Behind (refresh_aim words) called source link s
   behind LinkFault c = (
     restored source c.1.table c.1.restores,
     (c.0, (c.1.table, c.1.restores), inl (_, c.1), c.1),
@@ -58,26 +59,26 @@ module _ (timeout : ℕ) (sealed : Bool) (called : Called) (source : Shown ℕ) 
   behind Unsound c = (unrestored source c, c, λ told none_. absurd none_, λ told early last. absurd last, λ told unsound. inl refl)
   behind other c = absurd c
 
-  needed : (s : Status) → RefreshesWell timeout sealed called source link → ¬ RefreshCause timeout sealed called source link s
+  needed : (s : Status) → RefreshesWell words called source link → ¬ RefreshCause words called source link s
   needed LinkFault n c = n.hears c.0
   needed Strays n c = n.few_strays c
   needed Unsound n c = sound_or_not source n.table n.told n.restores c
   needed other n c = c
 
-  in_ends : (s : Status) → RefreshCause timeout sealed called source link s → IsOneOf (4 ∷ 7 ∷ 13 ∷ []) (number_of s)
+  in_ends : (s : Status) → RefreshCause words called source link s → IsOneOf (4 ∷ 7 ∷ 13 ∷ []) (number_of s)
   in_ends LinkFault c = inl refl
   in_ends Strays c = inr (inl refl)
   in_ends Unsound c = inr (inr (inl refl))
   in_ends other c = absurd c
 
   -- an input that gave no table
-  pub no_table : (s : Status) → SavedCause source s → (refresh_promise timeout sealed).cause called source link s
+  pub no_table : (s : Status) → SavedCause source s → (refresh_promise words).cause called source link s
   no_table LinkFault h = absurd h
   no_table Strays h = absurd h
   no_table other h = h
 
-pub refreshing_lawful : (timeout : ℕ) (sealed : Bool) → Lawful (refresh_promise timeout sealed)
-refreshing_lawful timeout sealed = reading_lawful (refresh_aim timeout sealed) (record {
+pub refreshing_lawful : (words : RefreshWords) → Lawful (refresh_promise words)
+refreshing_lawful words = reading_lawful (refresh_aim words) (record {
   good = λ called source link written t. restored source t.refreshes.table t.refreshes.restores;
   apart = saved_apart;
   seedless = λ called source none_. absurd none_;
@@ -86,10 +87,10 @@ refreshing_lawful timeout sealed = reading_lawful (refresh_aim timeout sealed) (
   seeded = λ called source link written told t none_. none_;
   few = λ called source link written told t last. last;
   uncalled = λ called link told same last. last;
-  behind = λ called source link s c. behind timeout sealed called source link s c;
+  behind = λ called source link s c. behind words called source link s c;
   well = λ called source link n. (n.told, n.reads, restored source n.table n.restores);
-  needed = λ called source link s n c. needed timeout sealed called source link s n c;
-  in_ends = λ called source link s c. in_ends timeout sealed called source link s c;
+  needed = λ called source link s n c. needed words called source link s n c;
+  in_ends = λ called source link s c. in_ends words called source link s c;
   seeks = λ none_ called source no_one. no_one;
   counts = λ none_ called source link last. none_ refl;
   restores = λ none_ source n. none_ refl;

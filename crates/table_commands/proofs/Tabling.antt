@@ -1,11 +1,10 @@
 -- The command `table`: what its table holds can be written, and its parts are its text.
-use Rattle.std.proofs.Common.{◌≡◌, ℕ, ◌≤◌, List, [], ◌∷◌, Option, sym, subst}
+use Rattle.std.proofs.Common.{◌≡◌, ℕ, ◌≤◌, List, [], ◌∷◌, sym, subst}
 use Rattle.std.specs.Prelude.{All, map}
 use Rattle.std.proofs.lemmas.List.Elements.{All-cons, All-head, All-nil, All-tail}
 use Rattle.kad_base.specs.declared.types.Family.TheVariants.{Four}
 use Rattle.kad_base.specs.declared.types.Contact.{Contact}
 use Rattle.kad_base.specs.declared.types.Id.{Id}
-use Rattle.kad_base.specs.declared.types.Policy.{Policy}
 use Rattle.kad_base.specs.declared.types.Report.{Report}
 use Rattle.bucket_tree.specs.Rows.{IsRow}
 use Rattle.bucket_tree.specs.States.{state_of, states_of}
@@ -14,6 +13,7 @@ use Rattle.contact_table.specs.SavedState.{state_of as table_of}
 use Rattle.contact_table.specs.TableState.{SoundTable, TableState}
 use Rattle.contact_table.specs.Told.{new_table}
 use Rattle.contact_table.specs.declared.saved.Saved.{Saved}
+use Rattle.kad_words.specs.declared.command.TableWords.{TableWords}
 use Rattle.lookup_run.specs.Lookup.{TableTold}
 use Rattle.table_file.specs.SavedText.{FailedOnce}
 use Rattle.table_commands.specs.Tabled.{IsTextOf, TableText}
@@ -35,15 +35,15 @@ can_be_written saved s sound e =
     rows_failed_once saved.own saved.k saved.b saved.rows own.buckets.rows.each
 
 -- what it prints, as the code has it
-pub tabled : (own : Option Id) (k bits : ℕ) (policy : Policy) (random : List ℕ) (source : Shown ℕ) (id : Id) (reports read : List Report) (contacts cs : List Contact) (table : TableState) (text : List ℕ)
-    → id ≡ own_of own random → Lists source reports → read ≡ reports → Admits id Four policy read contacts → cs ≡ contacts → TableTold (map seen_call cs) (new_table id k bits) table → IsTextOf table text
-    → TableText own k bits policy random source text
-tabled own k bits policy random source id reports read contacts cs table text mine lists is admits same told printed = record {
+pub tabled : (words : TableWords) (random : List ℕ) (source : Shown ℕ) (id : Id) (reports read : List Report) (contacts cs : List Contact) (table : TableState) (text : List ℕ)
+    → id ≡ own_of words.own random → Lists source reports → read ≡ reports → Admits id Four words.policy read contacts → cs ≡ contacts → TableTold (map seen_call cs) (new_table id words.k words.bits) table → IsTextOf table text
+    → TableText words random source text
+tabled words random source id reports read contacts cs table text mine lists is admits same told printed = record {
   reports = reports;
   lists = lists;
   contacts = contacts;
-  admits = subst (λ (i : Id). Admits i Four policy reports contacts) mine (subst (λ (l : List Report). Admits id Four policy l contacts) is admits);
+  admits = subst (λ (i : Id). Admits i Four words.policy reports contacts) mine (subst (λ (l : List Report). Admits id Four words.policy l contacts) is admits);
   table = table;
-  told = subst (λ (i : Id). TableTold (map seen_call contacts) (new_table i k bits) table) mine (subst (λ (l : List Contact). TableTold (map seen_call l) (new_table id k bits) table) same told);
+  told = subst (λ (i : Id). TableTold (map seen_call contacts) (new_table i words.k words.bits) table) mine (subst (λ (l : List Contact). TableTold (map seen_call l) (new_table id words.k words.bits) table) same told);
   printed = printed;
 }

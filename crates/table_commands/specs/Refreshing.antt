@@ -1,7 +1,7 @@
 -- What the command `refresh` promises: that the input was the saved text of a sound table, that the link's events are those
 -- of the eviction pings of that table (Kademlia, 2002, section 2.2), and that the text is the saved text of the table that
 -- results. Which text a table has, and that all buckets are pinged in one call, is this project's own.
-use Rattle.std.specs.Prelude.{◌≡◌, ◌⊎◌, ℕ, List, [], ◌∷◌, Bool, true}
+use Rattle.std.specs.Prelude.{◌≡◌, ◌⊎◌, ℕ, List, [], ◌∷◌, true}
 use Rattle.kad_base.specs.declared.types.Event.{Event}
 use Rattle.kad_base.specs.Outside.{Happens}
 use Rattle.contact_table.specs.SavedState.{state_of}
@@ -9,6 +9,7 @@ use Rattle.contact_table.specs.TableState.{SoundTable, TableState}
 use Rattle.contact_table.specs.declared.saved.Saved.{Saved}
 use Rattle.table_file.specs.Reading.{IsBadLine as IsBadSavedLine}
 use Rattle.table_file.specs.SavedText.{IsSavedText}
+use Rattle.kad_words.specs.declared.command.RefreshWords.{RefreshWords}
 use Rattle.table_refresh.specs.Refreshed.{Given, Refreshed, Unfinished, goes_by}
 use Rattle.table_refresh.specs.declared.types.RefreshFault.{RefreshFault}
 use Rattle.table_refresh.specs.declared.types.RefreshFault.TheVariants as fault
@@ -59,70 +60,70 @@ SavedCause source status = ReadingCause IsBadSavedLine (TableCause source) sourc
 -- ---- the pings
 
 -- what they go by, of this table; their transaction ids are drawn as those of a lookup are
-abbrev pub pings_of : ℕ → Bool → Called → TableState → Given
-pings_of timeout sealed called table = goes_by table timeout sealed called.accepts (drawn_of called.random).seed
+abbrev pub pings_of : RefreshWords → Called → TableState → Given
+pings_of words called table = goes_by table words.timeout words.sealed called.accepts (drawn_of called.random).seed
 
 -- a whole refresh: the input's table, the link's events, and the table that results
-pub record Refreshes (timeout : ℕ) (sealed : Bool) (called : Called) (source : Shown ℕ) (link : Shown Event) (after : TableState) : Type 0 where
+pub record Refreshes (words : RefreshWords) (called : Called) (source : Shown ℕ) (link : Shown Event) (after : TableState) : Type 0 where
   pub table : TableState
   pub restores : Restores source table
   pub place : ℕ
-  pub happens : Happens link.before link.after (Refreshed (pings_of timeout sealed called table) table (drawn_of called.random).place after place)
+  pub happens : Happens link.before link.after (Refreshed (pings_of words called table) table (drawn_of called.random).place after place)
 
 -- one that ended early by a fault
-pub record RefreshEnds (timeout : ℕ) (sealed : Bool) (called : Called) (source : Shown ℕ) (link : Shown Event) (by : RefreshFault) : Type 0 where
+pub record RefreshEnds (words : RefreshWords) (called : Called) (source : Shown ℕ) (link : Shown Event) (by : RefreshFault) : Type 0 where
   pub table : TableState
   pub restores : Restores source table
   pub after : TableState
   pub place : ℕ
-  pub happens : Happens link.before link.after (Unfinished (pings_of timeout sealed called table) table (drawn_of called.random).place by after place)
+  pub happens : Happens link.before link.after (Unfinished (pings_of words called table) table (drawn_of called.random).place by after place)
 
 -- ---- what it promises
 
 -- a whole refresh, whose text is the saved text of the table that results
-pub record RefreshText (timeout : ℕ) (sealed : Bool) (called : Called) (source : Shown ℕ) (link : Shown Event) (text : List ℕ) : Type 0 where
+pub record RefreshText (words : RefreshWords) (called : Called) (source : Shown ℕ) (link : Shown Event) (text : List ℕ) : Type 0 where
   pub after : TableState
-  pub refreshes : Refreshes timeout sealed called source link after
+  pub refreshes : Refreshes words called source link after
   pub printed : IsTextOf after text
 
 -- one that gave no text: it ended early, or it was whole
-abbrev pub RefreshBegun : ℕ → Bool → Called → Shown ℕ → Shown Event → Type 0
-RefreshBegun timeout sealed called source link = ((by : RefreshFault) × RefreshEnds timeout sealed called source link by) ⊎ ((after : TableState) × Refreshes timeout sealed called source link after)
+abbrev pub RefreshBegun : RefreshWords → Called → Shown ℕ → Shown Event → Type 0
+RefreshBegun words called source link = ((by : RefreshFault) × RefreshEnds words called source link by) ⊎ ((after : TableState) × Refreshes words called source link after)
 
 -- why it ended after its input
-abbrev pub RefreshCause : ℕ → Bool → Called → Shown ℕ → Shown Event → Status → Type 0
-RefreshCause timeout sealed called source link LinkFault = HasFailed link × RefreshEnds timeout sealed called source link fault.LinkFault
-RefreshCause timeout sealed called source link Strays = RefreshEnds timeout sealed called source link fault.Strays
-RefreshCause timeout sealed called source link Unsound = RestoresNone source
-RefreshCause timeout sealed called source link other = ⊥
+abbrev pub RefreshCause : RefreshWords → Called → Shown ℕ → Shown Event → Status → Type 0
+RefreshCause words called source link LinkFault = HasFailed link × RefreshEnds words called source link fault.LinkFault
+RefreshCause words called source link Strays = RefreshEnds words called source link fault.Strays
+RefreshCause words called source link Unsound = RestoresNone source
+RefreshCause words called source link other = ⊥
 
 -- what it needs: the saved text of a sound table, no failure and few strays
-pub record RefreshesWell (timeout : ℕ) (sealed : Bool) (called : Called) (source : Shown ℕ) (link : Shown Event) : Type 0 where
+pub record RefreshesWell (words : RefreshWords) (called : Called) (source : Shown ℕ) (link : Shown Event) : Type 0 where
   pub told : IsTold source
   pub reads : ¬ HasFailed source
   pub hears : ¬ HasFailed link
-  pub few_strays : ¬ RefreshEnds timeout sealed called source link fault.Strays
+  pub few_strays : ¬ RefreshEnds words called source link fault.Strays
   pub table : TableState
   pub restores : Restores source table
 
-abbrev pub refresh_aim : ℕ → Bool → Aim
-refresh_aim timeout sealed = record {
+abbrev pub refresh_aim : RefreshWords → Aim
+refresh_aim words = record {
   links = true;
   good = IsSaved;
   bad = IsBadSavedLine;
   unsound = λ source. RestoresNone source;
   no_seeds = λ called source. ⊥;
   last_stray = λ called link. ⊥;
-  strays = λ called source link. RefreshEnds timeout sealed called source link fault.Strays;
-  few = λ called source link. RefreshEnds timeout sealed called source link fault.LinkFault;
+  strays = λ called source link. RefreshEnds words called source link fault.Strays;
+  few = λ called source link. RefreshEnds words called source link fault.LinkFault;
   ends = 4 ∷ 7 ∷ 13 ∷ [];
   ranges = Unit {0};
-  text = λ called source link written. RefreshText timeout sealed called source link written;
+  text = λ called source link written. RefreshText words called source link written;
   started = λ called source. RestoresSome source;
-  begun = λ called source link. RefreshBegun timeout sealed called source link;
-  cause = λ called source link status. RefreshCause timeout sealed called source link status;
-  needs = λ called source link. RefreshesWell timeout sealed called source link;
+  begun = λ called source link. RefreshBegun words called source link;
+  cause = λ called source link status. RefreshCause words called source link status;
+  needs = λ called source link. RefreshesWell words called source link;
 }
 
-abbrev pub refresh_promise : ℕ → Bool → Promise
-refresh_promise timeout sealed = reading (refresh_aim timeout sealed)
+abbrev pub refresh_promise : RefreshWords → Promise
+refresh_promise words = reading (refresh_aim words)

@@ -1,15 +1,14 @@
 -- What `table` makes: the saved text of the routing table from which a lookup with the same words and input takes the nodes
 -- that it begins with. The text is this project's own.
-use Rattle.std.specs.Prelude.{◌≡◌, ℕ, List, map, Option}
+use Rattle.std.specs.Prelude.{◌≡◌, ℕ, List, map}
 use Rattle.kad_base.specs.declared.types.Family.TheVariants.{Four}
-use Rattle.kad_base.specs.declared.types.Id.{Id}
 use Rattle.kad_base.specs.declared.types.Contact.{Contact}
-use Rattle.kad_base.specs.declared.types.Policy.{Policy}
 use Rattle.kad_base.specs.declared.types.Report.{Report}
 use Rattle.contact_table.specs.SavedState.{state_of}
 use Rattle.contact_table.specs.TableState.{TableState}
 use Rattle.contact_table.specs.Told.{new_table}
 use Rattle.contact_table.specs.declared.saved.Saved.{Saved}
+use Rattle.kad_words.specs.declared.command.TableWords.{TableWords}
 use Rattle.lookup_run.specs.Lookup.{TableTold}
 use Rattle.table_file.specs.SavedText.{IsSavedText}
 use Rattle.command_base.specs.Input.{Lists, Admits}
@@ -24,14 +23,14 @@ pub record IsTextOf (table : TableState) (text : List ℕ) : Type 0 where
   pub is_saved : IsSavedText text saved
 
 -- the contacts of the input that are usable and pass, in order, were told to a new table, and the text is that table's
-pub record TableText (own : Option Id) (k bits : ℕ) (policy : Policy) (random : List ℕ) (source : Shown ℕ) (text : List ℕ) : Type 0 where
+pub record TableText (words : TableWords) (random : List ℕ) (source : Shown ℕ) (text : List ℕ) : Type 0 where
   pub reports : List Report
   pub lists : Lists source reports
   pub contacts : List Contact
-  pub admits : Admits (own_of own random) Four policy reports contacts
+  pub admits : Admits (own_of words.own random) Four words.policy reports contacts
   pub table : TableState
-  pub told : TableTold (map seen_call contacts) (new_table (own_of own random) k bits) table
+  pub told : TableTold (map seen_call contacts) (new_table (own_of words.own random) words.k words.bits) table
   pub printed : IsTextOf table text
 
-abbrev pub table_promise : Option Id → ℕ → ℕ → Policy → Promise
-table_promise own k bits policy = reading (judge_aim (AreTableBounds k bits) (λ random source text. TableText own k bits policy random source text))
+abbrev pub table_promise : TableWords → Promise
+table_promise words = reading (judge_aim (AreTableBounds words.k words.bits) (λ random source text. TableText words random source text))

@@ -15,6 +15,7 @@ use command_base::{Call, Status};
 use contact_table::Table;
 use id_puzzles::Words;
 use kad_base::{Bytes, Link, Source};
+use kad_words::RefreshWords;
 use path_worker::PacedCheck;
 use seal_tags::{Seal, SealCheck};
 use std::alloc::Global;
@@ -50,24 +51,23 @@ fn read_table<S: Source>(alloc: Global, source: &mut S) -> Result<Table, Status>
 /// is written yet.
 pub fn refresh<S: Source, L: Link, C: PacedCheck, G: Seal + SealCheck>(
     alloc: Global,
-    timeout: u32,
-    sealed: bool,
+    words: &RefreshWords,
     source: &mut S,
     link: &mut L,
     call: &Call<'_, C, G>,
 ) -> Result<Bytes, Status>
-    ensures ok { IfOk result (RefreshText timeout sealed
+    ensures ok { IfOk result (RefreshText words.now
         (called_with call.now.random (C.slow call.now.check.now) (G.accepted call.now.seal.now)
         (G.tag_of call.now.seal.now))
         (shown S.left S.faults source.old source.new)
         (shown_link L.told L.recv_faults L.send_faults link.old link.new)) }
-    ensures cause { IfErr result ((refresh_promise timeout sealed).cause
+    ensures cause { IfErr result ((refresh_promise words.now).cause
         (called_with call.now.random (C.slow call.now.check.now) (G.accepted call.now.seal.now)
         (G.tag_of call.now.seal.now))
         (shown S.left S.faults source.old source.new)
         (shown_link L.told L.recv_faults L.send_faults link.old link.new)) }
     ensures no_memory { IfErr result (λ status. status ≡ Status.NoMemory →
-        RefreshBegun timeout sealed
+        RefreshBegun words.now
         (called_with call.now.random (C.slow call.now.check.now) (G.accepted call.now.seal.now)
         (G.tag_of call.now.seal.now))
         (shown S.left S.faults source.old source.new)
@@ -81,9 +81,15 @@ pub fn refresh<S: Source, L: Link, C: PacedCheck, G: Seal + SealCheck>(
         → S.faults source.new ≡ S.faults source.old }
 {
     let table = read_table(alloc, source)?;
-    let mut words = Words::new(&call.random, FIRST_TX);
+    let mut drawn = Words::new(&call.random, FIRST_TX);
     let (table, ended) = table_refresh::refresh(
-        alloc, link, &mut words, table, timeout, sealed, call.seal,
+        alloc,
+        link,
+        &mut drawn,
+        table,
+        words.timeout,
+        words.sealed,
+        call.seal,
     );
     match ended {
         Ok(()) => Ok(text_of(alloc, &table)?),

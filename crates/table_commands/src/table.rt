@@ -11,7 +11,8 @@ use command_base::bootstrap::{own_id, table_of};
 use command_base::input::{admitted, read_reports};
 use command_base::{Call, Status};
 use contact_table::Table;
-use kad_base::{Bytes, Check, Family, Id, NoMemory, Policy, Source};
+use kad_base::{Bytes, Check, Family, NoMemory, Source};
+use kad_words::TableWords;
 use seal_tags::{Seal, SealCheck};
 use std::alloc::Global;
 use table_file::write;
@@ -29,33 +30,30 @@ pub fn text_of(alloc: Global, table: &Table) -> Result<Bytes, NoMemory>
 /// is none. Nothing is written yet.
 pub fn table<S: Source, C: Check, G: Seal + SealCheck>(
     alloc: Global,
-    own: Option<Id>,
-    k: u8,
-    bits: u8,
-    policy: Policy,
+    words: &TableWords,
     source: &mut S,
     call: &Call<'_, C, G>,
 ) -> Result<Bytes, Status>
-    requires { AreTableBounds k bits }
-    ensures ok { IfOk result (TableText own k bits policy call.now.random
+    requires { AreTableBounds words.now.k words.now.bits }
+    ensures ok { IfOk result (TableText words.now call.now.random
         (shown S.left S.faults source.old source.new)) }
     ensures cause { (called : Called) (link : Shown Event) → IfErr result
-        ((table_promise own k bits policy).cause called
+        ((table_promise words.now).cause called
         (shown S.left S.faults source.old source.new) link) }
     ensures at_most { ReadsAtMost (S.left source.old) (S.left source.new) }
     ensures reads_well { ¬ IsErrOf result Status.SourceFault
         → S.faults source.new ≡ S.faults source.old }
 {
-    let id = own_id(own, &call.random);
+    let id = own_id(words.own, &call.random);
     let reports = read_reports(alloc, source)?;
     let contacts = admitted(
         alloc,
         &id,
         Family::Four,
-        policy,
+        words.policy,
         call.check,
         reports.as_slice(),
     )?;
-    let table = table_of(alloc, id, k, bits, contacts.as_slice())?;
+    let table = table_of(alloc, id, words.k, words.bits, contacts.as_slice())?;
     Ok(text_of(alloc, &table)?)
 }

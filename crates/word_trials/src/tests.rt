@@ -2,7 +2,10 @@
 //! for 64 and `ZEROS` for 64 zeros.
 use kad_base::{Addr, Family, Id, Ip, List, NoMemory, Policy};
 use kad_text::read::read_addr;
-use kad_words::{Command, LookWords, WordsFault, bind_of, group_of, lacks_group, read, takes_link};
+use kad_words::{
+    Command, LookWords, MintWords, NodeWords, ServeWords, SimWords, TableWords, WordsFault,
+    bind_of, group_of, lacks_group, read, takes_link,
+};
 use std::alloc::{AllocError, Global};
 
 const ID: &str = "00000000000000000000000000000000000000aF";
@@ -303,17 +306,18 @@ fn words_of_serve(rt: HostRuntime) {
             false,
         ),
     ] {
+        let words = ServeWords {
+            own,
+            k,
+            bits,
+            policy,
+            receives,
+            workers,
+            sealed,
+        };
         assert_eq!(rt;
             read_line(rt.alloc(), line),
-            Ok(Command::Serve {
-                own,
-                k,
-                bits,
-                policy,
-                receives,
-                workers,
-                sealed,
-            }),
+            Ok(Command::Serve { words }),
             "at {line}"
         );
     }
@@ -347,9 +351,10 @@ fn words_of_node(rt: HostRuntime) {
             1,
         ),
     ] {
+        let words = NodeWords { look, receives };
         assert_eq!(rt;
             read_line(rt.alloc(), line),
-            Ok(Command::Node { look, receives }),
+            Ok(Command::Node { words }),
             "at {line}"
         );
     }
@@ -368,14 +373,15 @@ fn words_of_table_and_check(rt: HostRuntime) {
             puzzled,
         ),
     ] {
+        let words = TableWords {
+            own,
+            k,
+            bits,
+            policy,
+        };
         assert_eq!(rt;
             read_line(rt.alloc(), line),
-            Ok(Command::Table {
-                own,
-                k,
-                bits,
-                policy,
-            }),
+            Ok(Command::Table { words }),
             "at {line}"
         );
     }
@@ -395,14 +401,15 @@ fn words_of_mint(rt: HostRuntime) {
         ("mint --c2 4 --seed SEED --tries 1", Some(seed()), 0, 4, 1),
         ("mint --tries 16777216 --c1 32", None, 32, 0, 16_777_216),
     ] {
+        let words = MintWords {
+            seed,
+            c1,
+            c2,
+            tries,
+        };
         assert_eq!(rt;
             read_line(rt.alloc(), line),
-            Ok(Command::Mint {
-                seed,
-                c1,
-                c2,
-                tries,
-            }),
+            Ok(Command::Mint { words }),
             "at {line}"
         );
     }
@@ -433,17 +440,18 @@ fn words_of_sim(rt: HostRuntime) {
             7,
         ),
     ] {
+        let words = SimWords {
+            seed,
+            nodes,
+            hostile,
+            k,
+            paths,
+            alpha,
+            timeout,
+        };
         assert_eq!(rt;
             read_line(rt.alloc(), line),
-            Ok(Command::Sim {
-                seed,
-                nodes,
-                hostile,
-                k,
-                paths,
-                alpha,
-                timeout,
-            }),
+            Ok(Command::Sim { words }),
             "at {line}"
         );
     }

@@ -50,13 +50,13 @@ pub returns-in-Get-clause-unread : goal.returns-in-Get-clause-unread
 returns-in-Get-clause-unread g c = unrefused c.get.result _ (Get c.in-Get.look) (λ refused. refused) _ _ _ c.get.ensures.cause
 
 pub returns-in-Serve-clause-unread : goal.returns-in-Serve-clause-unread
-returns-in-Serve-clause-unread g c = unrefused c.serve.result _ (Serve c.in-Serve.own c.in-Serve.k c.in-Serve.bits c.in-Serve.policy c.in-Serve.receives c.in-Serve.workers c.in-Serve.sealed) (λ refused. refused) _ _ _ c.serve.ensures.cause
+returns-in-Serve-clause-unread g c = unrefused c.serve.result _ (Serve c.in-Serve.words) (λ refused. refused) _ _ _ c.serve.ensures.cause
 
 pub returns-in-Node-clause-unread : goal.returns-in-Node-clause-unread
-returns-in-Node-clause-unread g c = unrefused c.node.result _ (Node c.in-Node.look c.in-Node.receives) (λ refused. refused) _ _ _ c.node.ensures.cause
+returns-in-Node-clause-unread g c = unrefused c.node.result _ (Node c.in-Node.words) (λ refused. refused) _ _ _ c.node.ensures.cause
 
 pub returns-in-Refresh-clause-unread : goal.returns-in-Refresh-clause-unread
-returns-in-Refresh-clause-unread g c = unrefused c.refresh.result _ (Refresh c.in-Refresh.timeout c.in-Refresh.sealed) (λ refused. refused) _ _ _ c.refresh.ensures.cause
+returns-in-Refresh-clause-unread g c = unrefused c.refresh.result _ (Refresh c.in-Refresh.words) (λ refused. refused) _ _ _ c.refresh.ensures.cause
 
 pub returns-in_default-clause-unread : goal.returns-in_default-clause-unread
 returns-in_default-clause-unread g c =

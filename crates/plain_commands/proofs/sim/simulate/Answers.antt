@@ -10,7 +10,7 @@ use Rattle.plain_commands.specs.Simulated.{count_among, sim_text}
 use Rattle.command_base.proofs.Results.{ok_at, err_at}
 use Rattle.plain_commands.proofs.Simulating.{sim_limits, sim_usable, simulates}
 use Rattle.plain_commands.proofs.Unstrayed.{no_strays, no_rise}
-use Rattle.plain_commands.proofs.sim.sim.Goals as goal
+use Rattle.plain_commands.proofs.sim.simulate.Goals as goal
 
 pub look_up_alone-ended-requires-clause-usable : goal.look_up_alone-ended-requires-clause-usable
 look_up_alone-ended-requires-clause-usable g c = sim_usable c.args.simulation.now c.in_ok-start.start c.in_ok-start.ensures
