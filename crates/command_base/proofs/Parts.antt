@@ -8,8 +8,7 @@ use Rattle.kad_base.specs.declared.types.Id.{Id}
 use Rattle.kad_base.specs.declared.types.Contact.{Contact}
 use Rattle.kad_base.specs.declared.types.Report.{Report}
 use Rattle.kad_base.specs.declared.types.Policy.{Policy}
-use Rattle.std.specs.Prelude.{IfSome}
-use Rattle.kad_base.specs.Outside.{Grows, Shrinks}
+use Rattle.kad_base.specs.Outside.{Shrinks}
 use Rattle.command_base.specs.Written.{IsFront}
 use Rattle.command_base.specs.Input.{ReadsAtMost, ReadsTooMuch, IsAdmitted, Admits, AdmitsOne, IsKept, Keeps, KeepsOne}
 
@@ -19,11 +18,6 @@ front all n t u p q = (drop n all, ap (λ l. (t ++ l) ++ drop n all) q ∙ ap (�
 -- what is left is as long as it is
 pub rest_whole : (all : List ℕ) (at : ℕ) → take (length all - at) (drop at all) ≡ drop at all
 rest_whole all at = ap (λ n. take n (drop at all)) (sym (length-drop at all)) ∙ take-length (drop at all)
-
--- a content to which nothing was added is as it was
-pub none_added : {A : Type 0} (old new : Option (List A)) → Grows old new (λ t. t ≡ []) → IfSome new (λ held. old ≡ Some held)
-none_added old None g = tt
-none_added old (Some held) g = g.was ∙ ap Some (sym (g.sum_is ∙ ap (λ l. g.before ++ l) g.holds ∙ append-nil g.before))
 
 -- more was read than may be
 pub too_much : (a c : Option (List ℕ)) (front : List ℕ) → Shrinks a c front → length front ≡ max_input + 1 → ReadsTooMuch a c

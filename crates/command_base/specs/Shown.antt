@@ -1,6 +1,6 @@
 -- What a call saw of a source, a link or a sink: what it told that it holds, and how often it had failed, before and
 -- after.
-use Rattle.std.specs.Prelude.{◌≢◌, ℕ, List, Option, Some, None, IfSome, ◌≡◌}
+use Rattle.std.specs.Prelude.{◌≢◌, ℕ, List, Option, None, ◌≡◌}
 use Rattle.kad_base.specs.declared.types.Event.{Event}
 use Rattle.kad_base.specs.Outside.{Rose}
 
@@ -28,14 +28,6 @@ IsTold s = s.after ≢ None
 -- it failed, as far as its count shows
 abbrev pub HasFailed : {A : Type 0} → Shown A → Type 0
 HasFailed s = Rose s.faults s.faults'
-
--- The last call of a source or a sink is one that failed: until some state of it none had, and from there the call that failed
--- led to its end. Where it is told what it holds, nothing was read or written from there on.
-pub record FailsLast {X A : Type 0} (told : X → Option (List A)) (faults : X → ℕ) (old new : X) : Type 0 where
-  pub at : X
-  pub well : faults at ≡ faults old
-  pub failed : Rose (faults at) (faults new)
-  pub nothing_more : IfSome (told new) (λ held. told at ≡ Some held)
 
 -- a link that tells nothing: that of a call which has none
 abbrev pub nowhere : Shown Event

@@ -1,9 +1,10 @@
 //! The input of a command: its bytes, and the reports and contacts that its lines give.
 ghost use Rattle.std.specs.Prelude.{◌≡◌, OnOk, IfOk, IfErr, IsTrue, ◌↔◌, ◌≤◌, length, IsErrOf};
+ghost use Rattle.kad_base.specs.Failing.{FailsLast};
 ghost use Rattle.kad_base.specs.Limits.{max_input};
 ghost use Rattle.command_base.specs.Input.{ReadsAll, ReadsAtMost, Lists, IsAdmitted, Admits, AdmitsOne, IsKept, Keeps, KeepsOne};
 ghost use Rattle.command_base.specs.Promise.{ReportsCause, WholeCause};
-ghost use Rattle.command_base.specs.Shown.{shown, FailsLast};
+ghost use Rattle.command_base.specs.Shown.{shown};
 
 use crate::status::Status;
 use kad_base::limits::MAX_INPUT;

@@ -1,8 +1,9 @@
 //! Writing a text whole, and how a command ends.
 ghost use Rattle.std.specs.Prelude.{◌≡◌, ◌≢◌, ◌≤◌, ◌<◌, ◌⊎◌, OnOk, OnErr};
+ghost use Rattle.kad_base.specs.Failing.{FailsLast};
 ghost use Rattle.kad_base.specs.Outside.{Grows, Rose};
 ghost use Rattle.command_base.specs.Written.{IsFront};
-ghost use Rattle.command_base.specs.Shown.{shown, HasFailed, FailsLast};
+ghost use Rattle.command_base.specs.Shown.{shown, HasFailed};
 ghost use Rattle.command_base.specs.Endings.{Writes, last_status, number_of, status_line};
 
 use crate::status::{LINE_ROOM, Status};

@@ -1,4 +1,5 @@
 pub mod Grown
+pub mod Failing
 pub mod Runs
 pub mod Contacts
 pub mod Xors

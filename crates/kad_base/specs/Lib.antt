@@ -1,4 +1,5 @@
 pub mod Outside
+pub mod Failing
 pub mod Contacts
 pub mod Hashes
 pub mod Bits

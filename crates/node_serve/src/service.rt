@@ -1,5 +1,6 @@
 //! The receive calls of a node that serves on a link, and the replies to what came.
 ghost use Rattle.std.specs.Prelude.{◌≡◌, ◌≢◌, ◌≤◌, ◌<◌, ◌+◌, ◌^◌, [], ◌∷◌, length, IfOk, OnOk, OnErr, IfErr};
+ghost use Rattle.kad_base.specs.Failing.{FailsLast};
 ghost use Rattle.kad_base.specs.Outside.{Grows, Rose};
 ghost use Rattle.node_serve.specs.AnswerOf.{EndsEarly};
 ghost use Rattle.node_serve.specs.Receives.{ServesAll, ServesSome, tried};
@@ -98,6 +99,8 @@ fn receive<L: Link, G: Seal>(
         (L.told link.old) (L.told link.new)) }
     ensures link_fault { result ≡ Err ServeFault.LinkFault
         → Rose (L.recv_faults link.old) (L.recv_faults link.new) }
+    ensures last { result ≡ Err ServeFault.LinkFault
+        → FailsLast L.told L.recv_faults link.old link.new }
     ensures recv_faults { L.recv_faults link.old ≤ L.recv_faults link.new }
     ensures well { result ≢ Err ServeFault.LinkFault
         → L.recv_faults link.new ≡ L.recv_faults link.old }
@@ -141,6 +144,8 @@ pub fn serve_loop<L: Link, G: Seal>(
         (ServesSome (G.tag_of seal.now) (record { node = node; moment = began }) receives)) }
     ensures link_fault { result ≡ Err ServeFault.LinkFault
         → Rose (L.recv_faults link.old) (L.recv_faults link.new) }
+    ensures last { result ≡ Err ServeFault.LinkFault
+        → FailsLast L.told L.recv_faults link.old link.new }
     ensures recv_faults { L.recv_faults link.old ≤ L.recv_faults link.new }
     ensures well { result ≢ Err ServeFault.LinkFault
         → L.recv_faults link.new ≡ L.recv_faults link.old }

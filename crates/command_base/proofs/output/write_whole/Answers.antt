@@ -1,8 +1,9 @@
 use Rattle.std.proofs.Common.{inr, arith, refl, ◌∙◌}
 use Rattle.std.proofs.lemmas.Grind.{common_steps}
 use Rattle.std.proofs.Math.Seq.{take-add}
+use Rattle.kad_base.proofs.Failing.{fails_here, fails_later}
 use Rattle.kad_base.proofs.Grown.{grows_then}
-use Rattle.command_base.proofs.Parts.{front, rest_whole, none_added}
+use Rattle.command_base.proofs.Parts.{front, rest_whole}
 use Rattle.command_base.proofs.Exactly.{rose_after}
 use Rattle.command_base.proofs.output.write_whole.Goals as goal
 
@@ -14,7 +15,7 @@ returns-in-Err-clause-writes g c =
     inr (rose_after _ _ _ c.writing.invariant.faults c.in-Err.ensures.failed, grows_then _ _ _ _ _ _ c.writing.invariant.written c.in-Err.ensures.err (front c.args.bytes.now c.writing.at))
 
 pub returns-in-Err-clause-last : goal.returns-in-Err-clause-last
-returns-in-Err-clause-last g c = record { at = c.writing.sink; well = c.writing.invariant.well; failed = c.in-Err.ensures.failed; nothing_more = none_added _ _ c.in-Err.ensures.err }
+returns-in-Err-clause-last g c = fails_later _ _ _ _ _ c.writing.invariant.well (fails_here _ _ _ _ c.in-Err.ensures.failed c.in-Err.ensures.err)
 
 pub writing-preserved : goal.writing-preserved
 writing-preserved g c = record {

@@ -3,6 +3,7 @@ use Rattle.kad_base.specs.Outside.{Grows}
 use Rattle.node_serve.specs.declared.service.ServeFault.TheVariants.{LinkFault}
 use Rattle.node_serve.specs.Responded.{ReceivesAll, server_at}
 use Rattle.node_serve.proofs.Receiving.{received_more, all_made, all_stop}
+use Rattle.kad_base.proofs.Failing.{fails_later}
 use Rattle.node_serve.proofs.service.serve_loop.Goals as goal
 
 pub loop-i-preserved : goal.loop-i-preserved
@@ -29,3 +30,6 @@ returns-in-Err-clause-well g c other = c.in-Err.ensures.well (λ is. (let fault 
 pub returns-in-Err-clause-begun : goal.returns-in-Err-clause-begun
 returns-in-Err-clause-begun g c =
     all_stop (g.G.Seal.tag_of c.args.seal.now) c.in-Err.fault c.loop-i.i c.args.receives (server_at c.args.node c.args.began) c.loop-i.server _ _ _ (search rules) c.loop-i.invariant.all c.in-Err.ensures.stops
+
+pub returns-in-Err-clause-last : goal.returns-in-Err-clause-last
+returns-in-Err-clause-last g c is = fails_later _ _ _ _ _ c.loop-i.invariant.well (c.in-Err.ensures.last (let fault : c.in-Err.fault ≡ LinkFault = cc in ap (λ x. Err x) fault))
