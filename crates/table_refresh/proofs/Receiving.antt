@@ -74,7 +74,7 @@ takes_quiet setting accepts q at old new t h = λ seed place heads again.
 stops_at : (sealed : Bool) (accepts : Accepts) (q : Query) (from : Addr) (bytes : List ℕ) (at : ℕ) (old : Progress) (fault : RefreshFault) → StopsGot sealed accepts q from bytes old fault → Stops sealed accepts q old.strays fault (Got from bytes q.deadline at ∷ [])
 stops_at sealed accepts q from bytes at old LinkFault h = absurd h
 stops_at sealed accepts q from bytes at old Strays h = record { from = from; bytes = bytes; at = at; is = refl; stray = h.0; number = h.1 }
-stops_at sealed accepts q from bytes at old NoMemory h = record { from = from; bytes = bytes; at = at; is = refl }
+stops_at sealed accepts q from bytes at old NoMemory h = record { from = from; bytes = bytes; at = at; is = refl; said = h.said; replies = h.matched }
 
 -- ---- by what came of it
 

@@ -1,5 +1,5 @@
 -- What a datagram is to a ping, by what it says.
-use Rattle.std.proofs.Common.{◌≡◌, ◌≢◌, ◌^◌, ◌<◌, ℕ, List, Bool, Result, Ok, sym, subst}
+use Rattle.std.proofs.Common.{◌≡◌, ◌≢◌, ◌^◌, ◌<◌, ℕ, List, Bool, false, sym, subst}
 use Rattle.kad_base.specs.declared.types.Addr.{Addr}
 use Rattle.query_book.specs.declared.Query.{Query}
 use Rattle.lookup_core.specs.Matching.{SaysTo}
@@ -35,3 +35,7 @@ pub matched_ping : (sealed : Bool) (accepts : Accepts) (q : Query) (from : Addr)
 matched_ping sealed accepts q from bytes said source same reads has =
     let replies = reads.replies in
     record { believable = replies.believable; said = replies.message; says = replies.says; to_query = subst (λ w. SaysTo (word_bytes w) replies.message said.reply) same replies.to_query; source = source; sealed = has }
+
+-- its tag aside
+pub tag_aside : (sealed : Bool) (accepts : Accepts) (q : Query) (from : Addr) (bytes : List ℕ) (r : Reply) → IsMatched sealed accepts q from bytes r → IsMatched false accepts q from bytes r
+tag_aside sealed accepts q from bytes r h = record { believable = h.believable; said = h.said; says = h.says; to_query = h.to_query; source = h.source; sealed = tt }

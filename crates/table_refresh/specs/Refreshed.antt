@@ -214,12 +214,14 @@ pub record Refreshed (g : Given) (table : TableState) (place : ℕ) (table' : Ta
 
 -- ---- a refresh that ended early
 
--- the last event, a datagram that came while the ping waited
-pub record StopsAtGot (q : Query) (last : List Event) : Type 0 where
+-- the last event, a datagram that came while the ping waited, and replied to it, whatever its tag is
+pub record StopsAtReply (accepts : Accepts) (q : Query) (last : List Event) : Type 0 where
   pub from : Addr
   pub bytes : List ℕ
   pub at : ℕ
   pub is : last ≡ Got from bytes q.deadline at ∷ []
+  pub said : Reply
+  pub replies : IsMatched false accepts q from bytes said
 
 -- the last event, the last stray that a refresh takes
 pub record StopsAtStray (sealed : Bool) (accepts : Accepts) (q : Query) (strays : ℕ) (last : List Event) : Type 0 where
@@ -231,11 +233,12 @@ pub record StopsAtStray (sealed : Bool) (accepts : Accepts) (q : Query) (strays 
   pub number : strays + 1 ≡ max_strays
 
 -- the events behind those that were taken, while this ping waited and there were so many strays before: none at a receive
--- that failed, the last stray that a refresh takes, or a datagram for which there was no memory
+-- that failed, the last stray that a refresh takes, or a reply for which there was no memory; so where no tag is asked for, that
+-- is no stray
 abbrev pub Stops : Bool → Accepts → Query → ℕ → RefreshFault → List Event → Type 0
 Stops sealed accepts q strays LinkFault last = last ≡ []
 Stops sealed accepts q strays Strays last = StopsAtStray sealed accepts q strays last
-Stops sealed accepts q strays NoMemory last = StopsAtGot q last
+Stops sealed accepts q strays NoMemory last = StopsAtReply accepts q last
 
 -- the events from here on end by a fault, while a ping waited; table and place are those after what was taken
 pub record EndsBy (g : Given) (s : Standing) (fault : RefreshFault) (table' : TableState) (place' : ℕ) (events : List Event) : Type 0 where

@@ -1,6 +1,7 @@
 //! The one or two tries of a head.
 ghost use Rattle.std.specs.Prelude.{◌≡◌, ◌≤◌, ◌<◌, ◌+◌, ◌^◌, ◌∷◌, [], length, IfOk, IfErr, OnOk, IsErrOf};
 ghost use Rattle.kad_base.specs.Limits.{max_datagram, max_strays};
+ghost use Rattle.kad_base.specs.Failing.{FailsLast};
 ghost use Rattle.kad_base.specs.Outside.{Rose, Happens};
 ghost use Rattle.table_refresh.specs.inner.Steps.{Awaits, AwaitEnds, Tries, TryEnds, PingsThese, TheseEnd};
 
@@ -33,6 +34,8 @@ fn await_reply<L: Link, G: SealCheck>(
         (AwaitEnds setting.now (G.accepted seal.now) query.now work.old work.new.table fault)) }
     ensures link { IsErrOf result RefreshFault.LinkFault
         → Rose (L.recv_faults link.old) (L.recv_faults link.new) }
+    ensures last { IsErrOf result RefreshFault.LinkFault
+        → FailsLast L.told L.recv_faults link.old link.new }
     ensures recv_faults { L.recv_faults link.old ≤ L.recv_faults link.new }
     ensures well { ¬ IsErrOf result RefreshFault.LinkFault
         → L.recv_faults link.new ≡ L.recv_faults link.old }
@@ -70,6 +73,8 @@ fn try_head<L: Link, G: SealCheck>(
     ensures words { words.new ≡ record words.old { place = words.old.place + 1 } }
     ensures link { IsErrOf result RefreshFault.LinkFault
         → Rose (L.recv_faults link.old) (L.recv_faults link.new) }
+    ensures last { IsErrOf result RefreshFault.LinkFault
+        → FailsLast L.told L.recv_faults link.old link.new }
     ensures recv_faults { L.recv_faults link.old ≤ L.recv_faults link.new }
     ensures well { ¬ IsErrOf result RefreshFault.LinkFault
         → L.recv_faults link.new ≡ L.recv_faults link.old }
@@ -105,6 +110,8 @@ pub(crate) fn ping_head<L: Link, G: SealCheck>(
     ensures place { words.new.place ≤ words.old.place + 2 }
     ensures link { IsErrOf result RefreshFault.LinkFault
         → Rose (L.recv_faults link.old) (L.recv_faults link.new) }
+    ensures last { IsErrOf result RefreshFault.LinkFault
+        → FailsLast L.told L.recv_faults link.old link.new }
     ensures recv_faults { L.recv_faults link.old ≤ L.recv_faults link.new }
     ensures well { ¬ IsErrOf result RefreshFault.LinkFault
         → L.recv_faults link.new ≡ L.recv_faults link.old }

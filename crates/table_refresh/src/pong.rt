@@ -1,8 +1,8 @@
 //! What a datagram is to an open ping: it is matched as a lookup matches one with its open queries.
-ghost use Rattle.std.specs.Prelude.{◌≡◌, ◌↔◌, IsTrue, IfOk};
+ghost use Rattle.std.specs.Prelude.{◌≡◌, ◌↔◌, IsTrue, IfOk, OnErr};
 ghost use Rattle.lookup_core.specs.Reply.{reply_seen};
 ghost use Rattle.table_refresh.specs.Refreshed.{Answers};
-ghost use Rattle.table_refresh.specs.inner.Steps.{IsPong};
+ghost use Rattle.table_refresh.specs.inner.Steps.{IsPong, RepliesBare};
 
 use crate::types::Setting;
 use kad_base::{Addr, Contact, Id, NoMemory};
@@ -46,7 +46,7 @@ fn answers(contact: &Contact, reply: &ReplyView) -> bool
     }
 }
 
-/// What the datagram is to the ping. Tags are looked at last, and only if they are asked for.
+/// What the datagram is to the ping. Tags are looked at last, and only if they are asked for, so only a reply may lack memory.
 pub(crate) fn pong_of<G: SealCheck>(
     alloc: Global,
     setting: &Setting,
@@ -55,7 +55,8 @@ pub(crate) fn pong_of<G: SealCheck>(
     from: Addr,
     bytes: &[u8],
 ) -> Result<Pong, NoMemory>
-    ensures { IfOk result (IsPong setting.now.sealed (G.accepted seal.now) query.now from bytes.now) }
+    ensures ok { IfOk result (IsPong setting.now.sealed (G.accepted seal.now) query.now from bytes.now) }
+    ensures err { OnErr result (RepliesBare (G.accepted seal.now) query.now from bytes.now) }
 {
     let tx = query.tx;
     if !is_from(&from, &query.contact.addr) {

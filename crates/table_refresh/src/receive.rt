@@ -1,6 +1,7 @@
 //! One receive while a ping waits for its reply, and what it gave.
 ghost use Rattle.std.specs.Prelude.{◌≡◌, ◌≤◌, ◌<◌, ◌+◌, length, Ok, IfOk, IfErr, OnOk, OnErr, IsErrOf};
 ghost use Rattle.kad_base.specs.Limits.{max_datagram, max_strays};
+ghost use Rattle.kad_base.specs.Failing.{FailsLast};
 ghost use Rattle.kad_base.specs.Outside.{Rose, Happens};
 ghost use Rattle.table_refresh.specs.declared.types.Tried.TheVariants as Tried;
 ghost use Rattle.table_refresh.specs.Refreshed.{Stops};
@@ -106,6 +107,8 @@ pub(crate) fn receive<L: Link, G: SealCheck>(
     ensures table { OnErr result (work.new.table ≡ work.old.table) }
     ensures link { IsErrOf result RefreshFault.LinkFault
         → Rose (L.recv_faults link.old) (L.recv_faults link.new) }
+    ensures last { IsErrOf result RefreshFault.LinkFault
+        → FailsLast L.told L.recv_faults link.old link.new }
     ensures recv_faults { L.recv_faults link.old ≤ L.recv_faults link.new }
     ensures well { ¬ IsErrOf result RefreshFault.LinkFault
         → L.recv_faults link.new ≡ L.recv_faults link.old }

@@ -1,6 +1,7 @@
 //! A whole refresh.
 ghost use Rattle.std.specs.Prelude.{◌≡◌, ◌≤◌, ◌<◌, ◌+◌, ◌*◌, ◌^◌, length, IfErr, OnOk, IsErrOf};
 ghost use Rattle.kad_base.specs.Limits.{max_strays};
+ghost use Rattle.kad_base.specs.Failing.{FailsLast};
 ghost use Rattle.kad_base.specs.Outside.{Rose, Happens};
 ghost use Rattle.table_refresh.specs.Refreshed.{Refreshed, Unfinished, goes_by};
 ghost use Rattle.table_refresh.specs.inner.Steps.{PingsThese, TheseEnd};
@@ -36,6 +37,8 @@ fn ping_all<L: Link, G: SealCheck>(
     ensures place { words.new.place ≤ words.old.place + 2 * length heads.now }
     ensures link { IsErrOf result RefreshFault.LinkFault
         → Rose (L.recv_faults link.old) (L.recv_faults link.new) }
+    ensures last { IsErrOf result RefreshFault.LinkFault
+        → FailsLast L.told L.recv_faults link.old link.new }
     ensures recv_faults { L.recv_faults link.old ≤ L.recv_faults link.new }
     ensures well { ¬ IsErrOf result RefreshFault.LinkFault
         → L.recv_faults link.new ≡ L.recv_faults link.old }
@@ -75,6 +78,8 @@ pub fn refresh<L: Link, G: SealCheck>(
     ensures place { words.new.place < 2 ^ 60 }
     ensures link { IsErrOf result.1 RefreshFault.LinkFault
         → Rose (L.recv_faults link.old) (L.recv_faults link.new) }
+    ensures last { IsErrOf result.1 RefreshFault.LinkFault
+        → FailsLast L.told L.recv_faults link.old link.new }
     ensures recv_faults { L.recv_faults link.old ≤ L.recv_faults link.new }
     ensures well { ¬ IsErrOf result.1 RefreshFault.LinkFault
         → L.recv_faults link.new ≡ L.recv_faults link.old }

@@ -32,6 +32,10 @@ pub record Replies (sealed : Bool) (accepts : Accepts) (q : Query) (from : Addr)
   pub matched : IsMatched sealed accepts q from bytes said
   pub what : P said
 
+-- one that is, its tag aside
+abbrev pub RepliesBare : Accepts → Query → Addr → List ℕ → Type 0
+RepliesBare accepts q from bytes = Replies false accepts q from bytes (λ said. Unit {0})
+
 -- what the datagram is to the ping
 abbrev pub IsPong : Bool → Accepts → Query → Addr → List ℕ → Pong → Type 0
 IsPong sealed accepts q from bytes Stray = IsStray sealed accepts q from bytes
@@ -134,8 +138,8 @@ pub record TakesDatagram (sealed : Bool) (accepts : Accepts) (q : Query) (from :
   pub is : IsPong sealed accepts q from bytes pong
   pub takes : TakesPong pong q at old new t
 
--- one that wasn't: the last stray, or one for which there was no memory
+-- one that wasn't: the last stray, or a reply, whatever its tag is, for which there was no memory
 abbrev pub StopsGot : Bool → Accepts → Query → Addr → List ℕ → Progress → RefreshFault → Type 0
 StopsGot sealed accepts q from bytes old LinkFault = ⊥
 StopsGot sealed accepts q from bytes old Strays = IsStray sealed accepts q from bytes × (old.strays + 1 ≡ max_strays)
-StopsGot sealed accepts q from bytes old NoMemory = Unit {0}
+StopsGot sealed accepts q from bytes old NoMemory = RepliesBare accepts q from bytes

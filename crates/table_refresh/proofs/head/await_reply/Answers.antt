@@ -2,6 +2,7 @@ use Rattle.std.proofs.Common.{◌≡◌, ◌∙◌, Err, ap, rules, arith}
 use Rattle.table_refresh.specs.declared.types.RefreshFault.TheVariants.{LinkFault}
 use Rattle.table_refresh.specs.declared.types.Tried.TheVariants.{Waits, Over}
 use Rattle.table_refresh.proofs.Trying.{waits_more, waits_end}
+use Rattle.kad_base.proofs.Failing.{fails_later}
 use Rattle.table_refresh.proofs.head.await_reply.Goals as goal
 
 pub waiting-preserved : goal.waiting-preserved
@@ -32,3 +33,6 @@ returns-in-Err-clause-well g c other = c.in-Err.ensures.well (λ is. (let fault 
 pub returns-in-Err-clause-ends : goal.returns-in-Err-clause-ends
 returns-in-Err-clause-ends g c =
     waits_end c.args.setting.now (g.G.SealCheck.accepted c.args.seal.now) c.args.query.now c.args.work.now c.waiting.work c.receive.new.work.table c.in-Err.fault _ _ _ c.waiting.invariant.so_far c.waiting.invariant.few c.in-Err.ensures.table c.in-Err.ensures.stops
+
+pub returns-in-Err-clause-last : goal.returns-in-Err-clause-last
+returns-in-Err-clause-last g c is = fails_later _ _ _ _ _ c.waiting.invariant.well (c.in-Err.ensures.last (let fault : c.in-Err.fault ≡ LinkFault = cc in ap (λ x. Err x) fault))

@@ -1,6 +1,7 @@
 use Rattle.std.proofs.Common.{◌≡◌, ◌∙◌, Err, ap}
 use Rattle.table_refresh.specs.declared.types.RefreshFault.TheVariants.{LinkFault}
 use Rattle.table_refresh.proofs.Trying.{pings_once, pings_twice, ends_again}
+use Rattle.kad_base.proofs.Failing.{fails_later}
 use Rattle.table_refresh.proofs.head.ping_head.Goals as goal
 
 pub returns-in-Ok-false-clause-ok : goal.returns-in-Ok-false-clause-ok
@@ -32,3 +33,6 @@ returns-in-Err-try_head-clause-ends g c =
     let p = c.in-Ok-true in
     let ok = rw p.field-0-test at p.ensures.ok in
     ends_again c.args.setting.now (g.G.SealCheck.accepted c.args.seal.now) c.args.head c.args.words.now c.try_head.new.words c.try_head-2.new.words c.args.work.now c.try_head.new.work c.try_head-2.new.work.table c.in-Err-try_head.fault _ _ _ p.ensures.words ok c.in-Err-try_head.ensures.ends
+
+pub returns-in-Err-try_head-clause-last : goal.returns-in-Err-try_head-clause-last
+returns-in-Err-try_head-clause-last g c is = fails_later _ _ _ _ _ (c.in-Ok-true.ensures.well (λ e. cc)) (c.in-Err-try_head.ensures.last (let fault : c.in-Err-try_head.fault ≡ LinkFault = cc in ap (λ x. Err x) fault))

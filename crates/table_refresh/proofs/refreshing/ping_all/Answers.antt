@@ -1,6 +1,7 @@
 use Rattle.std.proofs.Common.{◌≡◌, ◌∙◌, Err, ap, arith}
 use Rattle.table_refresh.specs.declared.types.RefreshFault.TheVariants.{LinkFault}
 use Rattle.table_refresh.proofs.Wholly.{pings_next, ends_next}
+use Rattle.kad_base.proofs.Failing.{fails_later}
 use Rattle.table_refresh.proofs.refreshing.ping_all.Goals as goal
 
 pub returns-in-Err-clause-ends : goal.returns-in-Err-clause-ends
@@ -24,3 +25,6 @@ loop-head-preserved g c =
       well = c.in-Ok.ensures.well (λ e. cc) ∙ i.well;
       kept = c.ping_head.ensures.kept ∙ i.kept;
     }
+
+pub returns-in-Err-clause-last : goal.returns-in-Err-clause-last
+returns-in-Err-clause-last g c is = fails_later _ _ _ _ _ c.loop-head.invariant.well (c.in-Err.ensures.last (let fault : c.in-Err.fault ≡ LinkFault = cc in ap (λ x. Err x) fault))

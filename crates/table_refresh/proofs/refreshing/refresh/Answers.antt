@@ -1,5 +1,6 @@
 use Rattle.std.proofs.Common.{◌∙◌}
 use Rattle.table_refresh.proofs.Wholly.{refreshed_ok, refreshed_err}
+use Rattle.kad_base.proofs.Failing.{fails_later}
 use Rattle.table_refresh.proofs.refreshing.refresh.Goals as goal
 
 pub returns-clause-refreshed : goal.returns-clause-refreshed
@@ -11,3 +12,6 @@ pub returns-clause-unfinished : goal.returns-clause-unfinished
 returns-clause-unfinished g c =
     refreshed_err c.in-Ok.plan.own c.args.timeout c.args.sealed (g.G.SealCheck.accepted c.args.seal.now) c.args.table c.as_slice-heads.result.now c.args.words.now c.ping_all-ended.new.words c.now.result c.ping_all-ended.new.work.table _ _ _ c.ping_all-ended.result
     c.in-Ok.ensures.own (c.as_slice-heads.ensures ∙ c.in-Ok.ensures.heads) c.now.ensures.told c.ping_all-ended.ensures.ends
+
+pub returns-clause-last : goal.returns-clause-last
+returns-clause-last g c is = fails_later _ _ _ _ _ c.now.ensures.no_recv_fault (c.ping_all-ended.ensures.last is)
