@@ -1,6 +1,7 @@
 //! Serving by workers: the three turns are opened for it and closed at its end.
 ghost use Rattle.std.specs.Prelude.{◌≡◌, ◌≢◌, ◌*◌, ◌<◌, ◌≤◌, [], length, IfOk, IfErr, vec_capacity};
 ghost use Rattle.std.specs.List.{All};
+ghost use Rattle.kad_base.specs.Failing.{FailsLast};
 ghost use Rattle.kad_base.specs.Outside.{Rose, Happens};
 ghost use Rattle.turn_book.specs.Turns.{all_fresh, AreAll};
 ghost use Rattle.node_serve.specs.Calls.{IsSetting};
@@ -72,6 +73,8 @@ fn work<R: Threads + Wait + Sync, L: Link, G: Seal + Sync>(
         → L.recv_faults link.new ≡ L.recv_faults link.old }
     ensures link_fault { result ≡ Err ServeFault.LinkFault
         → Rose (L.recv_faults link.old) (L.recv_faults link.new) }
+    ensures last { result ≡ Err ServeFault.LinkFault
+        → FailsLast L.told L.recv_faults link.old link.new }
     ensures recv_faults { L.recv_faults link.old ≤ L.recv_faults link.new }
     ensures kept { L.kept link.new ≡ L.kept link.old }
 {
@@ -135,6 +138,8 @@ pub fn serve_many<R: Threads + Wait + Sync, L: Link, G: Seal + Sync>(
         → L.recv_faults link.new ≡ L.recv_faults link.old }
     ensures link_fault { result.1 ≡ Err ServeFault.LinkFault
         → Rose (L.recv_faults link.old) (L.recv_faults link.new) }
+    ensures last { result.1 ≡ Err ServeFault.LinkFault
+        → FailsLast L.told L.recv_faults link.old link.new }
     ensures recv_faults { L.recv_faults link.old ≤ L.recv_faults link.new }
     ensures kept { L.kept link.new ≡ L.kept link.old }
 {

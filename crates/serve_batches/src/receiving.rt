@@ -1,5 +1,6 @@
 //! The receive calls of a batch.
 ghost use Rattle.std.specs.Prelude.{◌≡◌, ◌≤◌, ◌<◌, [], min, length, IfOk, OnErr};
+ghost use Rattle.kad_base.specs.Failing.{FailsLast};
 ghost use Rattle.kad_base.specs.Outside.{Grows, Rose, Happens};
 ghost use Rattle.serve_batches.specs.Ring.{ring};
 ghost use Rattle.serve_batches.specs.Batches.{IsCutOff};
@@ -41,6 +42,7 @@ fn receive_at<L: Link>(
     ensures still { OnErr result (Grows (L.told link.old) (L.told link.new) (λ es. es ≡ [])) }
     ensures well { IfOk result (λ came. L.recv_faults link.new ≡ L.recv_faults link.old) }
     ensures failed { OnErr result (Rose (L.recv_faults link.old) (L.recv_faults link.new)) }
+    ensures last { OnErr result (FailsLast L.told L.recv_faults link.old link.new) }
     ensures recv_faults { L.recv_faults link.old ≤ L.recv_faults link.new }
     ensures kept { L.kept link.new ≡ L.kept link.old }
 {
@@ -68,6 +70,7 @@ fn receive_into<L: Link>(
     ensures err { OnErr result (Happens (L.told link.old) (L.told link.new) (IsCutOff left moment)) }
     ensures well { IfOk result (λ came. L.recv_faults link.new ≡ L.recv_faults link.old) }
     ensures failed { OnErr result (Rose (L.recv_faults link.old) (L.recv_faults link.new)) }
+    ensures last { OnErr result (FailsLast L.told L.recv_faults link.old link.new) }
     ensures recv_faults { L.recv_faults link.old ≤ L.recv_faults link.new }
     ensures kept { L.kept link.new ≡ L.kept link.old }
 {
@@ -120,6 +123,7 @@ pub(crate) fn receive_batch<L: Link>(
     ensures err { OnErr result (Happens (L.told link.old) (L.told link.new) (IsCutOff left moment)) }
     ensures well { IfOk result (λ came. L.recv_faults link.new ≡ L.recv_faults link.old) }
     ensures failed { OnErr result (Rose (L.recv_faults link.old) (L.recv_faults link.new)) }
+    ensures last { OnErr result (FailsLast L.told L.recv_faults link.old link.new) }
     ensures recv_faults { L.recv_faults link.old ≤ L.recv_faults link.new }
     ensures kept { L.kept link.new ≡ L.kept link.old }
 {

@@ -1,5 +1,6 @@
 //! A worker with its slots.
 ghost use Rattle.std.specs.Prelude.{◌≡◌, ◌≤◌, ◌<◌, [], length, set, get_or, take, IfOk, OnErr};
+ghost use Rattle.kad_base.specs.Failing.{FailsLast};
 ghost use Rattle.kad_base.specs.Outside.{Grows, Rose};
 ghost use Rattle.node_serve.specs.Calls.{IsSetting};
 ghost use Rattle.serve_crew.specs.Hands.{SameHands};
@@ -40,6 +41,7 @@ fn receive_into<L: Link>(
     ensures still { OnErr result (Grows (L.told link.old) (L.told link.new) (λ es. es ≡ [])) }
     ensures well { IfOk result (λ came. L.recv_faults link.new ≡ L.recv_faults link.old) }
     ensures failed { OnErr result (Rose (L.recv_faults link.old) (L.recv_faults link.new)) }
+    ensures last { OnErr result (FailsLast L.told L.recv_faults link.old link.new) }
     ensures recv_faults { L.recv_faults link.old ≤ L.recv_faults link.new }
     ensures kept { L.kept link.new ≡ L.kept link.old }
 {
@@ -103,6 +105,7 @@ fn answer_first<R: Wait, G: Seal>(
 
 impl Shift {
     ghost use Rattle.std.specs.Prelude.{◌≡◌, ◌≤◌, ◌<◌, [], length, get_or, set, IfOk, OnErr};
+    ghost use Rattle.kad_base.specs.Failing.{FailsLast};
     ghost use Rattle.kad_base.specs.Outside.{Grows, Rose};
     ghost use Rattle.node_serve.specs.Calls.{IsSetting};
     ghost use Rattle.serve_batches.specs.Crew.{CanWork, Worked, no_slot};
@@ -126,6 +129,7 @@ impl Shift {
         ensures still { OnErr result (Grows (L.told link.old) (L.told link.new) (λ es. es ≡ [])) }
         ensures well { IfOk result (λ came. L.recv_faults link.new ≡ L.recv_faults link.old) }
         ensures failed { OnErr result (Rose (L.recv_faults link.old) (L.recv_faults link.new)) }
+        ensures last { OnErr result (FailsLast L.told L.recv_faults link.old link.new) }
         ensures recv_faults { L.recv_faults link.old ≤ L.recv_faults link.new }
         ensures kept { L.kept link.new ≡ L.kept link.old }
     {

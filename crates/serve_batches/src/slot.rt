@@ -36,6 +36,7 @@ impl Model for Slot {
 
 impl Slot {
     ghost use Rattle.std.specs.Prelude.{◌≡◌, ◌≤◌, [], IfOk, OnOk, OnErr};
+    ghost use Rattle.kad_base.specs.Failing.{FailsLast};
     ghost use Rattle.kad_base.specs.Outside.{Grows, Rose};
     ghost use Rattle.node_serve.specs.Calls.{IsSetting};
     ghost use Rattle.node_serve.specs.Receives.{sent_in};
@@ -66,6 +67,7 @@ impl Slot {
         ensures still { OnErr result (Grows (L.told link.old) (L.told link.new) (λ es. es ≡ [])) }
         ensures well { IfOk result (λ came. L.recv_faults link.new ≡ L.recv_faults link.old) }
         ensures failed { OnErr result (Rose (L.recv_faults link.old) (L.recv_faults link.new)) }
+        ensures last { OnErr result (FailsLast L.told L.recv_faults link.old link.new) }
         ensures recv_faults { L.recv_faults link.old ≤ L.recv_faults link.new }
         ensures kept { L.kept link.new ≡ L.kept link.old }
     {

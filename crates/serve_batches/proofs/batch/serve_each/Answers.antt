@@ -1,7 +1,9 @@
-use Rattle.std.proofs.Common.{subst, ◌∙◌, refl, arith, rules}
+use Rattle.std.proofs.Common.{subst, ◌∙◌, refl, arith, rules, ◌≡◌, Err, ap}
 use Rattle.kad_base.specs.Outside.{Happens}
 use Rattle.serve_batches.specs.Serving.{ServesBatch}
 use Rattle.serve_batches.proofs.Batching.{served_none, served_more, served_stops, roles_none, roles_more, can_by_roles}
+use Rattle.kad_base.proofs.Failing.{fails_later}
+use Rattle.node_serve.specs.declared.service.ServeFault.TheVariants.{LinkFault}
 use Rattle.serve_batches.proofs.batch.serve_each.Goals as goal
 
 pub loop-progress-init : goal.loop-progress-init
@@ -51,3 +53,6 @@ pub returns-in-Err-clause-roles : goal.returns-in-Err-clause-roles
 returns-in-Err-clause-roles g c =
     let i = c.loop-progress.invariant in
     roles_more c.args.crew.now.items c.loop-progress.crew.items c.serve_batch.new.crew.items i.len i.roles c.serve_batch.ensures.roles
+
+pub returns-in-Err-clause-last : goal.returns-in-Err-clause-last
+returns-in-Err-clause-last g c is = fails_later _ _ _ _ _ c.loop-progress.invariant.well (c.in-Err.ensures.last (let fault : c.in-Err.fault ≡ LinkFault = cc in ap (λ x. Err x) fault))

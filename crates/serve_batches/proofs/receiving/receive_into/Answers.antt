@@ -5,6 +5,7 @@ use Rattle.serve_batches.specs.declared.place.Place.{Place}
 use Rattle.serve_batches.specs.Crew.{slots_of}
 use Rattle.serve_batches.proofs.Arriving.{Arrived, has_slot, same_crew_more, roomy_after, arrived_more, arrived_quiet, arrived_cut, arrived_all}
 use Rattle.serve_batches.proofs.Circling.{place_within, place_small}
+use Rattle.kad_base.proofs.Failing.{fails_later}
 use Rattle.serve_batches.proofs.receiving.receive_into.Goals as goal
 
 pub receive_at-requires-clause-within : goal.receive_at-requires-clause-within
@@ -75,3 +76,6 @@ returns-clause-ok g c =
     arrived_all c.args.moment c.loop-made.crew c.min-most.result c.loop-made.place c.loop-made.until c.args.left _ _
     (subst (λ m. Arrived c.args.moment c.loop-made.crew m c.loop-made.place c.loop-made.until (g.L.Link.told c.args.link.now) (g.L.Link.told c.loop-made.link)) whole c.loop-made.invariant.arrived)
     c.min-most.ensures
+
+pub returns-in-Err-clause-last : goal.returns-in-Err-clause-last
+returns-in-Err-clause-last g c = fails_later _ _ _ _ _ c.loop-made.invariant.well c.in-Err.ensures.last
