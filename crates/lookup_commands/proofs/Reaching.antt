@@ -19,7 +19,7 @@ use Rattle.lookup_run.specs.Rounds.{Scheduling, Rounds, scheduling_by}
 use Rattle.std.specs.List.Sorted.{IsStrictlySortedBy}
 use Rattle.lookup_run.specs.Gathered.{Gathers, addr_cmp}
 use Rattle.lookup_run.specs.Lookup.{given_of, Finished, TellsEarly}
-use Rattle.lookup_run.specs.SendFaults.{RefusedIn}
+use Rattle.lookup_core.specs.SendFaults.{RefusedIn}
 use Rattle.kad_words.specs.declared.command.LookWords.{LookWords}
 use Rattle.lookup_commands.specs.declared.run_lookup.Reached.{Reached}
 use Rattle.command_base.specs.Printed.{printed}

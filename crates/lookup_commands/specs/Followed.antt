@@ -13,7 +13,7 @@ use Rattle.lookup_core.specs.declared.quest.AskKind.{AskKind}
 use Rattle.lookup_run.specs.declared.types.Item.{Item}
 use Rattle.lookup_run.specs.declared.types.Token.{Token}
 use Rattle.lookup_run.specs.Rounds.{scheduling_by}
-use Rattle.lookup_run.specs.SendFaults.{RefusedIn}
+use Rattle.lookup_core.specs.SendFaults.{RefusedIn}
 use Rattle.kad_words.specs.declared.command.LookWords.{LookWords}
 use Rattle.lookup_commands.specs.Announced.{Announcement, Announces, AnnouncesSome, sent_in}
 use Rattle.command_base.specs.Called.{Called}

@@ -16,7 +16,7 @@ use Rattle.lookup_run.specs.declared.types.Item.{Item}
 use Rattle.lookup_run.specs.declared.types.Outcome.{Outcome}
 use Rattle.lookup_run.specs.declared.types.Token.{Token}
 use Rattle.lookup_run.specs.Rounds.{Scheduling, scheduling_by}
-use Rattle.lookup_run.specs.SendFaults.{RefusedIn}
+use Rattle.lookup_core.specs.SendFaults.{RefusedIn}
 use Rattle.lookup_run.specs.Tells.{Given}
 use Rattle.kad_words.specs.declared.command.LookWords.{LookWords}
 use Rattle.command_base.specs.Called.{Called}

@@ -18,7 +18,7 @@ use Rattle.lookup_core.specs.declared.quest.AskKind.TheVariants.{FindNode}
 use Rattle.lookup_run.specs.Tells.{Tells, EndsAtStray, HasFewStrays, NeverEnds}
 use Rattle.lookup_run.specs.Rounds.{Rounds, scheduling_by}
 use Rattle.lookup_run.specs.Lookup.{Unfinished, EndsByStrays, MeetsFewStrays}
-use Rattle.lookup_run.specs.SendFaults.{RefusedIn}
+use Rattle.lookup_core.specs.SendFaults.{RefusedIn}
 use Rattle.kad_words.specs.declared.command.LookWords.{LookWords}
 use Rattle.command_base.specs.declared.status.Status.{Status}
 use Rattle.command_base.specs.declared.status.Status.TheVariants.{LinkFault, Strays, NoSeeds}

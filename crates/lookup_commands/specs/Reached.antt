@@ -23,7 +23,7 @@ use Rattle.lookup_run.specs.Tells.{Given, Tells, HasFewStrays, NeverEnds}
 use Rattle.lookup_run.specs.Rounds.{Scheduling, Rounds, scheduling_by}
 use Rattle.lookup_run.specs.Gathered.{Gathers, addr_cmp}
 use Rattle.lookup_run.specs.Lookup.{seeds_in, drawn_for}
-use Rattle.lookup_run.specs.SendFaults.{RefusedIn}
+use Rattle.lookup_core.specs.SendFaults.{RefusedIn}
 use Rattle.kad_words.specs.declared.command.LookWords.{LookWords}
 use Rattle.lookup_commands.specs.declared.run_lookup.Reached.{Reached}
 use Rattle.command_base.specs.Shown.{Shown}

@@ -1,5 +1,6 @@
 //! The command `get`: looks for an immutable item (BEP 44), and makes the text of the first that is one of the key.
 ghost use Rattle.std.specs.Prelude.{◌≡◌, ◌↔◌, ◌⊎◌, IfOk, IfErr, IsTrue, option_copied, IsErrOf};
+ghost use Rattle.kad_base.specs.Failing.{FailsLast};
 ghost use Rattle.command_base.specs.Called.{called_with};
 ghost use Rattle.lookup_commands.specs.Got.{GetText, IsGot, IsItemOf, IsPrinted, get_promise};
 ghost use Rattle.command_base.specs.Endings.{EndsUnasked, number_of};
@@ -94,9 +95,13 @@ pub fn get<R: Threads + Wait + Sync, S: Source, L: Link, C: PacedCheck + Sync, G
     ensures kept { L.kept link.new ≡ L.kept link.old }
     ensures hears_well { ¬ IsErrOf result Status.LinkFault
         → L.recv_faults link.new ≡ L.recv_faults link.old }
+    ensures hears_last { IsErrOf result Status.LinkFault
+        → FailsLast L.told L.recv_faults link.old link.new }
     ensures at_most { ReadsAtMost (S.left source.old) (S.left source.new) }
     ensures reads_well { ¬ IsErrOf result Status.SourceFault
         → S.faults source.new ≡ S.faults source.old }
+    ensures reads_last { IsErrOf result Status.SourceFault
+        → FailsLast S.left S.faults source.old source.new }
 {
     let kind = AskKind::GetItem;
     let reached = run_lookup(rt, alloc, kind, look, source, link, call)?;

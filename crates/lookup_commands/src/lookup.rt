@@ -1,5 +1,6 @@
 //! The command `lookup`: looks the target up, and makes the text of what it found.
 ghost use Rattle.std.specs.Prelude.{◌≡◌, ◌⊎◌, IfOk, IfErr, IsErrOf};
+ghost use Rattle.kad_base.specs.Failing.{FailsLast};
 ghost use Rattle.command_base.specs.Called.{called_with};
 ghost use Rattle.command_base.specs.Input.{ReadsAtMost};
 ghost use Rattle.command_base.specs.Endings.{EndsUnasked, number_of};
@@ -72,9 +73,13 @@ pub fn lookup<
     ensures kept { L.kept link.new ≡ L.kept link.old }
     ensures hears_well { ¬ IsErrOf result Status.LinkFault
         → L.recv_faults link.new ≡ L.recv_faults link.old }
+    ensures hears_last { IsErrOf result Status.LinkFault
+        → FailsLast L.told L.recv_faults link.old link.new }
     ensures at_most { ReadsAtMost (S.left source.old) (S.left source.new) }
     ensures reads_well { ¬ IsErrOf result Status.SourceFault
         → S.faults source.new ≡ S.faults source.old }
+    ensures reads_last { IsErrOf result Status.SourceFault
+        → FailsLast S.left S.faults source.old source.new }
 {
     let kind = AskKind::FindNode;
     let reached = run_lookup(rt, alloc, kind, look, source, link, call)?;

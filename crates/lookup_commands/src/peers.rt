@@ -1,6 +1,7 @@
 //! The command `peers`: looks for peers of a key, makes the text of those that the answers named, and if it is told a
 //! port announces it to the contacts of the result.
 ghost use Rattle.std.specs.Prelude.{◌≡◌, ◌≤◌, ◌⊎◌, ◌+◌, ◌^◌, length, IfOk, IfErr, OnErr, IsErrOf};
+ghost use Rattle.kad_base.specs.Failing.{FailsLast};
 ghost use Rattle.kad_base.specs.Outside.{Grows};
 ghost use Rattle.lookup_core.specs.declared.quest.AskKind.TheVariants.{GetPeers};
 ghost use Rattle.command_base.specs.Called.{called_with};
@@ -91,9 +92,13 @@ pub fn peers<
     ensures kept { L.kept link.new ≡ L.kept link.old }
     ensures hears_well { ¬ IsErrOf result Status.LinkFault
         → L.recv_faults link.new ≡ L.recv_faults link.old }
+    ensures hears_last { IsErrOf result Status.LinkFault
+        → FailsLast L.told L.recv_faults link.old link.new }
     ensures at_most { ReadsAtMost (S.left source.old) (S.left source.new) }
     ensures reads_well { ¬ IsErrOf result Status.SourceFault
         → S.faults source.new ≡ S.faults source.old }
+    ensures reads_last { IsErrOf result Status.SourceFault
+        → FailsLast S.left S.faults source.old source.new }
 {
     let kind = AskKind::GetPeers;
     let reached = run_lookup(rt, alloc, kind, look, source, link, call)?;

@@ -1,6 +1,7 @@
 //! The command `put`: looks up the key of an immutable item (BEP 44), gives the item to the contacts of the result, and makes
 //! the text of its key and of how many were given it.
 ghost use Rattle.std.specs.Prelude.{◌≡◌, ◌⊎◌, IfOk, IfErr, IsErrOf};
+ghost use Rattle.kad_base.specs.Failing.{FailsLast};
 ghost use Rattle.item_store.specs.Items.{IsItem};
 ghost use Rattle.lookup_core.specs.declared.quest.AskKind.TheVariants.{GetItem};
 ghost use Rattle.command_base.specs.Called.{called_with};
@@ -58,9 +59,13 @@ pub fn put<R: Threads + Wait + Sync, S: Source, L: Link, C: PacedCheck + Sync, G
     ensures kept { L.kept link.new ≡ L.kept link.old }
     ensures hears_well { ¬ IsErrOf result Status.LinkFault
         → L.recv_faults link.new ≡ L.recv_faults link.old }
+    ensures hears_last { IsErrOf result Status.LinkFault
+        → FailsLast L.told L.recv_faults link.old link.new }
     ensures at_most { ReadsAtMost (S.left source.old) (S.left source.new) }
     ensures reads_well { ¬ IsErrOf result Status.SourceFault
         → S.faults source.new ≡ S.faults source.old }
+    ensures reads_last { IsErrOf result Status.SourceFault
+        → FailsLast S.left S.faults source.old source.new }
 {
     match is_item(alloc, item) {
         Ok(true) => store(rt, alloc, look, item, source, link, call),
@@ -101,9 +106,13 @@ fn store<R: Threads + Wait + Sync, S: Source, L: Link, C: PacedCheck + Sync, G: 
     ensures kept { L.kept link.new ≡ L.kept link.old }
     ensures hears_well { ¬ IsErrOf result Status.LinkFault
         → L.recv_faults link.new ≡ L.recv_faults link.old }
+    ensures hears_last { IsErrOf result Status.LinkFault
+        → FailsLast L.told L.recv_faults link.old link.new }
     ensures at_most { ReadsAtMost (S.left source.old) (S.left source.new) }
     ensures reads_well { ¬ IsErrOf result Status.SourceFault
         → S.faults source.new ≡ S.faults source.old }
+    ensures reads_last { IsErrOf result Status.SourceFault
+        → FailsLast S.left S.faults source.old source.new }
 {
     let kind = AskKind::GetItem;
     let reached = run_lookup(rt, alloc, kind, look, source, link, call)?;

@@ -1,6 +1,7 @@
 //! What every command that looks up does first: it reads the contacts of the input, tells a new routing table of them, and
 //! looks up from its closest until every path has run out.
 ghost use Rattle.std.specs.Prelude.{◌≡◌, ◌≢◌, ◌⊎◌, [], IfOk, IfErr, IsErrOf};
+ghost use Rattle.kad_base.specs.Failing.{FailsLast};
 ghost use Rattle.command_base.specs.Called.{called_with};
 ghost use Rattle.command_base.specs.Endings.{EndsUnasked, number_of};
 ghost use Rattle.command_base.specs.Input.{Reads, ReadsAtMost};
@@ -46,6 +47,8 @@ pub fn read_contacts<S: Source, C: Check>(
     ensures at_most { ReadsAtMost (S.left source.old) (S.left source.new) }
     ensures reads_well { ¬ IsErrOf result Status.SourceFault
         → S.faults source.new ≡ S.faults source.old }
+    ensures reads_last { IsErrOf result Status.SourceFault
+        → FailsLast S.left S.faults source.old source.new }
 {
     let reports = read_reports(alloc, source)?;
     let contacts = admitted(alloc, own, family, policy, check, reports.as_slice())?;
@@ -92,9 +95,13 @@ pub fn run_lookup<
     ensures kept { L.kept link.new ≡ L.kept link.old }
     ensures hears_well { ¬ IsErrOf result Status.LinkFault
         → L.recv_faults link.new ≡ L.recv_faults link.old }
+    ensures hears_last { IsErrOf result Status.LinkFault
+        → FailsLast L.told L.recv_faults link.old link.new }
     ensures at_most { ReadsAtMost (S.left source.old) (S.left source.new) }
     ensures reads_well { ¬ IsErrOf result Status.SourceFault
         → S.faults source.new ≡ S.faults source.old }
+    ensures reads_last { IsErrOf result Status.SourceFault
+        → FailsLast S.left S.faults source.old source.new }
 {
     let setting = setting_for(kind, look, &call.random);
     let contacts = read_contacts(

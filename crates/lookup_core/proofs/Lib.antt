@@ -14,3 +14,4 @@ pub mod Settling
 pub mod Tags
 pub mod Waiting
 pub mod Seeds
+pub mod Refusing

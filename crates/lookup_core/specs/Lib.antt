@@ -5,5 +5,6 @@ pub mod Says
 pub mod Matching
 pub mod Timeouts
 pub mod Driven
+pub mod SendFaults
 pub mod Receiving
 pub mod LookupSteps

@@ -23,8 +23,8 @@ use Rattle.lookup_run.specs.Rounds.{Scheduling}
 use Rattle.lookup_run.specs.Lookup.{setting_of, given_of, seeds_in, table_calls, TableToldBy, TableRan, LooksUp}
 use Rattle.lookup_run.specs.inner.RoundSteps.{IsOver, StopsRound, RoundEndsByStray, RoundFewStrays, IsClosed}
 use Rattle.lookup_run.proofs.Looking.{Opening, Ends, journal_of, along_of, ends_of, never_began, looks_up, goes_by_rounds, gathered_all, none_gathered, table_told}
-use Rattle.lookup_run.specs.SendFaults.{RefusedIn, Refuses}
-use Rattle.lookup_run.proofs.Refusing.{refused_seeded, refused_more}
+use Rattle.lookup_core.specs.SendFaults.{RefusedIn, Refuses}
+use Rattle.lookup_core.proofs.Refusing.{refused_seeded, refused_more}
 use Rattle.lookup_core.specs.Sealed.{Accepts}
 
 pub on_ok_then : {T F X Y : Type 0} (r : Result T F) → OnOk r X → (X → Y) → OnOk r Y

@@ -24,8 +24,8 @@ use Rattle.lookup_run.specs.Lookup.{setting_of, given_of, TellsEarly, Told, Tabl
 use Rattle.lookup_core.specs.LookupSteps.{as_open}
 use Rattle.lookup_run.specs.inner.DriverInvariant.{Walk, Shows}
 use Rattle.lookup_run.specs.inner.RoundSteps.{Ended, Stops, EndsByStray}
-use Rattle.lookup_run.specs.SendFaults.{Refuses}
-use Rattle.lookup_run.proofs.Refusing.{refused_more}
+use Rattle.lookup_core.specs.SendFaults.{Refuses}
+use Rattle.lookup_core.proofs.Refusing.{refused_more}
 use Rattle.lookup_core.specs.Sealed.{Accepts}
 
 pub tells_of : (scheduling : Scheduling) (g : Given) (J P : List Entry) (s : Seen) (es : List Event) (t : Seen) (Q : List Entry) (heard : List Answered) → Walk scheduling g J P s es t Q heard → TellsFrom g J s es t

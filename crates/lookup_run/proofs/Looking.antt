@@ -57,7 +57,7 @@ use Rattle.lookup_run.proofs.Fewer.{few_told, never_told}
 use Rattle.lookup_run.proofs.Walking.{told_in_any}
 use Rattle.lookup_core.specs.declared.quest.AskKind.{AskKind}
 use Rattle.lookup_core.specs.declared.quest.AskKind.TheVariants.{FindNode, GetPeers, GetItem}
-use Rattle.lookup_run.proofs.Refusing.{refused_seeded}
+use Rattle.lookup_core.proofs.Refusing.{refused_seeded}
 use Rattle.lookup_core.specs.Sealed.{Accepts}
 use Rattle.lookup_core.proofs.Others.{none_on}
 use Rattle.lookup_core.proofs.Seeds.{seeds_stand, seeds_ask, seeds_settled, seeds_open}

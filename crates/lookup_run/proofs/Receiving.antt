@@ -34,7 +34,7 @@ use Rattle.lookup_run.specs.Rounds.{WaitsInTurn, InTurn}
 use Rattle.lookup_core.specs.Reply.{Answered}
 use Rattle.lookup_run.specs.Gathered.{HeardIn, Hears}
 use Rattle.lookup_run.specs.Lookup.{setting_of, given_of, told_of, TableTold, quest_of}
-use Rattle.lookup_run.specs.SendFaults.{unsent}
+use Rattle.lookup_core.specs.SendFaults.{unsent}
 use Rattle.lookup_core.specs.Says.{IsReply}
 use Rattle.lookup_core.specs.LookupSteps.{as_open}
 use Rattle.lookup_run.specs.inner.DriverInvariant.{IsBare, Keeps, max_asks, KeepsSeen}
@@ -42,7 +42,7 @@ use Rattle.lookup_core.specs.LookupSteps.{query_to, RepliesToNone, HearsIn}
 use Rattle.lookup_run.specs.inner.RoundSteps.{WaitsFor, KeepsFor, Expires, IsStrayFor, IsMatchFor, TakesDatagram, MayReceive, ReceivesOne}
 use Rattle.lookup_run.proofs.Driven.{keeps_none}
 use Rattle.lookup_core.proofs.Received.{same_deadlines, open_still, all_still, fewer_still, one_less, among_still, driven_closed, driven_append, seeds_append, seeds_closed, asks_closed, asked_append, gives_of, among_dropped}
-use Rattle.lookup_run.proofs.Refusing.{unsent_left}
+use Rattle.lookup_core.proofs.Refusing.{unsent_left}
 use Rattle.lookup_run.proofs.Walking.{OneEvent, NextStep, along_next}
 use Rattle.lookup_core.proofs.Opens.{opens_kept, each_asked}
 use Rattle.lookup_core.proofs.Lists.{in_map, map_in, in_middle, all_in}

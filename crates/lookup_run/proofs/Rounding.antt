@@ -9,7 +9,7 @@ use Rattle.lookup_run.specs.declared.types.LookupState.{LookupState}
 use Rattle.lookup_run.specs.Rounds.{Scheduling}
 use Rattle.lookup_run.specs.inner.DriverInvariant.{max_asks, weight_of, PreservesBy}
 use Rattle.lookup_run.specs.inner.RoundSteps.{Asks, ReceivesAll, SettlesPaths, Begins, HasReceived, RoundAlong, IsOver, Stops, StopsRound, EndsByStray, RoundEndsByStray, FewStrays, RoundFewStrays}
-use Rattle.lookup_run.specs.SendFaults.{Refuses}
+use Rattle.lookup_core.specs.SendFaults.{Refuses}
 use Rattle.lookup_run.proofs.Early.{ended_after}
 use Rattle.lookup_core.specs.Sealed.{Accepts}
 

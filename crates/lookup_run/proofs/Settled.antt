@@ -39,7 +39,7 @@ use Rattle.lookup_core.proofs.Opens.{opens_kept, each_asked}
 use Rattle.lookup_core.proofs.Settling.{asked_same, open_same}
 use Rattle.lookup_run.proofs.Quiet.{IsMute, IsQuiet, each_quiet, each_mute, no_seeds, none_driven, others_same, settles_from, below_more}
 use Rattle.lookup_run.proofs.Walking.{walk_longer, seeds_same, told_in_any, table_then, calls_more, IsRun-append}
-use Rattle.lookup_run.specs.SendFaults.{unsent}
+use Rattle.lookup_core.specs.SendFaults.{unsent}
 use Rattle.lookup_run.proofs.Refusing.{unsent_settled}
 use Rattle.lookup_core.specs.Sealed.{Accepts}
 

@@ -8,9 +8,9 @@ use Rattle.lookup_run.specs.declared.types.LookSetting.{LookSetting}
 use Rattle.lookup_run.specs.declared.types.LookupState.{LookupState}
 use Rattle.lookup_run.specs.inner.DriverInvariant.{Keeps, weight_of, Preserves}
 use Rattle.lookup_run.specs.inner.RoundSteps.{ReceivesOne, Stops, EndsByStray, FewStrays}
-use Rattle.lookup_run.specs.SendFaults.{unsent}
+use Rattle.lookup_core.specs.SendFaults.{unsent}
 use Rattle.lookup_run.proofs.Early.{ended_after}
-use Rattle.lookup_run.proofs.Refusing.{refuses_none}
+use Rattle.lookup_core.proofs.Refusing.{refuses_none}
 use Rattle.lookup_core.specs.Sealed.{Accepts}
 
 -- one receive or more

@@ -2,6 +2,5 @@ pub mod Tells
 pub mod Rounds
 pub mod LinkCalls
 pub mod Gathered
-pub mod SendFaults
 pub mod Lookup
 pub mod inner

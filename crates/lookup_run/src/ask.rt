@@ -2,7 +2,7 @@
 ghost use Rattle.std.specs.Prelude.{◌≡◌, ◌≤◌, ◌<◌, ◌+◌, true, false};
 ghost use Rattle.lookup_run.specs.Rounds.{AllSettled, NoneAsks};
 ghost use Rattle.lookup_run.specs.Lookup.{IsWithinLimits, setting_of};
-ghost use Rattle.lookup_run.specs.SendFaults.{Refuses};
+ghost use Rattle.lookup_core.specs.SendFaults.{Refuses};
 ghost use Rattle.lookup_run.specs.inner.DriverInvariant.{Keeps, HasWords, weight_of};
 ghost use Rattle.lookup_run.specs.inner.RoundSteps.{Asks, AsksNone, Begins};
 

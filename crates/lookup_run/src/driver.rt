@@ -3,6 +3,7 @@ ghost use Rattle.std.specs.Prelude.{◌≡◌, ◌≢◌, ◌≤◌, ◌<◌, �
 ghost use Rattle.std.specs.List.{All};
 ghost use Rattle.kad_base.specs.declared.types.Event.TheVariants.{Now};
 ghost use Rattle.kad_base.specs.Contacts.{IsUsable};
+ghost use Rattle.kad_base.specs.Failing.{FailsLast};
 ghost use Rattle.kad_base.specs.Outside.{Grows};
 ghost use Rattle.contact_table.specs.TableStep.{contacts_of};
 ghost use Rattle.claim_book.specs.RunOut.{RunOut};
@@ -152,9 +153,11 @@ fn look_by<
     requires callable { (before : LookupState) → MaySettle setting.now before → S.pre settle before }
     requires settles { (before : LookupState) (after : _) → MaySettle setting.now before
         → S.post settle before after → Settles O.scheduling setting.now before after.0 after.1 }
-    ensures { LooksUp O.scheduling setting.now (G.accepted seal.now) table result.0 words.old words.new (L.told link.old)
+    ensures looks { LooksUp O.scheduling setting.now (G.accepted seal.now) table result.0 words.old words.new (L.told link.old)
         (L.told link.new) (L.recv_faults link.old) (L.recv_faults link.new) (L.send_faults link.old)
         (L.send_faults link.new) (L.kept link.old) (L.kept link.new) result.1 }
+    ensures last { IsErrOf result.1 LookFault.LinkFault
+        → FailsLast L.told L.recv_faults link.old link.new }
 {
     let mut table = table;
     let book = match open_book(alloc, &mut table, setting, hasher) {
@@ -185,9 +188,11 @@ pub fn look_up_alone<L: Link, C: Check, G: SealCheck>(
     requires limits { IsWithinLimits setting.now }
     requires usable { All (IsUsable setting.now.own) (contacts_of table) }
     requires place { words.old.place < 2 ^ 59 }
-    ensures { LooksUp sequential setting.now (G.accepted seal.now) table result.0 words.old words.new (L.told link.old)
+    ensures looks { LooksUp sequential setting.now (G.accepted seal.now) table result.0 words.old words.new (L.told link.old)
         (L.told link.new) (L.recv_faults link.old) (L.recv_faults link.new) (L.send_faults link.old)
         (L.send_faults link.new) (L.kept link.old) (L.kept link.new) result.1 }
+    ensures last { IsErrOf result.1 LookFault.LinkFault
+        → FailsLast L.told L.recv_faults link.old link.new }
 {
     look_by::<Sequential, _, _, _>(
         alloc,
@@ -220,9 +225,11 @@ fn look_up_together<R: Threads + Wait + Sync, L: Link, C: Check + Sync, G: SealC
     requires limits { IsWithinLimits setting.now }
     requires usable { All (IsUsable setting.now.own) (contacts_of table) }
     requires place { words.old.place < 2 ^ 59 }
-    ensures { LooksUp concurrent setting.now (G.accepted seal.now) table result.0 words.old words.new (L.told link.old)
+    ensures looks { LooksUp concurrent setting.now (G.accepted seal.now) table result.0 words.old words.new (L.told link.old)
         (L.told link.new) (L.recv_faults link.old) (L.recv_faults link.new) (L.send_faults link.old)
         (L.send_faults link.new) (L.kept link.old) (L.kept link.new) result.1 }
+    ensures last { IsErrOf result.1 LookFault.LinkFault
+        → FailsLast L.told L.recv_faults link.old link.new }
 {
     look_by::<Concurrent, _, _, _>(
         alloc,
@@ -259,9 +266,11 @@ pub fn look_up<R: Threads + Wait + Sync, L: Link, C: PacedCheck + Sync, G: SealC
     requires limits { IsWithinLimits setting.now }
     requires usable { All (IsUsable setting.now.own) (contacts_of table) }
     requires place { words.old.place < 2 ^ 59 }
-    ensures { LooksUp (scheduling_by (C.slow check.now)) setting.now (G.accepted seal.now) table result.0 words.old words.new
+    ensures looks { LooksUp (scheduling_by (C.slow check.now)) setting.now (G.accepted seal.now) table result.0 words.old words.new
         (L.told link.old) (L.told link.new) (L.recv_faults link.old) (L.recv_faults link.new) (L.send_faults link.old)
         (L.send_faults link.new) (L.kept link.old) (L.kept link.new) result.1 }
+    ensures last { IsErrOf result.1 LookFault.LinkFault
+        → FailsLast L.told L.recv_faults link.old link.new }
 {
     let slow = check.is_slow();
     if !slow {

@@ -1,6 +1,7 @@
 //! One receive call, and what it gave.
 ghost use Rattle.std.specs.Prelude.{◌≡◌, ◌≢◌, ◌≤◌, ◌<◌, ◌+◌, [], length, IfErr, OnOk, OnErr, IsErrOf};
 ghost use Rattle.kad_base.specs.Limits.{max_datagram, max_strays};
+ghost use Rattle.kad_base.specs.Failing.{FailsLast};
 ghost use Rattle.kad_base.specs.Outside.{Rose};
 ghost use Rattle.id_puzzles.specs.Drawn.{WordsState};
 ghost use Rattle.lookup_core.specs.LookupSteps.{Holds};
@@ -97,6 +98,8 @@ pub(crate) fn receive<L: Link, G: SealCheck>(
         → FewStrays look.now (G.accepted seal.now) words work.old (L.told link.old) (L.told link.new) }
     ensures link { IsErrOf result LookFault.LinkFault
         → Rose (L.recv_faults link.old) (L.recv_faults link.new) }
+    ensures last { IsErrOf result LookFault.LinkFault
+        → FailsLast L.told L.recv_faults link.old link.new }
     ensures recv_faults { L.recv_faults link.old ≤ L.recv_faults link.new }
     ensures well { ¬ IsErrOf result LookFault.LinkFault
         → L.recv_faults link.new ≡ L.recv_faults link.old }
@@ -148,6 +151,8 @@ pub(crate) fn receive_round<L: Link, G: SealCheck>(
         → FewStrays look.now (G.accepted seal.now) words work.old (L.told link.old) (L.told link.new) }
     ensures link { IsErrOf result LookFault.LinkFault
         → Rose (L.recv_faults link.old) (L.recv_faults link.new) }
+    ensures last { IsErrOf result LookFault.LinkFault
+        → FailsLast L.told L.recv_faults link.old link.new }
     ensures recv_faults { L.recv_faults link.old ≤ L.recv_faults link.new }
     ensures well { ¬ IsErrOf result LookFault.LinkFault
         → L.recv_faults link.new ≡ L.recv_faults link.old }

@@ -1,10 +1,11 @@
 //! The rounds of a lookup.
 ghost use Rattle.std.specs.Prelude.{◌≡◌, ◌≤◌, ◌+◌, length, true, false, IfOk, OnOk, OnErr, IsErrOf};
 ghost use Rattle.kad_base.specs.Limits.{max_datagram};
+ghost use Rattle.kad_base.specs.Failing.{FailsLast};
 ghost use Rattle.kad_base.specs.Outside.{Rose};
 ghost use Rattle.lookup_run.specs.Lookup.{IsWithinLimits};
 ghost use Rattle.lookup_run.specs.Rounds.{Scheduling};
-ghost use Rattle.lookup_run.specs.SendFaults.{Refuses};
+ghost use Rattle.lookup_core.specs.SendFaults.{Refuses};
 ghost use Rattle.lookup_run.specs.inner.RoundSteps.{MaySettle, Settles, Begins, HasReceived, IsOver, StopsRound, RoundEndsByStray, RoundFewStrays};
 
 use crate::ask::ask_all;
@@ -49,6 +50,8 @@ fn ask_and_receive<L: Link, G: SealCheck>(
         (L.told link.old) (L.told link.new) }
     ensures link { IsErrOf result LookFault.LinkFault
         → Rose (L.recv_faults link.old) (L.recv_faults link.new) }
+    ensures last { IsErrOf result LookFault.LinkFault
+        → FailsLast L.told L.recv_faults link.old link.new }
     ensures recv_faults { L.recv_faults link.old ≤ L.recv_faults link.new }
     ensures well { ¬ IsErrOf result LookFault.LinkFault
         → L.recv_faults link.new ≡ L.recv_faults link.old }
@@ -97,6 +100,8 @@ pub(crate) fn go_rounds<
         → RoundFewStrays O.scheduling look.now (G.accepted seal.now) words.old work (L.told link.old) (L.told link.new) }
     ensures link { IsErrOf result.1 LookFault.LinkFault
         → Rose (L.recv_faults link.old) (L.recv_faults link.new) }
+    ensures last { IsErrOf result.1 LookFault.LinkFault
+        → FailsLast L.told L.recv_faults link.old link.new }
     ensures recv_faults { L.recv_faults link.old ≤ L.recv_faults link.new }
     ensures well { ¬ IsErrOf result.1 LookFault.LinkFault
         → L.recv_faults link.new ≡ L.recv_faults link.old }

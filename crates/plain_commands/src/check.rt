@@ -1,6 +1,7 @@
 //! The command `check`: says of each contact line of the input whether its contact passes the puzzles.
 ghost use Rattle.std.specs.Prelude.{◌≡◌, IfOk, IfErr, string_bytes, IsErrOf};
 ghost use Rattle.std.specs.List.{AllZip};
+ghost use Rattle.kad_base.specs.Failing.{FailsLast};
 ghost use Rattle.command_base.specs.Called.{Called};
 ghost use Rattle.command_base.specs.Input.{ReadsAtMost};
 ghost use Rattle.plain_commands.specs.Checked.{CheckText, Judges, check_promise, passed_of, passed_text, verdict_text, verdicts_printed};
@@ -79,6 +80,8 @@ pub fn check<S: Source, C: Check, G: Seal + SealCheck>(
     ensures at_most { ReadsAtMost (S.left source.old) (S.left source.new) }
     ensures reads_well { ¬ IsErrOf result Status.SourceFault
         → S.faults source.new ≡ S.faults source.old }
+    ensures reads_last { IsErrOf result Status.SourceFault
+        → FailsLast S.left S.faults source.old source.new }
 {
     let reports = read_reports(alloc, source)?;
     let verdicts = judged(alloc, policy, call.check, reports.as_slice())?;

@@ -30,7 +30,7 @@ use Rattle.lookup_run.specs.Tells.{NeverEnds}
 use Rattle.lookup_run.specs.Rounds.{Scheduling, AllSettled, NoneAsks, WaitsInTurn}
 use Rattle.lookup_core.specs.Reply.{Answered}
 use Rattle.lookup_run.specs.Gathered.{values_of, token_of, item_of, IsEachOnce}
-use Rattle.lookup_run.specs.SendFaults.{unsent, RefusedIn}
+use Rattle.lookup_core.specs.SendFaults.{unsent, RefusedIn}
 use Rattle.lookup_run.specs.Lookup.{IsWithinLimits, setting_of, given_of, seeds_in, told_of, Unfinished, EndsByStrays, MeetsFewStrays, TableRan, TableTold, Told, quest_of}
 use Rattle.lookup_core.specs.LookupSteps.{as_open, LosesOverdue, IsMatch, RepliesToNone}
 use Rattle.lookup_run.specs.inner.DriverInvariant.{Keeps, HasWords, weight_of, TraceInvariant, PreservesBy, Preserves}

@@ -1,7 +1,7 @@
 use Rattle.std.proofs.Common.{◌+◌, ◌∙◌, refl, arith, ap}
 use Rattle.lookup_run.specs.declared.types.Progress.{Progress}
 use Rattle.lookup_run.proofs.Asking.{asks_then, asks_not}
-use Rattle.lookup_run.proofs.Refusing.{refuses_none, refuses_then}
+use Rattle.lookup_core.proofs.Refusing.{refuses_none, refuses_then}
 use Rattle.lookup_run.proofs.ask.ask_all.Goals as goal
 
 pub loop-path-init : goal.loop-path-init

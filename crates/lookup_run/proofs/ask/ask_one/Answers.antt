@@ -5,8 +5,8 @@ use Rattle.lookup_run.specs.declared.types.LookupState.{LookupState}
 use Rattle.lookup_core.proofs.Opening.{last_opened, lost_added}
 use Rattle.lookup_run.proofs.Asking.{can_ask, asking_of, sent_asks, unsent_asks}
 use Rattle.lookup_core.specs.declared.state.Lookup.{Lookup}
-use Rattle.lookup_run.specs.SendFaults.{unsent}
-use Rattle.lookup_run.proofs.Refusing.{refuses_none, refuses_sent, refuses_unsent}
+use Rattle.lookup_core.specs.SendFaults.{unsent}
+use Rattle.lookup_core.proofs.Refusing.{refuses_none, refuses_sent, refuses_unsent}
 use Rattle.lookup_run.proofs.ask.ask_one.Goals as goal
 
 pub ask-requires : goal.ask-requires

@@ -1,6 +1,6 @@
 use Rattle.std.proofs.Common.{◌∙◌, refl}
 use Rattle.lookup_run.proofs.Asking.{asks_not, asks_then, asks_over}
-use Rattle.lookup_run.proofs.Refusing.{refuses_none, refuses_then}
+use Rattle.lookup_core.proofs.Refusing.{refuses_none, refuses_then}
 use Rattle.lookup_run.proofs.ask.ask_path.Goals as goal
 
 pub asking-init : goal.asking-init

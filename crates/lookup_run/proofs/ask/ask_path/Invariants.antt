@@ -1,5 +1,5 @@
 use Rattle.std.proofs.Common.{◌≡◌}
-use Rattle.lookup_run.specs.SendFaults.{Refuses}
+use Rattle.lookup_core.specs.SendFaults.{Refuses}
 use Rattle.lookup_run.specs.inner.RoundSteps.{Asks}
 use Rattle.lookup_run.specs.inner.DriverInvariant.{weight_of}
 use Rattle.lookup_run.proofs.ask.ask_path.Given as goal

@@ -9,6 +9,7 @@ use Rattle.lookup_run.specs.declared.types.LookFault.TheVariants.{Strays}
 use Rattle.lookup_run.proofs.Early.{stops_of, ends_by_stray, on_err_of, passed_on}
 use Rattle.lookup_run.proofs.Fewer.{few_still}
 use Rattle.lookup_run.proofs.Receiving.{stray_of, datagram_receives, quiet_receives}
+use Rattle.kad_base.proofs.Failing.{fails_here}
 use Rattle.lookup_run.proofs.receive.receive.Goals as goal
 use Rattle.lookup_run.specs.Lookup.{quest_of}
 
@@ -66,3 +67,6 @@ returns-in-Err-clause-stops g c words =
 
 pub returns-in-Err-clause-few_strays : goal.returns-in-Err-clause-few_strays
 returns-in-Err-clause-few_strays g c is words = few_still c.args.look.now (g.G.SealCheck.accepted c.args.seal.now) words c.args.work.now _ _ (subst (λ (s : Setting). Legal s c.args.work.now.lookup.book.journal) c.requires.may_receive.keeps.setting c.legal.ensures) c.requires.may_receive.keeps.few_strays c.in-Err.ensures.err
+
+pub returns-in-Err-clause-last : goal.returns-in-Err-clause-last
+returns-in-Err-clause-last g c is = fails_here _ _ _ _ c.in-Err.ensures.failed c.in-Err.ensures.err

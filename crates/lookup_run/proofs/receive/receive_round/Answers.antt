@@ -3,6 +3,7 @@ use Rattle.std.proofs.lemmas.Result.{err_from_is_err_and}
 use Rattle.lookup_run.specs.declared.types.LookFault.TheVariants.{LinkFault, Strays}
 use Rattle.lookup_run.proofs.Early.{on_err_of, passed_on, passed_other}
 use Rattle.lookup_run.proofs.WholeRound.{next_receive, stops_after, stray_after, few_after}
+use Rattle.kad_base.proofs.Failing.{fails_later}
 use Rattle.lookup_run.proofs.receive.receive_round.Goals as goal
 
 pub receiving-preserved : goal.receiving-preserved
@@ -55,3 +56,15 @@ returns-in_err-receive-clause-few_strays g c is =
     let f = c.in_err-receive in
     let out = err_from_is_err_and c.from_residual.result c.from_residual.ensures.1 in
     f.ensures.few_strays (passed_on LinkFault c.from_residual.result out.0 f.field-0.0 out.1 out.2 is)
+
+pub returns-in_err-receive-2-clause-last : goal.returns-in_err-receive-2-clause-last
+returns-in_err-receive-2-clause-last g c is =
+    let f = c.in_err-receive-2 in
+    let out = err_from_is_err_and c.from_residual-in_err-receive-2.result c.from_residual-in_err-receive-2.ensures.1 in
+    fails_later _ _ _ _ _ c.receiving.invariant.well (f.ensures.last (passed_on LinkFault c.from_residual-in_err-receive-2.result out.0 f.field-0.0 out.1 out.2 is))
+
+pub returns-in_err-receive-clause-last : goal.returns-in_err-receive-clause-last
+returns-in_err-receive-clause-last g c is =
+    let f = c.in_err-receive in
+    let out = err_from_is_err_and c.from_residual.result c.from_residual.ensures.1 in
+    f.ensures.last (passed_on LinkFault c.from_residual.result out.0 f.field-0.0 out.1 out.2 is)

@@ -2,7 +2,8 @@ use Rattle.std.proofs.Common.{◌≡◌, ◌∙◌, Err, ap, sym, subst}
 use Rattle.lookup_run.specs.declared.types.LookFault.TheVariants.{Strays, LinkFault}
 use Rattle.lookup_run.proofs.Rounding.{round_over, has_received, stops_receiving, strays_receiving, few_receiving}
 use Rattle.lookup_run.specs.inner.RoundSteps.{StopsRound}
-use Rattle.lookup_run.proofs.Refusing.{refuses_none, refuses_then}
+use Rattle.lookup_core.proofs.Refusing.{refuses_none, refuses_then}
+use Rattle.kad_base.proofs.Failing.{fails_later}
 use Rattle.lookup_run.proofs.round.ask_and_receive.Goals as goal
 
 pub returns-then-is_empty-clause-over : goal.returns-then-is_empty-clause-over
@@ -36,3 +37,6 @@ pub returns-in-Ok-clause-refuses : goal.returns-in-Ok-clause-refuses
 returns-in-Ok-clause-refuses g c =
     let there = c.ask_all.new.work.lookup.book.journal in
     refuses_then c.args.work.now.lookup.book.journal there c.receive_round.new.work.lookup.book.journal _ _ _ c.ask_all.ensures.refuses (refuses_none there c.receive_round.new.work.lookup.book.journal _ _ c.in-Ok.ensures.ok.same_unsent c.receive_round.ensures.send_faults)
+
+pub returns-in-Err-clause-last : goal.returns-in-Err-clause-last
+returns-in-Err-clause-last g c is = fails_later _ _ _ _ _ c.ask_all.ensures.recv_faults (c.in-Err.ensures.last (let fault : c.in-Err.fault ≡ LinkFault = cc in ap (λ x. Err x) fault))

@@ -3,7 +3,8 @@ use Rattle.lookup_run.specs.declared.types.LookFault.TheVariants.{Strays, LinkFa
 use Rattle.lookup_run.specs.inner.RoundSteps.{MaySettle}
 use Rattle.lookup_run.proofs.Early.{on_ok, on_err, err_of}
 use Rattle.lookup_run.proofs.Rounding.{round_more, stops_settling_round, rounds_none, rounds_then, rounds_over, rounds_stop, rounds_stray, rounds_few}
-use Rattle.lookup_run.proofs.Refusing.{refuses_none, refuses_then}
+use Rattle.lookup_core.proofs.Refusing.{refuses_none, refuses_then}
+use Rattle.kad_base.proofs.Failing.{fails_later}
 use Rattle.lookup_run.proofs.round.go_rounds.Goals as goal
 
 pub rounds-init : goal.rounds-init
@@ -86,6 +87,18 @@ returns-in-Err-settled-clause-well g c other = c.in-Ok-true.ensures.well (λ e. 
 
 pub returns-in-Err-settled-clause-few_strays : goal.returns-in-Err-settled-clause-few_strays
 returns-in-Err-settled-clause-few_strays g c is =
+    let h = c.in-Ok-true.ensures.more c.in-Ok-true.field-0-test in
+    let may : MaySettle c.args.look.now c.ask_and_receive.new.work = record { limits = c.requires.limits; keeps = h.keeps; round_over = h.round_over } in
+    let settled = c.requires.settles c.ask_and_receive.new.work c.settle-after.result may c.settle-after.ensures in
+    let full : c.in-Err-settled.fault ≡ NoMemory = err_of c.settle-after.result.1 c.in-Err-settled.fault (λ f. f ≡ NoMemory) c.in-Err-settled.is settled.fault in
+    let link : c.in-Err-settled.fault ≡ LinkFault = cc in
+    absurd cc
+
+pub returns-in-Err-clause-last : goal.returns-in-Err-clause-last
+returns-in-Err-clause-last g c is = fails_later _ _ _ _ _ c.rounds.invariant.well (c.in-Err.ensures.last (let fault : c.in-Err.fault ≡ LinkFault = cc in ap (λ x. Err x) fault))
+
+pub returns-in-Err-settled-clause-last : goal.returns-in-Err-settled-clause-last
+returns-in-Err-settled-clause-last g c is =
     let h = c.in-Ok-true.ensures.more c.in-Ok-true.field-0-test in
     let may : MaySettle c.args.look.now c.ask_and_receive.new.work = record { limits = c.requires.limits; keeps = h.keeps; round_over = h.round_over } in
     let settled = c.requires.settles c.ask_and_receive.new.work c.settle-after.result may c.settle-after.ensures in

@@ -1,6 +1,6 @@
 use Rattle.std.proofs.Common.{◌≡◌, ◌≤◌, ◌+◌, length}
 use Rattle.kad_base.specs.Limits.{max_datagram}
-use Rattle.lookup_run.specs.SendFaults.{Refuses}
+use Rattle.lookup_core.specs.SendFaults.{Refuses}
 use Rattle.lookup_run.specs.inner.DriverInvariant.{weight_of}
 use Rattle.lookup_run.proofs.Rounding.{Rounding}
 use Rattle.lookup_run.proofs.round.go_rounds.Given as goal
