@@ -15,9 +15,11 @@ use Rattle.lookup_core.specs.Reply.{Reply}
 use Rattle.lookup_core.specs.Reply as reply
 use Rattle.lookup_core.specs.Matching.{OpenQuery, ReplyGives}
 use Rattle.lookup_core.specs.Sealed.{Accepts}
+use Rattle.lookup_core.specs.SendFaults.{unsent}
 use Rattle.lookup_core.specs.Timeouts.{is_overdue, timed_out, closed_at}
 use Rattle.lookup_core.specs.LookupSteps.{query_to}
 use Rattle.lookup_core.proofs.Lists.{in_cons, in_first, in_rest}
+use Rattle.lookup_core.proofs.Refusing.{unsent_late, unsent_replied}
 use Rattle.kad_base.specs.declared.types.Addr.{Addr}
 use Rattle.look_many.specs.declared.seeker.Seeker.{Seeker}
 use Rattle.look_many.specs.Mine.{driven}
@@ -28,12 +30,13 @@ use Rattle.lookup_core.proofs.Received.{still_in, in_wider, none_driven, driven_
 -- ---- one lookup
 
 only_same : (k : Seeker) → OnlyHeard k k
-only_same k = record { fewer = λ q h. h; same_asks = refl }
+only_same k = record { fewer = λ q h. h; same_asks = refl; same_unsent = refl }
 
 only_expired : (at : ℕ) (old new : Seeker) → Expires at old new → OnlyHeard old new
 only_expired at old new e = record {
   fewer = λ q h. still_in at old.lookup.queries q (subst (λ l. Contains l q) e.loses.queries h);
   same_asks = ap asked e.loses.journal ∙ asked_append old.lookup.book.journal (closed_at at (opens old)) ∙ ap (λ l. asked old.lookup.book.journal ++ l) (asks_closed (filter (is_overdue at) (opens old))) ∙ append-nil (asked old.lookup.book.journal);
+  same_unsent = ap unsent e.loses.journal ∙ unsent_late old.lookup.book.journal (filter (is_overdue at) (opens old));
 }
 
 only_matched : (accepts : Accepts) (from : Addr) (bytes : List ℕ) (old new : Seeker) → IsMatchFor accepts from bytes old new → OnlyHeard old new
@@ -43,12 +46,13 @@ only_matched accepts from bytes old new m =
     record {
       fewer = λ q x. subst (λ l. Contains l q) (sym h.was_open) (in_wider h.before h.query h.behind q (subst (λ l. Contains l q) h.closes x));
       same_asks = ap (λ (b : BookState). asked b.journal) h.hears.after ∙ asked_append J (h.hears.entry ∷ []) ∙ ap (λ l. asked J ++ l) (reply_asks old.quest (query_to J h.query.contact) h.what h.hears.entry h.hears.gives) ∙ append-nil (asked J);
+      same_unsent = ap (λ (b : BookState). unsent b.journal) h.hears.after ∙ unsent_replied J old.quest (query_to J h.query.contact) h.what h.hears.entry h.hears.gives;
     }
 
 -- ---- all of them
 
 only_then : (a b c : Seeker) → OnlyHeard a b → OnlyHeard b c → OnlyHeard a c
-only_then a b c g h = record { fewer = λ q x. g.fewer q (h.fewer q x); same_asks = h.same_asks ∙ g.same_asks }
+only_then a b c g h = record { fewer = λ q x. g.fewer q (h.fewer q x); same_asks = h.same_asks ∙ g.same_asks; same_unsent = h.same_unsent ∙ g.same_unsent }
 
 pub all_same : (ks : List Seeker) → AllZip OnlyHeard ks ks
 all_same [] = tt

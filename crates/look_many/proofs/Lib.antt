@@ -4,6 +4,7 @@ pub mod Several
 pub mod Waiting
 pub mod Hosting
 pub mod Heard
+pub mod Losing
 pub mod Closing
 pub mod Counting
 pub mod Walking

@@ -32,6 +32,7 @@ use Rattle.contact_table.specs.declared.calls.TableReply.TheVariants.{List as Li
 use Rattle.lookup_core.specs.declared.quest.AskKind.TheVariants.{FindNode}
 use Rattle.lookup_core.specs.declared.quest.Quest.{Quest}
 use Rattle.lookup_core.specs.Sealed.{Accepts}
+use Rattle.lookup_core.specs.SendFaults.{unsent, IsCounted}
 use Rattle.node_serve.specs.declared.setting.ServeSetting.{ServeSetting}
 use Rattle.node_serve.specs.Calls.{Did, on_table}
 use Rattle.node_serve.specs.Sealing.{Tags}
@@ -149,6 +150,16 @@ drawn_by words owners = record words { place = words.place + length owners }
 
 abbrev pub journals_of : List One → List (List Entry)
 journals_of ones = map (λ one. one.journal) ones
+
+-- how many contacts all journals lost to refused sends
+abbrev pub unsent_in_all : List (List Entry) → ℕ
+unsent_in_all [] = 0
+unsent_in_all (J ∷ Js) = length (unsent J) + unsent_in_all Js
+
+-- the link counted each of them, and perhaps replies that it refused
+pub record CountsUnsent (Js : List (List Entry)) (before after : ℕ) : Type 0 where
+  pub counted : IsCounted (unsent_in_all Js) before after
+  pub no_less : before ≤ after
 
 -- all calls on the peers and on the items are the driver's: no lookup makes any
 pub record AreOfDriver (n : ℕ) (before after : TableState) (ran : Ran n before after) : Type 0 where

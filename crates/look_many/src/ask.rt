@@ -2,16 +2,17 @@
 ghost use Rattle.std.specs.Prelude.{◌≡◌, ◌≤◌, ◌<◌, ◌+◌, ◌∷◌, [], length, None, Ok, true, false, OnOk};
 ghost use Rattle.std.specs.List.{AllByRecursion};
 ghost use Rattle.kad_base.specs.declared.types.Event.TheVariants.{Sent, Unsent};
-ghost use Rattle.kad_base.specs.Outside.{Grows};
+ghost use Rattle.kad_base.specs.Outside.{Grows, Rose};
 ghost use Rattle.kad_krpc.specs.Form.{form};
 ghost use Rattle.claim_book.specs.Journal.{may_ask};
 ghost use Rattle.lookup_core.specs.Quest.{query_message};
 ghost use Rattle.lookup_core.specs.LookupSteps.{CanAsk};
 ghost use Rattle.lookup_core.specs.Sealed.{Accepts};
+ghost use Rattle.lookup_core.specs.SendFaults.{Refuses};
 ghost use Rattle.node_serve.specs.declared.setting.ServeSetting.{ServeSetting};
 ghost use Rattle.node_serve.specs.Sealing.{Tags};
 ghost use Rattle.serve_crew.specs.Hands.{Hands};
-ghost use Rattle.look_many.specs.inner.Crowd.{Holding, NoneAsks, SameSeat, asks_of, stand};
+ghost use Rattle.look_many.specs.inner.Crowd.{Holding, LosesMore, NoneAsks, SameSeat, asks_of, stand};
 ghost use Rattle.look_many.specs.inner.ManySteps.{AsksOver, AsksAll, MayAskAll, NoneBefore};
 
 use crate::seeker::{Progress, Seeker};
@@ -28,6 +29,9 @@ fn send_query<L: Link>(link: &mut L, quest: &Quest, asked: &Asked) -> bool
         (λ es. es ≡ Unsent asked.now.contact.addr (form (query_message quest.now asked.now.tx)) ∷ []) }
     ensures moment { L.moment link.new ≡ L.moment link.old }
     ensures recv_faults { L.recv_faults link.new ≡ L.recv_faults link.old }
+    ensures send_faults { L.send_faults link.old ≤ L.send_faults link.new }
+    ensures well { result ≡ true → L.send_faults link.new ≡ L.send_faults link.old }
+    ensures failed { result ≡ false → Rose (L.send_faults link.old) (L.send_faults link.new) }
     ensures kept { L.kept link.new ≡ L.kept link.old }
 {
     let mut buf = [0u8; 160];
@@ -61,6 +65,8 @@ fn ask_next<L: Link>(
     ensures same_told { result ≡ false → L.told link.new ≡ L.told link.old }
     ensures moment { L.moment link.new ≡ L.moment link.old }
     ensures recv_faults { L.recv_faults link.new ≡ L.recv_faults link.old }
+    ensures refuses { Refuses seeker.old.lookup.book.journal seeker.new.lookup.book.journal
+        (L.send_faults link.old) (L.send_faults link.new) }
     ensures kept { L.kept link.new ≡ L.kept link.old }
 {
     let asked = match seeker.lookup.ask(words, &seeker.quest, moment, path) {
@@ -101,6 +107,7 @@ fn ask_one<L: Link>(
     ensures same_told { result ≡ false → L.told link.new ≡ L.told link.old }
     ensures moment { L.moment link.new ≡ L.moment link.old }
     ensures recv_faults { L.recv_faults link.new ≡ L.recv_faults link.old }
+    ensures loses { LosesMore seekers.old seekers.new (L.send_faults link.old) (L.send_faults link.new) }
     ensures kept { L.kept link.new ≡ L.kept link.old }
 {
     ask_next(link, &mut seekers[i], words, progress.moment, path)
@@ -131,6 +138,7 @@ fn ask_written<L: Link>(
     ensures none { result ≡ Ok false → NoneBefore i (path + 1) seekers.new }
     ensures moment { L.moment link.new ≡ L.moment link.old }
     ensures recv_faults { L.recv_faults link.new ≡ L.recv_faults link.old }
+    ensures loses { LosesMore seekers.old seekers.new (L.send_faults link.old) (L.send_faults link.new) }
     ensures kept { L.kept link.new ≡ L.kept link.old }
 {
     if owners.reserve(1).is_err() {
@@ -165,6 +173,7 @@ fn ask_path<L: Link>(
     ensures none { OnOk result (NoneBefore i (path + 1) seekers.new) }
     ensures moment { L.moment link.new ≡ L.moment link.old }
     ensures recv_faults { L.recv_faults link.new ≡ L.recv_faults link.old }
+    ensures loses { LosesMore seekers.old seekers.new (L.send_faults link.old) (L.send_faults link.new) }
     ensures kept { L.kept link.new ≡ L.kept link.old }
 {
     'asking: loop {
@@ -197,6 +206,7 @@ fn ask_lookup<L: Link>(
     ensures none { OnOk result (NoneBefore (i + 1) 0 seekers.new) }
     ensures moment { L.moment link.new ≡ L.moment link.old }
     ensures recv_faults { L.recv_faults link.new ≡ L.recv_faults link.old }
+    ensures loses { LosesMore seekers.old seekers.new (L.send_faults link.old) (L.send_faults link.new) }
     ensures kept { L.kept link.new ≡ L.kept link.old }
 {
     for path in 0..MAX_PATHS {
@@ -226,6 +236,7 @@ pub(crate) fn ask_all<L: Link>(
     ensures none { OnOk result (AllByRecursion NoneAsks seekers.new) }
     ensures moment { L.moment link.new ≡ L.moment link.old }
     ensures recv_faults { L.recv_faults link.new ≡ L.recv_faults link.old }
+    ensures loses { LosesMore seekers.old seekers.new (L.send_faults link.old) (L.send_faults link.new) }
     ensures kept { L.kept link.new ≡ L.kept link.old }
 {
     for i in 0..seekers.len() {

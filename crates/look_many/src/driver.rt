@@ -3,13 +3,14 @@
 ghost use Rattle.std.specs.Prelude.{◌≡◌, ◌≤◌, ◌<◌, ◌+◌, ◌^◌, [], suc, length, map, reverse, vec_capacity, IfOk, IfErr, OnOk, IsErrOf, ◌∷◌};
 ghost use Rattle.std.specs.List.{All, AllByRecursion, AllZip, range_with_len};
 ghost use Rattle.kad_base.specs.Contacts.{IsUsable};
+ghost use Rattle.kad_base.specs.Failing.{FailsLast};
 ghost use Rattle.kad_base.specs.Outside.{Rose};
 ghost use Rattle.turn_book.specs.Turns.{fresh, AreAll};
 ghost use Rattle.contact_table.specs.TableStep.{contacts_of};
 ghost use Rattle.node_serve.specs.Calls.{IsSetting};
 ghost use Rattle.serve_crew.specs.Hands.{SameHands};
-ghost use Rattle.look_many.specs.ManyLooked.{IsWithinLimits, ManyLooked, ManyStopped, max_lookups};
-ghost use Rattle.look_many.specs.inner.Crowd.{stand};
+ghost use Rattle.look_many.specs.ManyLooked.{CountsUnsent, IsWithinLimits, ManyLooked, ManyStopped, journals_of, max_lookups};
+ghost use Rattle.look_many.specs.inner.Crowd.{LosesMore, stand};
 ghost use Rattle.look_many.specs.inner.ManySteps.{IsOfDesk, IsSeated};
 ghost use Rattle.look_many.specs.inner.Going.{Begins, EndsWhole, SameSeats, WentWhole};
 ghost use Rattle.look_many.specs.inner.Seats.{IsBookFor, rows};
@@ -72,7 +73,10 @@ fn go<R: Threads + Wait + Sync, L: Link, C: PacedCheck + Sync, G: Seal + SealChe
         words.new host.new (L.told link.new)) }
     ensures link { IsErrOf result ManyFault.LinkFault
         → Rose (L.recv_faults link.old) (L.recv_faults link.new) }
+    ensures last { IsErrOf result ManyFault.LinkFault
+        → FailsLast L.told L.recv_faults link.old link.new }
     ensures recv_faults { L.recv_faults link.old ≤ L.recv_faults link.new }
+    ensures loses { OnOk result (LosesMore seekers.old seekers.new (L.send_faults link.old) (L.send_faults link.new)) }
     ensures well { ¬ IsErrOf result ManyFault.LinkFault
         → L.recv_faults link.new ≡ L.recv_faults link.old }
     ensures kept { L.kept link.new ≡ L.kept link.old }
@@ -206,7 +210,10 @@ fn work<R: Threads + Wait + Sync, L: Link, C: PacedCheck + Sync, G: Seal + SealC
         words.old words.new (L.told link.old) (L.told link.new)) }
     ensures link { IsErrOf result ManyFault.LinkFault
         → Rose (L.recv_faults link.old) (L.recv_faults link.new) }
+    ensures last { IsErrOf result ManyFault.LinkFault
+        → FailsLast L.told L.recv_faults link.old link.new }
     ensures recv_faults { L.recv_faults link.old ≤ L.recv_faults link.new }
+    ensures refused { IfOk result (λ many. CountsUnsent (journals_of many.outcomes) (L.send_faults link.old) (L.send_faults link.new)) }
     ensures well { ¬ IsErrOf result ManyFault.LinkFault
         → L.recv_faults link.new ≡ L.recv_faults link.old }
     ensures kept { L.kept link.new ≡ L.kept link.old }
@@ -301,7 +308,10 @@ pub fn look_many<R: Threads + Wait + Sync, L: Link, C: PacedCheck + Sync, G: Sea
         targets.now receives table result.0 words.old words.new (L.told link.old) (L.told link.new)) }
     ensures link { IsErrOf result.1 ManyFault.LinkFault
         → Rose (L.recv_faults link.old) (L.recv_faults link.new) }
+    ensures last { IsErrOf result.1 ManyFault.LinkFault
+        → FailsLast L.told L.recv_faults link.old link.new }
     ensures recv_faults { L.recv_faults link.old ≤ L.recv_faults link.new }
+    ensures refused { IfOk result.1 (λ many. CountsUnsent (journals_of many.outcomes) (L.send_faults link.old) (L.send_faults link.new)) }
     ensures well { ¬ IsErrOf result.1 ManyFault.LinkFault
         → L.recv_faults link.new ≡ L.recv_faults link.old }
     ensures kept { L.kept link.new ≡ L.kept link.old }

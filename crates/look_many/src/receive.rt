@@ -2,6 +2,7 @@
 ghost use Rattle.std.specs.Prelude.{◌≡◌, ◌≤◌, ◌<◌, ◌+◌, ◌^◌, [], length, true, IfOk, IfErr, IfSome, OnOk, OnErr, IsErrOf};
 ghost use Rattle.std.specs.List.{AllByRecursion, AllZip};
 ghost use Rattle.kad_base.specs.Limits.{max_datagram, max_round_receives, max_strays};
+ghost use Rattle.kad_base.specs.Failing.{FailsLast};
 ghost use Rattle.kad_base.specs.Outside.{Grows, Rose};
 ghost use Rattle.id_puzzles.specs.Drawn.{WordsState};
 ghost use Rattle.node_serve.specs.Calls.{IsSetting};
@@ -161,6 +162,7 @@ fn pay<L: Link>(link: &mut L, to: Addr, reply: Option<usize>, out: &[u8; 4096]) 
         (Pays (owed_in reply to out.now) result) }
     ensures moment { L.moment link.new ≡ L.moment link.old }
     ensures recv_faults { L.recv_faults link.new ≡ L.recv_faults link.old }
+    ensures send_faults { L.send_faults link.old ≤ L.send_faults link.new }
     ensures kept { L.kept link.new ≡ L.kept link.old }
 {
     match reply {
@@ -224,7 +226,10 @@ pub(crate) fn receive_until<R: Wait, L: Link, G: Seal + SealCheck>(
     ensures busy { IsErrOf result ManyFault.Strays → busy ≡ true }
     ensures link { IsErrOf result ManyFault.LinkFault
         → Rose (L.recv_faults link.old) (L.recv_faults link.new) }
+    ensures last { IsErrOf result ManyFault.LinkFault
+        → FailsLast L.told L.recv_faults link.old link.new }
     ensures recv_faults { L.recv_faults link.old ≤ L.recv_faults link.new }
+    ensures send_faults { L.send_faults link.old ≤ L.send_faults link.new }
     ensures well { ¬ IsErrOf result ManyFault.LinkFault
         → L.recv_faults link.new ≡ L.recv_faults link.old }
     ensures kept { L.kept link.new ≡ L.kept link.old }

@@ -2,10 +2,11 @@
 ghost use Rattle.std.specs.Prelude.{◌≡◌, ◌≤◌, ◌<◌, [], length, true, false, IfOk, IfErr, OnOk, IsErrOf, ◌+◌};
 ghost use Rattle.std.specs.List.{AllByRecursion};
 ghost use Rattle.kad_base.specs.Limits.{max_datagram};
+ghost use Rattle.kad_base.specs.Failing.{FailsLast};
 ghost use Rattle.kad_base.specs.Outside.{Rose};
 ghost use Rattle.node_serve.specs.Calls.{IsSetting};
 ghost use Rattle.serve_crew.specs.Hands.{SameHands};
-ghost use Rattle.look_many.specs.inner.Crowd.{stand};
+ghost use Rattle.look_many.specs.inner.Crowd.{LosesMore, stand};
 ghost use Rattle.look_many.specs.inner.ManySteps.{IsOfDesk, IsSeated};
 ghost use Rattle.look_many.specs.inner.Going.{AreOver, Begins, EndGoing, HaveGone, HaveReceived, SameSeats};
 
@@ -62,7 +63,10 @@ fn ask_and_receive<R: Wait, L: Link, G: Seal + SealCheck>(
         words.new host.new (L.told link.new)) }
     ensures link { IsErrOf result ManyFault.LinkFault
         → Rose (L.recv_faults link.old) (L.recv_faults link.new) }
+    ensures last { IsErrOf result ManyFault.LinkFault
+        → FailsLast L.told L.recv_faults link.old link.new }
     ensures recv_faults { L.recv_faults link.old ≤ L.recv_faults link.new }
+    ensures loses { OnOk result (LosesMore seekers.old seekers.new (L.send_faults link.old) (L.send_faults link.new)) }
     ensures well { ¬ IsErrOf result ManyFault.LinkFault
         → L.recv_faults link.new ≡ L.recv_faults link.old }
     ensures kept { L.kept link.new ≡ L.kept link.old }
@@ -124,7 +128,10 @@ pub(crate) fn go_rounds<
         words.new host.new (L.told link.new)) }
     ensures link { IsErrOf result ManyFault.LinkFault
         → Rose (L.recv_faults link.old) (L.recv_faults link.new) }
+    ensures last { IsErrOf result ManyFault.LinkFault
+        → FailsLast L.told L.recv_faults link.old link.new }
     ensures recv_faults { L.recv_faults link.old ≤ L.recv_faults link.new }
+    ensures loses { OnOk result (LosesMore seekers.old seekers.new (L.send_faults link.old) (L.send_faults link.new)) }
     ensures well { ¬ IsErrOf result ManyFault.LinkFault
         → L.recv_faults link.new ≡ L.recv_faults link.old }
     ensures kept { L.kept link.new ≡ L.kept link.old }

@@ -2,6 +2,7 @@
 ghost use Rattle.std.specs.Prelude.{◌≡◌, ◌≤◌, ◌<◌, ◌+◌, ◌-◌, [], length, map, false, OnOk, IfErr, IsErrOf};
 ghost use Rattle.std.specs.List.{AllZip};
 ghost use Rattle.kad_base.specs.Limits.{max_datagram};
+ghost use Rattle.kad_base.specs.Failing.{FailsLast};
 ghost use Rattle.kad_base.specs.Outside.{Rose};
 ghost use Rattle.id_puzzles.specs.Drawn.{WordsState};
 ghost use Rattle.node_serve.specs.Calls.{IsSetting};
@@ -58,7 +59,10 @@ fn serve_one<R: Wait, L: Link, G: Seal + SealCheck>(
     ensures strays { ¬ IsErrOf result ManyFault.Strays }
     ensures link { IsErrOf result ManyFault.LinkFault
         → Rose (L.recv_faults link.old) (L.recv_faults link.new) }
+    ensures last { IsErrOf result ManyFault.LinkFault
+        → FailsLast L.told L.recv_faults link.old link.new }
     ensures recv_faults { L.recv_faults link.old ≤ L.recv_faults link.new }
+    ensures send_faults { L.send_faults link.old ≤ L.send_faults link.new }
     ensures well { ¬ IsErrOf result ManyFault.LinkFault
         → L.recv_faults link.new ≡ L.recv_faults link.old }
     ensures kept { L.kept link.new ≡ L.kept link.old }
@@ -109,7 +113,10 @@ pub(crate) fn serve_on<R: Wait, L: Link, G: Seal + SealCheck>(
     ensures strays { ¬ IsErrOf result ManyFault.Strays }
     ensures link { IsErrOf result ManyFault.LinkFault
         → Rose (L.recv_faults link.old) (L.recv_faults link.new) }
+    ensures last { IsErrOf result ManyFault.LinkFault
+        → FailsLast L.told L.recv_faults link.old link.new }
     ensures recv_faults { L.recv_faults link.old ≤ L.recv_faults link.new }
+    ensures send_faults { L.send_faults link.old ≤ L.send_faults link.new }
     ensures well { ¬ IsErrOf result ManyFault.LinkFault
         → L.recv_faults link.new ≡ L.recv_faults link.old }
     ensures kept { L.kept link.new ≡ L.kept link.old }

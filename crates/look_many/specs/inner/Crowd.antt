@@ -1,6 +1,6 @@
 -- Where several lookups stand between two calls on their link: what the events showed, what each keeps, and what the node that
 -- serves has done.
-use Rattle.std.specs.Prelude.{◌≡◌, ℕ, ◌+◌, ◌-◌, ◌<◌, List, [], ◌∷◌, ◌++◌, Contains, length, map, Option, None, Bool, cond}
+use Rattle.std.specs.Prelude.{◌≡◌, ℕ, ◌+◌, ◌-◌, ◌<◌, ◌≤◌, List, [], ◌∷◌, ◌++◌, Contains, length, map, Option, None, Bool, cond}
 use Rattle.std.specs.List.{All, AllZip, flat_map}
 use Rattle.kad_base.specs.declared.types.Contact.{Contact}
 use Rattle.kad_base.specs.declared.types.Event.{Event}
@@ -14,6 +14,7 @@ use Rattle.claim_book.specs.Journal.{asked, may_ask, unsettled}
 use Rattle.lookup_core.specs.LookupSteps.{as_open, Holds}
 use Rattle.lookup_core.specs.Matching.{OpenQuery}
 use Rattle.lookup_core.specs.Sealed.{Accepts}
+use Rattle.lookup_core.specs.SendFaults.{unsent, IsCounted}
 use Rattle.node_serve.specs.declared.setting.ServeSetting.{ServeSetting}
 use Rattle.node_serve.specs.Calls.{Did, HadMemory}
 use Rattle.node_serve.specs.Sealing.{Tags}
@@ -59,10 +60,11 @@ pub record DrivenOn (old new : Seeker) : Type 0 where
   pub journal : new.lookup.book.journal ≡ old.lookup.book.journal ++ more
   pub all_driven : driven more ≡ more
 
--- no query more is open, and nobody more was asked
+-- no query more is open, nobody more was asked, and nobody more lost to a refused send
 pub record OnlyHeard (old new : Seeker) : Type 0 where
   pub fewer : (q : Query) → Contains new.lookup.queries q → Contains old.lookup.queries q
   pub same_asks : asked new.lookup.book.journal ≡ asked old.lookup.book.journal
+  pub same_unsent : unsent new.lookup.book.journal ≡ unsent old.lookup.book.journal
 
 -- nothing is left to settle on any of its paths
 abbrev pub NothingLeft : Seeker → Type 0
@@ -76,6 +78,18 @@ SameSeat old new = new.pass ≡ old.pass
 abbrev pub asks_of : List Seeker → ℕ
 asks_of [] = 0
 asks_of (k ∷ ks) = length (asked k.lookup.book.journal) + asks_of ks
+
+-- how many contacts all have lost to refused sends
+abbrev pub lost_of : List Seeker → ℕ
+lost_of [] = 0
+lost_of (k ∷ ks) = length (unsent k.lookup.book.journal) + lost_of ks
+
+-- so many more were lost so, and the link counted each, and perhaps replies that it refused
+pub record LosesMore (old new : List Seeker) (before after : ℕ) : Type 0 where
+  pub number : ℕ
+  pub more : lost_of new ≡ lost_of old + number
+  pub counted : IsCounted number before after
+  pub no_less : before ≤ after
 
 -- the open queries of all
 abbrev pub queries_of : List Seeker → List Query

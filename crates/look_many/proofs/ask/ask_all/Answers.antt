@@ -1,5 +1,6 @@
 use Rattle.std.proofs.Common.{◌∙◌, refl, arith}
 use Rattle.look_many.proofs.AskingAll.{asks_none, asks_then, none_here, none_all}
+use Rattle.look_many.proofs.Losing.{loses_none, loses_then}
 use Rattle.look_many.proofs.ask.ask_all.Goals as goal
 
 pub loop-i-init : goal.loop-i-init
@@ -12,6 +13,7 @@ loop-i-init g c =
       none_before = none_here c.args.seekers.now;
       moment = refl;
       faults = refl;
+      loses = loses_none _ _ _ _ refl (omega arith);
       kept = refl;
     }
 
@@ -27,6 +29,7 @@ loop-i-preserved g c =
       none_before = c.in-Ok.ensures.none;
       moment = e.moment ∙ i.moment;
       faults = e.recv_faults ∙ i.faults;
+      loses = loses_then _ _ _ _ _ _ i.loses e.loses;
       kept = e.kept ∙ i.kept;
     }
 
@@ -41,3 +44,6 @@ returns-clause-none g c =
     let same = i.len in
     let over = c.loop-i-test.false in
     none_all c.loop-i.i c.loop-i.seekers (omega (arith, same, over)) i.none_before
+
+pub returns-in-Err-clause-loses : goal.returns-in-Err-clause-loses
+returns-in-Err-clause-loses g c = loses_then _ _ _ _ _ _ c.loop-i.invariant.loses c.ask_lookup.ensures.loses

@@ -2,6 +2,7 @@ use Rattle.std.proofs.Common.{◌≡◌, ◌∙◌, refl, subst, arith}
 use Rattle.kad_base.specs.Limits.{max_paths}
 use Rattle.look_many.specs.inner.ManySteps.{NoneBefore}
 use Rattle.look_many.proofs.AskingAll.{asks_none, asks_then, none_next}
+use Rattle.look_many.proofs.Losing.{loses_none, loses_then}
 use Rattle.look_many.proofs.ask.ask_lookup.Goals as goal
 
 pub loop-path-init : goal.loop-path-init
@@ -14,6 +15,7 @@ loop-path-init g c =
       none_before = r.none_before;
       moment = refl;
       faults = refl;
+      loses = loses_none _ _ _ _ refl (omega arith);
       kept = refl;
     }
 
@@ -29,6 +31,7 @@ loop-path-preserved g c =
       none_before = c.in-Ok.ensures.none;
       moment = e.moment ∙ i.moment;
       faults = e.recv_faults ∙ i.faults;
+      loses = loses_then _ _ _ _ _ _ i.loses e.loses;
       kept = e.kept ∙ i.kept;
     }
 
@@ -42,3 +45,6 @@ returns-clause-none g c =
     let i = c.loop-path.invariant in
     let all : c.loop-path.path ≡ max_paths = (let over = c.loop-path-test.false in let few = c.loop-path.auto.path-end in omega (arith, over, few)) in
     none_next c.args.i c.loop-path.seekers c.args.progress.now c.loop-path.words i.may (subst (λ n. NoneBefore c.args.i n c.loop-path.seekers) all i.none_before)
+
+pub returns-in-Err-clause-loses : goal.returns-in-Err-clause-loses
+returns-in-Err-clause-loses g c = loses_then _ _ _ _ _ _ c.loop-path.invariant.loses c.ask_path.ensures.loses

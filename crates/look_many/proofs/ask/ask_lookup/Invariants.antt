@@ -3,7 +3,7 @@ use Rattle.lookup_core.specs.Sealed.{Accepts}
 use Rattle.node_serve.specs.declared.setting.ServeSetting.{ServeSetting}
 use Rattle.node_serve.specs.Sealing.{Tags}
 use Rattle.serve_crew.specs.Hands.{Hands}
-use Rattle.look_many.specs.inner.Crowd.{stand}
+use Rattle.look_many.specs.inner.Crowd.{stand, LosesMore}
 use Rattle.look_many.specs.inner.ManySteps.{MayAskAll, AsksAll, NoneBefore}
 use Rattle.look_many.proofs.ask.ask_lookup.Given as goal
 
@@ -15,5 +15,6 @@ invariant-loop-path g l = record {
   none_before : NoneBefore l.i l.path l.seekers;
   moment : g.L.Link.moment l.link ≡ g.L.Link.moment l.fn.link;
   faults : g.L.Link.recv_faults l.link ≡ g.L.Link.recv_faults l.fn.link;
+  loses : LosesMore l.fn.seekers l.seekers (g.L.Link.send_faults l.fn.link) (g.L.Link.send_faults l.link);
   kept : g.L.Link.kept l.link ≡ g.L.Link.kept l.fn.link;
 }

@@ -1,5 +1,6 @@
 use Rattle.std.proofs.Common.{◌+◌}
 use Rattle.look_many.proofs.AskingAll.{can_ask, leaves_all, asks_one, none_more, none_still}
+use Rattle.look_many.proofs.Losing.{loses_one}
 use Rattle.look_many.proofs.ask.ask_one.Goals as goal
 
 pub ask_next-requires : goal.ask_next-requires
@@ -34,3 +35,6 @@ returns-clause-none g c idle =
     let r = c.requires in
     let a = c.ask_next.ensures in
     none_still c.args.i (c.args.path + 1) c.args.seekers.now c.index-seekers-i.result c.ask_next.new.seeker (a.same idle) (none_more c.args.i c.args.path c.args.seekers.now c.index-seekers-i.result r.none_before r.within (a.none idle))
+
+pub returns-clause-loses : goal.returns-clause-loses
+returns-clause-loses g c = loses_one c.args.seekers.now c.args.i c.index-seekers-i.result c.ask_next.new.seeker _ _ c.requires.within c.ask_next.ensures.refuses

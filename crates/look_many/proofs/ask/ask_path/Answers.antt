@@ -1,5 +1,6 @@
-use Rattle.std.proofs.Common.{◌∙◌, refl}
+use Rattle.std.proofs.Common.{◌∙◌, refl, arith}
 use Rattle.look_many.proofs.AskingAll.{asks_none, asks_then}
+use Rattle.look_many.proofs.Losing.{loses_none, loses_then}
 use Rattle.look_many.proofs.ask.ask_path.Goals as goal
 
 pub asking-init : goal.asking-init
@@ -12,6 +13,7 @@ asking-init g c =
       none_before = r.none_before;
       moment = refl;
       faults = refl;
+      loses = loses_none _ _ _ _ refl (omega arith);
       kept = refl;
     }
 
@@ -27,6 +29,7 @@ asking-preserved g c =
       none_before = e.none_before;
       moment = e.moment ∙ i.moment;
       faults = e.recv_faults ∙ i.faults;
+      loses = loses_then _ _ _ _ _ _ i.loses e.loses;
       kept = e.kept ∙ i.kept;
     }
 
@@ -39,3 +42,9 @@ pub returns-in-Err-clause-asks : goal.returns-in-Err-clause-asks
 returns-in-Err-clause-asks g c accepts tags server host =
     let new = c.ask_written.new in
     asks_then accepts tags server host c.args.words.now c.asking.words new.words c.args.seekers.now c.asking.seekers new.seekers c.args.progress.now _ _ _ c.args.owners.now.items c.asking.owners.items new.owners.items (c.asking.invariant.asks accepts tags server host) (c.ask_written.ensures.asks accepts tags server host)
+
+pub returns-in-Err-clause-loses : goal.returns-in-Err-clause-loses
+returns-in-Err-clause-loses g c = loses_then _ _ _ _ _ _ c.asking.invariant.loses c.ask_written.ensures.loses
+
+pub returns-in-Ok-false-clause-loses : goal.returns-in-Ok-false-clause-loses
+returns-in-Ok-false-clause-loses g c = loses_then _ _ _ _ _ _ c.asking.invariant.loses c.ask_written.ensures.loses

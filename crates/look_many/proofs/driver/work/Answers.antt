@@ -1,4 +1,4 @@
-use Rattle.std.proofs.Common.{◌≡◌, ◌+◌, ◌++◌, ◌∷◌, [], length, rules, refl, sym, ap, subst, ◌∙◌, arith}
+use Rattle.std.proofs.Common.{◌≡◌, ◌+◌, ◌++◌, ◌∷◌, [], length, rules, refl, sym, ap, subst, ◌∙◌, arith, Err}
 use Rattle.std.specs.Prelude.{map, reverse, take, drop}
 use Rattle.std.specs.List.{AllZip, range_with_len}
 use Rattle.std.proofs.lemmas.List.FromFn.{length-map-range_with_len}
@@ -16,6 +16,9 @@ use Rattle.look_many.proofs.Seating.{row_next}
 use Rattle.look_many.proofs.Starting.{all_begin_at, all_some, seated_at}
 use Rattle.look_many.proofs.Back.{written, are_back, tables_back, peers_back, items_back, books_over, books_done}
 use Rattle.look_many.proofs.Promised.{ends_finished}
+use Rattle.kad_base.proofs.Failing.{fails_later}
+use Rattle.look_many.proofs.Losing.{counts_unsent}
+use Rattle.look_many.specs.declared.seeker.ManyFault.TheVariants.{LinkFault}
 use Rattle.look_many.proofs.driver.work.Goals as goal
 
 pub stack_up-requires-clause-room : goal.stack_up-requires-clause-room
@@ -505,3 +508,23 @@ returns-clause-stopped g c =
     let all = rows T P I c.gather.new.row.passes c.push-2.new.self.passes c.push-3.new.self.passes in
     let begun : Starts job all c.args.words.now (g.L.Link.told c.args.link.now) old = record { seekers = seekers; passes = passes; host = is_host; progress = refl; words_are = refl; now_told = c.now.ensures.told } in
     record { old = old; starts = begun; host = c.go-ended.new.host; seekers = ls; len = len; ends = ends_finished job old _ _ c.go-ended.ensures.same c.in-Ok.ensures.went; back = are_back T P I (length ts) vs ls c.new-host.result c.go-ended.new.host count passes is_host c.go-ended.ensures.same c.go-ended.ensures.seats len c.gather.new.row.passes c.push-2.new.self.passes c.push-3.new.self.passes row_is peers_is items_is }
+
+pub returns-in-Err-clause-last : goal.returns-in-Err-clause-last
+returns-in-Err-clause-last g c is = fails_later _ _ _ _ _ c.now.ensures.no_recv_fault (c.in-Err.ensures.last (let fault : c.in-Err.fault ≡ LinkFault = cc in ap (λ x. Err x) fault))
+
+pub returns-in-Ok-finish_all-clause-refused : goal.returns-in-Ok-finish_all-clause-refused
+returns-in-Ok-finish_all-clause-refused g c =
+    let T = c.args.desk.now.table.now in
+    let server = c.args.desk.now.setting.now in
+    let setting = c.args.setting.now in
+    let ts = c.args.targets.now in
+    let ks = c.seat_all.new.seekers.items in
+    let vs = c.as_mut_slice.result.now in
+    let value : c.as_mut_slice.result.now ≡ c.seat_all.new.seekers.items = c.as_mut_slice.ensures.value in
+    let seekers : AllZip (IsSeekerFor server setting T.start) ts vs = subst (AllZip (IsSeekerFor server setting T.start) ts) (sym value) c.seat_all.ensures.seekers in
+    let ls = c.go-ended.new.seekers in
+    let len : length c.go-ended.new.seekers ≡ length c.as_mut_slice.result.now = c.go-ended.ensures.len in
+    let vec : c.seat_all.new.seekers.len ≡ length c.seat_all.new.seekers.items = search rules in
+    let back : take c.seat_all.new.seekers.len (ls ++ drop (length ls) ks) ≡ ls = written c.seat_all.new.seekers.len ks ls (vec ∙ ap length (sym value) ∙ sym len) (len ∙ ap length value) in
+    let found = books_done c.gather.new.books.items ls c.in-Ok-finish_all.outcomes (c.gather.ensures.books ∙ ap (λ l. map (λ (k : Seeker). k.lookup.book) (reverse l)) back) c.in-Ok-finish_all.ensures in
+    counts_unsent server setting T.start ts vs ls c.in-Ok-finish_all.outcomes _ _ _ seekers c.now.ensures.no_send_fault c.in-Ok.ensures.loses found

@@ -6,6 +6,7 @@ use Rattle.look_many.specs.inner.ManySteps.{owed_in}
 use Rattle.look_many.proofs.Counting.{may_count, may_count_foreign}
 use Rattle.look_many.proofs.Heard.{same_seats, expired_seats}
 use Rattle.look_many.proofs.Telling.{got_on, got_advances, got_received, got_may_count, got_later, quiet_advances, quiet_received, quiet_later, stops_early, ends_by_foreign, err_moved, not_fault}
+use Rattle.kad_base.proofs.Failing.{fails_here}
 use Rattle.look_many.proofs.receive.receive_until.Goals as goal
 
 pub came-requires-clause-room : goal.came-requires-clause-room
@@ -84,3 +85,6 @@ returns-in-Ok-Quiet-clause-seats g c = expired_seats c.in-Ok-Quiet.at c.args.see
 
 pub returns-in-Err-clause-seats : goal.returns-in-Err-clause-seats
 returns-in-Err-clause-seats g c = same_seats c.args.seekers.now
+
+pub returns-in-Err-clause-last : goal.returns-in-Err-clause-last
+returns-in-Err-clause-last g c is = fails_here _ _ _ _ c.in-Err.ensures.failed c.in-Err.ensures.err

@@ -1,8 +1,10 @@
-use Rattle.std.proofs.Common.{[], ◌∙◌, rules, true}
+use Rattle.std.proofs.Common.{[], ◌∙◌, rules, true, ◌≡◌, Err, ap, arith}
 use Rattle.serve_crew.proofs.Growing.{same_more}
 use Rattle.look_many.specs.inner.Crowd.{stand}
 use Rattle.look_many.proofs.Heard.{seats_then}
 use Rattle.look_many.proofs.Rounding.{may_go_on, received_next, advances_then, stays_received, ends_after, ends_last_after}
+use Rattle.kad_base.proofs.Failing.{fails_later}
+use Rattle.look_many.specs.declared.seeker.ManyFault.TheVariants.{LinkFault}
 use Rattle.look_many.proofs.round.receive_round.Goals as goal
 
 pub receiving-preserved : goal.receiving-preserved
@@ -20,6 +22,7 @@ receiving-preserved g c =
       moment = search rules;
       len = r.len ∙ h.len;
       faults = r.well (λ is. cc) ∙ h.faults;
+      sends = (let a = h.sends in let b = r.send_faults in omega (arith, a, b));
       kept = search rules;
     }
 
@@ -37,3 +40,6 @@ returns-in-Err-receive-clause-strays g c is words =
 
 pub returns-in-Err-receive-clause-seats : goal.returns-in-Err-receive-clause-seats
 returns-in-Err-receive-clause-seats g c = seats_then c.args.seekers.now c.receiving.seekers c.receive-in-receiving.new.seekers c.receiving.invariant.received.seats c.receive-in-receiving.ensures.seats
+
+pub returns-in-Err-receive-clause-last : goal.returns-in-Err-receive-clause-last
+returns-in-Err-receive-clause-last g c is = fails_later _ _ _ _ _ c.receiving.invariant.faults (c.in-Err-receive.ensures.last (let fault : c.in-Err-receive.fault ≡ LinkFault = cc in ap (λ x. Err x) fault))

@@ -1,4 +1,4 @@
-use Rattle.std.proofs.Common.{◌≡◌, ◌≢◌, [], ◌+◌, length, true}
+use Rattle.std.proofs.Common.{◌≡◌, ◌≢◌, [], ◌+◌, length, true, ◌≤◌}
 use Rattle.kad_base.specs.Limits.{max_datagram}
 use Rattle.id_puzzles.specs.Drawn.{WordsState}
 use Rattle.serve_crew.specs.Hands.{SameHands}
@@ -17,6 +17,7 @@ invariant-receiving g l = record {
   moment : g.L.Link.moment l.link ≡ l.progress.moment;
   len : length l.seekers ≡ length l.fn.seekers;
   faults : g.L.Link.recv_faults l.link ≡ g.L.Link.recv_faults l.fn.link;
+  sends : g.L.Link.send_faults l.fn.link ≤ g.L.Link.send_faults l.link;
   kept : g.L.Link.kept l.link ≡ g.L.Link.kept l.fn.link;
 }
 

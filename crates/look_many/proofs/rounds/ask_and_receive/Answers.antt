@@ -1,9 +1,11 @@
 use Rattle.std.proofs.Common.{◌≡◌, ◌∙◌, Err, ap, refl}
 use Rattle.std.specs.Prelude.{IsErrOf}
 use Rattle.look_many.specs.declared.seeker.ManyFault.{ManyFault}
-use Rattle.look_many.specs.declared.seeker.ManyFault.TheVariants.{Strays}
+use Rattle.look_many.specs.declared.seeker.ManyFault.TheVariants.{Strays, LinkFault}
 use Rattle.look_many.specs.inner.Crowd.{stand}
 use Rattle.look_many.proofs.Gone.{gone_asked, gone_received, gone_then, ends_asked, ends_received, ends_behind, begins_asked, over_of, await_of, received_of, seats_of, seats_then}
+use Rattle.kad_base.proofs.Failing.{fails_later}
+use Rattle.look_many.proofs.Losing.{loses_none, loses_then, lost_heard}
 use Rattle.look_many.proofs.rounds.ask_and_receive.Goals as goal
 
 pub returns-in-Err-clause-seats : goal.returns-in-Err-clause-seats
@@ -77,3 +79,9 @@ returns-in-Err-receive_round-clause-ends g c =
     ends_behind accepts tags server c.in-Err-receive_round.fault _ mid _ _ _ _ _
     (gone_asked accepts tags server _ mid _ _ refl (c.ask_all.ensures.asks accepts tags server c.args.host.now))
     (ends_received accepts tags server c.in-Err-receive_round.fault mid _ _ (λ is. c.receive_round.ensures.strays (is_fault is) c.ask_all.new.words) (c.in-Err-receive_round.ensures.stops c.ask_all.new.words))
+
+pub returns-in-Err-receive_round-clause-last : goal.returns-in-Err-receive_round-clause-last
+returns-in-Err-receive_round-clause-last g c is = fails_later _ _ _ _ _ c.ask_all.ensures.recv_faults (c.in-Err-receive_round.ensures.last (let fault : c.in-Err-receive_round.fault ≡ LinkFault = cc in ap (λ x. Err x) fault))
+
+pub returns-in-Ok-receive_round-clause-loses : goal.returns-in-Ok-receive_round-clause-loses
+returns-in-Ok-receive_round-clause-loses g c = loses_then c.args.seekers.now c.ask_all.new.seekers c.receive_round.new.seekers _ _ _ c.ask_all.ensures.loses (loses_none _ _ _ _ (lost_heard _ _ c.in-Ok-receive_round.ensures.received.only_heard) c.receive_round.ensures.send_faults)

@@ -1,6 +1,9 @@
-use Rattle.std.proofs.Common.{◌∙◌, refl}
+use Rattle.std.proofs.Common.{◌∙◌, refl, ◌≡◌, Err, ap, arith}
 use Rattle.look_many.specs.inner.Crowd.{Stand, stand}
 use Rattle.look_many.proofs.Gone.{hands_same, hands_then, gone_none, gone_then, gone_settled, ends_behind, ends_settled, begins_settled, seats_stay, seats_then, seats_settled, seated_still, ready_policy, ready_paths}
+use Rattle.kad_base.proofs.Failing.{fails_later}
+use Rattle.look_many.specs.declared.seeker.ManyFault.TheVariants.{LinkFault}
+use Rattle.look_many.proofs.Losing.{loses_none, loses_then, lost_settled}
 use Rattle.look_many.proofs.rounds.go_rounds.Goals as goal
 
 pub rounds-init : goal.rounds-init
@@ -13,6 +16,7 @@ rounds-init g c = record {
   seated = c.requires.seated;
   moment = c.requires.moment;
   recv_faults = refl;
+  loses = loses_none _ _ _ _ refl (omega arith);
   kept = refl;
 }
 
@@ -61,6 +65,8 @@ rounds-preserved g c =
       seated = seated_still c.args.desk.now.table.now c.ask_and_receive.new.seekers c.settle_all.new.seekers (seated_still c.args.desk.now.table.now c.rounds.seekers c.ask_and_receive.new.seekers c.rounds.invariant.seated c.ask_and_receive.ensures.seats) settled;
       moment = c.in-Ok-true.ensures.moment;
       recv_faults = c.ask_and_receive.ensures.well (λ is. cc) ∙ c.rounds.invariant.recv_faults;
+      loses = loses_then c.args.seekers.now c.ask_and_receive.new.seekers c.settle_all.new.seekers _ _ _ (loses_then c.args.seekers.now c.rounds.seekers c.ask_and_receive.new.seekers _ _ _ c.rounds.invariant.loses c.in-Ok-true.ensures.loses)
+          (loses_none _ _ _ _ (lost_settled _ _ c.settle_all.ensures.some) (omega arith));
       kept = c.ask_and_receive.ensures.kept ∙ c.rounds.invariant.kept;
     }
 
@@ -80,3 +86,9 @@ returns-in-Err-settle_all-clause-ends g c =
     let settles = c.settle_all.ensures.goes accepts tags server c.ask_and_receive.new.progress c.ask_and_receive.new.words c.ask_and_receive.new.host (g.L.Link.told c.ask_and_receive.new.link) in
     ends_behind accepts tags server _ _ begun _ _ _ _ _ c.rounds.invariant.gone
     (ends_behind accepts tags server _ begun mid _ _ _ _ _ (c.in-Ok-true.ensures.goes) (ends_settled accepts tags server mid now refl refl settles c.settle_all.ensures.some c.all_legal.ensures))
+
+pub returns-in-Err-clause-last : goal.returns-in-Err-clause-last
+returns-in-Err-clause-last g c is = fails_later _ _ _ _ _ c.rounds.invariant.recv_faults (c.in-Err.ensures.last (let fault : c.in-Err.fault ≡ LinkFault = cc in ap (λ x. Err x) fault))
+
+pub returns-in-Ok-false-clause-loses : goal.returns-in-Ok-false-clause-loses
+returns-in-Ok-false-clause-loses g c = loses_then c.args.seekers.now c.rounds.seekers c.ask_and_receive.new.seekers _ _ _ c.rounds.invariant.loses c.in-Ok-false.ensures.loses

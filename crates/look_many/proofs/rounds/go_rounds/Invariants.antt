@@ -1,7 +1,7 @@
 use Rattle.std.proofs.Common.{◌≡◌, length}
 use Rattle.std.specs.List.{AllByRecursion}
 use Rattle.serve_crew.specs.Hands.{SameHands}
-use Rattle.look_many.specs.inner.Crowd.{stand}
+use Rattle.look_many.specs.inner.Crowd.{stand, LosesMore}
 use Rattle.look_many.specs.inner.ManySteps.{IsSeated}
 use Rattle.look_many.specs.inner.Going.{HaveGone, Begins, SameSeats}
 use Rattle.look_many.proofs.rounds.go_rounds.Given as goal
@@ -16,5 +16,6 @@ invariant-rounds g l = record {
   seated : AllByRecursion (IsSeated l.desk.table.now) l.seekers;
   moment : g.L.Link.moment l.link ≡ l.progress.moment;
   recv_faults : g.L.Link.recv_faults l.link ≡ g.L.Link.recv_faults l.fn.link;
+  loses : LosesMore l.fn.seekers l.seekers (g.L.Link.send_faults l.fn.link) (g.L.Link.send_faults l.link);
   kept : g.L.Link.kept l.link ≡ g.L.Link.kept l.fn.link;
 }

@@ -1,9 +1,11 @@
-use Rattle.std.proofs.Common.{[], rules, refl, false, ◌∙◌}
+use Rattle.std.proofs.Common.{[], rules, refl, false, ◌∙◌, ◌≡◌, Err, ap, arith}
 use Rattle.serve_crew.proofs.Growing.{same_none, same_more}
 use Rattle.look_many.specs.inner.Crowd.{stand}
 use Rattle.look_many.proofs.Heard.{same_seats, seats_then}
 use Rattle.look_many.proofs.Rounding.{advances_none, advances_then, ends_after}
 use Rattle.look_many.proofs.ServingOn.{stays_same}
+use Rattle.kad_base.proofs.Failing.{fails_later}
+use Rattle.look_many.specs.declared.seeker.ManyFault.TheVariants.{LinkFault}
 use Rattle.look_many.proofs.serving.serve_on.Goals as goal
 
 pub serving-init : goal.serving-init
@@ -17,6 +19,7 @@ serving-init g c = record {
   len = refl;
   seats = same_seats c.args.seekers.now;
   faults = refl;
+  sends = omega arith;
   kept = search rules;
 }
 
@@ -36,6 +39,7 @@ serving-preserved g c =
       len = r.len ∙ h.len;
       seats = seats_then c.args.seekers.now c.serving.seekers new.seekers h.seats r.seats;
       faults = r.well (λ is. cc) ∙ h.faults;
+      sends = (let a = h.sends in let b = r.send_faults in omega (arith, a, b));
       kept = search rules;
     }
 
@@ -47,3 +51,6 @@ returns-in-Err-clause-stops g c words =
 
 pub returns-in-Err-clause-seats : goal.returns-in-Err-clause-seats
 returns-in-Err-clause-seats g c = seats_then c.args.seekers.now c.serving.seekers c.serve_one.new.seekers c.serving.invariant.seats c.serve_one.ensures.seats
+
+pub returns-in-Err-clause-last : goal.returns-in-Err-clause-last
+returns-in-Err-clause-last g c is = fails_later _ _ _ _ _ c.serving.invariant.faults (c.in-Err.ensures.last (let fault : c.in-Err.fault ≡ LinkFault = cc in ap (λ x. Err x) fault))

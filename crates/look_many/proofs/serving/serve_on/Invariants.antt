@@ -1,4 +1,4 @@
-use Rattle.std.proofs.Common.{◌≡◌, [], ◌+◌, length, map, false}
+use Rattle.std.proofs.Common.{◌≡◌, [], ◌+◌, length, map, false, ◌≤◌}
 use Rattle.std.specs.List.{AllZip}
 use Rattle.kad_base.specs.Limits.{max_datagram}
 use Rattle.id_puzzles.specs.Drawn.{WordsState}
@@ -18,6 +18,7 @@ invariant-serving g l = record {
   len : length l.seekers ≡ length l.fn.seekers;
   seats : AllZip SameSeat l.fn.seekers l.seekers;
   faults : g.L.Link.recv_faults l.link ≡ g.L.Link.recv_faults l.fn.link;
+  sends : g.L.Link.send_faults l.fn.link ≤ g.L.Link.send_faults l.link;
   kept : g.L.Link.kept l.link ≡ g.L.Link.kept l.fn.link;
 }
 
