@@ -25,7 +25,7 @@ use Rattle.lookup_run.specs.Lookup.{TableTold}
 use Rattle.node_serve.specs.Calls.{IsSetting}
 use Rattle.node_serve.specs.declared.setting.ServeSetting.{ServeSetting}
 use Rattle.node_tokens.specs.Tokens.{TokensState}
-use Rattle.look_many.specs.ManyLooked.{IsFound, IsWithinLimits, ManyLooked, ManyStopped, journals_of, setting_for}
+use Rattle.look_many.specs.ManyLooked.{CountsUnsent, IsFound, IsWithinLimits, ManyLooked, ManyStopped, journals_of, setting_for}
 use Rattle.look_many.specs.declared.found.Many.{Many}
 use Rattle.look_many.specs.declared.found.ManySetting.{ManySetting}
 use Rattle.look_many.specs.declared.found.One.{One}
@@ -310,14 +310,15 @@ module _ (server : ServeSetting) (setting : ManySetting) (table : TableState) wh
       )
 
 abbrev pub ran_of : (look : LookWords) (receives : ℕ) (called : Called) (source : Shown ℕ) (link : Shown Event) (targets ts : List Id) (table : TableState) (proofs : List Report) (many : Many) → Starts look called.random source targets table proofs
-    → HasLooked look receives called ts table proofs link many → ts ≡ targets → NodeRan look receives called source link
-ran_of look receives called source link targets ts table proofs many s h same = record {
+    → HasLooked look receives called ts table proofs link many → CountsUnsent (journals_of many.outcomes) link.sends link.sends' → ts ≡ targets → NodeRan look receives called source link
+ran_of look receives called source link targets ts table proofs many s h refused same = record {
   targets = targets;
   table = table;
   proofs = proofs;
   starts = s;
   many = many;
   looked = subst (λ (l : List Id). HasLooked look receives called l table proofs link many) same h;
+  refused = refused;
 }
 
 pub outcomes_long : (look : LookWords) (receives : ℕ) (called : Called) (targets ts : List Id) (table : TableState) (proofs : List Report) (link : Shown Event) (many : Many) → HasLooked look receives called targets table proofs link many → ts ≡ targets → length ts ≡ length many.outcomes

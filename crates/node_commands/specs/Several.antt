@@ -20,7 +20,7 @@ use Rattle.claim_book.specs.Result.{result_of}
 use Rattle.claim_book.specs.RunOut.{RunOut}
 use Rattle.node_serve.specs.declared.setting.ServeSetting.{ServeSetting}
 use Rattle.look_many.specs.Many.{Reading, ManyTellSoFar, EndsAtForeign, Shown as Seen}
-use Rattle.look_many.specs.ManyLooked.{setting_for, all_read, frame_for, journals_of, IsJournalFor, ManyLooked, ManyStopped}
+use Rattle.look_many.specs.ManyLooked.{setting_for, all_read, frame_for, journals_of, IsJournalFor, ManyLooked, ManyStopped, CountsUnsent}
 use Rattle.look_many.specs.declared.found.Many.{Many}
 use Rattle.look_many.specs.declared.found.ManySetting.{ManySetting}
 use Rattle.look_many.specs.declared.found.One.{One}
@@ -158,7 +158,8 @@ HasLooked look receives called targets table proofs link many = (after : TableSt
 abbrev pub HasStopped : LookWords → ℕ → Called → List Id → TableState → List Report → Shown Event → ManyFault → Type 0
 HasStopped look receives called targets table proofs link by = (after : TableState) × (left : WordsState) × StopsFrom look receives called targets table proofs link after left by
 
--- all lookups have run out, and the node has made as many receives as are wanted
+-- all lookups have run out, and the node has made as many receives as are wanted; over every link, who was lost
+-- because it would not send, it counted
 pub record NodeRan (look : LookWords) (receives : ℕ) (called : Called) (source : Shown ℕ) (link : Shown Event) : Type 0 where
   pub targets : List Id
   pub table : TableState
@@ -166,6 +167,7 @@ pub record NodeRan (look : LookWords) (receives : ℕ) (called : Called) (source
   pub starts : Starts look called.random source targets table proofs
   pub many : Many
   pub looked : HasLooked look receives called targets table proofs link many
+  pub refused : CountsUnsent (journals_of many.outcomes) link.sends link.sends'
 
 -- it ended early by a fault
 pub record NodeEnds (look : LookWords) (receives : ℕ) (called : Called) (source : Shown ℕ) (link : Shown Event) (by : ManyFault) : Type 0 where

@@ -1,10 +1,12 @@
 //! The command `node`: looks for several identifiers at once, while it answers queries, and makes the text of what it found.
 ghost use Rattle.std.specs.Prelude.{◌≡◌, ◌≢◌, ◌⊎◌, ◌↔◌, ◌++◌, ◌≤◌, [], length, IfOk, IfErr, OnOk, IsErrOf, IsTrue};
 ghost use Rattle.std.specs.List.{All};
+ghost use Rattle.kad_base.specs.Failing.{FailsLast};
 ghost use Rattle.kad_base.specs.Contacts.{IsUsable};
 ghost use Rattle.contact_table.specs.TableStep.{contacts_of};
 ghost use Rattle.kad_base.specs.Puzzles.{Passes};
 ghost use Rattle.kad_base.specs.Limits.{max_lookups};
+ghost use Rattle.look_many.specs.ManyLooked.{CountsUnsent, journals_of};
 ghost use Rattle.command_base.specs.Called.{called_with};
 ghost use Rattle.node_commands.specs.Several.{FindsCause, HasLooked, HasStopped, NamesCause, Names, NodeBegun, NodeText, Starts, node_promise, printed_each, printed_many, printed_one};
 ghost use Rattle.command_base.specs.Endings.{EndsUnasked, number_of};
@@ -47,6 +49,8 @@ fn read_names<S: Source>(alloc: Global, source: &mut S) -> Result<Finds, Status>
     ensures at_most { ReadsAtMost (S.left source.old) (S.left source.new) }
     ensures reads_well { ¬ IsErrOf result Status.SourceFault
         → S.faults source.new ≡ S.faults source.old }
+    ensures reads_last { IsErrOf result Status.SourceFault
+        → FailsLast S.left S.faults source.old source.new }
 {
     let input = read_whole(alloc, source)?;
     match read_finds(alloc, input.as_slice()) {
@@ -80,6 +84,8 @@ fn read_start<S: Source, C: Check, G: Seal + SealCheck>(
     ensures at_most { ReadsAtMost (S.left source.old) (S.left source.new) }
     ensures reads_well { ¬ IsErrOf result Status.SourceFault
         → S.faults source.new ≡ S.faults source.old }
+    ensures reads_last { IsErrOf result Status.SourceFault
+        → FailsLast S.left S.faults source.old source.new }
 {
     let finds = read_names(alloc, source)?;
     let Finds { reports, targets } = finds;
@@ -123,10 +129,14 @@ fn look_all<R: Threads + Wait + Sync, L: Link, C: PacedCheck + Sync, G: Seal + S
         (called_with call.now.random (C.slow call.now.check.now) (G.accepted call.now.seal.now)
         (G.tag_of call.now.seal.now)) targets.now table proofs
         (shown_link L.told L.recv_faults L.send_faults link.old link.new)) }
+    ensures refused { IfOk result (λ many. CountsUnsent (journals_of many.outcomes)
+        (L.send_faults link.old) (L.send_faults link.new)) }
     ensures well { ¬ IsErrOf result ManyFault.LinkFault
         → L.recv_faults link.new ≡ L.recv_faults link.old }
     ensures link_fault { IsErrOf result ManyFault.LinkFault
         → HasFailed (shown_link L.told L.recv_faults L.send_faults link.old link.new) }
+    ensures last { IsErrOf result ManyFault.LinkFault
+        → FailsLast L.told L.recv_faults link.old link.new }
     ensures kept { L.kept link.new ≡ L.kept link.old }
 {
     let server = ServeSetting {
@@ -240,9 +250,13 @@ pub fn node<
     ensures kept { L.kept link.new ≡ L.kept link.old }
     ensures hears_well { ¬ IsErrOf result Status.LinkFault
         → L.recv_faults link.new ≡ L.recv_faults link.old }
+    ensures hears_last { IsErrOf result Status.LinkFault
+        → FailsLast L.told L.recv_faults link.old link.new }
     ensures at_most { ReadsAtMost (S.left source.old) (S.left source.new) }
     ensures reads_well { ¬ IsErrOf result Status.SourceFault
         → S.faults source.new ≡ S.faults source.old }
+    ensures reads_last { IsErrOf result Status.SourceFault
+        → FailsLast S.left S.faults source.old source.new }
 {
     let own = own_id(words.look.own, &call.random);
     let start = read_start(alloc, &words.look, own, source, call)?;

@@ -2,6 +2,7 @@
 //! many datagrams came and how many replies it sent.
 ghost use Rattle.std.specs.Prelude.{◌≡◌, ◌≢◌, ◌≤◌, ◌⊎◌, Err, IfOk, IfErr, IsErrOf};
 ghost use Rattle.std.specs.List.{All};
+ghost use Rattle.kad_base.specs.Failing.{FailsLast};
 ghost use Rattle.kad_base.specs.Puzzles.{Passes};
 ghost use Rattle.node_serve.specs.declared.service.ServeFault.{ServeFault};
 ghost use Rattle.command_base.specs.Called.{called_with};
@@ -53,6 +54,8 @@ fn read_host<S: Source, C: Check, G: Seal + SealCheck>(
     ensures at_most { ReadsAtMost (S.left source.old) (S.left source.new) }
     ensures reads_well { ¬ IsErrOf result Status.SourceFault
         → S.faults source.new ≡ S.faults source.old }
+    ensures reads_last { IsErrOf result Status.SourceFault
+        → FailsLast S.left S.faults source.old source.new }
 {
     let reports = read_reports(alloc, source)?;
     let read = reports.as_slice();
@@ -101,6 +104,8 @@ fn serve_alone<L: Link, C: PacedCheck, G: Seal + SealCheck>(
         → L.recv_faults link.new ≡ L.recv_faults link.old }
     ensures link_fault { result ≡ Err ServeFault.LinkFault
         → HasFailed (shown_link L.told L.recv_faults L.send_faults link.old link.new) }
+    ensures last { result ≡ Err ServeFault.LinkFault
+        → FailsLast L.told L.recv_faults link.old link.new }
     ensures kept { L.kept link.new ≡ L.kept link.old }
 {
     let Host { table, proofs } = host;
@@ -146,6 +151,8 @@ fn serve_at_once<R: Threads + Wait + Sync, L: Link, C: PacedCheck, G: Seal + Sea
         → L.recv_faults link.new ≡ L.recv_faults link.old }
     ensures link_fault { result ≡ Err ServeFault.LinkFault
         → HasFailed (shown_link L.told L.recv_faults L.send_faults link.old link.new) }
+    ensures last { result ≡ Err ServeFault.LinkFault
+        → FailsLast L.told L.recv_faults link.old link.new }
     ensures kept { L.kept link.new ≡ L.kept link.old }
 {
     let Host { table, proofs } = host;
@@ -199,6 +206,8 @@ fn serve_by<R: Threads + Wait + Sync, L: Link, C: PacedCheck, G: Seal + SealChec
         → L.recv_faults link.new ≡ L.recv_faults link.old }
     ensures link_fault { result ≡ Err ServeFault.LinkFault
         → HasFailed (shown_link L.told L.recv_faults L.send_faults link.old link.new) }
+    ensures last { result ≡ Err ServeFault.LinkFault
+        → FailsLast L.told L.recv_faults link.old link.new }
     ensures kept { L.kept link.new ≡ L.kept link.old }
 {
     if service.workers == 1 {
@@ -243,9 +252,13 @@ pub fn serve<
     ensures kept { L.kept link.new ≡ L.kept link.old }
     ensures hears_well { ¬ IsErrOf result Status.LinkFault
         → L.recv_faults link.new ≡ L.recv_faults link.old }
+    ensures hears_last { IsErrOf result Status.LinkFault
+        → FailsLast L.told L.recv_faults link.old link.new }
     ensures at_most { ReadsAtMost (S.left source.old) (S.left source.new) }
     ensures reads_well { ¬ IsErrOf result Status.SourceFault
         → S.faults source.new ≡ S.faults source.old }
+    ensures reads_last { IsErrOf result Status.SourceFault
+        → FailsLast S.left S.faults source.old source.new }
 {
     let own = own_id(service.own, &call.random);
     let host = read_host(alloc, service, own, source, call)?;

@@ -1,5 +1,5 @@
 -- The ends of the top calls, whatever the command is. Nothing here names one.
-use Rattle.std.proofs.Common.{◌≡◌, ◌≢◌, ◌⊎◌, ℕ, List, Result, Ok, Err, IfOk, IfErr, IsTrue, inl, inr, refl, sym, subst, arith}
+use Rattle.std.proofs.Common.{◌≡◌, ◌≢◌, ◌⊎◌, ℕ, List, Result, Ok, Err, IfOk, IfErr, IsTrue, inl, inr, refl, sym, subst, ◌∙◌, arith}
 use Rattle.kad_base.specs.declared.types.Event.{Event}
 use Rattle.kad_base.specs.Outside.{Grows, Rose}
 use Rattle.kad_words.specs.Table.{Word}
@@ -118,6 +118,22 @@ refused {T} asks words called source link r y x e f asking usage either same =
       | inr is ↦ subst (HasCause asks words called source link) (sym is) tt
     ] in
     subst (λ (q : Result T Status). IfErr q (HasCause asks words called source link)) (sym e) (subst (HasCause asks words called source link) (sym f) cause)
+
+pub is_link_fault : (status : Status) → number_of status ≡ 4 → status ≡ LinkFault
+is_link_fault LinkFault e = refl
+is_link_fault other e = absurd cc
+
+pub is_source_fault : (status : Status) → number_of status ≡ 6 → status ≡ SourceFault
+is_source_fault SourceFault e = refl
+is_source_fault other e = absurd cc
+
+-- words that ask for no command, and want of memory for them, are no fault of the outside
+pub no_fault : {T : Type 0} (fault : Status) → fault ≢ Usage → fault ≢ NoMemory → (r : Result T Status) (y x : Status) → r ≡ Err y → y ≡ x → (x ≡ Usage) ⊎ (x ≡ NoMemory) → r ≡ Err fault → ⊥
+no_fault {T} fault other short r y x e f either is =
+    let there : ◌≡◌ {A = Result T Status} (Err y) (Err fault) = sym e ∙ is in
+    let it : y ≡ fault = cc in
+    let same : fault ≡ x = sym it ∙ f in
+    elim either [ inl usage ↦ other (same ∙ usage) | inr none_ ↦ short (same ∙ none_) ]
 
 pub is_no_memory : (status : Status) → number_of status ≡ 9 → status ≡ NoMemory
 is_no_memory NoMemory e = refl

@@ -1,5 +1,6 @@
 //! The commands: a module of a crate below each, and an arm here; and what the words ask for, done.
 ghost use Rattle.std.specs.Prelude.{◌≡◌, ◌≢◌, ◌⊎◌, Bool, IfOk, IfErr, IsTrue, IsErrOf};
+ghost use Rattle.kad_base.specs.Failing.{FailsLast};
 ghost use Rattle.kad_base.specs.declared.types.Event.{Event};
 ghost use Rattle.lookup_core.specs.Sealed.{Accepts};
 ghost use Rattle.node_serve.specs.Sealing.{Tags};
@@ -55,9 +56,13 @@ fn output_of<
     ensures kept { L.kept link.new ≡ L.kept link.old }
     ensures hears_well { ¬ IsErrOf result Status.LinkFault
         → L.recv_faults link.new ≡ L.recv_faults link.old }
+    ensures hears_last { IsErrOf result Status.LinkFault
+        → FailsLast L.told L.recv_faults link.old link.new }
     ensures at_most { ReadsAtMost (S.left source.old) (S.left source.new) }
     ensures reads_well { ¬ IsErrOf result Status.SourceFault
         → S.faults source.new ≡ S.faults source.old }
+    ensures reads_last { IsErrOf result Status.SourceFault
+        → FailsLast S.left S.faults source.old source.new }
     ensures no_memory { IfErr result (λ status. status ≡ Status.NoMemory →
         (promise_of command.now).begun
         (called_with call.now.random (C.slow call.now.check.now) (G.accepted call.now.seal.now)
@@ -102,6 +107,8 @@ fn plain_output_of<S: Source, C: Check, G: Seal + SealCheck>(
     ensures at_most { ReadsAtMost (S.left source.old) (S.left source.new) }
     ensures reads_well { ¬ IsErrOf result Status.SourceFault
         → S.faults source.new ≡ S.faults source.old }
+    ensures reads_last { IsErrOf result Status.SourceFault
+        → FailsLast S.left S.faults source.old source.new }
 {
     match *command {
         Command::Table { words } => table::table(alloc, &words, source, call),
@@ -143,9 +150,13 @@ pub(crate) fn asked_output<
     ensures kept { L.kept link.new ≡ L.kept link.old }
     ensures hears_well { ¬ IsErrOf result Status.LinkFault
         → L.recv_faults link.new ≡ L.recv_faults link.old }
+    ensures hears_last { IsErrOf result Status.LinkFault
+        → FailsLast L.told L.recv_faults link.old link.new }
     ensures at_most { ReadsAtMost (S.left source.old) (S.left source.new) }
     ensures reads_well { ¬ IsErrOf result Status.SourceFault
         → S.faults source.new ≡ S.faults source.old }
+    ensures reads_last { IsErrOf result Status.SourceFault
+        → FailsLast S.left S.faults source.old source.new }
     ensures no_memory { IfErr result (λ status. status ≡ Status.NoMemory →
         HasBegun (bytes_of words.now)
         (called_with call.now.random (C.slow call.now.check.now) (G.accepted call.now.seal.now)
@@ -182,6 +193,8 @@ pub(crate) fn asked_plainly<S: Source, C: Check, G: Seal + SealCheck>(
     ensures at_most { ReadsAtMost (S.left source.old) (S.left source.new) }
     ensures reads_well { ¬ IsErrOf result Status.SourceFault
         → S.faults source.new ≡ S.faults source.old }
+    ensures reads_last { IsErrOf result Status.SourceFault
+        → FailsLast S.left S.faults source.old source.new }
 {
     if takes_link(words) {
         return Err(Status::Usage);

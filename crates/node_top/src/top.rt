@@ -1,5 +1,6 @@
 //! The top calls: one command, its output and its status.
 ghost use Rattle.std.specs.Prelude.{◌≡◌, ◌≢◌, ◌≤◌, ◌⊎◌, ◌↔◌, None};
+ghost use Rattle.kad_base.specs.Failing.{FailsLast};
 ghost use Rattle.node_top.specs.Asked.{Asks, AsksPlain, bytes_of};
 ghost use Rattle.command_base.specs.Called.{called_plainly, called_with};
 ghost use Rattle.command_base.specs.Shown.{shown, shown_link, nowhere, IsTold, HasFailed};
@@ -150,8 +151,11 @@ pub fn run<
 
     // No failed call is ignored: a read failed only at 6, a receive only at 4, and no write at 0.
     ensures reads_well { result ≢ 6 → S.faults source.new ≡ S.faults source.old }
+    ensures reads_last { result ≡ 6 → FailsLast S.left S.faults source.old source.new }
     ensures hears_well { result ≢ 4 → L.recv_faults link.new ≡ L.recv_faults link.old }
+    ensures hears_last { result ≡ 4 → FailsLast L.told L.recv_faults link.old link.new }
     ensures writes_well { result ≡ 0 → K.faults sink.new ≡ K.faults sink.old }
+    ensures writes_last { result ≡ 5 → FailsLast K.written K.faults sink.old sink.new }
     ensures by_command { EndsByCommand (bytes_of words.now) result }
     ensures statuses { (result ≤ last_status) × (result ≢ 1) }
 {
@@ -239,7 +243,9 @@ pub fn run_plain<S: Source, K: Sink, C: Check>(
 
     // No failed call is ignored: a read failed only at 6, and no write at 0.
     ensures reads_well { result ≢ 6 → S.faults source.new ≡ S.faults source.old }
+    ensures reads_last { result ≡ 6 → FailsLast S.left S.faults source.old source.new }
     ensures writes_well { result ≡ 0 → K.faults sink.new ≡ K.faults sink.old }
+    ensures writes_last { result ≡ 5 → FailsLast K.written K.faults sink.old sink.new }
     ensures by_command { AsksPlain (bytes_of words.now)
         → EndsByCommand (bytes_of words.now) result }
     ensures statuses { (result ≤ last_status) × (result ≢ 1) × (result ≢ 4) × (result ≢ 7) × (result ≢ 8)

@@ -1,6 +1,7 @@
 //! The command `refresh`: pings the least recently seen contact of each bucket of a saved table, and makes the saved text
 //! of the table that results.
 ghost use Rattle.std.specs.Prelude.{◌≡◌, ◌⊎◌, IfOk, IfErr, IsErrOf};
+ghost use Rattle.kad_base.specs.Failing.{FailsLast};
 ghost use Rattle.command_base.specs.Called.{called_with};
 ghost use Rattle.table_commands.specs.Refreshing.{Restores, RefreshBegun, RefreshText, SavedCause, refresh_promise};
 ghost use Rattle.command_base.specs.Endings.{EndsUnasked, number_of};
@@ -29,6 +30,8 @@ fn read_table<S: Source>(alloc: Global, source: &mut S) -> Result<Table, Status>
     ensures at_most { ReadsAtMost (S.left source.old) (S.left source.new) }
     ensures reads_well { ¬ IsErrOf result Status.SourceFault
         → S.faults source.new ≡ S.faults source.old }
+    ensures reads_last { IsErrOf result Status.SourceFault
+        → FailsLast S.left S.faults source.old source.new }
 {
     let input = read_whole(alloc, source)?;
     let saved = match read(alloc, input.as_slice()) {
@@ -76,9 +79,13 @@ pub fn refresh<S: Source, L: Link, C: PacedCheck, G: Seal + SealCheck>(
     ensures kept { L.kept link.new ≡ L.kept link.old }
     ensures hears_well { ¬ IsErrOf result Status.LinkFault
         → L.recv_faults link.new ≡ L.recv_faults link.old }
+    ensures hears_last { IsErrOf result Status.LinkFault
+        → FailsLast L.told L.recv_faults link.old link.new }
     ensures at_most { ReadsAtMost (S.left source.old) (S.left source.new) }
     ensures reads_well { ¬ IsErrOf result Status.SourceFault
         → S.faults source.new ≡ S.faults source.old }
+    ensures reads_last { IsErrOf result Status.SourceFault
+        → FailsLast S.left S.faults source.old source.new }
 {
     let table = read_table(alloc, source)?;
     let mut drawn = Words::new(&call.random, FIRST_TX);

@@ -1,5 +1,6 @@
 //! The command `table`: makes the saved text of the routing table that the contacts of the input make. It asks nobody.
 ghost use Rattle.std.specs.Prelude.{◌≡◌, IfOk, IfErr, IsErrOf};
+ghost use Rattle.kad_base.specs.Failing.{FailsLast};
 ghost use Rattle.kad_base.specs.declared.types.Event.{Event};
 ghost use Rattle.command_base.specs.Called.{Called};
 ghost use Rattle.command_base.specs.Input.{ReadsAtMost};
@@ -43,6 +44,8 @@ pub fn table<S: Source, C: Check, G: Seal + SealCheck>(
     ensures at_most { ReadsAtMost (S.left source.old) (S.left source.new) }
     ensures reads_well { ¬ IsErrOf result Status.SourceFault
         → S.faults source.new ≡ S.faults source.old }
+    ensures reads_last { IsErrOf result Status.SourceFault
+        → FailsLast S.left S.faults source.old source.new }
 {
     let id = own_id(words.own, &call.random);
     let reports = read_reports(alloc, source)?;

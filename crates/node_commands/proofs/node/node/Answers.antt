@@ -24,7 +24,7 @@ returns-in_err-text_of-clause-no_memory g c =
     let source = shown g.S.Source.left g.S.Source.faults c.args.source.now c.read_start.new.source in
     let link = shown_link g.L.Link.told g.L.Link.recv_faults g.L.Link.send_faults c.args.link.now c.look_all-ended.new.link in
     let called = called_with c.args.call.now.random (g.C.PacedCheck.slow c.args.call.now.check.now) (g.G.SealCheck.accepted c.args.call.now.seal.now) (g.G.Seal.tag_of c.args.call.now.seal.now) in
-    err_began c.from_residual-in_err-text_of.result _ _ (inr (ran_of c.args.words.now.look c.args.words.now.receives called source link s.targets c.as_slice.result.now s.table s.proofs c.in-Ok.many c.in_ok-start.ensures.ok c.in-Ok.ensures.ok c.as_slice.ensures))
+    err_began c.from_residual-in_err-text_of.result _ _ (inr (ran_of c.args.words.now.look c.args.words.now.receives called source link s.targets c.as_slice.result.now s.table s.proofs c.in-Ok.many c.in_ok-start.ensures.ok c.in-Ok.ensures.ok c.in-Ok.ensures.refused c.as_slice.ensures))
 
 pub returns-clause-ok : goal.returns-clause-ok
 returns-clause-ok g c =
@@ -32,5 +32,5 @@ returns-clause-ok g c =
     let source = shown g.S.Source.left g.S.Source.faults c.args.source.now c.read_start.new.source in
     let link = shown_link g.L.Link.told g.L.Link.recv_faults g.L.Link.send_faults c.args.link.now c.look_all-ended.new.link in
     let called = called_with c.args.call.now.random (g.C.PacedCheck.slow c.args.call.now.check.now) (g.G.SealCheck.accepted c.args.call.now.seal.now) (g.G.Seal.tag_of c.args.call.now.seal.now) in
-    let ran = ran_of c.args.words.now.look c.args.words.now.receives called source link s.targets c.as_slice.result.now s.table s.proofs c.in-Ok.many c.in_ok-start.ensures.ok c.in-Ok.ensures.ok c.as_slice.ensures in
+    let ran = ran_of c.args.words.now.look c.args.words.now.receives called source link s.targets c.as_slice.result.now s.table s.proofs c.in-Ok.many c.in_ok-start.ensures.ok c.in-Ok.ensures.ok c.in-Ok.ensures.refused c.as_slice.ensures in
     node_text c.args.words.now.look c.args.words.now.receives called source link ran c.as_slice-2.result.now c.in_ok-text_of.field-0 c.requires c.as_slice-2.ensures c.in_ok-text_of.ensures

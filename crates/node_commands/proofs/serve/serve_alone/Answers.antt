@@ -2,6 +2,7 @@ use Rattle.command_base.specs.Called.{called_with}
 use Rattle.node_commands.specs.Served.{some_alone}
 use Rattle.command_base.proofs.Results.{err_then}
 use Rattle.node_commands.proofs.Serving.{node_begun, served_some}
+use Rattle.kad_base.proofs.Failing.{fails_later}
 use Rattle.node_commands.proofs.serve.serve_alone.Goals as goal
 
 pub returns-clause-begun : goal.returns-clause-begun
@@ -10,3 +11,6 @@ returns-clause-begun g c =
     let begins = node_begun c.args.service.now c.args.call.now.random c.args.host.table c.args.host.proofs c.args.own c.now-began.result c.new-node.result c.requires.own c.new-node.ensures in
     err_then c.serve_loop.result _ _ c.serve_loop.ensures.begun (λ fault p.
     some_alone c.requires.alone (served_some c.args.service.now called c.args.host.table c.args.host.proofs c.new-node.result c.now-began.result _ _ _ begins c.now-began.ensures.told p))
+
+pub returns-clause-last : goal.returns-clause-last
+returns-clause-last g c is = fails_later _ _ _ _ _ c.now-began.ensures.no_recv_fault (c.serve_loop.ensures.last is)

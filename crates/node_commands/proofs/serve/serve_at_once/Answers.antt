@@ -2,6 +2,7 @@ use Rattle.command_base.specs.Called.{called_with}
 use Rattle.node_commands.specs.Served.{at_once, some_at_once}
 use Rattle.node_commands.proofs.AtOnce.{begun_at_once, served_at_once, setting_is}
 use Rattle.command_base.proofs.Results.{err_then, ok_then}
+use Rattle.kad_base.proofs.Failing.{fails_later}
 use Rattle.node_commands.proofs.serve.serve_at_once.Goals as goal
 
 pub returns-clause-ok : goal.returns-clause-ok
@@ -19,3 +20,6 @@ returns-clause-begun g c =
     err_then c.serve_many-answer.result.1 _ _ c.serve_many-answer.ensures.begun (λ fault p.
     some_at_once c.requires.several c.serve_many-answer.result.0 fault
     (begun_at_once c.args.service.now called c.args.host.table c.serve_many-answer.result.0 c.args.host.proofs _ c.now-began.result fault _ _ _ is c.now-began.ensures.told p))
+
+pub returns-clause-last : goal.returns-clause-last
+returns-clause-last g c is = fails_later _ _ _ _ _ c.now-began.ensures.no_recv_fault (c.serve_many-answer.ensures.last is)

@@ -1,10 +1,12 @@
 use Rattle.std.proofs.Common.{inl, inr, refl}
 use Rattle.kad_words.proofs.OneCommand.{command_plain}
 use Rattle.node_top.proofs.Asking.{takes_by}
-use Rattle.node_top.proofs.Causes.{caused, unasked}
+use Rattle.node_top.proofs.Causes.{caused, unasked, no_fault}
 use Rattle.command_base.proofs.Results.{both_err, ok_then, err_then}
 use Rattle.node_top.proofs.Lawfully.{ranged}
 use Rattle.command_base.proofs.Parts.{unread_at_most}
+use Rattle.std.proofs.lemmas.Result.{err_from_is_err_and}
+use Rattle.command_base.specs.declared.status.Status.TheVariants.{LinkFault, SourceFault}
 use Rattle.node_top.proofs.commands.asked_output.Goals as goal
 
 pub returns-clause-ok : goal.returns-clause-ok
@@ -37,3 +39,13 @@ returns-in_err-command-clause-at_most g c = unread_at_most _ _ refl
 
 pub output_of-requires-clause-ranges : goal.output_of-requires-clause-ranges
 output_of-requires-clause-ranges g c _ _ = ranged _ c.in_ok-command.command c.in_ok-command.ensures.command
+
+pub returns-in_err-command-clause-reads_last : goal.returns-in_err-command-clause-reads_last
+returns-in_err-command-clause-reads_last g c is =
+    let out = err_from_is_err_and c.from_residual.result c.from_residual.ensures.1 in
+    absurd (no_fault SourceFault (λ e. absurd cc) (λ e. absurd cc) c.from_residual.result out.0 _ out.1 out.2 c.in_err-command.ensures.none_else is)
+
+pub returns-in_err-command-clause-hears_last : goal.returns-in_err-command-clause-hears_last
+returns-in_err-command-clause-hears_last g c is =
+    let out = err_from_is_err_and c.from_residual.result c.from_residual.ensures.1 in
+    absurd (no_fault LinkFault (λ e. absurd cc) (λ e. absurd cc) c.from_residual.result out.0 _ out.1 out.2 c.in_err-command.ensures.none_else is)

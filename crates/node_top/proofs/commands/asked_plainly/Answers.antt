@@ -6,10 +6,11 @@ use Rattle.command_base.specs.Called.{called_plainly}
 use Rattle.node_top.specs.Asked.{bytes_of}
 use Rattle.command_base.specs.Shown.{nowhere}
 use Rattle.node_top.proofs.Asking.{takes_by}
-use Rattle.node_top.proofs.Causes.{caused, linkless, refused, unasked}
+use Rattle.node_top.proofs.Causes.{caused, linkless, refused, unasked, no_fault}
 use Rattle.command_base.proofs.Results.{ok_then, err_then}
 use Rattle.command_base.proofs.Parts.{unread_at_most}
 use Rattle.node_top.proofs.Lawfully.{ranged}
+use Rattle.command_base.specs.declared.status.Status.TheVariants.{SourceFault}
 use Rattle.node_top.proofs.commands.asked_plainly.Goals as goal
 
 pub plain_output_of-requires-clause-plain : goal.plain_output_of-requires-clause-plain
@@ -55,3 +56,8 @@ returns-clause-no_link g c =
 
 pub returns-in_err-command-clause-at_most : goal.returns-in_err-command-clause-at_most
 returns-in_err-command-clause-at_most g c = unread_at_most _ _ refl
+
+pub returns-in_err-command-clause-reads_last : goal.returns-in_err-command-clause-reads_last
+returns-in_err-command-clause-reads_last g c is =
+    let out = err_from_is_err_and c.from_residual.result c.from_residual.ensures.1 in
+    absurd (no_fault SourceFault (λ e. absurd cc) (λ e. absurd cc) c.from_residual.result out.0 _ out.1 out.2 c.in_err-command.ensures.none_else is)

@@ -1,8 +1,11 @@
-use Rattle.std.proofs.Common.{sym, ap, rules, ◌∙◌}
+use Rattle.std.proofs.Common.{sym, ap, rules, ◌∙◌, ◌≢◌, refl}
 use Rattle.kad_words.specs.declared.command.Command.TheVariants.{Lookup, Peers, Get, Put, Serve, Node, Refresh}
 use Rattle.command_base.specs.Shown.{nowhere}
 use Rattle.node_top.proofs.Lawfully.{lawful}
-use Rattle.node_top.proofs.Causes.{begun_at, cause_at, text_at, unrefused}
+use Rattle.node_top.proofs.Causes.{begun_at, cause_at, text_at, unrefused, linkless}
+use Rattle.command_base.specs.declared.status.Status.TheVariants.{LinkFault}
+use Rattle.command_base.proofs.Results.{err_at, err_then}
+use Rattle.command_base.specs.Endings.{number_of}
 use Rattle.node_top.proofs.commands.output_of.Goals as goal
 
 pub returns-in-Lookup-clause-cause : goal.returns-in-Lookup-clause-cause
@@ -62,3 +65,9 @@ pub returns-in_default-clause-unread : goal.returns-in_default-clause-unread
 returns-in_default-clause-unread g c =
     unrefused c.plain_output_of.result _ c.args.command.now ((lawful c.args.command.now).refuses (search rules)) _ _ _
     (c.plain_output_of.ensures.cause (g.C.PacedCheck.slow c.args.call.now.check.now) (g.G.SealCheck.accepted c.args.call.now.seal.now) (g.G.Seal.tag_of c.args.call.now.seal.now) nowhere)
+
+pub returns-in_default-clause-hears_last : goal.returns-in_default-clause-hears_last
+returns-in_default-clause-hears_last g c is =
+    absurd (err_at c.plain_output_of.result LinkFault (λ s. number_of s ≢ 4) is
+    (err_then c.plain_output_of.result _ _ (c.plain_output_of.ensures.cause (g.C.PacedCheck.slow c.args.call.now.check.now) (g.G.SealCheck.accepted c.args.call.now.seal.now) (g.G.Seal.tag_of c.args.call.now.seal.now) nowhere)
+    (λ status h. (linkless c.args.command.now (search rules) _ _ status h).0)) refl)

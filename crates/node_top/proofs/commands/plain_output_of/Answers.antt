@@ -1,11 +1,12 @@
-use Rattle.std.proofs.Common.{refl, sym, subst}
+use Rattle.std.proofs.Common.{refl, sym, subst, ◌≡◌}
 use Rattle.kad_words.specs.declared.command.Command.TheVariants.{Sim}
 use Rattle.command_base.specs.Called.{called_with}
 use Rattle.command_base.specs.Promise.{UnreadCause}
 use Rattle.command_base.specs.Shown.{shown}
 use Rattle.node_top.proofs.Causes.{cause_at, ranges_at, text_at}
-use Rattle.command_base.proofs.Results.{ok_then, err_then}
+use Rattle.command_base.proofs.Results.{ok_then, err_then, err_at}
 use Rattle.plain_commands.proofs.Minting.{mint_cause}
+use Rattle.command_base.specs.declared.status.Status.TheVariants.{SourceFault, NoMemory}
 use Rattle.node_top.proofs.commands.plain_output_of.Goals as goal
 
 pub returns-in-Check-clause-cause : goal.returns-in-Check-clause-cause
@@ -36,3 +37,11 @@ returns-in-Sim-clause-cause g c = λ slow accepts tags link.
     let source = shown g.S.Source.left g.S.Source.faults c.args.source.now c.args.source.now in
     cause_at c.sim.result (called_with c.args.call.now.random slow accepts tags) source link _ _ (sym c.in-Sim.is)
     (err_then c.sim.result _ _ c.sim.ensures.cause (λ status same. subst (UnreadCause ⊥ source) (sym same) tt))
+
+pub returns-in-Mint-clause-reads_last : goal.returns-in-Mint-clause-reads_last
+returns-in-Mint-clause-reads_last g c is = absurd (err_at c.mint.result SourceFault _ is c.mint.ensures.cause)
+
+pub returns-in-Sim-clause-reads_last : goal.returns-in-Sim-clause-reads_last
+returns-in-Sim-clause-reads_last g c is =
+    let e : SourceFault ≡ NoMemory = err_at c.sim.result SourceFault (λ s. s ≡ NoMemory) is c.sim.ensures.cause in
+    absurd cc

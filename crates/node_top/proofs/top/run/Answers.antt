@@ -1,9 +1,9 @@
-use Rattle.std.proofs.Common.{◌≡◌, inl, inr, sym, ap, subst, ◌∙◌}
+use Rattle.std.proofs.Common.{◌≡◌, inl, inr, sym, ap, subst, ◌∙◌, Err}
 use Rattle.kad_words.proofs.OneCommand.{command_plain}
 use Rattle.node_top.specs.Commands.{promise_of}
 use Rattle.command_base.specs.declared.status.Status.TheVariants.{LinkFault, SourceFault}
 use Rattle.command_base.specs.Endings.{MayEnd, OrNoMemory, number_of}
-use Rattle.node_top.proofs.Causes.{done_of, cut_of, done_end, not_bad, not_much, not_seedless, not_strays, not_nothing, not_refused, not_unsound, is_no_memory, named, usage_alone, bad_line, link_fault, source_fault, strays, no_seeds, unminted, too_long, bad_value, unsound, bad_line_comes, no_seeds_come, strays_come, unminted_comes, too_long_comes, bad_value_comes, unsound_comes, completes, may_end}
+use Rattle.node_top.proofs.Causes.{done_of, cut_of, done_end, not_bad, not_much, not_seedless, not_strays, not_nothing, not_refused, not_unsound, is_no_memory, named, usage_alone, bad_line, link_fault, source_fault, strays, no_seeds, unminted, too_long, bad_value, unsound, bad_line_comes, no_seeds_come, strays_come, unminted_comes, too_long_comes, bad_value_comes, unsound_comes, completes, may_end, is_link_fault, is_source_fault}
 use Rattle.node_top.proofs.top.run.Goals as goal
 
 -- ---- the command has its output
@@ -145,3 +145,9 @@ returns-in-Err-clause-line g c = λ some whole. record {
 pub returns-in-Err-clause-by_command : goal.returns-in-Err-clause-by_command
 returns-in-Err-clause-by_command g c = λ command asked.
     subst (λ n. MayEnd (promise_of command) n) (sym c.write_line.ensures.number) (may_end _ _ _ _ _ c.in-Err.status c.in-Err.ensures.cause (command_plain _ command asked) command asked)
+
+pub returns-in-Err-clause-reads_last : goal.returns-in-Err-clause-reads_last
+returns-in-Err-clause-reads_last g c e = c.in-Err.ensures.reads_last (ap (λ x. Err x) (is_source_fault c.in-Err.status (sym c.write_line.ensures.number ∙ e)))
+
+pub returns-in-Err-clause-hears_last : goal.returns-in-Err-clause-hears_last
+returns-in-Err-clause-hears_last g c e = c.in-Err.ensures.hears_last (ap (λ x. Err x) (is_link_fault c.in-Err.status (sym c.write_line.ensures.number ∙ e)))

@@ -1,10 +1,10 @@
-use Rattle.std.proofs.Common.{◌≡◌, inl, inr, refl, sym, ap, subst, ◌∙◌}
+use Rattle.std.proofs.Common.{◌≡◌, inl, inr, refl, sym, ap, subst, ◌∙◌, Err}
 use Rattle.node_top.specs.Commands.{promise_of}
 use Rattle.command_base.specs.declared.status.Status.TheVariants.{SourceFault}
 use Rattle.command_base.specs.Endings.{MayEnd, OrNoMemory, number_of}
 use Rattle.node_top.proofs.Asking.{asks_plain}
 use Rattle.node_top.proofs.Lawfully.{lawful}
-use Rattle.node_top.proofs.Causes.{done_of, cut_of, done_end, not_bad, not_much, not_nothing, named, usage_alone, bad_line, source_fault, unminted, too_long, bad_line_comes, unminted_comes, too_long_comes, completes, may_end}
+use Rattle.node_top.proofs.Causes.{done_of, cut_of, done_end, not_bad, not_much, not_nothing, named, usage_alone, bad_line, source_fault, unminted, too_long, bad_line_comes, unminted_comes, too_long_comes, completes, may_end, is_source_fault}
 use Rattle.node_top.proofs.top.run_plain.Goals as goal
 
 -- ---- the command has its output
@@ -81,3 +81,6 @@ returns-in-Err-clause-line g c = λ some whole. record {
 pub returns-in-Err-clause-by_command : goal.returns-in-Err-clause-by_command
 returns-in-Err-clause-by_command g c = λ asks command asked.
     subst (λ n. MayEnd (promise_of command) n) (sym c.write_line.ensures.number) (may_end _ _ _ _ _ c.in-Err.status c.in-Err.ensures.cause asks command asked)
+
+pub returns-in-Err-clause-reads_last : goal.returns-in-Err-clause-reads_last
+returns-in-Err-clause-reads_last g c e = c.in-Err.ensures.reads_last (ap (λ x. Err x) (is_source_fault c.in-Err.status (sym c.write_line.ensures.number ∙ e)))
