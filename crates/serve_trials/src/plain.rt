@@ -149,6 +149,42 @@ fn a_failed_read_of_contacts_ends_the_check(rt: HostRuntime) -> Result<(), Fail>
     Ok(())
 }
 
+/// The status of a `check` of so many bytes, of whose reads this one would fail.
+fn check_of<R: AllocGlobal + RandomSource + Threads + Wait + Sync>(
+    rt: &R,
+    size: usize,
+    failing: u64,
+) -> Result<u8, Fail> {
+    let alloc = rt.alloc();
+    let input = List::from_vec(vec![in alloc; b'#'; size]?);
+    let mut source = BytesSource::new(input, 5000, List::from_slice(alloc, &[failing])?);
+    let mut sink = BytesSink::new(4096, none(alloc), List::new(alloc));
+    status_of(rt, &["check"], &mut source, &mut sink)
+}
+
+/// How long an input is, and the number of the read that finds its end.
+const ENDS: &[(usize, u32)] = &[
+    (0, 0),
+    (1, 1),
+    (4095, 1),
+    (4096, 1),
+    (4097, 2),
+    (8192, 2),
+    (8193, 3),
+];
+
+/// The read that finds the end is made, and none after it.
+#[test]
+fn after_the_end_nothing_is_read(rt: HostRuntime) -> Result<(), Fail> {
+    for (size, end) in ENDS {
+        let end = u64::from(*end);
+        if check_of(&rt, *size, end)? != 6 || check_of(&rt, *size, end + 1)? != 0 {
+            return Err(Fail::new("another number of reads"));
+        }
+    }
+    Ok(())
+}
+
 /// Three bytes a call, and the third call fails.
 #[test]
 fn a_failed_write_leaves_a_front_of_what_is_minted(rt: HostRuntime) -> Result<(), Fail> {
