@@ -2,11 +2,12 @@
 ghost use Rattle.std.specs.Prelude.{IfOk};
 ghost use Rattle.item_store.specs.Items.{IsItem};
 
+use crate::replies::first_false;
 use item_store::{ItemCall, ItemFault, ItemReply, Items, item_key};
 use kad_base::{Bytes, Id, List, NoMemory, Serial};
 use peer_store::Stored;
 use std::alloc::Global;
-use std::test::Fail;
+use std::process::Abort;
 
 const TWO_HOURS: u64 = 7_200_000;
 
@@ -52,53 +53,86 @@ fn keys_are_as_bep_44_has_them(rt: HostRuntime) {
     );
 }
 
-#[test]
-fn an_item_is_handed_out_for_two_hours_after_its_last_add(rt: HostRuntime) -> Result<(), Fail> {
-    let alloc = rt.alloc();
-    let mut items = Items::new(alloc);
-    assert!(&rt; add(&mut items, alloc, 1, 0) == Ok(Stored::New));
-    assert!(&rt; has(&items, 1, TWO_HOURS - 1));
-    assert!(&rt; !has(&items, 1, TWO_HOURS));
-    assert!(&rt; add(&mut items, alloc, 1, 5) == Ok(Stored::Renewed));
-    assert!(&rt; has(&items, 1, TWO_HOURS + 4));
-    assert!(&rt; !has(&items, 1, TWO_HOURS + 5));
-    assert!(&rt; !has(&items, 2, 5));
-    Ok(())
+/// Plays a trial over a store of no items: nothing that it says is false.
+fn over<R: AllocGlobal + Abort, F: FnOnce(&mut Items, Global) -> Option<usize>>(rt: &R, trial: F)
+    requires { F.IsAlwaysCallable trial }
+{
+    let mut items = sent(Items::new(rt.alloc()));
+    assert_eq!(rt; trial(&mut items, rt.alloc()), None);
+}
+
+/// Whether the item of a number is new at the moment.
+fn is_new(items: &mut Items, alloc: Global, n: u16, at: u64) -> bool {
+    add(items, alloc, n, at) == Ok(Stored::New)
+}
+
+/// Whether it is renewed then.
+fn is_renewed(items: &mut Items, alloc: Global, n: u16, at: u64) -> bool {
+    add(items, alloc, n, at) == Ok(Stored::Renewed)
+}
+
+/// Whether the item of a number is handed out after a purge at this moment.
+fn stays(items: &mut Items, n: u16, purged: u64) -> bool {
+    items.purge(purged);
+    has(items, n, 0)
+}
+
+fn lasts(items: &mut Items, alloc: Global) -> Option<usize> {
+    first_false(&[
+        is_new(items, alloc, 1, 0),
+        has(items, 1, TWO_HOURS - 1),
+        !has(items, 1, TWO_HOURS),
+        is_renewed(items, alloc, 1, 5),
+        has(items, 1, TWO_HOURS + 4),
+        !has(items, 1, TWO_HOURS + 5),
+        !has(items, 2, 5),
+    ])
 }
 
 #[test]
-fn an_earlier_add_counts_too(rt: HostRuntime) -> Result<(), Fail> {
-    let alloc = rt.alloc();
-    let mut items = Items::new(alloc);
-    assert!(&rt; add(&mut items, alloc, 1, 10) == Ok(Stored::New));
-    assert!(&rt; add(&mut items, alloc, 1, 0) == Ok(Stored::Renewed));
-    assert!(&rt; !has(&items, 1, TWO_HOURS));
-    Ok(())
+fn an_item_is_handed_out_for_two_hours_after_its_last_add(rt: HostRuntime) {
+    over(&rt, lasts)
+}
+
+fn counts_earlier(items: &mut Items, alloc: Global) -> Option<usize> {
+    first_false(&[
+        is_new(items, alloc, 1, 10),
+        is_renewed(items, alloc, 1, 0),
+        !has(items, 1, TWO_HOURS),
+    ])
 }
 
 #[test]
-fn a_purge_drops_what_is_two_hours_old(rt: HostRuntime) -> Result<(), Fail> {
-    let alloc = rt.alloc();
-    let mut items = Items::new(alloc);
-    add(&mut items, alloc, 1, 0)?;
-    add(&mut items, alloc, 2, 1)?;
-    items.purge(TWO_HOURS - 1);
-    assert!(&rt; has(&items, 1, 0));
-    items.purge(TWO_HOURS);
-    assert!(&rt; !has(&items, 1, 0));
-    assert!(&rt; has(&items, 2, 0));
-    Ok(())
+fn an_earlier_add_counts_too(rt: HostRuntime) {
+    over(&rt, counts_earlier)
+}
+
+fn drops_old(items: &mut Items, alloc: Global) -> Option<usize> {
+    first_false(&[
+        is_new(items, alloc, 1, 0),
+        is_new(items, alloc, 2, 1),
+        stays(items, 1, TWO_HOURS - 1),
+        !stays(items, 1, TWO_HOURS),
+        has(items, 2, 0),
+    ])
 }
 
 #[test]
-fn an_add_after_the_moment_is_fresh(rt: HostRuntime) -> Result<(), Fail> {
-    let alloc = rt.alloc();
-    let mut items = Items::new(alloc);
-    add(&mut items, alloc, 1, u64::MAX)?;
-    items.purge(0);
-    assert!(&rt; has(&items, 1, 0));
-    assert!(&rt; has(&items, 1, u64::MAX));
-    Ok(())
+fn a_purge_drops_what_is_two_hours_old(rt: HostRuntime) {
+    over(&rt, drops_old)
+}
+
+fn keeps_later(items: &mut Items, alloc: Global) -> Option<usize> {
+    first_false(&[
+        is_new(items, alloc, 1, u64::MAX),
+        stays(items, 1, 0),
+        has(items, 1, u64::MAX),
+    ])
+}
+
+#[test]
+fn an_add_after_the_moment_is_fresh(rt: HostRuntime) {
+    over(&rt, keeps_later)
 }
 
 /// Adds the items of the numbers below 4,096.
@@ -109,18 +143,20 @@ fn fill(items: &mut Items, alloc: Global) -> Result<(), ItemFault> {
     Ok(())
 }
 
+fn fills_up(items: &mut Items, alloc: Global) -> Option<usize> {
+    first_false(&[
+        fill(items, alloc).is_ok(),
+        add(items, alloc, 4_096, 0) == Err(ItemFault::Full),
+        is_renewed(items, alloc, 7, 1),
+        stays(items, 7, TWO_HOURS),
+        !has(items, 8, 0),
+        is_new(items, alloc, 4_096, TWO_HOURS),
+    ])
+}
+
 #[test]
-fn as_many_items_as_may_be(rt: HostRuntime) -> Result<(), Fail> {
-    let alloc = rt.alloc();
-    let mut items = Items::new(alloc);
-    fill(&mut items, alloc)?;
-    assert!(&rt; add(&mut items, alloc, 4_096, 0) == Err(ItemFault::Full));
-    assert!(&rt; add(&mut items, alloc, 7, 1) == Ok(Stored::Renewed));
-    items.purge(TWO_HOURS);
-    assert!(&rt; has(&items, 7, 0));
-    assert!(&rt; !has(&items, 8, 0));
-    assert!(&rt; add(&mut items, alloc, 4_096, TWO_HOURS) == Ok(Stored::New));
-    Ok(())
+fn as_many_items_as_may_be(rt: HostRuntime) {
+    over(&rt, fills_up)
 }
 
 /// What may go to another thread.
@@ -146,15 +182,24 @@ fn call_get(items: &mut Items, at: u64) -> bool {
     }
 }
 
+/// Whether the item of a number is new to a call that puts it.
+fn puts_new(items: &mut Items, alloc: Global, number: u8, at: u64) -> bool {
+    let stored = Stored::New;
+    call_put(items, alloc, number, at) == ItemReply::Stored { stored }
+}
+
+fn replies_to_calls(items: &mut Items, alloc: Global) -> Option<usize> {
+    first_false(&[
+        puts_new(items, alloc, 1, 0),
+        call_get(items, TWO_HOURS - 1),
+        !call_get(items, TWO_HOURS),
+        // What is old is dropped where an item is put.
+        puts_new(items, alloc, 2, TWO_HOURS),
+        !call_get(items, 0),
+    ])
+}
+
 #[test]
 fn calls_have_their_replies(rt: HostRuntime) {
-    let alloc = rt.alloc();
-    let mut items = sent(Items::new(alloc));
-    let stored = Stored::New;
-    assert!(&rt; call_put(&mut items, alloc, 1, 0) == ItemReply::Stored { stored });
-    assert!(&rt; call_get(&mut items, TWO_HOURS - 1));
-    assert!(&rt; !call_get(&mut items, TWO_HOURS));
-    // What is old is dropped where an item is put.
-    assert!(&rt; call_put(&mut items, alloc, 2, TWO_HOURS) == ItemReply::Stored { stored });
-    assert!(&rt; !call_get(&mut items, 0));
+    over(&rt, replies_to_calls)
 }

@@ -1,5 +1,7 @@
 //! Items that are put and handed out (BEP 44), and those that are refused. The keys are another program's SHA-1.
-use crate::replies::{OWN, TOKEN, Text, is_silent, joined, mark, node, pong, random, replies};
+use crate::replies::{
+    OWN, TOKEN, Text, first_false, is_silent, joined, mark, node, over, pong, random, replies,
+};
 use contact_table::Table;
 use kad_base::{Addr, Ip, List, NoMemory, Policy};
 use node_serve::Node;
@@ -94,27 +96,35 @@ fn get(node: &mut Node, key: &[u8; 20], at: u64, item: &[u8]) -> bool {
     replies(node, local(7000), datagram.as_slice(), at, found.as_slice())
 }
 
+fn hands_out(node: &mut Node) -> Option<usize> {
+    first_false(&[
+        get(node, &HELLO, 0, b""),
+        keeps(node, b"5:hello", 0),
+        get(node, &HELLO, 0, b"1:v5:hello"),
+        get(node, &IN_ORDER, 0, b""),
+        get(node, &HELLO, TWO_HOURS - 1, b"1:v5:hello"),
+        get(node, &HELLO, TWO_HOURS, b""),
+        keeps(node, b"5:hello", 1),
+        get(node, &HELLO, TWO_HOURS, b"1:v5:hello"),
+    ])
+}
+
 #[test]
 fn an_item_is_handed_out_for_two_hours(rt: HostRuntime) -> Result<(), Fail> {
-    let mut node = long_epoch(rt.alloc())?;
-    assert!(&rt; get(&mut node, &HELLO, 0, b""));
-    assert!(&rt; keeps(&mut node, b"5:hello", 0));
-    assert!(&rt; get(&mut node, &HELLO, 0, b"1:v5:hello"));
-    assert!(&rt; get(&mut node, &IN_ORDER, 0, b""));
-    assert!(&rt; get(&mut node, &HELLO, TWO_HOURS - 1, b"1:v5:hello"));
-    assert!(&rt; get(&mut node, &HELLO, TWO_HOURS, b""));
-    assert!(&rt; keeps(&mut node, b"5:hello", 1));
-    assert!(&rt; get(&mut node, &HELLO, TWO_HOURS, b"1:v5:hello"));
-    Ok(())
+    over(&rt, long_epoch(rt.alloc()), hands_out)
+}
+
+fn finds_by_key(node: &mut Node) -> Option<usize> {
+    first_false(&[
+        keeps(node, b"d1:b0:1:a0:e", 0),
+        get(node, &IN_ORDER, 0, b"1:vd1:a0:1:b0:e"),
+        get(node, &AS_IT_STOOD, 0, b""),
+    ])
 }
 
 #[test]
 fn an_item_stands_under_the_key_of_its_written_form(rt: HostRuntime) -> Result<(), Fail> {
-    let mut node = node(rt.alloc(), 8, Policy::Plain)?;
-    assert!(&rt; keeps(&mut node, b"d1:b0:1:a0:e", 0));
-    assert!(&rt; get(&mut node, &IN_ORDER, 0, b"1:vd1:a0:1:b0:e"));
-    assert!(&rt; get(&mut node, &AS_IT_STOOD, 0, b""));
-    Ok(())
+    over(&rt, node(rt.alloc(), 8, Policy::Plain), finds_by_key)
 }
 
 /// The written form of a string of 990 to 999 bytes.
@@ -133,40 +143,50 @@ fn refuses(node: &mut Node, token: &[u8; 8], k: &[u8], v: &[u8], wanted: &[u8]) 
 
 const MUTABLE: &[u8] = b"1:k32:012345678901234567890123456789013:seqi1e3:sig0:";
 
-#[test]
-fn the_first_reason_to_refuse_is_told(rt: HostRuntime) -> Result<(), Fail> {
-    let mut node = node(rt.alloc(), 8, Policy::Plain)?;
+fn tells_reasons(node: &mut Node) -> Option<usize> {
     let longer = long(997);
     let other = [0; 8];
-    assert!(&rt; refuses(&mut node, &other, MUTABLE, longer.as_slice(), BAD_TOKEN));
-    assert!(&rt; refuses(&mut node, &other, b"", longer.as_slice(), BAD_TOKEN));
-    assert!(&rt; refuses(&mut node, &other, b"", b"5:hello", BAD_TOKEN));
-    assert!(&rt; refuses(&mut node, &TOKEN, MUTABLE, longer.as_slice(), NO_MUTABLE));
-    assert!(&rt; refuses(&mut node, &TOKEN, MUTABLE, b"5:hello", NO_MUTABLE));
-    assert!(&rt; refuses(&mut node, &TOKEN, b"1:k0:", b"5:hello", NO_MUTABLE));
-    assert!(&rt; refuses(&mut node, &TOKEN, b"", longer.as_slice(), TOO_BIG));
-    assert!(&rt; get(&mut node, &HELLO, 0, b""));
-    Ok(())
+    first_false(&[
+        refuses(node, &other, MUTABLE, longer.as_slice(), BAD_TOKEN),
+        refuses(node, &other, b"", longer.as_slice(), BAD_TOKEN),
+        refuses(node, &other, b"", b"5:hello", BAD_TOKEN),
+        refuses(node, &TOKEN, MUTABLE, longer.as_slice(), NO_MUTABLE),
+        refuses(node, &TOKEN, MUTABLE, b"5:hello", NO_MUTABLE),
+        refuses(node, &TOKEN, b"1:k0:", b"5:hello", NO_MUTABLE),
+        refuses(node, &TOKEN, b"", longer.as_slice(), TOO_BIG),
+        get(node, &HELLO, 0, b""),
+    ])
+}
+
+#[test]
+fn the_first_reason_to_refuse_is_told(rt: HostRuntime) -> Result<(), Fail> {
+    over(&rt, node(rt.alloc(), 8, Policy::Plain), tells_reasons)
+}
+
+fn takes_1000_bytes(node: &mut Node) -> Option<usize> {
+    first_false(&[
+        keeps(node, long(996).as_slice(), 0),
+        put(node, long(997).as_slice(), 0, TOO_BIG),
+    ])
 }
 
 #[test]
 fn an_item_has_at_most_1000_bytes(rt: HostRuntime) -> Result<(), Fail> {
-    let mut node = node(rt.alloc(), 8, Policy::Plain)?;
-    assert!(&rt; keeps(&mut node, long(996).as_slice(), 0));
-    assert!(&rt; put(&mut node, long(997).as_slice(), 0, TOO_BIG));
-    Ok(())
+    over(&rt, node(rt.alloc(), 8, Policy::Plain), takes_1000_bytes)
 }
 
-#[test]
-fn the_token_of_another_address_is_refused(rt: HostRuntime) -> Result<(), Fail> {
-    let mut node = node(rt.alloc(), 8, Policy::Plain)?;
+fn refuses_another(node: &mut Node) -> Option<usize> {
     let other = Addr {
         ip: Ip::V4([127, 0, 0, 2]),
         port: 7000,
     };
     let datagram = putting(&TOKEN, b"", b"5:hello");
-    assert!(&rt; replies(&mut node, other, datagram.as_slice(), 0, BAD_TOKEN));
-    Ok(())
+    first_false(&[replies(node, other, datagram.as_slice(), 0, BAD_TOKEN)])
+}
+
+#[test]
+fn the_token_of_another_address_is_refused(rt: HostRuntime) -> Result<(), Fail> {
+    over(&rt, node(rt.alloc(), 8, Policy::Plain), refuses_another)
 }
 
 /// So many lists, one in another.
@@ -175,13 +195,17 @@ fn nested(depth: usize) -> Text {
     joined(&[&[b'l'; 20][..depth], &[b'e'; 20][..depth]])
 }
 
+fn nests(node: &mut Node) -> Option<usize> {
+    let deeper = putting(&TOKEN, b"", nested(15).as_slice());
+    first_false(&[
+        keeps(node, nested(14).as_slice(), 0),
+        is_silent(node, local(7000), deeper.as_slice()),
+    ])
+}
+
 #[test]
 fn an_item_that_nests_fifteen_deep_is_no_message(rt: HostRuntime) -> Result<(), Fail> {
-    let mut node = node(rt.alloc(), 8, Policy::Plain)?;
-    assert!(&rt; keeps(&mut node, nested(14).as_slice(), 0));
-    let deeper = putting(&TOKEN, b"", nested(15).as_slice());
-    assert!(&rt; is_silent(&mut node, local(7000), deeper.as_slice()));
-    Ok(())
+    over(&rt, node(rt.alloc(), 8, Policy::Plain), nests)
 }
 
 /// Puts strings of two bytes, so many, and says whether each is held then.
@@ -195,17 +219,21 @@ fn fill(node: &mut Node, count: u16) -> bool {
     true
 }
 
+fn holds_4096(node: &mut Node) -> Option<usize> {
+    first_false(&[
+        fill(node, 4_096),
+        put(node, b"5:hello", 0, NO_PLACE),
+        keeps(node, b"2:\0\x07", TWO_HOURS - 1),
+        put(node, b"5:hello", TWO_HOURS - 1, NO_PLACE),
+        // Two hours later all but one are old.
+        keeps(node, b"5:hello", TWO_HOURS),
+        get(node, &HELLO, TWO_HOURS, b"1:v5:hello"),
+    ])
+}
+
 #[test]
 fn at_most_4096_items_are_held(rt: HostRuntime) -> Result<(), Fail> {
-    let mut node = long_epoch(rt.alloc())?;
-    assert!(&rt; fill(&mut node, 4_096));
-    assert!(&rt; put(&mut node, b"5:hello", 0, NO_PLACE));
-    assert!(&rt; keeps(&mut node, b"2:\0\x07", TWO_HOURS - 1));
-    assert!(&rt; put(&mut node, b"5:hello", TWO_HOURS - 1, NO_PLACE));
-    // Two hours later all but one are old.
-    assert!(&rt; keeps(&mut node, b"5:hello", TWO_HOURS));
-    assert!(&rt; get(&mut node, &HELLO, TWO_HOURS, b"1:v5:hello"));
-    Ok(())
+    over(&rt, long_epoch(rt.alloc()), holds_4096)
 }
 
 /// Whether the table knows nobody.
@@ -216,30 +244,20 @@ fn is_lonely(node: &mut Node) -> bool {
     replies(node, local(7000), find, 0, found.as_slice())
 }
 
-#[test]
-fn the_table_is_not_told_who_gets_and_puts(rt: HostRuntime) -> Result<(), Fail> {
-    let mut node = node(rt.alloc(), 8, Policy::Plain)?;
-    assert!(&rt;
-        !is_silent(
-            &mut node,
-            contact(1).addr,
-            getting(&HELLO, false).as_slice()
-        )
-    );
+fn tells_no_table(node: &mut Node) -> Option<usize> {
     let unmarked = joined(&[
         b"d1:ad2:id20:abcdefghij01234567895:token8:",
         &TOKEN,
         b"1:v5:helloe1:q3:put1:t2:aa1:y1:qe",
     ]);
-    assert!(&rt;
-        replies(
-            &mut node,
-            local(7000),
-            unmarked.as_slice(),
-            0,
-            pong().as_slice()
-        )
-    );
-    assert!(&rt; is_lonely(&mut node));
-    Ok(())
+    first_false(&[
+        !is_silent(node, contact(1).addr, getting(&HELLO, false).as_slice()),
+        replies(node, local(7000), unmarked.as_slice(), 0, pong().as_slice()),
+        is_lonely(node),
+    ])
+}
+
+#[test]
+fn the_table_is_not_told_who_gets_and_puts(rt: HostRuntime) -> Result<(), Fail> {
+    over(&rt, node(rt.alloc(), 8, Policy::Plain), tells_no_table)
 }

@@ -1,5 +1,7 @@
 //! Announcements, and the peers that are named.
-use crate::replies::{NEXT_TOKEN, OWN, TOKEN, Text, ends, joined, node, pong, replies};
+use crate::replies::{
+    NEXT_TOKEN, OWN, TOKEN, Text, ends, first_false, joined, node, over, pong, replies,
+};
 use kad_base::{Addr, Ip, Policy};
 use node_serve::Node;
 use std::test::Fail;
@@ -68,27 +70,35 @@ fn other(port: u16) -> Addr {
     }
 }
 
+fn takes_tokens(node: &mut Node) -> Option<usize> {
+    first_false(&[
+        adds(node, local(7000), given(&TOKEN), 0),
+        adds(node, local(7000), given(&TOKEN), 299_999),
+        adds(node, local(7000), given(&TOKEN), 599_999),
+        refuses(node, local(7000), &TOKEN, 600_000),
+        refuses(node, local(7000), &TOKEN, u64::MAX),
+        refuses(node, local(7000), &NEXT_TOKEN, 299_999),
+        adds(node, local(7000), given(&NEXT_TOKEN), 600_000),
+    ])
+}
+
 #[test]
 fn takes_a_token_of_this_epoch_or_the_last(rt: HostRuntime) -> Result<(), Fail> {
-    let mut node = node(rt.alloc(), 8, Policy::Plain)?;
-    assert!(&rt; adds(&mut node, local(7000), given(&TOKEN), 0));
-    assert!(&rt; adds(&mut node, local(7000), given(&TOKEN), 299_999));
-    assert!(&rt; adds(&mut node, local(7000), given(&TOKEN), 599_999));
-    assert!(&rt; refuses(&mut node, local(7000), &TOKEN, 600_000));
-    assert!(&rt; refuses(&mut node, local(7000), &TOKEN, u64::MAX));
-    assert!(&rt; refuses(&mut node, local(7000), &NEXT_TOKEN, 299_999));
-    assert!(&rt; adds(&mut node, local(7000), given(&NEXT_TOKEN), 600_000));
-    Ok(())
+    over(&rt, node(rt.alloc(), 8, Policy::Plain), takes_tokens)
+}
+
+fn takes_whole_tokens(node: &mut Node) -> Option<usize> {
+    first_false(&[
+        refuses(node, other(7000), &TOKEN, 0),
+        refuses(node, local(7000), &TOKEN[..7], 0),
+        refuses(node, local(7000), b"", 0),
+        adds(node, local(1), given(&TOKEN), 0),
+    ])
 }
 
 #[test]
 fn takes_a_token_from_its_address_alone_and_whole(rt: HostRuntime) -> Result<(), Fail> {
-    let mut node = node(rt.alloc(), 8, Policy::Plain)?;
-    assert!(&rt; refuses(&mut node, other(7000), &TOKEN, 0));
-    assert!(&rt; refuses(&mut node, local(7000), &TOKEN[..7], 0));
-    assert!(&rt; refuses(&mut node, local(7000), b"", 0));
-    assert!(&rt; adds(&mut node, local(1), given(&TOKEN), 0));
-    Ok(())
+    over(&rt, node(rt.alloc(), 8, Policy::Plain), takes_whole_tokens)
 }
 
 /// A query for the peers under the key.
@@ -100,28 +110,30 @@ fn given_peers(end: &[u8]) -> Text {
     joined(&[b"d1:rd2:id20:", &OWN.0, b"5:nodes0:5:token8:", &TOKEN, end])
 }
 
-#[test]
-fn gives_a_token_and_the_peers_of_the_key(rt: HostRuntime) -> Result<(), Fail> {
-    let mut node = node(rt.alloc(), 8, Policy::Plain)?;
+fn gives_peers(node: &mut Node) -> Option<usize> {
     let none = given_peers(b"e1:t2:aa1:y1:re");
     let two = given_peers(b"6:valuesl6:\x7f\0\0\x01\x1a\xe16:\x7f\0\0\x01\x1b\x58ee1:t2:aa1:y1:re");
     let one = b"6:valuesl6:\x7f\0\0\x01\x1b\x58ee1:t2:aa1:y1:re";
-    assert!(&rt; replies(&mut node, local(9), WANTED, 299_999, none.as_slice()));
-    assert!(&rt; adds(&mut node, local(7000), implied(&TOKEN), 1));
-    assert!(&rt; adds(&mut node, local(7000), given(&TOKEN), 0));
-    assert!(&rt; replies(&mut node, local(9), WANTED, 5, two.as_slice()));
-    assert!(&rt; ends(&mut node, local(9), WANTED, HALF_AN_HOUR, 91, one));
-    assert!(&rt;
+    first_false(&[
+        replies(node, local(9), WANTED, 299_999, none.as_slice()),
+        adds(node, local(7000), implied(&TOKEN), 1),
+        adds(node, local(7000), given(&TOKEN), 0),
+        replies(node, local(9), WANTED, 5, two.as_slice()),
+        ends(node, local(9), WANTED, HALF_AN_HOUR, 91, one),
         ends(
-            &mut node,
+            node,
             local(9),
             WANTED,
             HALF_AN_HOUR + 1,
             73,
-            b"e1:t2:aa1:y1:re"
-        )
-    );
-    Ok(())
+            b"e1:t2:aa1:y1:re",
+        ),
+    ])
+}
+
+#[test]
+fn gives_a_token_and_the_peers_of_the_key(rt: HostRuntime) -> Result<(), Fail> {
+    over(&rt, node(rt.alloc(), 8, Policy::Plain), gives_peers)
 }
 
 /// Adds the peers of 127.0.0.1 with the ports 1 to n, the last one first, and says whether each reply was this.
@@ -135,28 +147,36 @@ pub fn add_ports(node: &mut Node, n: u16, wanted: &[u8]) -> bool {
     true
 }
 
+fn names_50(node: &mut Node) -> Option<usize> {
+    let all = b"6:\x7f\0\0\x01\0\x31ee1:t2:aa1:y1:re";
+    let first = b"6:\x7f\0\0\x01\0\x32ee1:t2:aa1:y1:re";
+    first_false(&[
+        add_ports(node, 49, pong().as_slice()),
+        ends(node, local(9), WANTED, 0, 475, all),
+        add_ports(node, 51, pong().as_slice()),
+        ends(node, local(9), WANTED, 0, 483, first),
+    ])
+}
+
 #[test]
 fn names_the_first_50_peers(rt: HostRuntime) -> Result<(), Fail> {
-    let mut node = node(rt.alloc(), 8, Policy::Plain)?;
-    assert!(&rt; add_ports(&mut node, 49, pong().as_slice()));
-    let last = b"6:\x7f\0\0\x01\0\x31ee1:t2:aa1:y1:re";
-    assert!(&rt; ends(&mut node, local(9), WANTED, 0, 475, last));
-    assert!(&rt; add_ports(&mut node, 51, pong().as_slice()));
-    let last = b"6:\x7f\0\0\x01\0\x32ee1:t2:aa1:y1:re";
-    assert!(&rt; ends(&mut node, local(9), WANTED, 0, 483, last));
-    Ok(())
+    over(&rt, node(rt.alloc(), 8, Policy::Plain), names_50)
+}
+
+fn holds_65536(node: &mut Node) -> Option<usize> {
+    let token = [15, 197, 79, 164, 210, 200, 79, 22];
+    let refused = b"d1:eli202e12:Server Errore1:t2:aa1:y1:ee";
+    let datagram = announcement(implied(&token));
+    first_false(&[
+        add_ports(node, 65_535, pong().as_slice()),
+        adds(node, other(1), implied(&token), 0),
+        replies(node, other(2), datagram.as_slice(), 0, refused),
+        adds(node, other(1), implied(&token), 0),
+        adds(node, local(7), implied(&TOKEN), 0),
+    ])
 }
 
 #[test]
 fn refuses_a_peer_where_65536_are_held(rt: HostRuntime) -> Result<(), Fail> {
-    let mut node = node(rt.alloc(), 8, Policy::Plain)?;
-    let token = [15, 197, 79, 164, 210, 200, 79, 22];
-    let refused = b"d1:eli202e12:Server Errore1:t2:aa1:y1:ee";
-    let datagram = announcement(implied(&token));
-    assert!(&rt; add_ports(&mut node, 65_535, pong().as_slice()));
-    assert!(&rt; adds(&mut node, other(1), implied(&token), 0));
-    assert!(&rt; replies(&mut node, other(2), datagram.as_slice(), 0, refused));
-    assert!(&rt; adds(&mut node, other(1), implied(&token), 0));
-    assert!(&rt; adds(&mut node, local(7), implied(&TOKEN), 0));
-    Ok(())
+    over(&rt, node(rt.alloc(), 8, Policy::Plain), holds_65536)
 }

@@ -8,6 +8,8 @@ use kad_base::{Addr, Id, List, NoMemory, Policy};
 use node_serve::{Answered, Node};
 use seal_tags::GroupSeal;
 use std::alloc::Global;
+use std::process::Abort;
+use std::test::Fail;
 use trial_kit::contact;
 
 pub const OWN: Id = Id([255; 20]);
@@ -57,6 +59,25 @@ pub fn sealed_node(alloc: Global, k: u8, policy: Policy) -> Result<Node, NoMemor
     requires few_nodes { k ≤ 20 }
 {
     bare_node(alloc, k, policy, true)
+}
+
+/// The number of the first that is false, from 0.
+pub fn first_false(held: &[bool]) -> Option<usize> {
+    held.iter().position(|is| !*is)
+}
+
+/// Plays a trial over a node: nothing that it says is false. A function that owns a node is dear to prove, so this one alone
+/// does.
+pub fn over<R: Abort, F: FnOnce(&mut Node) -> Option<usize>>(
+    rt: &R,
+    made: Result<Node, NoMemory>,
+    trial: F,
+) -> Result<(), Fail>
+    requires { F.IsAlwaysCallable trial }
+{
+    let mut node = made?;
+    assert_eq!(rt; trial(&mut node), None);
+    Ok(())
 }
 
 /// The last digit of a number.

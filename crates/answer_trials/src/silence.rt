@@ -1,23 +1,29 @@
 //! What is answered, and what isn't.
-use crate::replies::{OWN, PING, TOKEN, Text, is_silent, joined, node, pong, replies};
+use crate::replies::{
+    OWN, PING, TOKEN, Text, first_false, is_silent, joined, node, over, pong, replies,
+};
 use kad_base::{Addr, Ip, Policy};
 use node_serve::Node;
 use std::test::Fail;
 use trial_kit::local;
 
-#[test]
-fn answers_as_worked_by_hand(rt: HostRuntime) -> Result<(), Fail> {
-    let mut node = node(rt.alloc(), 8, Policy::Plain)?;
+fn answers_by_hand(node: &mut Node) -> Option<usize> {
     let vote = b"d1:ad2:id20:abcdefghij0123456789e1:q4:vote1:t2:aa1:y1:qe";
     let unknown = b"d1:eli204e14:Method Unknowne1:t2:aa1:y1:ee";
     let forged =
         b"d1:ad2:id20:abcdefghij01234567899:info_hash20:mnopqrstuvwxyz1234564:porti6881e5:token1:xe1:q13:announce_peer1:t2:aa1:y1:qe";
     let refused = b"d1:eli203e9:Bad Tokene1:t2:aa1:y1:ee";
-    assert!(&rt; replies(&mut node, local(7000), PING, 0, pong().as_slice()));
-    assert!(&rt; replies(&mut node, local(7000), vote, 0, unknown));
-    assert!(&rt; replies(&mut node, local(7000), b"d1:q0:1:t2:aa1:y1:qe", 0, unknown));
-    assert!(&rt; replies(&mut node, local(7000), forged, 0, refused));
-    Ok(())
+    first_false(&[
+        replies(node, local(7000), PING, 0, pong().as_slice()),
+        replies(node, local(7000), vote, 0, unknown),
+        replies(node, local(7000), b"d1:q0:1:t2:aa1:y1:qe", 0, unknown),
+        replies(node, local(7000), forged, 0, refused),
+    ])
+}
+
+#[test]
+fn answers_as_worked_by_hand(rt: HostRuntime) -> Result<(), Fail> {
+    over(&rt, node(rt.alloc(), 8, Policy::Plain), answers_by_hand)
 }
 
 /// Whether none of these is answered.
@@ -30,11 +36,9 @@ fn all_silent(node: &mut Node, datagrams: &[&[u8]]) -> bool {
     true
 }
 
-#[test]
-fn is_silent_to_what_is_no_query(rt: HostRuntime) -> Result<(), Fail> {
-    let mut node = node(rt.alloc(), 8, Policy::Plain)?;
+fn is_silent_to_no_query(node: &mut Node) -> Option<usize> {
     let silent = all_silent(
-        &mut node,
+        node,
         &[
             b"x",
             b"",
@@ -44,14 +48,24 @@ fn is_silent_to_what_is_no_query(rt: HostRuntime) -> Result<(), Fail> {
             b"d1:ad2:id20:abcdefghij0123456789e1:q4:ping1:y1:qe",
         ],
     );
-    assert!(&rt; silent);
     let sixth = Addr {
         ip: Ip::V6([1; 16]),
         port: 7000,
     };
-    assert!(&rt; is_silent(&mut node, local(0), PING));
-    assert!(&rt; is_silent(&mut node, sixth, PING));
-    Ok(())
+    first_false(&[
+        silent,
+        is_silent(node, local(0), PING),
+        is_silent(node, sixth, PING),
+    ])
+}
+
+#[test]
+fn is_silent_to_what_is_no_query(rt: HostRuntime) -> Result<(), Fail> {
+    over(
+        &rt,
+        node(rt.alloc(), 8, Policy::Plain),
+        is_silent_to_no_query,
+    )
 }
 
 /// What a read-only query asks for.
@@ -122,15 +136,19 @@ fn repeats_all(node: &mut Node, method: Method) -> bool {
     !repeats(node, method, 33)
 }
 
+fn repeats_each(node: &mut Node) -> Option<usize> {
+    first_false(&[
+        repeats_all(node, Method::Ping),
+        repeats_all(node, Method::FindNode),
+        repeats_all(node, Method::GetPeers),
+        repeats_all(node, Method::AnnouncePeer),
+        repeats_all(node, Method::Vote),
+    ])
+}
+
 #[test]
 fn repeats_transaction_ids_of_at_most_32_bytes(rt: HostRuntime) -> Result<(), Fail> {
-    let mut node = node(rt.alloc(), 1, Policy::Plain)?;
-    assert!(&rt; repeats_all(&mut node, Method::Ping));
-    assert!(&rt; repeats_all(&mut node, Method::FindNode));
-    assert!(&rt; repeats_all(&mut node, Method::GetPeers));
-    assert!(&rt; repeats_all(&mut node, Method::AnnouncePeer));
-    assert!(&rt; repeats_all(&mut node, Method::Vote));
-    Ok(())
+    over(&rt, node(rt.alloc(), 1, Policy::Plain), repeats_each)
 }
 
 /// Whether a ping of 4,064 bytes and so many more, at most 100, is answered.
@@ -144,11 +162,11 @@ fn reads(node: &mut Node, more: usize) -> bool {
     !is_silent(node, local(7000), ping.as_slice())
 }
 
+fn reads_4096(node: &mut Node) -> Option<usize> {
+    first_false(&[reads(node, 0), reads(node, 32), !reads(node, 33)])
+}
+
 #[test]
 fn reads_datagrams_of_at_most_4096_bytes(rt: HostRuntime) -> Result<(), Fail> {
-    let mut node = node(rt.alloc(), 20, Policy::Plain)?;
-    assert!(&rt; reads(&mut node, 0));
-    assert!(&rt; reads(&mut node, 32));
-    assert!(&rt; !reads(&mut node, 33));
-    Ok(())
+    over(&rt, node(rt.alloc(), 20, Policy::Plain), reads_4096)
 }

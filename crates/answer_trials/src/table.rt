@@ -1,5 +1,5 @@
 //! Which contacts are named, and who is told to the table.
-use crate::replies::{OWN, Text, ends, joined, mark, node, pings, replies};
+use crate::replies::{OWN, Text, ends, first_false, joined, mark, node, over, pings, replies};
 use kad_base::Policy;
 use node_serve::Node;
 use std::test::Fail;
@@ -36,35 +36,41 @@ fn names(node: &mut Node, target: u8, read_only: bool, wanted: &[u8]) -> bool {
     replies(node, local(7000), find.as_slice(), 0, found.as_slice())
 }
 
+fn names_closest(node: &mut Node) -> Option<usize> {
+    first_false(&[
+        pings(node, 1, false),
+        names(node, 4, true, &[1]),
+        pings(node, 4, false),
+        names(node, 5, true, &[4, 1]),
+        names(node, 0, true, &[1, 4]),
+        pings(node, 6, false),
+        names(node, 7, true, &[6, 4]),
+    ])
+}
+
 #[test]
 fn names_the_closest_to_the_target(rt: HostRuntime) -> Result<(), Fail> {
-    let mut node = node(rt.alloc(), 2, Policy::Plain)?;
-    assert!(&rt; pings(&mut node, 1, false));
-    assert!(&rt; names(&mut node, 4, true, &[1]));
-    assert!(&rt; pings(&mut node, 4, false));
-    assert!(&rt; names(&mut node, 5, true, &[4, 1]));
-    assert!(&rt; names(&mut node, 0, true, &[1, 4]));
-    assert!(&rt; pings(&mut node, 6, false));
-    assert!(&rt; names(&mut node, 7, true, &[6, 4]));
-    Ok(())
+    over(&rt, node(rt.alloc(), 2, Policy::Plain), names_closest)
+}
+
+fn names_who_asked(node: &mut Node) -> Option<usize> {
+    let find =
+        b"d1:ad2:id20:abcdefghij01234567896:target20:abcdefghij0123456789e1:q9:find_node2:roi1e1:t2:aa1:y1:qe";
+    let asked = b"5:nodes26:abcdefghij0123456789\x7f\0\0\x01\x1b\x58e1:t2:aa1:y1:re";
+    first_false(&[
+        pings(node, 3, true),
+        names(node, 3, true, &[]),
+        names(node, 3, false, &[]),
+        ends(node, local(7001), find, 0, 83, asked),
+    ])
 }
 
 #[test]
 fn names_who_asked_from_the_next_query_on(rt: HostRuntime) -> Result<(), Fail> {
-    let mut node = node(rt.alloc(), 20, Policy::Plain)?;
-    assert!(&rt; pings(&mut node, 3, true));
-    assert!(&rt; names(&mut node, 3, true, &[]));
-    assert!(&rt; names(&mut node, 3, false, &[]));
-    let find =
-        b"d1:ad2:id20:abcdefghij01234567896:target20:abcdefghij0123456789e1:q9:find_node2:roi1e1:t2:aa1:y1:qe";
-    let asked = b"5:nodes26:abcdefghij0123456789\x7f\0\0\x01\x1b\x58e1:t2:aa1:y1:re";
-    assert!(&rt; ends(&mut node, local(7001), find, 0, 83, asked));
-    Ok(())
+    over(&rt, node(rt.alloc(), 20, Policy::Plain), names_who_asked)
 }
 
-#[test]
-fn names_nobody_who_asked_where_puzzles_are_wanted(rt: HostRuntime) -> Result<(), Fail> {
-    let mut node = node(rt.alloc(), 1, Policy::Puzzled { c1: 0, c2: 32 })?;
+fn names_nobody(node: &mut Node) -> Option<usize> {
     let find =
         b"d1:ad2:id20:abcdefghij01234567896:target20:abcdefghij0123456789e1:q9:find_node1:t2:aa1:y1:qe";
     let found = joined(&[
@@ -72,8 +78,18 @@ fn names_nobody_who_asked_where_puzzles_are_wanted(rt: HostRuntime) -> Result<()
         &OWN.0,
         b"5:nodes0:6:snodes0:e1:t2:aa1:y1:re",
     ]);
-    assert!(&rt; pings(&mut node, 3, false));
-    assert!(&rt; replies(&mut node, local(7000), find, 0, found.as_slice()));
-    assert!(&rt; replies(&mut node, local(7000), find, 0, found.as_slice()));
-    Ok(())
+    first_false(&[
+        pings(node, 3, false),
+        replies(node, local(7000), find, 0, found.as_slice()),
+        replies(node, local(7000), find, 0, found.as_slice()),
+    ])
+}
+
+#[test]
+fn names_nobody_who_asked_where_puzzles_are_wanted(rt: HostRuntime) -> Result<(), Fail> {
+    over(
+        &rt,
+        node(rt.alloc(), 1, Policy::Puzzled { c1: 0, c2: 32 }),
+        names_nobody,
+    )
 }

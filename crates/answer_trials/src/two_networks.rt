@@ -2,7 +2,7 @@
 ghost use Rattle.std.specs.Prelude.{◌<◌, ◌≤◌};
 ghost use Rattle.answer_trials.specs.declared.replies.TheConstants.{OWN};
 
-use crate::replies::{OWN, TOKEN, is_silent, joined, node, random, replies};
+use crate::replies::{OWN, TOKEN, first_false, is_silent, joined, node, over, random, replies};
 use crate::whole::{keep, tell};
 use contact_table::Table;
 use kad_base::{List, NoMemory, Policy};
@@ -58,23 +58,33 @@ fn names(node: &mut Node, want: &[u8], nodes: &[u8]) -> bool {
     replies(node, local(7000), find.as_slice(), 0, found.as_slice())
 }
 
+/// Whether it is answered with these `nodes` whatever is wanted.
+fn names_for_all(node: &mut Node, nodes: &[u8]) -> bool {
+    for want in WANTS {
+        if !names(node, want, nodes) {
+            return false;
+        }
+    }
+    true
+}
+
+fn names_the_second(node: &mut Node) -> Option<usize> {
+    first_false(&[names_for_all(node, SECOND)])
+}
+
 #[test]
 fn contacts_of_ipv4_are_named_whatever_is_wanted(rt: HostRuntime) -> Result<(), Fail> {
-    let mut node = mixed(rt.alloc(), 2)?;
-    for want in WANTS {
-        assert!(&rt; names(&mut node, want, SECOND));
-    }
-    Ok(())
+    over(&rt, mixed(rt.alloc(), 2), names_the_second)
 }
 
 /// No other comes in the place of one that is left out.
+fn names_none(node: &mut Node) -> Option<usize> {
+    first_false(&[names_for_all(node, b"0:")])
+}
+
 #[test]
 fn of_the_closest_those_of_ipv6_are_left_out(rt: HostRuntime) -> Result<(), Fail> {
-    let mut node = mixed(rt.alloc(), 1)?;
-    for want in WANTS {
-        assert!(&rt; names(&mut node, want, b"0:"));
-    }
-    Ok(())
+    over(&rt, mixed(rt.alloc(), 1), names_none)
 }
 
 /// Whether a query for peers that wants this is answered with a token and no contact.
@@ -94,13 +104,18 @@ fn gives_a_token(node: &mut Node, want: &[u8]) -> bool {
     replies(node, local(7000), get.as_slice(), 0, given.as_slice())
 }
 
+fn gives_each_a_token(node: &mut Node) -> Option<usize> {
+    for (place, want) in WANTS.iter().enumerate() {
+        if !gives_a_token(node, want) {
+            return Some(place);
+        }
+    }
+    None
+}
+
 #[test]
 fn peers_are_given_whatever_is_wanted(rt: HostRuntime) -> Result<(), Fail> {
-    let mut node = node(rt.alloc(), 8, Policy::Plain)?;
-    for want in WANTS {
-        assert!(&rt; gives_a_token(&mut node, want));
-    }
-    Ok(())
+    over(&rt, node(rt.alloc(), 8, Policy::Plain), gives_each_a_token)
 }
 
 /// A node that keeps the proof of a contact with an IPv6 address.
@@ -112,23 +127,27 @@ fn proved(alloc: Global) -> Result<Node, NoMemory> {
     Ok(Node::new(alloc, OWN, 20, policy, table, proofs, &random(), 0, false))
 }
 
+fn names_no_proof(node: &mut Node) -> Option<usize> {
+    first_false(&[names_for_all(node, b"0:6:snodes0:")])
+}
+
 #[test]
 fn no_proof_of_a_contact_of_ipv6_is_named(rt: HostRuntime) -> Result<(), Fail> {
-    let mut node = proved(rt.alloc())?;
-    for want in WANTS {
-        assert!(&rt; names(&mut node, want, b"0:6:snodes0:"));
-    }
-    Ok(())
+    over(&rt, proved(rt.alloc()), names_no_proof)
 }
 
 /// A query for contacts of IPv6, from one.
 const ASKED: &[u8] =
     b"d1:ad2:id20:abcdefghij01234567896:target20:mnopqrstuvwxyz1234564:wantl2:n6ee1:q9:find_node1:t2:aa1:y1:qe";
 
+fn answers_ipv4_alone(node: &mut Node) -> Option<usize> {
+    first_false(&[
+        is_silent(node, contact6(1).addr, ASKED),
+        !is_silent(node, contact(1).addr, ASKED),
+    ])
+}
+
 #[test]
 fn nobody_is_answered_at_an_ipv6_address(rt: HostRuntime) -> Result<(), Fail> {
-    let mut node = mixed(rt.alloc(), 2)?;
-    assert!(&rt; is_silent(&mut node, contact6(1).addr, ASKED));
-    assert!(&rt; !is_silent(&mut node, contact(1).addr, ASKED));
-    Ok(())
+    over(&rt, mixed(rt.alloc(), 2), answers_ipv4_alone)
 }

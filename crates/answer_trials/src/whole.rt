@@ -6,7 +6,9 @@ ghost use Rattle.kad_base.specs.declared.types.Policy.TheVariants.{Puzzled};
 ghost use Rattle.answer_trials.specs.declared.replies.TheConstants.{OWN};
 
 use crate::peers::add_ports;
-use crate::replies::{OWN, TOKEN, ends, joined, pong, random, replies, tagged_pong};
+use crate::replies::{
+    OWN, TOKEN, ends, first_false, joined, over, pong, random, replies, tagged_pong,
+};
 use contact_table::{Table, TableCall};
 use id_puzzles::{Minted, mint};
 use kad_base::{Addr, Contact, List, NoMemory, Policy, Report, Reports, Serial};
@@ -92,39 +94,53 @@ fn names_both(node: &mut Node, one: &Minted) -> bool {
     replies(node, local(7000), find.as_slice(), 0, found.as_slice())
 }
 
-#[test]
-fn names_the_proofs_that_it_keeps(rt: HostRuntime) -> Result<(), Fail> {
-    let mut node = proved_node(rt.alloc(), 1, 1, false)?;
+fn names_the_proof(node: &mut Node) -> Option<usize> {
     let named = match first() {
-        Some(one) => names_both(&mut node, &one),
+        Some(one) => names_both(node, &one),
         None => false,
     };
-    assert!(&rt; named);
-    Ok(())
+    first_false(&[named])
+}
+
+#[test]
+fn names_the_proofs_that_it_keeps(rt: HostRuntime) -> Result<(), Fail> {
+    over(&rt, proved_node(rt.alloc(), 1, 1, false), names_the_proof)
 }
 
 /// A query for peers, with the longest transaction id that is answered.
 const WANTED: &[u8] =
     b"d1:ad2:id20:abcdefghij01234567899:info_hash20:mnopqrstuvwxyz123456e1:q9:get_peers1:t32:012345678901234567890123456789011:y1:qe";
 
+fn is_greatest(node: &mut Node) -> Option<usize> {
+    let last = b"6:\x7f\0\0\x01\0\x32ee1:t32:012345678901234567890123456789011:y1:re";
+    first_false(&[
+        add_ports(node, 51, pong().as_slice()),
+        ends(node, local(9), WANTED, 0, 2609, last),
+    ])
+}
+
 #[test]
 fn writes_the_greatest_reply(rt: HostRuntime) -> Result<(), Fail> {
-    let mut node = proved_node(rt.alloc(), 0, 20, false)?;
-    let last = b"6:\x7f\0\0\x01\0\x32ee1:t32:012345678901234567890123456789011:y1:re";
-    assert!(&rt; add_ports(&mut node, 51, pong().as_slice()));
-    assert!(&rt; ends(&mut node, local(9), WANTED, 0, 2609, last));
-    Ok(())
+    over(&rt, proved_node(rt.alloc(), 0, 20, false), is_greatest)
 }
 
 /// The tag is that of the whole reply, which another program made of the twenty minted contacts.
-#[test]
-fn tags_the_greatest_reply(rt: HostRuntime) -> Result<(), Fail> {
-    let mut node = proved_node(rt.alloc(), 0, 20, true)?;
+fn is_greatest_tagged(node: &mut Node) -> Option<usize> {
     let last =
         b"6:\x7f\0\0\x01\0\x32ee2:sg20:\xa6\x1a\xea\xac\xf9\xd1\x4b\x4e\x4e\xc0\x71\xed\xbd\x3f\x32\xb4\x32\x2f\x5c\xf31:t32:012345678901234567890123456789011:y1:re";
-    assert!(&rt; add_ports(&mut node, 51, tagged_pong().as_slice()));
-    assert!(&rt; ends(&mut node, local(9), WANTED, 0, 2636, last));
-    Ok(())
+    first_false(&[
+        add_ports(node, 51, tagged_pong().as_slice()),
+        ends(node, local(9), WANTED, 0, 2636, last),
+    ])
+}
+
+#[test]
+fn tags_the_greatest_reply(rt: HostRuntime) -> Result<(), Fail> {
+    over(
+        &rt,
+        proved_node(rt.alloc(), 0, 20, true),
+        is_greatest_tagged,
+    )
 }
 
 /// A query for the item of a string of 996 bytes `x`, whose key is another program's, with such a transaction id.
@@ -143,20 +159,36 @@ fn keeps_a_long_item(node: &mut Node, wanted: &[u8]) -> bool {
     replies(node, local(9), put.as_slice(), 0, wanted)
 }
 
+fn is_greatest_with_item(node: &mut Node) -> Option<usize> {
+    let last = b"xxxe1:t32:012345678901234567890123456789011:y1:re";
+    first_false(&[
+        keeps_a_long_item(node, pong().as_slice()),
+        ends(node, local(9), SOUGHT, 0, 3202, last),
+    ])
+}
+
 #[test]
 fn writes_the_greatest_reply_with_an_item(rt: HostRuntime) -> Result<(), Fail> {
-    let mut node = proved_node(rt.alloc(), 0, 20, false)?;
-    let last = b"xxxe1:t32:012345678901234567890123456789011:y1:re";
-    assert!(&rt; keeps_a_long_item(&mut node, pong().as_slice()));
-    assert!(&rt; ends(&mut node, local(9), SOUGHT, 0, 3202, last));
-    Ok(())
+    over(
+        &rt,
+        proved_node(rt.alloc(), 0, 20, false),
+        is_greatest_with_item,
+    )
+}
+
+fn is_greatest_tagged_with_item(node: &mut Node) -> Option<usize> {
+    let last = b"1:t32:012345678901234567890123456789011:y1:re";
+    first_false(&[
+        keeps_a_long_item(node, tagged_pong().as_slice()),
+        ends(node, local(9), SOUGHT, 0, 3229, last),
+    ])
 }
 
 #[test]
 fn tags_the_greatest_reply_with_an_item(rt: HostRuntime) -> Result<(), Fail> {
-    let mut node = proved_node(rt.alloc(), 0, 20, true)?;
-    let last = b"1:t32:012345678901234567890123456789011:y1:re";
-    assert!(&rt; keeps_a_long_item(&mut node, tagged_pong().as_slice()));
-    assert!(&rt; ends(&mut node, local(9), SOUGHT, 0, 3229, last));
-    Ok(())
+    over(
+        &rt,
+        proved_node(rt.alloc(), 0, 20, true),
+        is_greatest_tagged_with_item,
+    )
 }

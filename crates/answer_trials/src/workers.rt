@@ -129,46 +129,62 @@ fn more_than_a_batch_is_answered(rt: HostRuntime) -> Result<(), Fail> {
     Ok(())
 }
 
+/// Whether two workers that make so many receive calls answer so many of these datagrams with just these replies.
+fn answers_with<R: AllocGlobal + Threads + Wait + Sync>(
+    rt: &R,
+    link: Result<ScriptLink, NoMemory>,
+    receives: u32,
+    sealed: bool,
+    wanted: &[Text],
+) -> Result<bool, Fail> {
+    let mut link = link?;
+    match serve(rt, &mut link, &group(), 2, receives, sealed)? {
+        Ok(counts) => Ok(
+            counts.received as usize == wanted.len()
+                && counts.replied as usize == wanted.len()
+                && sends(rt.alloc(), &link, wanted)?,
+        ),
+        Err(_) => Ok(false),
+    }
+}
+
 #[test]
 fn who_asked_in_an_earlier_batch_is_named(rt: HostRuntime) -> Result<(), Fail> {
-    let alloc = rt.alloc();
-    let mut link = link_from(alloc, &[(7000, FIND), (7001, FIND)], &[], &[])?;
-    let counts = ServeCounts {
-        received: 2,
-        replied: 2,
-    };
-    assert!(&rt; serve(&rt, &mut link, &group(), 2, 4, false)? == Ok(counts));
+    let link = link_from(rt.alloc(), &[(7000, FIND), (7001, FIND)], &[], &[]);
     let nobody = joined(&[b"d1:rd2:id20:", &OWN.0, b"5:nodes0:e1:t2:aa1:y1:re"]);
     let one = joined(&[
         b"d1:rd2:id20:",
         &OWN.0,
         b"5:nodes26:abcdefghij0123456789\x7f\0\0\x01\x1b\x58e1:t2:aa1:y1:re",
     ]);
-    assert!(&rt; sends(alloc, &link, &[nobody, one])?);
+    assert!(&rt; answers_with(&rt, link, 4, false, &[nobody, one])?);
     Ok(())
+}
+
+/// How many pongs two workers send over the link, where a receive of theirs fails.
+fn pongs_before_a_fault<R: AllocGlobal + Threads + Wait + Sync>(
+    rt: &R,
+    link: Result<ScriptLink, NoMemory>,
+) -> Result<usize, Fail> {
+    let mut link = link?;
+    match serve(rt, &mut link, &group(), 2, 4, false)? {
+        Err(ServeFault::LinkFault) => pongs(rt.alloc(), &link),
+        _ => Err(Fail::new("it ends otherwise")),
+    }
 }
 
 #[test]
 fn a_failed_receive_ends_it_behind_whole_batches(rt: HostRuntime) -> Result<(), Fail> {
-    let alloc = rt.alloc();
-    let mut link = link_from(alloc, &[(7000, PING), (7001, PING)], &[], &[2])?;
-    assert!(&rt; serve(&rt, &mut link, &group(), 2, 4, false)? == Err(ServeFault::LinkFault));
-    assert!(&rt; pongs(alloc, &link)? == 1);
-    let mut first = link_from(alloc, &[(7000, PING)], &[], &[1])?;
-    assert!(&rt; serve(&rt, &mut first, &group(), 2, 4, false)? == Err(ServeFault::LinkFault));
-    assert!(&rt; pongs(alloc, &first)? == 0);
+    let second = link_from(rt.alloc(), &[(7000, PING), (7001, PING)], &[], &[2]);
+    assert!(&rt; pongs_before_a_fault(&rt, second)? == 1);
+    let first = link_from(rt.alloc(), &[(7000, PING)], &[], &[1]);
+    assert!(&rt; pongs_before_a_fault(&rt, first)? == 0);
     Ok(())
 }
 
 #[test]
 fn a_sealed_crew_tags_its_replies(rt: HostRuntime) -> Result<(), Fail> {
-    let alloc = rt.alloc();
-    let mut link = link_with(alloc, PING, 10, 1, &[])?;
-    let counts = ServeCounts {
-        received: 1,
-        replied: 1,
-    };
-    assert!(&rt; serve(&rt, &mut link, &group(), 2, 1, true)? == Ok(counts));
-    assert!(&rt; sends(alloc, &link, &[tagged_pong()])?);
+    let link = link_with(rt.alloc(), PING, 10, 1, &[]);
+    assert!(&rt; answers_with(&rt, link, 1, true, &[tagged_pong()])?);
     Ok(())
 }
