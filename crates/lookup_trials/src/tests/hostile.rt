@@ -1,12 +1,10 @@
 //! Lookups whose outside fails in one place after the other. What each finds was worked out by hand.
 ghost use Rattle.std.specs.Prelude.{◌≤◌};
 
-use crate::tests::{OWN, setting, table_of};
+use crate::tests::{OWN, are, look_alone, setting};
 use fake_net::ScriptLink;
-use id_puzzles::{Sha1Check, Words};
-use kad_base::{Contact, Id};
-use lookup_run::{AskKind, LookFault, Outcome, look_up_alone};
-use seal_tags::GroupSeal;
+use kad_base::{Id, NoMemory};
+use lookup_run::{AskKind, LookFault, Outcome};
 use std::alloc::Global;
 use std::hash::RandomState;
 use std::test::Fail;
@@ -22,18 +20,6 @@ struct Found<'a> {
     numbers: &'a [u8],
     asked: u32,
     failed: u32,
-}
-
-fn are(contacts: &[Contact], numbers: &[u8]) -> bool {
-    if contacts.len() != numbers.len() {
-        return false;
-    }
-    for (found, n) in contacts.iter().zip(numbers) {
-        if *found != contact(*n) {
-            return false;
-        }
-    }
-    true
 }
 
 fn is(outcome: &Outcome, found: &Found) -> bool {
@@ -54,29 +40,25 @@ fn play_out(
     requires some { 1 ≤ paths }
     requires few { paths ≤ 8 }
 {
-    let table = table_of(alloc, own, contacts)?;
     let look = setting(own, paths, AskKind::FindNode);
-    let mut words = Words::new(&[0; 32], 5);
-    let seal = GroupSeal::new([0; 32]);
-    let (_table, ended) = look_up_alone(
-        alloc, link, &mut words, table, &look, &Sha1Check, &seal, hasher,
-    );
+    let (_table, ended) = look_alone(alloc, contacts, &look, link, hasher)?;
     Ok(ended)
 }
 
-/// It ends in this way.
+/// It ends in this way. A function that owns a link or an outcome is dear to prove, so no test does.
 fn ends(
     rt: &HostRuntime,
     contacts: &[u8],
     paths: u8,
-    link: &mut ScriptLink,
+    link: Result<ScriptLink, NoMemory>,
     wanted: &Result<Found, LookFault>,
 ) -> Result<(), Fail>
     requires some { 1 ≤ paths }
     requires few { paths ≤ 8 }
 {
     let hasher = RandomState::new(rt)?;
-    let ended = play_out(rt.alloc(), OWN, contacts, paths, link, hasher)?;
+    let mut link = link?;
+    let ended = play_out(rt.alloc(), OWN, contacts, paths, &mut link, hasher)?;
     let fits = match (&ended, wanted) {
         (Ok(outcome), Ok(found)) => is(outcome, found),
         (Err(fault), Err(wanted)) => *fault == *wanted,
@@ -97,8 +79,8 @@ fn an_answer_cut_anywhere_loses_its_contact(rt: HostRuntime) -> Result<(), Fail>
         failed: 1,
     });
     for len in 0..ANSWER_1.len() {
-        let mut link = link_with(rt.alloc(), &ANSWER_1[..len], 10, 1, &[])?;
-        ends(&rt, &[1], 1, &mut link, &wanted)?;
+        let link = link_with(rt.alloc(), &ANSWER_1[..len], 10, 1, &[]);
+        ends(&rt, &[1], 1, link, &wanted)?;
     }
     Ok(())
 }
@@ -139,8 +121,8 @@ fn each_refused_send_loses_one_contact(rt: HostRuntime) -> Result<(), Fail> {
     ];
     let begin = [1, 2, 3, 4, 5, 6, 7, 8];
     for n in 0..=8 {
-        let mut link = failing_link(rt.alloc(), &replies, &[u64::from(n)], &[])?;
-        ends(&rt, &begin, 1, &mut link, &Ok(found_of_nine(n)))?;
+        let link = failing_link(rt.alloc(), &replies, &[u64::from(n)], &[]);
+        ends(&rt, &begin, 1, link, &Ok(found_of_nine(n)))?;
     }
     Ok(())
 }
@@ -165,8 +147,8 @@ fn each_failed_receive_is_a_link_fault(rt: HostRuntime) -> Result<(), Fail> {
         } else {
             Ok(THREE)
         };
-        let mut link = failing_link(rt.alloc(), &replies, &[], &[n])?;
-        ends(&rt, &[1, 2], 2, &mut link, &wanted)?;
+        let link = failing_link(rt.alloc(), &replies, &[], &[n]);
+        ends(&rt, &[1, 2], 2, link, &wanted)?;
     }
     Ok(())
 }
@@ -180,11 +162,11 @@ fn answers_that_come_again_are_heard_once(rt: HostRuntime) -> Result<(), Fail> {
         replies.push(Reply::naming(2, at, 3))?;
         replies.push(Reply::naming(3, at, 4))?;
     }
-    let mut link = link(rt.alloc(), &replies)?;
+    let link = link(rt.alloc(), &replies);
     let wanted = Ok(Found {
         asked: 4,
         failed: 1,
         ..THREE
     });
-    ends(&rt, &[1, 2], 2, &mut link, &wanted)
+    ends(&rt, &[1, 2], 2, link, &wanted)
 }

@@ -1,10 +1,10 @@
 //! Lookups for an item (BEP 44), and what of the same answers other lookups keep. The target is identifier 0.
-use crate::tests::{OWN, play};
+use crate::tests::{are, gives};
+use contact_table::Table;
 use fake_net::ScriptLink;
 use kad_base::NoMemory;
 use lookup_run::{AskKind, Item, Outcome, Token};
 use std::alloc::Global;
-use std::hash::RandomState;
 use std::test::Fail;
 use trial_kit::{contact, link_from, local, port};
 
@@ -25,14 +25,6 @@ fn three_answers(alloc: Global) -> Result<ScriptLink, NoMemory> {
     link_from(alloc, &datagrams, &[], &[])
 }
 
-/// What a lookup of this kind keeps of the three answers.
-fn kept_of(rt: &HostRuntime, kind: AskKind) -> Result<Outcome, Fail> {
-    let hasher = RandomState::new(rt)?;
-    let mut link = three_answers(rt.alloc())?;
-    let (_table, outcome) = play(rt.alloc(), OWN, &[1, 2, 3], 1, kind, &mut link, hasher)?;
-    Ok(outcome)
-}
-
 fn are_items(items: &[Item], wanted: &[(u8, &[u8])]) -> bool {
     items.len() == wanted.len()
         && items.iter().zip(wanted).all(|(item, (n, v))| item.contact == contact(*n)
@@ -47,30 +39,52 @@ fn are_tokens(tokens: &[Token], wanted: &[(u8, &[u8])]) -> bool {
 
 const TOKENS: [(u8, &[u8]); 2] = [(1, b"a"), (2, b"b")];
 
+fn keeps_items(_table: &mut Table, outcome: &Outcome) -> bool {
+    let items: [(u8, &[u8]); 2] = [(1, b"5:hello"), (3, b"l5:jelloi7ee")];
+    are_items(outcome.items.as_slice(), &items)
+        && are_tokens(outcome.tokens.as_slice(), &TOKENS)
+        && outcome.peers.len() == 0
+}
+
 #[test]
 fn items_stand_as_they_came_with_their_contacts(rt: HostRuntime) -> Result<(), Fail> {
-    let outcome = kept_of(&rt, AskKind::GetItem)?;
-    let items: [(u8, &[u8]); 2] = [(1, b"5:hello"), (3, b"l5:jelloi7ee")];
-    assert!(rt; are_items(outcome.items.as_slice(), &items));
-    assert!(rt; are_tokens(outcome.tokens.as_slice(), &TOKENS));
-    assert!(rt; outcome.peers.len() == 0);
+    let link = three_answers(rt.alloc());
+    assert!(rt; gives(&rt, &[1, 2, 3], 1, AskKind::GetItem, link, keeps_items)?);
     Ok(())
+}
+
+fn keeps_no_items(_table: &mut Table, outcome: &Outcome) -> bool {
+    outcome.items.len() == 0
+        && are_tokens(outcome.tokens.as_slice(), &TOKENS)
+        && outcome.peers.as_slice() == [local(7000)].as_slice()
 }
 
 #[test]
 fn a_lookup_for_peers_keeps_no_items(rt: HostRuntime) -> Result<(), Fail> {
-    let outcome = kept_of(&rt, AskKind::GetPeers)?;
-    assert!(rt; outcome.items.len() == 0);
-    assert!(rt; are_tokens(outcome.tokens.as_slice(), &TOKENS));
-    assert_eq!(rt; outcome.peers.as_slice(), [local(7000)].as_slice());
+    let link = three_answers(rt.alloc());
+    assert!(rt; gives(&rt, &[1, 2, 3], 1, AskKind::GetPeers, link, keeps_no_items)?);
     Ok(())
+}
+
+fn keeps_contacts_alone(_table: &mut Table, outcome: &Outcome) -> bool {
+    outcome.items.len() == 0
+        && outcome.tokens.len() == 0
+        && outcome.peers.len() == 0
+        && are(outcome.found.as_slice(), &[1, 2, 3])
 }
 
 #[test]
 fn a_lookup_for_contacts_keeps_contacts_alone(rt: HostRuntime) -> Result<(), Fail> {
-    let outcome = kept_of(&rt, AskKind::FindNode)?;
-    assert!(rt; outcome.items.len() == 0 && outcome.tokens.len() == 0 && outcome.peers.len() == 0);
-    let all = [contact(1), contact(2), contact(3)];
-    assert_eq!(rt; outcome.found.as_slice(), all.as_slice());
+    let link = three_answers(rt.alloc());
+    assert!(rt;
+        gives(
+            &rt,
+            &[1, 2, 3],
+            1,
+            AskKind::FindNode,
+            link,
+            keeps_contacts_alone
+        )?
+    );
     Ok(())
 }

@@ -3,11 +3,11 @@
 ghost use Rattle.std.specs.Prelude.{◌≡◌};
 ghost use Rattle.lookup_run.specs.Lookup.{IsWithinLimits};
 
-use crate::tests::{OWN, setting, table_of};
+use crate::tests::together::look_together;
+use crate::tests::{OWN, look_alone, setting};
 use claim_book::{Cause, Entry};
-use id_puzzles::{Sha1Check, Words};
-use lookup_run::{AskKind, LookSetting, Outcome, look_up, look_up_alone};
-use seal_tags::GroupSeal;
+use id_puzzles::Sha1Check;
+use lookup_run::{AskKind, LookSetting, Outcome};
 use std::alloc::Global;
 use std::hash::RandomState;
 use std::sync::Wait;
@@ -79,13 +79,8 @@ fn asked(
     hasher: RandomState,
 ) -> Result<Option<Cause>, Fail> {
     let mut link = link_with(alloc, bytes, 10, 1, &[])?;
-    let table = table_of(alloc, OWN, &[1])?;
     let look = sealed_or_not(sealed);
-    let mut words = Words::new(&[0; 32], 5);
-    let seal = GroupSeal::new([0; 32]);
-    let (_table, ended) = look_up_alone(
-        alloc, &mut link, &mut words, table, &look, &Sha1Check, &seal, hasher,
-    );
+    let (_table, ended) = look_alone(alloc, &[1], &look, &mut link, hasher)?;
     match ended {
         Ok(outcome) => Ok(cause_in(&outcome)),
         Err(_) => Err(Fail::new("it ended early")),
@@ -149,13 +144,8 @@ fn asked_together<R: Threads + Wait + Sync>(
     hasher: RandomState,
 ) -> Result<Option<Cause>, Fail> {
     let mut link = link_with(alloc, bytes, 10, 1, &[])?;
-    let table = table_of(alloc, OWN, &[1])?;
     let look = sealed_or_not(true);
-    let mut words = Words::new(&[0; 32], 5);
-    let seal = GroupSeal::new([0; 32]);
-    let (_table, ended) = look_up(
-        rt, alloc, &mut link, &mut words, table, &look, &Sha1Check, &seal, hasher,
-    );
+    let (_table, ended) = look_together(rt, alloc, &[1], &look, &mut link, &Sha1Check, hasher)?;
     match ended {
         Ok(outcome) => Ok(cause_in(&outcome)),
         Err(_) => Err(Fail::new("it ended early")),

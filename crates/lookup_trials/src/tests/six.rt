@@ -2,13 +2,13 @@
 ghost use Rattle.std.specs.Prelude.{◌≡◌};
 ghost use Rattle.lookup_run.specs.Lookup.{IsWithinLimits};
 
-use super::{OWN, setting, table_in};
+use super::together::look_together;
+use super::{OWN, look_alone, setting};
 use contact_table::Table;
 use fake_net::ScriptLink;
-use id_puzzles::{Sha1Check, Words};
+use id_puzzles::Sha1Check;
 use kad_base::{Family, NoMemory};
-use lookup_run::{AskKind, LookFault, LookSetting, Outcome, look_up, look_up_alone};
-use seal_tags::GroupSeal;
+use lookup_run::{AskKind, LookFault, LookSetting, Outcome};
 use std::alloc::Global;
 use std::hash::RandomState;
 use std::random::RandomSource;
@@ -45,20 +45,13 @@ fn play<R: AllocGlobal + RandomSource + Threads + Wait + Sync>(
     at_once: bool,
 ) -> Result<(Table, Result<Outcome, LookFault>), Fail> {
     let alloc = rt.alloc();
-    let table = table_in(alloc, OWN, Family::Six, &[1, 2])?;
     let look = in_six();
-    let mut words = Words::new(&[0; 32], 5);
-    let seal = GroupSeal::new([0; 32]);
     let hasher = RandomState::new(rt)?;
     let mut link = four_answers(alloc)?;
     if at_once {
-        return Ok(look_up(
-            rt, alloc, &mut link, &mut words, table, &look, &Sha1Check, &seal, hasher,
-        ));
+        return look_together(rt, alloc, &[1, 2], &look, &mut link, &Sha1Check, hasher);
     }
-    Ok(look_up_alone(
-        alloc, &mut link, &mut words, table, &look, &Sha1Check, &seal, hasher,
-    ))
+    look_alone(alloc, &[1, 2], &look, &mut link, hasher)
 }
 
 /// Whether it finds the four, and has asked each once.

@@ -1,13 +1,13 @@
 //! Whole lookups whose paths settle at once.
 ghost use Rattle.std.specs.Prelude.{◌≤◌};
+ghost use Rattle.lookup_run.specs.Lookup.{IsWithinLimits};
 
-use super::{OWN, setting, table_of};
-use bucket_tree::Gone;
-use contact_table::{Table, TableCall, TableReply};
+use super::{OWN, drops, is_found, look_alone, setting, table_in};
+use contact_table::Table;
 use fake_net::ScriptLink;
 use id_puzzles::{Sha1Check, Words};
-use kad_base::{NoMemory, Serial};
-use lookup_run::{AskKind, LookFault, Outcome, look_up, look_up_alone};
+use kad_base::NoMemory;
+use lookup_run::{AskKind, LookFault, LookSetting, Outcome, look_up};
 use path_worker::PacedCheck;
 use seal_tags::GroupSeal;
 use std::alloc::Global;
@@ -16,7 +16,28 @@ use std::random::RandomSource;
 use std::sync::Wait;
 use std::test::Fail;
 use std::thread::Threads;
-use trial_kit::{Meeting, Reply, contact, failing_link, link};
+use trial_kit::{Meeting, Reply, failing_link, link};
+
+/// How a lookup of this setting whose paths settle at once ends over the link, from a table that was told these contacts of its
+/// network, and the table that it leaves. A call of a lookup is dear to prove, so this function alone makes this one.
+pub(crate) fn look_together<R: Threads + Wait + Sync, C: PacedCheck + Sync>(
+    rt: &R,
+    alloc: Global,
+    contacts: &[u8],
+    look: &LookSetting,
+    link: &mut ScriptLink,
+    check: &C,
+    hasher: RandomState,
+) -> Result<(Table, Result<Outcome, LookFault>), Fail>
+    requires { IsWithinLimits look.now }
+{
+    let table = table_in(alloc, look.own, look.family, contacts)?;
+    let mut words = Words::new(&[0; 32], 5);
+    let seal = GroupSeal::new([0; 32]);
+    Ok(look_up(
+        rt, alloc, link, &mut words, table, look, check, &seal, hasher,
+    ))
+}
 
 /// What a lookup from these contacts gives over the link, and the table that it leaves.
 fn play<R: Threads + Wait + Sync, C: PacedCheck + Sync>(
@@ -31,14 +52,8 @@ fn play<R: Threads + Wait + Sync, C: PacedCheck + Sync>(
     requires some { 1 ≤ paths }
     requires few { paths ≤ 8 }
 {
-    let table = table_of(alloc, OWN, contacts)?;
     let look = setting(OWN, paths, AskKind::FindNode);
-    let mut words = Words::new(&[0; 32], 5);
-    let seal = GroupSeal::new([0; 32]);
-    let (table, ended) = look_up(
-        rt, alloc, link, &mut words, table, &look, check, &seal, hasher,
-    );
-    Ok((table, ended))
+    look_together(rt, alloc, contacts, &look, link, check, hasher)
 }
 
 /// Contacts 1 and 2 answer at moment 10, and name these.
@@ -52,19 +67,54 @@ fn two_answers(alloc: Global, first: u8, second: u8) -> Result<ScriptLink, NoMem
     link(alloc, &replies)
 }
 
+/// Whether a trial of what such a lookup gives holds, however it ended. A function that owns an outcome is dear to prove, so
+/// this one and the next alone do.
+fn gives<
+    R: AllocGlobal + RandomSource + Threads + Wait + Sync,
+    C: PacedCheck + Sync,
+    F: FnOnce(&mut Table, &Result<Outcome, LookFault>) -> bool,
+>(
+    rt: &R,
+    contacts: &[u8],
+    paths: u8,
+    link: Result<ScriptLink, NoMemory>,
+    check: &C,
+    trial: F,
+) -> Result<bool, Fail>
+    requires some { 1 ≤ paths }
+    requires few { paths ≤ 8 }
+    requires callable { F.IsAlwaysCallable trial }
+{
+    let hasher = RandomState::new(rt)?;
+    let mut link = link?;
+    let (mut table, ended) = play(rt, rt.alloc(), contacts, paths, &mut link, check, hasher)?;
+    Ok(trial(&mut table, &ended))
+}
+
+/// Whether these contacts were found, and so many asked.
+fn finds(ended: &Result<Outcome, LookFault>, numbers: &[u8], asked: u32) -> bool {
+    match ended {
+        Ok(outcome) => is_found(outcome, numbers, asked),
+        Err(_) => false,
+    }
+}
+
+fn finds_four(_table: &mut Table, ended: &Result<Outcome, LookFault>) -> bool {
+    finds(ended, &[1, 2, 3, 4], 4)
+}
+
 /// Two paths whose answers come at one moment settle them at once: each check meets the other.
 #[test]
 fn two_checks_run_at_once(rt: HostRuntime) -> Result<(), Fail> {
     let meeting = Meeting::new(3, 2);
-    let hasher = RandomState::new(&rt)?;
-    let mut link = two_answers(rt.alloc(), 3, 4)?;
-    let (_table, result) = play(&rt, rt.alloc(), &[1, 2], 2, &mut link, &meeting, hasher)?;
-    let (outcome, asked) = found(result)?;
-    let all = [contact(1), contact(2), contact(3), contact(4)];
-    assert_eq!(rt; outcome.found.as_slice(), all.as_slice());
-    assert_eq!(rt; asked, 4);
+    let link = two_answers(rt.alloc(), 3, 4);
+    assert!(rt; gives(&rt, &[1, 2], 2, link, &meeting, finds_four)?);
     assert!(rt; meeting.is_met());
     Ok(())
+}
+
+fn ends_in_any_way(_table: &mut Table, _ended: &Result<Outcome, LookFault>) -> bool {
+    true
 }
 
 /// Whether the checks of these contacts, as many as `count` from `first` on, meet in a lookup on
@@ -76,11 +126,9 @@ fn meet_on_eight_paths<R: AllocGlobal + RandomSource + Threads + Wait + Sync>(
     count: u8,
 ) -> Result<bool, Fail> {
     let meeting = Meeting::new(first, count);
-    let hasher = RandomState::new(rt)?;
-    let mut link = link(rt.alloc(), replies)?;
     let contacts = [1, 2, 3, 4, 5, 6, 7, 8];
-    let (_table, _result) = play(rt, rt.alloc(), &contacts, 8, &mut link, &meeting, hasher)?;
-    Ok(meeting.is_met())
+    let link = link(rt.alloc(), replies);
+    Ok(gives(rt, &contacts, 8, link, &meeting, ends_in_any_way)? && meeting.is_met())
 }
 
 /// All eight answer at one moment, and each names another contact.
@@ -113,54 +161,40 @@ fn the_checks_of_paths_2_and_3_run_at_once(rt: HostRuntime) -> Result<(), Fail> 
     Ok(())
 }
 
-/// What a lookup that ends well found, and how many were asked.
-fn found(ended: Result<Outcome, LookFault>) -> Result<(Outcome, u32), Fail> {
-    match ended {
-        Ok(outcome) => {
-            let asked = outcome.counts.asked;
-            Ok((outcome, asked))
-        }
-        Err(_) => Err(Fail::new("it ended early")),
-    }
+fn finds_three(_table: &mut Table, ended: &Result<Outcome, LookFault>) -> bool {
+    finds(ended, &[1, 2, 3], 3)
 }
 
 /// Both paths learn contact 3, which is asked once, whichever worker was first.
 #[test]
 fn one_of_two_paths_takes_what_both_learn(rt: HostRuntime) -> Result<(), Fail> {
-    let hasher = RandomState::new(&rt)?;
-    let mut link = two_answers(rt.alloc(), 3, 3)?;
-    let (_table, result) = play(&rt, rt.alloc(), &[1, 2], 2, &mut link, &Sha1Check, hasher)?;
-    let (outcome, asked) = found(result)?;
-    let all = [contact(1), contact(2), contact(3)];
-    assert_eq!(rt; outcome.found.as_slice(), all.as_slice());
-    assert_eq!(rt; asked, 3);
+    let link = two_answers(rt.alloc(), 3, 3);
+    assert!(rt; gives(&rt, &[1, 2], 2, link, &Sha1Check, finds_three)?);
     Ok(())
+}
+
+/// How such a lookup ends path by path.
+fn play_alone(alloc: Global, hasher: RandomState) -> Result<Result<Outcome, LookFault>, Fail> {
+    let mut link = two_answers(alloc, 3, 3)?;
+    let look = setting(OWN, 2, AskKind::FindNode);
+    let (_table, ended) = look_alone(alloc, &[1, 2], &look, &mut link, hasher)?;
+    Ok(ended)
 }
 
 /// The same, path by path.
 #[test]
 fn one_of_two_paths_takes_it_alone(rt: HostRuntime) -> Result<(), Fail> {
     let hasher = RandomState::new(&rt)?;
-    let mut link = two_answers(rt.alloc(), 3, 3)?;
-    let table = table_of(rt.alloc(), OWN, &[1, 2])?;
-    let look = setting(OWN, 2, AskKind::FindNode);
-    let mut words = Words::new(&[0; 32], 5);
-    let seal = GroupSeal::new([0; 32]);
-    let (_table, result) = look_up_alone(
-        rt.alloc(),
-        &mut link,
-        &mut words,
-        table,
-        &look,
-        &Sha1Check,
-        &seal,
-        hasher,
-    );
-    let (outcome, asked) = found(result)?;
-    let all = [contact(1), contact(2), contact(3)];
-    assert_eq!(rt; outcome.found.as_slice(), all.as_slice());
-    assert_eq!(rt; asked, 3);
+    let ended = play_alone(rt.alloc(), hasher)?;
+    assert!(rt; finds(&ended, &[1, 2, 3], 3));
     Ok(())
+}
+
+fn finds_seven(table: &mut Table, ended: &Result<Outcome, LookFault>) -> bool {
+    match ended {
+        Ok(outcome) => { outcome.found.len() == 7 && outcome.counts.asked == 8 && drops(table, 8) }
+        Err(_) => false,
+    }
 }
 
 /// Eight paths with a contact each, of which the last is silent and leaves the table at its second
@@ -176,31 +210,21 @@ fn eight_paths_settle_at_once(rt: HostRuntime) -> Result<(), Fail> {
         Reply::of(6, 10),
         Reply::of(7, 10),
     ];
-    let hasher = RandomState::new(&rt)?;
-    let mut link = link(rt.alloc(), &replies)?;
+    let link = link(rt.alloc(), &replies);
     let contacts = [1, 2, 3, 4, 5, 6, 7, 8];
-    let (mut table, result) = play(&rt, rt.alloc(), &contacts, 8, &mut link, &Sha1Check, hasher)?;
-    let (outcome, asked) = found(result)?;
-    assert_eq!(rt; outcome.found.len(), 7);
-    assert_eq!(rt; asked, 8);
-    let contact = contact(8);
-    let reply = table.apply(0, TableCall::Failed { contact });
-    assert_eq!(rt;
-        reply,
-        TableReply::Gone {
-            gone: Gone::Removed
-        }
-    );
+    assert!(rt; gives(&rt, &contacts, 8, link, &Sha1Check, finds_seven)?);
     Ok(())
+}
+
+fn is_link_fault(_table: &mut Table, ended: &Result<Outcome, LookFault>) -> bool {
+    matches!(ended, Err(LookFault::LinkFault))
 }
 
 /// A receive that fails after a round that settled at once.
 #[test]
 fn a_failing_receive_ends_it(rt: HostRuntime) -> Result<(), Fail> {
     let replies = [Reply::naming(1, 10, 3), Reply::naming(2, 10, 4)];
-    let hasher = RandomState::new(&rt)?;
-    let mut link = failing_link(rt.alloc(), &replies, &[], &[2])?;
-    let (_table, result) = play(&rt, rt.alloc(), &[1, 2], 2, &mut link, &Sha1Check, hasher)?;
-    assert!(rt; matches!(result, Err(LookFault::LinkFault)));
+    let link = failing_link(rt.alloc(), &replies, &[], &[2]);
+    assert!(rt; gives(&rt, &[1, 2], 2, link, &Sha1Check, is_link_fault)?);
     Ok(())
 }
