@@ -334,14 +334,29 @@ string_read bytes at p n end s e a d h fits small =
       fits = a.fits;
     }
 
+-- ---- a string whose length is one digit
+
+-- one digit that isn't 0, and none behind it
+one_digit : (bytes : List ℕ) (at : ℕ) → at < length bytes → is_nonzero (get_or bytes at 0) ≡ true → get_or bytes (at + 1) 0 ≡ 58 → ReadsDigits bytes at (get_or bytes at 0 - 48) (at + 1)
+one_digit bytes at h digit colon = record {
+  digits = digits_begin bytes at h digit;
+  ends = λ k. ap is_digit colon;
+}
+
+pub short_read : (bytes : List ℕ) (at next : ℕ) (p : Place) (s : List ℕ) → s ≡ take (next - (at + 2)) (drop (at + 2) bytes) → AwaitsString bytes at p → next ≡ at + 2 + (get_or bytes at 0 - 48) → next ≤ length bytes → is_nonzero (get_or bytes at 0) ≡ true → get_or bytes (at + 1) 0 ≡ 58 → length bytes < 2 ^ 64 → ReadsString bytes at p s next
+short_read bytes at next p s e a to long digit colon small =
+    let n : ℕ = get_or bytes at 0 - 48 in
+    let from : at + 2 ≡ at + 1 + 1 = omega arith in
+    let amount : next - (at + 2) ≡ n = omega (arith, to) in
+    let end : at + 1 + 1 + n ≡ next = omega (arith, to) in
+    subst (ReadsString bytes at p s) end
+    (string_read bytes at p n (at + 1) s (e ∙ ap (λ m. take m (drop (at + 2) bytes)) amount ∙ ap (λ m. take n (drop m bytes)) from) a (one_digit bytes at (omega (arith, to, long)) digit colon) (omega (arith, to, long), colon) (omega (arith, to, long)) small)
+
 -- ---- a string of six bytes
 
 -- the digit 6, and none behind it
 six_digits : (bytes : List ℕ) (at : ℕ) → at < length bytes → get_or bytes at 0 ≡ 54 → get_or bytes (at + 1) 0 ≡ 58 → ReadsDigits bytes at 6 (at + 1)
-six_digits bytes at h six colon = record {
-  digits = subst (λ n. DigitsSoFar bytes at n (at + 1)) (ap (λ b. b - 48) six) (digits_begin bytes at h (ap is_nonzero six));
-  ends = λ k. ap is_digit colon;
-}
+six_digits bytes at h six colon = subst (λ n. ReadsDigits bytes at n (at + 1)) (ap (λ b. b - 48) six) (one_digit bytes at h (ap is_nonzero six) colon)
 
 pub six_read : (bytes : List ℕ) (at : ℕ) (p : Place) (s : List ℕ) → s ≡ take 6 (drop (at + 2) bytes) → AwaitsString bytes at p → at + 8 ≤ length bytes → get_or bytes at 0 ≡ 54 → get_or bytes (at + 1) 0 ≡ 58 → length bytes < 2 ^ 64 → ReadsString bytes at p s (at + 8)
 six_read bytes at p s e a long six colon small =

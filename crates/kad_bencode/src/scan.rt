@@ -1,5 +1,5 @@
 //! Strings, integers and whole values of bencode where they stand: each call says where it ends, and takes no memory.
-ghost use Rattle.std.specs.Prelude.{◌≡◌, ℕ, suc, ◌+◌, ◌<◌, ◌≤◌, List, [], ◌∷◌, ◌++◌, length, IsTrue, IfOk, IfSome, MatchOption, get_or};
+ghost use Rattle.std.specs.Prelude.{◌≡◌, ℕ, suc, ◌+◌, ◌-◌, ◌<◌, ◌≤◌, List, [], ◌∷◌, ◌++◌, length, IsTrue, IfOk, IfSome, MatchOption, get_or};
 ghost use Rattle.kad_bencode.specs.Spelling.{Fits, text_of};
 ghost use Rattle.kad_bencode.specs.Faults.{Open};
 ghost use Rattle.kad_bencode.specs.declared.value.Value.{Value};
@@ -8,7 +8,8 @@ ghost use Rattle.kad_bencode.specs.Scanning.{Scans, FailsInside, IsAmid, IsBehin
 
 use crate::value::Bad;
 
-/// The string at a place, and where it ends.
+/// The string at a place, and where it ends. Most are short, and are read without a call.
+#[inline(always)]
 pub(crate) fn string_at(bytes: &[u8], at: usize) -> Result<(&[u8], usize), Bad>
     requires { at ≤ length bytes.now }
     ensures moves { IfOk result (λ x. (at < x.1) × (x.1 ≤ length bytes.now)) }
@@ -19,6 +20,21 @@ pub(crate) fn string_at(bytes: &[u8], at: usize) -> Result<(&[u8], usize), Bad>
     if has_six(bytes, at) {
         return Ok((&bytes[at + 2..at + 8], at + 8));
     }
+    match short_at(bytes, at) {
+        Some(next) => Ok((&bytes[at + 2..next], next)),
+        None => any_string_at(bytes, at),
+    }
+}
+
+/// The same of a string of any length.
+#[inline(never)]
+fn any_string_at(bytes: &[u8], at: usize) -> Result<(&[u8], usize), Bad>
+    requires { at ≤ length bytes.now }
+    ensures moves { IfOk result (λ x. (at < x.1) × (x.1 ≤ length bytes.now)) }
+    ensures inside { FailsInside result }
+    ensures reads { (p : Place) → AwaitsString bytes.now at p
+        → Scans bytes.now result (λ x. ReadsString bytes.now at p x.0.now x.1) }
+{
     if has_byte(bytes, at, b'0') {
         if !has_byte(bytes, at + 1, b':') {
             return Err(Bad::NotBencode { at: at + 1 });
@@ -42,6 +58,7 @@ pub(crate) fn string_at(bytes: &[u8], at: usize) -> Result<(&[u8], usize), Bad>
 
 /// Whether a string of six bytes stands at a place, as peers are written (BEP 5). Most strings of a long answer are such,
 /// and where the next one begins needn't be computed from a length that was just read.
+#[inline(always)]
 fn has_six(bytes: &[u8], at: usize) -> bool
     requires { at ≤ length bytes.now }
     ensures long { IsTrue result → at + 8 ≤ length bytes.now }
@@ -55,6 +72,33 @@ fn has_six(bytes: &[u8], at: usize) -> bool
         return false;
     }
     bytes[at + 1] == b':'
+}
+
+/// Where a string at a place ends whose length is one digit and not 0, as that of most keys is. So no digit after it is
+/// looked for.
+#[inline(always)]
+fn short_at(bytes: &[u8], at: usize) -> Option<usize>
+    requires { at ≤ length bytes.now }
+    ensures digit { IfSome result (λ next. next ≡ at + 2 + (get_or bytes.now at 0 - 48)) }
+    ensures nonzero { IfSome result (λ next. IsTrue (is_nonzero (get_or bytes.now at 0))) }
+    ensures colon { IfSome result (λ next. get_or bytes.now (at + 1) 0 ≡ 58) }
+    ensures within { IfSome result (λ next. (at + 2 < next) × (next ≤ length bytes.now)) }
+{
+    if bytes.len() - at < 2 {
+        return None;
+    }
+    let digit = bytes[at];
+    if digit < b'1' || digit > b'9' {
+        return None;
+    }
+    if bytes[at + 1] != b':' {
+        return None;
+    }
+    let next = at + 2 + (digit - b'0') as usize;
+    if next > bytes.len() {
+        return None;
+    }
+    Some(next)
 }
 
 /// The integer at a place, where its `i` stands, and where it ends.
