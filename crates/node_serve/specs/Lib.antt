@@ -5,6 +5,7 @@ pub mod Calls
 pub mod Gains
 pub mod Gathered
 pub mod Holding
+pub mod Lasting
 pub mod NodeState
 pub mod Queries
 pub mod Receives

@@ -1,12 +1,12 @@
 -- The receive calls of a node that serves: each query among the datagrams which came was answered by the reply that a node owes
 -- it (BEP 5), as the datagrams before had left the node, and nothing else was sent.
-use Rattle.std.specs.Prelude.{◌≡◌, ◌⊎◌, ℕ, zero, suc, ◌+◌, ◌^◌, ◌-◌, ◌<◌, ◌≤◌, min, Bool, true, false, List, [], ◌∷◌, ◌++◌, length, filter}
-use Rattle.kad_base.specs.Limits.{max_wait}
+use Rattle.std.specs.Prelude.{◌≡◌, ◌⊎◌, ℕ, zero, suc, ◌+◌, ◌<◌, ◌≤◌, Bool, true, false, List, [], ◌∷◌, ◌++◌, length, filter}
 use Rattle.kad_base.specs.declared.types.Addr.{Addr}
 use Rattle.kad_base.specs.declared.types.Event.{Event}
 use Rattle.kad_base.specs.declared.types.Event.TheVariants.{Got, Quiet, Sent, Unsent}
 use Rattle.kad_krpc.specs.declared.message.Message.{Message}
 use Rattle.node_serve.specs.AnswerOf.{AnswerOf, EndsEarly}
+use Rattle.node_serve.specs.Lasting.{waits_until}
 use Rattle.node_serve.specs.NodeState.{NodeState}
 use Rattle.node_serve.specs.Queries.{IsSilent}
 use Rattle.node_serve.specs.Sealing.{Tags, sent_form}
@@ -32,10 +32,6 @@ sent_in events = length (filter is_sent events)
 pub record ServeState : Type 0 where
   pub node : NodeState
   pub moment : ℕ
-
--- each waits for a minute after the last moment that was told, or to the last moment that there is
-abbrev pub waits_until : ℕ → ℕ
-waits_until moment = min (moment + max_wait) (2 ^ 64 - 1)
 
 -- What follows a datagram: nothing where no reply is owed, and the node stays as it was; else its reply was sent to its
 -- source, or the link refused it; a sealed node sends it with the tag that its seal gives.

@@ -10,7 +10,7 @@ use Rattle.kad_base.proofs.Grown.{grows_then, grows_none}
 use Rattle.serve_batches.specs.declared.place.Place.{Place}
 use Rattle.serve_batches.specs.Ring.{ring, behind, in_order}
 use Rattle.serve_batches.proofs.Rings.{ring_within, length_in_order}
-use Rattle.node_serve.specs.Receives.{waits_until}
+use Rattle.node_serve.specs.Lasting.{waits_until}
 use Rattle.serve_batches.specs.Batches.{Datagram, quiet, full, IsCutOff, max_batch, receives_of, waits_after}
 use Rattle.serve_batches.specs.Crew.{slots_of, datagrams_of, batch_datagrams, slot_at, no_slot, no_datagram, HasSlots, AreRoomy, SameCrew, PutAt, IsReceived}
 use Rattle.serve_batches.specs.Slots.{datagram_in}

@@ -14,7 +14,8 @@ use Rattle.item_store.specs.Items.{Held as HeldItem}
 use Rattle.serve_batches.specs.Deal.{dealt}
 use Rattle.serve_batches.specs.Ring.{ring}
 use Rattle.serve_batches.proofs.Rings.{length_in_order}
-use Rattle.node_serve.specs.Receives.{got_in, sent_in, waits_until}
+use Rattle.node_serve.specs.Lasting.{waits_until}
+use Rattle.node_serve.specs.Receives.{got_in, sent_in}
 use Rattle.node_serve.specs.Sealing.{Tags}
 use Rattle.node_serve.specs.declared.service.ServeFault.{ServeFault}
 use Rattle.node_serve.specs.declared.setting.ServeSetting.{ServeSetting}

@@ -8,7 +8,8 @@ use Rattle.kad_base.specs.declared.types.Event.TheVariants.{Got, Quiet}
 use Rattle.serve_batches.specs.Deal.{dealt}
 use Rattle.node_serve.specs.Calls.{Did}
 use Rattle.node_serve.specs.Queries.{IsSilent}
-use Rattle.node_serve.specs.Receives.{tried, waits_until}
+use Rattle.node_serve.specs.Lasting.{waits_until}
+use Rattle.node_serve.specs.Receives.{tried}
 use Rattle.node_serve.specs.Sealing.{Tags}
 use Rattle.node_serve.specs.declared.setting.ServeSetting.{ServeSetting}
 use Rattle.serve_crew.specs.Answered.{IsReply}
