@@ -24,20 +24,20 @@ pub record RespondsWith (tag_of : Tags) (s : NodeState) (from : Addr) (bytes : L
   pub none_got : got_in events ≡ 0
   pub sent_are : sent ≡ sent_in events
 
--- one receive call, and what it adds to the counts
-pub record ReceivesOne (tag_of : Tags) (s t : Server) (events : List Event) : Type 0 where
-  pub serves : ServesOne tag_of (serve_state s) events (serve_state t)
+-- one receive call of a service with this end, and what it adds to the counts
+pub record ReceivesOne (tag_of : Tags) (limit : Option ℕ) (s t : Server) (events : List Event) : Type 0 where
+  pub serves : ServesOne tag_of limit (serve_state s) events (serve_state t)
   pub received_are : t.received ≡ s.received + got_in events
   pub replied_are : t.replied ≡ s.replied + sent_in events
 
 -- so many of them
-pub record ReceivesAll (tag_of : Tags) (receives : ℕ) (s t : Server) (events : List Event) : Type 0 where
-  pub serves : Serves tag_of receives (serve_state s) events (serve_state t)
+pub record ReceivesAll (tag_of : Tags) (limit : Option ℕ) (receives : ℕ) (s t : Server) (events : List Event) : Type 0 where
+  pub serves : Serves tag_of limit receives (serve_state s) events (serve_state t)
   pub received_are : t.received ≡ s.received + got_in events
   pub replied_are : t.replied ≡ s.replied + sent_in events
 
 -- how one ends that isn't made to its end: nothing came, since the link failed; or a query, for whose answer there was no
 -- memory
-abbrev pub Stops : ServeFault → ServeState → Option (List Event) → Option (List Event) → Type 0
-Stops LinkFault s told told' = Grows told told' (λ es. es ≡ [])
-Stops NoMemory s told told' = Grows told told' (Unanswered s)
+abbrev pub Stops : Option ℕ → ServeFault → ServeState → Option (List Event) → Option (List Event) → Type 0
+Stops limit LinkFault s told told' = Grows told told' (λ es. es ≡ [])
+Stops limit NoMemory s told told' = Grows told told' (Unanswered limit s)

@@ -99,6 +99,15 @@ impl Node {
         }
     }
 
+    /// Its routing table, as the queries that it answered left it. All else is let go.
+    pub fn into_table(self) -> Table
+        ensures { result ≡ self.table }
+    {
+        let Node { held, .. } = self;
+        let Own { table, .. } = held;
+        table
+    }
+
     /// Has the tokens keep the secrets of the epoch of this moment, so that no query of it draws them.
     fn renew_tokens(&mut self, at: u64)
         ensures { self.new ≡ self.old }

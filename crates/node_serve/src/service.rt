@@ -1,13 +1,16 @@
 //! The receive calls of a node that serves on a link, and the replies to what came.
-ghost use Rattle.std.specs.Prelude.{◌≡◌, ◌≢◌, ◌≤◌, ◌<◌, ◌+◌, ◌^◌, [], ◌∷◌, length, IfOk, OnOk, OnErr, IfErr};
+ghost use Rattle.std.specs.Prelude.{◌≡◌, ◌≢◌, ◌≤◌, ◌<◌, ◌+◌, ◌^◌, [], ◌∷◌, false, length, IfOk, OnOk, OnErr, IfErr};
 ghost use Rattle.kad_base.specs.Failing.{FailsLast};
 ghost use Rattle.kad_base.specs.Outside.{Grows, Rose};
 ghost use Rattle.node_serve.specs.AnswerOf.{EndsEarly};
+ghost use Rattle.node_serve.specs.Lasting.{is_over};
 ghost use Rattle.node_serve.specs.Receives.{ServesAll, ServesSome, tried};
 ghost use Rattle.node_serve.specs.Responded.{serve_state, RespondsWith, ReceivesOne, Stops};
 
+use crate::lasting::{Lasting, end_of, is_over, waits_to};
 use crate::node::{Answered, Node};
-use kad_base::limits::{MAX_DATAGRAM, MAX_WAIT, RECEIVE_ROOM};
+use contact_table::Table;
+use kad_base::limits::{MAX_DATAGRAM, RECEIVE_ROOM};
 use kad_base::{Addr, Came, Link, NoMemory};
 use seal_tags::Seal;
 use thiserror::Error;
@@ -68,6 +71,7 @@ fn answer_one<L: Link, G: Seal>(
     ensures ok { IfOk result (λ sent. Grows (L.told link.old) (L.told link.new)
         (RespondsWith (G.tag_of seal.now) node.old from bytes.now at sent node.new)) }
     ensures err { OnErr result (EndsEarly node.old from bytes.now at node.new) }
+    ensures table { OnErr result (node.new.table ≡ node.old.table) }
     ensures still { OnErr result (link.new ≡ link.old) }
     ensures recv_faults { L.recv_faults link.new ≡ L.recv_faults link.old }
     ensures kept { L.kept link.new ≡ L.kept link.old }
@@ -79,14 +83,16 @@ fn answer_one<L: Link, G: Seal>(
     }
 }
 
-/// Makes one receive call, and answers the datagram that came.
+/// Makes one receive call of a service with this end, which isn't over, and answers the datagram that came.
 fn receive<L: Link, G: Seal>(
     link: &mut L,
     server: &mut Server,
     seal: &G,
+    end: Option<u64>,
     room: &mut [u8],
     out: &mut [u8; MAX_DATAGRAM],
 ) -> Result<(), ServeFault>
+    requires in_time { is_over end server.old.moment ≡ false }
     requires room { length room.old ≡ 4097 }
     requires few { server.old.received + 1 < 2 ^ 32 }
     requires fewer { server.old.replied ≤ server.old.received }
@@ -94,9 +100,10 @@ fn receive<L: Link, G: Seal>(
     ensures few { OnOk result (server.new.received ≤ server.old.received + 1) }
     ensures fewer { OnOk result (server.new.replied ≤ server.new.received) }
     ensures ok { OnOk result (Grows (L.told link.old) (L.told link.new)
-        (ReceivesOne (G.tag_of seal.now) server.old server.new)) }
-    ensures stops { IfErr result (λ fault. Stops fault (serve_state server.old)
+        (ReceivesOne (G.tag_of seal.now) end server.old server.new)) }
+    ensures stops { IfErr result (λ fault. Stops end fault (serve_state server.old)
         (L.told link.old) (L.told link.new)) }
+    ensures table { OnErr result (server.new.node.table ≡ server.old.node.table) }
     ensures link_fault { result ≡ Err ServeFault.LinkFault
         → Rose (L.recv_faults link.old) (L.recv_faults link.new) }
     ensures last { result ≡ Err ServeFault.LinkFault
@@ -106,7 +113,7 @@ fn receive<L: Link, G: Seal>(
         → L.recv_faults link.new ≡ L.recv_faults link.old }
     ensures kept { L.kept link.new ≡ L.kept link.old }
 {
-    let until = server.moment.saturating_add(MAX_WAIT);
+    let until = waits_to(end, server.moment);
     match link.recv(room, until) {
         Ok(Came::Packet { from, len, at }) => {
             match answer_one(link, &mut server.node, seal, from, &room[..len], at, out) {
@@ -127,30 +134,48 @@ fn receive<L: Link, G: Seal>(
     }
 }
 
-/// Serves from the moment `began` on, in milliseconds: makes that many receive calls on the link, each of which waits for a
-/// minute, and answers the queries that come, a sealed node under the tags of the seal. Where the link refuses a reply it
-/// goes on.
+/// What is left of a server: its table, and how much it served.
+fn left_by(server: Server) -> (Table, ServeCounts)
+    ensures table { result.0 ≡ server.node.table }
+    ensures received { result.1.received ≡ server.received }
+    ensures replied { result.1.replied ≡ server.replied }
+{
+    let Server {
+        node,
+        received,
+        replied,
+        ..
+    } = server;
+    (node.into_table(), ServeCounts { received, replied })
+}
+
+/// Serves from the moment `began` on, in milliseconds, until as many receive calls were made as it lasts, or until a moment is
+/// told that is at its end by time or behind it. A receive call waits for a minute, but to that end at most. It answers the
+/// queries that come, a sealed node under the tags of the seal. Where the link refuses a reply it goes on. The table comes
+/// back as the queries left it.
 pub fn serve_loop<L: Link, G: Seal>(
     link: &mut L,
     node: Node,
     seal: &G,
     began: u64,
-    receives: u32,
-) -> Result<ServeCounts, ServeFault>
-    ensures ok { IfOk result (λ counts. Grows (L.told link.old) (L.told link.new)
-        (ServesAll (G.tag_of seal.now) (record { node = node; moment = began }) receives
-        counts.received counts.replied)) }
-    ensures begun { OnErr result (Grows (L.told link.old) (L.told link.new)
-        (ServesSome (G.tag_of seal.now) (record { node = node; moment = began }) receives)) }
-    ensures link_fault { result ≡ Err ServeFault.LinkFault
+    lasting: Lasting,
+) -> (Table, Result<ServeCounts, ServeFault>)
+    ensures ok { IfOk result.1 (λ counts. Grows (L.told link.old) (L.told link.new)
+        (ServesAll (G.tag_of seal.now) (record { node = node; moment = began }) lasting
+        result.0 counts.received counts.replied)) }
+    ensures begun { OnErr result.1 (Grows (L.told link.old) (L.told link.new)
+        (ServesSome (G.tag_of seal.now) (record { node = node; moment = began }) lasting
+        result.0)) }
+    ensures link_fault { result.1 ≡ Err ServeFault.LinkFault
         → Rose (L.recv_faults link.old) (L.recv_faults link.new) }
-    ensures last { result ≡ Err ServeFault.LinkFault
+    ensures last { result.1 ≡ Err ServeFault.LinkFault
         → FailsLast L.told L.recv_faults link.old link.new }
     ensures recv_faults { L.recv_faults link.old ≤ L.recv_faults link.new }
-    ensures well { result ≢ Err ServeFault.LinkFault
+    ensures well { result.1 ≢ Err ServeFault.LinkFault
         → L.recv_faults link.new ≡ L.recv_faults link.old }
     ensures kept { L.kept link.new ≡ L.kept link.old }
 {
+    let end = end_of(began, lasting.minutes);
     let mut server = Server {
         node,
         moment: began,
@@ -159,14 +184,16 @@ pub fn serve_loop<L: Link, G: Seal>(
     };
     let mut room = [0u8; RECEIVE_ROOM];
     let mut out = [0u8; MAX_DATAGRAM];
-    for i in 0..receives {
-        match receive(link, &mut server, seal, &mut room, &mut out) {
+    for i in 0..lasting.receives {
+        if is_over(end, server.moment) {
+            let (table, counts) = left_by(server);
+            return (table, Ok(counts));
+        }
+        match receive(link, &mut server, seal, end, &mut room, &mut out) {
             Ok(()) => {}
-            Err(fault) => return Err(fault),
+            Err(fault) => return (server.node.into_table(), Err(fault)),
         }
     }
-    Ok(ServeCounts {
-        received: server.received,
-        replied: server.replied,
-    })
+    let (table, counts) = left_by(server);
+    (table, Ok(counts))
 }
