@@ -31,6 +31,7 @@ kind_words() {
         bytes) echo '64 hex digits' ;;
         hex) echo 'an even number of hex digits, at least two' ;;
         version) echo '4 or 6' ;;
+        yesno) echo 'yes or no' ;;
         address) echo 'an address and port, a.b.c.d:port or [h:h:h:h:h:h:h:h]:port, each h four hex digits' ;;
         *) echo "a number from ${1%-*} to ${1#*-}, without leading zeros" ;;
     esac
@@ -75,6 +76,7 @@ written_out() {
 is_value() {
     case $1 in
         version) [ "$2" = 4 ] || [ "$2" = 6 ] ;;
+        yesno) [ "$2" = yes ] || [ "$2" = no ] ;;
         id) is_hex "$2" 40 ;;
         bytes) is_hex "$2" 64 ;;
         hex) is_hex "$2" $((${#2} / 2 * 2)) ;;

@@ -1,6 +1,6 @@
 -- Words ask for one command.
-use Rattle.std.proofs.Common.{◌≡◌, ℕ, ◌^◌, ◌<◌, Bool, true, List, [], ◌∷◌, Option, Some, None, refl, sym, ap, ◌∙◌, subst, arith, lit<}
-use Rattle.std.specs.Prelude.{bytes_eq, map, nat_lt}
+use Rattle.std.proofs.Common.{◌≡◌, ℕ, ◌^◌, ◌<◌, Bool, true, false, List, [], ◌∷◌, Option, Some, None, refl, sym, ap, ◌∙◌, subst, arith, lit<}
+use Rattle.std.specs.Prelude.{bytes_eq, codes, map, nat_lt}
 use Rattle.std.specs.List.{list_all}
 use Rattle.std.proofs.lemmas.Bool.{and_parts}
 use Rattle.std.proofs.lemmas.Bool.Decides.{nat_tests}
@@ -10,14 +10,14 @@ use Rattle.kad_base.specs.declared.types.Policy.TheVariants as policy
 use Rattle.kad_base.specs.declared.types.Family.{Family}
 use Rattle.kad_base.specs.declared.types.Family.TheVariants.{Four, Six}
 use Rattle.kad_text.specs.Text.{SpellsBytes, SpellsHex, SpellsId, SpellsNumber, version}
-use Rattle.kad_words.specs.Table.{AreLooks, AreSaid, Choice, Entry, FamilyOf, IsLook, IsLookAt, IsLookOf, IsSaid, MayIdOf, MayNumberOf, MaySeedOf, NumberOf, Part, PolicyBy, Says, StandsOf, Values, Word, family_option, key_of, kind_of, kind_word, no_target, parts_of, word_of}
-use Rattle.kad_words.specs.Table.Part.{gives_id, gives_seed, gives_number, may_give_number, says_whether, gives_policy, gives_look, gives_item, gives_looks}
+use Rattle.kad_words.specs.Table.{AreLooks, AreSaid, Choice, Entry, FamilyOf, IsLook, IsLookAt, IsLookOf, IsSaid, MayIdOf, MayNumberOf, MaySeedOf, NumberOf, Part, PolicyBy, Says, StandsOf, Values, Word, family_option, key_of, kind_of, kind_word, no_target, parts_of, word_of, YesOf}
+use Rattle.kad_words.specs.Table.Part.{gives_id, gives_seed, gives_number, may_give_number, gives_yes, says_whether, gives_policy, gives_look, gives_item, gives_looks}
 use Rattle.kad_words.specs.Plain.{CommandOf, IsPlain, pairs_of, values_of}
 use Rattle.kad_words.specs.Fitting.{ends_below}
 use Rattle.kad_words.specs.declared.choice.Kind.{Kind}
-use Rattle.kad_words.specs.declared.choice.Kind.TheVariants.{IpVersion, Number}
+use Rattle.kad_words.specs.declared.choice.Kind.TheVariants.{IpVersion, Number, YesNo}
 use Rattle.kad_words.specs.declared.choice.Need.{Need}
-use Rattle.kad_words.specs.declared.choice.Need.TheVariants.{OrElse}
+use Rattle.kad_words.specs.declared.choice.Need.TheVariants.{OrElse, OrNo}
 use Rattle.kad_words.specs.declared.command.Command.{Command}
 use Rattle.kad_words.specs.declared.command.Command.TheVariants.{Lookup, Serve, Node, Table, Refresh, Mint, Sim}
 use Rattle.kad_words.specs.declared.command.CommandKind.{CommandKind}
@@ -29,7 +29,7 @@ use Rattle.kad_words.specs.declared.command.RefreshWords.{RefreshWords}
 use Rattle.kad_words.specs.declared.command.ServeWords.{ServeWords}
 use Rattle.kad_words.specs.declared.command.SimWords.{SimWords}
 use Rattle.kad_words.specs.declared.command.TableWords.{TableWords}
-use Rattle.kad_words.specs.Values.{FamilyBy, IsGiven, IsGivenOr, MayBeGiven, MayNumberBy, NumberBy}
+use Rattle.kad_words.specs.Values.{FamilyBy, IsGiven, IsGivenOr, MayBeGiven, MayNumberBy, NumberBy, SpellsYes, YesBy}
 use Rattle.kad_words.proofs.Checks.{pairs_are}
 use Rattle.kad_words.proofs.Listing.{one_word}
 use Rattle.kad_text.proofs.OneSpelling.{bytes_once, family_once, hex_once, id_once, number_once}
@@ -94,6 +94,23 @@ family_by_once IpVersion (OrElse d) None x y s t = version_once x y (s ∙ sym t
 family_by_once IpVersion (OrElse d) (Some value) x y s t = family_once value x y s t
 family_by_once kind need o x y s t = absurd s
 
+yes_apart : codes "yes" ≡ codes "no" → ⊥
+yes_apart e = (let same : ◌≡◌ {A = ℕ} 121 110 = cc in omega (arith, same))
+
+spells_once : (text : Word) (x y : Bool) → SpellsYes text x → SpellsYes text y → x ≡ y
+spells_once text true true s t = refl
+spells_once text false false s t = refl
+spells_once text true false s t = absurd (yes_apart (sym s ∙ t))
+spells_once text false true s t = absurd (yes_apart (sym t ∙ s))
+
+said_once : (o : Option Word) (x y : Bool) → IsGivenOr false SpellsYes o x → IsGivenOr false SpellsYes o y → x ≡ y
+said_once None x y s t = s ∙ sym t
+said_once (Some value) x y s t = spells_once value x y s t
+
+yes_once : (kind : Kind) (need : Need) (o : Option Word) (x y : Bool) → YesBy kind need o x → YesBy kind need o y → x ≡ y
+yes_once YesNo OrNo o x y s t = said_once o x y s t
+yes_once kind need o x y s t = absurd s
+
 -- ---- what the words of a command ask for is one
 
 look_family_once : (value : Values) (a b : LookWords) → FamilyOf family_option value a.family → FamilyOf family_option value b.family → a.family ≡ b.family
@@ -137,6 +154,7 @@ data Shape : Type 0 where
   of_seed : Choice → Shape
   of_number : Choice → Shape
   of_may_number : Choice → Shape
+  of_yes : Choice → Shape
   of_whether : Choice → Shape
   of_policy : Shape
   of_look : Choice → Shape
@@ -148,6 +166,7 @@ shape (gives_id c x) = of_id c
 shape (gives_seed c x) = of_seed c
 shape (gives_number c x) = of_number c
 shape (may_give_number c x) = of_may_number c
+shape (gives_yes c x) = of_yes c
 shape (says_whether c x) = of_whether c
 shape (gives_policy x) = of_policy
 shape (gives_look c x) = of_look c
@@ -177,6 +196,10 @@ part_once value (may_give_number c x) (may_give_number d y) e small s t =
     let same : d ≡ c = cc in
     let t' = subst (λ (k : Choice). MayNumberOf k value y) same t in
     let one = may_number_once c.entry.kind small _ x y s t' in cc
+part_once value (gives_yes c x) (gives_yes d y) e small s t =
+    let same : d ≡ c = cc in
+    let t' = subst (λ (k : Choice). YesOf k value y) same t in
+    let one = yes_once c.entry.kind c.entry.need _ x y s t' in cc
 part_once value (says_whether c x) (says_whether d y) e small s t =
     let same : d ≡ c = cc in
     let t' = subst (λ (k : Choice). StandsOf k value y) same t in
@@ -222,15 +245,19 @@ serve_once a b same =
     let bits_is : a.bits ≡ b.bits = cc in
     let policy_is : a.policy ≡ b.policy = cc in
     let receives_is : a.receives ≡ b.receives = cc in
+    let minutes_is : a.minutes ≡ b.minutes = cc in
     let workers_is : a.workers ≡ b.workers = cc in
     let sealed_is : a.sealed ≡ b.sealed = cc in
-    λ i. record { own = own_is i; k = k_is i; bits = bits_is i; policy = policy_is i; receives = receives_is i; workers = workers_is i; sealed = sealed_is i }
+    let table_is : a.table ≡ b.table = cc in
+    λ i. record { own = own_is i; k = k_is i; bits = bits_is i; policy = policy_is i; receives = receives_is i; minutes = minutes_is i; workers = workers_is i; sealed = sealed_is i; table = table_is i }
 
 node_once : (a b : NodeWords) → parts_of (Node a) ≡ parts_of (Node b) → a ≡ b
 node_once a b same =
     let look_is : a.look ≡ b.look = cc in
     let receives_is : a.receives ≡ b.receives = cc in
-    λ i. record { look = look_is i; receives = receives_is i }
+    let minutes_is : a.minutes ≡ b.minutes = cc in
+    let table_is : a.table ≡ b.table = cc in
+    λ i. record { look = look_is i; receives = receives_is i; minutes = minutes_is i; table = table_is i }
 
 table_once : (a b : TableWords) → parts_of (Table a) ≡ parts_of (Table b) → a ≡ b
 table_once a b same =
@@ -244,7 +271,8 @@ refresh_once : (a b : RefreshWords) → parts_of (Refresh a) ≡ parts_of (Refre
 refresh_once a b same =
     let timeout_is : a.timeout ≡ b.timeout = cc in
     let sealed_is : a.sealed ≡ b.sealed = cc in
-    λ i. record { timeout = timeout_is i; sealed = sealed_is i }
+    let all_is : a.all ≡ b.all = cc in
+    λ i. record { timeout = timeout_is i; sealed = sealed_is i; all = all_is i }
 
 mint_once : (a b : MintWords) → parts_of (Mint a) ≡ parts_of (Mint b) → a ≡ b
 mint_once a b same =

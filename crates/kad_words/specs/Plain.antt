@@ -1,5 +1,5 @@
 -- The plain form of a command line, which is this project's own: a command, and then pairs of an option and its value.
-use Rattle.std.specs.Prelude.{◌≡◌, ◌≢◌, ℕ, List, [], ◌∷◌, map, flat_map, bytes_eq, find, option_map, Option, All, IsSome}
+use Rattle.std.specs.Prelude.{◌≡◌, ◌≢◌, ℕ, List, [], ◌∷◌, Bool, map, flat_map, bytes_eq, find, option_map, Option, All, IsSome}
 use Rattle.std.specs.List.{IsDistinct}
 use Rattle.std.specs.Option.{IsSomeAnd}
 use Rattle.kad_base.specs.declared.types.Id.{Id}
@@ -7,10 +7,11 @@ use Rattle.kad_base.specs.declared.types.Addr.{Addr}
 use Rattle.kad_base.specs.declared.types.Family.{Family}
 use Rattle.kad_text.specs.Text.{SpellsAddr, SpellsBytes, SpellsFamily, SpellsHex, SpellsId, SpellsNumber}
 use Rattle.kad_words.specs.Table.{Entry, Says, Values, Word, kind_named, kind_word, option_word, options_of, word_of}
+use Rattle.kad_words.specs.Values.{SpellsYes}
 use Rattle.kad_words.specs.declared.choice.Kind.{Kind}
-use Rattle.kad_words.specs.declared.choice.Kind.TheVariants.{Identifier, Bytes32, AnyBytes, Number, IpVersion, Address}
+use Rattle.kad_words.specs.declared.choice.Kind.TheVariants.{Identifier, Bytes32, AnyBytes, Number, IpVersion, Address, YesNo}
 use Rattle.kad_words.specs.declared.choice.Need.{Need}
-use Rattle.kad_words.specs.declared.choice.Need.TheVariants.{Required, Optional, OrElse}
+use Rattle.kad_words.specs.declared.choice.Need.TheVariants.{Required, Optional, OrElse, OrNo}
 use Rattle.kad_words.specs.declared.command.Command.{Command}
 use Rattle.kad_words.specs.declared.command.CommandKind.{CommandKind}
 
@@ -41,6 +42,7 @@ IsOfKind AnyBytes text = (bytes : List ℕ) × SpellsBytes text bytes
 IsOfKind (Number least most) text = (n : ℕ) × SpellsNumber least most text n
 IsOfKind IpVersion text = (family : Family) × SpellsFamily text family
 IsOfKind Address text = (addr : Addr) × SpellsAddr text addr
+IsOfKind YesNo text = (said : Bool) × SpellsYes text said
 
 -- the option is one of these, and the value is one of its kind
 abbrev pub Belongs : List Entry → Word × Word → Type 0
@@ -57,6 +59,7 @@ abbrev pub IsThere : Need → Option Word → Type 0
 IsThere Required value = IsSome value
 IsThere Optional value = Unit {0}
 IsThere (OrElse default) value = Unit {0}
+IsThere OrNo value = Unit {0}
 
 -- each option that is required has a value
 abbrev pub AreThere : List Entry → List (Word × Word) → Type 0

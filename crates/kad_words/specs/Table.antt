@@ -9,16 +9,16 @@ use Rattle.kad_base.specs.declared.types.Policy.{Policy}
 use Rattle.kad_base.specs.declared.types.Policy.TheVariants as policy
 use Rattle.kad_base.specs.Puzzles.{hash}
 use Rattle.kad_text.specs.Text.{SpellsBytes, SpellsHex, SpellsId}
-use Rattle.kad_words.specs.Values.{FamilyBy, IsGiven, MayBeGiven, MayNumberBy, NumberBy}
+use Rattle.kad_words.specs.Values.{FamilyBy, IsGiven, MayBeGiven, MayNumberBy, NumberBy, YesBy}
 use Rattle.kad_words.specs.declared.command.Command.{Command}
 use Rattle.kad_words.specs.declared.command.Command.TheVariants.{Lookup, Peers, Get, Put, Serve, Node, Table, Refresh, Check, Mint, Sim}
 use Rattle.kad_words.specs.declared.command.CommandKind.{CommandKind}
 use Rattle.kad_words.specs.declared.command.CommandKind.TheVariants as kind
 use Rattle.kad_words.specs.declared.command.LookWords.{LookWords}
 use Rattle.kad_words.specs.declared.choice.Kind.{Kind}
-use Rattle.kad_words.specs.declared.choice.Kind.TheVariants.{Identifier, Bytes32, AnyBytes, Number, IpVersion, Address}
+use Rattle.kad_words.specs.declared.choice.Kind.TheVariants.{Identifier, Bytes32, AnyBytes, Number, IpVersion, Address, YesNo}
 use Rattle.kad_words.specs.declared.choice.Need.{Need}
-use Rattle.kad_words.specs.declared.choice.Need.TheVariants.{Required, Optional, OrElse}
+use Rattle.kad_words.specs.declared.choice.Need.TheVariants.{Required, Optional, OrElse, OrNo}
 
 -- a word, as its bytes
 abbrev pub Word : Type 0
@@ -155,8 +155,18 @@ receives_option = choice (codes "receives") (Number 1 1000000000) (OrElse 100000
 abbrev pub node_receives_option : Choice
 node_receives_option = choice (codes "receives") (Number 0 1000000000) (OrElse 0) (node ∷ [])
 
+-- of a week at most
+abbrev pub minutes_option : Choice
+minutes_option = choice (codes "minutes") (Number 0 10080) (OrElse 0) (serve ∷ node ∷ [])
+
 abbrev pub workers_option : Choice
 workers_option = choice (codes "workers") (Number 1 8) (OrElse 1) (serve ∷ [])
+
+abbrev pub table_option : Choice
+table_option = choice (codes "table") YesNo OrNo (serve ∷ node ∷ [])
+
+abbrev pub all_option : Choice
+all_option = choice (codes "all") YesNo OrNo (refresh ∷ [])
 
 abbrev pub seed_option : Choice
 seed_option = choice (codes "seed") Bytes32 Optional (mint ∷ sim ∷ [])
@@ -173,7 +183,7 @@ hostile_option = choice (codes "hostile") (Number 0 100) (OrElse 0) (sim ∷ [])
 -- all of them
 abbrev pub every_option : List Choice
 every_option = target_option ∷ key_option ∷ value_option ∷ own_option ∷ k_option ∷ paths_option ∷ alpha_option ∷ timeout_option ∷ bits_option ∷ c1_option ∷ c2_option ∷ family_option ∷ bind_option ∷ group_option ∷ announce_option ∷ receives_option
-    ∷ node_receives_option ∷ workers_option ∷ seed_option ∷ tries_option ∷ nodes_option ∷ hostile_option ∷ []
+    ∷ node_receives_option ∷ minutes_option ∷ workers_option ∷ table_option ∷ all_option ∷ seed_option ∷ tries_option ∷ nodes_option ∷ hostile_option ∷ []
 
 -- the options of a command
 abbrev pub options_of : Word → List Entry
@@ -193,7 +203,8 @@ kind_named entries word = option_map (λ (e : Entry). e.kind) (find (λ (e : Ent
 abbrev pub Values : Type 0
 Values = Word → Option Word
 
--- what the values give for an option of each kind: an identifier, a seed, a number, a family, or whether it is given
+-- what the values give for an option of each kind: an identifier, a seed, a number, a family, whether it says yes, or whether
+-- it is given
 abbrev pub MayIdOf : Choice → Values → Option Id → Type 0
 MayIdOf c value id = MayBeGiven SpellsId (value c.entry.name) id
 
@@ -208,6 +219,9 @@ MayNumberOf c value n = MayNumberBy c.entry.kind (value c.entry.name) n
 
 abbrev pub FamilyOf : Choice → Values → Family → Type 0
 FamilyOf c value family = FamilyBy c.entry.kind c.entry.need (value c.entry.name) family
+
+abbrev pub YesOf : Choice → Values → Bool → Type 0
+YesOf c value said = YesBy c.entry.kind c.entry.need (value c.entry.name) said
 
 abbrev pub StandsOf : Choice → Values → Bool → Type 0
 StandsOf c value stands = stands ≡ is_some (value c.entry.name)
@@ -274,13 +288,14 @@ abbrev pub AreLooks : Values → LookWords → Type 0
 AreLooks value look = (look.family ≡ Four) × IsLookAt no_target value look
 
 -- a part of a command, and the option that gives it: an identifier, a seed, a number, a number that may be left out,
--- whether it is given; or a policy, a lookup with the option that names its target, an item and the lookup of its key, or
+-- whether it says yes, whether it is given; or a policy, a lookup with the option that names its target, an item and the lookup of its key, or
 -- lookups whose targets no option names
 pub data Part : Type 0 where
   gives_id : Choice → Option Id → Part
   gives_seed : Choice → Option (List ℕ) → Part
   gives_number : Choice → ℕ → Part
   may_give_number : Choice → Option ℕ → Part
+  gives_yes : Choice → Bool → Part
   says_whether : Choice → Bool → Part
   gives_policy : Policy → Part
   gives_look : Choice → LookWords → Part
@@ -293,6 +308,7 @@ IsSaid value (gives_id c id) = MayIdOf c value id
 IsSaid value (gives_seed c seed) = MaySeedOf c value seed
 IsSaid value (gives_number c n) = NumberOf c value n
 IsSaid value (may_give_number c n) = MayNumberOf c value n
+IsSaid value (gives_yes c said) = YesOf c value said
 IsSaid value (says_whether c stands) = StandsOf c value stands
 IsSaid value (gives_policy policy) = PolicyOf value policy
 IsSaid value (gives_look c look) = IsLook c.entry value look
@@ -311,10 +327,10 @@ parts_of (Peers look announce) = gives_look key_option look ∷ may_give_number 
 parts_of (Get look) = gives_look key_option look ∷ []
 parts_of (Put look item) = gives_item value_option item look ∷ []
 parts_of (Serve words) =
-    gives_id own_option words.own ∷ gives_number k_option words.k ∷ gives_number bits_option words.bits ∷ gives_policy words.policy ∷ gives_number receives_option words.receives ∷ gives_number workers_option words.workers ∷ says_whether group_option words.sealed ∷ []
-parts_of (Node words) = gives_looks words.look ∷ gives_number node_receives_option words.receives ∷ []
+    gives_id own_option words.own ∷ gives_number k_option words.k ∷ gives_number bits_option words.bits ∷ gives_policy words.policy ∷ gives_number receives_option words.receives ∷ gives_number minutes_option words.minutes ∷ gives_number workers_option words.workers ∷ says_whether group_option words.sealed ∷ gives_yes table_option words.table ∷ []
+parts_of (Node words) = gives_looks words.look ∷ gives_number node_receives_option words.receives ∷ gives_number minutes_option words.minutes ∷ gives_yes table_option words.table ∷ []
 parts_of (Table words) = gives_id own_option words.own ∷ gives_number k_option words.k ∷ gives_number bits_option words.bits ∷ gives_policy words.policy ∷ []
-parts_of (Refresh words) = gives_number timeout_option words.timeout ∷ says_whether group_option words.sealed ∷ []
+parts_of (Refresh words) = gives_number timeout_option words.timeout ∷ says_whether group_option words.sealed ∷ gives_yes all_option words.all ∷ []
 parts_of (Check policy) = gives_policy policy ∷ []
 parts_of (Mint words) = gives_seed seed_option words.seed ∷ gives_number c1_option words.c1 ∷ gives_number c2_option words.c2 ∷ gives_number tries_option words.tries ∷ []
 parts_of (Sim words) =

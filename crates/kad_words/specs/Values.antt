@@ -1,11 +1,11 @@
 -- What the value of an option gives, if it is given and if it isn't.
-use Rattle.std.specs.Prelude.{◌≡◌, ℕ, List, Option, Some, None}
+use Rattle.std.specs.Prelude.{◌≡◌, ℕ, List, codes, Bool, true, false, Option, Some, None}
 use Rattle.kad_base.specs.declared.types.Family.{Family}
 use Rattle.kad_text.specs.Text.{SpellsFamily, SpellsNumber, version}
 use Rattle.kad_words.specs.declared.choice.Kind.{Kind}
-use Rattle.kad_words.specs.declared.choice.Kind.TheVariants.{IpVersion, Number}
+use Rattle.kad_words.specs.declared.choice.Kind.TheVariants.{IpVersion, Number, YesNo}
 use Rattle.kad_words.specs.declared.choice.Need.{Need}
-use Rattle.kad_words.specs.declared.choice.Need.TheVariants.{OrElse}
+use Rattle.kad_words.specs.declared.choice.Need.TheVariants.{OrElse, OrNo}
 
 -- the value of an option that is required spells this
 abbrev pub IsGiven : {T : Type 0} → (List ℕ → T → Type 0) → Option (List ℕ) → T → Type 0
@@ -39,3 +39,13 @@ abbrev pub FamilyBy : Kind → Need → Option (List ℕ) → Family → Type 0
 FamilyBy IpVersion (OrElse default) None family = version family ≡ default
 FamilyBy IpVersion (OrElse default) (Some value) family = SpellsFamily value family
 FamilyBy _ _ value family = ⊥
+
+-- the text is `yes`, or `no`
+abbrev pub SpellsYes : List ℕ → Bool → Type 0
+SpellsYes text true = text ≡ codes "yes"
+SpellsYes text false = text ≡ codes "no"
+
+-- whether an option says yes that is `no` by default
+abbrev pub YesBy : Kind → Need → Option (List ℕ) → Bool → Type 0
+YesBy YesNo OrNo value said = IsGivenOr false SpellsYes value said
+YesBy _ _ value said = ⊥

@@ -1,7 +1,8 @@
 //! An option: its name, what its value is, and what holds if it isn't given.
-ghost use Rattle.std.specs.Prelude.{◌≡◌, ◌↔◌, IsTrue, option_map};
+ghost use Rattle.std.specs.Prelude.{◌≡◌, ◌↔◌, Bool, IsTrue, MatchOption, option_map};
 ghost use Rattle.kad_words.specs.Table.{option_word};
 ghost use Rattle.kad_words.specs.Plain.{IsOfKind, IsThere, IsValue};
+ghost use Rattle.kad_words.specs.Values.{SpellsYes};
 
 use kad_text::read::{is_hex, read_addr, read_family, read_hex, read_id, read_number};
 
@@ -20,6 +21,8 @@ pub(crate) enum Kind {
     IpVersion,
     /// An address of IPv4 or IPv6 with its port.
     Address,
+    /// `yes` or `no`.
+    YesNo,
 }
 
 /// What holds if an option isn't given.
@@ -31,6 +34,8 @@ pub(crate) enum Need {
     Optional,
     /// Its number is this.
     OrElse(u32),
+    /// It is `no`.
+    OrNo,
 }
 
 /// An option of a command. Its word is its name after two dashes.
@@ -79,6 +84,19 @@ pub(crate) fn is_of_kind(kind: Kind, text: &str) -> bool
         Kind::Number { least, most } => read_number(text, least, most).is_some(),
         Kind::IpVersion => read_family(text).is_some(),
         Kind::Address => read_addr(text).is_some(),
+        Kind::YesNo => read_yes(text).is_some(),
+    }
+}
+
+/// Reads `yes`, which is true, or `no`.
+pub(crate) fn read_yes(text: &str) -> Option<bool>
+    ensures { MatchOption result ((said : Bool) → ¬ SpellsYes text.now said)
+        (λ said. SpellsYes text.now said) }
+{
+    match text {
+        "yes" => Some(true),
+        "no" => Some(false),
+        _ => None,
     }
 }
 
@@ -88,6 +106,6 @@ pub(crate) fn is_there(need: Need, value: Option<&str>) -> bool
 {
     match need {
         Need::Required => value.is_some(),
-        Need::Optional | Need::OrElse(_) => true,
+        Need::Optional | Need::OrElse(_) | Need::OrNo => true,
     }
 }

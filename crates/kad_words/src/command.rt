@@ -8,11 +8,12 @@ ghost use Rattle.kad_words.specs.declared.command.CommandKind.{CommandKind};
 
 use crate::choice::{Choice, Kind, Need};
 use crate::options::{
-    ALPHA, ANNOUNCE, BIND, BITS, C1, C2, FAMILY, GROUP, HOSTILE, K, KEY, NODE_RECEIVES, NODES, OWN,
-    PATHS, RECEIVES, SEED, TARGET, TIMEOUT, TRIES, VALUE, WORKERS,
+    ALL, ALPHA, ANNOUNCE, BIND, BITS, C1, C2, FAMILY, GROUP, HOSTILE, K, KEY, MINUTES,
+    NODE_RECEIVES, NODES, OWN, PATHS, RECEIVES, SEED, TARGET, TIMEOUT, TRIES, VALUE, WITH_TABLE,
+    WORKERS,
 };
 use crate::values::{
-    family, id, needed_bytes, needed_id, number, policy, port, seed, small, stands,
+    family, id, needed_bytes, needed_id, number, policy, port, says_yes, seed, small, stands,
 };
 use clap::ArgMatches;
 use kad_base::{Bytes, Family, Id, NoMemory, Policy};
@@ -55,7 +56,7 @@ pub enum Command {
     Table {
         words: TableWords,
     },
-    /// Ping the least recently seen contact of each bucket of a saved table, and save what results.
+    /// Ping the least recently seen contact of each bucket of a saved table, or all live ones, and save what results.
     Refresh {
         words: RefreshWords,
     },
@@ -91,7 +92,8 @@ pub struct LookWords {
 }
 
 /// The options of `serve`: the node's own identifier where it is named, Kademlia's k and b, which contacts pass, how many
-/// receive calls are made, how many workers answer, and whether replies carry a group's tag.
+/// receive calls are made, after how many minutes it ends at the latest (0: it doesn't end by time), how many workers
+/// answer, whether replies carry a group's tag, and whether the routing table is printed at the end.
 #[derive(Clone, Copy, Debug, PartialEq, Eq)]
 pub struct ServeWords {
     pub own: Option<Id>,
@@ -99,16 +101,21 @@ pub struct ServeWords {
     pub bits: u8,
     pub policy: Policy,
     pub receives: u32,
+    pub minutes: u32,
     pub workers: u8,
     pub sealed: bool,
+    pub table: bool,
 }
 
-/// The options of `node`: those of its lookups, whose target is 20 zero bytes and whose family is that of IPv4; and how many
-/// receive calls it makes at least.
+/// The options of `node`: those of its lookups, whose target is 20 zero bytes and whose family is that of IPv4; how many
+/// receive calls it makes at least, after how many minutes it ends at the latest once its lookups are over (0: it doesn't
+/// end by time), and whether the routing table is printed at the end.
 #[derive(Clone, Copy, Debug, PartialEq, Eq)]
 pub struct NodeWords {
     pub look: LookWords,
     pub receives: u32,
+    pub minutes: u32,
+    pub table: bool,
 }
 
 /// The options of `table`: the table's own identifier where it is named, Kademlia's k and b, and which contacts pass.
@@ -120,11 +127,13 @@ pub struct TableWords {
     pub policy: Policy,
 }
 
-/// The options of `refresh`: how long to wait for a reply, in milliseconds, and whether a reply has to carry a group's tag.
+/// The options of `refresh`: how long to wait for a reply, in milliseconds, whether a reply has to carry a group's tag, and
+/// whether all live contacts are pinged, not only the first of each bucket.
 #[derive(Clone, Copy, Debug, PartialEq, Eq)]
 pub struct RefreshWords {
     pub timeout: u32,
     pub sealed: bool,
+    pub all: bool,
 }
 
 /// The options of `mint`: the seed where it is named, how many bits each puzzle asks for, and in how many tries.
@@ -196,9 +205,11 @@ static PUT: [Choice; 12] = [
     VALUE, OWN, K, PATHS, ALPHA, TIMEOUT, BITS, C1, C2, FAMILY, BIND, GROUP,
 ];
 
-static SERVE: [Choice; 9] = [OWN, K, BITS, C1, C2, BIND, GROUP, RECEIVES, WORKERS];
+static SERVE: [Choice; 11] = [
+    OWN, K, BITS, C1, C2, BIND, GROUP, RECEIVES, MINUTES, WORKERS, WITH_TABLE,
+];
 
-static NODE: [Choice; 11] = [
+static NODE: [Choice; 13] = [
     OWN,
     K,
     PATHS,
@@ -210,11 +221,13 @@ static NODE: [Choice; 11] = [
     BIND,
     GROUP,
     NODE_RECEIVES,
+    MINUTES,
+    WITH_TABLE,
 ];
 
 static TABLE: [Choice; 5] = [OWN, K, BITS, C1, C2];
 
-static REFRESH: [Choice; 3] = [TIMEOUT, BIND, GROUP];
+static REFRESH: [Choice; 4] = [TIMEOUT, BIND, GROUP, ALL];
 
 static CHECK: [Choice; 2] = [C1, C2];
 
@@ -413,8 +426,10 @@ fn serve(matches: &ArgMatches) -> Command
         bits: small(matches, &BITS),
         policy: policy(matches),
         receives: number(matches, &RECEIVES),
+        minutes: number(matches, &MINUTES),
         workers: small(matches, &WORKERS),
         sealed: stands(matches, &GROUP),
+        table: says_yes(matches, &WITH_TABLE),
     };
     Command::Serve { words }
 }
@@ -427,6 +442,8 @@ fn node(matches: &ArgMatches) -> Command
     let words = NodeWords {
         look: look_at(matches, Id([0; 20]), Family::Four),
         receives: number(matches, &NODE_RECEIVES),
+        minutes: number(matches, &MINUTES),
+        table: says_yes(matches, &WITH_TABLE),
     };
     Command::Node { words }
 }
@@ -453,6 +470,7 @@ fn refresh(matches: &ArgMatches) -> Command
     let words = RefreshWords {
         timeout: number(matches, &TIMEOUT),
         sealed: stands(matches, &GROUP),
+        all: says_yes(matches, &ALL),
     };
     Command::Refresh { words }
 }

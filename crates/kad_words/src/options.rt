@@ -75,7 +75,14 @@ pub(crate) const RECEIVES: Choice = choice!("receives", 1, 1_000_000_000, 1_000_
 /// The same option of `node`, which may want none.
 pub(crate) const NODE_RECEIVES: Choice = choice!("receives", 0, 1_000_000_000, 0);
 
+/// A week at most.
+pub(crate) const MINUTES: Choice = choice!("minutes", 0, 10_080, 0);
+
 pub(crate) const WORKERS: Choice = choice!("workers", 1, 8, 1);
+
+pub(crate) const WITH_TABLE: Choice = choice!("table", YesNo, OrNo);
+
+pub(crate) const ALL: Choice = choice!("all", YesNo, OrNo);
 
 pub(crate) const SEED: Choice = choice!("seed", Bytes32, Optional);
 

@@ -5,9 +5,9 @@ ghost use Rattle.kad_words.specs.Listed.{entry_of};
 ghost use Rattle.kad_words.specs.Table.{c1_option, c2_option, PolicyOf};
 ghost use Rattle.kad_words.specs.Taken.{taken_of};
 ghost use Rattle.kad_words.specs.Fitting.{Fits, ends_below, has_default, is_below};
-ghost use Rattle.kad_words.specs.Values.{FamilyBy, IsGiven, MayBeGiven, MayNumberBy, NumberBy};
+ghost use Rattle.kad_words.specs.Values.{FamilyBy, IsGiven, MayBeGiven, MayNumberBy, NumberBy, YesBy};
 
-use crate::choice::{Choice, Kind, Need};
+use crate::choice::{Choice, Kind, Need, read_yes};
 use crate::options::{C1, C2};
 use clap::ArgMatches;
 use kad_base::{Bytes, Family, Id, NoMemory, Policy};
@@ -97,6 +97,20 @@ pub(crate) fn family(matches: &ArgMatches, choice: &Choice) -> Family
     match matches.get_str(choice.name) {
         Some(text) => read_family(text).unwrap(),
         None => Family::Four,
+    }
+}
+
+/// Whether an option says `yes`.
+pub(crate) fn says_yes(matches: &ArgMatches, choice: &Choice) -> bool
+    requires fits { Fits (entry_of choice.now) (taken_of matches.now choice.now.name.now) }
+    requires kind { choice.now.kind ≡ Kind.YesNo }
+    requires need { choice.now.need ≡ Need.OrNo }
+    ensures { YesBy choice.now.kind choice.now.need
+        (taken_of matches.now choice.now.name.now) result }
+{
+    match matches.get_str(choice.name) {
+        Some(text) => read_yes(text).unwrap(),
+        None => false,
     }
 }
 

@@ -3,8 +3,8 @@
 use kad_base::{Addr, Family, Id, Ip, List, NoMemory, Policy};
 use kad_text::read::read_addr;
 use kad_words::{
-    Command, LookWords, MintWords, NodeWords, ServeWords, SimWords, TableWords, WordsFault,
-    bind_of, group_of, lacks_group, read, takes_link,
+    Command, LookWords, MintWords, NodeWords, RefreshWords, ServeWords, SimWords, TableWords,
+    WordsFault, bind_of, group_of, lacks_group, read, takes_link,
 };
 use std::alloc::{AllocError, Global};
 
@@ -272,49 +272,50 @@ fn words_of_put(rt: HostRuntime) {
 #[test]
 fn words_of_serve(rt: HostRuntime) {
     let puzzled = Policy::Puzzled { c1: 8, c2: 0 };
-    let own = Some(id());
-    for (line, own, k, bits, policy, receives, workers, sealed) in [
-        ("serve", None, 8, 1, Policy::Plain, 1_000_000_000, 1, false),
+    let words = ServeWords {
+        own: None,
+        k: 8,
+        bits: 1,
+        policy: Policy::Plain,
+        receives: 1_000_000_000,
+        minutes: 0,
+        workers: 1,
+        sealed: false,
+        table: false,
+    };
+    for (line, words) in [
+        ("serve", words),
         (
             "serve --receives 1 --c1 8 --k 2 --bits 3 --own ID --bind 0.0.0.0:1",
-            own,
-            2,
-            3,
-            puzzled,
-            1,
-            1,
-            false,
+            ServeWords {
+                own: Some(id()),
+                k: 2,
+                bits: 3,
+                policy: puzzled,
+                receives: 1,
+                ..words
+            },
         ),
         (
-            "serve --group SEED --workers 2 --receives 2",
-            None,
-            8,
-            1,
-            Policy::Plain,
-            2,
-            2,
-            true,
+            "serve --group SEED --workers 2 --receives 2 --table yes",
+            ServeWords {
+                receives: 2,
+                workers: 2,
+                sealed: true,
+                table: true,
+                ..words
+            },
         ),
         (
-            "serve --receives 1000000000 --workers 8",
-            None,
-            8,
-            1,
-            Policy::Plain,
-            1_000_000_000,
-            8,
-            false,
+            "serve --minutes 10080 --receives 1000000000 --workers 8",
+            ServeWords {
+                minutes: 10_080,
+                workers: 8,
+                ..words
+            },
         ),
+        ("serve --table no --minutes 0", words),
     ] {
-        let words = ServeWords {
-            own,
-            k,
-            bits,
-            policy,
-            receives,
-            workers,
-            sealed,
-        };
         assert_eq!(rt;
             read_line(rt.alloc(), line),
             Ok(Command::Serve { words }),
@@ -332,10 +333,16 @@ fn words_of_node(rt: HostRuntime) {
         family: Family::Four,
         ..greatest()
     };
-    for (line, look, receives) in [
-        ("node", look, 0),
-        ("node --receives 0", look, 0),
-        ("node --receives 1000000000", look, 1_000_000_000),
+    for (line, look, receives, minutes, table) in [
+        ("node", look, 0, 0, false),
+        ("node --receives 0 --minutes 0", look, 0, 0, false),
+        (
+            "node --receives 1000000000 --table no",
+            look,
+            1_000_000_000,
+            0,
+            false,
+        ),
         (
             "node --bind [0000:0000:0000:0000:0000:0000:0000:0001]:1 --c2 0 --paths 1",
             LookWords {
@@ -344,14 +351,23 @@ fn words_of_node(rt: HostRuntime) {
                 ..look
             },
             0,
+            0,
+            false,
         ),
         (
-            "node --own ID --k 20 --paths 8 --alpha 4 --timeout 60000 --bits 5 --c1 32 --c2 32 --bind 1.2.3.4:5 --group SEED --receives 1",
+            "node --table yes --own ID --k 20 --paths 8 --alpha 4 --timeout 60000 --bits 5 --c1 32 --c2 32 --bind 1.2.3.4:5 --group SEED --receives 1 --minutes 10080",
             greatest,
             1,
+            10_080,
+            true,
         ),
     ] {
-        let words = NodeWords { look, receives };
+        let words = NodeWords {
+            look,
+            receives,
+            minutes,
+            table,
+        };
         assert_eq!(rt;
             read_line(rt.alloc(), line),
             Ok(Command::Node { words }),
@@ -389,6 +405,26 @@ fn words_of_table_and_check(rt: HostRuntime) {
         assert_eq!(rt;
             read_line(rt.alloc(), line),
             Ok(Command::Check { policy }),
+            "at {line}"
+        );
+    }
+}
+
+#[test]
+fn words_of_refresh(rt: HostRuntime) {
+    for (line, timeout, sealed, all) in [
+        ("refresh", 2000, false, false),
+        ("refresh --all no --timeout 1", 1, false, false),
+        ("refresh --group SEED --all yes", 2000, true, true),
+    ] {
+        let words = RefreshWords {
+            timeout,
+            sealed,
+            all,
+        };
+        assert_eq!(rt;
+            read_line(rt.alloc(), line),
+            Ok(Command::Refresh { words }),
             "at {line}"
         );
     }
@@ -535,6 +571,15 @@ fn words_that_are_refused(rt: HostRuntime) {
         "serve --receives 1000000001",
         "serve --workers 0",
         "serve --workers 9",
+        "serve --minutes 10081",
+        "serve --minutes 00",
+        "serve --minutes 1 --minutes 1",
+        "serve --table maybe",
+        "serve --table Yes",
+        "serve --table ",
+        "serve --table",
+        "serve --table yes --table yes",
+        "serve --all yes",
         "lookup --target ID --workers 1",
         "lookup --target ID --receives 1",
         "serve --paths 1",
@@ -549,6 +594,8 @@ fn words_that_are_refused(rt: HostRuntime) {
         "node --family 4",
         "node --announce 1",
         "node --workers 1",
+        "node --minutes 10081",
+        "node --table n",
         "node --k 0",
         "node --paths 9",
         "node ID",
@@ -558,6 +605,14 @@ fn words_that_are_refused(rt: HostRuntime) {
         "table --bind 127.0.0.1:1",
         "table --k 0",
         "table --family 4",
+        "refresh --all maybe",
+        "refresh --all Yes",
+        "refresh --all ",
+        "refresh --all yesno",
+        "refresh --all yes --all no",
+        "refresh --table yes",
+        "refresh --minutes 1",
+        "table --all yes",
         "check --c2 33",
         "check --k 1",
         "check --group SEED",
