@@ -1,5 +1,6 @@
 pub mod AtOnce
 pub mod FindLaws
 pub mod OneText
+pub mod Saving
 pub mod Serving
 pub mod Severally
