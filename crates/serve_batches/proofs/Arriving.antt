@@ -1,7 +1,8 @@
 -- Datagrams are put into the slots of a crew, one after another, as a batch is received.
-use Rattle.std.proofs.Common.{◌≡◌, ◌≢◌, ℕ, zero, suc, ◌+◌, ◌*◌, ◌<◌, ◌≤◌, List, [], ◌∷◌, ◌++◌, length, map, set, get_or, Option, inl, inr, refl, sym, ap, subst, ◌∙◌, append-nil, arith, All}
+use Rattle.std.proofs.Common.{◌≡◌, ◌≢◌, ℕ, zero, suc, ◌+◌, ◌*◌, ◌<◌, ◌≤◌, List, [], ◌∷◌, ◌++◌, length, map, set, get_or, Bool, true, false, Option, inl, inr, refl, sym, ap, subst, ◌∙◌, append-nil, arith, All}
 use Rattle.std.specs.Prelude.{min}
 use Rattle.std.proofs.lemmas.List.{get_or-map, get_or-set_same, get_or-set_other, length-map, length-set, get_or_default}
+use Rattle.std.proofs.lemmas.List.Elements.{All-nil, All-push, All-same}
 use Rattle.std.proofs.lemmas.Bool.{cases_eq}
 use Rattle.kad_base.specs.declared.types.Event.{Event}
 use Rattle.kad_base.specs.declared.types.Event.TheVariants.{Got, Quiet}
@@ -10,8 +11,8 @@ use Rattle.kad_base.proofs.Grown.{grows_then, grows_none}
 use Rattle.serve_batches.specs.declared.place.Place.{Place}
 use Rattle.serve_batches.specs.Ring.{ring, behind, in_order}
 use Rattle.serve_batches.proofs.Rings.{ring_within, length_in_order}
-use Rattle.node_serve.specs.Lasting.{waits_until}
-use Rattle.serve_batches.specs.Batches.{Datagram, quiet, full, IsCutOff, max_batch, receives_of, waits_after}
+use Rattle.node_serve.specs.Lasting.{is_over, waits_to}
+use Rattle.serve_batches.specs.Batches.{Datagram, IsInTime, quiet, full, over, IsCutOff, max_batch, receives_of, waits_after}
 use Rattle.serve_batches.specs.Crew.{slots_of, datagrams_of, batch_datagrams, slot_at, no_slot, no_datagram, HasSlots, AreRoomy, SameCrew, PutAt, IsReceived}
 use Rattle.serve_batches.specs.Slots.{datagram_in}
 use Rattle.serve_batches.specs.declared.shift.Shift.{Shift}
@@ -135,58 +136,86 @@ module _ (old new : List Shift) (m : ℕ) (len : length new ≡ length old) (put
       ∙ in_order_put no_datagram (length old) (datagrams_of old) (datagrams_of new) m (datagram_in (slot_at new (ring (length old) m))) (omega (arith, l, room)) put.here put.others
 
 -- the receives of a batch so far: where the next datagram goes, until when its receive waits, and what the link told
-pub record Arrived (moment : ℕ) (crew : List Shift) (m : ℕ) (place : Place) (until : ℕ) (told told' : Option (List Event)) : Type 0 where
+pub record Arrived (limit : Option ℕ) (moment : ℕ) (crew : List Shift) (m : ℕ) (place : Place) (until : ℕ) (told told' : Option (List Event)) : Type 0 where
   pub place_is : place ≡ ring (length crew) m
-  pub until_is : until ≡ waits_after (waits_until moment) (batch_datagrams crew m)
-  pub told_are : Grows told told' (λ es. es ≡ receives_of (waits_until moment) (batch_datagrams crew m))
+  pub until_is : until ≡ waits_after (waits_to limit moment) (batch_datagrams crew m)
+  pub told_are : Grows told told' (λ es. es ≡ receives_of (waits_to limit moment) (batch_datagrams crew m))
 
-module _ (moment : ℕ) (old new : List Shift) (m : ℕ) (place : Place) (until : ℕ) (a b c : Option (List Event)) (before : Arrived moment old m place until a b) (same : SameCrew old new) (put : PutAt place old new) where
+-- the datagrams so far came before the end
+abbrev pub AllInTime : Option ℕ → List Shift → ℕ → Type 0
+AllInTime limit crew m = All (IsInTime limit) (batch_datagrams crew m)
+
+module _ (limit : Option ℕ) (moment : ℕ) (old new : List Shift) (m : ℕ) (place : Place) (until : ℕ) (a b c : Option (List Event)) (before : Arrived limit moment old m place until a b) (same : SameCrew old new) (put : PutAt place old new) where
   put_here : PutAt (ring (length old) m) old new
   put_here = subst (λ p. PutAt p old new) before.place_is put
 
+  one_more : place.round < length (slots_of old place.holder) → batch_datagrams new (m + 1) ≡ batch_datagrams old m ++ datagram_in (slot_at new place) ∷ []
+  one_more room =
+      batch_more old new m same.len put_here (subst (λ p. p.round < length (slots_of old p.holder)) before.place_is room)
+      ∙ ap (λ p. batch_datagrams old m ++ datagram_in (slot_at new p) ∷ []) (sym before.place_is)
+
   pub arrived_more : (at : ℕ) (next : Place) → place.round < length (slots_of old place.holder) → next ≡ behind (length old) place → (slot_at new place).at ≡ at
-      → Grows b c (λ es. es ≡ receives_of until (datagram_in (slot_at new place) ∷ [])) → Arrived moment new (m + 1) next at a c
+      → Grows b c (λ es. es ≡ receives_of until (datagram_in (slot_at new place) ∷ [])) → Arrived limit moment new (m + 1) next at a c
   arrived_more at next room is came grows =
       let up : suc m ≡ m + 1 = omega arith in
       let d : Datagram = datagram_in (slot_at new place) in
-      let more : batch_datagrams new (m + 1) ≡ batch_datagrams old m ++ datagram_in (slot_at new place) ∷ [] =
-      batch_more old new m same.len put_here (subst (λ p. p.round < length (slots_of old p.holder)) before.place_is room)
-      ∙ ap (λ p. batch_datagrams old m ++ datagram_in (slot_at new p) ∷ []) (sym before.place_is) in
+      let more : batch_datagrams new (m + 1) ≡ batch_datagrams old m ++ datagram_in (slot_at new place) ∷ [] = one_more room in
       record {
         place_is = is ∙ ap (behind (length old)) before.place_is ∙ ap (ring (length old)) up ∙ ap (λ n. ring n (m + 1)) (sym same.len);
-        until_is = sym came ∙ sym (waits_more (waits_until moment) (batch_datagrams old m) d) ∙ ap (waits_after (waits_until moment)) (sym more);
+        until_is = sym came ∙ sym (waits_more (waits_to limit moment) (batch_datagrams old m) d) ∙ ap (waits_after (waits_to limit moment)) (sym more);
         told_are = grows_then a b c _ _ _ before.told_are grows (λ t u e f.
-            ap (λ l. l ++ u) e ∙ ap (λ l. receives_of (waits_until moment) (batch_datagrams old m) ++ l) f
-            ∙ ap (λ w. receives_of (waits_until moment) (batch_datagrams old m) ++ receives_of w (d ∷ [])) before.until_is
-            ∙ sym (receives_more (waits_until moment) (batch_datagrams old m) d) ∙ ap (receives_of (waits_until moment)) (sym more));
+            ap (λ l. l ++ u) e ∙ ap (λ l. receives_of (waits_to limit moment) (batch_datagrams old m) ++ l) f
+            ∙ ap (λ w. receives_of (waits_to limit moment) (batch_datagrams old m) ++ receives_of w (d ∷ [])) before.until_is
+            ∙ sym (receives_more (waits_to limit moment) (batch_datagrams old m) d) ∙ ap (receives_of (waits_to limit moment)) (sym more));
       }
 
-  pub arrived_quiet : (left at : ℕ) → m < min left max_batch → Grows b c (λ es. es ≡ Quiet until at ∷ []) → Happens a c (IsReceived left moment (record { place = place; came = m; made = m + 1; moment = at }) new)
-  arrived_quiet left at few grows =
+  -- it came before the end, as those before it
+  pub in_time_more : (at : ℕ) → place.round < length (slots_of old place.holder) → (slot_at new place).at ≡ at → is_over limit at ≡ false → AllInTime limit old m → AllInTime limit new (m + 1)
+  in_time_more at room came goes all =
+      All-same (IsInTime limit) (batch_datagrams new (m + 1)) (batch_datagrams old m ++ datagram_in (slot_at new place) ∷ []) (one_more room)
+      (All-push (IsInTime limit) (batch_datagrams old m) (datagram_in (slot_at new place)) all (ap (is_over limit) came ∙ goes))
+
+  -- it came at the end or behind it
+  pub arrived_over : (left at : ℕ) (next : Place) → place.round < length (slots_of old place.holder) → next ≡ behind (length old) place → (slot_at new place).at ≡ at
+      → Grows b c (λ es. es ≡ receives_of until (datagram_in (slot_at new place) ∷ [])) → m < min left max_batch → is_over limit at ≡ true → AllInTime limit old m
+      → Happens a c (IsReceived limit left moment (record { place = next; came = m + 1; made = m + 1; moment = at }) new)
+  arrived_over left at next room is came grows few past all =
+      let h = arrived_more at next room is came grows in
+      let count : length (batch_datagrams new (m + 1)) ≡ m + 1 = length_in_order no_datagram (length new) (datagrams_of new) (m + 1) in
+      happens_these a c (receives_of (waits_to limit moment) (batch_datagrams new (m + 1))) _ h.told_are
+      (over (batch_datagrams old m) (datagram_in (slot_at new place)) (one_more room) (omega (arith, few, count)) all (ap (is_over limit) came ∙ past) refl (sym count) (sym came))
+
+  pub arrived_quiet : (left at : ℕ) → m < min left max_batch → AllInTime limit old m → Grows b c (λ es. es ≡ Quiet until at ∷ []) → Happens a c (IsReceived limit left moment (record { place = place; came = m; made = m + 1; moment = at }) new)
+  arrived_quiet left at few all grows =
       let kept : batch_datagrams new m ≡ batch_datagrams old m = batch_kept old new m same.len put_here in
       let count : length (batch_datagrams new m) ≡ m = length_in_order no_datagram (length new) (datagrams_of new) m in
-      let w : ℕ = waits_until moment in
+      let w : ℕ = waits_to limit moment in
       happens_these a c (receives_of w (batch_datagrams new m) ++ Quiet (waits_after w (batch_datagrams new m)) at ∷ []) _
       (grows_then a b c _ _ _ before.told_are grows (λ t u e f.
       ap (λ l. l ++ u) e ∙ ap (λ l. receives_of w (batch_datagrams old m) ++ l) f
       ∙ ap (λ v. receives_of w (batch_datagrams old m) ++ Quiet v at ∷ []) before.until_is
       ∙ ap (λ ds. receives_of w ds ++ Quiet (waits_after w ds) at ∷ []) (sym kept)))
-      (quiet (omega (arith, few, count)) refl (omega (arith, count)))
+      (quiet (omega (arith, few, count)) (All-same (IsInTime limit) (batch_datagrams new m) (batch_datagrams old m) kept all) refl (omega (arith, count)))
 
-pub arrived_none : (moment : ℕ) (crew : List Shift) (place : Place) (until : ℕ) (a : Option (List Event)) → place ≡ ring (length crew) 0 → until ≡ waits_until moment → Arrived moment crew 0 place until a a
-arrived_none moment crew place until a p u = record { place_is = p; until_is = u; told_are = grows_none a _ refl }
+module _ (limit : Option ℕ) (moment : ℕ) (crew : List Shift) where
+  pub arrived_none : (place : Place) (until : ℕ) (a : Option (List Event)) → place ≡ ring (length crew) 0 → until ≡ waits_to limit moment → Arrived limit moment crew 0 place until a a
+  arrived_none place until a p u = record { place_is = p; until_is = u; told_are = grows_none a _ refl }
 
-pub arrived_cut : (moment : ℕ) (crew : List Shift) (m : ℕ) (place : Place) (until left : ℕ) (a b c : Option (List Event)) → Arrived moment crew m place until a b → m < min left max_batch → Grows b c (λ es. es ≡ []) → Happens a c (IsCutOff left moment)
-arrived_cut moment crew m place until left a b c h few grows =
-    let ds : List Datagram = batch_datagrams crew m in
-    let count : length (batch_datagrams crew m) ≡ m = length_in_order no_datagram (length crew) (datagrams_of crew) m in
-    happens_these a c (receives_of (waits_until moment) ds) _
-    (grows_then a b c _ _ _ h.told_are grows (λ t u e f. ap (λ l. t ++ l) f ∙ append-nil t ∙ e))
-    (record { came = ds; few = omega (arith, few, count); are = refl })
+  pub none_late : AllInTime limit crew 0
+  none_late = All-nil (IsInTime limit)
 
-pub arrived_all : (moment : ℕ) (crew : List Shift) (m : ℕ) (place : Place) (until left : ℕ) (a b : Option (List Event)) → Arrived moment crew m place until a b → m ≡ min left max_batch
-    → Happens a b (IsReceived left moment (record { place = place; came = m; made = m; moment = until }) crew)
-arrived_all moment crew m place until left a b h all =
-    let count : length (batch_datagrams crew m) ≡ m = length_in_order no_datagram (length crew) (datagrams_of crew) m in
-    happens_these a b (receives_of (waits_until moment) (batch_datagrams crew m)) _ h.told_are
-    (full (count ∙ all) refl (sym count) h.until_is)
+  pub arrived_cut : (m : ℕ) (place : Place) (until left : ℕ) (a b c : Option (List Event)) → is_over limit moment ≡ false → AllInTime limit crew m → Arrived limit moment crew m place until a b → m < min left max_batch → Grows b c (λ es. es ≡ [])
+      → Happens a c (IsCutOff limit left moment)
+  arrived_cut m place until left a b c goes all h few grows =
+      let ds : List Datagram = batch_datagrams crew m in
+      let count : length (batch_datagrams crew m) ≡ m = length_in_order no_datagram (length crew) (datagrams_of crew) m in
+      happens_these a c (receives_of (waits_to limit moment) ds) _
+      (grows_then a b c _ _ _ h.told_are grows (λ t u e f. ap (λ l. t ++ l) f ∙ append-nil t ∙ e))
+      (record { goes = goes; came = ds; in_time = all; few = omega (arith, few, count); are = refl })
+
+  pub arrived_all : (m : ℕ) (place : Place) (until left : ℕ) (a b : Option (List Event)) → AllInTime limit crew m → Arrived limit moment crew m place until a b → m ≡ min left max_batch
+      → Happens a b (IsReceived limit left moment (record { place = place; came = m; made = m; moment = until }) crew)
+  arrived_all m place until left a b in_time h all =
+      let count : length (batch_datagrams crew m) ≡ m = length_in_order no_datagram (length crew) (datagrams_of crew) m in
+      happens_these a b (receives_of (waits_to limit moment) (batch_datagrams crew m)) _ h.told_are
+      (full (count ∙ all) in_time refl (sym count) h.until_is)

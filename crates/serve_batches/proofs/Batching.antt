@@ -1,5 +1,5 @@
 -- One batch, and batches one after another.
-use Rattle.std.proofs.Common.{◌≡◌, ℕ, suc, ◌+◌, ◌<◌, ◌≤◌, List, [], ◌∷◌, ◌++◌, length, get_or, Option, inl, inr, refl, sym, ap, subst, ◌∙◌, append-nil, append_assoc, arith, All}
+use Rattle.std.proofs.Common.{◌≡◌, ℕ, suc, ◌+◌, ◌<◌, ◌≤◌, false, List, [], ◌∷◌, ◌++◌, length, get_or, Option, inl, inr, refl, sym, ap, subst, ◌∙◌, append-nil, append_assoc, arith, All}
 use Rattle.std.specs.Prelude.{◌⊎◌, slice_index_or}
 use Rattle.std.specs.List.{flat_map}
 use Rattle.std.proofs.lemmas.Grind.{flat_map-append}
@@ -14,7 +14,7 @@ use Rattle.item_store.specs.Items.{Held as HeldItem}
 use Rattle.serve_batches.specs.Deal.{dealt}
 use Rattle.serve_batches.specs.Ring.{ring}
 use Rattle.serve_batches.proofs.Rings.{length_in_order}
-use Rattle.node_serve.specs.Lasting.{waits_until}
+use Rattle.node_serve.specs.Lasting.{is_over, waits_to}
 use Rattle.node_serve.specs.Receives.{got_in, sent_in}
 use Rattle.node_serve.specs.Sealing.{Tags}
 use Rattle.node_serve.specs.declared.service.ServeFault.{ServeFault}
@@ -22,7 +22,7 @@ use Rattle.node_serve.specs.declared.setting.ServeSetting.{ServeSetting}
 use Rattle.node_serve.proofs.Receiving.{sent_then}
 use Rattle.serve_crew.specs.Hands.{SameHands, Grew}
 use Rattle.serve_crew.proofs.Growing.{grew_none, grew_more, same_none, same_more}
-use Rattle.serve_batches.specs.Batches.{Datagram, Receives, quiet, full, Done, IsDone, IsBatch, IsUnanswered, Batches, receives_of, waits_after, calls_for}
+use Rattle.serve_batches.specs.Batches.{Datagram, Receives, quiet, full, over, Done, IsDone, IsBatch, IsUnanswered, Batches, receives_of, waits_after, calls_for}
 use Rattle.serve_batches.specs.Crew.{SameCrew, CanWork, AllWorked, SendsAll, IsReceived, batch_datagrams, batch_slots, datagrams_of, no_datagram}
 use Rattle.serve_batches.specs.ManyServed.{EndsEarly}
 use Rattle.serve_batches.specs.Serving.{SameRoles, GrewSome, ServesBatch, ServesBatches, StopsServing}
@@ -44,23 +44,26 @@ sent_receives : (until : ℕ) (ds : List Datagram) → sent_in (receives_of unti
 sent_receives until [] = refl
 sent_receives until (d ∷ ds) = sent_receives d.at ds
 
-got_batch : (left moment : ℕ) (ds : List Datagram) (es : List Event) (made end : ℕ) → Receives left moment ds es made end → got_in es ≡ length ds
-got_batch left moment ds es made end (quiet few is count) =
-    let x = got_then (receives_of (waits_until moment) ds) (Quiet (waits_after (waits_until moment) ds) end ∷ []) in
-    let y = got_receives (waits_until moment) ds in
-    let z : got_in (Quiet (waits_after (waits_until moment) ds) end ∷ []) ≡ 0 = refl in
-    let e = ap got_in is in
-    omega (arith, x, y, z, e)
-got_batch left moment ds es made end (full all is count last) = ap got_in is ∙ got_receives (waits_until moment) ds
+module _ (limit : Option ℕ) (left moment : ℕ) (ds : List Datagram) (es : List Event) (made end : ℕ) where
+  got_batch : Receives limit left moment ds es made end → got_in es ≡ length ds
+  got_batch (quiet few all is count) =
+      let x = got_then (receives_of (waits_to limit moment) ds) (Quiet (waits_after (waits_to limit moment) ds) end ∷ []) in
+      let y = got_receives (waits_to limit moment) ds in
+      let z : got_in (Quiet (waits_after (waits_to limit moment) ds) end ∷ []) ≡ 0 = refl in
+      let e = ap got_in is in
+      omega (arith, x, y, z, e)
+  got_batch (full whole all is count last) = ap got_in is ∙ got_receives (waits_to limit moment) ds
+  got_batch (over before late split few all past is count last) = ap got_in is ∙ got_receives (waits_to limit moment) ds
 
-sent_batch : (left moment : ℕ) (ds : List Datagram) (es : List Event) (made end : ℕ) → Receives left moment ds es made end → sent_in es ≡ 0
-sent_batch left moment ds es made end (quiet few is count) =
-    let x = sent_then (receives_of (waits_until moment) ds) (Quiet (waits_after (waits_until moment) ds) end ∷ []) in
-    let y = sent_receives (waits_until moment) ds in
-    let z : sent_in (Quiet (waits_after (waits_until moment) ds) end ∷ []) ≡ 0 = refl in
-    let e = ap sent_in is in
-    omega (arith, x, y, z, e)
-sent_batch left moment ds es made end (full all is count last) = ap sent_in is ∙ sent_receives (waits_until moment) ds
+  sent_batch : Receives limit left moment ds es made end → sent_in es ≡ 0
+  sent_batch (quiet few all is count) =
+      let x = sent_then (receives_of (waits_to limit moment) ds) (Quiet (waits_after (waits_to limit moment) ds) end ∷ []) in
+      let y = sent_receives (waits_to limit moment) ds in
+      let z : sent_in (Quiet (waits_after (waits_to limit moment) ds) end ∷ []) ≡ 0 = refl in
+      let e = ap sent_in is in
+      omega (arith, x, y, z, e)
+  sent_batch (full whole all is count last) = ap sent_in is ∙ sent_receives (waits_to limit moment) ds
+  sent_batch (over before late split few all past is count last) = ap sent_in is ∙ sent_receives (waits_to limit moment) ds
 
 -- ---- the workers
 
@@ -83,15 +86,15 @@ grew_kept old new same w d lt = ([], subst (λ h. Grew (get_or old w d).worker h
 
 -- ---- one batch
 
-pub batch_served : (tag_of : Tags) (s : ServeSetting) (p q : Progress) (b : Received) (sent : ℕ) (old mid new : List Shift) (x y z : Option (List Event)) → 0 < p.left → SameCrew old mid → Answered_batch tag_of s b.came mid new
+pub batch_served : (tag_of : Tags) (limit : Option ℕ) (s : ServeSetting) (p q : Progress) (b : Received) (sent : ℕ) (old mid new : List Shift) (x y z : Option (List Event)) → 0 < p.left → is_over limit p.moment ≡ false → SameCrew old mid → Answered_batch tag_of s b.came mid new
     → q.moment ≡ b.moment → q.left + b.made ≡ p.left → q.received ≡ p.received + b.came → q.replied ≡ p.replied + sent
-    → Happens x y (IsReceived p.left p.moment b mid) → Happens y z (SendsAll (batch_slots new b.came) sent) → Happens x z (ServesBatch tag_of s p q old new)
-batch_served tag_of s p q b sent old mid new x y z some same a moment left received replied got sends =
+    → Happens x y (IsReceived limit p.left p.moment b mid) → Happens y z (SendsAll (batch_slots new b.came) sent) → Happens x z (ServesBatch tag_of limit s p q old new)
+batch_served tag_of limit s p q b sent old mid new x y z some goes same a moment left received replied got sends =
     happens_then x y z _ _ _ got sends (λ t u r k.
     let l = same.len in
     let count : length (batch_datagrams mid b.came) ≡ b.came = length_in_order no_datagram (length mid) (datagrams_of mid) b.came in
-    let g = got_batch p.left p.moment (batch_datagrams mid b.came) t b.made b.moment r in
-    let v = sent_batch p.left p.moment (batch_datagrams mid b.came) t b.made b.moment r in
+    let g = got_batch limit p.left p.moment (batch_datagrams mid b.came) t b.made b.moment r in
+    let v = sent_batch limit p.left p.moment (batch_datagrams mid b.came) t b.made b.moment r in
     let gt = got_then t u in
     let st = sent_then t u in
     let kg = k.none_got in
@@ -100,10 +103,11 @@ batch_served tag_of s p q b sent old mid new x y z some same a moment left recei
       batch = a.batch;
       is = record {
         some = some;
+        goes = goes;
         made = b.made;
         receives = t;
         replies = u;
-        received = subst (λ ds. Receives p.left p.moment ds t b.made q.moment) (sym a.datagrams) (subst (Receives p.left p.moment (batch_datagrams mid b.came) t b.made) (sym moment) r);
+        received = subst (λ ds. Receives limit p.left p.moment ds t b.made q.moment) (sym a.datagrams) (subst (Receives limit p.left p.moment (batch_datagrams mid b.came) t b.made) (sym moment) r);
         replied = a.replies u k.are;
         whole = refl;
         left_are = left;
@@ -117,31 +121,32 @@ batch_served tag_of s p q b sent old mid new x y z some same a moment left recei
       replied_are = omega (arith, replied, v, st, ks);
     })
 
-pub batch_unanswered : (left moment : ℕ) (b : Received) (crew : List Shift) (x y : Option (List Event)) → 0 < left → Happens x y (IsReceived left moment b crew) → Happens x y (λ es. (es ≡ []) ⊎ IsUnanswered left moment es)
-batch_unanswered left moment b crew x y some h = happens_weaker x y _ _ h (λ t r. inr (record { some = some; came = batch_datagrams crew b.came; made = b.made; end = b.moment; received = r }))
+pub batch_unanswered : (limit : Option ℕ) (left moment : ℕ) (b : Received) (crew : List Shift) (x y : Option (List Event)) → 0 < left → is_over limit moment ≡ false → Happens x y (IsReceived limit left moment b crew) → Happens x y (λ es. (es ≡ []) ⊎ IsUnanswered limit left moment es)
+batch_unanswered limit left moment b crew x y some goes h = happens_weaker x y _ _ h (λ t r. inr (record { some = some; goes = goes; came = batch_datagrams crew b.came; made = b.made; end = b.moment; received = r }))
 
 -- ---- all of them
 
-batches_more : (left moment : ℕ) (bs : List (List Done)) (es : List Event) (mid told : ℕ) (b : List Done) (fs : List Event) (left' end : ℕ) → Batches left moment bs es mid told → IsBatch mid told b fs left' end → Batches left moment (bs ++ b ∷ []) (es ++ fs) left' end
-batches_more left moment [] es mid told b fs left' end h one = (
+batches_more : (limit : Option ℕ) (left moment : ℕ) (bs : List (List Done)) (es : List Event) (mid told : ℕ) (b : List Done) (fs : List Event) (left' end : ℕ) → Batches limit left moment bs es mid told → IsBatch limit mid told b fs left' end
+    → Batches limit left moment (bs ++ b ∷ []) (es ++ fs) left' end
+batches_more limit left moment [] es mid told b fs left' end h one = (
   fs,
   left',
   end,
   [],
   ap (λ l. l ++ fs) h.0 ∙ sym (append-nil fs),
-  subst (λ l. IsBatch l moment b fs left' end) h.1 (subst (λ t. IsBatch mid t b fs left' end) h.2 one),
+  subst (λ l. IsBatch limit l moment b fs left' end) h.1 (subst (λ t. IsBatch limit mid t b fs left' end) h.2 one),
   (refl, refl, refl),
 )
-batches_more left moment (x ∷ bs) es mid told b fs left' end h one =
-    (h.0, h.1, h.2, h.3 ++ fs, ap (λ l. l ++ fs) h.4 ∙ append_assoc h.0 h.3 fs, h.5, batches_more h.1 h.2 bs h.3 mid told b fs left' end h.6 one)
+batches_more limit left moment (x ∷ bs) es mid told b fs left' end h one =
+    (h.0, h.1, h.2, h.3 ++ fs, ap (λ l. l ++ fs) h.4 ∙ append_assoc h.0 h.3 fs, h.5, batches_more limit h.1 h.2 bs h.3 mid told b fs left' end h.6 one)
 
 calls_more : (n w : ℕ) (bs : List (List Done)) (b : List Done) → calls_for n w (bs ++ b ∷ []) ≡ calls_for n w bs ++ flat_map (λ (d : Done). d.did) (dealt n w b)
 calls_more n w bs b =
     ap (flat_map (λ (d : Done). d.did)) (flat_map-append (dealt n w) bs (b ∷ []) ∙ ap (λ l. flat_map (dealt n w) bs ++ l) (append-nil (dealt n w b)))
     ∙ flat_map-append (λ (d : Done). d.did) (flat_map (dealt n w) bs) (dealt n w b)
 
-module _ (tag_of : Tags) (s : ServeSetting) where
-  pub served_none : (p : Progress) (crew : List Shift) (a : Option (List Event)) → Happens a a (ServesBatches tag_of s p p crew crew)
+module _ (tag_of : Tags) (limit : Option ℕ) (s : ServeSetting) where
+  pub served_none : (p : Progress) (crew : List Shift) (a : Option (List Event)) → Happens a a (ServesBatches tag_of limit s p p crew crew)
   served_none p crew a =
       happens_none a _ (record {
         batches = [];
@@ -152,8 +157,8 @@ module _ (tag_of : Tags) (s : ServeSetting) where
         replied_are = omega arith;
       })
 
-  pub served_more : (p q r : Progress) (old mid new : List Shift) (a b c : Option (List Event)) → length mid ≡ length old → SameRoles old mid → Happens a b (ServesBatches tag_of s p q old mid) → Happens b c (ServesBatch tag_of s q r mid new)
-      → Happens a c (ServesBatches tag_of s p r old new)
+  pub served_more : (p q r : Progress) (old mid new : List Shift) (a b c : Option (List Event)) → length mid ≡ length old → SameRoles old mid → Happens a b (ServesBatches tag_of limit s p q old mid) → Happens b c (ServesBatch tag_of limit s q r mid new)
+      → Happens a c (ServesBatches tag_of limit s p r old new)
   served_more p q r old mid new a b c len roles h k =
       happens_then a b c _ _ _ h k (λ t u x y.
       let gt = got_then t u in
@@ -164,7 +169,7 @@ module _ (tag_of : Tags) (s : ServeSetting) where
       let ys = y.replied_are in
       record {
         batches = x.batches ++ y.batch ∷ [];
-        are = batches_more p.left p.moment x.batches t q.left q.moment y.batch u r.left r.moment x.are y.is;
+        are = batches_more limit p.left p.moment x.batches t q.left q.moment y.batch u r.left r.moment x.are y.is;
         done = All-push (All (IsDone tag_of s)) x.batches y.batch x.done y.done;
         grew = λ w d lt.
             let there : w < length mid = omega (arith, len, lt) in
@@ -176,8 +181,8 @@ module _ (tag_of : Tags) (s : ServeSetting) where
         replied_are = omega (arith, st, xs, ys);
       })
 
-  pub served_stops : (p q : Progress) (old mid new : List Shift) (fault : ServeFault) (a b c : Option (List Event)) → length mid ≡ length old → SameRoles old mid → Happens a b (ServesBatches tag_of s p q old mid)
-      → Happens b c (EndsEarly fault q.left q.moment) → GrewSome mid new → Happens a c (StopsServing tag_of s p old new fault)
+  pub served_stops : (p q : Progress) (old mid new : List Shift) (fault : ServeFault) (a b c : Option (List Event)) → length mid ≡ length old → SameRoles old mid → Happens a b (ServesBatches tag_of limit s p q old mid)
+      → Happens b c (EndsEarly fault limit q.left q.moment) → GrewSome mid new → Happens a c (StopsServing tag_of limit s p old new fault)
   served_stops p q old mid new fault a b c len roles h k grew =
       happens_then a b c _ _ _ h k (λ t u x y.
       record {

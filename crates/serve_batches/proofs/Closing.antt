@@ -29,6 +29,7 @@ use Rattle.item_store.specs.declared.calls.ItemCall.{ItemCall}
 use Rattle.item_store.specs.declared.calls.ItemReply.{ItemReply}
 use Rattle.node_serve.specs.Calls.{Did, on_table, on_peers, on_items, HadMemory, HasRoom, HasItemRoom}
 use Rattle.node_serve.specs.Sealing.{Tags}
+use Rattle.node_serve.specs.declared.lasting.Lasting.{Lasting}
 use Rattle.node_serve.specs.declared.service.ServeCounts.{ServeCounts}
 use Rattle.node_serve.specs.declared.service.ServeFault.{ServeFault}
 use Rattle.node_serve.specs.declared.service.ServeFault.TheVariants.{NoMemory as Out_of_memory}
@@ -170,23 +171,25 @@ module _ (n : ℕ) (r : Rows) (before after : TableState) (table_calls : ℕ) (h
         );
       }
 
-module _ (tag_of : Tags) (s : ServeSetting) (n began receives : ℕ) (r : Rows) (before after : TableState) (table_calls : ℕ) (held : List Held) (peers_calls : ℕ) (shelf : List HeldItem) (items_calls : ℕ)
+module _ (tag_of : Tags) (s : ServeSetting) (n began : ℕ) (lasting : Lasting) (r : Rows) (before after : TableState) (table_calls : ℕ) (held : List Held) (peers_calls : ℕ) (shelf : List HeldItem) (items_calls : ℕ)
     (t : Closed TableMay TableStep table_after r.tables r.table_row after table_calls) (p : Closed PeersMay PeersStep peers_after r.stores r.peers_row held peers_calls) (i : Closed ItemMay ItemStep item_after r.shelves r.items_row shelf items_calls)
     (start : r.tables.start ≡ before) (no_peers : r.stores.start ≡ []) (no_items : r.shelves.start ≡ []) where
-  pub many_served : (received replied : ℕ) (es : List Event) → ServedBack tag_of s n began receives received replied r es → ManyServed tag_of s n began receives before after received replied es
+  pub many_served : (received replied : ℕ) (es : List Event) → ServedBack tag_of s n began lasting received replied r es → ManyServed tag_of s n began lasting before after received replied es
   many_served received replied es h = record {
     ran = ran n r before after table_calls held peers_calls shelf items_calls t p i start no_peers no_items h.crew h.back;
     memory = memory n r before after table_calls held peers_calls shelf items_calls t p i start no_peers no_items h.crew h.back (λ w. calls_for n w h.batches) h.grew (λ w. calls_memory tag_of s n w h.batches h.done);
     batches = h.batches;
+    left = h.left;
     end = h.end;
     are = h.are;
+    ended = h.ended;
     done = h.done;
     each = λ w lt. are_calls n r before after table_calls held peers_calls shelf items_calls t p i start no_peers no_items h.crew h.back w (calls_for n w h.batches) lt (λ d. h.grew w d lt);
     received_are = h.received_are;
     replied_are = h.replied_are;
   }
 
-  pub many_begun : (fault : ServeFault) (es : List Event) → 0 < n → StoppedBack tag_of s n began receives r fault es → ManyBegun tag_of s n began receives before after fault es
+  pub many_begun : (fault : ServeFault) (es : List Event) → 0 < n → StoppedBack tag_of s n began lasting r fault es → ManyBegun tag_of s n began lasting before after fault es
   many_begun fault es some h =
       let count = h.back.count in
       let d : Shift = first_of h.crew (omega (arith, count, some)) in
@@ -206,8 +209,8 @@ module _ (tag_of : Tags) (s : ServeSetting) (n began receives : ℕ) (r : Rows) 
 
 -- ---- where nothing was begun
 
-pub nothing_begun : (tag_of : Tags) (s : ServeSetting) (n began receives : ℕ) (table : TableState) → ManyBegun tag_of s n began receives table table Out_of_memory []
-nothing_begun tag_of s n began receives table = record {
+pub nothing_begun : (tag_of : Tags) (s : ServeSetting) (n began : ℕ) (lasting : Lasting) (table : TableState) → ManyBegun tag_of s n began lasting table table Out_of_memory []
+nothing_begun tag_of s n began lasting table = record {
   ran = record {
     tables = [];
     tables_legal = tt;
@@ -222,7 +225,7 @@ nothing_begun tag_of s n began receives table = record {
   };
   batches = [];
   front = [];
-  left = receives;
+  left = lasting.receives;
   moment = began;
   are = (refl, refl, refl);
   done = All-nil (All (IsDone tag_of s));
@@ -232,9 +235,9 @@ nothing_begun tag_of s n began receives table = record {
   ended = inl refl;
 }
 
-pub opened_alone : (tag_of : Tags) (s : ServeSetting) (n began receives : ℕ) (turn : TurnState TableState) (row : List TablePass) (table after : TableState) (calls : ℕ) → Closed TableMay TableStep table_after turn row after calls → turn.start ≡ table → row ≡ all_fresh turn
-    → ManyBegun tag_of s n began receives table after Out_of_memory []
-opened_alone tag_of s n began receives turn row table after calls t start is = record {
+pub opened_alone : (tag_of : Tags) (s : ServeSetting) (n began : ℕ) (lasting : Lasting) (turn : TurnState TableState) (row : List TablePass) (table after : TableState) (calls : ℕ) → Closed TableMay TableStep table_after turn row after calls → turn.start ≡ table → row ≡ all_fresh turn
+    → ManyBegun tag_of s n began lasting table after Out_of_memory []
+opened_alone tag_of s n began lasting turn row table after calls t start is = record {
   ran = record {
     tables = t.run;
     tables_legal = subst (λ b. IsRun TableMay TableStep table_after b t.run) start t.legal;
@@ -249,7 +252,7 @@ opened_alone tag_of s n began receives turn row table after calls t start is = r
   };
   batches = [];
   front = [];
-  left = receives;
+  left = lasting.receives;
   moment = began;
   are = (refl, refl, refl);
   done = All-nil (All (IsDone tag_of s));
@@ -261,13 +264,13 @@ opened_alone tag_of s n began receives turn row table after calls t start is = r
 
 -- ---- what comes back
 
-module _ (tag_of : Tags) (s : ServeSetting) (n began receives : ℕ) (r : Rows) (before after : TableState) (table_calls : ℕ) (held : List Held) (peers_calls : ℕ) (shelf : List HeldItem) (items_calls : ℕ)
+module _ (tag_of : Tags) (s : ServeSetting) (n began : ℕ) (lasting : Lasting) (r : Rows) (before after : TableState) (table_calls : ℕ) (held : List Held) (peers_calls : ℕ) (shelf : List HeldItem) (items_calls : ℕ)
     (t : Closed TableMay TableStep table_after r.tables r.table_row after table_calls) (p : Closed PeersMay PeersStep peers_after r.stores r.peers_row held peers_calls) (i : Closed ItemMay ItemStep item_after r.shelves r.items_row shelf items_calls)
     (start : r.tables.start ≡ before) (no_peers : r.stores.start ≡ []) (no_items : r.shelves.start ≡ []) (a b : Option (List Event)) where
-  pub ok_served : (x : Result ServeCounts ServeFault) → IfOk x (λ (c : ServeCounts). Happens a b (ServedBack tag_of s n began receives c.received c.replied r)) → IfOk x (λ (c : ServeCounts). Happens a b (ManyServed tag_of s n began receives before after c.received c.replied))
-  ok_served (Ok c) h = happens_weaker a b _ _ h (λ es x. many_served tag_of s n began receives r before after table_calls held peers_calls shelf items_calls t p i start no_peers no_items c.received c.replied es x)
+  pub ok_served : (x : Result ServeCounts ServeFault) → IfOk x (λ (c : ServeCounts). Happens a b (ServedBack tag_of s n began lasting c.received c.replied r)) → IfOk x (λ (c : ServeCounts). Happens a b (ManyServed tag_of s n began lasting before after c.received c.replied))
+  ok_served (Ok c) h = happens_weaker a b _ _ h (λ es x. many_served tag_of s n began lasting r before after table_calls held peers_calls shelf items_calls t p i start no_peers no_items c.received c.replied es x)
   ok_served (Err e) h = tt
 
-  pub err_begun : (x : Result ServeCounts ServeFault) → 0 < n → IfErr x (λ fault. Happens a b (StoppedBack tag_of s n began receives r fault)) → IfErr x (λ fault. Happens a b (ManyBegun tag_of s n began receives before after fault))
+  pub err_begun : (x : Result ServeCounts ServeFault) → 0 < n → IfErr x (λ fault. Happens a b (StoppedBack tag_of s n began lasting r fault)) → IfErr x (λ fault. Happens a b (ManyBegun tag_of s n began lasting before after fault))
   err_begun (Ok c) some h = tt
-  err_begun (Err e) some h = happens_weaker a b _ _ h (λ es x. many_begun tag_of s n began receives r before after table_calls held peers_calls shelf items_calls t p i start no_peers no_items e es some x)
+  err_begun (Err e) some h = happens_weaker a b _ _ h (λ es x. many_begun tag_of s n began lasting r before after table_calls held peers_calls shelf items_calls t p i start no_peers no_items e es some x)

@@ -1,5 +1,5 @@
 -- The passes of a crew that served are put back.
-use Rattle.std.proofs.Common.{◌≡◌, ℕ, ◌<◌, List, map, length, Option, sym, ap, subst, ◌∙◌, arith, All}
+use Rattle.std.proofs.Common.{◌≡◌, ◌⊎◌, ℕ, ◌<◌, true, List, map, length, Option, sym, ap, subst, ◌∙◌, arith, All}
 use Rattle.std.specs.Prelude.{slice_index_or}
 use Rattle.std.specs.List.{range_with_len}
 use Rattle.kad_base.specs.declared.types.Event.{Event}
@@ -8,11 +8,13 @@ use Rattle.turn_book.specs.Turns.{TurnState}
 use Rattle.contact_table.specs.TableState.{TableState}
 use Rattle.peer_store.specs.Peers.{Held}
 use Rattle.item_store.specs.Items.{Held as HeldItem}
+use Rattle.node_serve.specs.Lasting.{end_of, is_over}
 use Rattle.node_serve.specs.Sealing.{Tags}
+use Rattle.node_serve.specs.declared.lasting.Lasting.{Lasting}
 use Rattle.node_serve.specs.declared.service.ServeFault.{ServeFault}
 use Rattle.node_serve.specs.declared.setting.ServeSetting.{ServeSetting}
 use Rattle.serve_crew.specs.Hands.{Hands, SameHands, Grew, TablePass, PeersPass, ItemsPass}
-use Rattle.serve_batches.specs.Batches.{Batches, calls_for}
+use Rattle.serve_batches.specs.Batches.{calls_for}
 use Rattle.serve_batches.specs.Crew.{HasSlots, AreRoomy, CanWork}
 use Rattle.serve_batches.specs.Passes.{new_hands, workers_of, table_passes, peers_passes, items_passes}
 use Rattle.serve_batches.specs.Serving.{SameRoles, ServesBatches, StopsServing, GrewFirst, Rows, rows, AreBack, ServedBack, StoppedBack, begun}
@@ -53,8 +55,9 @@ module _ (tables : TurnState TableState) (stores : TurnState (List Held)) (shelv
           subst (λ h. SameHands h (slice_index_or new w d).worker) (start_at tables stores shelves n crew is w d there) (roles w d there);
     }
 
-    pub served_back : (tag_of : Tags) (s : ServeSetting) (began receives : ℕ) (q : Progress) (a b : Option (List Event)) → q.left ≡ 0 → Happens a b (ServesBatches tag_of s (begun began receives) q crew new) → Happens a b (ServedBack tag_of s n began receives q.received q.replied all_rows)
-    served_back tag_of s began receives q a b none h =
+    pub served_back : (tag_of : Tags) (s : ServeSetting) (began : ℕ) (lasting : Lasting) (q : Progress) (a b : Option (List Event)) → (q.left ≡ 0) ⊎ (is_over (end_of began lasting.minutes) q.moment ≡ true)
+        → Happens a b (ServesBatches tag_of (end_of began lasting.minutes) s (begun began lasting.receives) q crew new) → Happens a b (ServedBack tag_of s n began lasting q.received q.replied all_rows)
+    served_back tag_of s began lasting q a b ended h =
         happens_weaker a b _ _ h (λ es x.
         let c = crew_count tables stores shelves n crew is in
         let got = x.received_are in
@@ -63,8 +66,10 @@ module _ (tables : TurnState TableState) (stores : TurnState (List Held)) (shelv
           crew = new;
           back = are_back;
           batches = x.batches;
+          left = q.left;
           end = q.moment;
-          are = subst (λ l. Batches receives began x.batches es l q.moment) none x.are;
+          are = x.are;
+          ended = ended;
           done = x.done;
           grew = λ w d lt.
               let there : w < length crew = omega (arith, c, lt) in
@@ -74,8 +79,9 @@ module _ (tables : TurnState TableState) (stores : TurnState (List Held)) (shelv
           replied_are = omega (arith, sent);
         })
 
-    pub stopped_back : (tag_of : Tags) (s : ServeSetting) (began receives : ℕ) (fault : ServeFault) (a b : Option (List Event)) → Happens a b (StopsServing tag_of s (begun began receives) crew new fault) → Happens a b (StoppedBack tag_of s n began receives all_rows fault)
-    stopped_back tag_of s began receives fault a b h =
+    pub stopped_back : (tag_of : Tags) (s : ServeSetting) (began : ℕ) (lasting : Lasting) (fault : ServeFault) (a b : Option (List Event)) → Happens a b (StopsServing tag_of (end_of began lasting.minutes) s (begun began lasting.receives) crew new fault)
+        → Happens a b (StoppedBack tag_of s n began lasting all_rows fault)
+    stopped_back tag_of s began lasting fault a b h =
         happens_weaker a b _ _ h (λ es x.
         let c = crew_count tables stores shelves n crew is in
         record {

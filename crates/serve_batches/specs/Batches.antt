@@ -1,14 +1,14 @@
 -- Batches of datagrams: how the receives of a link make them, what becomes of each datagram, and what is sent behind them.
 -- A batch is this project's own: several workers answer its datagrams at once.
-use Rattle.std.specs.Prelude.{◌≡◌, ℕ, ◌+◌, ◌<◌, min, Bool, List, [], ◌∷◌, ◌++◌, length, map, Option, Some, None}
-use Rattle.std.specs.List.{flat_map}
+use Rattle.std.specs.Prelude.{◌≡◌, ℕ, ◌+◌, ◌<◌, ◌≤◌, min, Bool, true, false, List, [], ◌∷◌, ◌++◌, length, map, Option, Some, None}
+use Rattle.std.specs.List.{All, flat_map}
 use Rattle.kad_base.specs.declared.types.Addr.{Addr}
 use Rattle.kad_base.specs.declared.types.Event.{Event}
 use Rattle.kad_base.specs.declared.types.Event.TheVariants.{Got, Quiet}
 use Rattle.serve_batches.specs.Deal.{dealt}
 use Rattle.node_serve.specs.Calls.{Did}
 use Rattle.node_serve.specs.Queries.{IsSilent}
-use Rattle.node_serve.specs.Lasting.{waits_until}
+use Rattle.node_serve.specs.Lasting.{is_over, waits_to}
 use Rattle.node_serve.specs.Receives.{tried}
 use Rattle.node_serve.specs.Sealing.{Tags}
 use Rattle.node_serve.specs.declared.setting.ServeSetting.{ServeSetting}
@@ -37,13 +37,20 @@ abbrev pub waits_after : ℕ → List Datagram → ℕ
 waits_after until [] = until
 waits_after until (d ∷ ds) = waits_after d.at ds
 
--- The receives of a batch, of which so many are left in all, behind this moment: the first waits for a minute. They end with
--- the first that gives nothing; else there are as many as a batch may have and as are left.
-pub data Receives (left moment : ℕ) (came : List Datagram) (events : List Event) (made end : ℕ) : Type 0 where
-  quiet : length came < min left max_batch → events ≡ receives_of (waits_until moment) came ++ Quiet (waits_after (waits_until moment) came) end ∷ []
-      → made ≡ length came + 1 → Receives left moment came events made end
-  full : length came ≡ min left max_batch → events ≡ receives_of (waits_until moment) came → made ≡ length came
-      → end ≡ waits_after (waits_until moment) came → Receives left moment came events made end
+-- it came before the end of the service
+abbrev pub IsInTime : Option ℕ → Datagram → Type 0
+IsInTime limit d = is_over limit d.at ≡ false
+
+-- The receives of a batch, of which so many are left in all, behind this moment: the first waits for a minute, but to the end
+-- of the service at most. They end with the first that gives nothing, and with the first datagram that comes at the end or
+-- behind it; else there are as many as a batch may have and as are left.
+pub data Receives (limit : Option ℕ) (left moment : ℕ) (came : List Datagram) (events : List Event) (made end : ℕ) : Type 0 where
+  quiet : length came < min left max_batch → All (IsInTime limit) came → events ≡ receives_of (waits_to limit moment) came ++ Quiet (waits_after (waits_to limit moment) came) end ∷ []
+      → made ≡ length came + 1 → Receives limit left moment came events made end
+  full : length came ≡ min left max_batch → All (IsInTime limit) came → events ≡ receives_of (waits_to limit moment) came → made ≡ length came
+      → end ≡ waits_after (waits_to limit moment) came → Receives limit left moment came events made end
+  over : (before : List Datagram) (last : Datagram) → came ≡ before ++ last ∷ [] → length came ≤ min left max_batch → All (IsInTime limit) before → is_over limit last.at ≡ true
+      → events ≡ receives_of (waits_to limit moment) came → made ≡ length came → end ≡ last.at → Receives limit left moment came events made end
 
 -- ---- what became of it
 
@@ -73,24 +80,25 @@ Replies (d ∷ ds) events = (was_sent : Bool) × (more : List Event) × (events 
 
 -- ---- batches
 
--- One batch, where so many receives are left, behind this moment: its receives, and then the replies to what came. It leaves
--- so many receives, and this is the moment told last.
-pub record IsBatch (left moment : ℕ) (batch : List Done) (events : List Event) (left' end : ℕ) : Type 0 where
+-- One batch, where so many receives are left, behind this moment, at which the service isn't over: its receives, and then the
+-- replies to what came. It leaves so many receives, and this is the moment told last.
+pub record IsBatch (limit : Option ℕ) (left moment : ℕ) (batch : List Done) (events : List Event) (left' end : ℕ) : Type 0 where
   pub some : 0 < left
+  pub goes : is_over limit moment ≡ false
   pub made : ℕ
   pub receives : List Event
   pub replies : List Event
-  pub received : Receives left moment (map (λ d. d.datagram) batch) receives made end
+  pub received : Receives limit left moment (map (λ d. d.datagram) batch) receives made end
   pub replied : Replies batch replies
   pub whole : events ≡ receives ++ replies
   pub left_are : left' + made ≡ left
 
 -- batches, one after another
-abbrev pub Batches : ℕ → ℕ → List (List Done) → List Event → ℕ → ℕ → Type 0
-Batches left moment [] events left' end = (events ≡ []) × (left' ≡ left) × (end ≡ moment)
-Batches left moment (b ∷ bs) events left' end =
-    (one : List Event) × (mid : ℕ) × (told : ℕ) × (more : List Event) × (events ≡ one ++ more) × IsBatch left moment b one mid told
-    × Batches mid told bs more left' end
+abbrev pub Batches : Option ℕ → ℕ → ℕ → List (List Done) → List Event → ℕ → ℕ → Type 0
+Batches limit left moment [] events left' end = (events ≡ []) × (left' ≡ left) × (end ≡ moment)
+Batches limit left moment (b ∷ bs) events left' end =
+    (one : List Event) × (mid : ℕ) × (told : ℕ) × (more : List Event) × (events ≡ one ++ more) × IsBatch limit left moment b one mid told
+    × Batches limit mid told bs more left' end
 
 -- what the worker w of n does of all batches, in order: its datagrams are those of the places j of each batch with j mod n = w
 abbrev pub done_by : ℕ → ℕ → List (List Done) → List Done
@@ -100,15 +108,18 @@ abbrev pub calls_for : ℕ → ℕ → List (List Done) → List Did
 calls_for n w batches = flat_map (λ d. d.did) (done_by n w batches)
 
 -- a batch that lacks receives and its replies, since a receive failed
-pub record IsCutOff (left moment : ℕ) (events : List Event) : Type 0 where
+pub record IsCutOff (limit : Option ℕ) (left moment : ℕ) (events : List Event) : Type 0 where
+  pub goes : is_over limit moment ≡ false
   pub came : List Datagram
+  pub in_time : All (IsInTime limit) came
   pub few : length came < min left max_batch
-  pub are : events ≡ receives_of (waits_until moment) came
+  pub are : events ≡ receives_of (waits_to limit moment) came
 
 -- a batch that lacks its replies
-pub record IsUnanswered (left moment : ℕ) (events : List Event) : Type 0 where
+pub record IsUnanswered (limit : Option ℕ) (left moment : ℕ) (events : List Event) : Type 0 where
   pub some : 0 < left
+  pub goes : is_over limit moment ≡ false
   pub came : List Datagram
   pub made : ℕ
   pub end : ℕ
-  pub received : Receives left moment came events made end
+  pub received : Receives limit left moment came events made end

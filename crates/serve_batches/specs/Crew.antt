@@ -1,5 +1,5 @@
 -- Workers with their slots: how a batch is received into them, answered and sent, as the code has it.
-use Rattle.std.specs.Prelude.{◌≡◌, ◌≢◌, ℕ, ◌*◌, ◌<◌, ◌≤◌, Bool, List, [], ◌∷◌, ◌++◌, length, map, take, set, slice_index_or}
+use Rattle.std.specs.Prelude.{◌≡◌, ◌≢◌, ℕ, ◌*◌, ◌<◌, ◌≤◌, Bool, List, [], ◌∷◌, ◌++◌, length, map, take, set, slice_index_or, Option}
 use Rattle.std.specs.List.{All}
 use Rattle.kad_base.specs.declared.types.Addr.{Addr}
 use Rattle.kad_base.specs.declared.types.Ip.TheVariants.{V4}
@@ -112,5 +112,5 @@ pub record SendsAll (slots : List SlotState) (sent : ℕ) (events : List Event) 
 -- ---- one batch
 
 -- a batch was received: where the next datagram would go, how many came, in how many receives, and the moment told last
-abbrev pub IsReceived : ℕ → ℕ → Received → List Shift → List Event → Type 0
-IsReceived left moment b crew events = Receives left moment (batch_datagrams crew b.came) events b.made b.moment
+abbrev pub IsReceived : Option ℕ → ℕ → ℕ → Received → List Shift → List Event → Type 0
+IsReceived limit left moment b crew events = Receives limit left moment (batch_datagrams crew b.came) events b.made b.moment

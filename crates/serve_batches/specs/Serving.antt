@@ -1,5 +1,5 @@
 -- One batch, and all of them, as the code has them; no public contract speaks of these.
-use Rattle.std.specs.Prelude.{◌≡◌, ℕ, ◌+◌, ◌<◌, List, ◌++◌, length, slice_index_or}
+use Rattle.std.specs.Prelude.{◌≡◌, ◌⊎◌, ℕ, ◌+◌, ◌<◌, true, List, ◌++◌, length, slice_index_or, Option}
 use Rattle.std.specs.List.{All, flat_map}
 use Rattle.kad_base.specs.declared.types.Event.{Event}
 use Rattle.serve_batches.specs.Deal.{dealt}
@@ -8,8 +8,10 @@ use Rattle.contact_table.specs.TableState.{TableState}
 use Rattle.peer_store.specs.Peers.{Held}
 use Rattle.item_store.specs.Items.{Held as HeldItem}
 use Rattle.node_serve.specs.Calls.{Did}
+use Rattle.node_serve.specs.Lasting.{end_of, is_over}
 use Rattle.node_serve.specs.Receives.{got_in, sent_in}
 use Rattle.node_serve.specs.Sealing.{Tags}
+use Rattle.node_serve.specs.declared.lasting.Lasting.{Lasting}
 use Rattle.node_serve.specs.declared.service.ServeFault.{ServeFault}
 use Rattle.node_serve.specs.declared.setting.ServeSetting.{ServeSetting}
 use Rattle.serve_crew.specs.Hands.{Hands, TablePass, PeersPass, ItemsPass, SameHands, Grew}
@@ -32,18 +34,18 @@ abbrev pub GrewSome : List Shift → List Shift → Type 0
 GrewSome old new = (w : ℕ) (d : Shift) → w < length old → (did : List Did) × Grew (slice_index_or old w d).worker (slice_index_or new w d).worker did
 
 -- a batch was served
-pub record ServesBatch (tag_of : Tags) (s : ServeSetting) (p q : Progress) (old new : List Shift) (events : List Event) : Type 0 where
+pub record ServesBatch (tag_of : Tags) (limit : Option ℕ) (s : ServeSetting) (p q : Progress) (old new : List Shift) (events : List Event) : Type 0 where
   pub batch : List Done
-  pub is : IsBatch p.left p.moment batch events q.left q.moment
+  pub is : IsBatch limit p.left p.moment batch events q.left q.moment
   pub done : All (IsDone tag_of s) batch
   pub grew : (w : ℕ) (d : Shift) → w < length old → Grew (slice_index_or old w d).worker (slice_index_or new w d).worker (flat_map (λ x. x.did) (dealt (length old) w batch))
   pub received_are : q.received ≡ p.received + got_in events
   pub replied_are : q.replied ≡ p.replied + sent_in events
 
 -- and so many, one after another
-pub record ServesBatches (tag_of : Tags) (s : ServeSetting) (p q : Progress) (old new : List Shift) (events : List Event) : Type 0 where
+pub record ServesBatches (tag_of : Tags) (limit : Option ℕ) (s : ServeSetting) (p q : Progress) (old new : List Shift) (events : List Event) : Type 0 where
   pub batches : List (List Done)
-  pub are : Batches p.left p.moment batches events q.left q.moment
+  pub are : Batches limit p.left p.moment batches events q.left q.moment
   pub done : All (All (IsDone tag_of s)) batches
   pub grew : (w : ℕ) (d : Shift) → w < length old → Grew (slice_index_or old w d).worker (slice_index_or new w d).worker (calls_for (length old) w batches)
   pub received_are : q.received ≡ p.received + got_in events
@@ -54,17 +56,17 @@ abbrev pub GrewFirst : Hands → Hands → List Did → Type 0
 GrewFirst old new did = (rest : List Did) × Grew old new (did ++ rest)
 
 -- some were, and then it ended
-pub record StopsServing (tag_of : Tags) (s : ServeSetting) (p : Progress) (old new : List Shift) (fault : ServeFault) (events : List Event) : Type 0 where
+pub record StopsServing (tag_of : Tags) (limit : Option ℕ) (s : ServeSetting) (p : Progress) (old new : List Shift) (fault : ServeFault) (events : List Event) : Type 0 where
   pub batches : List (List Done)
   pub front : List Event
   pub left : ℕ
   pub moment : ℕ
-  pub are : Batches p.left p.moment batches front left moment
+  pub are : Batches limit p.left p.moment batches front left moment
   pub done : All (All (IsDone tag_of s)) batches
   pub grew : (w : ℕ) (d : Shift) → w < length old → GrewFirst (slice_index_or old w d).worker (slice_index_or new w d).worker (calls_for (length old) w batches)
   pub last : List Event
   pub whole : events ≡ front ++ last
-  pub ended : EndsEarly fault left moment last
+  pub ended : EndsEarly fault limit left moment last
 
 -- ---- with the passes put back
 
@@ -90,28 +92,30 @@ pub record AreBack (n : ℕ) (r : Rows) (crew : List Shift) : Type 0 where
   pub same : (w : ℕ) (d : Shift) → w < n → SameHands (new_hands r.tables r.stores r.shelves w) (slice_index_or crew w d).worker
 
 -- the crew served all batches
-pub record ServedBack (tag_of : Tags) (s : ServeSetting) (n began receives received replied : ℕ) (r : Rows) (events : List Event) : Type 0 where
+pub record ServedBack (tag_of : Tags) (s : ServeSetting) (n began : ℕ) (lasting : Lasting) (received replied : ℕ) (r : Rows) (events : List Event) : Type 0 where
   pub crew : List Shift
   pub back : AreBack n r crew
   pub batches : List (List Done)
+  pub left : ℕ
   pub end : ℕ
-  pub are : Batches receives began batches events 0 end
+  pub are : Batches (end_of began lasting.minutes) lasting.receives began batches events left end
+  pub ended : (left ≡ 0) ⊎ (is_over (end_of began lasting.minutes) end ≡ true)
   pub done : All (All (IsDone tag_of s)) batches
   pub grew : (w : ℕ) (d : Shift) → w < n → Grew (new_hands r.tables r.stores r.shelves w) (slice_index_or crew w d).worker (calls_for n w batches)
   pub received_are : received ≡ got_in events
   pub replied_are : replied ≡ sent_in events
 
 -- the crew served some
-pub record StoppedBack (tag_of : Tags) (s : ServeSetting) (n began receives : ℕ) (r : Rows) (fault : ServeFault) (events : List Event) : Type 0 where
+pub record StoppedBack (tag_of : Tags) (s : ServeSetting) (n began : ℕ) (lasting : Lasting) (r : Rows) (fault : ServeFault) (events : List Event) : Type 0 where
   pub crew : List Shift
   pub back : AreBack n r crew
   pub batches : List (List Done)
   pub front : List Event
   pub left : ℕ
   pub moment : ℕ
-  pub are : Batches receives began batches front left moment
+  pub are : Batches (end_of began lasting.minutes) lasting.receives began batches front left moment
   pub done : All (All (IsDone tag_of s)) batches
   pub grew : (w : ℕ) (d : Shift) → w < n → GrewFirst (new_hands r.tables r.stores r.shelves w) (slice_index_or crew w d).worker (calls_for n w batches)
   pub last : List Event
   pub whole : events ≡ front ++ last
-  pub ended : EndsEarly fault left moment last
+  pub ended : EndsEarly fault (end_of began lasting.minutes) left moment last

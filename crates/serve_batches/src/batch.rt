@@ -1,10 +1,11 @@
 //! One batch: its datagrams are received, answered by all workers at once, and replied to; and all of them, one after
 //! another.
-ghost use Rattle.std.specs.Prelude.{◌≡◌, ◌≢◌, ◌+◌, ◌≤◌, ◌<◌, ◌^◌, length, IfErr, OnOk};
+ghost use Rattle.std.specs.Prelude.{◌≡◌, ◌≢◌, ◌⊎◌, ◌+◌, ◌≤◌, ◌<◌, ◌^◌, true, false, length, IfErr, OnOk};
 ghost use Rattle.std.specs.List.{All};
 ghost use Rattle.kad_base.specs.Failing.{FailsLast};
 ghost use Rattle.kad_base.specs.Outside.{Rose, Happens};
 ghost use Rattle.node_serve.specs.Calls.{IsSetting};
+ghost use Rattle.node_serve.specs.Lasting.{is_over};
 ghost use Rattle.node_serve.specs.declared.service.ServeFault.{ServeFault};
 ghost use Rattle.serve_batches.specs.Crew.{AreRoomy, CanWork};
 ghost use Rattle.serve_batches.specs.ManyServed.{EndsEarly};
@@ -17,7 +18,7 @@ use crate::shift::Shift;
 use contact_table::Table;
 use item_store::Items;
 use kad_base::{Failed, Link, NoMemory};
-use node_serve::{ServeFault, ServeSetting};
+use node_serve::{ServeFault, ServeSetting, is_over};
 use peer_store::Peers;
 use seal_tags::Seal;
 use std::sync::Wait;
@@ -41,7 +42,7 @@ fn renew(setting: &mut ServeSetting, at: u64)
     setting.tokens.renew(at);
 }
 
-/// Serves one batch.
+/// Serves one batch, behind a moment before the end.
 fn serve_batch<R: Threads + Wait + Sync, L: Link, G: Seal + Sync>(
     rt: &R,
     link: &mut L,
@@ -50,11 +51,13 @@ fn serve_batch<R: Threads + Wait + Sync, L: Link, G: Seal + Sync>(
     stores: &Turn<Peers>,
     shelves: &Turn<Items>,
     seal: &G,
+    end: Option<u64>,
     crew: &mut Vec<Shift>,
     progress: &mut Progress,
 ) -> Result<(), ServeFault>
     requires setting { IsSetting setting.old }
     requires some { 0 < progress.old.left }
+    requires goes { is_over end progress.old.moment ≡ false }
     requires few { progress.old.received + progress.old.left < 2 ^ 32 }
     requires fewer { progress.old.replied ≤ progress.old.received }
     requires workers { 0 < length crew.old.items }
@@ -69,10 +72,10 @@ fn serve_batch<R: Threads + Wait + Sync, L: Link, G: Seal + Sync>(
     ensures counts { OnOk result (progress.new.received + progress.new.left
         ≤ progress.old.received + progress.old.left) }
     ensures ok { OnOk result (Happens (L.told link.old) (L.told link.new)
-        (ServesBatch (G.tag_of seal.now) setting.old progress.old progress.new crew.old.items
+        (ServesBatch (G.tag_of seal.now) end setting.old progress.old progress.new crew.old.items
         crew.new.items)) }
     ensures err { IfErr result (λ fault. Happens (L.told link.old) (L.told link.new)
-        (EndsEarly fault progress.old.left progress.old.moment)) }
+        (EndsEarly fault end progress.old.left progress.old.moment)) }
     ensures grew { GrewSome crew.old.items crew.new.items }
     ensures well { result ≢ Err ServeFault.LinkFault
         → L.recv_faults link.new ≡ L.recv_faults link.old }
@@ -83,7 +86,7 @@ fn serve_batch<R: Threads + Wait + Sync, L: Link, G: Seal + Sync>(
     ensures recv_faults { L.recv_faults link.old ≤ L.recv_faults link.new }
     ensures kept { L.kept link.new ≡ L.kept link.old }
 {
-    let batch = match receive_batch(link, crew, progress.moment, progress.left) {
+    let batch = match receive_batch(link, crew, progress.moment, progress.left, end) {
         Ok(batch) => batch,
         Err(Failed) => return Err(ServeFault::LinkFault),
     };
@@ -110,7 +113,7 @@ fn serve_batch<R: Threads + Wait + Sync, L: Link, G: Seal + Sync>(
     Ok(())
 }
 
-/// Serves batch after batch, until no receive call is left.
+/// Serves batch after batch, until no receive call is left, or the moment told last is at the end or behind it.
 pub(crate) fn serve_each<R: Threads + Wait + Sync, L: Link, G: Seal + Sync>(
     rt: &R,
     link: &mut L,
@@ -119,6 +122,7 @@ pub(crate) fn serve_each<R: Threads + Wait + Sync, L: Link, G: Seal + Sync>(
     stores: &Turn<Peers>,
     shelves: &Turn<Items>,
     seal: &G,
+    end: Option<u64>,
     crew: &mut Vec<Shift>,
     progress: &mut Progress,
 ) -> Result<(), ServeFault>
@@ -131,12 +135,13 @@ pub(crate) fn serve_each<R: Threads + Wait + Sync, L: Link, G: Seal + Sync>(
     ensures setting { setting.new ≡ setting.old }
     ensures len { length crew.new.items ≡ length crew.old.items }
     ensures roles { SameRoles crew.old.items crew.new.items }
-    ensures all { OnOk result (progress.new.left ≡ 0) }
+    ensures all { OnOk result ((progress.new.left ≡ 0)
+        ⊎ (is_over end progress.new.moment ≡ true)) }
     ensures ok { OnOk result (Happens (L.told link.old) (L.told link.new)
-        (ServesBatches (G.tag_of seal.now) setting.old progress.old progress.new crew.old.items
+        (ServesBatches (G.tag_of seal.now) end setting.old progress.old progress.new crew.old.items
         crew.new.items)) }
     ensures err { IfErr result (λ fault. Happens (L.told link.old) (L.told link.new)
-        (StopsServing (G.tag_of seal.now) setting.old progress.old crew.old.items
+        (StopsServing (G.tag_of seal.now) end setting.old progress.old crew.old.items
         crew.new.items fault)) }
     ensures well { result ≢ Err ServeFault.LinkFault
         → L.recv_faults link.new ≡ L.recv_faults link.old }
@@ -148,8 +153,11 @@ pub(crate) fn serve_each<R: Threads + Wait + Sync, L: Link, G: Seal + Sync>(
     ensures kept { L.kept link.new ≡ L.kept link.old }
 {
     while progress.left > 0 {
+        if is_over(end, progress.moment) {
+            return Ok(());
+        }
         match serve_batch(
-            rt, link, setting, tables, stores, shelves, seal, crew, progress,
+            rt, link, setting, tables, stores, shelves, seal, end, crew, progress,
         ) {
             Ok(()) => {}
             Err(fault) => return Err(fault),

@@ -16,7 +16,7 @@ use crate::slot::Slot;
 use contact_table::Table;
 use item_store::Items;
 use kad_base::{Link, NoMemory};
-use node_serve::{ServeCounts, ServeFault, ServeSetting};
+use node_serve::{Lasting, ServeCounts, ServeFault, ServeSetting, end_of};
 use peer_store::Peers;
 use seal_tags::Seal;
 use std::alloc::Global;
@@ -41,7 +41,7 @@ fn work<R: Threads + Wait + Sync, L: Link, G: Seal + Sync>(
     slots: Vec<Vec<Slot>>,
     workers: u8,
     began: u64,
-    receives: u32,
+    lasting: Lasting,
 ) -> Result<ServeCounts, ServeFault>
     requires setting { IsSetting setting }
     requires some { 0 < workers }
@@ -62,11 +62,11 @@ fn work<R: Threads + Wait + Sync, L: Link, G: Seal + Sync>(
     ensures peers { AreAll stores.now peers_row.new.passes }
     ensures items { AreAll shelves.now items_row.new.passes }
     ensures ok { IfOk result (λ counts. Happens (L.told link.old) (L.told link.new)
-        (ServedBack (G.tag_of seal.now) setting workers began receives counts.received
+        (ServedBack (G.tag_of seal.now) setting workers began lasting counts.received
         counts.replied (rows tables.now stores.now shelves.now table_row.new.passes
         peers_row.new.passes items_row.new.passes))) }
     ensures err { IfErr result (λ fault. Happens (L.told link.old) (L.told link.new)
-        (StoppedBack (G.tag_of seal.now) setting workers began receives
+        (StoppedBack (G.tag_of seal.now) setting workers began lasting
         (rows tables.now stores.now shelves.now table_row.new.passes peers_row.new.passes
         items_row.new.passes) fault)) }
     ensures well { result ≢ Err ServeFault.LinkFault
@@ -81,9 +81,10 @@ fn work<R: Threads + Wait + Sync, L: Link, G: Seal + Sync>(
     deal_passes(
         alloc, tables, stores, shelves, table_row, peers_row, items_row, slots, workers, &mut crew,
     );
+    let end = end_of(began, lasting.minutes);
     let mut progress = Progress {
         moment: began,
-        left: receives,
+        left: lasting.receives,
         received: 0,
         replied: 0,
     };
@@ -95,6 +96,7 @@ fn work<R: Threads + Wait + Sync, L: Link, G: Seal + Sync>(
         stores,
         shelves,
         seal,
+        end,
         &mut crew,
         &mut progress,
     );
@@ -109,9 +111,10 @@ fn work<R: Threads + Wait + Sync, L: Link, G: Seal + Sync>(
 }
 
 /// Serves from the moment `began` on, in milliseconds, by 2 to 8 workers over one routing table, and over peers and items
-/// that it begins to keep: makes that many receive calls on the link, in batches, and answers the queries that come, tagged
-/// by the seal where the setting is sealed. A batch begins with a receive call that waits for a minute, and as long as
-/// something came it goes on without waiting, up to 32 calls. The datagram of place j of a batch is answered by worker j
+/// that it begins to keep: makes receive calls on the link, in batches, until as many were made as it lasts, or until a moment
+/// is told that is at its end by time or behind it, and answers the queries that come, tagged by the seal where the setting is
+/// sealed. A batch begins with a receive call that waits for a minute, but to that end at most, and as long as something came
+/// before the end it goes on without waiting, up to 32 calls. The datagram of place j of a batch is answered by worker j
 /// mod n, all workers answer at once, each on a thread of its own where it isn't the only one with something to do, and
 /// then the replies are sent in the order of the batch. Where the link refuses a reply it goes on. The table comes back
 /// after all calls that were made on it.
@@ -124,16 +127,16 @@ pub fn serve_many<R: Threads + Wait + Sync, L: Link, G: Seal + Sync>(
     table: Table,
     began: u64,
     workers: u8,
-    receives: u32,
+    lasting: Lasting,
 ) -> (Table, Result<ServeCounts, ServeFault>)
     requires setting { IsSetting setting }
     requires some { 2 ≤ workers }
     requires few { workers ≤ 8 }
     ensures ok { IfOk result.1 (λ counts. Happens (L.told link.old) (L.told link.new)
-        (ManyServed (G.tag_of seal.now) setting workers began receives table result.0
+        (ManyServed (G.tag_of seal.now) setting workers began lasting table result.0
         counts.received counts.replied)) }
     ensures begun { IfErr result.1 (λ fault. Happens (L.told link.old) (L.told link.new)
-        (ManyBegun (G.tag_of seal.now) setting workers began receives table result.0 fault)) }
+        (ManyBegun (G.tag_of seal.now) setting workers began lasting table result.0 fault)) }
     ensures well { result.1 ≢ Err ServeFault.LinkFault
         → L.recv_faults link.new ≡ L.recv_faults link.old }
     ensures link_fault { result.1 ≡ Err ServeFault.LinkFault
@@ -186,7 +189,7 @@ pub fn serve_many<R: Threads + Wait + Sync, L: Link, G: Seal + Sync>(
         slots,
         workers,
         began,
-        receives,
+        lasting,
     );
     let (table, _) = tables.close(table_row);
     let (_, _) = stores.close(peers_row);

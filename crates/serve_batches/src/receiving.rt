@@ -1,7 +1,8 @@
 //! The receive calls of a batch.
-ghost use Rattle.std.specs.Prelude.{◌≡◌, ◌≤◌, ◌<◌, [], min, length, IfOk, OnErr};
+ghost use Rattle.std.specs.Prelude.{◌≡◌, ◌≤◌, ◌<◌, [], false, min, length, IfOk, OnErr};
 ghost use Rattle.kad_base.specs.Failing.{FailsLast};
 ghost use Rattle.kad_base.specs.Outside.{Grows, Rose, Happens};
+ghost use Rattle.node_serve.specs.Lasting.{is_over};
 ghost use Rattle.serve_batches.specs.Ring.{ring};
 ghost use Rattle.serve_batches.specs.Batches.{IsCutOff};
 ghost use Rattle.serve_batches.specs.Crew.{AreRoomy, SameCrew, PutAt, IsReceived, slot_at, slots_of};
@@ -9,8 +10,8 @@ ghost use Rattle.serve_batches.specs.Slots.{Took, datagram_in, took_event};
 
 use crate::place::Place;
 use crate::shift::Shift;
-use kad_base::limits::MAX_WAIT;
 use kad_base::{Came, Failed, Link};
+use node_serve::{is_over, waits_to};
 
 /// The most receive calls of a batch.
 pub(crate) const MAX_BATCH: u32 = 32;
@@ -49,15 +50,17 @@ fn receive_at<L: Link>(
     crew[place.holder].receive(place.round, link, until)
 }
 
-/// Receives a batch: first for a minute behind the moment, and then, as long as something came, without waiting. Of so many
-/// receive calls that are left it makes at most 32.
+/// Receives a batch behind a moment before the end: first for a minute, but to the end at most, and then, as long as something
+/// came before the end, without waiting. Of so many receive calls that are left it makes at most 32.
 fn receive_into<L: Link>(
     link: &mut L,
     crew: &mut [Shift],
     moment: u64,
     left: u32,
+    end: Option<u64>,
 ) -> Result<Received, Failed>
     requires some { 0 < left }
+    requires goes { is_over end moment ≡ false }
     requires workers { 0 < length crew.old }
     requires roomy { AreRoomy crew.old }
     ensures same { SameCrew crew.old crew.new }
@@ -66,8 +69,8 @@ fn receive_into<L: Link>(
     ensures made { IfOk result (λ b. b.made ≤ left) }
     ensures some { IfOk result (λ b. 0 < b.made) }
     ensures fewer { IfOk result (λ b. b.came ≤ b.made) }
-    ensures ok { IfOk result (λ b. Happens (L.told link.old) (L.told link.new) (IsReceived left moment b crew.new)) }
-    ensures err { OnErr result (Happens (L.told link.old) (L.told link.new) (IsCutOff left moment)) }
+    ensures ok { IfOk result (λ b. Happens (L.told link.old) (L.told link.new) (IsReceived end left moment b crew.new)) }
+    ensures err { OnErr result (Happens (L.told link.old) (L.told link.new) (IsCutOff end left moment)) }
     ensures well { IfOk result (λ came. L.recv_faults link.new ≡ L.recv_faults link.old) }
     ensures failed { OnErr result (Rose (L.recv_faults link.old) (L.recv_faults link.new)) }
     ensures last { OnErr result (FailsLast L.told L.recv_faults link.old link.new) }
@@ -77,12 +80,20 @@ fn receive_into<L: Link>(
     let n = crew.len();
     let most = left.min(MAX_BATCH);
     let mut place = Place::first();
-    let mut until = moment.saturating_add(MAX_WAIT);
+    let mut until = waits_to(end, moment);
     for made in 0..most {
         match receive_at(link, crew, place, until) {
             Ok(Came::Packet { at, .. }) => {
                 place = place.next(n);
                 until = at;
+                if is_over(end, at) {
+                    return Ok(Received {
+                        place,
+                        came: made + 1,
+                        made: made + 1,
+                        moment: at,
+                    });
+                }
             }
             Ok(Came::Quiet { at }) => {
                 return Ok(Received {
@@ -109,8 +120,10 @@ pub(crate) fn receive_batch<L: Link>(
     crew: &mut Vec<Shift>,
     moment: u64,
     left: u32,
+    end: Option<u64>,
 ) -> Result<Received, Failed>
     requires some { 0 < left }
+    requires goes { is_over end moment ≡ false }
     requires workers { 0 < length crew.old.items }
     requires roomy { AreRoomy crew.old.items }
     ensures same { SameCrew crew.old.items crew.new.items }
@@ -119,13 +132,13 @@ pub(crate) fn receive_batch<L: Link>(
     ensures made { IfOk result (λ b. b.made ≤ left) }
     ensures some { IfOk result (λ b. 0 < b.made) }
     ensures fewer { IfOk result (λ b. b.came ≤ b.made) }
-    ensures ok { IfOk result (λ b. Happens (L.told link.old) (L.told link.new) (IsReceived left moment b crew.new.items)) }
-    ensures err { OnErr result (Happens (L.told link.old) (L.told link.new) (IsCutOff left moment)) }
+    ensures ok { IfOk result (λ b. Happens (L.told link.old) (L.told link.new) (IsReceived end left moment b crew.new.items)) }
+    ensures err { OnErr result (Happens (L.told link.old) (L.told link.new) (IsCutOff end left moment)) }
     ensures well { IfOk result (λ came. L.recv_faults link.new ≡ L.recv_faults link.old) }
     ensures failed { OnErr result (Rose (L.recv_faults link.old) (L.recv_faults link.new)) }
     ensures last { OnErr result (FailsLast L.told L.recv_faults link.old link.new) }
     ensures recv_faults { L.recv_faults link.old ≤ L.recv_faults link.new }
     ensures kept { L.kept link.new ≡ L.kept link.old }
 {
-    receive_into(link, crew.as_mut_slice(), moment, left)
+    receive_into(link, crew.as_mut_slice(), moment, left, end)
 }

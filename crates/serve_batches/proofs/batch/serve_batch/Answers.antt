@@ -81,5 +81,5 @@ returns-clause-ok g c =
       received = c.args.progress.now.received + c.in-Ok.batch.came;
       replied = c.args.progress.now.replied + c.send_replies-sent.result;
     } in
-    batch_served (g.G.Seal.tag_of c.args.seal.now) c.args.setting.now c.args.progress.now next c.in-Ok.batch c.send_replies-sent.result c.args.crew.now.items mid new _ _ _ c.requires.some same answered
+    batch_served (g.G.Seal.tag_of c.args.seal.now) c.args.end c.args.setting.now c.args.progress.now next c.in-Ok.batch c.send_replies-sent.result c.args.crew.now.items mid new _ _ _ c.requires.some c.requires.goes same answered
     refl (omega (arith, made)) refl refl c.in-Ok.ensures.ok c.send_replies-sent.ensures.told

@@ -8,34 +8,34 @@ use Rattle.kad_base.proofs.Happening.{happens_none}
 use Rattle.serve_batches.proofs.many.serve_many.Goals as goal
 
 pub returns-in_default-clause-begun : goal.returns-in_default-clause-begun
-returns-in_default-clause-begun g c = happens_none _ _ (nothing_begun (g.G.Seal.tag_of c.args.seal.now) c.args.setting c.args.workers c.args.began c.args.receives c.args.table)
+returns-in_default-clause-begun g c = happens_none _ _ (nothing_begun (g.G.Seal.tag_of c.args.seal.now) c.args.setting c.args.workers c.args.began c.args.lasting c.args.table)
 
 pub returns-in-Err-clause-begun : goal.returns-in-Err-clause-begun
-returns-in-Err-clause-begun g c = happens_none _ _ (nothing_begun (g.G.Seal.tag_of c.args.seal.now) c.args.setting c.args.workers c.args.began c.args.receives c.args.table)
+returns-in-Err-clause-begun g c = happens_none _ _ (nothing_begun (g.G.Seal.tag_of c.args.seal.now) c.args.setting c.args.workers c.args.began c.args.lasting c.args.table)
 
 pub returns-in-Err-new-clause-begun : goal.returns-in-Err-new-clause-begun
 returns-in-Err-new-clause-begun g c =
     happens_none _ _
-    (subst (λ (t : TableState). ManyBegun (g.G.Seal.tag_of c.args.seal.now) c.args.setting c.args.workers c.args.began c.args.receives c.args.table t NoMemory []) (sym c.in-Err-new.ensures.refused)
-    (nothing_begun (g.G.Seal.tag_of c.args.seal.now) c.args.setting c.args.workers c.args.began c.args.receives c.args.table))
+    (subst (λ (t : TableState). ManyBegun (g.G.Seal.tag_of c.args.seal.now) c.args.setting c.args.workers c.args.began c.args.lasting c.args.table t NoMemory []) (sym c.in-Err-new.ensures.refused)
+    (nothing_begun (g.G.Seal.tag_of c.args.seal.now) c.args.setting c.args.workers c.args.began c.args.lasting c.args.table))
 
 pub returns-in-Err-new-2-clause-begun : goal.returns-in-Err-new-2-clause-begun
 returns-in-Err-new-2-clause-begun g c =
     happens_none _ _
-    (opened_alone (g.G.Seal.tag_of c.args.seal.now) c.args.setting c.args.workers c.args.began c.args.receives c.in-Ok-new.opened.0 c.in-Ok-new.opened.1.passes c.args.table c.close-table.result.0 c.close-table.result.1.calls c.close-table.ensures c.in-Ok-new.ensures.state
+    (opened_alone (g.G.Seal.tag_of c.args.seal.now) c.args.setting c.args.workers c.args.began c.args.lasting c.in-Ok-new.opened.0 c.in-Ok-new.opened.1.passes c.args.table c.close-table.result.0 c.close-table.result.1.calls c.close-table.ensures c.in-Ok-new.ensures.state
     c.in-Ok-new.ensures.passes)
 
 pub returns-in-Err-new-3-clause-begun : goal.returns-in-Err-new-3-clause-begun
 returns-in-Err-new-3-clause-begun g c =
     let closed = c.close-table-in-Err-new-3 in
     happens_none _ _
-    (opened_alone (g.G.Seal.tag_of c.args.seal.now) c.args.setting c.args.workers c.args.began c.args.receives c.in-Ok-new.opened.0 c.in-Ok-new.opened.1.passes c.args.table closed.result.0 closed.result.1.calls closed.ensures c.in-Ok-new.ensures.state
+    (opened_alone (g.G.Seal.tag_of c.args.seal.now) c.args.setting c.args.workers c.args.began c.args.lasting c.in-Ok-new.opened.0 c.in-Ok-new.opened.1.passes c.args.table closed.result.0 closed.result.1.calls closed.ensures c.in-Ok-new.ensures.state
     c.in-Ok-new.ensures.passes)
 
 pub returns-clause-ok : goal.returns-clause-ok
 returns-clause-ok g c =
     let w = c.work-answer in
-    ok_served (g.G.Seal.tag_of c.args.seal.now) c.args.setting c.args.workers c.args.began c.args.receives
+    ok_served (g.G.Seal.tag_of c.args.seal.now) c.args.setting c.args.workers c.args.began c.args.lasting
     (rows c.in-Ok-new.opened.0 c.in-Ok-new-2.opened.0 c.in-Ok-new-3.opened.0 c.work-answer.new.table_row.passes c.work-answer.new.peers_row.passes c.work-answer.new.items_row.passes) c.args.table c.close-table-2.result.0 c.close-table-2.result.1.calls
     c.close.result.0 c.close.result.1.calls c.close-2.result.0 c.close-2.result.1.calls c.close-table-2.ensures c.close.ensures c.close-2.ensures c.in-Ok-new.ensures.state (c.in-Ok-new-2.ensures.state ∙ c.new-peers.ensures)
     (c.in-Ok-new-3.ensures.state ∙ c.new-items.ensures) _ _ w.result w.ensures.ok
@@ -44,7 +44,7 @@ pub returns-clause-begun : goal.returns-clause-begun
 returns-clause-begun g c =
     let w = c.work-answer in
     let two = c.requires.some in
-    err_begun (g.G.Seal.tag_of c.args.seal.now) c.args.setting c.args.workers c.args.began c.args.receives
+    err_begun (g.G.Seal.tag_of c.args.seal.now) c.args.setting c.args.workers c.args.began c.args.lasting
     (rows c.in-Ok-new.opened.0 c.in-Ok-new-2.opened.0 c.in-Ok-new-3.opened.0 c.work-answer.new.table_row.passes c.work-answer.new.peers_row.passes c.work-answer.new.items_row.passes) c.args.table c.close-table-2.result.0 c.close-table-2.result.1.calls
     c.close.result.0 c.close.result.1.calls c.close-2.result.0 c.close-2.result.1.calls c.close-table-2.ensures c.close.ensures c.close-2.ensures c.in-Ok-new.ensures.state (c.in-Ok-new-2.ensures.state ∙ c.new-peers.ensures)
     (c.in-Ok-new-3.ensures.state ∙ c.new-items.ensures) _ _ w.result (omega (arith, two)) w.ensures.err

@@ -1,4 +1,5 @@
-use Rattle.std.proofs.Common.{◌++◌, length, ap, ◌∙◌, arith}
+use Rattle.std.proofs.Common.{◌≡◌, ◌⊎◌, ℕ, true, Option, ◌++◌, length, ap, subst, ◌∙◌, arith}
+use Rattle.node_serve.specs.Lasting.{is_over}
 use Rattle.serve_batches.specs.Passes.{table_passes, peers_passes, items_passes}
 use Rattle.serve_batches.specs.declared.shift.Shift.{Shift}
 use Rattle.serve_batches.proofs.Dealing.{crew_count, crew_can, all_back}
@@ -107,12 +108,15 @@ returns-clause-items g c =
 pub returns-in-Ok-clause-ok : goal.returns-in-Ok-clause-ok
 returns-in-Ok-clause-ok g c =
     let new = c.serve_each-answer.new.crew.items in
+    let progress = c.serve_each-answer.new.progress in
     served_back c.args.tables.now c.args.stores.now c.args.shelves.now c.args.workers c.deal_passes.new.crew.items new c.deal_passes.ensures.crew c.serve_each-answer.ensures.len c.serve_each-answer.ensures.roles
     c.gather_passes.new.table_row.passes c.gather_passes.new.peers_row.passes c.gather_passes.new.items_row.passes
     (c.gather_passes.ensures.tables ∙ ap (λ l. l ++ table_passes new) c.deal_passes.ensures.tables)
     (c.gather_passes.ensures.peers ∙ ap (λ l. l ++ peers_passes new) c.deal_passes.ensures.peers)
     (c.gather_passes.ensures.items ∙ ap (λ l. l ++ items_passes new) c.deal_passes.ensures.items)
-    (g.G.Seal.tag_of c.args.seal.now) c.args.setting c.args.began c.args.receives c.serve_each-answer.new.progress _ _ c.in-Ok.ensures.all c.in-Ok.ensures.ok
+    (g.G.Seal.tag_of c.args.seal.now) c.args.setting c.args.began c.args.lasting progress _ _
+    (subst (λ (e : Option ℕ). (progress.left ≡ 0) ⊎ (is_over e progress.moment ≡ true)) c.end_of-end.ensures c.in-Ok.ensures.all)
+    (rw c.end_of-end.ensures at c.in-Ok.ensures.ok)
 
 pub returns-clause-err : goal.returns-clause-err
 returns-clause-err g c =
@@ -122,4 +126,4 @@ returns-clause-err g c =
     (c.gather_passes.ensures.tables ∙ ap (λ l. l ++ table_passes new) c.deal_passes.ensures.tables)
     (c.gather_passes.ensures.peers ∙ ap (λ l. l ++ peers_passes new) c.deal_passes.ensures.peers)
     (c.gather_passes.ensures.items ∙ ap (λ l. l ++ items_passes new) c.deal_passes.ensures.items)
-    (g.G.Seal.tag_of c.args.seal.now) c.args.setting c.args.began c.args.receives c.in-Err.fault _ _ c.in-Err.ensures.err
+    (g.G.Seal.tag_of c.args.seal.now) c.args.setting c.args.began c.args.lasting c.in-Err.fault _ _ (rw c.end_of-end.ensures at c.in-Err.ensures.err)

@@ -1,9 +1,10 @@
-use Rattle.std.proofs.Common.{◌≡◌, ◌<◌, length, sym, ap, subst, ◌∙◌, rules, arith}
+use Rattle.std.proofs.Common.{◌≡◌, ◌<◌, true, false, length, sym, ap, subst, ◌∙◌, rules, arith}
 use Rattle.std.specs.Prelude.{min}
+use Rattle.node_serve.specs.Lasting.{is_over}
 use Rattle.serve_batches.specs.Ring.{behind}
 use Rattle.serve_batches.specs.declared.place.Place.{Place}
 use Rattle.serve_batches.specs.Crew.{slots_of}
-use Rattle.serve_batches.proofs.Arriving.{Arrived, has_slot, same_crew_more, roomy_after, arrived_more, arrived_quiet, arrived_cut, arrived_all}
+use Rattle.serve_batches.proofs.Arriving.{Arrived, AllInTime, has_slot, same_crew_more, roomy_after, arrived_more, arrived_over, in_time_more, arrived_quiet, arrived_cut, arrived_all}
 use Rattle.serve_batches.proofs.Circling.{place_within, place_small}
 use Rattle.kad_base.proofs.Failing.{fails_later}
 use Rattle.serve_batches.proofs.receiving.receive_into.Goals as goal
@@ -39,14 +40,14 @@ returns-in-Ok-Quiet-clause-ok g c =
     let lt = c.loop-made-test.true in
     let most = c.min-most.ensures in
     let few : c.loop-made.made < min c.args.left 32 = omega (arith, lt, most) in
-    arrived_quiet c.args.moment c.loop-made.crew c.receive_at.new.crew c.loop-made.made c.loop-made.place c.loop-made.until _ _ _ c.loop-made.invariant.arrived p.ensures.same p.ensures.put c.args.left p.at few grows
+    arrived_quiet c.args.end c.args.moment c.loop-made.crew c.receive_at.new.crew c.loop-made.made c.loop-made.place c.loop-made.until _ _ _ c.loop-made.invariant.arrived p.ensures.same p.ensures.put c.args.left p.at few c.loop-made.invariant.in_time grows
 
 pub returns-in-Err-clause-err : goal.returns-in-Err-clause-err
 returns-in-Err-clause-err g c =
     let lt = c.loop-made-test.true in
     let most = c.min-most.ensures in
     let few : c.loop-made.made < min c.args.left 32 = omega (arith, lt, most) in
-    arrived_cut c.args.moment c.loop-made.crew c.loop-made.made c.loop-made.place c.loop-made.until c.args.left _ _ _ c.loop-made.invariant.arrived few c.in-Err.ensures.still
+    arrived_cut c.args.end c.args.moment c.loop-made.crew c.loop-made.made c.loop-made.place c.loop-made.until c.args.left _ _ _ c.requires.goes c.loop-made.invariant.in_time c.loop-made.invariant.arrived few c.in-Err.ensures.still
 
 pub loop-made-preserved : goal.loop-made-preserved
 loop-made-preserved g c =
@@ -59,22 +60,42 @@ loop-made-preserved g c =
     let few : c.loop-made.made < 32 = search rules in
     let room = subst (λ (q : Place). q.round < length (slots_of c.loop-made.crew q.holder)) (sym i.arrived.place_is)
     (has_slot c.loop-made.crew c.loop-made.made (roomy_after c.args.crew.now c.loop-made.crew i.same c.requires.roomy) (omega (arith, len, some)) few) in
+    let goes : is_over c.args.end c.in-Ok-Packet.at ≡ false = sym c.is_over.ensures ∙ c.if-is_over.false in
     let faults = i.faults in
     let more = p.ensures.recv_faults in
     record {
       same = same_crew_more c.args.crew.now c.loop-made.crew c.receive_at.new.crew i.same p.ensures.same;
-      arrived = arrived_more c.args.moment c.loop-made.crew c.receive_at.new.crew c.loop-made.made c.loop-made.place c.loop-made.until _ _ _ i.arrived p.ensures.same p.ensures.put p.at c.next-place.result room
+      arrived = arrived_more c.args.end c.args.moment c.loop-made.crew c.receive_at.new.crew c.loop-made.made c.loop-made.place c.loop-made.until _ _ _ i.arrived p.ensures.same p.ensures.put p.at c.next-place.result room
           (c.next-place.ensures.next ∙ ap (λ n. behind n c.loop-made.place) (sym len)) came grows;
+      in_time = in_time_more c.args.end c.args.moment c.loop-made.crew c.receive_at.new.crew c.loop-made.made c.loop-made.place c.loop-made.until _ _ (g.L.Link.told c.receive_at.new.link) i.arrived p.ensures.same p.ensures.put p.at room came goes i.in_time;
       faults = omega (arith, faults, more);
       well = p.ensures.well ∙ i.well;
       kept = p.ensures.kept ∙ i.kept;
     }
 
+pub returns-then-is_over-clause-ok : goal.returns-then-is_over-clause-ok
+returns-then-is_over-clause-ok g c =
+    let i = c.loop-made.invariant in
+    let p = c.in-Ok-Packet in
+    let grows = rw p.field-0-is at p.ensures.told in
+    let came = rw p.field-0-is at p.ensures.took in
+    let len = i.same.len in
+    let some = c.requires.workers in
+    let lt = c.loop-made-test.true in
+    let most = c.min-most.ensures in
+    let few : c.loop-made.made < min c.args.left 32 = omega (arith, lt, most) in
+    let room = subst (λ (q : Place). q.round < length (slots_of c.loop-made.crew q.holder)) (sym i.arrived.place_is)
+    (has_slot c.loop-made.crew c.loop-made.made (roomy_after c.args.crew.now c.loop-made.crew i.same c.requires.roomy) (omega (arith, len, some)) (omega (arith, few))) in
+    let past : is_over c.args.end c.in-Ok-Packet.at ≡ true = sym c.is_over.ensures ∙ c.if-is_over.true in
+    arrived_over c.args.end c.args.moment c.loop-made.crew c.receive_at.new.crew c.loop-made.made c.loop-made.place c.loop-made.until _ _ _ i.arrived p.ensures.same p.ensures.put c.args.left p.at c.next-place.result room
+    (c.next-place.ensures.next ∙ ap (λ n. behind n c.loop-made.place) (sym len)) came grows few past i.in_time
+
 pub returns-clause-ok : goal.returns-clause-ok
 returns-clause-ok g c =
     let whole : c.loop-made.made ≡ c.min-most.result = search rules in
-    arrived_all c.args.moment c.loop-made.crew c.min-most.result c.loop-made.place c.loop-made.until c.args.left _ _
-    (subst (λ m. Arrived c.args.moment c.loop-made.crew m c.loop-made.place c.loop-made.until (g.L.Link.told c.args.link.now) (g.L.Link.told c.loop-made.link)) whole c.loop-made.invariant.arrived)
+    arrived_all c.args.end c.args.moment c.loop-made.crew c.min-most.result c.loop-made.place c.loop-made.until c.args.left _ _
+    (subst (AllInTime c.args.end c.loop-made.crew) whole c.loop-made.invariant.in_time)
+    (subst (λ m. Arrived c.args.end c.args.moment c.loop-made.crew m c.loop-made.place c.loop-made.until (g.L.Link.told c.args.link.now) (g.L.Link.told c.loop-made.link)) whole c.loop-made.invariant.arrived)
     c.min-most.ensures
 
 pub returns-in-Err-clause-last : goal.returns-in-Err-clause-last
