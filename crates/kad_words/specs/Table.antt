@@ -288,8 +288,8 @@ abbrev pub AreLooks : Values → LookWords → Type 0
 AreLooks value look = (look.family ≡ Four) × IsLookAt no_target value look
 
 -- a part of a command, and the option that gives it: an identifier, a seed, a number, a number that may be left out,
--- whether it says yes, whether it is given; or a policy, a lookup with the option that names its target, an item and the lookup of its key, or
--- lookups whose targets no option names
+-- whether it says yes, whether it is given; or a policy, a lookup with the option that names its target, an item and the
+-- lookup of its key, or lookups whose targets no option names
 pub data Part : Type 0 where
   gives_id : Choice → Option Id → Part
   gives_seed : Choice → Option (List ℕ) → Part

@@ -1,6 +1,6 @@
 //! Tables as texts, and what a refresh makes of them. The node's own identifier is twenty bytes ff. The words are those of
 //! the generator of 32 zero bytes from place 5 on, the keystream of ChaCha20 under a key of zeros: a08ded1a, a836efcc,
-//! 8b770dc7, da41597c.
+//! 8b770dc7, da41597c and so on.
 ghost use Rattle.std.specs.Prelude.{IfOk};
 ghost use Rattle.table_file.specs.SavedText.{FailedOnce};
 
@@ -12,7 +12,7 @@ use seal_tags::GroupSeal;
 use std::alloc::Global;
 use std::test::Fail;
 use table_file::{read, write};
-use table_refresh::{RefreshFault, refresh};
+use table_refresh::{RefreshFault, RefreshSetting, refresh};
 
 /// The first ping.
 pub const PING_1: &[u8] =
@@ -68,17 +68,32 @@ fn text_of(alloc: Global, table: &Table) -> Result<Bytes, NoMemory> {
     write(alloc, &saved)
 }
 
-/// Refreshes the table of a text over the link, where each try waits for two seconds.
+/// Refreshes the table of a text over the link, where each try waits for two seconds; of each row the first is pinged.
 pub fn play<L: Link>(
     alloc: Global,
     text: &[u8],
     sealed: bool,
     link: &mut L,
 ) -> Result<Outcome, Fail> {
+    let setting = RefreshSetting {
+        timeout: 2000,
+        sealed,
+        all: false,
+    };
+    play_by(alloc, text, setting, link)
+}
+
+/// Refreshes the table of a text over the link.
+fn play_by<L: Link>(
+    alloc: Global,
+    text: &[u8],
+    setting: RefreshSetting,
+    link: &mut L,
+) -> Result<Outcome, Fail> {
     let table = table_of(alloc, text)?;
     let mut words = Words::new(&[0; 32], 5);
     let seal = GroupSeal::new([0; 32]);
-    let (table, ended) = refresh(alloc, link, &mut words, table, 2000, sealed, &seal);
+    let (table, ended) = refresh(alloc, link, &mut words, table, setting, &seal);
     let next = words.next();
     let text = text_of(alloc, &table)?;
     Ok(Outcome { text, ended, next })
@@ -92,6 +107,27 @@ pub fn leaves<L: Link>(
     wanted: &[u8],
 ) -> Result<(), Fail> {
     let outcome = play(alloc, text, false, link)?;
+    left(&outcome, wanted)
+}
+
+/// The same where all live contacts are pinged.
+pub fn all_leave<L: Link>(
+    alloc: Global,
+    text: &[u8],
+    link: &mut L,
+    wanted: &[u8],
+) -> Result<(), Fail> {
+    let setting = RefreshSetting {
+        timeout: 2000,
+        sealed: false,
+        all: true,
+    };
+    let outcome = play_by(alloc, text, setting, link)?;
+    left(&outcome, wanted)
+}
+
+/// It ended well, and left the table of this text.
+fn left(outcome: &Outcome, wanted: &[u8]) -> Result<(), Fail> {
     if outcome.ended != Ok(()) {
         return Err(Fail::new("it ended early"));
     }

@@ -23,6 +23,18 @@ const CUT: &str =
 const TWICE: &str =
     "table ffffffffffffffffffffffffffffffffffffffff 8 1\nrow -\nlive 0000000000000000000000000000000000000001 127.0.0.1:6001 0\nlive 0000000000000000000000000000000000000001 127.0.0.1:6001 0\nsibling 0000000000000000000000000000000000000001 127.0.0.1:6001\nend\n";
 
+/// Contacts 1 and 2 in one row.
+const TWO: &str =
+    "table ffffffffffffffffffffffffffffffffffffffff 8 1\nrow -\nlive 0000000000000000000000000000000000000001 127.0.0.1:6001 0\nlive 0000000000000000000000000000000000000002 127.0.0.1:6002 1\nend\n";
+
+/// The same, where contact 1 was seen last. It is a sibling now.
+const FIRST_SEEN: &str =
+    "table ffffffffffffffffffffffffffffffffffffffff 8 1\nrow -\nlive 0000000000000000000000000000000000000002 127.0.0.1:6002 1\nlive 0000000000000000000000000000000000000001 127.0.0.1:6001 0\nsibling 0000000000000000000000000000000000000001 127.0.0.1:6001\nend\n";
+
+/// The same where contact 2 was seen after it.
+const BOTH_SEEN: &str =
+    "table ffffffffffffffffffffffffffffffffffffffff 8 1\nrow -\nlive 0000000000000000000000000000000000000001 127.0.0.1:6001 0\nlive 0000000000000000000000000000000000000002 127.0.0.1:6002 0\nsibling 0000000000000000000000000000000000000002 127.0.0.1:6002\nsibling 0000000000000000000000000000000000000001 127.0.0.1:6001\nend\n";
+
 /// Nobody is left.
 const NOBODY: &str = "table ffffffffffffffffffffffffffffffffffffffff 8 1\nrow -\nend\n";
 
@@ -72,6 +84,18 @@ fn who_is_silent_is_pinged_twice_and_goes(rt: HostRuntime) -> Result<(), Fail> {
         link(rt.alloc(), &[])?,
     )?;
     assert_eq!(rt; now(short.link), 2000);
+    Ok(())
+}
+
+#[test]
+fn all_are_pinged_by_wish_and_else_the_first_alone(rt: HostRuntime) -> Result<(), Fail> {
+    for (words, text) in [
+        (["refresh", "--all", "yes"], BOTH_SEEN),
+        (["refresh", "--all", "no"], FIRST_SEEN),
+    ] {
+        let link = link(rt.alloc(), &[Reply::of(1, 10), Reply::of(2, 20)])?;
+        shows(&rt, &words, TWO, link, 0, text)?;
+    }
     Ok(())
 }
 

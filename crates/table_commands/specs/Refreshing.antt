@@ -1,6 +1,6 @@
 -- What the command `refresh` promises: that the input was the saved text of a sound table, that the link's events are those
 -- of the eviction pings of that table (Kademlia, 2002, section 2.2), and that the text is the saved text of the table that
--- results. Which text a table has, and that all buckets are pinged in one call, is this project's own.
+-- results. Which text a table has, and whom one call pings, is this project's own.
 use Rattle.std.specs.Prelude.{◌≡◌, ◌⊎◌, ℕ, List, [], ◌∷◌, true}
 use Rattle.kad_base.specs.declared.types.Event.{Event}
 use Rattle.kad_base.specs.Outside.{Happens}
@@ -11,6 +11,7 @@ use Rattle.table_file.specs.Reading.{IsBadLine as IsBadSavedLine}
 use Rattle.table_file.specs.SavedText.{IsSavedText}
 use Rattle.kad_words.specs.declared.command.RefreshWords.{RefreshWords}
 use Rattle.table_refresh.specs.Refreshed.{Given, Refreshed, Unfinished, goes_by}
+use Rattle.table_refresh.specs.declared.types.RefreshSetting.{RefreshSetting}
 use Rattle.table_refresh.specs.declared.types.RefreshFault.{RefreshFault}
 use Rattle.table_refresh.specs.declared.types.RefreshFault.TheVariants as fault
 use Rattle.command_base.specs.declared.status.Status.{Status}
@@ -59,9 +60,13 @@ SavedCause source status = ReadingCause IsBadSavedLine (TableCause source) sourc
 
 -- ---- the pings
 
+-- how the words say that a table is refreshed
+abbrev pub refresh_setting : RefreshWords → RefreshSetting
+refresh_setting words = record { timeout = words.timeout; sealed = words.sealed; all = words.all }
+
 -- what they go by, of this table; their transaction ids are drawn as those of a lookup are
 abbrev pub pings_of : RefreshWords → Called → TableState → Given
-pings_of words called table = goes_by table words.timeout words.sealed called.accepts (drawn_of called.random).seed
+pings_of words called table = goes_by table (refresh_setting words) called.accepts (drawn_of called.random).seed
 
 -- a whole refresh: the input's table, the link's events, and the table that results
 pub record Refreshes (words : RefreshWords) (called : Called) (source : Shown ℕ) (link : Shown Event) (after : TableState) : Type 0 where

@@ -1,5 +1,5 @@
-//! The command `refresh`: pings the least recently seen contact of each bucket of a saved table, and makes the saved text
-//! of the table that results.
+//! The command `refresh`: pings the least recently seen contact of each bucket of a saved table, or each live one, and makes
+//! the saved text of the table that results.
 ghost use Rattle.std.specs.Prelude.{◌≡◌, ◌⊎◌, IfOk, IfErr, IsErrOf};
 ghost use Rattle.kad_base.specs.Failing.{FailsLast};
 ghost use Rattle.command_base.specs.Called.{called_with};
@@ -21,7 +21,7 @@ use path_worker::PacedCheck;
 use seal_tags::{Seal, SealCheck};
 use std::alloc::Global;
 use table_file::{SaveFault, read};
-use table_refresh::RefreshFault;
+use table_refresh::{RefreshFault, RefreshSetting};
 
 /// Reads the saved text of a table, and makes the table that it tells.
 fn read_table<S: Source>(alloc: Global, source: &mut S) -> Result<Table, Status>
@@ -89,15 +89,12 @@ pub fn refresh<S: Source, L: Link, C: PacedCheck, G: Seal + SealCheck>(
 {
     let table = read_table(alloc, source)?;
     let mut drawn = Words::new(&call.random, FIRST_TX);
-    let (table, ended) = table_refresh::refresh(
-        alloc,
-        link,
-        &mut drawn,
-        table,
-        words.timeout,
-        words.sealed,
-        call.seal,
-    );
+    let setting = RefreshSetting {
+        timeout: words.timeout,
+        sealed: words.sealed,
+        all: words.all,
+    };
+    let (table, ended) = table_refresh::refresh(alloc, link, &mut drawn, table, setting, call.seal);
     match ended {
         Ok(()) => Ok(text_of(alloc, &table)?),
         Err(RefreshFault::LinkFault) => Err(Status::LinkFault),

@@ -61,12 +61,12 @@ same_waiting x y o e f = cc
 
 one_sent : (g : Given) (s : Standing) (to : Addr) (bytes : List ℕ) (t u : Standing) → SentGives g s to bytes t → SentGives g s to bytes u → t ≡ u
 one_sent g s to bytes t u h k =
-    let same = same_first h.head k.head h.pings.rest k.pings.rest s.heads h.pings.heads k.pings.heads in
+    let same = same_first h.head k.head h.pings.rest k.pings.rest s.due h.pings.due k.pings.due in
     h.after ∙ ap (λ c. record s { place = s.place + 1; waits = Some (record { tx = word g.seed s.place; contact = c; deadline = deadline_of s.moment g.timeout }) }) same ∙ sym k.after
 
 one_unsent : (g : Given) (s : Standing) (to : Addr) (bytes : List ℕ) (t u : Standing) → SoundTable s.table → UnsentGives g s to bytes t → UnsentGives g s to bytes u → t ≡ u
 one_unsent g s to bytes t u sound h k =
-    let same = same_first h.head k.head h.pings.rest k.pings.rest s.heads h.pings.heads k.pings.heads in
+    let same = same_first h.head k.head h.pings.rest k.pings.rest s.due h.pings.due k.pings.due in
     one_failure (record s { place = s.place + 1 }) h.head t u sound h.fails (subst (λ c. Fails (record s { place = s.place + 1 }) c u) (sym same) k.fails)
 
 one_none : (s : Standing) (q : Query) (at : ℕ) (t u : Standing) → SoundTable s.table → NoReply s q at t → NoReply s q at u → t ≡ u
@@ -133,7 +133,7 @@ from_sound g s (e ∷ es) t sound h = from_sound g h.0 es t (gives_sound g s e h
 
 pub one_standing : (g : Given) (table : TableState) (place : ℕ) (events : List Event) (t u : Standing) → SoundTable table → Tells g table place events t → Tells g table place events u → t ≡ u
 one_standing g table place [] t u sound h k = absurd h
-one_standing g table place (Now at ∷ es) t u sound h k = one_from g (begun table place at) es t u sound h k
+one_standing g table place (Now at ∷ es) t u sound h k = one_from g (begun g table place at) es t u sound h k
 one_standing g table place (Sent to bytes ∷ es) t u sound h k = absurd h
 one_standing g table place (Unsent to bytes ∷ es) t u sound h k = absurd h
 one_standing g table place (Got from bytes until at ∷ es) t u sound h k = absurd h
@@ -141,7 +141,7 @@ one_standing g table place (Quiet until at ∷ es) t u sound h k = absurd h
 
 pub standing_sound : (g : Given) (table : TableState) (place : ℕ) (events : List Event) (t : Standing) → SoundTable table → Tells g table place events t → SoundTable t.table
 standing_sound g table place [] t sound h = absurd h
-standing_sound g table place (Now at ∷ es) t sound h = from_sound g (begun table place at) es t sound h
+standing_sound g table place (Now at ∷ es) t sound h = from_sound g (begun g table place at) es t sound h
 standing_sound g table place (Sent to bytes ∷ es) t sound h = absurd h
 standing_sound g table place (Unsent to bytes ∷ es) t sound h = absurd h
 standing_sound g table place (Got from bytes until at ∷ es) t sound h = absurd h

@@ -26,20 +26,20 @@ use Rattle.table_refresh.proofs.Walking.{tells_one, tells_then, ends_then}
 -- ---- receives
 
 takes_more : (setting : Setting) (accepts : Accepts) (q : Query) (old mid new : Progress) (t : Tried) (es fs : List Event) → Takes setting accepts q old mid Waits es → Takes setting accepts q mid new t fs → Takes setting accepts q old new t (es ++ fs)
-takes_more setting accepts q old mid new t es fs h k = λ seed place heads again. tells_then (given_of setting accepts seed) (waiting old place heads again q) es (waiting mid place heads again q) fs (after new place heads again q t) (h seed place heads again) (k seed place heads again)
+takes_more setting accepts q old mid new t es fs h k = λ seed place due again. tells_then (given_of setting accepts seed) (waiting old place due again q) es (waiting mid place due again q) fs (after new place due again q t) (h seed place due again) (k seed place due again)
 
 -- one receive more
 pub waits_more : (setting : Setting) (accepts : Accepts) (q : Query) (old mid new : Progress) (t : Tried) (a b c : Option (List Event)) → Happens a b (Takes setting accepts q old mid Waits) → Happens b c (Takes setting accepts q mid new t) → Happens a c (Takes setting accepts q old new t)
 waits_more setting accepts q old mid new t a b c h k = happens_then a b c _ _ _ h k (λ es fs x y. takes_more setting accepts q old mid new t es fs x y)
 
 await_ends : (setting : Setting) (accepts : Accepts) (q : Query) (old mid : Progress) (table' : TableState) (fault : RefreshFault) (es fs : List Event) → Takes setting accepts q old mid Waits es → mid.strays < max_strays → table' ≡ mid.table → Stops setting.sealed accepts q mid.strays fault fs → AwaitEnds setting accepts q old table' fault (es ++ fs)
-await_ends setting accepts q old mid table' fault es fs h few same stops = λ seed place heads again. record {
+await_ends setting accepts q old mid table' fault es fs h few same stops = λ seed place due again. record {
   front = es;
   last = fs;
-  end = waiting mid place heads again q;
+  end = waiting mid place due again q;
   query = q;
   events_are = refl;
-  tells = h seed place heads again;
+  tells = h seed place due again;
   waits = refl;
   few_strays = few;
   stops = stops;
@@ -62,7 +62,7 @@ pings_of : (setting : Setting) (accepts : Accepts) (head : Contact) (words words
     → Pings (given_of setting accepts words.seed) (stands old words.place (head ∷ rest) again None) q.contact.addr (form (ping setting.own q.tx)) head
 pings_of setting accepts head words words' old q rest again is = record {
   rest = rest;
-  heads = refl;
+  due = refl;
   none_waits = refl;
   address = ap (λ (x : Query). x.contact.addr) is.query;
   form = ap (λ (x : Query). form (ping setting.own x.tx)) is.query;
@@ -78,7 +78,7 @@ unsent setting accepts head words words' old new kept q is fails moment strays =
     let s : Standing = stands old words.place (head ∷ rest) again None in
     let place = next_place words words' is.drawn in
     let after : tried new words'.place (head ∷ rest) again kept ≡ over (record s { place = words.place + 1 }) (is_kept fails.gone) new.table =
-    (λ i. record { moment = moment i; place = place i; strays = strays i; heads = left_after (fails.is i && not again) (head ∷ rest); again = fails.is i && not again; waits = None; table = new.table }) in
+    (λ i. record { moment = moment i; place = place i; strays = strays i; due = left_after (fails.is i && not again) (head ∷ rest); again = fails.is i && not again; waits = None; table = new.table }) in
     let gives : UnsentGives g s q.contact.addr (form (ping setting.own q.tx)) (tried new words'.place (head ∷ rest) again kept) =
     record { head = head; pings = pings_of setting accepts head words words' old q rest again is; fails = record { table = new.table; gone = fails.gone; failed = fails.failed; after = after } } in
     tells_one g s (Unsent q.contact.addr (form (ping setting.own q.tx))) (tried new words'.place (head ∷ rest) again kept) gives

@@ -1,4 +1,4 @@
--- All heads, one after another, and a whole refresh.
+-- All contacts that are pinged, one after another, and a whole refresh.
 use Rattle.std.proofs.Common.{◌≡◌, ℕ, ◌+◌, ◌<◌, List, [], ◌∷◌, ◌++◌, length, get_or, take, drop, Option, None, Result, Ok, Err, Bool, false, inr, refl, sym, ap, subst, ◌∙◌, append_assoc, append-nil}
 use Rattle.std.specs.Prelude.{IfErr, OnOk}
 use Rattle.std.proofs.lemmas.List.{take_more, take-append-drop}
@@ -13,13 +13,14 @@ use Rattle.contact_table.specs.TableState.{TableState}
 use Rattle.lookup_core.specs.Sealed.{Accepts}
 use Rattle.table_refresh.specs.declared.types.Progress.{Progress}
 use Rattle.table_refresh.specs.declared.types.RefreshFault.{RefreshFault}
+use Rattle.table_refresh.specs.declared.types.RefreshSetting.{RefreshSetting}
 use Rattle.table_refresh.specs.declared.types.Setting.{Setting}
-use Rattle.table_refresh.specs.Refreshed.{goes_by, heads_of, TellsFrom, EndsBy, begun, EndsEarly, Refreshed, Unfinished}
+use Rattle.table_refresh.specs.Refreshed.{goes_by, pinged_of, TellsFrom, EndsBy, begun, EndsEarly, Refreshed, Unfinished}
 use Rattle.table_refresh.specs.inner.Steps.{given_of, stands, PingsThese, TheseEnd}
 use Rattle.kad_base.proofs.Happening.{happens_then, happens_these}
 use Rattle.table_refresh.proofs.Walking.{tells_then, ends_then}
 
--- ---- heads
+-- ---- those due
 
 these_more : (setting : Setting) (accepts : Accepts) (xs ys : List Contact) (words between words' : WordsState) (old mid new : Progress) (es fs : List Event) → between.seed ≡ words.seed → PingsThese setting accepts xs words between old mid es → PingsThese setting accepts ys between words' mid new fs → PingsThese setting accepts (xs ++ ys) words words' old new (es ++ fs)
 these_more setting accepts xs ys words between words' old mid new es fs seed h k = λ rest.
@@ -54,19 +55,19 @@ ends_next setting accepts xs i d words between words' old mid table' fault a b c
 -- ---- a refresh
 
 -- what the code keeps of it
-abbrev pub setting_by : Id → ℕ → Bool → Setting
-setting_by own timeout sealed = record { own = own; timeout = timeout; sealed = sealed }
+abbrev pub setting_by : Id → RefreshSetting → Setting
+setting_by own by = record { own = own; timeout = by.timeout; sealed = by.sealed; all = by.all }
 
 -- where it begins
 abbrev pub work_by : TableState → ℕ → Progress
 work_by table moment = record { table = table; moment = moment; strays = 0 }
 
-all_pinged : (own : Id) (timeout : ℕ) (sealed : Bool) (accepts : Accepts) (table : TableState) (heads : List Contact) (words words' : WordsState) (moment : ℕ) (new : Progress) (es : List Event) → own ≡ table.own → heads ≡ heads_of table.rows → new.strays < max_strays
-    → PingsThese (setting_by own timeout sealed) accepts heads words words' (work_by table moment) new es → Refreshed (goes_by table timeout sealed accepts words.seed) table words.place new.table words'.place (Now moment ∷ es)
-all_pinged own timeout sealed accepts table heads words words' moment new es is heads_are few h = record {
+all_pinged : (own : Id) (by : RefreshSetting) (accepts : Accepts) (table : TableState) (due : List Contact) (words words' : WordsState) (moment : ℕ) (new : Progress) (es : List Event) → own ≡ table.own → due ≡ pinged_of by.all table.rows → new.strays < max_strays
+    → PingsThese (setting_by own by) accepts due words words' (work_by table moment) new es → Refreshed (goes_by table by accepts words.seed) table words.place new.table words'.place (Now moment ∷ es)
+all_pinged own by accepts table due words words' moment new es is due_are few h = record {
   end = stands new words'.place [] false None;
-  tells = subst (λ id. TellsFrom (given_of (setting_by id timeout sealed) accepts words.seed) (begun table words.place moment) es (stands new words'.place [] false None)) is
-      (subst (λ l. TellsFrom (given_of (setting_by own timeout sealed) accepts words.seed) (stands (work_by table moment) words.place l false None) es (stands new words'.place [] false None)) (append-nil heads ∙ heads_are) (h []));
+  tells = subst (λ id. TellsFrom (given_of (setting_by id by) accepts words.seed) (begun (goes_by table by accepts words.seed) table words.place moment) es (stands new words'.place [] false None)) is
+      (subst (λ l. TellsFrom (given_of (setting_by own by) accepts words.seed) (stands (work_by table moment) words.place l false None) es (stands new words'.place [] false None)) (append-nil due ∙ due_are) (h []));
   all_pinged = refl;
   none_waits = refl;
   few_strays = few;
@@ -74,22 +75,22 @@ all_pinged own timeout sealed accepts table heads words words' moment new es is 
   place_is = refl;
 }
 
-ended_early : (own : Id) (timeout : ℕ) (sealed : Bool) (accepts : Accepts) (table : TableState) (heads : List Contact) (words words' : WordsState) (moment : ℕ) (table' : TableState) (fault : RefreshFault) (es : List Event) → own ≡ table.own → heads ≡ heads_of table.rows
-    → TheseEnd (setting_by own timeout sealed) accepts heads words words' (work_by table moment) table' fault es → EndsEarly (goes_by table timeout sealed accepts words.seed) table words.place fault table' words'.place (Now moment ∷ es)
-ended_early own timeout sealed accepts table heads words words' moment table' fault es is heads_are h =
-    subst (λ id. EndsBy (given_of (setting_by id timeout sealed) accepts words.seed) (begun table words.place moment) fault table' words'.place es) is
-    (subst (λ l. EndsBy (given_of (setting_by own timeout sealed) accepts words.seed) (stands (work_by table moment) words.place l false None) fault table' words'.place es) (append-nil heads ∙ heads_are) (h []))
+ended_early : (own : Id) (by : RefreshSetting) (accepts : Accepts) (table : TableState) (due : List Contact) (words words' : WordsState) (moment : ℕ) (table' : TableState) (fault : RefreshFault) (es : List Event) → own ≡ table.own → due ≡ pinged_of by.all table.rows
+    → TheseEnd (setting_by own by) accepts due words words' (work_by table moment) table' fault es → EndsEarly (goes_by table by accepts words.seed) table words.place fault table' words'.place (Now moment ∷ es)
+ended_early own by accepts table due words words' moment table' fault es is due_are h =
+    subst (λ id. EndsBy (given_of (setting_by id by) accepts words.seed) (begun (goes_by table by accepts words.seed) table words.place moment) fault table' words'.place es) is
+    (subst (λ l. EndsBy (given_of (setting_by own by) accepts words.seed) (stands (work_by table moment) words.place l false None) fault table' words'.place es) (append-nil due ∙ due_are) (h []))
 
 -- after its first event
 behind_now : (a b c : Option (List Event)) (moment : ℕ) (P Q : List Event → Type 0) → Grows a b (λ es. es ≡ Now moment ∷ []) → Happens b c P → ((es : List Event) → P es → Q (Now moment ∷ es)) → Happens a c Q
 behind_now a b c moment P Q grows h f = happens_then a b c (λ es. es ≡ Now moment ∷ []) P Q (happens_these a b (Now moment ∷ []) (λ es. es ≡ Now moment ∷ []) grows refl) h (λ t u x y. subst (λ l. Q (l ++ u)) (sym x) (f u y))
 
-pub refreshed_ok : (own : Id) (timeout : ℕ) (sealed : Bool) (accepts : Accepts) (table : TableState) (heads : List Contact) (words words' : WordsState) (moment : ℕ) (new : Progress) (a b c : Option (List Event)) (r : Result (Unit {0}) RefreshFault) → own ≡ table.own → heads ≡ heads_of table.rows → Grows a b (λ es. es ≡ Now moment ∷ [])
-    → OnOk r (new.strays < max_strays) → OnOk r (Happens b c (PingsThese (setting_by own timeout sealed) accepts heads words words' (work_by table moment) new)) → OnOk r (Happens a c (Refreshed (goes_by table timeout sealed accepts words.seed) table words.place new.table words'.place))
-refreshed_ok own timeout sealed accepts table heads words words' moment new a b c (Ok x) is heads_are grows few h = behind_now a b c moment _ _ grows h (λ es y. all_pinged own timeout sealed accepts table heads words words' moment new es is heads_are few y)
-refreshed_ok own timeout sealed accepts table heads words words' moment new a b c (Err fault) is heads_are grows few h = tt
+pub refreshed_ok : (own : Id) (by : RefreshSetting) (accepts : Accepts) (table : TableState) (due : List Contact) (words words' : WordsState) (moment : ℕ) (new : Progress) (a b c : Option (List Event)) (r : Result (Unit {0}) RefreshFault) → own ≡ table.own → due ≡ pinged_of by.all table.rows → Grows a b (λ es. es ≡ Now moment ∷ [])
+    → OnOk r (new.strays < max_strays) → OnOk r (Happens b c (PingsThese (setting_by own by) accepts due words words' (work_by table moment) new)) → OnOk r (Happens a c (Refreshed (goes_by table by accepts words.seed) table words.place new.table words'.place))
+refreshed_ok own by accepts table due words words' moment new a b c (Ok x) is due_are grows few h = behind_now a b c moment _ _ grows h (λ es y. all_pinged own by accepts table due words words' moment new es is due_are few y)
+refreshed_ok own by accepts table due words words' moment new a b c (Err fault) is due_are grows few h = tt
 
-pub refreshed_err : (own : Id) (timeout : ℕ) (sealed : Bool) (accepts : Accepts) (table : TableState) (heads : List Contact) (words words' : WordsState) (moment : ℕ) (table' : TableState) (a b c : Option (List Event)) (r : Result (Unit {0}) RefreshFault) → own ≡ table.own → heads ≡ heads_of table.rows → Grows a b (λ es. es ≡ Now moment ∷ [])
-    → IfErr r (λ fault. Happens b c (TheseEnd (setting_by own timeout sealed) accepts heads words words' (work_by table moment) table' fault)) → IfErr r (λ fault. Happens a c (Unfinished (goes_by table timeout sealed accepts words.seed) table words.place fault table' words'.place))
-refreshed_err own timeout sealed accepts table heads words words' moment table' a b c (Ok x) is heads_are grows h = tt
-refreshed_err own timeout sealed accepts table heads words words' moment table' a b c (Err fault) is heads_are grows h = behind_now a b c moment _ _ grows h (λ es y. inr (ended_early own timeout sealed accepts table heads words words' moment table' fault es is heads_are y))
+pub refreshed_err : (own : Id) (by : RefreshSetting) (accepts : Accepts) (table : TableState) (due : List Contact) (words words' : WordsState) (moment : ℕ) (table' : TableState) (a b c : Option (List Event)) (r : Result (Unit {0}) RefreshFault) → own ≡ table.own → due ≡ pinged_of by.all table.rows → Grows a b (λ es. es ≡ Now moment ∷ [])
+    → IfErr r (λ fault. Happens b c (TheseEnd (setting_by own by) accepts due words words' (work_by table moment) table' fault)) → IfErr r (λ fault. Happens a c (Unfinished (goes_by table by accepts words.seed) table words.place fault table' words'.place))
+refreshed_err own by accepts table due words words' moment table' a b c (Ok x) is due_are grows h = tt
+refreshed_err own by accepts table due words words' moment table' a b c (Err fault) is due_are grows h = behind_now a b c moment _ _ grows h (λ es y. inr (ended_early own by accepts table due words words' moment table' fault es is due_are y))

@@ -1,6 +1,7 @@
 -- Eviction pings of a whole routing table (Kademlia, 2002, section 2.2: a bucket's least recently seen contact is pinged,
 -- and who doesn't answer makes room): what the transcript of a link tells of the pings, and the table that results. That a
--- head is pinged twice before it goes, and all buckets in one call, is this project's own.
+-- contact is pinged twice before it goes, that all buckets are gone through in one call, and that all live contacts of a bucket
+-- may be, is this project's own.
 use Rattle.std.specs.Prelude.{◌≡◌, ◌⊎◌, ℕ, ◌+◌, ◌<◌, ◌≤◌, List, [], ◌∷◌, ◌++◌, take, drop, flat_map, Option, Some, None, Bool, true, false, not, ◌&&◌}
 use Rattle.kad_base.specs.declared.types.Id.{Id}
 use Rattle.kad_base.specs.declared.types.Addr.{Addr}
@@ -27,20 +28,22 @@ use Rattle.lookup_core.specs.Reply.{Reply}
 use Rattle.lookup_core.specs.Reply as reply
 use Rattle.lookup_core.specs.Sealed.{Accepts}
 use Rattle.lookup_core.specs.Timeouts.{deadline_of}
+use Rattle.table_refresh.specs.declared.types.RefreshSetting.{RefreshSetting}
 use Rattle.table_refresh.specs.declared.types.RefreshFault.{RefreshFault}
 use Rattle.table_refresh.specs.declared.types.RefreshFault.TheVariants.{LinkFault, Strays, NoMemory}
 
 -- what a refresh goes by: whose table it is, how long a try waits, in milliseconds, whether a reply has to carry a tag,
--- which tags are accepted, and the seed of the words that are drawn
+-- whether it pings all live contacts of a row, which tags are accepted, and the seed of the words that are drawn
 pub record Given : Type 0 where
   pub own : Id
   pub timeout : ℕ
   pub sealed : Bool
+  pub all : Bool
   pub accepts : Accepts
   pub seed : List ℕ
 
-abbrev pub goes_by : TableState → ℕ → Bool → Accepts → List ℕ → Given
-goes_by table timeout sealed accepts seed = record { own = table.own; timeout = timeout; sealed = sealed; accepts = accepts; seed = seed }
+abbrev pub goes_by : TableState → RefreshSetting → Accepts → List ℕ → Given
+goes_by table setting accepts seed = record { own = table.own; timeout = setting.timeout; sealed = setting.sealed; all = setting.all; accepts = accepts; seed = seed }
 
 -- ---- whom it pings
 
@@ -48,9 +51,14 @@ goes_by table timeout sealed accepts seed = record { own = table.own; timeout = 
 abbrev pub head_in : RowState → List Contact
 head_in row = take 1 (live_in row)
 
--- the heads of the rows that have one, in the order of the rows
-abbrev pub heads_of : List RowState → List Contact
-heads_of rows = flat_map head_in rows
+-- of a row: all its live contacts, the least recently seen first, or its head alone
+abbrev pub pinged_in : Bool → RowState → List Contact
+pinged_in true row = live_in row
+pinged_in false row = head_in row
+
+-- of all rows, in their order
+abbrev pub pinged_of : Bool → List RowState → List Contact
+pinged_of all rows = flat_map (pinged_in all) rows
 
 -- the ping (BEP 5), read-only (BEP 43), under the transaction id that is the bytes of a word
 abbrev pub ping : Id → ℕ → Message
@@ -80,8 +88,8 @@ pub record Standing : Type 0 where
   pub place : ℕ
   -- how many datagrams were strays
   pub strays : ℕ
-  -- the heads whose tries are not over, in order
-  pub heads : List Contact
+  -- the contacts whose tries are not over, in order
+  pub due : List Contact
   -- whether the first of them has failed a first try, and was kept
   pub again : Bool
   -- the ping that waits for its reply
@@ -94,14 +102,14 @@ abbrev pub is_kept : Gone → Bool
 is_kept Kept = true
 is_kept other = false
 
--- the heads that are left after a try
+-- the contacts that are left after a try: all, if the first of them is pinged again
 abbrev pub left_after : Bool → List Contact → List Contact
-left_after true heads = heads
-left_after false heads = drop 1 heads
+left_after true due = due
+left_after false due = drop 1 due
 
--- the try is over; a head that was kept at its first try is pinged again
+-- the try is over; a contact that was kept at its first try is pinged again
 abbrev pub over : Standing → Bool → TableState → Standing
-over s kept table = record s { heads = left_after (kept && not s.again) s.heads; again = kept && not s.again; waits = None; table = table }
+over s kept table = record s { due = left_after (kept && not s.again) s.due; again = kept && not s.again; waits = None; table = table }
 
 -- the table has seen the contact (Kademlia, section 2.2), and had memory
 pub record IsSeen (c : Contact) (table table' : TableState) : Type 0 where
@@ -114,13 +122,13 @@ pub record HasFailed (c : Contact) (gone : Gone) (table table' : TableState) : T
   pub step : TableStep table 0 (Failed c) (Gone_reply gone)
   pub after : table' ≡ table_after table 0 (Failed c) (Gone_reply gone)
 
--- a try whose head answered
+-- a try whose contact answered
 pub record Succeeds (s : Standing) (head : Contact) (t : Standing) : Type 0 where
   pub table : TableState
   pub seen : IsSeen head s.table table
   pub after : t ≡ over s false table
 
--- a try whose head didn't
+-- a try whose contact didn't
 pub record Fails (s : Standing) (head : Contact) (t : Standing) : Type 0 where
   pub table : TableState
   pub gone : Gone
@@ -129,10 +137,10 @@ pub record Fails (s : Standing) (head : Contact) (t : Standing) : Type 0 where
 
 -- ---- what each event gives
 
--- a ping of the first head under the next word, while none waits
+-- a ping of the first contact that is left, under the next word, while none waits
 pub record Pings (g : Given) (s : Standing) (to : Addr) (bytes : List ℕ) (head : Contact) : Type 0 where
   pub rest : List Contact
-  pub heads : s.heads ≡ head ∷ rest
+  pub due : s.due ≡ head ∷ rest
   pub none_waits : s.waits ≡ None
   pub address : to ≡ head.addr
   pub form : bytes ≡ form (ping g.own (word g.seed s.place))
@@ -192,21 +200,21 @@ TellsFrom g s (e ∷ es) t = (mid : Standing) × Gives g s e mid × TellsFrom g 
 -- ---- a whole refresh
 
 -- after the first event, which tells the moment
-abbrev pub begun : TableState → ℕ → ℕ → Standing
-begun table place at = record { moment = at; place = place; strays = 0; heads = heads_of table.rows; again = false; waits = None; table = table }
+abbrev pub begun : Given → TableState → ℕ → ℕ → Standing
+begun g table place at = record { moment = at; place = place; strays = 0; due = pinged_of g.all table.rows; again = false; waits = None; table = table }
 
 -- the events of a refresh of the table whose words begin at that place, up to what they show then
 abbrev pub Tells : Given → TableState → ℕ → List Event → Standing → Type 0
 Tells g table place [] end = ⊥
-Tells g table place (Now at ∷ rest) end = TellsFrom g (begun table place at) rest end
+Tells g table place (Now at ∷ rest) end = TellsFrom g (begun g table place at) rest end
 Tells g table place other end = ⊥
 
--- The refresh of a table: its events tell one moment, and then the tries of each of its heads, in order; the table that
--- comes back is that after their steps, and each word that was drawn went to one ping.
+-- The refresh of a table: its events tell one moment, and then the tries of each contact that it pings, in order; the table
+-- that comes back is that after their steps, and each word that was drawn went to one ping.
 pub record Refreshed (g : Given) (table : TableState) (place : ℕ) (table' : TableState) (place' : ℕ) (events : List Event) : Type 0 where
   pub end : Standing
   pub tells : Tells g table place events end
-  pub all_pinged : end.heads ≡ []
+  pub all_pinged : end.due ≡ []
   pub none_waits : end.waits ≡ None
   pub few_strays : end.strays < max_strays
   pub table_is : table' ≡ end.table
@@ -257,10 +265,10 @@ pub record EndsBy (g : Given) (s : Standing) (fault : RefreshFault) (table' : Ta
 -- the same of all events of a refresh
 abbrev pub EndsEarly : Given → TableState → ℕ → RefreshFault → TableState → ℕ → List Event → Type 0
 EndsEarly g table place fault table' place' [] = ⊥
-EndsEarly g table place fault table' place' (Now at ∷ rest) = EndsBy g (begun table place at) fault table' place' rest
+EndsEarly g table place fault table' place' (Now at ∷ rest) = EndsBy g (begun g table place at) fault table' place' rest
 EndsEarly g table place fault table' place' other = ⊥
 
--- there was no memory for the heads: nothing happened
+-- there was no memory for the contacts to ping: nothing happened
 pub record IsUntouched (table : TableState) (place : ℕ) (fault : RefreshFault) (table' : TableState) (place' : ℕ) (events : List Event) : Type 0 where
   pub no_memory : fault ≡ NoMemory
   pub no_events : events ≡ []

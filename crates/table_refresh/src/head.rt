@@ -1,4 +1,4 @@
-//! The one or two tries of a head.
+//! The one or two tries of a contact: the head of those that are left.
 ghost use Rattle.std.specs.Prelude.{◌≡◌, ◌≤◌, ◌<◌, ◌+◌, ◌^◌, ◌∷◌, [], length, IfOk, IfErr, OnOk, IsErrOf};
 ghost use Rattle.kad_base.specs.Limits.{max_datagram, max_strays};
 ghost use Rattle.kad_base.specs.Failing.{FailsLast};

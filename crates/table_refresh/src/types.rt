@@ -27,13 +27,22 @@ impl From<NoMemory> for RefreshFault {
     }
 }
 
-/// What the pings go by: who asks, how long a try waits for its reply, in milliseconds, and whether a reply has to carry a
-/// tag that the seal accepts.
+/// How a table is refreshed: how long a try waits for its reply, in milliseconds, whether a reply has to carry a tag that the
+/// seal accepts, and whether all live contacts of a bucket are pinged, not only its least recently seen.
+#[derive(Clone, Copy, Debug, PartialEq, Eq)]
+pub struct RefreshSetting {
+    pub timeout: u32,
+    pub sealed: bool,
+    pub all: bool,
+}
+
+/// The same, and who pings.
 #[derive(Clone, Copy)]
 pub(crate) struct Setting {
     pub own: Id,
     pub timeout: u32,
     pub sealed: bool,
+    pub all: bool,
 }
 
 /// Where a refresh stands between two calls on its link: the table, the last told moment, and how many datagrams were
@@ -50,6 +59,6 @@ pub(crate) struct Progress {
 pub(crate) enum Tried {
     /// The ping still waits for its reply.
     Waits,
-    /// The try is over; `kept` says that the head failed, and that the table keeps it all the same.
+    /// The try is over; `kept` says that the contact failed, and that the table keeps it all the same.
     Over { kept: bool },
 }

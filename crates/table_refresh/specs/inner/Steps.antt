@@ -22,7 +22,7 @@ use Rattle.table_refresh.specs.Refreshed.{Given, Answers, IsMatched, IsStray, St
 
 -- what the events of a refresh are read by
 abbrev pub given_of : Setting → Accepts → List ℕ → Given
-given_of setting accepts seed = record { own = setting.own; timeout = setting.timeout; sealed = setting.sealed; accepts = accepts; seed = seed }
+given_of setting accepts seed = record { own = setting.own; timeout = setting.timeout; sealed = setting.sealed; all = setting.all; accepts = accepts; seed = seed }
 
 -- ---- a reply
 
@@ -53,42 +53,42 @@ pub record FailsKept (c : Contact) (kept : Bool) (table table' : TableState) : T
 -- ---- where a refresh stands
 
 abbrev pub stands : Progress → ℕ → List Contact → Bool → Option Query → Standing
-stands p place heads again waits = record { moment = p.moment; place = place; strays = p.strays; heads = heads; again = again; waits = waits; table = p.table }
+stands p place due again waits = record { moment = p.moment; place = place; strays = p.strays; due = due; again = again; waits = waits; table = p.table }
 
 -- while the ping waits
 abbrev pub waiting : Progress → ℕ → List Contact → Bool → Query → Standing
-waiting p place heads again q = stands p place heads again (Some q)
+waiting p place due again q = stands p place due again (Some q)
 
 -- after a try
 abbrev pub tried : Progress → ℕ → List Contact → Bool → Bool → Standing
-tried p place heads again kept = stands p place (left_after (kept && not again) heads) (kept && not again) None
+tried p place due again kept = stands p place (left_after (kept && not again) due) (kept && not again) None
 
 -- after a receive
 abbrev pub after : Progress → ℕ → List Contact → Bool → Query → Tried → Standing
-after p place heads again q Waits = waiting p place heads again q
-after p place heads again q (Over kept) = tried p place heads again kept
+after p place due again q Waits = waiting p place due again q
+after p place due again q (Over kept) = tried p place due again kept
 
 -- ---- what a call's events tell
 
--- one receive, whichever the words are and the heads behind this one
+-- one receive, whichever the words are and the contacts that are left
 abbrev pub Takes : Setting → Accepts → Query → Progress → Progress → Tried → List Event → Type 0
-Takes setting accepts q old new t es = (seed : List ℕ) (place : ℕ) (heads : List Contact) (again : Bool) → TellsFrom (given_of setting accepts seed) (waiting old place heads again q) es (after new place heads again q t)
+Takes setting accepts q old new t es = (seed : List ℕ) (place : ℕ) (due : List Contact) (again : Bool) → TellsFrom (given_of setting accepts seed) (waiting old place due again q) es (after new place due again q t)
 
 -- the receives of a try
 abbrev pub Awaits : Setting → Accepts → Query → Progress → Progress → Bool → List Event → Type 0
-Awaits setting accepts q old new kept es = (seed : List ℕ) (place : ℕ) (heads : List Contact) (again : Bool) → TellsFrom (given_of setting accepts seed) (waiting old place heads again q) es (tried new place heads again kept)
+Awaits setting accepts q old new kept es = (seed : List ℕ) (place : ℕ) (due : List Contact) (again : Bool) → TellsFrom (given_of setting accepts seed) (waiting old place due again q) es (tried new place due again kept)
 
 abbrev pub AwaitEnds : Setting → Accepts → Query → Progress → TableState → RefreshFault → List Event → Type 0
-AwaitEnds setting accepts q old table' fault es = (seed : List ℕ) (place : ℕ) (heads : List Contact) (again : Bool) → EndsBy (given_of setting accepts seed) (waiting old place heads again q) fault table' place es
+AwaitEnds setting accepts q old table' fault es = (seed : List ℕ) (place : ℕ) (due : List Contact) (again : Bool) → EndsBy (given_of setting accepts seed) (waiting old place due again q) fault table' place es
 
--- a try, whichever the heads behind this one are
+-- a try, whichever the contacts behind this one are
 abbrev pub Tries : Setting → Accepts → Contact → WordsState → WordsState → Progress → Progress → Bool → List Event → Type 0
 Tries setting accepts head words words' old new kept es = (rest : List Contact) (again : Bool) → TellsFrom (given_of setting accepts words.seed) (stands old words.place (head ∷ rest) again None) es (tried new words'.place (head ∷ rest) again kept)
 
 abbrev pub TryEnds : Setting → Accepts → Contact → WordsState → WordsState → Progress → TableState → RefreshFault → List Event → Type 0
 TryEnds setting accepts head words words' old table' fault es = (rest : List Contact) (again : Bool) → EndsBy (given_of setting accepts words.seed) (stands old words.place (head ∷ rest) again None) fault table' words'.place es
 
--- the tries of some heads, whichever those behind them are
+-- the tries of some contacts, whichever those behind them are
 abbrev pub PingsThese : Setting → Accepts → List Contact → WordsState → WordsState → Progress → Progress → List Event → Type 0
 PingsThese setting accepts these words words' old new es = (rest : List Contact) → TellsFrom (given_of setting accepts words.seed) (stands old words.place (these ++ rest) false None) es (stands new words'.place rest false None)
 

@@ -7,7 +7,7 @@ use Rattle.table_refresh.proofs.refreshing.ping_all.Goals as goal
 pub returns-in-Err-clause-ends : goal.returns-in-Err-clause-ends
 returns-in-Err-clause-ends g c =
     let i = c.loop-head.invariant in
-    ends_next c.args.setting.now (g.G.SealCheck.accepted c.args.seal.now) c.args.heads.now c.loop-head.head-index _ c.args.words.now c.loop-head.words c.ping_head.new.words c.args.work.now c.loop-head.work c.ping_head.new.work.table c.in-Err.fault _ _ _
+    ends_next c.args.setting.now (g.G.SealCheck.accepted c.args.seal.now) c.args.due.now c.loop-head.head-index _ c.args.words.now c.loop-head.words c.ping_head.new.words c.args.work.now c.loop-head.work c.ping_head.new.work.table c.in-Err.fault _ _ _
     (omega arith) i.seed i.so_far c.in-Err.ensures.ends
 
 pub returns-in-Err-clause-well : goal.returns-in-Err-clause-well
@@ -17,7 +17,7 @@ pub loop-head-preserved : goal.loop-head-preserved
 loop-head-preserved g c =
     let i = c.loop-head.invariant in
     record {
-      so_far = pings_next c.args.setting.now (g.G.SealCheck.accepted c.args.seal.now) c.args.heads.now c.loop-head.head-index _ c.args.words.now c.loop-head.words c.ping_head.new.words c.args.work.now c.loop-head.work c.ping_head.new.work _ _ _ (omega arith) i.seed i.so_far c.in-Ok.ensures.ok;
+      so_far = pings_next c.args.setting.now (g.G.SealCheck.accepted c.args.seal.now) c.args.due.now c.loop-head.head-index _ c.args.words.now c.loop-head.words c.ping_head.new.words c.args.work.now c.loop-head.work c.ping_head.new.work _ _ _ (omega arith) i.seed i.so_far c.in-Ok.ensures.ok;
       few = c.in-Ok.ensures.few;
       seed = c.ping_head.ensures.seed ∙ i.seed;
       place = (let a = i.place in let b = c.ping_head.ensures.place in omega (arith, a, b));

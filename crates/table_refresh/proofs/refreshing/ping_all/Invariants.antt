@@ -6,7 +6,7 @@ use Rattle.table_refresh.proofs.refreshing.ping_all.Given as goal
 
 abbrev pub invariant-loop-head : goal.invariant-loop-head
 invariant-loop-head g l = record {
-  so_far : Happens (g.L.Link.told l.fn.link) (g.L.Link.told l.link) (PingsThese l.setting (g.G.SealCheck.accepted l.seal) (take l.head-index l.heads) l.fn.words l.words l.fn.work l.work);
+  so_far : Happens (g.L.Link.told l.fn.link) (g.L.Link.told l.link) (PingsThese l.setting (g.G.SealCheck.accepted l.seal) (take l.head-index l.due) l.fn.words l.words l.fn.work l.work);
   few : l.work.strays < max_strays;
   seed : l.words.seed ≡ l.fn.words.seed;
   place : l.words.place ≤ l.fn.words.place + 2 * l.head-index;
