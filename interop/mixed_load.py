@@ -1,4 +1,4 @@
-"""What bench/soak and interop/node ask one node that serves: mixed queries, of which every tenth datagram is damaged, and
+"""What bench/soak, bench/keep and interop/node ask one node that serves: mixed queries, of which every tenth datagram is damaged, and
 what each answer should be.
 
 It needs Python 3 on Linux and nothing else."""
@@ -88,6 +88,8 @@ class Peers:
 class Load:
     """The load on a node, which may name those who asked it and the contacts (identifier, address) of `known`."""
 
+    read_only = 0.5  # the share of the good queries that say so
+
     def __init__(self, network, node, seed, known=()):
         self.node, self.random, self.known = node, random.Random(seed), set(known)
         self.askers = [Source(network.host(20 + number), number) for number in range(ASKERS)]
@@ -103,7 +105,7 @@ class Load:
 
     def send(self, asker, kind, method, arguments, wanted, done=None):
         tx = (self.sent.to_bytes(6, "big") + self.random.randbytes(26))[: self.random.choice((6, 6, 6, 8, 20, 32))]
-        read_only = self.random.random() < 0.5
+        read_only = self.random.random() < self.read_only
         name = asker.identifier(max(asker.told, 1)) if read_only else asker.next()
         datagram = query(tx, method, {b"id": name, **arguments}, read_only)
         self.sent += 1
