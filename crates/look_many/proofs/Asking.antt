@@ -137,7 +137,7 @@ owned : (f : Frame) (count place i : ℕ) (read : Reading) (old new : List Seeke
 owned f count place i read old new progress e es h G moved gives_it =
     let st = h.keeps_progress in
     shows_more true f count place (place + 1) None None read (owned_by i) old new progress progress e es h (record h.end { sends = h.end.sends + 1; each = moved.each }) moved.longer (λ idle. absurd cc) gives_it
-    (record { moment = st.moment; sends = (let e = st.sends in omega (arith, e)); got = st.got; foreign = st.foreign; replied = st.replied; receives = st.receives; left = st.left; owed_is = st.owed_is }) moved.keeps
+    (record { moment = st.moment; ends = st.ends; sends = (let e = st.sends in omega (arith, e)); got = st.got; foreign = st.foreign; replied = st.replied; receives = st.receives; left = st.left; owed_is = st.owed_is }) moved.keeps
 
 module _ (f : Frame) (count place i path : ℕ) (read : Reading) (old : List Seeker) (d new : Seeker) (progress : Progress) (asked : Asked) (es : List Event) where
   sent_on : AllByRecursion Holding old → i < length old → new.quest ≡ (get_or old i d).quest → AsksNext (word f.seed place) (deadline_of progress.moment (get_or old i d).quest.timeout) path (get_or old i d).lookup new.lookup asked → ManyShow true f count old progress place None read es

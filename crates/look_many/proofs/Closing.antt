@@ -48,10 +48,10 @@ module _ (k : Task) (r : Rows) (before after : TableState) (table_calls : ℕ) (
     (t : Closed TableMay TableStep table_after r.tables r.table_row after table_calls) (p : Closed PeersMay PeersStep peers_after r.stores r.peers_row held peers_calls) (i : Closed ItemMay ItemStep item_after r.shelves r.items_row shelf items_calls)
     (start : r.tables.start ≡ before) (no_peers : r.stores.start ≡ []) (no_items : r.shelves.start ≡ []) (limits : IsWithinLimits k.setting) (small : k.server.k < 256)
     (words words' : WordsState) (told told' : Option (List Event)) where
-  pub ok_looked : (x : Result Many ManyFault) → IfOk x (FoundBack k r words words' told told') → IfOk x (ManyLooked k.accepts k.tags k.server k.setting k.targets k.receives before after words words' told told')
+  pub ok_looked : (x : Result Many ManyFault) → IfOk x (FoundBack k r words words' told told') → IfOk x (ManyLooked k.accepts k.tags k.server k.setting k.targets k.lasting before after words words' told told')
   ok_looked (Ok many) h = many_looked k r before after table_calls held peers_calls shelf items_calls t p i start no_peers no_items limits small words words' told told' many h
   ok_looked (Err fault) h = tt
 
-  pub err_stopped : (x : Result Many ManyFault) → IfErr x (StoppedBack k r words words' told told') → IfErr x (ManyStopped k.accepts k.tags k.server k.setting k.targets k.receives before after words words' told told')
+  pub err_stopped : (x : Result Many ManyFault) → IfErr x (StoppedBack k r words words' told told') → IfErr x (ManyStopped k.accepts k.tags k.server k.setting k.targets k.lasting before after words words' told told')
   err_stopped (Ok many) h = tt
   err_stopped (Err fault) h = inl (many_began k r before after table_calls held peers_calls shelf items_calls t p i start no_peers no_items limits small words words' told told' fault h)

@@ -210,7 +210,7 @@ module _ (k : Task) (r : Rows) (before after : TableState) (table_calls : ℕ) (
   no_calls s b = fresh_seats r.tables 1 s.seekers (map (fresh r.tables.id) (range_with_len 1 (length k.targets))) b.passes (fresh_made r.tables 1 (length k.targets))
 
   frame : Frame
-  frame = frame_for k.accepts k.tags k.server words k.receives
+  frame = frame_for k.accepts k.tags k.server words k.lasting
 
   is_frame : (s : Stand) → Starts k r words told s → IsFrame k.accepts k.tags k.server s.words.seed frame
   unfolding frame
@@ -255,7 +255,7 @@ module _ (k : Task) (r : Rows) (before after : TableState) (table_calls : ℕ) (
         ∙ ap (λ n. mine a.items ++ (flat_map (at_items a.items.role) d ++ flat_map (at_items n) e)) same.items.role ∙ ap (λ l. mine a.items ++ l) (sym (flat_map-append (at_items a.items.role) d e));
   }
 
-  pub many_looked : (many : Many) → FoundBack k r words words' told told' many → ManyLooked k.accepts k.tags k.server k.setting k.targets k.receives before after words words' told told' many
+  pub many_looked : (many : Many) → FoundBack k r words words' told told' many → ManyLooked k.accepts k.tags k.server k.setting k.targets k.lasting before after words words' told told' many
   unfolding frame
   many_looked many b =
       let s = b.old in
@@ -306,7 +306,7 @@ module _ (k : Task) (r : Rows) (before after : TableState) (table_calls : ℕ) (
           ap calls_in (lookup_calls k.server k.targets r before after table_calls held peers_calls shelf items_calls t p i start no_peers no_items b.new.host b.new.seekers b.back count n d lt)
           ∙ worker_calls k.server k.setting before limits small k.targets b.old.seekers b.new.seekers many.outcomes (seekers_for b.old b.starts) (no_calls b.old b.starts) b.went.each b.found n d o lt
 
-  pub many_began : (fault : ManyFault) → StoppedBack k r words words' told told' fault → ManyBegan k.accepts k.tags k.server k.setting k.targets k.receives before after words words' told told' fault
+  pub many_began : (fault : ManyFault) → StoppedBack k r words words' told told' fault → ManyBegan k.accepts k.tags k.server k.setting k.targets k.lasting before after words words' told told' fault
   unfolding frame
   many_began fault b =
       let s = b.old in

@@ -5,22 +5,22 @@ use Rattle.std.specs.List.{AllByRecursion, AllZip}
 use Rattle.std.proofs.lemmas.List.{append-nil}
 use Rattle.claim_book.specs.Journal.{may_ask}
 use Rattle.claim_book.specs.RunOut.{RunOut}
-use Rattle.node_serve.specs.Receives.{waits_until}
+use Rattle.node_serve.specs.Lasting.{waits_to}
 use Rattle.look_many.specs.declared.seeker.Seeker.{Seeker}
 use Rattle.look_many.specs.declared.seeker.Progress.{Progress}
 use Rattle.look_many.specs.Mine.{Whose}
 use Rattle.look_many.specs.inner.Crowd.{whose, NoneAsks, Longer, DrivenOn, SameSeat}
-use Rattle.look_many.specs.inner.ManySteps.{IsRunOut, for_others, MayReceive, MayServe, Received}
+use Rattle.look_many.specs.inner.ManySteps.{IsRunOut, for_others, MayReceive, MayServe, Received, WantsMore}
 use Rattle.lookup_core.proofs.Received.{none_driven}
 use Rattle.look_many.proofs.Rounding.{Stays}
 
-pub may_serve : (ks : List Seeker) (progress : Progress) (until : ℕ) → MayServe ks progress → 0 < progress.left → until ≡ waits_until progress.moment → MayReceive ks progress until false
-may_serve ks progress until may left waits = record {
+pub may_serve : (ks : List Seeker) (progress : Progress) (until : ℕ) → MayServe ks progress → WantsMore progress → until ≡ waits_to progress.end progress.moment → MayReceive ks progress until false
+may_serve ks progress until may more waits = record {
   holds = may.holds;
-  waits = for_others refl may.none_open may.over left waits;
+  waits = for_others refl may.none_open may.over more.some_left more.before_end waits;
   in_turn = λ z. may.none_asks;
   few_receives = may.few_receives;
-  room = (let room = may.room in omega (arith, room, left));
+  room = (let room = may.room in let left = more.some_left in omega (arith, room, left));
   counted = may.counted;
 }
 
@@ -68,13 +68,13 @@ stays_same olds news same seats = record { longer = longer_same olds news same; 
         let tail : map whose news ≡ map whose olds = cc in
         (record { more = []; journal = nothing_more o n head; all_driven = none_driven }, driven_same olds news tail)
 
-pub serve_next : (old new : List Seeker) (progress progress' : Progress) → MayServe old progress → 0 < progress.left → Received false old new progress progress' → MayServe new progress'
-serve_next old new progress progress' may some r = record {
+pub serve_next : (old new : List Seeker) (progress progress' : Progress) → MayServe old progress → WantsMore progress → Received false old new progress progress' → MayServe new progress'
+serve_next old new progress progress' may more r = record {
   holds = r.holds;
   none_open = r.none_open refl;
   over = over_same old new (r.same refl) may.over;
   none_asks = none_same old new (r.same refl) may.none_asks;
   few_receives = r.few_receives;
-  room = (let room = may.room in let left = r.left in let foreign = r.foreign in omega (arith, room, left, foreign, some));
+  room = (let room = may.room in let left = r.left in let foreign = r.foreign in let some = more.some_left in omega (arith, room, left, foreign, some));
   counted = r.counted;
 }

@@ -67,7 +67,7 @@ shows_settled f count place old new progress read es holds s h = record {
   rest = h.rest;
   first = h.first;
   end = h.end;
-  walk = walk_still true f old new (begun count h.at) h.rest h.end read (settled_longer old new s) (λ e. absurd cc) h.walk;
+  walk = walk_still true f old new (begun f.minutes count h.at) h.rest h.end read (settled_longer old new s) (λ e. absurd cc) h.walk;
   keeps_progress = h.keeps_progress;
   keeps_each = each_keeps old new h.end.each holds s h.keeps_each;
 }

@@ -24,7 +24,8 @@ use Rattle.lookup_core.specs.LookupSteps.{as_open}
 use Rattle.lookup_core.proofs.Lists.{map_append}
 use Rattle.node_serve.specs.declared.setting.ServeSetting.{ServeSetting}
 use Rattle.node_serve.specs.Calls.{Did}
-use Rattle.node_serve.specs.Receives.{waits_until, tried}
+use Rattle.node_serve.specs.Lasting.{is_over, waits_to}
+use Rattle.node_serve.specs.Receives.{tried}
 use Rattle.node_serve.specs.Sealing.{Tags}
 use Rattle.serve_crew.specs.Hands.{Hands}
 use Rattle.lookup_core.proofs.Received.{same_deadlines as each_deadline}
@@ -101,9 +102,11 @@ waits_of busy f place ks ls progress s until (waits_replies is some waits few) s
     for_replies (some_shown ks s.each k some)
     (subst (λ n. WaitsUntil n s.moment (deadlines_of s.each) until) (sym st.receives) (subst (λ m. WaitsUntil progress.receives m (deadlines_of s.each) until) (sym st.moment)
     (subst (λ l. WaitsUntil progress.receives progress.moment l until) (sym (same_deadlines ks s.each k)) waits)))
-waits_of busy f place ks ls progress s until (waits_others is none over left waits) st k same =
+waits_of busy f place ks ls progress s until (waits_others is none over left before waits) st k same =
     let still : 0 < f.wanted - s.made = subst (λ n. 0 < n) (sym st.left) left in
-    for_others (none_shown ks s.each k none) (subst (λ ws. AllZip IsOver ws s.each) (sym (same is)) (each_over ks s.each over k)) (subst (λ b. s.made < cond b 0 f.wanted) (sym is) (omega (arith, still))) (waits ∙ ap waits_until (sym st.moment))
+    for_others (none_shown ks s.each k none) (subst (λ ws. AllZip IsOver ws s.each) (sym (same is)) (each_over ks s.each over k)) (subst (λ b. s.made < cond b 0 f.wanted) (sym is) (omega (arith, still)))
+    (subst (λ m. is_over s.ends m ≡ false) (sym st.moment) (subst (λ o. is_over o progress.moment ≡ false) (sym st.ends) before))
+    (waits ∙ ap (λ o. waits_to o progress.moment) (sym st.ends) ∙ ap (waits_to s.ends) (sym st.moment))
 
 receives_of : (busy : Bool) (f : Frame) (place : ℕ) (ks ls : List Seeker) (progress : Progress) (s : Shown) (until : ℕ) → MayReceive ks progress until busy → KeepsProgress f progress place None s → AllZip KeepsMine ks s.each → AllZip Longer ks ls → (busy ≡ false → map whose ls ≡ map whose ks) → Receives (cond busy 0 f.wanted) (map whose ls) s until
 receives_of busy f place ks ls progress s until may st k g same = record {
@@ -132,7 +135,7 @@ all_still at (o ∷ olds) (n ∷ news) e none =
 
 none_open : (ks : List Seeker) (progress : Progress) (until : ℕ) (busy : Bool) → WaitsFor ks progress until busy → busy ≡ false → queries_of ks ≡ []
 none_open ks progress until busy (waits_replies is some waits few) idle = (let t : true ≡ false = sym is ∙ idle in absurd cc)
-none_open ks progress until busy (waits_others is none over left waits) idle = none
+none_open ks progress until busy (waits_others is none over left before waits) idle = none
 
 -- nobody takes a datagram where no query is open
 none_taken : (accepts : Accepts) (from : Addr) (bytes : List ℕ) (old mid : List Seeker) → TakesFirst accepts from bytes old mid → queries_of old ≡ [] → ⊥
@@ -156,12 +159,12 @@ pub record GotOn (accepts : Accepts) (tags : Tags) (server : ServeSetting) (busy
       → ManyShow busy f count new progress' place owed (and_then read more) (events ++ Got from bytes until at ∷ [])
   pub ran : Ran host host' more.did more.lost
 
-progress_got : (f : Frame) (progress progress' : Progress) (place at foreign foreign' : ℕ) (owed : Option Owed) (s : Shown) (ns : List Mine) (ls : List Seeker) → KeepsProgress f progress place None s → foreign ≡ foreign' → progress' ≡ record { moment = at; receives = goes_on progress.receives (length (queries_of ls)); foreign = foreign'; left = progress.left - 1; received = progress.received + 1; replied = progress.replied } → AllZip KeepsMine ls ns
+progress_got : (f : Frame) (progress progress' : Progress) (place at foreign foreign' : ℕ) (owed : Option Owed) (s : Shown) (ns : List Mine) (ls : List Seeker) → KeepsProgress f progress place None s → foreign ≡ foreign' → progress' ≡ record { moment = at; receives = goes_on progress.receives (length (queries_of ls)); foreign = foreign'; left = progress.left - 1; end = progress.end; received = progress.received + 1; replied = progress.replied } → AllZip KeepsMine ls ns
     → KeepsProgress f progress' place owed (after_got s at foreign owed ns)
 progress_got f progress progress' place at foreign foreign' owed s ns ls st same is k =
     let left = st.left in
     subst (λ (l : Progress). KeepsProgress f l place owed (after_got s at foreign owed ns)) (sym is)
-    (record { moment = refl; sends = st.sends; got = ap (λ n. n + 1) st.got; foreign = same; replied = st.replied; receives = ap (λ n. goes_on n (length (open_of ns))) st.receives ∙ ap (goes_on progress.receives) (same_count ls ns k); left = omega (arith, left); owed_is = refl })
+    (record { moment = refl; ends = st.ends; sends = st.sends; got = ap (λ n. n + 1) st.got; foreign = same; replied = st.replied; receives = ap (λ n. goes_on n (length (open_of ns))) st.receives ∙ ap (goes_on progress.receives) (same_count ls ns k); left = omega (arith, left); owed_is = refl })
 
 -- what is read of a receive
 lost_read : List Did → List Contact → Reading
@@ -176,7 +179,7 @@ few_more : (ks : List Seeker) (progress counted : Progress) (until : ℕ) (busy 
 few_more ks progress counted until busy (waits_replies is some waits few) counts any =
     let is_more : counted.foreign ≡ progress.foreign + 1 = ap (λ (l : Progress). l.foreign) counts.0 in
     subst (λ n. n < max_strays) is_more (counts.1 is)
-few_more ks progress counted until busy (waits_others is none over left waits) counts any = absurd (any none)
+few_more ks progress counted until busy (waits_others is none over left before waits) counts any = absurd (any none)
 
 module _ (accepts : Accepts) (tags : Tags) (server : ServeSetting) (busy : Bool) (from : Addr) (bytes : List ℕ) (until at : ℕ) (old new : List Seeker) (progress progress' : Progress) (host host' : Hands) where
   -- where a lookup takes it
@@ -259,12 +262,12 @@ paid busy f count place read ks progress owed es true h =
     let st = h.keeps_progress in
     let t : Shown = record h.end { owed = None; replied = h.end.replied + 1 } in
     shows_more busy f count place place (Some owed) None read nothing_read ks ks progress (after_paid progress true) (Sent owed.to owed.reply) es h t (all_longer ks) (λ idle. refl) (inr (record { owes = st.owed_is; nothing = refl; after = refl }))
-    (record { moment = st.moment; sends = st.sends; got = st.got; foreign = st.foreign; replied = ap (λ n. n + 1) st.replied; receives = st.receives; left = st.left; owed_is = refl }) h.keeps_each
+    (record { moment = st.moment; ends = st.ends; sends = st.sends; got = st.got; foreign = st.foreign; replied = ap (λ n. n + 1) st.replied; receives = st.receives; left = st.left; owed_is = refl }) h.keeps_each
 paid busy f count place read ks progress owed es false h =
     let st = h.keeps_progress in
     let t : Shown = record h.end { owed = None } in
     shows_more busy f count place place (Some owed) None read nothing_read ks ks progress progress (Unsent owed.to owed.reply) es h t (all_longer ks) (λ idle. refl) (inr (record { owes = st.owed_is; nothing = refl; after = refl }))
-    (record { moment = st.moment; sends = st.sends; got = st.got; foreign = st.foreign; replied = st.replied; receives = st.receives; left = st.left; owed_is = refl }) h.keeps_each
+    (record { moment = st.moment; ends = st.ends; sends = st.sends; got = st.got; foreign = st.foreign; replied = st.replied; receives = st.receives; left = st.left; owed_is = refl }) h.keeps_each
 
 -- the reply that is owed is sent, and then none is
 pays_on : (busy : Bool) (f : Frame) (count place : ℕ) (read : Reading) (ks : List Seeker) (progress : Progress) (owed : Option Owed) (was_sent : Bool) (es fs : List Event) → Pays owed was_sent fs → ManyShow busy f count ks progress place owed read es → ManyShow busy f count ks (after_paid progress was_sent) place None read (es ++ fs)
@@ -300,7 +303,7 @@ quiet_on busy until at old new progress progress' host host' f count place read 
     let same : busy ≡ false → map whose new ≡ map whose old = (λ idle. all_still at old new c.expires (none_open old progress until busy may.waits idle)) in
     shows_more busy f count place place None None read (lost_read [] (all_lapsed at old)) old new progress progress' (Quiet until at) es h (after_quiet s at) on.longer same
     (receives_of busy f place old new progress s until may st h.keeps_each on.longer same, read_is_of [] (all_lapsed at old) (map (waited at) s.each) on.lost, refl)
-    (subst (λ (l : Progress). KeepsProgress f l place None (after_quiet s at)) (sym c.progress_is) (record { moment = refl; sends = st.sends; got = st.got; foreign = st.foreign; replied = st.replied; receives = refl; left = omega (arith, left); owed_is = refl })) on.keeps
+    (subst (λ (l : Progress). KeepsProgress f l place None (after_quiet s at)) (sym c.progress_is) (record { moment = refl; ends = st.ends; sends = st.sends; got = st.got; foreign = st.foreign; replied = st.replied; receives = refl; left = omega (arith, left); owed_is = refl })) on.keeps
 
 pub quiet_advances : (accepts : Accepts) (tags : Tags) (server : ServeSetting) (busy : Bool) (until at : ℕ) (old new : List Seeker) (progress progress' : Progress) (host host' : Hands) (words : WordsState) (told told' : Option (List Event))
     → MayReceive old progress until busy → Passes at old new progress progress' host host' → Grows told told' (λ es. es ≡ Quiet until at ∷ []) → Advances busy [] accepts tags server (stand old progress words host told) (stand new progress' words host' told')
@@ -350,7 +353,7 @@ record Counted (busy : Bool) (old mid : List Seeker) (progress counted : Progres
 
 few_while : (ks : List Seeker) (progress : Progress) (until : ℕ) (busy : Bool) → WaitsFor ks progress until busy → busy ≡ true → progress.foreign < max_strays
 few_while ks progress until busy (waits_replies is some waits few) is_busy = few
-few_while ks progress until busy (waits_others is none over left waits) is_busy = (let t : true ≡ false = sym is_busy ∙ is in absurd cc)
+few_while ks progress until busy (waits_others is none over left before waits) is_busy = (let t : true ≡ false = sym is_busy ∙ is in absurd cc)
 
 counted_of : (accepts : Accepts) (tags : Tags) (server : ServeSetting) (busy : Bool) (from : Addr) (bytes : List ℕ) (at : ℕ) (old mid : List Seeker) (progress counted : Progress) (host between : Hands) (owed : Option Owed) → (busy ≡ true → progress.foreign < max_strays) → Handles accepts tags server busy from bytes at old mid progress counted host between owed → Counted busy old mid progress counted
 counted_of accepts tags server busy from bytes at old mid progress counted host between owed few (is_taken t is b o) =
@@ -524,7 +527,7 @@ ends_by_foreign busy accepts tags server from bytes until at old told' may last 
   where
     some_waits : (ks : List Seeker) (progress : Progress) (until : ℕ) (busy : Bool) → WaitsFor ks progress until busy → busy ≡ true → queries_of ks ≢ []
     some_waits ks progress until busy (waits_replies is some waits few) is_busy = some
-    some_waits ks progress until busy (waits_others is none over left waits) is_busy = (let t : true ≡ false = sym is_busy ∙ is in absurd cc)
+    some_waits ks progress until busy (waits_others is none over left before waits) is_busy = (let t : true ≡ false = sym is_busy ∙ is in absurd cc)
 
 -- what holds of each lookup before the time passes
 pub handled_hold : (accepts : Accepts) (tags : Tags) (server : ServeSetting) (busy : Bool) (from : Addr) (bytes : List ℕ) (at : ℕ) (old mid : List Seeker) (progress counted : Progress) (host between : Hands) (owed : Option Owed) → AllByRecursion Holding old → Handles accepts tags server busy from bytes at old mid progress counted host between owed → AllByRecursion Holding mid

@@ -62,7 +62,7 @@ all_have_longer (suc n) ks ls ms g h = tt
 
 waits_longer : (ks ls : List Seeker) (s : Shown) (until : ℕ) → MayWait 0 (map whose ks) s until → MayWait 0 (map whose ls) s until
 waits_longer ks ls s until (for_replies some waits) = for_replies some waits
-waits_longer ks ls s until (for_others none over fewer is) = absurd (omega (arith, fewer))
+waits_longer ks ls s until (for_others none over fewer before is) = absurd (omega (arith, fewer))
 
 receives_longer : (ks ls : List Seeker) (s : Shown) (until : ℕ) → AllZip Longer ks ls → Receives 0 (map whose ks) s until → Receives 0 (map whose ls) s until
 receives_longer ks ls s until g h = record { none_owed = h.none_owed; waits = waits_longer ks ls s until h.waits; asked = all_have_longer s.receives ks ls s.each g h.asked }
@@ -137,7 +137,7 @@ shows_more busy f count place place' owed owed' read one ks ls progress progress
   rest = h.rest ++ e ∷ [];
   first = ap (λ l. l ++ e ∷ []) h.first;
   end = t;
-  walk = walk_on (framed busy f) (map whose ls) (begun count h.at) h.rest h.end read e one t (walk_still busy f ks ls (begun count h.at) h.rest h.end read g same h.walk) gives;
+  walk = walk_on (framed busy f) (map whose ls) (begun f.minutes count h.at) h.rest h.end read e one t (walk_still busy f ks ls (begun f.minutes count h.at) h.rest h.end read g same h.walk) gives;
   keeps_progress = keeps_progress;
   keeps_each = keeps_each;
 }

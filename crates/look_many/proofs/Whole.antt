@@ -5,6 +5,7 @@ use Rattle.std.specs.List.{AllByRecursion, AllZip}
 use Rattle.kad_base.specs.declared.types.Event.{Event}
 use Rattle.kad_base.specs.declared.types.Event.TheVariants.{Now, Sent, Unsent, Got, Quiet}
 use Rattle.lookup_core.specs.LookupSteps.{as_open}
+use Rattle.node_serve.specs.Lasting.{end_of, is_over}
 use Rattle.look_many.specs.declared.seeker.Seeker.{Seeker}
 use Rattle.look_many.specs.declared.seeker.Progress.{Progress}
 use Rattle.look_many.specs.declared.seeker.ManyFault.{ManyFault}
@@ -12,7 +13,7 @@ use Rattle.look_many.specs.Mine.{Mine, Whose, driven}
 use Rattle.look_many.specs.Many.{Frame, Shown, Reading, nothing_read, MayWait, for_replies, for_others, Receives, IsTaken, IsAnsweredFor, Gives, GivesFrom, fresh, begun, ManyTellSoFar, ManyTell, EndsAtForeign}
 use Rattle.look_many.specs.ManyLooked.{ManyTold, TellsEarly}
 use Rattle.look_many.specs.inner.Crowd.{whose, queries_of, KeepsMine, IsFresh, framed, ManyShow, Stand, count_of}
-use Rattle.look_many.specs.inner.ManySteps.{ShowsEarly, ShowsForeign}
+use Rattle.look_many.specs.inner.ManySteps.{HasEnough, ShowsEarly, ShowsForeign}
 use Rattle.look_many.proofs.Telling.{none_shown}
 
 -- ---- the beginning
@@ -21,14 +22,14 @@ each_fresh : (ks : List Seeker) → AllByRecursion IsFresh ks → AllZip KeepsMi
 each_fresh [] h = tt
 each_fresh (k ∷ ks) h = (record { queries = sym (ap (map (as_open k.lookup.book.journal)) h.0.none_open); given = sym h.0.none_driven }, each_fresh ks h.1)
 
-pub begins : (f : Frame) (at : ℕ) (ks : List Seeker) → AllByRecursion IsFresh ks → ManyShow true f (count_of ks) ks (record { moment = at; receives = 0; foreign = 0; left = f.wanted; received = 0; replied = 0 }) f.place None nothing_read (Now at ∷ [])
+pub begins : (f : Frame) (at : ℕ) (ks : List Seeker) → AllByRecursion IsFresh ks → ManyShow true f (count_of ks) ks (record { moment = at; receives = 0; foreign = 0; left = f.wanted; end = end_of at f.minutes; received = 0; replied = 0 }) f.place None nothing_read (Now at ∷ [])
 begins f at ks h = record {
   at = at;
   rest = [];
   first = refl;
-  end = begun (count_of ks) at;
+  end = begun f.minutes (count_of ks) at;
   walk = (refl, refl);
-  keeps_progress = record { moment = refl; sends = omega arith; got = refl; foreign = refl; replied = refl; receives = refl; left = omega arith; owed_is = refl };
+  keeps_progress = record { moment = refl; ends = refl; sends = omega arith; got = refl; foreign = refl; replied = refl; receives = refl; left = omega arith; owed_is = refl };
   keeps_each = each_fresh ks h;
 }
 
@@ -36,7 +37,7 @@ begins f at ks h = record {
 
 waits_more : (wanted : ℕ) (ws : List Whose) (s : Shown) (until : ℕ) → MayWait 0 ws s until → MayWait wanted ws s until
 waits_more wanted ws s until (for_replies some waits) = for_replies some waits
-waits_more wanted ws s until (for_others none over fewer is) = absurd (omega (arith, fewer))
+waits_more wanted ws s until (for_others none over fewer before is) = absurd (omega (arith, fewer))
 
 receives_more : (wanted : ℕ) (ws : List Whose) (s : Shown) (until : ℕ) → Receives 0 ws s until → Receives wanted ws s until
 receives_more wanted ws s until h = record { none_owed = h.none_owed; waits = waits_more wanted ws s until h.waits; asked = h.asked }
@@ -61,7 +62,7 @@ walk_whole true f ws s es t read h = walk_more f ws s es t read h
 walk_whole false f ws s es t read h = h
 
 pub goes_on_with : (f : Frame) (count place : ℕ) (ks : List Seeker) (progress : Progress) (read : Reading) (events : List Event) → ManyShow true f count ks progress place None read events → ManyShow false f count ks progress place None read events
-goes_on_with f count place ks progress read events h = record { at = h.at; rest = h.rest; first = h.first; end = h.end; walk = walk_more f (map whose ks) (begun count h.at) h.rest h.end read h.walk; keeps_progress = h.keeps_progress; keeps_each = h.keeps_each }
+goes_on_with f count place ks progress read events h = record { at = h.at; rest = h.rest; first = h.first; end = h.end; walk = walk_more f (map whose ks) (begun f.minutes count h.at) h.rest h.end read h.walk; keeps_progress = h.keeps_progress; keeps_each = h.keeps_each }
 
 -- ---- the ends
 
@@ -74,17 +75,20 @@ each_given (k ∷ ks) (m ∷ ms) h = (h.0.given, each_given ks ms h.1)
 pub tells_so_far : (busy : Bool) (f : Frame) (place : ℕ) (ks : List Seeker) (progress : Progress) (read : Reading) (events : List Event) (h : ManyShow busy f (count_of ks) ks progress place None read events) → ManyTellSoFar f (map whose ks) events read h.end
 tells_so_far busy f place ks progress read events h =
     subst (λ l. ManyTellSoFar f (map whose ks) l read h.end) (sym h.first)
-    (walk_whole busy f (map whose ks) (begun (count_of ks) h.at) h.rest h.end read h.walk, each_given ks h.end.each h.keeps_each, h.keeps_progress.owed_is)
+    (walk_whole busy f (map whose ks) (begun f.minutes (count_of ks) h.at) h.rest h.end read h.walk, each_given ks h.end.each h.keeps_each, h.keeps_progress.owed_is)
 
-pub tells_whole : (f : Frame) (place : ℕ) (ks : List Seeker) (progress : Progress) (read : Reading) (events : List Event) → ManyShow false f (count_of ks) ks progress place None read events → queries_of ks ≡ [] → progress.left ≡ 0 → ManyTell f (map whose ks) events read
+pub tells_whole : (f : Frame) (place : ℕ) (ks : List Seeker) (progress : Progress) (read : Reading) (events : List Event) → ManyShow false f (count_of ks) ks progress place None read events → queries_of ks ≡ [] → HasEnough progress → ManyTell f (map whose ks) events read
 tells_whole f place ks progress read events h none over = record {
   end = h.end;
   so_far = tells_so_far false f place ks progress read events h;
   none_open = none_shown ks h.end.each h.keeps_each none;
-  enough = (let left = h.keeps_progress.left in omega (arith, left, over));
+  enough = elim over [
+    | inl none_left ↦ inl (let left = h.keeps_progress.left in omega (arith, left, none_left))
+    | inr past ↦ inr (subst (λ m. is_over h.end.ends m ≡ true) (sym h.keeps_progress.moment) (subst (λ o. is_over o progress.moment ≡ true) (sym h.keeps_progress.ends) past))
+  ];
 }
 
-pub told_whole : (f : Frame) (place : ℕ) (ks : List Seeker) (progress : Progress) (read : Reading) (events : List Event) → ManyShow false f (count_of ks) ks progress place None read events → queries_of ks ≡ [] → progress.left ≡ 0 → ManyTold f (map whose ks) read progress.received progress.replied events
+pub told_whole : (f : Frame) (place : ℕ) (ks : List Seeker) (progress : Progress) (read : Reading) (events : List Event) → ManyShow false f (count_of ks) ks progress place None read events → queries_of ks ≡ [] → HasEnough progress → ManyTold f (map whose ks) read progress.received progress.replied events
 unfolding tells_whole
 told_whole f place ks progress read events h none over = record { tell = tells_whole f place ks progress read events h none over; received_are = sym h.keeps_progress.got; replied_are = sym h.keeps_progress.replied }
 

@@ -1,4 +1,4 @@
--- From the rounds of several lookups to where all are over, and as many receives were made as are wanted.
+-- From the rounds of several lookups to where all are over, and as many receives were made as are wanted or the end has come.
 use Rattle.std.proofs.Common.{◌≡◌, ℕ, ◌^◌, ◌<◌, ◌≤◌, List, [], ◌∷◌, ◌++◌, Option, None, Bool, true, false, inl, inr, refl, sym, ap, subst, ◌∙◌, arith}
 use Rattle.std.specs.Prelude.{map, IsSome}
 use Rattle.std.specs.List.{AllByRecursion, AllZip}
@@ -22,7 +22,7 @@ use Rattle.look_many.specs.declared.seeker.ManyFault.TheVariants.{Strays}
 use Rattle.look_many.specs.Many.{Frame, nothing_read, and_then}
 use Rattle.look_many.specs.ManyLooked.{drawn_by}
 use Rattle.look_many.specs.inner.Crowd.{whose, Holding, IsLegal, NoneAsks, NothingLeft, SameSeat, queries_of, ManyShow, Stand, IsFrame, Advances}
-use Rattle.look_many.specs.inner.ManySteps.{IsRunOut, MayServe, EndsEarly}
+use Rattle.look_many.specs.inner.ManySteps.{HasEnough, IsRunOut, MayServe, EndsEarly}
 use Rattle.look_many.specs.inner.Going.{Lives, Goes, HaveGone, AreOver, EndGoing, WentWhole, EndsWhole, SinceBegun}
 use Rattle.look_many.proofs.Lists.{none_front, none_back}
 use Rattle.look_many.proofs.Hosting.{ran_then}
@@ -79,9 +79,9 @@ module _ (accepts : Accepts) (tags : Tags) (server : ServeSetting) where
   since : (busy : Bool) (made : List ℕ) (s t : Stand) (a : Advances true made accepts tags server s t) → SinceBegun accepts tags server s t.told (λ f count events. ManyShow true f count t.seekers t.progress t.words.place None a.more events)
   since busy made s t a f count began is h = a.goes f count nothing_read began is h
 
-  pub went_whole : (s t u : Stand) (owners : List ℕ) → HaveGone accepts tags server s t [] owners → AreOver t → u.words ≡ t.words → SameHands t.host u.host → Advances false [] accepts tags server t u → MayServe u.seekers u.progress → map whose u.seekers ≡ map whose t.seekers → AllZip SameSeat t.seekers u.seekers → u.progress.left ≡ 0 → AllByRecursion IsLegal u.seekers
+  pub went_whole : (s t u : Stand) (owners : List ℕ) → HaveGone accepts tags server s t [] owners → AreOver t → u.words ≡ t.words → SameHands t.host u.host → Advances false [] accepts tags server t u → MayServe u.seekers u.progress → map whose u.seekers ≡ map whose t.seekers → AllZip SameSeat t.seekers u.seekers → HasEnough u.progress → AllByRecursion IsLegal u.seekers
       → WentWhole accepts tags server s u owners
-  went_whole s t u owners h o words same a may journals seats left legal =
+  went_whole s t u owners h o words same a may journals seats enough legal =
       let stays = stays_same t.seekers u.seekers journals seats in
       record {
         read = and_then h.advances.more a.more;
@@ -94,7 +94,7 @@ module _ (accepts : Accepts) (tags : Tags) (server : ServeSetting) where
         legal = legal;
         over = may.over;
         none_open = may.none_open;
-        enough = left;
+        enough = enough;
       }
 
   pub ends_rounds : (fault : ManyFault) (s : Stand) (words' : WordsState) (host' : Hands) (told' : Option (List Event)) → EndGoing fault accepts tags server s words' host' told' → EndsWhole fault accepts tags server s words' host' told'

@@ -1,8 +1,9 @@
 -- What the transcript of a link tells of several journals at once, each of a lookup of its own, while the node answers what is
 -- for none of them. A query has an owner; a datagram is matched to the first lookup, in order, that has an open query to which
 -- it replies (BEP 5), and is foreign where none has; a foreign query is answered at once; each receive gives each lookup its
--- timeouts; a receive begins a round where no round goes on. Where all paths of all have run out, the node serves on.
-use Rattle.std.specs.Prelude.{◌≡◌, ◌≢◌, ◌⊎◌, ℕ, zero, suc, ◌+◌, ◌<◌, ◌≤◌, List, [], ◌∷◌, ◌++◌, length, map, replicate, Option, Some, None, Contains, nat_lt, if◌then◌else◌}
+-- timeouts; a receive begins a round where no round goes on. Where all paths of all have run out, the node serves on, until as
+-- many receives were made as are wanted or, where it has an end by time, that has come.
+use Rattle.std.specs.Prelude.{◌≡◌, ◌≢◌, ◌⊎◌, ℕ, zero, suc, ◌+◌, ◌<◌, ◌≤◌, List, [], ◌∷◌, ◌++◌, length, map, replicate, Option, Some, None, Contains, nat_lt, if◌then◌else◌, true, false}
 use Rattle.std.specs.List.{AllByRecursion, AllZip, flat_map}
 use Rattle.kad_base.specs.declared.types.Addr.{Addr}
 use Rattle.kad_base.specs.declared.types.Contact.{Contact}
@@ -18,13 +19,13 @@ use Rattle.lookup_core.specs.Timeouts.{deadline_of}
 use Rattle.node_serve.specs.declared.setting.ServeSetting.{ServeSetting}
 use Rattle.node_serve.specs.Calls.{Did}
 use Rattle.node_serve.specs.Queries.{IsSilent}
-use Rattle.node_serve.specs.Receives.{waits_until}
+use Rattle.node_serve.specs.Lasting.{end_of, is_over, waits_to}
 use Rattle.node_serve.specs.Sealing.{Tags}
 use Rattle.serve_crew.specs.Answered.{IsReply}
 use Rattle.look_many.specs.Mine.{Mine, Whose, driven, SentGives, UnsentGives, HaveAsked, MatchGives, waited}
 
 -- what all lookups share: which tags they accept, which the node gives and by what setting it answers, the generator's seed
--- and next place, and how many receives are made at least
+-- and next place, how many receives are wanted, and for how many minutes (0: no end by time)
 pub record Frame : Type 0 where
   pub accepts : Accepts
   pub tags : Tags
@@ -32,6 +33,7 @@ pub record Frame : Type 0 where
   pub seed : List ℕ
   pub place : ℕ
   pub wanted : ℕ
+  pub minutes : ℕ
 
 -- a reply that is to be sent, and to whom
 pub record Owed : Type 0 where
@@ -42,6 +44,8 @@ pub record Owed : Type 0 where
 pub record Shown : Type 0 where
   -- the last told moment
   pub moment : ℕ
+  -- the moment at which serving on ends by time, from the first told moment on; `None` where it never does
+  pub ends : Option ℕ
   -- how many queries of lookups were sent, or failed to be
   pub sends : ℕ
   -- how many datagrams came, and how many of them were foreign
@@ -120,11 +124,12 @@ pub record IsOver (w : Whose) (m : Mine) : Type 0 where
   pub all_given : m.given ≡ driven w.journal
   pub run_out : (p : ℕ) → p < w.setting.paths → RunOut w.setting p w.journal
 
--- Some query is open, and the receive waits for its reply. Or none is, all lookups are over, and fewer receives were made than
--- are wanted: then it waits for a minute, or to the last moment that there is.
+-- Some query is open, and the receive waits for its reply, whatever the end by time is. Or none is, all lookups are over, fewer
+-- receives were made than are wanted, and the moment told last is before the end: then it waits for a minute, to the end at most,
+-- or to the last moment that there is.
 pub data MayWait (wanted : ℕ) (ws : List Whose) (s : Shown) (until : ℕ) : Type 0 where
   for_replies : open_of s.each ≢ [] → WaitsUntil s.receives s.moment (deadlines_of s.each) until → MayWait wanted ws s until
-  for_others : open_of s.each ≡ [] → AllZip IsOver ws s.each → s.made < wanted → until ≡ waits_until s.moment → MayWait wanted ws s until
+  for_others : open_of s.each ≡ [] → AllZip IsOver ws s.each → s.made < wanted → is_over s.ends s.moment ≡ false → until ≡ waits_to s.ends s.moment → MayWait wanted ws s until
 
 -- where a receive begins a round, no path of any lookup may ask
 abbrev pub AllHaveAsked : ℕ → List Whose → List Mine → Type 0
@@ -160,6 +165,7 @@ Owes tags server from bytes at did (Some owed) = (owed.to ≡ from) × IsReply t
 abbrev pub after_receive : Shown → ℕ → ℕ → ℕ → ℕ → Option Owed → List Mine → Shown
 after_receive s at got foreign receives owed ns = record {
   moment = at;
+  ends = s.ends;
   sends = s.sends;
   got = got;
   foreign = foreign;
@@ -218,23 +224,24 @@ GivesFrom f ws s (e ∷ es) t read =
 abbrev pub fresh : Mine
 fresh = record { queries = []; given = []; since = []; lost = [] }
 
--- after the first event, which tells the moment
-abbrev pub begun : ℕ → ℕ → Shown
-begun count at = record { moment = at; sends = 0; got = 0; foreign = 0; replied = 0; receives = 0; made = 0; owed = None; each = replicate count fresh }
+-- after the first event, which tells the moment from which the minutes count
+abbrev pub begun : ℕ → ℕ → ℕ → Shown
+begun minutes count at = record { moment = at; ends = end_of at minutes; sends = 0; got = 0; foreign = 0; replied = 0; receives = 0; made = 0; owed = None; each = replicate count fresh }
 
 -- The events tell the journals so far: they give exactly the driver's entries of each, in order, and no reply is owed.
 abbrev pub ManyTellSoFar : Frame → List Whose → List Event → Reading → Shown → Type 0
-ManyTellSoFar f ws [] read end = AllByRecursion (λ w. driven w.journal ≡ []) ws × (read ≡ nothing_read) × (end ≡ begun (length ws) 0)
+ManyTellSoFar f ws [] read end = AllByRecursion (λ w. driven w.journal ≡ []) ws × (read ≡ nothing_read) × (end ≡ begun f.minutes (length ws) 0)
 ManyTellSoFar f ws (Now at ∷ rest) read end =
-    GivesFrom f ws (begun (length ws) at) rest end read × AllZip (λ w m. m.given ≡ driven w.journal) ws end.each × (end.owed ≡ None)
+    GivesFrom f ws (begun f.minutes (length ws) at) rest end read × AllZip (λ w m. m.given ≡ driven w.journal) ws end.each × (end.owed ≡ None)
 ManyTellSoFar f ws other read end = ⊥
 
--- and no query of any lookup is open at the end, and as many receives were made as are wanted
+-- and no query of any lookup is open at the end, and as many receives were made as are wanted, or the moment told last is at or
+-- past the end by time
 pub record ManyTell (f : Frame) (ws : List Whose) (events : List Event) (read : Reading) : Type 0 where
   pub end : Shown
   pub so_far : ManyTellSoFar f ws events read end
   pub none_open : open_of end.each ≡ []
-  pub enough : f.wanted ≤ end.made
+  pub enough : (f.wanted ≤ end.made) ⊎ (is_over end.ends end.moment ≡ true)
 
 -- The events tell the journals so far, and end with the foreign datagram of this number, before which a query of a lookup was
 -- open.

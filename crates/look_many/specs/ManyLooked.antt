@@ -33,6 +33,7 @@ use Rattle.lookup_core.specs.declared.quest.AskKind.TheVariants.{FindNode}
 use Rattle.lookup_core.specs.declared.quest.Quest.{Quest}
 use Rattle.lookup_core.specs.Sealed.{Accepts}
 use Rattle.lookup_core.specs.SendFaults.{unsent, IsCounted}
+use Rattle.node_serve.specs.declared.lasting.Lasting.{Lasting}
 use Rattle.node_serve.specs.declared.setting.ServeSetting.{ServeSetting}
 use Rattle.node_serve.specs.Calls.{Did, on_table}
 use Rattle.node_serve.specs.Sealing.{Tags}
@@ -104,8 +105,8 @@ pub record IsFound (server : ServeSetting) (setting : ManySetting) (before : Tab
 -- ---- all of them
 
 -- what they share
-abbrev pub frame_for : Accepts → Tags → ServeSetting → WordsState → ℕ → Frame
-frame_for accepts tags server words receives = record { accepts = accepts; tags = tags; server = server; seed = words.seed; place = words.place; wanted = receives }
+abbrev pub frame_for : Accepts → Tags → ServeSetting → WordsState → Lasting → Frame
+frame_for accepts tags server words lasting = record { accepts = accepts; tags = tags; server = server; seed = words.seed; place = words.place; wanted = lasting.receives; minutes = lasting.minutes }
 
 -- the call for the seeds of a lookup, and its reply
 abbrev pub seeks : ServeSetting → TableState → Id → Did
@@ -168,11 +169,11 @@ pub record AreOfDriver (n : ℕ) (before after : TableState) (ran : Ran n before
 
 -- What several lookups did. Role 0 of the table's turn is the driver's, and role i + 1 that of the lookup i, which told it of the
 -- contacts that its journal notes, in order.
-pub record ManyLooked (accepts : Accepts) (tags : Tags) (server : ServeSetting) (setting : ManySetting) (targets : List Id) (receives : ℕ) (before after : TableState) (words words' : WordsState) (told told' : Option (List Event)) (many : Many) : Type 0 where
+pub record ManyLooked (accepts : Accepts) (tags : Tags) (server : ServeSetting) (setting : ManySetting) (targets : List Id) (lasting : Lasting) (before after : TableState) (words words' : WordsState) (told told' : Option (List Event)) (many : Many) : Type 0 where
   pub each : AllZip (IsFound server setting before) targets many.outcomes
   pub read : Reading
   pub owners_are : many.owners ≡ read.owners
-  pub tells : Grows told told' (ManyTold (frame_for accepts tags server words receives) (all_read server setting targets (journals_of many.outcomes)) read many.received many.replied)
+  pub tells : Grows told told' (ManyTold (frame_for accepts tags server words lasting) (all_read server setting targets (journals_of many.outcomes)) read many.received many.replied)
   pub drawn : words' ≡ drawn_by words read.owners
   pub ran : Ran (suc (length targets)) before after
   pub memory : HadAllMemory (suc (length targets)) before after ran
@@ -192,12 +193,12 @@ pub record TellsEarly (fault : ManyFault) (f : Frame) (ws : List Whose) (read : 
   pub whole : (events ≡ front) ⊎ ((fault ≢ LinkFault) × (from : Addr) × (bytes : List ℕ) × (until : ℕ) × (at : ℕ) × (events ≡ front ++ Got from bytes until at ∷ []))
 
 -- some of it was done: there are legal journals with these seeds
-pub record ManyBegan (accepts : Accepts) (tags : Tags) (server : ServeSetting) (setting : ManySetting) (targets : List Id) (receives : ℕ) (before after : TableState) (words words' : WordsState) (told told' : Option (List Event)) (fault : ManyFault) : Type 0 where
+pub record ManyBegan (accepts : Accepts) (tags : Tags) (server : ServeSetting) (setting : ManySetting) (targets : List Id) (lasting : Lasting) (before after : TableState) (words words' : WordsState) (told told' : Option (List Event)) (fault : ManyFault) : Type 0 where
   pub journals : List (List Entry)
   pub each : AllZip (IsJournalFor server setting before) targets journals
   pub read : Reading
-  pub tells : Grows told told' (TellsEarly fault (frame_for accepts tags server words receives) (all_read server setting targets journals) read)
-  pub strays : fault ≡ Strays → Grows told told' (λ events. EndsAtForeign (frame_for accepts tags server words receives) (all_read server setting targets journals) events read max_strays)
+  pub tells : Grows told told' (TellsEarly fault (frame_for accepts tags server words lasting) (all_read server setting targets journals) read)
+  pub strays : fault ≡ Strays → Grows told told' (λ events. EndsAtForeign (frame_for accepts tags server words lasting) (all_read server setting targets journals) events read max_strays)
   pub drawn : words' ≡ drawn_by words read.owners
   pub ran : Ran (suc (length targets)) before after
   pub errands : List Errand
@@ -213,7 +214,7 @@ pub record NoneBegan (before after : TableState) (words words' : WordsState) (to
   pub same_table : after ≡ before
 
 -- the lookups ended early
-abbrev pub ManyStopped : Accepts → Tags → ServeSetting → ManySetting → List Id → ℕ → TableState → TableState → WordsState → WordsState → Option (List Event) → Option (List Event) → ManyFault → Type 0
-ManyStopped accepts tags server setting targets receives before after words words' told told' fault =
-    ManyBegan accepts tags server setting targets receives before after words words' told told' fault
+abbrev pub ManyStopped : Accepts → Tags → ServeSetting → ManySetting → List Id → Lasting → TableState → TableState → WordsState → WordsState → Option (List Event) → Option (List Event) → ManyFault → Type 0
+ManyStopped accepts tags server setting targets lasting before after words words' told told' fault =
+    ManyBegan accepts tags server setting targets lasting before after words words' told told' fault
     ⊎ NoneBegan before after words words' told told' fault

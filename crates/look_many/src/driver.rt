@@ -1,5 +1,5 @@
 //! Several lookups and the node that serves meanwhile, from where they begin to where as many receives were made as are
-//! wanted.
+//! wanted, or the end by time has come.
 ghost use Rattle.std.specs.Prelude.{◌≡◌, ◌≤◌, ◌<◌, ◌+◌, ◌^◌, [], suc, length, map, reverse, vec_capacity, IfOk, IfErr, OnOk, IsErrOf, ◌∷◌};
 ghost use Rattle.std.specs.List.{All, AllByRecursion, AllZip, range_with_len};
 ghost use Rattle.kad_base.specs.Contacts.{IsUsable};
@@ -30,7 +30,7 @@ use id_puzzles::Words;
 use item_store::Items;
 use kad_base::limits::RECEIVE_ROOM;
 use kad_base::{Id, Link, NoMemory, Numbers, Serial};
-use node_serve::ServeSetting;
+use node_serve::{Lasting, ServeSetting, end_of};
 use path_worker::PacedCheck;
 use peer_store::Peers;
 use seal_tags::{Seal, SealCheck};
@@ -170,7 +170,7 @@ fn work<R: Threads + Wait + Sync, L: Link, C: PacedCheck + Sync, G: Seal + SealC
     desk: &Desk,
     targets: &[Id],
     setting: &ManySetting,
-    receives: u32,
+    lasting: Lasting,
     check: &C,
     seal: &G,
     table_row: &mut Passes<Table>,
@@ -202,10 +202,10 @@ fn work<R: Threads + Wait + Sync, L: Link, C: PacedCheck + Sync, G: Seal + SealC
     ensures tables { AreAll desk.now.table.now table_row.new.passes }
     ensures peers { AreAll desk.now.peers.now peers_row.new.passes }
     ensures items { AreAll desk.now.items.now items_row.new.passes }
-    ensures ok { IfOk result (FoundBack (task (G.accepted seal.now) (G.tag_of seal.now) desk.now.setting.now setting.now targets.now receives)
+    ensures ok { IfOk result (FoundBack (task (G.accepted seal.now) (G.tag_of seal.now) desk.now.setting.now setting.now targets.now lasting)
         (rows desk.now.table.now desk.now.peers.now desk.now.items.now table_row.new.passes peers_row.new.passes items_row.new.passes)
         words.old words.new (L.told link.old) (L.told link.new)) }
-    ensures stopped { IfErr result (StoppedBack (task (G.accepted seal.now) (G.tag_of seal.now) desk.now.setting.now setting.now targets.now receives)
+    ensures stopped { IfErr result (StoppedBack (task (G.accepted seal.now) (G.tag_of seal.now) desk.now.setting.now setting.now targets.now lasting)
         (rows desk.now.table.now desk.now.peers.now desk.now.items.now table_row.new.passes peers_row.new.passes items_row.new.passes)
         words.old words.new (L.told link.old) (L.told link.new)) }
     ensures link { IsErrOf result ManyFault.LinkFault
@@ -232,11 +232,13 @@ fn work<R: Threads + Wait + Sync, L: Link, C: PacedCheck + Sync, G: Seal + SealC
         targets,
         &mut room.seekers,
     );
+    let began = link.now();
     let mut progress = Progress {
-        moment: link.now(),
+        moment: began,
         receives: 0,
         foreign: 0,
-        left: receives,
+        left: lasting.receives,
+        end: end_of(began, lasting.minutes),
         received: 0,
         replied: 0,
     };
@@ -274,13 +276,15 @@ fn work<R: Threads + Wait + Sync, L: Link, C: PacedCheck + Sync, G: Seal + SealC
     }
 }
 
-/// Looks up to sixteen targets up at the same time, each on its own disjoint paths (S/Kademlia, 2007, section 4.4) from the k
-/// closest contacts of the table, and answers meanwhile what comes for none of them (BEP 5); when all lookups are over it goes
-/// on answering until it has made `receives` receive calls in all, each of which waits for a minute. The node's identifier, k,
-/// policy and seal are the server's, so that its queries don't say that it is read-only (BEP 43). A datagram is that lookup's,
-/// the first in order, which has an open query that it replies to. The table comes back on every answer, after all calls that
-/// were made on it. Where a check says that it takes long, the lookups settle at once after a round, each on a thread of its
-/// own. Strangers choose the contacts, so the hasher of the books' indexes is handed in; no answer depends on it.
+/// Looks up to sixteen targets up at the same time, each on its own disjoint paths (S/Kademlia, 2007, section 4.4) from the
+/// k closest contacts of the table, and answers meanwhile what comes for none of them (BEP 5); when all lookups are over it
+/// goes on answering until it has made as many receive calls in all as `lasting` says, or the moment told last is at or
+/// past its end, counted from the first told moment: each of these calls waits for a minute, to the end at most. The end
+/// cuts no lookup off. The node's identifier, k, policy and seal are the server's, so that its queries don't say that it is
+/// read-only (BEP 43). A datagram is that lookup's, the first in order, which has an open query that it replies to. The
+/// table comes back on every answer, after all calls that were made on it. Where a check says that it takes long, the
+/// lookups settle at once after a round, each on a thread of its own. Strangers choose the contacts, so the hasher of the
+/// books' indexes is handed in; no answer depends on it.
 /// `Strays` comes with the 1,000,000th datagram for no lookup while a query is open, `LinkFault` where a receive failed.
 pub fn look_many<R: Threads + Wait + Sync, L: Link, C: PacedCheck + Sync, G: Seal + SealCheck>(
     rt: &R,
@@ -291,7 +295,7 @@ pub fn look_many<R: Threads + Wait + Sync, L: Link, C: PacedCheck + Sync, G: Sea
     server: &ServeSetting,
     targets: &[Id],
     setting: &ManySetting,
-    receives: u32,
+    lasting: Lasting,
     check: &C,
     seal: &G,
     hasher: RandomState,
@@ -303,9 +307,9 @@ pub fn look_many<R: Threads + Wait + Sync, L: Link, C: PacedCheck + Sync, G: Sea
     requires usable { All (IsUsable server.now.own) (contacts_of table) }
     requires place { words.old.place < 2 ^ 59 }
     ensures ok { IfOk result.1 (ManyLooked (G.accepted seal.now) (G.tag_of seal.now) server.now setting.now targets.now
-        receives table result.0 words.old words.new (L.told link.old) (L.told link.new)) }
+        lasting table result.0 words.old words.new (L.told link.old) (L.told link.new)) }
     ensures stopped { IfErr result.1 (ManyStopped (G.accepted seal.now) (G.tag_of seal.now) server.now setting.now
-        targets.now receives table result.0 words.old words.new (L.told link.old) (L.told link.new)) }
+        targets.now lasting table result.0 words.old words.new (L.told link.old) (L.told link.new)) }
     ensures link { IsErrOf result.1 ManyFault.LinkFault
         → Rose (L.recv_faults link.old) (L.recv_faults link.new) }
     ensures last { IsErrOf result.1 ManyFault.LinkFault
@@ -356,7 +360,7 @@ pub fn look_many<R: Threads + Wait + Sync, L: Link, C: PacedCheck + Sync, G: Sea
         &desk,
         targets,
         setting,
-        receives,
+        lasting,
         check,
         seal,
         &mut table_row,

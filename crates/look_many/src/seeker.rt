@@ -29,14 +29,15 @@ pub(crate) struct Seeker {
 }
 
 /// Where the link stands between two calls: the last told moment, how many receives the round has had (0 where the next
-/// one begins a round), how many datagrams were for no lookup, how many receives are still wanted, how many datagrams came
-/// in all, and how many replies were sent.
+/// one begins a round), how many datagrams were for no lookup, how many receives are still wanted, the moment at which
+/// serving on ends (`None` where no moment does), how many datagrams came in all, and how many replies were sent.
 #[derive(Clone, Copy, Debug)]
 pub(crate) struct Progress {
     pub moment: u64,
     pub receives: u32,
     pub foreign: u64,
     pub left: u32,
+    pub end: Option<u64>,
     pub received: u64,
     pub replied: u64,
 }

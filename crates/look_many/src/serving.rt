@@ -1,5 +1,5 @@
 //! Serving on, where all lookups are over.
-ghost use Rattle.std.specs.Prelude.{◌≡◌, ◌≤◌, ◌<◌, ◌+◌, ◌-◌, [], length, map, false, OnOk, IfErr, IsErrOf};
+ghost use Rattle.std.specs.Prelude.{◌≡◌, ◌≤◌, ◌<◌, ◌+◌, ◌-◌, [], length, map, false, OnOk, IfErr, IsErrOf, true};
 ghost use Rattle.std.specs.List.{AllZip};
 ghost use Rattle.kad_base.specs.Limits.{max_datagram};
 ghost use Rattle.kad_base.specs.Failing.{FailsLast};
@@ -8,22 +8,31 @@ ghost use Rattle.id_puzzles.specs.Drawn.{WordsState};
 ghost use Rattle.node_serve.specs.Calls.{IsSetting};
 ghost use Rattle.serve_crew.specs.Hands.{SameHands};
 ghost use Rattle.look_many.specs.inner.Crowd.{whose, SameSeat, Advances, stand};
-ghost use Rattle.look_many.specs.inner.ManySteps.{IsOfDesk, MayServe, EndsEarly};
+ghost use Rattle.look_many.specs.inner.ManySteps.{IsOfDesk, MayServe, EndsEarly, HasEnough, WantsMore};
 
 use crate::host::Desk;
 use crate::legal::all_legal;
 use crate::receive::receive_until;
 use crate::seeker::{ManyFault, Progress, Seeker};
 use kad_base::Link;
+use node_serve::{is_over, waits_to};
 use seal_tags::{Seal, SealCheck};
 use serve_crew::ServeWorker;
 use std::alloc::Global;
 use std::sync::Wait;
 
-/// How long a receive call waits for others than the lookups, in milliseconds.
-const PATIENCE: u64 = 60_000;
+/// Whether serving on is over: as many receives were made as are wanted, or the moment told last is at or past the end.
+fn has_enough(progress: &Progress) -> bool
+    ensures enough { result ≡ true → HasEnough progress.now }
+    ensures more { result ≡ false → WantsMore progress.now }
+{
+    if progress.left == 0 {
+        return true;
+    }
+    is_over(progress.end, progress.moment)
+}
 
-/// Makes one receive call that waits a minute for others than the lookups, and answers what came.
+/// Makes one receive call that waits for others than the lookups, a minute or to the end, and answers what came.
 fn serve_one<R: Wait, L: Link, G: Seal + SealCheck>(
     rt: &R,
     alloc: Global,
@@ -39,7 +48,7 @@ fn serve_one<R: Wait, L: Link, G: Seal + SealCheck>(
     requires setting { IsSetting desk.now.setting.now }
     requires own { IsOfDesk desk.now host.old }
     requires may { MayServe seekers.old progress.old }
-    requires left { 0 < progress.old.left }
+    requires more { WantsMore progress.old }
     requires room { length buf.old ≡ max_datagram + 1 }
     requires moment { L.moment link.old ≡ progress.old.moment }
     ensures same { SameHands host.old host.new }
@@ -68,7 +77,7 @@ fn serve_one<R: Wait, L: Link, G: Seal + SealCheck>(
     ensures kept { L.kept link.new ≡ L.kept link.old }
 {
     all_legal(seekers);
-    let until = progress.moment.saturating_add(PATIENCE);
+    let until = waits_to(progress.end, progress.moment);
     match receive_until(
         rt, alloc, link, desk, host, seekers, progress, seal, false, until, buf, out,
     ) {
@@ -77,8 +86,8 @@ fn serve_one<R: Wait, L: Link, G: Seal + SealCheck>(
     }
 }
 
-/// Serves on where all lookups are over, until as many receives were made as are wanted. However many datagrams come, that
-/// is no fault.
+/// Serves on where all lookups are over, until as many receives were made as are wanted, or the end has come. However many
+/// datagrams come, that is no fault.
 pub(crate) fn serve_on<R: Wait, L: Link, G: Seal + SealCheck>(
     rt: &R,
     alloc: Global,
@@ -105,7 +114,7 @@ pub(crate) fn serve_on<R: Wait, L: Link, G: Seal + SealCheck>(
         (stand seekers.new progress.new words host.new (L.told link.new))) }
     ensures may { OnOk result (MayServe seekers.new progress.new) }
     ensures journals { OnOk result (map whose seekers.new ≡ map whose seekers.old) }
-    ensures over { OnOk result (progress.new.left ≡ 0) }
+    ensures over { OnOk result (HasEnough progress.new) }
     ensures moment { OnOk result (L.moment link.new ≡ progress.new.moment) }
     ensures stops { IfErr result (λ fault. (words : WordsState) → EndsEarly false fault
         (G.accepted seal.now) (G.tag_of seal.now) desk.now.setting.now
@@ -121,7 +130,7 @@ pub(crate) fn serve_on<R: Wait, L: Link, G: Seal + SealCheck>(
         → L.recv_faults link.new ≡ L.recv_faults link.old }
     ensures kept { L.kept link.new ≡ L.kept link.old }
 {
-    'serving: while progress.left != 0 {
+    'serving: while !has_enough(progress) {
         match serve_one(
             rt, alloc, link, desk, host, seekers, progress, seal, buf, out,
         ) {

@@ -102,9 +102,10 @@ pub record KeepsMine (k : Seeker) (m : Mine) : Type 0 where
 
 -- ---- all of them
 
--- and who drives them just this; `left` is how many receives are still wanted
+-- and who drives them just this; `left` is how many receives are still wanted, and `ends` when serving on ends by time
 pub record KeepsProgress (f : Frame) (progress : Progress) (place : ℕ) (owed : Option Owed) (s : Shown) : Type 0 where
   pub moment : s.moment ≡ progress.moment
+  pub ends : s.ends ≡ progress.end
   pub sends : f.place + s.sends ≡ place
   pub got : s.got ≡ progress.received
   pub foreign : s.foreign ≡ progress.foreign
@@ -123,7 +124,7 @@ pub record ManyShow (busy : Bool) (f : Frame) (count : ℕ) (ks : List Seeker) (
   pub rest : List Event
   pub first : events ≡ Now at ∷ rest
   pub end : Shown
-  pub walk : GivesFrom (framed busy f) (map whose ks) (begun count at) rest end read
+  pub walk : GivesFrom (framed busy f) (map whose ks) (begun f.minutes count at) rest end read
   pub keeps_progress : KeepsProgress f progress place owed end
   pub keeps_each : AllZip KeepsMine ks end.each
 

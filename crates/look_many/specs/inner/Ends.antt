@@ -8,7 +8,9 @@ use Rattle.kad_base.specs.Outside.{Grows}
 use Rattle.id_puzzles.specs.Drawn.{WordsState}
 use Rattle.turn_book.specs.Turns.{fresh}
 use Rattle.lookup_core.specs.Sealed.{Accepts}
+use Rattle.node_serve.specs.declared.lasting.Lasting.{Lasting}
 use Rattle.node_serve.specs.declared.setting.ServeSetting.{ServeSetting}
+use Rattle.node_serve.specs.Lasting.{end_of}
 use Rattle.node_serve.specs.Sealing.{Tags}
 use Rattle.serve_crew.specs.Hands.{Hands, SameHands, hands}
 use Rattle.look_many.specs.declared.found.ManySetting.{ManySetting}
@@ -26,17 +28,17 @@ pub record Task : Type 0 where
   pub server : ServeSetting
   pub setting : ManySetting
   pub targets : List Id
-  pub receives : ℕ
+  pub lasting : Lasting
 
-abbrev pub task : Accepts → Tags → ServeSetting → ManySetting → List Id → ℕ → Task
-task accepts tags server setting targets receives = record { accepts = accepts; tags = tags; server = server; setting = setting; targets = targets; receives = receives }
+abbrev pub task : Accepts → Tags → ServeSetting → ManySetting → List Id → Lasting → Task
+task accepts tags server setting targets lasting = record { accepts = accepts; tags = tags; server = server; setting = setting; targets = targets; lasting = lasting }
 
 -- where they begin: each with its book and a pass that made no call, the moment was told, and nothing else was done
 pub record Starts (k : Task) (r : Rows) (words : WordsState) (told : Option (List Event)) (s : Stand) : Type 0 where
   pub seekers : AllZip (IsSeekerFor k.server k.setting r.tables.start) k.targets s.seekers
   pub passes : map (λ x. x.pass) s.seekers ≡ map (fresh r.tables.id) (range_with_len 1 (length k.targets))
   pub host : s.host ≡ hands (fresh r.tables.id 0) (fresh r.stores.id 0) (fresh r.shelves.id 0)
-  pub progress : s.progress ≡ record { moment = s.progress.moment; receives = 0; foreign = 0; left = k.receives; received = 0; replied = 0 }
+  pub progress : s.progress ≡ record { moment = s.progress.moment; receives = 0; foreign = 0; left = k.lasting.receives; end = end_of s.progress.moment k.lasting.minutes; received = 0; replied = 0 }
   pub words_are : s.words ≡ words
   pub now_told : Grows told s.told (λ events. events ≡ Now s.progress.moment ∷ [])
 

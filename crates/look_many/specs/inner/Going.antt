@@ -22,7 +22,7 @@ use Rattle.look_many.specs.declared.seeker.ManyFault.TheVariants.{Strays}
 use Rattle.look_many.specs.Many.{Frame, Reading, nothing_read}
 use Rattle.look_many.specs.ManyLooked.{noted, drawn_by, max_lookups}
 use Rattle.look_many.specs.inner.Crowd.{Holding, IsLegal, NoneAsks, queries_of, ManyShow, Ran, Stand, IsFrame, Advances}
-use Rattle.look_many.specs.inner.ManySteps.{HasCounted, IsReady, MayAskAll, HasWords, IsRunOut, Stops, EndsByForeign, ShowsEarly, ShowsForeign, RanOn}
+use Rattle.look_many.specs.inner.ManySteps.{HasCounted, IsReady, MayAskAll, HasWords, HasEnough, IsRunOut, Stops, EndsByForeign, ShowsEarly, ShowsForeign, RanOn}
 
 -- ---- a lookup, since it began
 
@@ -104,7 +104,7 @@ SinceBegun accepts tags server old told' P =
     → Grows began old.told (λ events. ManyShow true f count old.seekers old.progress old.words.place None nothing_read events)
     → Grows began told' (λ events. P f count events)
 
--- all lookups are over, and then as many receives were made as are wanted
+-- all lookups are over, and then as many receives were made as are wanted, or the end by time has come
 pub record WentWhole (accepts : Accepts) (tags : Tags) (server : ServeSetting) (old new : Stand) (owners : List ℕ) : Type 0 where
   pub read : Reading
   pub shows : SinceBegun accepts tags server old new.told (λ f count events. ManyShow false f count new.seekers new.progress new.words.place None read events)
@@ -115,7 +115,7 @@ pub record WentWhole (accepts : Accepts) (tags : Tags) (server : ServeSetting) (
   pub legal : AllByRecursion IsLegal new.seekers
   pub over : AllByRecursion IsRunOut new.seekers
   pub none_open : queries_of new.seekers ≡ []
-  pub enough : new.progress.left ≡ 0
+  pub enough : HasEnough new.progress
 
 -- they ended early: the events, perhaps without the last, show a last stand, and the node that serves perhaps went beyond it
 pub record EndsWhole (fault : ManyFault) (accepts : Accepts) (tags : Tags) (server : ServeSetting) (old : Stand) (words' : WordsState) (host' : Hands) (told' : Option (List Event)) : Type 0 where

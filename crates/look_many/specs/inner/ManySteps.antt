@@ -35,7 +35,8 @@ use Rattle.lookup_core.specs.Sealed.{Accepts}
 use Rattle.lookup_core.specs.Timeouts.{deadline_of, is_overdue}
 use Rattle.node_serve.specs.declared.setting.ServeSetting.{ServeSetting}
 use Rattle.node_serve.specs.Calls.{Did}
-use Rattle.node_serve.specs.Receives.{waits_until, tried}
+use Rattle.node_serve.specs.Receives.{tried}
+use Rattle.node_serve.specs.Lasting.{is_over, waits_to}
 use Rattle.node_serve.specs.Sealing.{Tags}
 use Rattle.serve_crew.specs.Hands.{Hands, Grew, SameHands, SamePass}
 use Rattle.look_many.specs.declared.host.Desk.{Desk}
@@ -128,7 +129,7 @@ pub record IsRunOut (k : Seeker) : Type 0 where
 -- by whether some query is open
 pub data WaitsFor (ks : List Seeker) (progress : Progress) (until : ℕ) (busy : Bool) : Type 0 where
   for_replies : busy ≡ true → queries_of ks ≢ [] → WaitsUntil progress.receives progress.moment (map (λ q. q.deadline) (queries_of ks)) until → progress.foreign < max_strays → WaitsFor ks progress until busy
-  for_others : busy ≡ false → queries_of ks ≡ [] → AllByRecursion IsRunOut ks → 0 < progress.left → until ≡ waits_until progress.moment → WaitsFor ks progress until busy
+  for_others : busy ≡ false → queries_of ks ≡ [] → AllByRecursion IsRunOut ks → 0 < progress.left → is_over progress.end progress.moment ≡ false → until ≡ waits_to progress.end progress.moment → WaitsFor ks progress until busy
 
 -- the most asks of all lookups: sixteen at most, each of which asks no contact twice, nor more than its paths have
 abbrev pub max_all_asks : ℕ
@@ -181,13 +182,13 @@ pub record Comes (accepts : Accepts) (tags : Tags) (server : ServeSetting) (busy
   pub handles : Handles accepts tags server busy from bytes at old mid progress counted host between owed
   pub expires : AllZip (Expires at) mid new
   pub ran : Ran between host' [] (all_lapsed at mid)
-  pub progress_is : progress' ≡ record { moment = at; receives = goes_on progress.receives (length (queries_of new)); foreign = counted.foreign; left = progress.left - 1; received = progress.received + 1; replied = progress.replied }
+  pub progress_is : progress' ≡ record { moment = at; receives = goes_on progress.receives (length (queries_of new)); foreign = counted.foreign; left = progress.left - 1; end = progress.end; received = progress.received + 1; replied = progress.replied }
 
 -- no datagram came: all lost who was overdue, and the round is over
 pub record Passes (at : ℕ) (old new : List Seeker) (progress progress' : Progress) (host host' : Hands) : Type 0 where
   pub expires : AllZip (Expires at) old new
   pub ran : Ran host host' [] (all_lapsed at old)
-  pub progress_is : progress' ≡ record { moment = at; receives = 0; foreign = progress.foreign; left = progress.left - 1; received = progress.received; replied = progress.replied }
+  pub progress_is : progress' ≡ record { moment = at; receives = 0; foreign = progress.foreign; left = progress.left - 1; end = progress.end; received = progress.received; replied = progress.replied }
 
 -- what is owed was sent, or the link refused it; nothing is sent where nothing is owed
 abbrev pub Pays : Option Owed → Bool → List Event → Type 0
@@ -310,6 +311,15 @@ pub record MayServe (ks : List Seeker) (progress : Progress) : Type 0 where
   pub few_receives : progress.receives < max_round_receives
   pub room : progress.foreign + progress.left + max_all_asks < 2 ^ 64
   pub counted : HasCounted ks progress
+
+-- serving on is over: as many receives were made as are wanted, or the moment told last is at or past the end by time
+abbrev pub HasEnough : Progress → Type 0
+HasEnough progress = (progress.left ≡ 0) ⊎ (is_over progress.end progress.moment ≡ true)
+
+-- or it isn't: one receive more may be made
+pub record WantsMore (progress : Progress) : Type 0 where
+  pub some_left : 0 < progress.left
+  pub before_end : is_over progress.end progress.moment ≡ false
 
 -- what the receives of a round leave, beside what they told
 pub record ReceivedAll (old new : List Seeker) (progress progress' : Progress) : Type 0 where

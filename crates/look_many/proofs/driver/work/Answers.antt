@@ -402,11 +402,11 @@ returns-in-Err-clause-stopped g c =
     ∙ ap (λ l. c.go-ended.new.host.table ∷ map (λ (k : Seeker). k.pass) (reverse l)) back in
     let peers_is : c.push-2.new.self.passes ≡ c.go-ended.new.host.peers ∷ [] = c.push-2.ensures.list ∙ ap (λ l. l ++ c.into_passes-table_pass.result.1 ∷ []) c.only_pass-peers_pass.ensures.row ∙ ap (λ x. x ∷ []) c.into_passes-table_pass.ensures.peers in
     let items_is : c.push-3.new.self.passes ≡ c.go-ended.new.host.items ∷ [] = c.push-3.ensures.list ∙ ap (λ l. l ++ c.into_passes-table_pass.result.2 ∷ []) c.only_pass-items_pass.ensures.row ∙ ap (λ x. x ∷ []) c.into_passes-table_pass.ensures.items in
-    let progress : Progress = record { moment = c.now.result; receives = 0; foreign = 0; left = c.args.receives; received = 0; replied = 0 } in
-    let old : Stand = stand vs progress c.args.words.now c.new-host.result (g.L.Link.told c.now.new.self) in
-    let job = task (g.G.SealCheck.accepted c.args.seal.now) (g.G.Seal.tag_of c.args.seal.now) server setting ts c.args.receives in
+    let progress : Progress = record { moment = c.now-began.result; receives = 0; foreign = 0; left = c.args.lasting.receives; end = c.end_of.result; received = 0; replied = 0 } in
+    let old : Stand = stand vs progress c.args.words.now c.new-host.result (g.L.Link.told c.now-began.new.self) in
+    let job = task (g.G.SealCheck.accepted c.args.seal.now) (g.G.Seal.tag_of c.args.seal.now) server setting ts c.args.lasting in
     let all = rows T P I c.gather.new.row.passes c.push-2.new.self.passes c.push-3.new.self.passes in
-    let begun : Starts job all c.args.words.now (g.L.Link.told c.args.link.now) old = record { seekers = seekers; passes = passes; host = is_host; progress = refl; words_are = refl; now_told = c.now.ensures.told } in
+    let begun : Starts job all c.args.words.now (g.L.Link.told c.args.link.now) old = record { seekers = seekers; passes = passes; host = is_host; progress = ap (λ e. record { moment = c.now-began.result; receives = 0; foreign = 0; left = c.args.lasting.receives; end = e; received = 0; replied = 0 }) c.end_of.ensures; words_are = refl; now_told = c.now-began.ensures.told } in
     record { old = old; starts = begun; host = c.go-ended.new.host; seekers = ls; len = len; ends = c.in-Err.ensures.ends; back = are_back T P I (length ts) vs ls c.new-host.result c.go-ended.new.host count passes is_host c.go-ended.ensures.same c.go-ended.ensures.seats len c.gather.new.row.passes c.push-2.new.self.passes c.push-3.new.self.passes row_is peers_is items_is }
 
 pub finish_all-requires : goal.finish_all-requires
@@ -455,11 +455,11 @@ returns-in-Ok-finish_all-clause-ok g c =
     ∙ ap (λ l. c.go-ended.new.host.table ∷ map (λ (k : Seeker). k.pass) (reverse l)) back in
     let peers_is : c.push-2.new.self.passes ≡ c.go-ended.new.host.peers ∷ [] = c.push-2.ensures.list ∙ ap (λ l. l ++ c.into_passes-table_pass.result.1 ∷ []) c.only_pass-peers_pass.ensures.row ∙ ap (λ x. x ∷ []) c.into_passes-table_pass.ensures.peers in
     let items_is : c.push-3.new.self.passes ≡ c.go-ended.new.host.items ∷ [] = c.push-3.ensures.list ∙ ap (λ l. l ++ c.into_passes-table_pass.result.2 ∷ []) c.only_pass-items_pass.ensures.row ∙ ap (λ x. x ∷ []) c.into_passes-table_pass.ensures.items in
-    let progress : Progress = record { moment = c.now.result; receives = 0; foreign = 0; left = c.args.receives; received = 0; replied = 0 } in
-    let old : Stand = stand vs progress c.args.words.now c.new-host.result (g.L.Link.told c.now.new.self) in
-    let job = task (g.G.SealCheck.accepted c.args.seal.now) (g.G.Seal.tag_of c.args.seal.now) server setting ts c.args.receives in
+    let progress : Progress = record { moment = c.now-began.result; receives = 0; foreign = 0; left = c.args.lasting.receives; end = c.end_of.result; received = 0; replied = 0 } in
+    let old : Stand = stand vs progress c.args.words.now c.new-host.result (g.L.Link.told c.now-began.new.self) in
+    let job = task (g.G.SealCheck.accepted c.args.seal.now) (g.G.Seal.tag_of c.args.seal.now) server setting ts c.args.lasting in
     let all = rows T P I c.gather.new.row.passes c.push-2.new.self.passes c.push-3.new.self.passes in
-    let begun : Starts job all c.args.words.now (g.L.Link.told c.args.link.now) old = record { seekers = seekers; passes = passes; host = is_host; progress = refl; words_are = refl; now_told = c.now.ensures.told } in
+    let begun : Starts job all c.args.words.now (g.L.Link.told c.args.link.now) old = record { seekers = seekers; passes = passes; host = is_host; progress = ap (λ e. record { moment = c.now-began.result; receives = 0; foreign = 0; left = c.args.lasting.receives; end = e; received = 0; replied = 0 }) c.end_of.ensures; words_are = refl; now_told = c.now-began.ensures.told } in
     record {
       old = old;
       new = _;
@@ -502,15 +502,15 @@ returns-clause-stopped g c =
     ∙ ap (λ l. c.go-ended.new.host.table ∷ map (λ (k : Seeker). k.pass) (reverse l)) back in
     let peers_is : c.push-2.new.self.passes ≡ c.go-ended.new.host.peers ∷ [] = c.push-2.ensures.list ∙ ap (λ l. l ++ c.into_passes-table_pass.result.1 ∷ []) c.only_pass-peers_pass.ensures.row ∙ ap (λ x. x ∷ []) c.into_passes-table_pass.ensures.peers in
     let items_is : c.push-3.new.self.passes ≡ c.go-ended.new.host.items ∷ [] = c.push-3.ensures.list ∙ ap (λ l. l ++ c.into_passes-table_pass.result.2 ∷ []) c.only_pass-items_pass.ensures.row ∙ ap (λ x. x ∷ []) c.into_passes-table_pass.ensures.items in
-    let progress : Progress = record { moment = c.now.result; receives = 0; foreign = 0; left = c.args.receives; received = 0; replied = 0 } in
-    let old : Stand = stand vs progress c.args.words.now c.new-host.result (g.L.Link.told c.now.new.self) in
-    let job = task (g.G.SealCheck.accepted c.args.seal.now) (g.G.Seal.tag_of c.args.seal.now) server setting ts c.args.receives in
+    let progress : Progress = record { moment = c.now-began.result; receives = 0; foreign = 0; left = c.args.lasting.receives; end = c.end_of.result; received = 0; replied = 0 } in
+    let old : Stand = stand vs progress c.args.words.now c.new-host.result (g.L.Link.told c.now-began.new.self) in
+    let job = task (g.G.SealCheck.accepted c.args.seal.now) (g.G.Seal.tag_of c.args.seal.now) server setting ts c.args.lasting in
     let all = rows T P I c.gather.new.row.passes c.push-2.new.self.passes c.push-3.new.self.passes in
-    let begun : Starts job all c.args.words.now (g.L.Link.told c.args.link.now) old = record { seekers = seekers; passes = passes; host = is_host; progress = refl; words_are = refl; now_told = c.now.ensures.told } in
+    let begun : Starts job all c.args.words.now (g.L.Link.told c.args.link.now) old = record { seekers = seekers; passes = passes; host = is_host; progress = ap (λ e. record { moment = c.now-began.result; receives = 0; foreign = 0; left = c.args.lasting.receives; end = e; received = 0; replied = 0 }) c.end_of.ensures; words_are = refl; now_told = c.now-began.ensures.told } in
     record { old = old; starts = begun; host = c.go-ended.new.host; seekers = ls; len = len; ends = ends_finished job old _ _ c.go-ended.ensures.same c.in-Ok.ensures.went; back = are_back T P I (length ts) vs ls c.new-host.result c.go-ended.new.host count passes is_host c.go-ended.ensures.same c.go-ended.ensures.seats len c.gather.new.row.passes c.push-2.new.self.passes c.push-3.new.self.passes row_is peers_is items_is }
 
 pub returns-in-Err-clause-last : goal.returns-in-Err-clause-last
-returns-in-Err-clause-last g c is = fails_later _ _ _ _ _ c.now.ensures.no_recv_fault (c.in-Err.ensures.last (let fault : c.in-Err.fault ≡ LinkFault = cc in ap (λ x. Err x) fault))
+returns-in-Err-clause-last g c is = fails_later _ _ _ _ _ c.now-began.ensures.no_recv_fault (c.in-Err.ensures.last (let fault : c.in-Err.fault ≡ LinkFault = cc in ap (λ x. Err x) fault))
 
 pub returns-in-Ok-finish_all-clause-refused : goal.returns-in-Ok-finish_all-clause-refused
 returns-in-Ok-finish_all-clause-refused g c =
@@ -527,4 +527,4 @@ returns-in-Ok-finish_all-clause-refused g c =
     let vec : c.seat_all.new.seekers.len ≡ length c.seat_all.new.seekers.items = search rules in
     let back : take c.seat_all.new.seekers.len (ls ++ drop (length ls) ks) ≡ ls = written c.seat_all.new.seekers.len ks ls (vec ∙ ap length (sym value) ∙ sym len) (len ∙ ap length value) in
     let found = books_done c.gather.new.books.items ls c.in-Ok-finish_all.outcomes (c.gather.ensures.books ∙ ap (λ l. map (λ (k : Seeker). k.lookup.book) (reverse l)) back) c.in-Ok-finish_all.ensures in
-    counts_unsent server setting T.start ts vs ls c.in-Ok-finish_all.outcomes _ _ _ seekers c.now.ensures.no_send_fault c.in-Ok.ensures.loses found
+    counts_unsent server setting T.start ts vs ls c.in-Ok-finish_all.outcomes _ _ _ seekers c.now-began.ensures.no_send_fault c.in-Ok.ensures.loses found

@@ -5,10 +5,10 @@ use Rattle.look_many.proofs.ServingOn.{may_serve, serve_next}
 use Rattle.look_many.proofs.serving.serve_one.Goals as goal
 
 pub receive_until-requires-clause-may : goal.receive_until-requires-clause-may
-receive_until-requires-clause-may g c = may_serve c.args.seekers.now c.args.progress.now c.saturating_add-until.result c.requires.may c.requires.left c.saturating_add-until.ensures
+receive_until-requires-clause-may g c = may_serve c.args.seekers.now c.args.progress.now c.waits_to-until.result c.requires.may c.requires.more c.waits_to-until.ensures
 
 pub returns-in-Ok-clause-may : goal.returns-in-Ok-clause-may
-returns-in-Ok-clause-may g c = serve_next c.args.seekers.now c.receive_until.new.seekers c.args.progress.now c.receive_until.new.progress c.requires.may c.requires.left c.in-Ok.ensures.received
+returns-in-Ok-clause-may g c = serve_next c.args.seekers.now c.receive_until.new.seekers c.args.progress.now c.receive_until.new.progress c.requires.may c.requires.more c.in-Ok.ensures.received
 
 pub returns-in-Err-clause-stops : goal.returns-in-Err-clause-stops
 returns-in-Err-clause-stops g c words =
