@@ -9,13 +9,14 @@ use Rattle.kad_base.specs.Outside.{Grows, Happens}
 use Rattle.kad_base.proofs.Grown.{grows_then, grows_weaker}
 use Rattle.contact_table.specs.TableState.{TableState}
 use Rattle.node_tokens.specs.Tokens.{TokensState}
+use Rattle.node_serve.specs.declared.lasting.Lasting.{Lasting}
 use Rattle.node_serve.specs.declared.service.ServeFault.{ServeFault}
 use Rattle.node_serve.specs.declared.service.ServeFault.TheVariants.{NoMemory}
 use Rattle.node_serve.specs.declared.setting.ServeSetting.{ServeSetting}
 use Rattle.serve_batches.specs.ManyServed.{ManyServed, ManyBegun}
 use Rattle.kad_words.specs.declared.command.ServeWords.{ServeWords}
 use Rattle.command_base.specs.Called.{Called}
-use Rattle.node_commands.specs.Served.{setting_of, Served, ServedSome, ServedAtOnce, ServedSomeAtOnce, HasServed, HasServedSome, alone, at_once, some_alone, some_at_once}
+use Rattle.node_commands.specs.Served.{setting_of, lasting_of, Served, ServedSome, ServedAtOnce, ServedSomeAtOnce, HasServed, HasServedSome, alone, at_once, some_alone, some_at_once}
 use Rattle.command_base.specs.Shown.{Shown}
 use Rattle.command_base.specs.Started.{own_of}
 
@@ -36,48 +37,50 @@ pub setting_is : (service : ServeWords) (random : List ℕ) (proofs : List Repor
 setting_is service random proofs own tokens mine drawn =
     ap (λ (id : Id). setting_by service proofs id tokens) mine ∙ ap (λ (t : TokensState). setting_by service proofs (own_of service.own random) t) drawn
 
-pub served_at_once : (service : ServeWords) (called : Called) (table after : TableState) (proofs : List Report) (setting : ServeSetting) (began received replied : ℕ) (a b c : Option (List Event))
-    → setting ≡ setting_of service called.random proofs → Grows a b (λ es. es ≡ Now began ∷ [])
-    → Happens b c (ManyServed called.tags setting service.workers began service.receives table after received replied)
+pub served_at_once : (service : ServeWords) (called : Called) (table after : TableState) (proofs : List Report) (setting : ServeSetting) (lasting : Lasting) (began received replied : ℕ) (a b c : Option (List Event))
+    → setting ≡ setting_of service called.random proofs → lasting ≡ lasting_of service → Grows a b (λ es. es ≡ Now began ∷ [])
+    → Happens b c (ManyServed called.tags setting service.workers began lasting table after received replied)
     → Happens a c (ServedAtOnce service called table after proofs received replied)
-served_at_once service called table after proofs setting began received replied a b c is g h =
+served_at_once service called table after proofs setting lasting began received replied a b c is lasts g h =
     happens_then a b c began _ _ g h (λ es p. record {
       began = began;
       then = es;
       whole = refl;
-      serves = subst (λ (s : ServeSetting). ManyServed called.tags s service.workers began service.receives table after received replied es) is p;
+      serves = subst (λ (l : Lasting). ManyServed called.tags (setting_of service called.random proofs) service.workers began l table after received replied es) lasts
+          (subst (λ (s : ServeSetting). ManyServed called.tags s service.workers began lasting table after received replied es) is p);
     })
 
-pub begun_at_once : (service : ServeWords) (called : Called) (table after : TableState) (proofs : List Report) (setting : ServeSetting) (began : ℕ) (fault : ServeFault) (a b c : Option (List Event))
-    → setting ≡ setting_of service called.random proofs → Grows a b (λ es. es ≡ Now began ∷ [])
-    → Happens b c (ManyBegun called.tags setting service.workers began service.receives table after fault)
+pub begun_at_once : (service : ServeWords) (called : Called) (table after : TableState) (proofs : List Report) (setting : ServeSetting) (lasting : Lasting) (began : ℕ) (fault : ServeFault) (a b c : Option (List Event))
+    → setting ≡ setting_of service called.random proofs → lasting ≡ lasting_of service → Grows a b (λ es. es ≡ Now began ∷ [])
+    → Happens b c (ManyBegun called.tags setting service.workers began lasting table after fault)
     → Happens a c (ServedSomeAtOnce service called table after proofs fault)
-begun_at_once service called table after proofs setting began fault a b c is g h =
+begun_at_once service called table after proofs setting lasting began fault a b c is lasts g h =
     happens_then a b c began _ _ g h (λ es p. record {
       began = began;
       then = es;
       whole = refl;
-      serves = subst (λ (s : ServeSetting). ManyBegun called.tags s service.workers began service.receives table after fault es) is p;
+      serves = subst (λ (l : Lasting). ManyBegun called.tags (setting_of service called.random proofs) service.workers began l table after fault es) lasts
+          (subst (λ (s : ServeSetting). ManyBegun called.tags s service.workers began lasting table after fault es) is p);
     })
 
 -- ---- all that was served is some
 
-module _ (service : ServeWords) (called : Called) (link : Shown Event) (table : TableState) (proofs : List Report) (received replied : ℕ) where
-  alone_some : Grows link.before link.after (Served service called table proofs received replied) → Grows link.before link.after (ServedSome service called table proofs)
+module _ (service : ServeWords) (called : Called) (link : Shown Event) (table after : TableState) (proofs : List Report) (received replied : ℕ) where
+  alone_some : Grows link.before link.after (Served service called table after proofs received replied) → Grows link.before link.after (ServedSome service called table after proofs)
   alone_some g = grows_weaker link.before link.after _ _ g (λ es s. record {
     began = s.began;
     then = s.then;
     whole = s.whole;
-    serves = record { made = service.receives; few = omega arith; front = s.then; end = s.serves.end; serves = s.serves.serves; last = []; whole = sym (append-nil s.then); ended = inl refl };
+    serves = record { made = s.serves.made; few = s.serves.few; front = s.then; end = s.serves.end; serves = s.serves.serves; table_is = s.serves.table_is; last = []; whole = sym (append-nil s.then); ended = inl refl };
   })
 
-  many_some : (setting : ServeSetting) (began : ℕ) (after : TableState) (es : List Event) → ManyServed called.tags setting service.workers began service.receives table after received replied es
-      → ManyBegun called.tags setting service.workers began service.receives table after NoMemory es
-  many_some setting began after es m = record {
+  many_some : (setting : ServeSetting) (began : ℕ) (es : List Event) → ManyServed called.tags setting service.workers began (lasting_of service) table after received replied es
+      → ManyBegun called.tags setting service.workers began (lasting_of service) table after NoMemory es
+  many_some setting began es m = record {
     ran = m.ran;
     batches = m.batches;
     front = es;
-    left = 0;
+    left = m.left;
     moment = m.end;
     are = m.are;
     done = m.done;
@@ -87,10 +90,10 @@ module _ (service : ServeWords) (called : Called) (link : Shown Event) (table : 
     ended = inl refl;
   }
 
-  pub all_is_some : HasServed service called link table proofs received replied → HasServedSome service called link table proofs
-  all_is_some (alone one g) = some_alone one (alone_some g)
-  all_is_some (at_once several after h) = some_at_once several after NoMemory (record {
+  pub all_is_some : HasServed service called link table after proofs received replied → HasServedSome service called link table proofs
+  all_is_some (alone one g) = some_alone one after (alone_some g)
+  all_is_some (at_once several h) = some_at_once several after NoMemory (record {
     events = h.events;
     told_are = h.told_are;
-    holds = (let s = h.holds in record { began = s.began; then = s.then; whole = s.whole; serves = many_some (setting_of service called.random proofs) s.began after s.then s.serves });
+    holds = (let s = h.holds in record { began = s.began; then = s.then; whole = s.whole; serves = many_some (setting_of service called.random proofs) s.began s.then s.serves });
   })

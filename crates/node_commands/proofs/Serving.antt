@@ -20,6 +20,7 @@ use Rattle.contact_table.specs.Told.{new_table}
 use Rattle.lookup_run.specs.Lookup.{TableTold}
 use Rattle.node_serve.specs.NodeState.{NodeState, new_node}
 use Rattle.node_serve.specs.Receives.{ServeState, ServesAll, ServesSome}
+use Rattle.node_serve.specs.declared.lasting.Lasting.{Lasting}
 use Rattle.kad_words.specs.declared.command.ServeWords.{ServeWords}
 use Rattle.command_base.specs.declared.status.Status.{Status}
 use Rattle.command_base.specs.declared.status.Status.TheVariants.{LinkFault}
@@ -28,7 +29,7 @@ use Rattle.command_base.specs.Input.{Lists, Admits, Keeps, IsBadContactLine}
 use Rattle.command_base.specs.Promise.{ReportsCause, HostCause, ReadingCause}
 use Rattle.node_commands.specs.Printed.{served_text}
 use Rattle.command_base.specs.Shown.{Shown}
-use Rattle.node_commands.specs.Served.{Hosts, begun_at, Served, ServedSome, AreServiceBounds}
+use Rattle.node_commands.specs.Served.{Hosts, begun_at, lasting_of, Served, ServedSome, AreServiceBounds}
 use Rattle.command_base.specs.Started.{own_of, seen_call}
 use Rattle.command_base.specs.Called.{Called}
 use Rattle.kad_words.specs.Table.{bits_option, k_option, workers_option, Values, NumberOf}
@@ -42,26 +43,28 @@ pub node_begun : (service : ServeWords) (random : List ℕ) (table : TableState)
 node_begun service random table proofs own began node mine is =
     ap (λ n. record { node = n; moment = began }) (is ∙ ap (λ (id : Id). new_node id service.k service.policy table proofs random began service.sealed) mine)
 
-pub served_all : (service : ServeWords) (called : Called) (table : TableState) (proofs : List Report) (node : NodeState) (began received replied : ℕ) (a b c : Option (List Event))
-    → record { node = node; moment = began } ≡ begun_at service called.random table proofs began → Grows a b (λ es. es ≡ Now began ∷ []) → Grows b c (ServesAll called.tags (record { node = node; moment = began }) service.receives received replied)
-    → Grows a c (Served service called table proofs received replied)
-served_all service called table proofs node began received replied a b c begins g h =
+pub served_all : (service : ServeWords) (called : Called) (table after : TableState) (proofs : List Report) (node : NodeState) (lasting : Lasting) (began received replied : ℕ) (a b c : Option (List Event))
+    → record { node = node; moment = began } ≡ begun_at service called.random table proofs began → lasting ≡ lasting_of service → Grows a b (λ es. es ≡ Now began ∷ [])
+    → Grows b c (ServesAll called.tags (record { node = node; moment = began }) lasting after received replied) → Grows a c (Served service called table after proofs received replied)
+served_all service called table after proofs node lasting began received replied a b c begins lasts g h =
     grows_then a b c _ _ _ g h (λ es fs e p. record {
       began = began;
       then = fs;
       whole = ap (λ (l : List Event). l ++ fs) e;
-      serves = subst (λ (s : ServeState). ServesAll called.tags s service.receives received replied fs) begins p;
+      serves = subst (λ (l : Lasting). ServesAll called.tags (begun_at service called.random table proofs began) l after received replied fs) lasts
+          (subst (λ (s : ServeState). ServesAll called.tags s lasting after received replied fs) begins p);
     })
 
-pub served_some : (service : ServeWords) (called : Called) (table : TableState) (proofs : List Report) (node : NodeState) (began : ℕ) (a b c : Option (List Event))
-    → record { node = node; moment = began } ≡ begun_at service called.random table proofs began → Grows a b (λ es. es ≡ Now began ∷ []) → Grows b c (ServesSome called.tags (record { node = node; moment = began }) service.receives)
-    → Grows a c (ServedSome service called table proofs)
-served_some service called table proofs node began a b c begins g h =
+pub served_some : (service : ServeWords) (called : Called) (table after : TableState) (proofs : List Report) (node : NodeState) (lasting : Lasting) (began : ℕ) (a b c : Option (List Event))
+    → record { node = node; moment = began } ≡ begun_at service called.random table proofs began → lasting ≡ lasting_of service → Grows a b (λ es. es ≡ Now began ∷ [])
+    → Grows b c (ServesSome called.tags (record { node = node; moment = began }) lasting after) → Grows a c (ServedSome service called table after proofs)
+served_some service called table after proofs node lasting began a b c begins lasts g h =
     grows_then a b c _ _ _ g h (λ es fs e p. record {
       began = began;
       then = fs;
       whole = ap (λ (l : List Event). l ++ fs) e;
-      serves = subst (λ (s : ServeState). ServesSome called.tags s service.receives fs) begins p;
+      serves = subst (λ (l : Lasting). ServesSome called.tags (begun_at service called.random table proofs began) l after fs) lasts
+          (subst (λ (s : ServeState). ServesSome called.tags s lasting after fs) begins p);
     })
 
 -- what it begins with, as the code has it

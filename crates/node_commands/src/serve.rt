@@ -1,5 +1,5 @@
 //! The command `serve`: a node that answers queries, by one worker or several at once, and in the end the text of how
-//! many datagrams came and how many replies it sent.
+//! many datagrams came and how many replies it sent, and of its routing table where the words ask for it.
 ghost use Rattle.std.specs.Prelude.{◌≡◌, ◌≢◌, ◌≤◌, ◌⊎◌, Err, IfOk, IfErr, IsErrOf};
 ghost use Rattle.std.specs.List.{All};
 ghost use Rattle.kad_base.specs.Failing.{FailsLast};
@@ -9,12 +9,12 @@ ghost use Rattle.command_base.specs.Called.{called_with};
 ghost use Rattle.command_base.specs.Input.{ReadsAtMost};
 ghost use Rattle.command_base.specs.Endings.{EndsUnasked, number_of};
 ghost use Rattle.command_base.specs.Promise.{ReportsCause};
-ghost use Rattle.node_commands.specs.Printed.{printed_served};
-ghost use Rattle.node_commands.specs.Served.{AreServiceBounds, HasServed, HasServedSome, Hosts, ServeBegun, ServeText, serve_promise};
+ghost use Rattle.node_commands.specs.Printed.{WithTable, printed_served};
+ghost use Rattle.node_commands.specs.Served.{AreServiceBounds, HasServed, HasServedSome, Hosts, ServeBegun, ServeText, lasting_of, serve_promise};
 ghost use Rattle.command_base.specs.Started.{AreTableBounds, own_of};
 ghost use Rattle.command_base.specs.Shown.{shown, shown_link, HasFailed};
 
-use crate::printed::served_line;
+use crate::printed::{add_table, served_line};
 use command_base::bootstrap::{own_id, table_of};
 use command_base::input::{admitted, kept, read_reports};
 use command_base::printed::add_line;
@@ -22,7 +22,7 @@ use command_base::{Call, Status};
 use contact_table::Table;
 use kad_base::{Bytes, Check, Family, Id, Link, List, NoMemory, Reports, Source};
 use kad_words::ServeWords;
-use node_serve::{Node, ServeCounts, ServeFault, ServeSetting, serve_loop};
+use node_serve::{Lasting, Node, ServeCounts, ServeFault, ServeSetting, serve_loop};
 use node_tokens::Tokens;
 use path_worker::PacedCheck;
 use seal_tags::{Seal, SealCheck};
@@ -65,16 +65,33 @@ fn read_host<S: Source, C: Check, G: Seal + SealCheck>(
     Ok(Host { table, proofs })
 }
 
-/// The output of a node that served.
-fn text_of(alloc: Global, received: u32, replied: u32) -> Result<Bytes, NoMemory>
-    ensures { IfOk result (λ text. text ≡ printed_served received replied) }
+/// The output of a node that served, and has this table in the end.
+fn text_of(
+    alloc: Global,
+    with_table: bool,
+    table: &Table,
+    counts: ServeCounts,
+) -> Result<Bytes, NoMemory>
+    ensures { IfOk result (WithTable with_table table.now
+        (printed_served counts.received counts.replied)) }
 {
     let mut output = List::new(alloc);
-    let Ok(line) = served_line(alloc, u64::from(received), u64::from(replied)) else {
+    let Ok(line) = served_line(alloc, u64::from(counts.received), u64::from(counts.replied)) else {
         return Err(NoMemory);
     };
     add_line(&mut output, line.as_str())?;
+    add_table(alloc, with_table, table, &mut output)?;
     Ok(output)
+}
+
+/// How long it serves.
+fn lasts(service: &ServeWords) -> Lasting
+    ensures { result ≡ lasting_of service.now }
+{
+    Lasting {
+        receives: service.receives,
+        minutes: service.minutes,
+    }
 }
 
 /// Serves on one thread, from a first look at the link's clock on.
@@ -85,26 +102,26 @@ fn serve_alone<L: Link, C: PacedCheck, G: Seal + SealCheck>(
     host: Host,
     link: &mut L,
     call: &Call<'_, C, G>,
-) -> Result<ServeCounts, ServeFault>
+) -> (Table, Result<ServeCounts, ServeFault>)
     requires ranges { AreServiceBounds service.now }
     requires alone { service.now.workers ≡ 1 }
     requires own { own ≡ own_of service.now.own call.now.random }
     requires table { host.table.own ≡ own }
     requires proofs { All (Passes service.now.policy) host.proofs }
-    ensures ok { IfOk result (λ counts. HasServed service.now
+    ensures ok { IfOk result.1 (λ counts. HasServed service.now
         (called_with call.now.random (C.slow call.now.check.now) (G.accepted call.now.seal.now)
         (G.tag_of call.now.seal.now))
-        (shown_link L.told L.recv_faults L.send_faults link.old link.new) host.table host.proofs
-        counts.received counts.replied) }
-    ensures begun { IfErr result (λ fault. HasServedSome service.now
+        (shown_link L.told L.recv_faults L.send_faults link.old link.new) host.table result.0
+        host.proofs counts.received counts.replied) }
+    ensures begun { IfErr result.1 (λ fault. HasServedSome service.now
         (called_with call.now.random (C.slow call.now.check.now) (G.accepted call.now.seal.now)
         (G.tag_of call.now.seal.now))
         (shown_link L.told L.recv_faults L.send_faults link.old link.new) host.table host.proofs) }
-    ensures well { result ≢ Err ServeFault.LinkFault
+    ensures well { result.1 ≢ Err ServeFault.LinkFault
         → L.recv_faults link.new ≡ L.recv_faults link.old }
-    ensures link_fault { result ≡ Err ServeFault.LinkFault
+    ensures link_fault { result.1 ≡ Err ServeFault.LinkFault
         → HasFailed (shown_link L.told L.recv_faults L.send_faults link.old link.new) }
-    ensures last { result ≡ Err ServeFault.LinkFault
+    ensures last { result.1 ≡ Err ServeFault.LinkFault
         → FailsLast L.told L.recv_faults link.old link.new }
     ensures kept { L.kept link.new ≡ L.kept link.old }
 {
@@ -121,7 +138,7 @@ fn serve_alone<L: Link, C: PacedCheck, G: Seal + SealCheck>(
         began,
         service.sealed,
     );
-    serve_loop(link, node, call.seal, began, service.receives)
+    serve_loop(link, node, call.seal, began, lasts(service))
 }
 
 /// Serves by several workers at once, from a first look at the link's clock on.
@@ -133,25 +150,25 @@ fn serve_at_once<R: Threads + Wait + Sync, L: Link, C: PacedCheck, G: Seal + Sea
     host: Host,
     link: &mut L,
     call: &Call<'_, C, G>,
-) -> Result<ServeCounts, ServeFault>
+) -> (Table, Result<ServeCounts, ServeFault>)
     requires ranges { AreServiceBounds service.now }
     requires several { 2 ≤ service.now.workers }
     requires own { own ≡ own_of service.now.own call.now.random }
     requires proofs { All (Passes service.now.policy) host.proofs }
-    ensures ok { IfOk result (λ counts. HasServed service.now
+    ensures ok { IfOk result.1 (λ counts. HasServed service.now
         (called_with call.now.random (C.slow call.now.check.now) (G.accepted call.now.seal.now)
         (G.tag_of call.now.seal.now))
-        (shown_link L.told L.recv_faults L.send_faults link.old link.new) host.table host.proofs
-        counts.received counts.replied) }
-    ensures begun { IfErr result (λ fault. HasServedSome service.now
+        (shown_link L.told L.recv_faults L.send_faults link.old link.new) host.table result.0
+        host.proofs counts.received counts.replied) }
+    ensures begun { IfErr result.1 (λ fault. HasServedSome service.now
         (called_with call.now.random (C.slow call.now.check.now) (G.accepted call.now.seal.now)
         (G.tag_of call.now.seal.now))
         (shown_link L.told L.recv_faults L.send_faults link.old link.new) host.table host.proofs) }
-    ensures well { result ≢ Err ServeFault.LinkFault
+    ensures well { result.1 ≢ Err ServeFault.LinkFault
         → L.recv_faults link.new ≡ L.recv_faults link.old }
-    ensures link_fault { result ≡ Err ServeFault.LinkFault
+    ensures link_fault { result.1 ≡ Err ServeFault.LinkFault
         → HasFailed (shown_link L.told L.recv_faults L.send_faults link.old link.new) }
-    ensures last { result ≡ Err ServeFault.LinkFault
+    ensures last { result.1 ≡ Err ServeFault.LinkFault
         → FailsLast L.told L.recv_faults link.old link.new }
     ensures kept { L.kept link.new ≡ L.kept link.old }
 {
@@ -165,7 +182,7 @@ fn serve_at_once<R: Threads + Wait + Sync, L: Link, C: PacedCheck, G: Seal + Sea
         tokens: Tokens::new(&call.random, 0),
         sealed: service.sealed,
     };
-    let (_, answer) = serve_many(
+    serve_many(
         rt,
         alloc,
         link,
@@ -174,9 +191,8 @@ fn serve_at_once<R: Threads + Wait + Sync, L: Link, C: PacedCheck, G: Seal + Sea
         table,
         began,
         service.workers,
-        service.receives,
-    );
-    answer
+        lasts(service),
+    )
 }
 
 /// Serves by as many workers as the words say.
@@ -188,25 +204,25 @@ fn serve_by<R: Threads + Wait + Sync, L: Link, C: PacedCheck, G: Seal + SealChec
     host: Host,
     link: &mut L,
     call: &Call<'_, C, G>,
-) -> Result<ServeCounts, ServeFault>
+) -> (Table, Result<ServeCounts, ServeFault>)
     requires ranges { AreServiceBounds service.now }
     requires own { own ≡ own_of service.now.own call.now.random }
     requires table { host.table.own ≡ own }
     requires proofs { All (Passes service.now.policy) host.proofs }
-    ensures ok { IfOk result (λ counts. HasServed service.now
+    ensures ok { IfOk result.1 (λ counts. HasServed service.now
         (called_with call.now.random (C.slow call.now.check.now) (G.accepted call.now.seal.now)
         (G.tag_of call.now.seal.now))
-        (shown_link L.told L.recv_faults L.send_faults link.old link.new) host.table host.proofs
-        counts.received counts.replied) }
-    ensures begun { IfErr result (λ fault. HasServedSome service.now
+        (shown_link L.told L.recv_faults L.send_faults link.old link.new) host.table result.0
+        host.proofs counts.received counts.replied) }
+    ensures begun { IfErr result.1 (λ fault. HasServedSome service.now
         (called_with call.now.random (C.slow call.now.check.now) (G.accepted call.now.seal.now)
         (G.tag_of call.now.seal.now))
         (shown_link L.told L.recv_faults L.send_faults link.old link.new) host.table host.proofs) }
-    ensures well { result ≢ Err ServeFault.LinkFault
+    ensures well { result.1 ≢ Err ServeFault.LinkFault
         → L.recv_faults link.new ≡ L.recv_faults link.old }
-    ensures link_fault { result ≡ Err ServeFault.LinkFault
+    ensures link_fault { result.1 ≡ Err ServeFault.LinkFault
         → HasFailed (shown_link L.told L.recv_faults L.send_faults link.old link.new) }
-    ensures last { result ≡ Err ServeFault.LinkFault
+    ensures last { result.1 ≡ Err ServeFault.LinkFault
         → FailsLast L.told L.recv_faults link.old link.new }
     ensures kept { L.kept link.new ≡ L.kept link.old }
 {
@@ -216,7 +232,8 @@ fn serve_by<R: Threads + Wait + Sync, L: Link, C: PacedCheck, G: Seal + SealChec
     serve_at_once(rt, alloc, service, own, host, link, call)
 }
 
-/// Serves, and makes the text of how much was served, or says why there is none. Nothing is written yet.
+/// Serves, and makes the text of how much was served, and of the table if that is wanted, or says why there is none. Nothing is
+/// written yet.
 pub fn serve<
     R: Threads + Wait + Sync,
     S: Source,
@@ -262,10 +279,11 @@ pub fn serve<
 {
     let own = own_id(service.own, &call.random);
     let host = read_host(alloc, service, own, source, call)?;
-    let counts = match serve_by(rt, alloc, service, own, host, link, call) {
+    let (table, answer) = serve_by(rt, alloc, service, own, host, link, call);
+    let counts = match answer {
         Ok(counts) => counts,
         Err(ServeFault::LinkFault) => return Err(Status::LinkFault),
         Err(ServeFault::NoMemory) => return Err(Status::NoMemory),
     };
-    Ok(text_of(alloc, counts.received, counts.replied)?)
+    Ok(text_of(alloc, service.table, &table, counts)?)
 }
