@@ -7,6 +7,8 @@ mod items;
 #[cfg(test)]
 mod kept;
 #[cfg(test)]
+mod lasting;
+#[cfg(test)]
 mod peers;
 #[cfg(test)]
 mod replies;

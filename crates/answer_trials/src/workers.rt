@@ -6,7 +6,7 @@ use crate::replies::{OWN, PING, Text, joined, pong, random, tagged_pong};
 use contact_table::Table;
 use fake_net::ScriptLink;
 use kad_base::{Link, List, NoMemory, Policy};
-use node_serve::{ServeCounts, ServeFault, ServeSetting};
+use node_serve::{Lasting, ServeCounts, ServeFault, ServeSetting};
 use node_tokens::Tokens;
 use seal_tags::{GroupSeal, Seal};
 use serve_batches::serve_many;
@@ -34,8 +34,16 @@ fn setting(alloc: Global, sealed: bool) -> ServeSetting
 }
 
 /// The seal whose key is 32 zero bytes.
-fn group() -> GroupSeal {
+pub fn group() -> GroupSeal {
     GroupSeal::new([0; 32])
+}
+
+/// So many receive calls, and no end by time.
+fn lasts(receives: u32) -> Lasting {
+    Lasting {
+        receives,
+        minutes: 0,
+    }
 }
 
 /// How much so many workers serve over the link.
@@ -44,7 +52,7 @@ pub fn serve<R: AllocGlobal + Threads + Wait + Sync, G: Seal + Sync>(
     link: &mut ScriptLink,
     seal: &G,
     workers: u8,
-    receives: u32,
+    lasting: Lasting,
     sealed: bool,
 ) -> Result<Result<ServeCounts, ServeFault>, NoMemory>
     requires some { 2 ≤ workers }
@@ -62,7 +70,7 @@ pub fn serve<R: AllocGlobal + Threads + Wait + Sync, G: Seal + Sync>(
         table,
         began,
         workers,
-        receives,
+        lasting,
     );
     Ok(answer)
 }
@@ -109,7 +117,7 @@ fn answers<R: AllocGlobal + Threads + Wait + Sync>(
         received: replies,
         replied: replies,
     };
-    if serve(rt, &mut link, &group(), workers, receives, false)? != Ok(counts) {
+    if serve(rt, &mut link, &group(), workers, lasts(receives), false)? != Ok(counts) {
         return Ok(false);
     }
     Ok(pongs(alloc, &link)? == replies as usize)
@@ -138,7 +146,7 @@ fn answers_with<R: AllocGlobal + Threads + Wait + Sync>(
     wanted: &[Text],
 ) -> Result<bool, Fail> {
     let mut link = link?;
-    match serve(rt, &mut link, &group(), 2, receives, sealed)? {
+    match serve(rt, &mut link, &group(), 2, lasts(receives), sealed)? {
         Ok(counts) => Ok(
             counts.received as usize == wanted.len()
                 && counts.replied as usize == wanted.len()
@@ -167,7 +175,7 @@ fn pongs_before_a_fault<R: AllocGlobal + Threads + Wait + Sync>(
     link: Result<ScriptLink, NoMemory>,
 ) -> Result<usize, Fail> {
     let mut link = link?;
-    match serve(rt, &mut link, &group(), 2, 4, false)? {
+    match serve(rt, &mut link, &group(), 2, lasts(4), false)? {
         Err(ServeFault::LinkFault) => pongs(rt.alloc(), &link),
         _ => Err(Fail::new("it ends otherwise")),
     }

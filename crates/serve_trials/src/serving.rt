@@ -34,6 +34,21 @@ const PUZZLED: &[&str] = &[
     "8",
 ];
 
+/// The same for a minute, with its table in the end.
+const TIMED: &[&str] = &[
+    "serve",
+    "--minutes",
+    "1",
+    "--table",
+    "yes",
+    "--own",
+    "ffffffffffffffffffffffffffffffffffffffff",
+];
+
+/// Its table has who asked, once.
+const WITH_ASKER: &str =
+    "received 1 replied 1\ntable ffffffffffffffffffffffffffffffffffffffff 8 1\nrow -\nlive 6162636465666768696a30313233343536373839 127.0.0.1:7000 0\nsibling 6162636465666768696a30313233343536373839 127.0.0.1:7000\nend\n";
+
 const PING: &[u8] = b"d1:ad2:id20:abcdefghij0123456789e1:q4:ping1:t2:aa1:y1:qe";
 
 const PONG: &[u8] =
@@ -193,5 +208,34 @@ fn a_member_tags_what_it_says(rt: HostRuntime) -> Result<(), Fail> {
     assert_eq!(rt; played.text.as_str(), "received 1 replied 1\n");
     assert_eq!(rt; sent.len(), 1);
     assert_eq!(rt; sent[0].as_slice(), TAGGED_PONG);
+    Ok(())
+}
+
+/// It replies, and waits to the end of its minute. Then the table is printed, with who asked.
+#[test]
+fn a_node_serves_for_a_minute_and_prints_its_table(rt: HostRuntime) -> Result<(), Fail> {
+    let alloc = rt.alloc();
+    let link = link_from(alloc, &[(7000, PING)], &[], &[])?;
+    let played = play(&rt, TIMED, "", link)?;
+    let events = [
+        Event::Now { at: 0 },
+        Event::Got {
+            from: local(7000),
+            bytes: List::from_slice(alloc, PING)?,
+            until: 60_000,
+            at: 10,
+        },
+        Event::Sent {
+            to: local(7000),
+            bytes: List::from_slice(alloc, PONG)?,
+        },
+        Event::Quiet {
+            until: 60_000,
+            at: 60_000,
+        },
+    ];
+    assert_eq!(rt; played.status, 0);
+    assert_eq!(rt; played.text.as_str(), WITH_ASKER);
+    assert!(rt; tells(&played.link, &events));
     Ok(())
 }

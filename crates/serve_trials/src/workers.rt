@@ -2,7 +2,7 @@
 //! identifier `abcdefghij0123456789` of its examples.
 use id_puzzles::Sha1Check;
 use kad_base::{Event, List};
-use run_kit::{play, play_under, words};
+use run_kit::{play, play_under, shows, words};
 use std::test::Fail;
 use trial_kit::{MeetingSeal, link_at, local, sent, tells};
 
@@ -36,6 +36,23 @@ const EIGHT: &[&str] = &[
     "--own",
     "ffffffffffffffffffffffffffffffffffffffff",
 ];
+
+/// Two workers for a minute, with the table in the end.
+const TIMED: &[&str] = &[
+    "serve",
+    "--workers",
+    "2",
+    "--minutes",
+    "1",
+    "--table",
+    "yes",
+    "--own",
+    "ffffffffffffffffffffffffffffffffffffffff",
+];
+
+/// Node 5 is in it, as who asked at port 7005.
+const WITH_5: &str =
+    "received 1 replied 1\ntable ffffffffffffffffffffffffffffffffffffffff 8 1\nrow -\nlive 0000000000000000000000000000000000000005 127.0.0.1:7005 0\nsibling 0000000000000000000000000000000000000005 127.0.0.1:7005\nend\n";
 
 /// Two workers of a group whose key is 32 zero bytes, for two receive calls.
 const GROUPED: &[&str] = &[
@@ -200,4 +217,10 @@ fn two_workers_of_a_batch_are_at_work_at_once(rt: HostRuntime) -> Result<(), Fai
     assert_eq!(rt; played.text.as_str(), "received 2 replied 2\n");
     assert!(rt; seal.is_met());
     Ok(())
+}
+
+#[test]
+fn workers_that_serve_for_a_minute_print_one_table(rt: HostRuntime) -> Result<(), Fail> {
+    let link = link_at(rt.alloc(), &[(1, 7005, FIND_BY_5)], &[], &[])?;
+    shows(&rt, TIMED, "", link, 0, WITH_5)
 }
