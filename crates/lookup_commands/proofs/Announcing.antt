@@ -221,10 +221,5 @@ none_tried w asks tokens c a b same_ first =
 
 -- ---- what is owed where a port was told
 
-pub owes_some : (port : Option ℕ) (n : ℕ) (own own' key : Id) (found found' : List Contact) (tokens tokens' : List Token) (P : List Announcement → Type 0) → port ≡ Some n → own' ≡ own → found' ≡ found → tokens' ≡ tokens
-    → P (announcements (announcing own' key n) found' tokens') → P (owed port own key found tokens)
-owes_some port n own own' key found found' tokens tokens' P e f g h p =
-    let a = subst (λ (x : Id). P (announcements (announcing x key n) found' tokens')) f p in
-    let b = subst (λ (l : List Contact). P (announcements (announcing own key n) l tokens')) g a in
-    let c = subst (λ (l : List Token). P (announcements (announcing own key n) found l)) h b in
-    subst (λ (o : Option ℕ). P (owed o own key found tokens)) (sym e) c
+pub owes_some : (port : Option ℕ) (n : ℕ) (own key : Id) (found : List Contact) (tokens : List Token) (P : List Announcement → Type 0) → port ≡ Some n → P (announcements (announcing own key n) found tokens) → P (owed port own key found tokens)
+owes_some port n own key found tokens P e p = subst (λ (o : Option ℕ). P (owed o own key found tokens)) (sym e) p

@@ -8,6 +8,7 @@ pub mod Looking
 pub mod Peering
 pub mod Printing
 pub mod Reaching
+pub mod Spreading
 pub mod Storing
 pub mod Lawfully
 pub mod OneText

@@ -1,5 +1,5 @@
 -- From a lookup of an item's key, and the puts after it, to what `put` promises.
-use Rattle.std.proofs.Common.{◌≡◌, ℕ, ◌≤◌, List, length, Option, Result, Ok, Err, IfOk, IfErr, ap, subst, ◌∙◌}
+use Rattle.std.proofs.Common.{◌≡◌, ℕ, ◌≤◌, List, length, Option, Bool, Result, Ok, Err, IfOk, IfErr, ap, subst, ◌∙◌}
 use Rattle.kad_base.specs.declared.types.Contact.{Contact}
 use Rattle.kad_base.specs.declared.types.Event.{Event}
 use Rattle.kad_base.specs.declared.types.Id.{Id}
@@ -25,32 +25,27 @@ use Rattle.lookup_commands.specs.Reached.{Reaches}
 use Rattle.command_base.specs.Shown.{Shown}
 use Rattle.command_base.specs.Started.{book_of}
 use Rattle.lookup_commands.proofs.Announcing.{Sends}
-use Rattle.lookup_commands.proofs.Following.{owes, never_then, then_at}
+use Rattle.lookup_commands.proofs.Following.{owes, never_then, spreads_out, then_at}
 
 pub printed_same : (key : Id) (found many asked_ failed_ turned_ stored : ℕ) (text : List ℕ) → text ≡ printed_stored key many asked_ failed_ turned_ stored → many ≡ found → text ≡ printed_stored key found asked_ failed_ turned_ stored
 printed_same key found many asked_ failed_ turned_ stored text is e = is ∙ ap (λ n. printed_stored key n asked_ failed_ turned_ stored) e
 
--- what is said, over the contacts and the tokens that the code has
-pub said_to : (asks : List ℕ → Ask) (found found' : List Contact) (tokens tokens' : List Token) (P : List Announcement → Type 0) → found' ≡ found → tokens' ≡ tokens → P (announcements asks found' tokens') → P (announcements asks found tokens)
-said_to asks found found' tokens tokens' P e f p =
-    let a = subst (λ (l : List Contact). P (announcements asks l tokens')) e p in
-    subst (λ (l : List Token). P (announcements asks found l)) f a
-
-pub puts_at : (look : LookWords) (item : List ℕ) (called : Called) (source : Shown ℕ) (before middle after : Option (List Event)) (f f' f'' s s' s'' : ℕ) (r : Reached) (n : ℕ) (text : List ℕ)
+pub puts_at : (look : LookWords) (item : List ℕ) (spread : Bool) (called : Called) (source : Shown ℕ) (before middle after : Option (List Event)) (f f' f'' s s' s'' : ℕ) (r : Reached) (n : ℕ) (text : List ℕ)
     → Reaches GetItem look called source (record { before = before; after = middle; faults = f; faults' = f'; sends = s; sends' = s' }) r
-    → s' ≤ s'' → Grows middle after (Sends r.words.seed r.words.place (owes GetItem look (putting_to item) called source r) n)
+    → s' ≤ s'' → Grows middle after (Sends r.words.seed r.words.place (owes GetItem look spread (putting_to item) called source r) n)
     → text ≡ printed_stored look.target (length r.outcome.found) r.outcome.counts.asked r.outcome.counts.failed r.outcome.counts.turned n
-    → PutText look item called source (record { before = before; after = after; faults = f; faults' = f''; sends = s; sends' = s'' }) text
-puts_at look item called source before middle after f f' f'' s s' s'' r n text h later sends is =
+    → PutText look item spread called source (record { before = before; after = after; faults = f; faults' = f''; sends = s; sends' = s'' }) text
+puts_at look item spread called source before middle after f f' f'' s s' s'' r n text h later sends is =
     let o = r.outcome in
     let J = o.journal in
-    let tells = then_at GetItem look (putting_to item) called source before middle after f f' s s' r n h sends in
+    let tells = then_at GetItem look spread (putting_to item) called source before middle after f f' s s' r n h sends in
     record {
       journal = J;
       ran = h.ran;
+      spreads = spreads_out GetItem look called.random source J h.ran;
       stored = n;
       tells = grows_weaker before after _ _ tells (λ events t. (o.peers, t));
-      no_last_stray = never_then GetItem look (putting_to item) called source (record { before = before; after = after; faults = f; faults' = f''; sends = s; sends' = s'' }) r n tells;
+      no_last_stray = never_then GetItem look spread (putting_to item) called source (record { before = before; after = after; faults = f; faults' = f''; sends = s; sends' = s'' }) r n tells;
       refused = record { between = s'; refused = h.refused; no_less = later };
       text_is =
           is ∙ ap (λ (l : List Contact). printed_stored look.target (length l) o.counts.asked o.counts.failed o.counts.turned n) h.found
@@ -70,15 +65,15 @@ pub never_unread : {T : Type 0} (look : LookWords) (called : Called) (source : S
 never_unread look called source link (Ok x) X h = tt
 never_unread look called source link (Err s) X h = λ e. absurd (not_value look called source link s h e)
 
-behind_value : (look : LookWords) (item : List ℕ) (called : Called) (source : Shown ℕ) (link : Shown Event) → IsItem item → (s : Status) → LookupCause GetItem look called source link s → (put_promise look item).cause called source link s
-behind_value look item called source link is BadValue c = absurd c
-behind_value look item called source link is NoMemory c = tt
-behind_value look item called source link is s c = (is, c)
+behind_value : (look : LookWords) (item : List ℕ) (spread : Bool) (called : Called) (source : Shown ℕ) (link : Shown Event) → IsItem item → (s : Status) → LookupCause GetItem look called source link s → (put_promise look item spread).cause called source link s
+behind_value look item spread called source link is BadValue c = absurd c
+behind_value look item spread called source link is NoMemory c = tt
+behind_value look item spread called source link is s c = (is, c)
 
-pub cause_behind : {T : Type 0} (look : LookWords) (item : List ℕ) (called : Called) (source : Shown ℕ) (link : Shown Event) (r : Result T Status) → IsItem item → IfErr r (LookupCause GetItem look called source link) → IfErr r ((put_promise look item).cause called source link)
-cause_behind look item called source link (Ok x) is h = tt
-cause_behind look item called source link (Err s) is h = behind_value look item called source link is s h
+pub cause_behind : {T : Type 0} (look : LookWords) (item : List ℕ) (spread : Bool) (called : Called) (source : Shown ℕ) (link : Shown Event) (r : Result T Status) → IsItem item → IfErr r (LookupCause GetItem look called source link) → IfErr r ((put_promise look item spread).cause called source link)
+cause_behind look item spread called source link (Ok x) is h = tt
+cause_behind look item spread called source link (Err s) is h = behind_value look item spread called source link is s h
 
-pub text_behind : {F : Type 0} (look : LookWords) (item : List ℕ) (called : Called) (source : Shown ℕ) (link : Shown Event) (r : Result (List ℕ) F) → IsItem item → IfOk r (PutText look item called source link) → IfOk r ((put_promise look item).text called source link)
-text_behind look item called source link (Ok x) is h = (is, h)
-text_behind look item called source link (Err s) is h = tt
+pub text_behind : {F : Type 0} (look : LookWords) (item : List ℕ) (spread : Bool) (called : Called) (source : Shown ℕ) (link : Shown Event) (r : Result (List ℕ) F) → IsItem item → IfOk r (PutText look item spread called source link) → IfOk r ((put_promise look item spread).text called source link)
+text_behind look item spread called source link (Ok x) is h = (is, h)
+text_behind look item spread called source link (Err s) is h = tt

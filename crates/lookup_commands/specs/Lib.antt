@@ -7,3 +7,4 @@ pub mod Forms
 pub mod Looked
 pub mod Printed
 pub mod Reached
+pub mod Spread

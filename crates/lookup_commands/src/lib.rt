@@ -3,6 +3,7 @@
 #![tactic(auto)]
 
 pub mod announce;
+pub mod follow;
 pub mod get;
 pub mod item;
 pub mod lookup;
@@ -10,6 +11,7 @@ pub mod peers;
 pub mod printed;
 pub mod put;
 pub mod run_lookup;
+pub mod spread;
 
 pub use announce::Said;
 pub use run_lookup::Reached;

@@ -1,6 +1,6 @@
 //! The command `peers`: looks for peers of a key, makes the text of those that the answers named, and if it is told a
-//! port announces it to the contacts of the result.
-ghost use Rattle.std.specs.Prelude.{◌≡◌, ◌≤◌, ◌⊎◌, ◌+◌, ◌^◌, length, IfOk, IfErr, OnErr, IsErrOf};
+//! port announces it to the contacts of the result, or spread over the paths to the k closest of each.
+ghost use Rattle.std.specs.Prelude.{◌≡◌, ◌≤◌, ◌<◌, ◌⊎◌, ◌^◌, IfOk, IfErr, OnErr, IsErrOf};
 ghost use Rattle.kad_base.specs.Failing.{FailsLast};
 ghost use Rattle.kad_base.specs.Outside.{Grows};
 ghost use Rattle.lookup_core.specs.declared.quest.AskKind.TheVariants.{GetPeers};
@@ -8,11 +8,13 @@ ghost use Rattle.command_base.specs.Called.{called_with};
 ghost use Rattle.command_base.specs.Input.{ReadsAtMost};
 ghost use Rattle.lookup_commands.specs.Announced.{owed, Announces, AnnouncesSome, sent_in};
 ghost use Rattle.command_base.specs.Endings.{EndsUnasked, number_of};
+ghost use Rattle.lookup_commands.specs.Followed.{chosen};
 ghost use Rattle.lookup_commands.specs.Peered.{PeersText, PeersBegun, peers_promise};
 ghost use Rattle.command_base.specs.Started.{IsInRange};
 ghost use Rattle.command_base.specs.Shown.{shown, shown_link};
 
-use crate::announce::{Said, announce};
+use crate::announce::Said;
+use crate::follow::follow_up;
 use crate::printed::print_peers;
 use crate::run_lookup::{Reached, run_lookup};
 use command_base::{Call, Status};
@@ -32,15 +34,18 @@ fn announce_told<L: Link>(
     link: &mut L,
     words: &mut Words,
     own: Id,
-    key: Id,
+    look: &LookWords,
     port: Option<u16>,
+    spread: bool,
     outcome: &Outcome,
 ) -> Result<usize, NoMemory>
-    requires { words.old.place + length outcome.now.found ≤ 2 ^ 60 }
-    ensures ok { let all = owed port own key outcome.now.found outcome.now.tokens in
+    requires { words.old.place < 2 ^ 59 }
+    ensures ok { let all = owed port own look.now.target
+        (chosen spread look.now outcome.now) outcome.now.tokens in
         IfOk result (λ sent. Grows (L.told link.old) (L.told link.new)
         (λ es. Announces words.old.seed words.old.place all es × (sent ≡ sent_in es))) }
-    ensures err { let all = owed port own key outcome.now.found outcome.now.tokens in
+    ensures err { let all = owed port own look.now.target
+        (chosen spread look.now outcome.now) outcome.now.tokens in
         OnErr result (Grows (L.told link.old) (L.told link.new)
         (AnnouncesSome words.old.seed words.old.place all)) }
     ensures send_faults { L.send_faults link.old ≤ L.send_faults link.new }
@@ -50,9 +55,12 @@ fn announce_told<L: Link>(
     let Some(port) = port else {
         return Ok(0);
     };
-    let said = Said::Peer { own, key, port };
-    let found = outcome.found.as_slice();
-    announce(alloc, link, words, &said, found, outcome.tokens.as_slice())
+    let said = Said::Peer {
+        own,
+        key: look.target,
+        port,
+    };
+    follow_up(alloc, link, words, &said, look, spread, outcome)
 }
 
 /// Looks for peers, announces, and makes the text of what was found, or says why there is none. Nothing is written yet.
@@ -67,23 +75,24 @@ pub fn peers<
     alloc: Global,
     look: &LookWords,
     port: Option<u16>,
+    spread: bool,
     source: &mut S,
     link: &mut L,
     call: &Call<'_, C, G>,
 ) -> Result<Bytes, Status>
     requires { IsInRange look.now }
-    ensures ok { IfOk result (PeersText look.now port
+    ensures ok { IfOk result (PeersText look.now port spread
         (called_with call.now.random (C.slow call.now.check.now) (G.accepted call.now.seal.now)
         (G.tag_of call.now.seal.now))
         (shown S.left S.faults source.old source.new)
         (shown_link L.told L.recv_faults L.send_faults link.old link.new)) }
-    ensures cause { IfErr result ((peers_promise look.now port).cause
+    ensures cause { IfErr result ((peers_promise look.now port spread).cause
         (called_with call.now.random (C.slow call.now.check.now) (G.accepted call.now.seal.now)
         (G.tag_of call.now.seal.now))
         (shown S.left S.faults source.old source.new)
         (shown_link L.told L.recv_faults L.send_faults link.old link.new)) }
     ensures no_memory { IfErr result (λ status. status ≡ Status.NoMemory →
-        PeersBegun look.now port
+        PeersBegun look.now port spread
         (called_with call.now.random (C.slow call.now.check.now) (G.accepted call.now.seal.now)
         (G.tag_of call.now.seal.now))
         (shown S.left S.faults source.old source.new)
@@ -107,7 +116,7 @@ pub fn peers<
         outcome,
         mut words,
     } = reached;
-    let announced = announce_told(alloc, link, &mut words, own, look.target, port, &outcome)?;
+    let announced = announce_told(alloc, link, &mut words, own, look, port, spread, &outcome)?;
     Ok(print_peers(
         alloc,
         outcome.peers.as_slice(),

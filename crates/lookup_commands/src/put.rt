@@ -1,5 +1,5 @@
-//! The command `put`: looks up the key of an immutable item (BEP 44), gives the item to the contacts of the result, and makes
-//! the text of its key and of how many were given it.
+//! The command `put`: looks up the key of an immutable item (BEP 44), gives the item to the contacts of the result, or spread
+//! over the paths to the k closest of each, and makes the text of its key and of how many were given it.
 ghost use Rattle.std.specs.Prelude.{◌≡◌, ◌⊎◌, IfOk, IfErr, IsErrOf};
 ghost use Rattle.kad_base.specs.Failing.{FailsLast};
 ghost use Rattle.item_store.specs.Items.{IsItem};
@@ -12,7 +12,8 @@ ghost use Rattle.lookup_commands.specs.Looked.{LookupCause};
 ghost use Rattle.command_base.specs.Shown.{shown, shown_link};
 ghost use Rattle.command_base.specs.Started.{IsInRange};
 
-use crate::announce::{Said, announce};
+use crate::announce::Said;
+use crate::follow::follow_up;
 use crate::item::is_item;
 use crate::printed::print_stored;
 use crate::run_lookup::{Reached, run_lookup};
@@ -33,23 +34,24 @@ pub fn put<R: Threads + Wait + Sync, S: Source, L: Link, C: PacedCheck + Sync, G
     alloc: Global,
     look: &LookWords,
     item: &[u8],
+    spread: bool,
     source: &mut S,
     link: &mut L,
     call: &Call<'_, C, G>,
 ) -> Result<Bytes, Status>
     requires { IsInRange look.now }
-    ensures ok { IfOk result ((put_promise look.now item.now).text
+    ensures ok { IfOk result ((put_promise look.now item.now spread).text
         (called_with call.now.random (C.slow call.now.check.now) (G.accepted call.now.seal.now)
         (G.tag_of call.now.seal.now))
         (shown S.left S.faults source.old source.new)
         (shown_link L.told L.recv_faults L.send_faults link.old link.new)) }
-    ensures cause { IfErr result ((put_promise look.now item.now).cause
+    ensures cause { IfErr result ((put_promise look.now item.now spread).cause
         (called_with call.now.random (C.slow call.now.check.now) (G.accepted call.now.seal.now)
         (G.tag_of call.now.seal.now))
         (shown S.left S.faults source.old source.new)
         (shown_link L.told L.recv_faults L.send_faults link.old link.new)) }
     ensures no_memory { IfErr result (λ status. status ≡ Status.NoMemory →
-        PutBegun look.now item.now
+        PutBegun look.now item.now spread
         (called_with call.now.random (C.slow call.now.check.now) (G.accepted call.now.seal.now)
         (G.tag_of call.now.seal.now))
         (shown S.left S.faults source.old source.new)
@@ -68,7 +70,7 @@ pub fn put<R: Threads + Wait + Sync, S: Source, L: Link, C: PacedCheck + Sync, G
         → FailsLast S.left S.faults source.old source.new }
 {
     match is_item(alloc, item) {
-        Ok(true) => store(rt, alloc, look, item, source, link, call),
+        Ok(true) => store(rt, alloc, look, item, spread, source, link, call),
         Ok(false) => Err(Status::BadValue),
         Err(NoMemory) => Err(Status::NoMemory),
     }
@@ -80,13 +82,14 @@ fn store<R: Threads + Wait + Sync, S: Source, L: Link, C: PacedCheck + Sync, G: 
     alloc: Global,
     look: &LookWords,
     item: &[u8],
+    spread: bool,
     source: &mut S,
     link: &mut L,
     call: &Call<'_, C, G>,
 ) -> Result<Bytes, Status>
     requires range { IsInRange look.now }
     requires item { IsItem item.now }
-    ensures ok { IfOk result (PutText look.now item.now
+    ensures ok { IfOk result (PutText look.now item.now spread
         (called_with call.now.random (C.slow call.now.check.now) (G.accepted call.now.seal.now)
         (G.tag_of call.now.seal.now))
         (shown S.left S.faults source.old source.new)
@@ -97,7 +100,7 @@ fn store<R: Threads + Wait + Sync, S: Source, L: Link, C: PacedCheck + Sync, G: 
         (shown S.left S.faults source.old source.new)
         (shown_link L.told L.recv_faults L.send_faults link.old link.new)) }
     ensures no_memory { IfErr result (λ status. status ≡ Status.NoMemory →
-        PutBegun look.now item.now
+        PutBegun look.now item.now spread
         (called_with call.now.random (C.slow call.now.check.now) (G.accepted call.now.seal.now)
         (G.tag_of call.now.seal.now))
         (shown S.left S.faults source.old source.new)
@@ -122,8 +125,7 @@ fn store<R: Threads + Wait + Sync, S: Source, L: Link, C: PacedCheck + Sync, G: 
         mut words,
     } = reached;
     let said = Said::Item { own, v: item };
-    let found = outcome.found.as_slice();
-    let tokens = outcome.tokens.as_slice();
-    let stored = announce(alloc, link, &mut words, &said, found, tokens)?;
-    Ok(print_stored(alloc, &look.target, found.len(), &outcome.counts, stored)?)
+    let stored = follow_up(alloc, link, &mut words, &said, look, spread, &outcome)?;
+    let found = outcome.found.len();
+    Ok(print_stored(alloc, &look.target, found, &outcome.counts, stored)?)
 }
