@@ -148,6 +148,9 @@ group_option = choice (codes "group") Bytes32 Optional (lookup ∷ peers ∷ get
 abbrev pub announce_option : Choice
 announce_option = choice (codes "announce") (Number 0 65535) Optional (peers ∷ [])
 
+abbrev pub spread_option : Choice
+spread_option = choice (codes "spread") YesNo OrNo (peers ∷ put ∷ [])
+
 abbrev pub receives_option : Choice
 receives_option = choice (codes "receives") (Number 1 1000000000) (OrElse 1000000000) (serve ∷ [])
 
@@ -182,7 +185,7 @@ hostile_option = choice (codes "hostile") (Number 0 100) (OrElse 0) (sim ∷ [])
 
 -- all of them
 abbrev pub every_option : List Choice
-every_option = target_option ∷ key_option ∷ value_option ∷ own_option ∷ k_option ∷ paths_option ∷ alpha_option ∷ timeout_option ∷ bits_option ∷ c1_option ∷ c2_option ∷ family_option ∷ bind_option ∷ group_option ∷ announce_option ∷ receives_option
+every_option = target_option ∷ key_option ∷ value_option ∷ own_option ∷ k_option ∷ paths_option ∷ alpha_option ∷ timeout_option ∷ bits_option ∷ c1_option ∷ c2_option ∷ family_option ∷ bind_option ∷ group_option ∷ announce_option ∷ spread_option ∷ receives_option
     ∷ node_receives_option ∷ minutes_option ∷ workers_option ∷ table_option ∷ all_option ∷ seed_option ∷ tries_option ∷ nodes_option ∷ hostile_option ∷ []
 
 -- the options of a command
@@ -323,9 +326,9 @@ AreSaid value (part ∷ parts) = IsSaid value part × AreSaid value parts
 -- the parts of a command, command by command
 abbrev pub parts_of : Command → List Part
 parts_of (Lookup look) = gives_look target_option look ∷ []
-parts_of (Peers look announce) = gives_look key_option look ∷ may_give_number announce_option announce ∷ []
+parts_of (Peers look announce spread) = gives_look key_option look ∷ may_give_number announce_option announce ∷ gives_yes spread_option spread ∷ []
 parts_of (Get look) = gives_look key_option look ∷ []
-parts_of (Put look item) = gives_item value_option item look ∷ []
+parts_of (Put look item spread) = gives_item value_option item look ∷ gives_yes spread_option spread ∷ []
 parts_of (Serve words) =
     gives_id own_option words.own ∷ gives_number k_option words.k ∷ gives_number bits_option words.bits ∷ gives_policy words.policy ∷ gives_number receives_option words.receives ∷ gives_number minutes_option words.minutes ∷ gives_number workers_option words.workers ∷ says_whether group_option words.sealed ∷ gives_yes table_option words.table ∷ []
 parts_of (Node words) = gives_looks words.look ∷ gives_number node_receives_option words.receives ∷ gives_number minutes_option words.minutes ∷ gives_yes table_option words.table ∷ []
@@ -343,9 +346,9 @@ Says value command = AreSaid value (parts_of command)
 -- which command it is, and its word
 abbrev pub kind_of : Command → CommandKind
 kind_of (Lookup look) = kind.Lookup
-kind_of (Peers look announce) = kind.Peers
+kind_of (Peers look announce spread) = kind.Peers
 kind_of (Get look) = kind.Get
-kind_of (Put look item) = kind.Put
+kind_of (Put look item spread) = kind.Put
 kind_of (Serve words) = kind.Serve
 kind_of (Node words) = kind.Node
 kind_of (Table words) = kind.Table

@@ -9,8 +9,8 @@ ghost use Rattle.kad_words.specs.declared.command.CommandKind.{CommandKind};
 use crate::choice::{Choice, Kind, Need};
 use crate::options::{
     ALL, ALPHA, ANNOUNCE, BIND, BITS, C1, C2, FAMILY, GROUP, HOSTILE, K, KEY, MINUTES,
-    NODE_RECEIVES, NODES, OWN, PATHS, RECEIVES, SEED, TARGET, TIMEOUT, TRIES, VALUE, WITH_TABLE,
-    WORKERS,
+    NODE_RECEIVES, NODES, OWN, PATHS, RECEIVES, SEED, SPREAD, TARGET, TIMEOUT, TRIES, VALUE,
+    WITH_TABLE, WORKERS,
 };
 use crate::values::{
     family, id, needed_bytes, needed_id, number, policy, port, says_yes, seed, small, stands,
@@ -29,20 +29,23 @@ pub enum Command {
     Lookup {
         look: LookWords,
     },
-    /// Look for peers; the target is the value of `--key`. `announce` is the port to announce, 0 for an implied one.
+    /// Look for peers; the target is the value of `--key`. `announce` is the port to announce, 0 for an implied one, and
+    /// `spread` whether each path's closest nodes are told it.
     Peers {
         look: LookWords,
         announce: Option<u16>,
+        spread: bool,
     },
     /// Look for an immutable item (BEP 44); the target is the value of `--key`.
     Get {
         look: LookWords,
     },
-    /// Store an immutable item (BEP 44) at the nodes closest to its key. `value` is the written form of its value as the
-    /// words have it, be it one or not, and the target is its key.
+    /// Store an immutable item (BEP 44) at the nodes closest to its key, or if `spread` at each path's closest nodes. `value`
+    /// is the written form of its value as the words have it, be it one or not, and the target is its key.
     Put {
         look: LookWords,
         value: Bytes,
+        spread: bool,
     },
     /// Answer queries.
     Serve {
@@ -193,16 +196,16 @@ static LOOKUP: [Choice; 12] = [
     TARGET, OWN, K, PATHS, ALPHA, TIMEOUT, BITS, C1, C2, FAMILY, BIND, GROUP,
 ];
 
-static PEERS: [Choice; 13] = [
-    KEY, OWN, K, PATHS, ALPHA, TIMEOUT, BITS, C1, C2, FAMILY, BIND, GROUP, ANNOUNCE,
+static PEERS: [Choice; 14] = [
+    KEY, OWN, K, PATHS, ALPHA, TIMEOUT, BITS, C1, C2, FAMILY, BIND, GROUP, ANNOUNCE, SPREAD,
 ];
 
 static GET: [Choice; 12] = [
     KEY, OWN, K, PATHS, ALPHA, TIMEOUT, BITS, C1, C2, FAMILY, BIND, GROUP,
 ];
 
-static PUT: [Choice; 12] = [
-    VALUE, OWN, K, PATHS, ALPHA, TIMEOUT, BITS, C1, C2, FAMILY, BIND, GROUP,
+static PUT: [Choice; 13] = [
+    VALUE, OWN, K, PATHS, ALPHA, TIMEOUT, BITS, C1, C2, FAMILY, BIND, GROUP, SPREAD,
 ];
 
 static SERVE: [Choice; 11] = [
@@ -382,6 +385,7 @@ fn peers(matches: &ArgMatches) -> Command
     Command::Peers {
         look: look(matches, &KEY),
         announce: port(matches, &ANNOUNCE),
+        spread: says_yes(matches, &SPREAD),
     }
 }
 
@@ -404,6 +408,7 @@ fn put(alloc: Global, matches: &ArgMatches) -> Result<Command, NoMemory>
     Ok(Command::Put {
         look: look_at(matches, key_of(value.as_slice()), family(matches, &FAMILY)),
         value,
+        spread: says_yes(matches, &SPREAD),
     })
 }
 

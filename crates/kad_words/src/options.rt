@@ -70,6 +70,8 @@ pub(crate) const GROUP: Choice = choice!("group", Bytes32, Optional);
 
 pub(crate) const ANNOUNCE: Choice = choice!("announce", 0, 65_535);
 
+pub(crate) const SPREAD: Choice = choice!("spread", YesNo, OrNo);
+
 pub(crate) const RECEIVES: Choice = choice!("receives", 1, 1_000_000_000, 1_000_000_000);
 
 /// The same option of `node`, which may want none.

@@ -10,7 +10,7 @@ use Rattle.kad_base.specs.declared.types.Event.TheVariants.{Got}
 use Rattle.kad_base.specs.Limits.{max_strays}
 use Rattle.kad_base.specs.Outside.{Grows}
 use Rattle.kad_base.specs.Words.{word}
-use Rattle.kad_base.proofs.Grown.{grows_none, grows_then, grows_weaker}
+use Rattle.kad_base.proofs.Grown.{grows_then, grows_weaker}
 use Rattle.id_puzzles.specs.Drawn.{WordsState}
 use Rattle.lookup_core.specs.declared.quest.AskKind.{AskKind}
 use Rattle.claim_book.specs.declared.types.Entry.{Entry}
@@ -87,10 +87,6 @@ chosen_plainly spread look o found e is = is ∙ sym (ap (λ (b : Bool). chosen 
 pub chosen_spread : (spread : Bool) (look : LookWords) (o : Outcome) (J : List Entry) (contacts contacts' : List Contact) → spread ≡ true → J ≡ o.journal → contacts' ≡ spread_over look.target look.k look.paths J → contacts ≡ contacts' → contacts ≡ chosen spread look o
 chosen_spread spread look o J contacts contacts' e of is same_ =
     same_ ∙ is ∙ ap (spread_over look.target look.k look.paths) of ∙ sym (ap (λ (b : Bool). chosen b look o) e)
-
--- nothing of it was said
-pub none_said : (seed : List ℕ) (place : ℕ) (all : List Announcement) (a b : Option (List Event)) → b ≡ a → Grows a b (AnnouncesSome seed place all)
-none_said seed place all a b same_ = subst (λ (o : Option (List Event)). Grows a o (AnnouncesSome seed place all)) (sym same_) (grows_none a _ (0, refl))
 
 -- ---- after a lookup
 

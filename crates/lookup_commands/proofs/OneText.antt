@@ -1,5 +1,5 @@
 -- Unless the check is slow, a command that looks one thing up has one text by the link's events.
-use Rattle.std.proofs.Common.{◌≡◌, ◌⊎◌, ℕ, ◌<◌, List, [], ◌∷◌, ◌++◌, length, Option, Some, None, false, inl, inr, refl, sym, ap, subst, ◌∙◌, arith}
+use Rattle.std.proofs.Common.{◌≡◌, ◌⊎◌, ℕ, ◌<◌, List, [], ◌∷◌, ◌++◌, length, Option, Some, None, Bool, false, inl, inr, refl, sym, ap, subst, ◌∙◌, arith}
 use Rattle.std.specs.Prelude.{map}
 use Rattle.std.specs.List.{All}
 use Rattle.std.proofs.lemmas.List.Elements.{All-head, All-tail}
@@ -170,9 +170,9 @@ record SameThen (J K : List Entry) (peers others : List Addr) (sent number : ℕ
   peers_are : peers ≡ others
   sent_are : sent ≡ number
 
-then_once : (kind : AskKind) (look : LookWords) (owing : Owing) (called : Called) (J K : List Entry) (peers others : List Addr) (sent number : ℕ) (events : List Event) → Twice kind look called J K
-    → TellsThen kind look owing called J peers sent events → TellsThen kind look owing called K others number events → SameThen J K peers others sent number
-then_once kind look owing called J K peers others sent number events w a b =
+then_once : (kind : AskKind) (look : LookWords) (spread : Bool) (owing : Owing) (called : Called) (J K : List Entry) (peers others : List Addr) (sent number : ℕ) (events : List Event) → Twice kind look called J K
+    → TellsThen kind look spread owing called J peers sent events → TellsThen kind look spread owing called K others number events → SameThen J K peers others sent number
+then_once kind look spread owing called J K peers others sent number events w a b =
     let g = lookup_of kind look called in
     elim (fronts a.lookup b.lookup a.then b.then (sym a.whole ∙ b.whole)) [
       | inl same ↦ (
@@ -188,22 +188,22 @@ then_once kind look owing called J K peers others sent number events w a b =
       ])
     ]
 
-pub peers_once : (look : LookWords) (announce : Option ℕ) (called : Called) (source again : Shown ℕ) (link beside : Shown Event) (t u : List ℕ) → IsInRange look → called.slow ≡ false → SameInput source again → SameEvents link beside
-    → PeersText look announce called source link t → PeersText look announce called again beside u → t ≡ u
-peers_once look announce called source again link beside t u range quick same events a b =
+pub peers_once : (look : LookWords) (announce : Option ℕ) (spread : Bool) (called : Called) (source again : Shown ℕ) (link beside : Shown Event) (t u : List ℕ) → IsInRange look → called.slow ≡ false → SameInput source again → SameEvents link beside
+    → PeersText look announce spread called source link t → PeersText look announce spread called again beside u → t ≡ u
+peers_once look announce spread called source again link beside t u range quick same events a b =
     let both = added_once link.before beside.before link.after beside.after _ _ events.before events.after events.told a.tells b.tells in
-    let one = then_once GetPeers look (announcing_to look announce) called a.journal b.journal a.peers b.peers a.announced b.announced both.0 (twice GetPeers look called source again a.journal b.journal range quick same a.ran b.ran) both.1 both.2 in
+    let one = then_once GetPeers look spread (announcing_to look announce) called a.journal b.journal a.peers b.peers a.announced b.announced both.0 (twice GetPeers look called source again a.journal b.journal range quick same a.ran b.ran) both.1 both.2 in
     a.text_is
     ∙ ap (λ (J : List Entry). printed_peers a.peers (length (result_of (book_of GetPeers look called.random) J)) (length (asked J)) (length (failed J)) (length (turned J)) a.announced) one.journal
     ∙ ap (λ (l : List Addr). printed_peers l (length (result_of (book_of GetPeers look called.random) b.journal)) (length (asked b.journal)) (length (failed b.journal)) (length (turned b.journal)) a.announced) one.peers_are
     ∙ ap (λ n. printed_peers b.peers (length (result_of (book_of GetPeers look called.random) b.journal)) (length (asked b.journal)) (length (failed b.journal)) (length (turned b.journal)) n) one.sent_are
     ∙ sym b.text_is
 
-pub put_once : (look : LookWords) (item : List ℕ) (called : Called) (source again : Shown ℕ) (link beside : Shown Event) (t u : List ℕ) → IsInRange look → called.slow ≡ false → SameInput source again → SameEvents link beside
-    → PutText look item called source link t → PutText look item called again beside u → t ≡ u
-put_once look item called source again link beside t u range quick same events a b =
+pub put_once : (look : LookWords) (item : List ℕ) (spread : Bool) (called : Called) (source again : Shown ℕ) (link beside : Shown Event) (t u : List ℕ) → IsInRange look → called.slow ≡ false → SameInput source again → SameEvents link beside
+    → PutText look item spread called source link t → PutText look item spread called again beside u → t ≡ u
+put_once look item spread called source again link beside t u range quick same events a b =
     let both = added_once link.before beside.before link.after beside.after _ _ events.before events.after events.told a.tells b.tells in
-    let one = then_once GetItem look (putting_to item) called a.journal b.journal both.1.0 both.2.0 a.stored b.stored both.0 (twice GetItem look called source again a.journal b.journal range quick same a.ran b.ran) both.1.1 both.2.1 in
+    let one = then_once GetItem look spread (putting_to item) called a.journal b.journal both.1.0 both.2.0 a.stored b.stored both.0 (twice GetItem look called source again a.journal b.journal range quick same a.ran b.ran) both.1.1 both.2.1 in
     a.text_is
     ∙ ap (λ (J : List Entry). printed_stored look.target (length (result_of (book_of GetItem look called.random) J)) (length (asked J)) (length (failed J)) (length (turned J)) a.stored) one.journal
     ∙ ap (λ n. printed_stored look.target (length (result_of (book_of GetItem look called.random) b.journal)) (length (asked b.journal)) (length (failed b.journal)) (length (turned b.journal)) n) one.sent_are

@@ -37,17 +37,17 @@ ruleset limits = (look_in_range, table_in_range, service_in_range, simulable)
 
 pub lawful : (command : Command) → Lawful (promise_of command)
 lawful (Lookup look) = lookup_lawful look
-lawful (Peers look announce) = peers_lawful look announce
+lawful (Peers look announce spread) = peers_lawful look announce spread
 lawful (Get look) = get_lawful look
-lawful (Put look item) = put_lawful look item
+lawful (Put look item spread) = put_lawful look item spread
 lawful (Mint words) = mint_lawful words
 lawful other = search (rules, forms)
 
 in_ranges : (command : Command) (value : Values) → Says value command → (promise_of command).ranges
 in_ranges (Lookup look) value s = look_in_range _ value look s.0.1
-in_ranges (Peers look announce) value s = look_in_range _ value look s.0.1
+in_ranges (Peers look announce spread) value s = look_in_range _ value look s.0.1
 in_ranges (Get look) value s = look_in_range _ value look s.0.1
-in_ranges (Put look item) value s = look_in_range _ value look s.0.1
+in_ranges (Put look item spread) value s = look_in_range _ value look s.0.1
 in_ranges (Node words) value s = look_in_range _ value words.look s.0.1
 in_ranges other value s = search (rules, limits)
 

@@ -43,9 +43,9 @@ of_seed other_command called other source again link beside t u ranges named h j
 of_events : (c : Command) (called : Called) (source again : Shown ℕ) (link beside : Shown Event) (t u : List ℕ) → (promise_of c).ranges → GoesByEvents called.slow c → SameInput source again → SameEvents link beside
     → (promise_of c).text called source link t → (promise_of c).text called again beside u → t ≡ u
 of_events (Lookup look) called source again link beside t u ranges goes same events_same h j = lookup_once FindNode look called source again link beside t u ranges goes same events_same h j
-of_events (Peers look announce) called source again link beside t u ranges goes same events_same h j = peers_once look announce called source again link beside t u ranges goes same events_same h j
+of_events (Peers look announce spread) called source again link beside t u ranges goes same events_same h j = peers_once look announce spread called source again link beside t u ranges goes same events_same h j
 of_events (Get look) called source again link beside t u ranges goes same events_same h j = get_once look called source again link beside t u ranges goes same events_same h j
-of_events (Put look item) called source again link beside t u ranges goes same events_same h j = put_once look item called source again link beside t u ranges goes same events_same h.1 j.1
+of_events (Put look item spread) called source again link beside t u ranges goes same events_same h j = put_once look item spread called source again link beside t u ranges goes same events_same h.1 j.1
 of_events (Serve words) called source again link beside t u ranges goes same events_same h j =
     serve_once words called source again link beside t u events_same h j
 of_events (Refresh words) called source again link beside t u ranges goes same events_same h j =

@@ -30,9 +30,9 @@ use Rattle.table_commands.specs.Tabled.{table_promise}
 
 abbrev pub promise_of : Command → Promise
 promise_of (Lookup look) = lookup_promise look
-promise_of (Peers look announce) = peers_promise look announce
+promise_of (Peers look announce spread) = peers_promise look announce spread
 promise_of (Get look) = get_promise look
-promise_of (Put look item) = put_promise look item
+promise_of (Put look item spread) = put_promise look item spread
 promise_of (Serve words) = serve_promise words
 promise_of (Node words) = node_promise words
 promise_of (Table words) = table_promise words

@@ -13,9 +13,9 @@ NamesSeed other = ⊥
 -- nothing on several threads; a lookup does so only if the check is slow
 abbrev pub GoesByEvents : Bool → Command → Type 0
 GoesByEvents slow (Lookup look) = slow ≡ false
-GoesByEvents slow (Peers look announce) = slow ≡ false
+GoesByEvents slow (Peers look announce spread) = slow ≡ false
 GoesByEvents slow (Get look) = slow ≡ false
-GoesByEvents slow (Put look item) = slow ≡ false
+GoesByEvents slow (Put look item spread) = slow ≡ false
 GoesByEvents slow (Serve words) = Unit {0}
 GoesByEvents slow (Refresh words) = Unit {0}
 GoesByEvents slow other = ⊥

@@ -74,13 +74,26 @@ fn output_of<
 {
     match *command {
         Command::Lookup { look } => lookup::lookup(rt, alloc, &look, source, link, call),
-        Command::Peers { look, announce } => {
-            peers::peers(rt, alloc, &look, announce, source, link, call)
-        }
+        Command::Peers {
+            look,
+            announce,
+            spread,
+        } => peers::peers(rt, alloc, &look, announce, spread, source, link, call),
         Command::Get { look } => get::get(rt, alloc, &look, source, link, call),
-        Command::Put { look, ref value } => {
-            put::put(rt, alloc, &look, value.as_slice(), source, link, call)
-        }
+        Command::Put {
+            look,
+            ref value,
+            spread,
+        } => put::put(
+            rt,
+            alloc,
+            &look,
+            value.as_slice(),
+            spread,
+            source,
+            link,
+            call,
+        ),
         Command::Serve { words } => serve::serve(rt, alloc, &words, source, link, call),
         Command::Node { words } => node::node(rt, alloc, &words, source, link, call),
         Command::Refresh { words } => refresh::refresh(alloc, &words, source, link, call),

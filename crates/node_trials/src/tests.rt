@@ -11,6 +11,7 @@ mod peering;
 mod puzzled;
 mod replies;
 mod sending;
+mod spread;
 mod together;
 
 use kad_base::{Event, List};

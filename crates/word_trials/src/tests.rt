@@ -177,27 +177,34 @@ fn words_of_a_lookup(rt: HostRuntime) {
 #[test]
 fn words_of_peers(rt: HostRuntime) {
     let look = look();
-    for (line, look, announce) in [
-        ("peers --key ID", look, None),
-        ("peers --announce 0 --key ID", look, Some(0)),
+    for (line, look, announce, spread) in [
+        ("peers --key ID", look, None, false),
+        ("peers --announce 0 --key ID", look, Some(0), false),
+        ("peers --spread yes --key ID", look, None, true),
         (
-            "peers --key ID --announce 65535 --k 3 --own ID",
+            "peers --key ID --announce 65535 --k 3 --own ID --spread no",
             LookWords {
                 k: 3,
                 own: Some(id()),
                 ..look
             },
             Some(65535),
+            false,
         ),
         (
-            "peers --key ID --own ID --k 20 --paths 8 --alpha 4 --timeout 60000 --bits 5 --c1 32 --c2 32 --family 6 --bind 1.2.3.4:5 --group SEED --announce 1",
+            "peers --key ID --own ID --k 20 --paths 8 --alpha 4 --timeout 60000 --bits 5 --c1 32 --c2 32 --family 6 --bind 1.2.3.4:5 --group SEED --announce 1 --spread yes",
             greatest(),
             Some(1),
+            true,
         ),
     ] {
         assert_eq!(rt;
             read_line(rt.alloc(), line),
-            Ok(Command::Peers { look, announce }),
+            Ok(Command::Peers {
+                look,
+                announce,
+                spread,
+            }),
             "at {line}"
         );
     }
@@ -228,13 +235,18 @@ fn put(
     target: [u8; 20],
     value: &[u8],
     look: LookWords,
+    spread: bool,
 ) -> Result<Command, NoMemory> {
     let look = LookWords {
         target: Id(target),
         ..look
     };
     let value = List::from_slice(alloc, value)?;
-    Ok(Command::Put { look, value })
+    Ok(Command::Put {
+        look,
+        value,
+        spread,
+    })
 }
 
 #[test]
@@ -248,23 +260,25 @@ fn words_of_put(rt: HostRuntime) {
         0x5b, 0xa9, 0x3c, 0x9d, 0xb0, 0xcf, 0xf9, 0x3f, 0x52, 0xb5, 0x21, 0xd7, 0x42, 0x0e, 0x43,
         0xf6, 0xed, 0xa2, 0x78, 0x4f,
     ];
-    for (line, target, value, look) in [
-        ("put --value 353a68656c6c6f", hello, "5:hello", look),
+    for (line, target, value, look, spread) in [
+        ("put --value 353a68656c6c6f", hello, "5:hello", look, false),
         (
-            "put --k 3 --value 353A68656c6C6F",
+            "put --k 3 --value 353A68656c6C6F --spread no",
             hello,
             "5:hello",
             LookWords { k: 3, ..look },
+            false,
         ),
-        ("put --value 00", nothing, "\0", look),
+        ("put --spread yes --value 00", nothing, "\0", look, true),
         (
-            "put --value 353a68656c6c6f --own ID --k 20 --paths 8 --alpha 4 --timeout 60000 --bits 5 --c1 32 --c2 32 --family 6 --bind 1.2.3.4:5 --group SEED",
+            "put --value 353a68656c6c6f --own ID --k 20 --paths 8 --alpha 4 --timeout 60000 --bits 5 --c1 32 --c2 32 --family 6 --bind 1.2.3.4:5 --group SEED --spread yes",
             hello,
             "5:hello",
             greatest(),
+            true,
         ),
     ] {
-        let wanted = put(rt.alloc(), target, value.as_bytes(), look).expect(&rt, "memory");
+        let wanted = put(rt.alloc(), target, value.as_bytes(), look, spread).expect(&rt, "memory");
         assert_eq!(rt; read_line(rt.alloc(), line), Ok(wanted), "at {line}");
     }
 }
@@ -546,6 +560,7 @@ fn words_that_are_refused(rt: HostRuntime) {
         "--target ID lookup",
         "peers --key ID --announce 65536",
         "peers --key ID --target ID",
+        "peers --key ID --spread Yes",
         "peers --key ID --value 35",
         "get",
         "get --target ID",
@@ -567,6 +582,10 @@ fn words_that_are_refused(rt: HostRuntime) {
         "put --value 35 --key ID",
         "put --value 35 --target ID",
         "put --value 35 --announce 1",
+        "put --value 35 --spread true",
+        "put --value 35 --spread yes --spread yes",
+        "get --key ID --spread yes",
+        "lookup --target ID --spread no",
         "serve --receives 0",
         "serve --receives 1000000001",
         "serve --workers 0",

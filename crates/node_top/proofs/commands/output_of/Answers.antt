@@ -1,4 +1,4 @@
-use Rattle.std.proofs.Common.{sym, ap, rules, ◌∙◌, ◌≢◌, refl}
+use Rattle.std.proofs.Common.{ℕ, List, sym, ap, rules, ◌∙◌, ◌≢◌, refl}
 use Rattle.kad_words.specs.declared.command.Command.TheVariants.{Lookup, Peers, Get, Put, Serve, Node, Refresh}
 use Rattle.command_base.specs.Shown.{nowhere}
 use Rattle.node_top.proofs.Lawfully.{lawful}
@@ -18,13 +18,13 @@ pub returns-in-Get-clause-cause : goal.returns-in-Get-clause-cause
 returns-in-Get-clause-cause g c = cause_at c.get.result _ _ _ _ _ (sym c.in-Get.is) c.get.ensures.cause
 
 pub returns-in-Put-clause-ok : goal.returns-in-Put-clause-ok
-returns-in-Put-clause-ok g c = text_at c.put.result _ _ _ _ _ (ap (Put c.in-Put.look) c.as_slice.ensures ∙ sym c.in-Put.is) c.put.ensures.ok
+returns-in-Put-clause-ok g c = text_at c.put.result _ _ _ _ _ (ap (λ (v : List ℕ). Put c.in-Put.look v c.in-Put.spread) c.as_slice.ensures ∙ sym c.in-Put.is) c.put.ensures.ok
 
 pub returns-in-Put-clause-cause : goal.returns-in-Put-clause-cause
-returns-in-Put-clause-cause g c = cause_at c.put.result _ _ _ _ _ (ap (Put c.in-Put.look) c.as_slice.ensures ∙ sym c.in-Put.is) c.put.ensures.cause
+returns-in-Put-clause-cause g c = cause_at c.put.result _ _ _ _ _ (ap (λ (v : List ℕ). Put c.in-Put.look v c.in-Put.spread) c.as_slice.ensures ∙ sym c.in-Put.is) c.put.ensures.cause
 
 pub returns-in-Put-clause-no_memory : goal.returns-in-Put-clause-no_memory
-returns-in-Put-clause-no_memory g c = begun_at c.put.result _ _ _ _ _ _ (ap (Put c.in-Put.look) c.as_slice.ensures ∙ sym c.in-Put.is) c.put.ensures.no_memory
+returns-in-Put-clause-no_memory g c = begun_at c.put.result _ _ _ _ _ _ (ap (λ (v : List ℕ). Put c.in-Put.look v c.in-Put.spread) c.as_slice.ensures ∙ sym c.in-Put.is) c.put.ensures.no_memory
 
 pub returns-in-Serve-clause-cause : goal.returns-in-Serve-clause-cause
 returns-in-Serve-clause-cause g c = cause_at c.serve.result _ _ _ _ _ (sym c.in-Serve.is) c.serve.ensures.cause
@@ -47,7 +47,7 @@ pub returns-in-Lookup-clause-unread : goal.returns-in-Lookup-clause-unread
 returns-in-Lookup-clause-unread g c = unrefused c.lookup.result _ (Lookup c.in-Lookup.look) (λ refused. refused) _ _ _ c.lookup.ensures.cause
 
 pub returns-in-Peers-clause-unread : goal.returns-in-Peers-clause-unread
-returns-in-Peers-clause-unread g c = unrefused c.peers.result _ (Peers c.in-Peers.look c.in-Peers.announce) (λ refused. refused) _ _ _ c.peers.ensures.cause
+returns-in-Peers-clause-unread g c = unrefused c.peers.result _ (Peers c.in-Peers.look c.in-Peers.announce c.in-Peers.spread) (λ refused. refused) _ _ _ c.peers.ensures.cause
 
 pub returns-in-Get-clause-unread : goal.returns-in-Get-clause-unread
 returns-in-Get-clause-unread g c = unrefused c.get.result _ (Get c.in-Get.look) (λ refused. refused) _ _ _ c.get.ensures.cause
