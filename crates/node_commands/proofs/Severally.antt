@@ -1,5 +1,5 @@
 -- The command `node`, from its input to its end.
-use Rattle.std.proofs.Common.{◌≡◌, ◌≢◌, ℕ, ◌≤◌, List, [], ◌∷◌, ◌++◌, length, map, Option, None, inl, inr, refl, sym, ap, subst, ◌∙◌, arith}
+use Rattle.std.proofs.Common.{◌≡◌, ◌≢◌, ℕ, ◌≤◌, List, [], ◌∷◌, ◌++◌, length, map, Bool, Option, None, inl, inr, refl, sym, ap, subst, ◌∙◌, arith}
 use Rattle.std.specs.List.{All, AllZip}
 use Rattle.kad_base.specs.declared.types.Contact.{Contact}
 use Rattle.kad_base.specs.declared.types.Event.{Event}
@@ -23,6 +23,7 @@ use Rattle.claim_book.proofs.Claims.{took_distinct, asked_distinct}
 use Rattle.claim_book.proofs.Ends.{found_answered}
 use Rattle.lookup_run.specs.Lookup.{TableTold}
 use Rattle.node_serve.specs.Calls.{IsSetting}
+use Rattle.node_serve.specs.declared.lasting.Lasting.{Lasting}
 use Rattle.node_serve.specs.declared.setting.ServeSetting.{ServeSetting}
 use Rattle.node_tokens.specs.Tokens.{TokensState}
 use Rattle.look_many.specs.ManyLooked.{CountsUnsent, IsFound, IsWithinLimits, ManyLooked, ManyStopped, journals_of, setting_for}
@@ -36,14 +37,14 @@ use Rattle.kad_words.specs.declared.command.NodeWords.{NodeWords}
 use Rattle.command_base.specs.declared.status.Status.{Status}
 use Rattle.command_base.specs.declared.status.Status.TheVariants.{LinkFault, Strays, NoSeeds}
 use Rattle.command_base.specs.Called.{Called}
-use Rattle.node_commands.specs.Several.{EndsFinds, FindsCause, GivesNobody, GivesStart, HasLooked, HasRunOutFor, HasStopped, Names, NamesCause, NodeCause, NodeEnds, NodeGoesWell, NodeRan, NodeText, ShowsLastForeign, Starts, TellsFinds, each_of, journal_texts, node_aim, node_promise, printed_each, printed_many, server_of}
+use Rattle.node_commands.specs.Several.{EndsFinds, FindsCause, GivesNobody, GivesStart, HasLookedTo, HasRunOutFor, HasStopped, LooksFrom, Names, NamesCause, NodeCause, NodeEnds, NodeGoesWell, NodeRan, NodeText, ShowsLastForeign, Starts, TellsFinds, each_of, journal_texts, lasting_of, node_aim, node_promise, printed_each, printed_many, server_of}
 use Rattle.command_base.specs.Endings.{number_of}
 use Rattle.node_commands.specs.FindLines.{AreGoodFinds, IsBadFind, Naming}
 use Rattle.command_base.specs.Input.{Admits, Keeps, ReadsAs}
 use Rattle.kad_text.specs.Lines.{lines}
 use Rattle.command_base.specs.Printed.{printed_of, line_of, printed}
-use Rattle.node_commands.specs.Printed.{find_text, printed_served}
-use Rattle.command_base.specs.Promise.{IsOneOf}
+use Rattle.node_commands.specs.Printed.{find_text, printed_served, WithTable}
+use Rattle.command_base.specs.Promise.{IsOneOf, reading}
 use Rattle.command_base.specs.Shown.{Shown}
 use Rattle.command_base.specs.Started.{drawn_of, own_of, seen_call, IsInRange}
 use Rattle.command_base.proofs.Starting.{admits_usable, usable_told}
@@ -77,8 +78,8 @@ starts_given look random source targets table proofs s = record { reports = s.re
 
 -- ---- what the link's events tell
 
-module _ (look : LookWords) (receives : ℕ) (called : Called) (source : Shown ℕ) (link : Shown Event) where
-  ran_tells : NodeRan look receives called source link → Grows link.before link.after (TellsFinds look receives called)
+module _ (look : LookWords) (lasting : Lasting) (called : Called) (source : Shown ℕ) (link : Shown Event) where
+  ran_tells : NodeRan look lasting called source link → Grows link.before link.after (TellsFinds look lasting called)
   ran_tells r = grows_weaker link.before link.after _ _ r.looked.2.tells (λ events t. record {
     targets = r.targets;
     proofs = r.proofs;
@@ -89,7 +90,7 @@ module _ (look : LookWords) (receives : ℕ) (called : Called) (source : Shown �
   })
 
   -- where a receive failed no datagram came that isn't told
-  fault_tells : NodeEnds look receives called source link fault.LinkFault → Grows link.before link.after (TellsFinds look receives called)
+  fault_tells : NodeEnds look lasting called source link fault.LinkFault → Grows link.before link.after (TellsFinds look lasting called)
   fault_tells e =
       elim e.stopped.2 [
         | inl b ↦ grows_weaker link.before link.after _ _ b.tells (λ events t. record {
@@ -103,38 +104,38 @@ module _ (look : LookWords) (receives : ℕ) (called : Called) (source : Shown �
         | inr n ↦ absurd (cc n.fault_is)
       ]
 
-  not_foreign : link.after ≢ None → Grows link.before link.after (TellsFinds look receives called) → ShowsLastForeign look receives called link → ⊥
+  not_foreign : link.after ≢ None → Grows link.before link.after (TellsFinds look lasting called) → ShowsLastForeign look lasting called link → ⊥
   not_foreign told g h =
-      added_once link.before link.after (TellsFinds look receives called) told g (grows_weaker link.before link.after _ _ h (λ events p tells. p.1 tells))
+      added_once link.before link.after (TellsFinds look lasting called) told g (grows_weaker link.before link.after _ _ h (λ events p tells. p.1 tells))
 
 nothing_more : (es : List Event) (x : Event) → [] ≡ es ++ x ∷ [] → ⊥
 nothing_more [] x e = cc
 nothing_more (y ∷ es) x e = cc
 
-none_ends : (look : LookWords) (receives : ℕ) (called : Called) → EndsFinds look receives called [] → ⊥
-none_ends look receives called e = nothing_more e.ends.before (Got e.ends.from e.ends.bytes e.ends.until e.ends.at) e.ends.last
+none_ends : (look : LookWords) (lasting : Lasting) (called : Called) → EndsFinds look lasting called [] → ⊥
+none_ends look lasting called e = nothing_more e.ends.before (Got e.ends.from e.ends.bytes e.ends.until e.ends.at) e.ends.last
 
-uncalled_not_foreign : (look : LookWords) (receives : ℕ) (called : Called) (link : Shown Event) → link.after ≢ None → link.after ≡ link.before → ShowsLastForeign look receives called link → ⊥
-uncalled_not_foreign look receives called link told same h =
-    let Last : List Event → Type 0 = (λ events. EndsFinds look receives called events) in
+uncalled_not_foreign : (look : LookWords) (lasting : Lasting) (called : Called) (link : Shown Event) → link.after ≢ None → link.after ≡ link.before → ShowsLastForeign look lasting called link → ⊥
+uncalled_not_foreign look lasting called link told same h =
+    let Last : List Event → Type 0 = (λ events. EndsFinds look lasting called events) in
     let none_ : Grows link.before link.after (λ events. Last events → ⊥) =
-    subst (λ (o : Option (List Event)). Grows link.before o (λ events. Last events → ⊥)) (sym same) (grows_none link.before (λ events. Last events → ⊥) (none_ends look receives called)) in
+    subst (λ (o : Option (List Event)). Grows link.before o (λ events. Last events → ⊥)) (sym same) (grows_none link.before (λ events. Last events → ⊥) (none_ends look lasting called)) in
     added_once link.before link.after Last told (grows_weaker link.before link.after _ _ h (λ events p. p.0)) none_
 
 -- ---- the laws of its promise
 
-module _ (look : LookWords) (receives : ℕ) (called : Called) (source : Shown ℕ) (link : Shown Event) where
-  behind : (s : Status) → NodeCause look receives called source link s → Behind (node_aim look receives) called source link s
-  behind LinkFault c =
+module _ (look : LookWords) (lasting : Lasting) (called : Called) (source : Shown ℕ) (link : Shown Event) where
+  behind : (with_table : Bool) (s : Status) → NodeCause look lasting called source link s → Behind (node_aim look lasting with_table) called source link s
+  behind with_table LinkFault c =
       let e = c.1 in
       let start = starts_given look called.random source e.targets e.table e.proofs e.starts in (
         names_good source e.starts.reports e.targets e.starts.names,
         (c.0, start, inl (fault.LinkFault, e), e),
         λ told none_. absurd (start_or_nobody look called.random source told start none_),
-        λ told early last. absurd (not_foreign look receives called source link told (fault_tells look receives called source link e) last),
+        λ told early last. absurd (not_foreign look lasting called source link told (fault_tells look lasting called source link e) last),
         λ told unsound. absurd unsound,
       )
-  behind Strays c =
+  behind with_table Strays c =
       let start = starts_given look called.random source c.targets c.table c.proofs c.starts in (
         names_good source c.starts.reports c.targets c.starts.names,
         (c, start, inl (fault.Strays, c)),
@@ -142,47 +143,47 @@ module _ (look : LookWords) (receives : ℕ) (called : Called) (source : Shown �
         λ told early last. inl refl,
         λ told unsound. absurd unsound,
       )
-  behind NoSeeds c = (
+  behind with_table NoSeeds c = (
     names_good source c.reports c.targets c.names,
     ((λ refused. refused), c),
     λ told none_. inl refl,
-    λ told early last. absurd (uncalled_not_foreign look receives called link told (early (inr (inr (inr (inl refl))))) last),
+    λ told early last. absurd (uncalled_not_foreign look lasting called link told (early (inr (inr (inr (inl refl))))) last),
     λ told unsound. absurd unsound,
   )
-  behind other c = absurd c
+  behind with_table other c = absurd c
 
-  needed : (s : Status) → NodeGoesWell look receives called source link → ¬ NodeCause look receives called source link s
+  needed : (s : Status) → NodeGoesWell look lasting called source link → ¬ NodeCause look lasting called source link s
   needed LinkFault n c = n.hears c.0
   needed Strays n c = n.few_strays c
   needed NoSeeds n c = start_or_nobody look called.random source n.told n.start c
   needed other n c = c
 
-  in_ends : (s : Status) → NodeCause look receives called source link s → IsOneOf (4 ∷ 7 ∷ 8 ∷ []) (number_of s)
+  in_ends : (s : Status) → NodeCause look lasting called source link s → IsOneOf (4 ∷ 7 ∷ 8 ∷ []) (number_of s)
   in_ends LinkFault c = inl refl
   in_ends Strays c = inr (inl refl)
   in_ends NoSeeds c = inr (inr (inl refl))
   in_ends other c = absurd c
 
   -- an input that gave no start
-  pub no_start : (s : Status) → FindsCause look called.random source s → (node_promise (record { look = look; receives = receives })).cause called source link s
-  no_start LinkFault h = absurd h
-  no_start Strays h = absurd h
-  no_start other h = h
+  pub no_start : (with_table : Bool) (s : Status) → FindsCause look called.random source s → (reading (node_aim look lasting with_table)).cause called source link s
+  no_start with_table LinkFault h = absurd h
+  no_start with_table Strays h = absurd h
+  no_start with_table other h = h
 
 pub node_lawful : (words : NodeWords) → Lawful (node_promise words)
-node_lawful words = reading_lawful (node_aim words.look words.receives) (record {
+node_lawful words = reading_lawful (node_aim words.look (lasting_of words) words.table) (record {
   good = λ called source link written t. names_good source t.ran.starts.reports t.ran.targets t.ran.starts.names;
   apart = finds_apart;
   seedless = λ called source n. names_good source n.reports n.targets n.names;
   unrestored = λ source unsound. absurd unsound;
   sound = λ called source link written told t unsound. unsound;
   seeded = λ called source link written told t n. start_or_nobody words.look called.random source told (starts_given words.look called.random source t.ran.targets t.ran.table t.ran.proofs t.ran.starts) n;
-  few = λ called source link written told t last. not_foreign words.look words.receives called source link told (ran_tells words.look words.receives called source link t.ran) last;
-  uncalled = λ called link told same last. uncalled_not_foreign words.look words.receives called link told same last;
-  behind = λ called source link s c. behind words.look words.receives called source link s c;
+  few = λ called source link written told t last. not_foreign words.look (lasting_of words) called source link told (ran_tells words.look (lasting_of words) called source link t.ran) last;
+  uncalled = λ called link told same last. uncalled_not_foreign words.look (lasting_of words) called link told same last;
+  behind = λ called source link s c. behind words.look (lasting_of words) called source link words.table s c;
   well = λ called source link n. (n.told, n.reads, names_good source n.start.reports n.start.targets n.start.names);
-  needed = λ called source link s n c. needed words.look words.receives called source link s n c;
-  in_ends = λ called source link s c. in_ends words.look words.receives called source link s c;
+  needed = λ called source link s n c. needed words.look (lasting_of words) called source link s n c;
+  in_ends = λ called source link s c. in_ends words.look (lasting_of words) called source link s c;
   seeks = λ none_ called source n. none_ refl;
   counts = λ none_ called source link last. none_ refl;
   restores = λ none_ source unsound. unsound;
@@ -210,22 +211,21 @@ is_setting look proofs own tokens range pass = record { some_nodes = range.some_
 pub within_each : (look : LookWords) → IsInRange look → IsWithinLimits (record { paths = look.paths; alpha = look.alpha; timeout = look.timeout })
 within_each look range = record { some_path = range.some_path; few_paths = range.few_paths; some_query = range.some_query; few_queries = range.few_queries }
 
-module _ (look : LookWords) (receives : ℕ) (called : Called) (targets : List Id) (table : TableState) (proofs : List Report) (link : Shown Event) (server : ServeSetting) (words : WordsState)
+module _ (look : LookWords) (lasting : Lasting) (called : Called) (targets : List Id) (table : TableState) (proofs : List Report) (link : Shown Event) (server : ServeSetting) (words : WordsState)
     (server_are : server ≡ server_of look called.random proofs) (words_are : words ≡ drawn_of called.random) (after : TableState) (left : WordsState) where
-  pub has_looked : (many : Many) → ManyLooked called.accepts called.tags server (each_of look) targets receives table after words left link.before link.after many → HasLooked look receives called targets table proofs link many
+  pub has_looked : (many : Many) → ManyLooked called.accepts called.tags server (each_of look) targets lasting table after words left link.before link.after many → HasLookedTo after look lasting called targets table proofs link many
   has_looked many h = (
-    after,
     left,
-    subst (λ (w : WordsState). ManyLooked called.accepts called.tags (server_of look called.random proofs) (each_of look) targets receives table after w left link.before link.after many) words_are
-        (subst (λ (s : ServeSetting). ManyLooked called.accepts called.tags s (each_of look) targets receives table after words left link.before link.after many) server_are h),
+    subst (λ (w : WordsState). ManyLooked called.accepts called.tags (server_of look called.random proofs) (each_of look) targets lasting table after w left link.before link.after many) words_are
+        (subst (λ (s : ServeSetting). ManyLooked called.accepts called.tags s (each_of look) targets lasting table after words left link.before link.after many) server_are h),
   )
 
-  pub has_stopped : (by : ManyFault) → ManyStopped called.accepts called.tags server (each_of look) targets receives table after words left link.before link.after by → HasStopped look receives called targets table proofs link by
+  pub has_stopped : (by : ManyFault) → ManyStopped called.accepts called.tags server (each_of look) targets lasting table after words left link.before link.after by → HasStopped look lasting called targets table proofs link by
   has_stopped by h = (
     after,
     left,
-    subst (λ (w : WordsState). ManyStopped called.accepts called.tags (server_of look called.random proofs) (each_of look) targets receives table after w left link.before link.after by) words_are
-        (subst (λ (s : ServeSetting). ManyStopped called.accepts called.tags s (each_of look) targets receives table after words left link.before link.after by) server_are h),
+    subst (λ (w : WordsState). ManyStopped called.accepts called.tags (server_of look called.random proofs) (each_of look) targets lasting table after w left link.before link.after by) words_are
+        (subst (λ (s : ServeSetting). ManyStopped called.accepts called.tags s (each_of look) targets lasting table after words left link.before link.after by) server_are h),
   )
 
 -- what it begins with, as the code has it
@@ -309,27 +309,29 @@ module _ (server : ServeSetting) (setting : ManySetting) (table : TableState) wh
         all_run_out some_path ts os h.1,
       )
 
-abbrev pub ran_of : (look : LookWords) (receives : ℕ) (called : Called) (source : Shown ℕ) (link : Shown Event) (targets ts : List Id) (table : TableState) (proofs : List Report) (many : Many) → Starts look called.random source targets table proofs
-    → HasLooked look receives called ts table proofs link many → CountsUnsent (journals_of many.outcomes) link.sends link.sends' → ts ≡ targets → NodeRan look receives called source link
-ran_of look receives called source link targets ts table proofs many s h refused same = record {
+abbrev pub ran_of : (look : LookWords) (lasting : Lasting) (called : Called) (source : Shown ℕ) (link : Shown Event) (targets ts : List Id) (table : TableState) (proofs : List Report) (many : Many) → Starts look called.random source targets table proofs
+    → (after : TableState) → HasLookedTo after look lasting called ts table proofs link many → CountsUnsent (journals_of many.outcomes) link.sends link.sends' → ts ≡ targets → NodeRan look lasting called source link
+ran_of look lasting called source link targets ts table proofs many s after h refused same = record {
   targets = targets;
   table = table;
   proofs = proofs;
   starts = s;
   many = many;
-  looked = subst (λ (l : List Id). HasLooked look receives called l table proofs link many) same h;
+  looked = (after, h.0, subst (λ (l : List Id). LooksFrom look lasting called l table proofs link after h.0 many) same h.1);
   refused = refused;
 }
 
-pub outcomes_long : (look : LookWords) (receives : ℕ) (called : Called) (targets ts : List Id) (table : TableState) (proofs : List Report) (link : Shown Event) (many : Many) → HasLooked look receives called targets table proofs link many → ts ≡ targets → length ts ≡ length many.outcomes
-outcomes_long look receives called targets ts table proofs link many h same = ap length same ∙ zip_long _ targets many.outcomes h.2.each
+pub outcomes_long : (look : LookWords) (lasting : Lasting) (called : Called) (targets ts : List Id) (table : TableState) (proofs : List Report) (link : Shown Event) (many : Many) (after : TableState) → HasLookedTo after look lasting called targets table proofs link many → ts ≡ targets → length ts ≡ length many.outcomes
+outcomes_long look lasting called targets ts table proofs link many after h same = ap length same ∙ zip_long _ targets many.outcomes h.1.each
 
-pub node_text : (look : LookWords) (receives : ℕ) (called : Called) (source : Shown ℕ) (link : Shown Event) (r : NodeRan look receives called source link) (ts : List Id) (text : List ℕ) → IsInRange look → ts ≡ r.targets → text ≡ printed_many ts r.many → NodeText look receives called source link text
-node_text look receives called source link r ts text range same is = record {
+pub node_text : (look : LookWords) (lasting : Lasting) (with_table : Bool) (called : Called) (source : Shown ℕ) (link : Shown Event) (r : NodeRan look lasting called source link) (ts : List Id) (text : List ℕ) → IsInRange look → ts ≡ r.targets → WithTable with_table r.looked.0 (printed_many ts r.many) text → NodeText look lasting with_table called source link text
+node_text look lasting with_table called source link r ts text range same is = record {
   ran = r;
   journals = journals_of r.many.outcomes;
   journals_are = refl;
   each = all_run_out (server_of look called.random r.proofs) (each_of look) r.table range.some_path r.targets r.many.outcomes r.looked.2.each;
-  text_is = is ∙ ap (λ (l : List Id). printed_many l r.many) same
-      ∙ ap (λ (l : List ℕ). l ++ printed_served r.many.received r.many.replied) (texts_are (server_of look called.random r.proofs) (each_of look) r.table r.targets r.many.outcomes r.looked.2.each);
+  text_is = subst (λ (front : List ℕ). WithTable with_table r.looked.0 front text)
+      (ap (λ (l : List Id). printed_many l r.many) same
+      ∙ ap (λ (l : List ℕ). l ++ printed_served r.many.received r.many.replied) (texts_are (server_of look called.random r.proofs) (each_of look) r.table r.targets r.many.outcomes r.looked.2.each))
+      is;
 }

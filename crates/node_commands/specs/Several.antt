@@ -1,7 +1,7 @@
 -- What the command `node` promises: that its text is that of the journals of several lookups that have all run out, which the
 -- link's events tell together, while a node answered what was for none of them (S/Kademlia, 2007, section 4.4, over Kademlia,
 -- 2002, section 2.3; BEP 5); and what they are if they ended early. The lines that name targets are this project's own.
-use Rattle.std.specs.Prelude.{◌≡◌, ◌≢◌, ◌⊎◌, ◌<◌, ℕ, List, [], ◌∷◌, ◌++◌, true}
+use Rattle.std.specs.Prelude.{◌≡◌, ◌≢◌, ◌⊎◌, ◌<◌, ℕ, List, [], ◌∷◌, ◌++◌, Bool, true, false}
 use Rattle.std.specs.List.{AllZip, IsDistinct}
 use Rattle.kad_base.specs.declared.types.Contact.{Contact}
 use Rattle.kad_base.specs.declared.types.Event.{Event}
@@ -18,6 +18,7 @@ use Rattle.claim_book.specs.Journal.{took, asked, answered}
 use Rattle.claim_book.specs.Lineage.{GoesByOwnAnswers}
 use Rattle.claim_book.specs.Result.{result_of}
 use Rattle.claim_book.specs.RunOut.{RunOut}
+use Rattle.node_serve.specs.declared.lasting.Lasting.{Lasting}
 use Rattle.node_serve.specs.declared.setting.ServeSetting.{ServeSetting}
 use Rattle.look_many.specs.Many.{Reading, ManyTellSoFar, EndsAtForeign, Shown as Seen}
 use Rattle.look_many.specs.ManyLooked.{setting_for, all_read, frame_for, journals_of, IsJournalFor, ManyLooked, ManyStopped, CountsUnsent}
@@ -35,12 +36,16 @@ use Rattle.node_commands.specs.FindLines.{AreGoodFinds, IsBadFind, Naming}
 use Rattle.command_base.specs.Input.{ReadsAll, Admits, Keeps}
 use Rattle.kad_text.specs.Lines.{lines}
 use Rattle.command_base.specs.Printed.{printed_of, line_of, printed}
-use Rattle.node_commands.specs.Printed.{find_text, printed_served}
+use Rattle.node_commands.specs.Printed.{find_text, printed_served, WithTable}
 use Rattle.command_base.specs.Promise.{Aim, Promise, ReadingCause, reading}
 use Rattle.command_base.specs.Shown.{Shown, IsTold, HasFailed}
 use Rattle.command_base.specs.Started.{own_of, drawn_of, IsInRange, StartsWith}
 
 -- ---- its setting
+
+-- how long it serves
+abbrev pub lasting_of : NodeWords → Lasting
+lasting_of words = record { receives = words.receives; minutes = words.minutes }
 
 -- what the node answers by: the epochs of its tokens count from the moment 0
 abbrev pub server_of : LookWords → List ℕ → List Report → ServeSetting
@@ -142,110 +147,114 @@ pub record HasRunOutFor (server : ServeSetting) (setting : ManySetting) (table :
   pub own_answers : GoesByOwnAnswers (setting_for server setting target) journal
   pub have_answered : (c : Contact) → among (result_of (setting_for server setting target) journal) c ≡ true → among (answered journal) c ≡ true
 
--- what several lookups did, from this table on, while the node answered
-abbrev pub LooksFrom : LookWords → ℕ → Called → List Id → TableState → List Report → Shown Event → TableState → WordsState → Many → Type 0
-LooksFrom look receives called targets table proofs link after left many =
-    ManyLooked called.accepts called.tags (server_of look called.random proofs) (each_of look) targets receives table after (drawn_of called.random) left link.before link.after many
+-- what several lookups did, from this table on to that one, while the node answered
+abbrev pub LooksFrom : LookWords → Lasting → Called → List Id → TableState → List Report → Shown Event → TableState → WordsState → Many → Type 0
+LooksFrom look lasting called targets table proofs link after left many =
+    ManyLooked called.accepts called.tags (server_of look called.random proofs) (each_of look) targets lasting table after (drawn_of called.random) left link.before link.after many
 
 -- the same if they ended early
-abbrev pub StopsFrom : LookWords → ℕ → Called → List Id → TableState → List Report → Shown Event → TableState → WordsState → ManyFault → Type 0
-StopsFrom look receives called targets table proofs link after left by =
-    ManyStopped called.accepts called.tags (server_of look called.random proofs) (each_of look) targets receives table after (drawn_of called.random) left link.before link.after by
+abbrev pub StopsFrom : LookWords → Lasting → Called → List Id → TableState → List Report → Shown Event → TableState → WordsState → ManyFault → Type 0
+StopsFrom look lasting called targets table proofs link after left by =
+    ManyStopped called.accepts called.tags (server_of look called.random proofs) (each_of look) targets lasting table after (drawn_of called.random) left link.before link.after by
 
-abbrev pub HasLooked : LookWords → ℕ → Called → List Id → TableState → List Report → Shown Event → Many → Type 0
-HasLooked look receives called targets table proofs link many = (after : TableState) × (left : WordsState) × LooksFrom look receives called targets table proofs link after left many
+abbrev pub HasLookedTo : TableState → LookWords → Lasting → Called → List Id → TableState → List Report → Shown Event → Many → Type 0
+HasLookedTo after look lasting called targets table proofs link many = (left : WordsState) × LooksFrom look lasting called targets table proofs link after left many
 
-abbrev pub HasStopped : LookWords → ℕ → Called → List Id → TableState → List Report → Shown Event → ManyFault → Type 0
-HasStopped look receives called targets table proofs link by = (after : TableState) × (left : WordsState) × StopsFrom look receives called targets table proofs link after left by
+abbrev pub HasLooked : LookWords → Lasting → Called → List Id → TableState → List Report → Shown Event → Many → Type 0
+HasLooked look lasting called targets table proofs link many = (after : TableState) × (left : WordsState) × LooksFrom look lasting called targets table proofs link after left many
 
--- all lookups have run out, and the node has made as many receives as are wanted; over every link, who was lost
--- because it would not send, it counted
-pub record NodeRan (look : LookWords) (receives : ℕ) (called : Called) (source : Shown ℕ) (link : Shown Event) : Type 0 where
+abbrev pub HasStopped : LookWords → Lasting → Called → List Id → TableState → List Report → Shown Event → ManyFault → Type 0
+HasStopped look lasting called targets table proofs link by = (after : TableState) × (left : WordsState) × StopsFrom look lasting called targets table proofs link after left by
+
+-- all lookups have run out, and the node has made as many receives as are wanted, or its end by time has come; over every link,
+-- who was lost because it would not send, it counted
+pub record NodeRan (look : LookWords) (lasting : Lasting) (called : Called) (source : Shown ℕ) (link : Shown Event) : Type 0 where
   pub targets : List Id
   pub table : TableState
   pub proofs : List Report
   pub starts : Starts look called.random source targets table proofs
   pub many : Many
-  pub looked : HasLooked look receives called targets table proofs link many
+  pub looked : HasLooked look lasting called targets table proofs link many
   pub refused : CountsUnsent (journals_of many.outcomes) link.sends link.sends'
 
 -- it ended early by a fault
-pub record NodeEnds (look : LookWords) (receives : ℕ) (called : Called) (source : Shown ℕ) (link : Shown Event) (by : ManyFault) : Type 0 where
+pub record NodeEnds (look : LookWords) (lasting : Lasting) (called : Called) (source : Shown ℕ) (link : Shown Event) (by : ManyFault) : Type 0 where
   pub targets : List Id
   pub table : TableState
   pub proofs : List Report
   pub starts : Starts look called.random source targets table proofs
-  pub stopped : HasStopped look receives called targets table proofs link by
+  pub stopped : HasStopped look lasting called targets table proofs link by
 
 -- ---- what it promises
 
 -- A whole node. The text has for each target, in order, the text of a lookup's journal which has run out; and then how many
--- datagrams came, and how many replies were sent.
-pub record NodeText (look : LookWords) (receives : ℕ) (called : Called) (source : Shown ℕ) (link : Shown Event) (text : List ℕ) : Type 0 where
-  pub ran : NodeRan look receives called source link
+-- datagrams came, and how many replies were sent; and, where it is wanted, the saved text of the table that the lookups and the
+-- queries left.
+pub record NodeText (look : LookWords) (lasting : Lasting) (with_table : Bool) (called : Called) (source : Shown ℕ) (link : Shown Event) (text : List ℕ) : Type 0 where
+  pub ran : NodeRan look lasting called source link
   pub journals : List (List Entry)
   pub journals_are : journals ≡ journals_of ran.many.outcomes
   pub each : AllZip (HasRunOutFor (server_of look called.random ran.proofs) (each_of look) ran.table) ran.targets journals
-  pub text_is : text ≡ journal_texts (server_of look called.random ran.proofs) (each_of look) ran.targets journals ++ printed_served ran.many.received ran.many.replied
+  pub text_is : WithTable with_table ran.looked.0 (journal_texts (server_of look called.random ran.proofs) (each_of look) ran.targets journals ++ printed_served ran.many.received ran.many.replied) text
 
 -- one that gave no text: it ended early, or it was whole
-abbrev pub NodeBegun : LookWords → ℕ → Called → Shown ℕ → Shown Event → Type 0
-NodeBegun look receives called source link = ((by : ManyFault) × NodeEnds look receives called source link by) ⊎ NodeRan look receives called source link
+abbrev pub NodeBegun : LookWords → Lasting → Called → Shown ℕ → Shown Event → Type 0
+NodeBegun look lasting called source link = ((by : ManyFault) × NodeEnds look lasting called source link by) ⊎ NodeRan look lasting called source link
 
 -- the events tell journals of these targets so far, by which the node has these proofs
-pub record TellsFinds (look : LookWords) (receives : ℕ) (called : Called) (events : List Event) : Type 0 where
+pub record TellsFinds (look : LookWords) (lasting : Lasting) (called : Called) (events : List Event) : Type 0 where
   pub targets : List Id
   pub proofs : List Report
   pub journals : List (List Entry)
   pub read : Reading
   pub end : Seen
-  pub so_far : ManyTellSoFar (frame_for called.accepts called.tags (server_of look called.random proofs) (drawn_of called.random) receives) (all_read (server_of look called.random proofs) (each_of look) targets journals) events read end
+  pub so_far : ManyTellSoFar (frame_for called.accepts called.tags (server_of look called.random proofs) (drawn_of called.random) lasting) (all_read (server_of look called.random proofs) (each_of look) targets journals) events read end
 
 -- or they end with the last datagram for no lookup that is taken while a query is open
-pub record EndsFinds (look : LookWords) (receives : ℕ) (called : Called) (events : List Event) : Type 0 where
+pub record EndsFinds (look : LookWords) (lasting : Lasting) (called : Called) (events : List Event) : Type 0 where
   pub targets : List Id
   pub proofs : List Report
   pub journals : List (List Entry)
   pub read : Reading
-  pub ends : EndsAtForeign (frame_for called.accepts called.tags (server_of look called.random proofs) (drawn_of called.random) receives) (all_read (server_of look called.random proofs) (each_of look) targets journals) events read max_strays
+  pub ends : EndsAtForeign (frame_for called.accepts called.tags (server_of look called.random proofs) (drawn_of called.random) lasting) (all_read (server_of look called.random proofs) (each_of look) targets journals) events read max_strays
 
 -- by some targets, proofs and journals they end so, and by none they tell on
-abbrev pub ShowsLastForeign : LookWords → ℕ → Called → Shown Event → Type 0
-ShowsLastForeign look receives called link = Grows link.before link.after (λ events. EndsFinds look receives called events × (¬ TellsFinds look receives called events))
+abbrev pub ShowsLastForeign : LookWords → Lasting → Called → Shown Event → Type 0
+ShowsLastForeign look lasting called link = Grows link.before link.after (λ events. EndsFinds look lasting called events × (¬ TellsFinds look lasting called events))
 
 -- why it ended after its input
-abbrev pub NodeCause : LookWords → ℕ → Called → Shown ℕ → Shown Event → Status → Type 0
-NodeCause look receives called source link LinkFault = HasFailed link × NodeEnds look receives called source link fault.LinkFault
-NodeCause look receives called source link Strays = NodeEnds look receives called source link fault.Strays
-NodeCause look receives called source link NoSeeds = GivesNobody look called.random source
-NodeCause look receives called source link other = ⊥
+abbrev pub NodeCause : LookWords → Lasting → Called → Shown ℕ → Shown Event → Status → Type 0
+NodeCause look lasting called source link LinkFault = HasFailed link × NodeEnds look lasting called source link fault.LinkFault
+NodeCause look lasting called source link Strays = NodeEnds look lasting called source link fault.Strays
+NodeCause look lasting called source link NoSeeds = GivesNobody look called.random source
+NodeCause look lasting called source link other = ⊥
 
 -- what it needs: a good input, with a node to begin with if it names a target, no failure and few strays
-pub record NodeGoesWell (look : LookWords) (receives : ℕ) (called : Called) (source : Shown ℕ) (link : Shown Event) : Type 0 where
+pub record NodeGoesWell (look : LookWords) (lasting : Lasting) (called : Called) (source : Shown ℕ) (link : Shown Event) : Type 0 where
   pub told : IsTold source
   pub reads : ¬ HasFailed source
   pub hears : ¬ HasFailed link
-  pub few_strays : ¬ NodeEnds look receives called source link fault.Strays
+  pub few_strays : ¬ NodeEnds look lasting called source link fault.Strays
   pub start : GivesStart look called.random source
 
-abbrev pub node_aim : LookWords → ℕ → Aim
-node_aim look receives = record {
+abbrev pub node_aim : LookWords → Lasting → Bool → Aim
+node_aim look lasting with_table = record {
   links = true;
   good = AreGoodFinds;
   bad = IsBadFind;
   unsound = λ source. ⊥;
   no_seeds = λ called source. GivesNobody look called.random source;
-  last_stray = λ called link. ShowsLastForeign look receives called link;
-  strays = λ called source link. NodeEnds look receives called source link fault.Strays;
-  few = λ called source link. NodeEnds look receives called source link fault.LinkFault;
+  last_stray = λ called link. ShowsLastForeign look lasting called link;
+  strays = λ called source link. NodeEnds look lasting called source link fault.Strays;
+  few = λ called source link. NodeEnds look lasting called source link fault.LinkFault;
   ends = 4 ∷ 7 ∷ 8 ∷ [];
   ranges = IsInRange look;
-  text = λ called source link written. NodeText look receives called source link written;
+  text = λ called source link written. NodeText look lasting with_table called source link written;
   started = λ called source. GivesStart look called.random source;
-  begun = λ called source link. NodeBegun look receives called source link;
-  cause = λ called source link status. NodeCause look receives called source link status;
-  needs = λ called source link. NodeGoesWell look receives called source link;
+  begun = λ called source link. NodeBegun look lasting called source link;
+  cause = λ called source link status. NodeCause look lasting called source link status;
+  needs = λ called source link. NodeGoesWell look lasting called source link;
 }
 
 abbrev pub node_promise : NodeWords → Promise
-node_promise words = reading (node_aim words.look words.receives)
+node_promise words = reading (node_aim words.look (lasting_of words) words.table)

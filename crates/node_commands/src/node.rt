@@ -8,14 +8,15 @@ ghost use Rattle.kad_base.specs.Puzzles.{Passes};
 ghost use Rattle.kad_base.specs.Limits.{max_lookups};
 ghost use Rattle.look_many.specs.ManyLooked.{CountsUnsent, journals_of};
 ghost use Rattle.command_base.specs.Called.{called_with};
-ghost use Rattle.node_commands.specs.Several.{FindsCause, HasLooked, HasStopped, NamesCause, Names, NodeBegun, NodeText, Starts, node_promise, printed_each, printed_many, printed_one};
+ghost use Rattle.node_commands.specs.Several.{FindsCause, HasLookedTo, HasStopped, NamesCause, Names, NodeBegun, NodeText, Starts, lasting_of, node_promise, printed_each, printed_many, printed_one};
+ghost use Rattle.node_commands.specs.Printed.{WithTable};
 ghost use Rattle.command_base.specs.Endings.{EndsUnasked, number_of};
 ghost use Rattle.command_base.specs.Input.{ReadsAtMost};
 ghost use Rattle.command_base.specs.Shown.{shown, shown_link, HasFailed};
 ghost use Rattle.command_base.specs.Started.{own_of, IsInRange};
 
 use crate::finds::{Finds, read_finds};
-use crate::printed::{find_line, served_line};
+use crate::printed::{add_table, find_line, served_line};
 use command_base::bootstrap::{FIRST_TX, own_id, table_of};
 use command_base::input::{admitted, kept, read_whole};
 use command_base::printed::{add_line, print};
@@ -26,7 +27,7 @@ use kad_base::{Bytes, Check, Contact, Family, Id, Link, List, NoMemory, Reports,
 use kad_text::lines::LinesFault;
 use kad_words::{LookWords, NodeWords};
 use look_many::{Many, ManyFault, ManySetting, One, look_many};
-use node_serve::ServeSetting;
+use node_serve::{Lasting, ServeSetting};
 use node_tokens::Tokens;
 use path_worker::PacedCheck;
 use seal_tags::{Seal, SealCheck};
@@ -40,6 +41,13 @@ struct Start {
     table: Table,
     proofs: Reports,
     targets: List<Id>,
+}
+
+/// What a node found, and its routing table then.
+#[derive(Drop)]
+struct Looked {
+    table: Table,
+    many: Many,
 }
 
 /// Reads the lines of the input.
@@ -108,28 +116,28 @@ fn look_all<R: Threads + Wait + Sync, L: Link, C: PacedCheck + Sync, G: Seal + S
     rt: &R,
     alloc: Global,
     look: &LookWords,
-    receives: u32,
+    lasting: Lasting,
     own: Id,
     table: Table,
     proofs: Reports,
     targets: &[Id],
     link: &mut L,
     call: &Call<'_, C, G>,
-) -> Result<Many, ManyFault>
+) -> Result<Looked, ManyFault>
     requires ranges { IsInRange look.now }
     requires own { own ≡ own_of look.now.own call.now.random }
     requires few { length targets.now ≤ max_lookups }
     requires usable { All (IsUsable own) (contacts_of table) }
     requires proofs { All (Passes look.now.policy) proofs }
-    ensures ok { IfOk result (HasLooked look.now receives
+    ensures ok { IfOk result (λ looked. HasLookedTo looked.table look.now lasting
+        (called_with call.now.random (C.slow call.now.check.now) (G.accepted call.now.seal.now)
+        (G.tag_of call.now.seal.now)) targets.now table proofs
+        (shown_link L.told L.recv_faults L.send_faults link.old link.new) looked.many) }
+    ensures stopped { IfErr result (HasStopped look.now lasting
         (called_with call.now.random (C.slow call.now.check.now) (G.accepted call.now.seal.now)
         (G.tag_of call.now.seal.now)) targets.now table proofs
         (shown_link L.told L.recv_faults L.send_faults link.old link.new)) }
-    ensures stopped { IfErr result (HasStopped look.now receives
-        (called_with call.now.random (C.slow call.now.check.now) (G.accepted call.now.seal.now)
-        (G.tag_of call.now.seal.now)) targets.now table proofs
-        (shown_link L.told L.recv_faults L.send_faults link.old link.new)) }
-    ensures refused { IfOk result (λ many. CountsUnsent (journals_of many.outcomes)
+    ensures refused { IfOk result (λ looked. CountsUnsent (journals_of looked.many.outcomes)
         (L.send_faults link.old) (L.send_faults link.new)) }
     ensures well { ¬ IsErrOf result ManyFault.LinkFault
         → L.recv_faults link.new ≡ L.recv_faults link.old }
@@ -153,7 +161,7 @@ fn look_all<R: Threads + Wait + Sync, L: Link, C: PacedCheck + Sync, G: Seal + S
         timeout: look.timeout,
     };
     let mut words = Words::new(&call.random, FIRST_TX);
-    let (_, ended) = look_many(
+    let (after, ended) = look_many(
         rt,
         alloc,
         link,
@@ -162,12 +170,15 @@ fn look_all<R: Threads + Wait + Sync, L: Link, C: PacedCheck + Sync, G: Seal + S
         &server,
         targets,
         &setting,
-        receives,
+        lasting,
         call.check,
         call.seal,
         call.hasher,
     );
-    ended
+    match ended {
+        Ok(many) => Ok(Looked { table: after, many }),
+        Err(fault) => Err(fault),
+    }
 }
 
 /// Adds what was found of a target.
@@ -201,16 +212,23 @@ fn print_each(alloc: Global, targets: &[Id], ones: &[One]) -> Result<Bytes, NoMe
     Ok(output)
 }
 
-/// The output of a node.
-fn text_of(alloc: Global, targets: &[Id], many: &Many) -> Result<Bytes, NoMemory>
-    requires { length targets.now ≡ length many.now.outcomes }
-    ensures { IfOk result (λ text. text ≡ printed_many targets.now many.now) }
+/// The output of a node, and the saved text of its table behind it where that is wanted.
+fn text_of(
+    alloc: Global,
+    targets: &[Id],
+    looked: &Looked,
+    with_table: bool,
+) -> Result<Bytes, NoMemory>
+    requires { length targets.now ≡ length looked.now.many.outcomes }
+    ensures { IfOk result (WithTable with_table looked.now.table (printed_many targets.now looked.now.many)) }
 {
+    let many = &looked.many;
     let mut output = print_each(alloc, targets, many.outcomes.as_slice())?;
     let Ok(line) = served_line(alloc, many.received, many.replied) else {
         return Err(NoMemory);
     };
     add_line(&mut output, line.as_str())?;
+    add_table(alloc, with_table, &looked.table, &mut output)?;
     Ok(output)
 }
 
@@ -230,7 +248,7 @@ pub fn node<
     call: &Call<'_, C, G>,
 ) -> Result<Bytes, Status>
     requires { IsInRange words.now.look }
-    ensures ok { IfOk result (NodeText words.now.look words.now.receives
+    ensures ok { IfOk result (NodeText words.now.look (lasting_of words.now) words.now.table
         (called_with call.now.random (C.slow call.now.check.now) (G.accepted call.now.seal.now)
         (G.tag_of call.now.seal.now))
         (shown S.left S.faults source.old source.new)
@@ -241,7 +259,7 @@ pub fn node<
         (shown S.left S.faults source.old source.new)
         (shown_link L.told L.recv_faults L.send_faults link.old link.new)) }
     ensures no_memory { IfErr result (λ status. status ≡ Status.NoMemory →
-        NodeBegun words.now.look words.now.receives
+        NodeBegun words.now.look (lasting_of words.now)
         (called_with call.now.random (C.slow call.now.check.now) (G.accepted call.now.seal.now)
         (G.tag_of call.now.seal.now))
         (shown S.left S.faults source.old source.new)
@@ -265,11 +283,15 @@ pub fn node<
         proofs,
         targets,
     } = start;
+    let lasting = Lasting {
+        receives: words.receives,
+        minutes: words.minutes,
+    };
     let ended = look_all(
         rt,
         alloc,
         &words.look,
-        words.receives,
+        lasting,
         own,
         table,
         proofs,
@@ -277,11 +299,11 @@ pub fn node<
         link,
         call,
     );
-    let many = match ended {
-        Ok(many) => many,
+    let looked = match ended {
+        Ok(looked) => looked,
         Err(ManyFault::LinkFault) => return Err(Status::LinkFault),
         Err(ManyFault::Strays) => return Err(Status::Strays),
         Err(ManyFault::NoMemory) => return Err(Status::NoMemory),
     };
-    Ok(text_of(alloc, targets.as_slice(), &many)?)
+    Ok(text_of(alloc, targets.as_slice(), &looked, words.table)?)
 }
