@@ -5,6 +5,7 @@ mod grouped;
 mod hostile;
 mod ipv6;
 mod items;
+mod lasting;
 mod nodes;
 mod paths;
 mod peering;

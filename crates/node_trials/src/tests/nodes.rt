@@ -71,7 +71,7 @@ const TWO_FINDS: &str =
     "0000000000000000000000000000000000000001 127.0.0.1:6001\nfind 0000000000000000000000000000000000000000\nfind 0000000000000000000000000000000000000002\n";
 
 /// Contact 1 and the identifier 0.
-const ONE_FIND: &str =
+pub const ONE_FIND: &str =
     "0000000000000000000000000000000000000001 127.0.0.1:6001\nfind 0000000000000000000000000000000000000000\n";
 
 const FIND_0: &str = "find 0000000000000000000000000000000000000000\n";
@@ -104,7 +104,7 @@ const SECOND: &[u8] =
     b"d1:rd2:id20:\0\0\0\0\0\0\0\0\0\0\0\0\0\0\0\0\0\0\0\x01e1:t4:\xa86\xef\xcc1:y1:re";
 
 /// Contact 1 answers the first query with contact 3, and the second with contact 4.
-const NAMING_3: &[u8] =
+pub const NAMING_3: &[u8] =
     b"d1:rd2:id20:\0\0\0\0\0\0\0\0\0\0\0\0\0\0\0\0\0\0\0\x015:nodes26:\0\0\0\0\0\0\0\0\0\0\0\0\0\0\0\0\0\0\0\x03\x7f\0\0\x01\x17se1:t4:\xa0\x8d\xed\x1a1:y1:re";
 
 const NAMING_4: &[u8] =
@@ -117,9 +117,9 @@ const OF_3: &[u8] =
 const OF_4: &[u8] = b"d1:rd2:id20:\0\0\0\0\0\0\0\0\0\0\0\0\0\0\0\0\0\0\0\x04e1:t4:\xdaAY|1:y1:re";
 
 /// What a stranger asks, who has the identifier `abcdefghij0123456789` of BEP 5's examples, and the reply.
-const PING: &[u8] = b"d1:ad2:id20:abcdefghij0123456789e1:q4:ping1:t2:aa1:y1:qe";
+pub const PING: &[u8] = b"d1:ad2:id20:abcdefghij0123456789e1:q4:ping1:t2:aa1:y1:qe";
 
-const PONG: &[u8] =
+pub const PONG: &[u8] =
     b"d1:rd2:id20:\xff\xff\xff\xff\xff\xff\xff\xff\xff\xff\xff\xff\xff\xff\xff\xff\xff\xff\xff\xffe1:t2:aa1:y1:re";
 
 /// The datagrams of a node whose two queries are answered at moment 10.
@@ -431,7 +431,7 @@ fn the_table_is_told_who_was_late_for_each_lookup(rt: HostRuntime) -> Result<(),
 }
 
 /// Contact 3 answers the second query of a node with one lookup.
-const OF_3_ALONE: &[u8] =
+pub const OF_3_ALONE: &[u8] =
     b"d1:rd2:id20:\0\0\0\0\0\0\0\0\0\0\0\0\0\0\0\0\0\0\0\x03e1:t4:\xa86\xef\xcc1:y1:re";
 
 /// The two nodes with proofs answer the first query and the second.
