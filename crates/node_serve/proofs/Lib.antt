@@ -5,6 +5,7 @@ pub mod Few
 pub mod Gathering
 pub mod Inverting
 pub mod Once
+pub mod OneService
 pub mod Picking
 pub mod Reading
 pub mod Receiving
