@@ -47,7 +47,7 @@ of_events (Peers look announce spread) called source again link beside t u range
 of_events (Get look) called source again link beside t u ranges goes same events_same h j = get_once look called source again link beside t u ranges goes same events_same h j
 of_events (Put look item spread) called source again link beside t u ranges goes same events_same h j = put_once look item spread called source again link beside t u ranges goes same events_same h.1 j.1
 of_events (Serve words) called source again link beside t u ranges goes same events_same h j =
-    serve_once words called source again link beside t u events_same h j
+    serve_once words called source again link beside t u ranges goes same events_same h j
 of_events (Refresh words) called source again link beside t u ranges goes same events_same h j =
     refresh_once words called source again link beside t u same events_same h j
 of_events other called source again link beside t u ranges goes same events_same h j = absurd goes
