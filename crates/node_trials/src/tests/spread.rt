@@ -218,7 +218,7 @@ fn a_hostile_path_takes_all_announcements(rt: HostRuntime) -> Result<(), Fail> {
     for further in [&[][..], &["--spread", "no"]] {
         let link = of_a_search(alloc)?;
         let played = plays(&rt, PEERS, further, input.as_str(), link, text)?;
-        assert_eq!(rt; whom(alloc, &played, 6)?.as_slice(), &[1, 2]);
+        assert_eq!(rt; whom(alloc, &played, 6)?.as_slice(), [1, 2].as_slice());
         assert!(rt; did_send(&played, &announced(alloc, 1, &WORDS[6])?));
         assert!(rt; did_send(&played, &announced(alloc, 2, &WORDS[7])?));
     }
@@ -233,7 +233,7 @@ fn spread_announcements_go_to_each_path(rt: HostRuntime) -> Result<(), Fail> {
     let text = "peers 0 found 2 asked 6 failed 1 turned 0 announced 4\n";
     let link = of_a_search(alloc)?;
     let played = plays(&rt, PEERS, &["--spread", "yes"], input.as_str(), link, text)?;
-    assert_eq!(rt; whom(alloc, &played, 6)?.as_slice(), &[5, 7, 1, 2]);
+    assert_eq!(rt; whom(alloc, &played, 6)?.as_slice(), [5, 7, 1, 2].as_slice());
     assert!(rt; did_send(&played, &announced(alloc, 5, &WORDS[6])?));
     assert!(rt; did_send(&played, &announced(alloc, 7, &WORDS[7])?));
     assert!(rt; did_send(&played, &announced(alloc, 1, &WORDS[8])?));
@@ -249,7 +249,7 @@ fn a_hostile_path_takes_all_puts(rt: HostRuntime) -> Result<(), Fail> {
         "key e28910ea0adb94dd45ced75fbff3e135c01bc437\nfound 2 asked 4 failed 0 turned 0 stored 2\n";
     let link = of_a_put(alloc, &[])?;
     let played = plays(&rt, STORE, &["--spread", "no"], input.as_str(), link, text)?;
-    assert_eq!(rt; whom(alloc, &played, 4)?.as_slice(), &[7, 6]);
+    assert_eq!(rt; whom(alloc, &played, 4)?.as_slice(), [7, 6].as_slice());
     assert!(rt; did_send(&played, &given(alloc, 7, &WORDS[4])?));
     assert!(rt; did_send(&played, &given(alloc, 6, &WORDS[5])?));
     Ok(())
@@ -263,7 +263,7 @@ fn spread_puts_go_to_each_path(rt: HostRuntime) -> Result<(), Fail> {
         "key e28910ea0adb94dd45ced75fbff3e135c01bc437\nfound 2 asked 4 failed 0 turned 0 stored 3\n";
     let link = of_a_put(alloc, &[])?;
     let played = plays(&rt, STORE, &["--spread", "yes"], input.as_str(), link, text)?;
-    assert_eq!(rt; whom(alloc, &played, 4)?.as_slice(), &[2, 7, 6]);
+    assert_eq!(rt; whom(alloc, &played, 4)?.as_slice(), [2, 7, 6].as_slice());
     assert!(rt; did_send(&played, &given(alloc, 2, &WORDS[4])?));
     assert!(rt; did_send(&played, &given(alloc, 7, &WORDS[5])?));
     assert!(rt; did_send(&played, &given(alloc, 6, &WORDS[6])?));
@@ -279,7 +279,7 @@ fn a_refused_spread_put_is_not_counted(rt: HostRuntime) -> Result<(), Fail> {
         "key e28910ea0adb94dd45ced75fbff3e135c01bc437\nfound 2 asked 4 failed 0 turned 0 stored 2\n";
     let link = of_a_put(alloc, &[4])?;
     let played = plays(&rt, STORE, &["--spread", "yes"], input.as_str(), link, text)?;
-    assert_eq!(rt; whom(alloc, &played, 4)?.as_slice(), &[7, 6]);
+    assert_eq!(rt; whom(alloc, &played, 4)?.as_slice(), [7, 6].as_slice());
     assert!(rt; did_send(&played, &given(alloc, 7, &WORDS[5])?));
     assert!(rt; did_send(&played, &given(alloc, 6, &WORDS[6])?));
     Ok(())
