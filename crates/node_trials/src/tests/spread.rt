@@ -233,7 +233,10 @@ fn spread_announcements_go_to_each_path(rt: HostRuntime) -> Result<(), Fail> {
     let text = "peers 0 found 2 asked 6 failed 1 turned 0 announced 4\n";
     let link = of_a_search(alloc)?;
     let played = plays(&rt, PEERS, &["--spread", "yes"], input.as_str(), link, text)?;
-    assert_eq!(rt; whom(alloc, &played, 6)?.as_slice(), [5, 7, 1, 2].as_slice());
+    assert_eq!(rt;
+        whom(alloc, &played, 6)?.as_slice(),
+        [5, 7, 1, 2].as_slice()
+    );
     assert!(rt; did_send(&played, &announced(alloc, 5, &WORDS[6])?));
     assert!(rt; did_send(&played, &announced(alloc, 7, &WORDS[7])?));
     assert!(rt; did_send(&played, &announced(alloc, 1, &WORDS[8])?));
