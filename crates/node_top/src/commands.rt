@@ -83,13 +83,13 @@ fn output_of<
         Command::Put {
             look,
             ref value,
-            spread,
+            ref spread,
         } => put::put(
             rt,
             alloc,
             &look,
             value.as_slice(),
-            spread,
+            *spread,
             source,
             link,
             call,

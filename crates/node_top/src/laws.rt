@@ -16,7 +16,8 @@ ghost use Rattle.command_base.specs.Shown.{SameInput, SameEvents, Shown};
 ///
 /// What `serve` and `refresh` write follows from that, the seal and the link's events, if the link tells them; and so does what
 /// `lookup`, `peers`, `get` and `put` write, unless the check is slow. Under a slow check, and of `node`, it may follow from how
-/// threads take turns, too: which of two paths takes a contact that both were told of.
+/// threads take turns, too: which of two paths takes a contact that both were told of. So may the table that several workers of
+/// `serve` leave, if it is printed.
 pub fn one_text()
     ensures plain { (words : List Word) (called other : Called) (source again : Shown ℕ)
         (link beside : Shown Event) (a b : List ℕ) → AsksPlain words
