@@ -12,7 +12,7 @@ ghost use Rattle.kad_bencode.specs.declared.entries.Pair.{Pair};
 ghost use Rattle.kad_bencode.specs.declared.value.Value.{Value};
 
 use crate::find::{find, first_pair, string_in};
-use crate::heads::{Heads, head_of};
+use crate::heads::{Heads, IN_HEAD, head_of};
 
 /// How many keys are filed at most: more than a datagram of 4,096 bytes has room for.
 pub(crate) const MOST: usize = 768;
@@ -36,6 +36,7 @@ pub(crate) fn is_above(a: &[u8], b: &[u8]) -> bool
 }
 
 /// The key whose text stands at a place.
+#[inline(always)]
 fn key_at(bytes: &[u8], place: usize) -> &[u8]
     ensures { (key : List ℕ) → IsAt bytes.now place (string_text key) → result.now ≡ key }
 {
@@ -48,6 +49,27 @@ fn key_at(bytes: &[u8], place: usize) -> &[u8]
     }
 }
 
+/// What a key has behind its head.
+fn tail_of(key: &[u8]) -> &[u8] {
+    &key[key.len().min(IN_HEAD)..]
+}
+
+/// Where a key may belong among those filed, by the heads, and among keys with its head by what is behind it.
+fn guess(bytes: &[u8], places: &[u16], heads: &Heads, head: u128, key: &[u8]) -> usize
+    ensures { result ≤ length places.now }
+{
+    let low = heads.below(places, head);
+    if !heads.is_at(places, low, head) {
+        return low;
+    }
+    let high = heads.below(places, head.wrapping_add(1)).max(low);
+    let tail = tail_of(key);
+    low + places[low..high].partition_point(|place| is_above(
+        tail,
+        tail_of(key_at(bytes, *place as usize)),
+    ))
+}
+
 /// Where a key may belong among those filed, by the keys. Whether it does, and is new, is seen from its neighbours there.
 fn place_of(bytes: &[u8], places: &[u16], key: &[u8]) -> usize
     ensures { result ≤ length places.now }
@@ -56,6 +78,7 @@ fn place_of(bytes: &[u8], places: &[u16], key: &[u8]) -> usize
 }
 
 /// Whether a key is above the one in front of a place, if there is one.
+#[inline(always)]
 fn is_behind(bytes: &[u8], places: &[u16], i: usize, key: &[u8]) -> bool
     requires { i ≤ length places.now }
     ensures { (keys : List (List ℕ)) → AreAt bytes.now places.now keys
@@ -68,6 +91,7 @@ fn is_behind(bytes: &[u8], places: &[u16], i: usize, key: &[u8]) -> bool
 }
 
 /// Whether a key is below the one at a place, if there is one.
+#[inline(always)]
 fn is_before(bytes: &[u8], places: &[u16], i: usize, key: &[u8]) -> bool
     ensures { (keys : List (List ℕ)) → AreAt bytes.now places.now keys
         → IsBefore keys i key.now result }
@@ -92,6 +116,7 @@ fn put_in(places: &mut [u16; MOST], room: &mut [u16; MOST], count: usize, i: usi
 }
 
 /// Whether a key is known for new at a place among those filed: it is above the one in front, and below the one there.
+#[inline(always)]
 fn fits(bytes: &[u8], places: &[u16], i: usize, key: &[u8]) -> bool
     requires { i ≤ length places.now }
     ensures { (keys : List (List ℕ)) → AreAt bytes.now places.now keys → result ≡ true
@@ -104,12 +129,12 @@ fn fits(bytes: &[u8], places: &[u16], i: usize, key: &[u8]) -> bool
 }
 
 /// Where a key is to be filed, if it is known for new there: the place that the heads give, or else that of the keys.
-fn seat(bytes: &[u8], places: &[u16], heads: &Heads, head: u64, key: &[u8]) -> Option<usize>
+fn seat(bytes: &[u8], places: &[u16], heads: &Heads, head: u128, key: &[u8]) -> Option<usize>
     ensures within { IfSome result (λ i. i ≤ length places.now) }
     ensures fits { IfSome result (λ i. (keys : List (List ℕ)) → AreAt bytes.now places.now keys
         → IsBehind keys i key.now true × IsBefore keys i key.now true) }
 {
-    let guessed = heads.guess(places, head);
+    let guessed = guess(bytes, places, heads, head, key);
     if fits(bytes, places, guessed, key) {
         return Some(guessed);
     }

@@ -11,6 +11,7 @@ ghost use Rattle.kad_bencode.specs.Finding.{ArePairs, Shows};
 use crate::scan::{past, string_at};
 
 /// The string at the front, and how long its text is.
+#[inline(always)]
 pub(crate) fn string_in(bytes: &[u8]) -> Option<(&[u8], usize)>
     ensures within { IfSome result (λ x. (0 < x.1) × (x.1 ≤ length bytes.now)) }
     ensures reads { (s rest : List ℕ) → bytes.now ≡ string_text s ++ rest

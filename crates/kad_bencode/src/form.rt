@@ -25,7 +25,7 @@ use std::alloc::Global;
 /// A pair where it stands: its key with the head of it, and the text of its value.
 #[derive(Clone, Copy)]
 struct Row<'a> {
-    head: u64,
+    head: u128,
     key: &'a [u8],
     text: &'a [u8],
 }

@@ -1,5 +1,5 @@
-//! The heads of a dictionary's keys: the first eight bytes of each as a number, by which the place of a further key is
-//! guessed. A guess is no more than that: what is filed there is compared with the key itself.
+//! The heads of a dictionary's keys: the first fifteen bytes of each, and how long it is, as a number by which the place of
+//! a further key is guessed. A guess is no more than that: what is filed there is compared with the key itself.
 ghost use Rattle.std.specs.Prelude.{◌≤◌, length};
 
 use crate::filed::MOST;
@@ -7,30 +7,48 @@ use crate::filed::MOST;
 /// How many heads there are. A pair has four bytes at least, so in a datagram of 4,096 bytes no two keys share one.
 const MANY: usize = 1024;
 
+/// How many bytes of a key its head has.
+pub(crate) const IN_HEAD: usize = 15;
+
 /// The heads, each under the place where its key stands.
 #[derive(Drop)]
 pub(crate) struct Heads {
-    heads: [u64; MANY],
+    heads: [u128; MANY],
     /// What is moved goes by way of it.
     pub(crate) room: [u16; MOST],
 }
 
-/// The first eight bytes of a key as a number, the first of them the highest; a shorter key as if zeros came after it. The
-/// lowest bit is left out, so that a difference of two has a sign.
-pub(crate) fn head_of(key: &[u8]) -> u64 {
-    let mut head = 0;
-    for i in 0..key.len().min(8) {
-        head |= (key[i] as u64) << (56 - 8 * i);
+/// The first eight bytes as a number, the first of them the highest; fewer as if zeros came after them.
+fn word_of(bytes: &[u8]) -> u64 {
+    if bytes.len() >= 8 {
+        return u64::from_be_bytes([
+            bytes[0], bytes[1], bytes[2], bytes[3], bytes[4], bytes[5], bytes[6], bytes[7],
+        ]);
     }
-    head / 2
+    let mut word = 0;
+    for i in 0..bytes.len() {
+        word |= (bytes[i] as u64) << (56 - 8 * i);
+    }
+    word
+}
+
+/// The first fifteen bytes of a key and its length as a number, the first byte the highest; a shorter key as if zeros came
+/// after it, and a longer one as one of sixteen bytes. The highest bit is left out, so that a difference of two has a sign.
+pub(crate) fn head_of(key: &[u8]) -> u128 {
+    let first = word_of(key) as u128;
+    let mut second = 0;
+    if key.len() > 8 {
+        second = word_of(&key[8..]);
+    }
+    ((first << 56 | (second >> 8) as u128) << 7) | key.len().min(IN_HEAD + 1) as u128
 }
 
 /// 1 where the first head is below the second, and 0 elsewhere. It is computed: where keys come in any order, a processor
 /// guesses every second branch wrong.
-fn is_lower(a: u64, b: u64) -> usize
+fn is_lower(a: u128, b: u128) -> usize
     ensures { result ≤ 1 }
 {
-    (a.wrapping_sub(b) >> 63) as usize
+    (a.wrapping_sub(b) >> 127) as usize
 }
 
 impl Heads {
@@ -41,8 +59,8 @@ impl Heads {
         }
     }
 
-    /// Where a key with this head may go among those that stand at these places.
-    pub(crate) fn guess(&self, places: &[u16], head: u64) -> usize
+    /// How many of the keys that stand at these places have a head below this one.
+    pub(crate) fn below(&self, places: &[u16], head: u128) -> usize
         ensures { result ≤ length places.now }
     {
         let mut low = 0;
@@ -56,8 +74,13 @@ impl Heads {
         low
     }
 
+    /// Whether the key that stands at one of these places has this head.
+    pub(crate) fn is_at(&self, places: &[u16], i: usize, head: u128) -> bool {
+        i < places.len() && self.heads[places[i] as usize / 4 % MANY] == head
+    }
+
     /// Keeps the head of a key that stands at a place.
-    pub(crate) fn keep(&mut self, place: usize, head: u64) {
+    pub(crate) fn keep(&mut self, place: usize, head: u128) {
         self.heads[place / 4 % MANY] = head;
     }
 }

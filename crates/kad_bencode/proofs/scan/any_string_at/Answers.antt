@@ -1,4 +1,4 @@
-use Rattle.std.proofs.Common.{◌≡◌, ◌+◌, ◌-◌, ◌<◌, ◌^◌, take, drop, length, refl, ap, arith}
+use Rattle.std.proofs.Common.{◌≡◌, ◌+◌, ◌-◌, ◌<◌, ◌^◌, take, drop, length, ap, arith}
 use Rattle.kad_bencode.proofs.Reading.{no_length_unended, empty_read, no_string, length_unended, body_short, string_read}
 use Rattle.kad_bencode.proofs.scan.any_string_at.Goals as goal
 

@@ -1,5 +1,5 @@
 use Rattle.std.proofs.Common.{◌+◌, ◌≤◌, length}
-use Rattle.kad_bencode.proofs.heads.Heads.guess.Given as goal
+use Rattle.kad_bencode.proofs.heads.Heads.below.Given as goal
 
 abbrev pub invariant-loop-left : goal.invariant-loop-left
 invariant-loop-left l = l.low + l.left ≤ length l.places
