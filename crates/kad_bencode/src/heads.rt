@@ -84,3 +84,14 @@ impl Heads {
         self.heads[place / 4 % MANY] = head;
     }
 }
+
+/// The heads, made at their first use.
+pub(crate) fn made(heads: &mut Option<Heads>) -> &mut Heads {
+    if heads.is_none() {
+        *heads = Some(Heads::new());
+    }
+    match heads {
+        Some(heads) => heads,
+        None => unreachable!(),
+    }
+}

@@ -11,13 +11,13 @@ ghost use Rattle.kad_bencode.specs.Scanning.{Scans};
 ghost use Rattle.kad_bencode.specs.Finding.{IsNext};
 
 use crate::filed::{MOST, file, file_all, has_key, is_above, is_new};
-use crate::heads::Heads;
+use crate::heads::{Heads, made};
 use crate::reader::MAX_DEPTH;
 use crate::scan::{has_byte, integer_at, string_at};
 use crate::value::Bad;
 
 /// How many bytes of pairs are few.
-const FEW_BYTES: usize = 64;
+const FEW_BYTES: usize = 16;
 
 /// Whether the bytes spell a value, all of them, or the fault that is seen first.
 #[inline(always)]
@@ -35,7 +35,8 @@ pub fn check(bytes: &[u8]) -> Result<(), Bad>
 fn whole(bytes: &[u8]) -> Result<(), Bad>
     ensures { Scans bytes.now result (λ _. (v : Value) × Spells bytes.now v) }
 {
-    let next = value_at(bytes, 0, 0)?;
+    let mut heads = None;
+    let next = value_at(bytes, 0, 0, &mut heads)?;
     if next < bytes.len() {
         return Err(Bad::Trailing { at: next });
     }
@@ -45,7 +46,12 @@ fn whole(bytes: &[u8]) -> Result<(), Bad>
 /// Where the value at a place ends, where that many lists and dictionaries are open.
 #[cycle(checking)]
 #[inline(always)]
-fn value_at(bytes: &[u8], at: usize, depth: usize) -> Result<usize, Bad>
+fn value_at(
+    bytes: &[u8],
+    at: usize,
+    depth: usize,
+    heads: &mut Option<Heads>,
+) -> Result<usize, Bad>
     requires within { at ≤ length bytes.now }
     requires depth { depth ≤ 16 }
     ensures moves { IfOk result (λ next. (at < next) × (next ≤ length bytes.now)) }
@@ -60,13 +66,13 @@ fn value_at(bytes: &[u8], at: usize, depth: usize) -> Result<usize, Bad>
         if depth == MAX_DEPTH {
             return Err(Bad::Deep { at });
         }
-        return list_at(bytes, at + 1, depth + 1);
+        return list_at(bytes, at + 1, depth + 1, heads);
     }
     if has_byte(bytes, at, b'd') {
         if depth == MAX_DEPTH {
             return Err(Bad::Deep { at });
         }
-        return dictionary_at(bytes, at + 1, depth + 1);
+        return dictionary_at(bytes, at + 1, depth + 1, heads);
     }
     let (_, next) = string_at(bytes, at)?;
     Ok(next)
@@ -74,7 +80,12 @@ fn value_at(bytes: &[u8], at: usize, depth: usize) -> Result<usize, Bad>
 
 /// Where a list ends whose first value comes next, if it has one.
 #[cycle(checking)]
-fn list_at(bytes: &[u8], from: usize, depth: usize) -> Result<usize, Bad>
+fn list_at(
+    bytes: &[u8],
+    from: usize,
+    depth: usize,
+    heads: &mut Option<Heads>,
+) -> Result<usize, Bad>
     requires within { from ≤ length bytes.now }
     requires depth { depth ≤ 16 }
     ensures moves { IfOk result (λ next. (from < next) × (next ≤ length bytes.now)) }
@@ -84,14 +95,19 @@ fn list_at(bytes: &[u8], from: usize, depth: usize) -> Result<usize, Bad>
 {
     let mut at = from;
     'values: while !has_byte(bytes, at, b'e') {
-        at = value_at(bytes, at, depth)?;
+        at = value_at(bytes, at, depth, heads)?;
     }
     Ok(at + 1)
 }
 
 /// Where a dictionary ends whose first key comes next, if it has one.
 #[cycle(checking)]
-fn dictionary_at(bytes: &[u8], from: usize, depth: usize) -> Result<usize, Bad>
+fn dictionary_at(
+    bytes: &[u8],
+    from: usize,
+    depth: usize,
+    heads: &mut Option<Heads>,
+) -> Result<usize, Bad>
     requires within { from ≤ length bytes.now }
     requires depth { depth ≤ 16 }
     ensures moves { IfOk result (λ next. (from < next) × (next ≤ length bytes.now)) }
@@ -104,10 +120,10 @@ fn dictionary_at(bytes: &[u8], from: usize, depth: usize) -> Result<usize, Bad>
     'pairs: while !has_byte(bytes, at, b'e') {
         let (key, behind) = string_at(bytes, at)?;
         if !is_next(at == from, greatest, key) {
-            return small_at(bytes, from, at, depth);
+            return small_at(bytes, from, at, depth, heads);
         }
         greatest = key;
-        at = value_at(bytes, behind, depth)?;
+        at = value_at(bytes, behind, depth, heads)?;
     }
     Ok(at + 1)
 }
@@ -115,7 +131,13 @@ fn dictionary_at(bytes: &[u8], from: usize, depth: usize) -> Result<usize, Bad>
 /// Where a dictionary ends that has pairs from `from` to `start`, and whose next key isn't above all of theirs. While its
 /// pairs take few bytes, each key is sought among all of them: rows of places would take longer to clear.
 #[cycle(checking)]
-fn small_at(bytes: &[u8], from: usize, start: usize, depth: usize) -> Result<usize, Bad>
+fn small_at(
+    bytes: &[u8],
+    from: usize,
+    start: usize,
+    depth: usize,
+    heads: &mut Option<Heads>,
+) -> Result<usize, Bad>
     requires order { from ≤ start }
     requires within { start ≤ length bytes.now }
     requires depth { depth ≤ 16 }
@@ -128,20 +150,27 @@ fn small_at(bytes: &[u8], from: usize, start: usize, depth: usize) -> Result<usi
     let mut at = start;
     'few: while !has_byte(bytes, at, b'e') {
         if at - from > FEW_BYTES {
-            return unsorted_at(bytes, from, at, depth);
+            return unsorted_at(bytes, from, at, depth, heads);
         }
         let (key, behind) = string_at(bytes, at)?;
         if has_key(&bytes[from..at], key) {
             return Err(Bad::KeyTwice { at });
         }
-        at = value_at(bytes, behind, depth)?;
+        at = value_at(bytes, behind, depth, heads)?;
     }
     Ok(at + 1)
 }
 
-/// The same for any dictionary. It files its keys in order, so that a new one is known by its neighbours alone.
+/// The same for any dictionary. It files its keys in order, so that a new one is known by its neighbours alone. The heads are
+/// those of all dictionaries: they are cleared once, and keys that stand in different places share none.
 #[cycle(checking)]
-fn unsorted_at(bytes: &[u8], from: usize, start: usize, depth: usize) -> Result<usize, Bad>
+fn unsorted_at(
+    bytes: &[u8],
+    from: usize,
+    start: usize,
+    depth: usize,
+    heads: &mut Option<Heads>,
+) -> Result<usize, Bad>
     requires order { from ≤ start }
     requires within { start ≤ length bytes.now }
     requires depth { depth ≤ 16 }
@@ -152,16 +181,15 @@ fn unsorted_at(bytes: &[u8], from: usize, start: usize, depth: usize) -> Result<
         → Scans bytes.now result (ReadsValue bytes.now from os) }
 {
     let mut places = [0u16; MOST];
-    let mut heads = Heads::new();
-    let mut count = file_all(bytes, from, start, &mut places, &mut heads);
+    let mut count = file_all(bytes, from, start, &mut places, made(heads));
     let mut at = start;
     'loose: while !has_byte(bytes, at, b'e') {
         let (key, behind) = string_at(bytes, at)?;
-        count = file(bytes, &mut places, &mut heads, count, at, key);
+        count = file(bytes, &mut places, made(heads), count, at, key);
         if !is_new(&bytes[from..at], count, key) {
             return Err(Bad::KeyTwice { at });
         }
-        at = value_at(bytes, behind, depth)?;
+        at = value_at(bytes, behind, depth, heads)?;
     }
     Ok(at + 1)
 }
