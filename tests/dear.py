@@ -55,22 +55,36 @@ def pairs(keys):
     return b"".join(b"%d:" % len(key) + key + b"0:" for key in keys)
 
 
-# How a dictionary may be filled: the order of its keys, how long they are, and what they begin with.
+# How a place may be filled: the order of a dictionary's keys, how long they are, what they begin with, and how many each of many
+# small dictionaries has; 0: there is one.
 ORDERS = {
-    "falling": (falling, 2, b""),
-    "any order": (shuffled, 2, b""),
-    "falling, long": (falling, 30, b""),
-    "any order, long": (shuffled, 30, b""),
-    "any order, alike": (shuffled, 10, b"z" * 8),
+    "falling": (falling, 2, b"", 0),
+    "any order": (shuffled, 2, b"", 0),
+    "falling, long": (falling, 30, b"", 0),
+    "any order, long": (shuffled, 30, b"", 0),
+    "any order, alike": (shuffled, 10, b"z" * 8, 0),
+    "any order, nine bytes alike": (shuffled, 9, b"z" * 7, 0),
+    "any order, long, alike": (shuffled, 30, b"z" * 28, 0),
+    "falling, five each": (falling, 1, b"", 5),
+    "falling, fourteen each": (falling, 1, b"", 14),
 }
+SMALL = b"2:zzl"  # a key, and the list of small dictionaries under it
+
+
+def small(keys, room):
+    one = b"d" + pairs(keys) + b"e"
+    return SMALL + one * ((room - len(SMALL) - 1) // len(one)) + b"e"
 
 
 def fills(room):
     """Pairs of about so many bytes, by each of the orders: as they stand, and ascending."""
     made = []
-    for order, size, front in ORDERS.values():
-        each = len(pairs([bytes(size)]))
-        keys = [front + name for name in names(room // each, size - len(front))]
+    for order, size, front, each in ORDERS.values():
+        if each:
+            keys = [bytes([99 + number]) for number in range(each)]
+            made.append((small(order(keys), room), small(keys, room)))
+            continue
+        keys = [front + name for name in names(room // len(pairs([bytes(size)])), size - len(front))]
         made.append((pairs(order(keys)), pairs(keys)))
     return made
 
@@ -98,7 +112,8 @@ def put_in(place, fill, parts, front=b"", behind=b""):
     elif place == "v":
         more = b"1:vd" + fill + b"e"
     elif place == "nested":
-        more = b"1:v" + b"d1:k" * (DEEPEST - 2) + b"d" + fill + b"e" * (DEEPEST - 1)
+        outer = DEEPEST - (4 if fill.startswith(SMALL) else 2)
+        more = b"1:v" + b"d1:k" * outer + b"d" + fill + b"e" * (outer + 1)
     elif place == "plain":
         more = b"1:v" + text(fill)
     else:
