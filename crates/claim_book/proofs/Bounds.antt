@@ -22,7 +22,7 @@ use Rattle.claim_book.proofs.Claims.{open_says, among_right, path_took, asked_on
 use Rattle.claim_book.proofs.Ends.{asked_by_some, path_below, first_below}
 use Rattle.claim_book.proofs.Unsettled.{rooms_heard, rooms_kept}
 use Rattle.claim_book.proofs.Kept.{settle_owed, off_this}
-use Rattle.claim_book.proofs.Seeding.{seeded_rooms}
+use Rattle.claim_book.proofs.Seeding.{seeds_rooms}
 
 path_one : (p : ℕ) (e : Entry) → length (path_of p e) ≤ 1
 path_one p (Seed q c) = elim (eqb q p) as (λ b. length (cond b (c ∷ []) []) ≤ 1) [ true ↦ omega arith | false ↦ omega arith ]
@@ -80,10 +80,9 @@ have_gains q J e (suc n) lt =
 -- what is taken goes to a path
 took_entry : (s : Setting) (J : List Entry) (e : Entry) → 0 < s.paths → Legal s J → Fits s J e → have s.paths J + length (took_of e) ≤ have s.paths (J ++ e ∷ [])
 took_entry s J (Seed q c) z l f =
-    let turn = f.turn in
-    let lt : length J % s.paths < s.paths = omega arith in
+    let lt = f.is_path in
     let one : length (path_of q (Seed q c)) ≡ 1 = ap (λ b. length (cond b (c ∷ []) [])) (eq-eqb q q refl) in
-    let gains = have_gains q J (Seed q c) s.paths (omega arith) in
+    let gains = have_gains q J (Seed q c) s.paths lt in
     omega arith
 took_entry s J (Taken q c) z l f =
     let lt = first_below s J q (Told f.0.report) z l f.0.first in
@@ -153,7 +152,7 @@ turned_entry s J (Skipped q r) z l f = omega (arith, settle_owed s J (Skipped q 
 
 turned_within : (s : Setting) (J : List Entry) → 0 < s.paths → Legal s J → 3 * length (turned J) + unsettled_room s.paths J ≤ (3 * max_reports + 1) * length (answered J)
 unfolding turned answered
-turned_within s J z = along (λ J. 3 * length (turned J) + unsettled_room s.paths J ≤ (3 * max_reports + 1) * length (answered J)) s (omega (arith, seeded_rooms s.paths [] s.paths))
+turned_within s J z = along (λ J. 3 * length (turned J) + unsettled_room s.paths J ≤ (3 * max_reports + 1) * length (answered J)) s (omega (arith, seeds_rooms [] s.paths tt))
     (λ J e l d f. (let goes = turned_entry s J e z l f in omega (arith, ap length (turned_more J e), length-append (turned J) (turned_of e), ap length (answered_more J e), length-append (answered J) (answer_of e)))) J
 
 pub turned_few : (s : Setting) (J : List Entry) → 0 < s.paths → s.k < max_path_contacts → Legal s J → length (turned J) ≤ (max_reports + 1) * (max_path_contacts * s.paths)

@@ -17,7 +17,10 @@ use Rattle.claim_book.specs.declared.types.Entry.{Entry}
 use Rattle.claim_book.specs.declared.types.Entry.TheVariants.{Seed, Heard, Note, Taken, Held, Turned, Rejected, Skipped}
 use Rattle.claim_book.specs.Journal.{things_in, things_of, took_of, path_of, ask_on, settles_on, took, path, asked_on, things, settled, unsettled, first_unsettled}
 use Rattle.claim_book.specs.Legal.{Fits, Legal, Believed}
+use Rattle.claim_book.specs.Hosts.{host}
+use Rattle.claim_book.specs.Crowded.{IsCrowded}
 use Rattle.claim_book.specs.Lineage.{Names, Descends, HasLineage, Closed, IsContained, SettlesReport, TakesUnlessHeld, DropsNone, GoesByOwnAnswers}
+use Rattle.claim_book.proofs.Crowds.{crowd_grows}
 use Rattle.claim_book.proofs.More.{took_more, path_more, asked_on_more, things_more, fits_in, along}
 use Rattle.claim_book.proofs.Among.{among_itself, among_one}
 use Rattle.claim_book.proofs.Claims.{open_says, on_path_in, among_left, among_right, each_more, asked_on_path, path_took}
@@ -162,8 +165,8 @@ is_contained s J l p H k = record {
 
 -- ---- what is not taken
 
-abbrev TakenOrHeld : List Entry → Entry → ℕ → Contact → Type 0
-TakenOrHeld J e p c = (e ≡ Taken p c) ⊎ (among (took J) c ≡ true) ⊎ (length (path p J) ≡ max_path_contacts)
+abbrev TakenOrHeld : Setting → List Entry → Entry → ℕ → Contact → Type 0
+TakenOrHeld s J e p c = (e ≡ Taken p c) ⊎ (among (took J) c ≡ true) ⊎ (length (path p J) ≡ max_path_contacts) ⊎ IsCrowded s J p c
 
 -- the report that was believed is the one that stood first
 believed_first : (s : Setting) (J : List Entry) (q p : ℕ) (c : Contact) (r : Report) → Believed s J q c → q ≡ p → first_unsettled p J ≡ Some (Told r) → c ≡ r.contact
@@ -172,14 +175,19 @@ believed_first s J q p c r b is f =
     let same_report : b.report ≡ r = cc in
     sym b.contact ∙ ap (λ (x : Report). x.contact) same_report
 
-settled_by : (s : Setting) (J : List Entry) (e : Entry) (p : ℕ) (r : Report) → Fits s J e → SettlesReport J e p r → IsUsable s.own r.contact → Passes s.policy r → TakenOrHeld J e p r.contact
+settled_by : (s : Setting) (J : List Entry) (e : Entry) (p : ℕ) (r : Report) → Fits s J e → SettlesReport J e p r → IsUsable s.own r.contact → Passes s.policy r → TakenOrHeld s J e p r.contact
 settled_by s J (Taken q c) p r f x u v =
     let is = eqb-true q p x.settles in
     inl (ap (λ n. Taken n c) is ∙ ap (Taken p) (believed_first s J q p c r f.0 is x.first))
 settled_by s J (Held q c by) p r f x u v =
     let is = believed_first s J q p c r f.0 (eqb-true q p x.settles) x.first in
     inr (inl (ap (among (took J)) (sym is) ∙ path_took by J c f.1))
-settled_by s J (Turned q c) p r f x u v = inr (inr (ap (λ n. length (path n J)) (sym (eqb-true q p x.settles)) ∙ f.2))
+settled_by s J (Turned q c) p r f x u v =
+    let is = eqb-true q p x.settles in
+    elim f.2 [
+      | inl full ↦ inr (inr (inl (ap (λ n. length (path n J)) (sym is) ∙ full)))
+      | inr crowded ↦ inr (inr (inr (subst (IsCrowded s J p) (believed_first s J q p c r f.0 is x.first) (subst (λ n. IsCrowded s J n c) is crowded))))
+    ]
 settled_by s J (Rejected q d) p r f x u v =
     let g = sym f.0 ∙ ap (λ n. first_unsettled n J) (eqb-true q p x.settles) ∙ x.first in
     let is : d ≡ r = cc in
@@ -222,29 +230,32 @@ answer_things p (e ∷ J) c reports r h k =
       | inr rest ↦ Contains-append_right (things_of p e) (things p J) (Told r) (answer_things p J c reports r rest k)
     ]
 
--- the contact is on some path, or path p is full
-abbrev IsTakenOrFull : List Entry → ℕ → Contact → Type 0
-IsTakenOrFull J p c = (among (took J) c ≡ true) ⊎ (max_path_contacts ≤ length (path p J))
+-- the contact is on some path, or path p is full, or crowded by its host
+abbrev IsTakenOrFull : Setting → List Entry → ℕ → Contact → Type 0
+IsTakenOrFull s J p c = (among (took J) c ≡ true) ⊎ (max_path_contacts ≤ length (path p J)) ⊎ IsCrowded s J p c
 
-stands_more : (J : List Entry) (e : Entry) (p : ℕ) (c : Contact) → IsTakenOrFull J p c → IsTakenOrFull (J ++ e ∷ []) p c
-stands_more J e p c h =
+stands_more : (s : Setting) (J : List Entry) (e : Entry) (p : ℕ) (c : Contact) → IsTakenOrFull s J p c → IsTakenOrFull s (J ++ e ∷ []) p c
+stands_more s J e p c h =
     elim h [
       | inl a ↦ inl (ap (λ l. among l c) (took_more J e) ∙ among_left (took J) (took_of e) c a)
-      | inr b ↦ inr (omega (arith, b, ap length (path_more p J e), length-append (path p J) (path_of p e)))
+      | inr (inl b) ↦ inr (inl (omega (arith, b, ap length (path_more p J e), length-append (path p J) (path_of p e))))
+      | inr (inr x) ↦ inr (inr (record { limited = x.limited; as_many = crowd_grows p (host c.addr) J e s.per_address x.as_many }))
     ]
 
-taken_stands : (J : List Entry) (e : Entry) (p : ℕ) (c : Contact) → TakenOrHeld J e p c → IsTakenOrFull (J ++ e ∷ []) p c
-taken_stands J e p c h =
+taken_stands : (s : Setting) (J : List Entry) (e : Entry) (p : ℕ) (c : Contact) → TakenOrHeld s J e p c → IsTakenOrFull s (J ++ e ∷ []) p c
+taken_stands s J e p c h =
     elim h [
       | inl is ↦ inl (ap (λ l. among l c) (took_more J e) ∙ among_right (took J) (took_of e) c (subst (λ x. among (took_of x) c ≡ true) (sym is) (among_itself c)))
-      | inr old ↦ stands_more J e p c (elim old [ inl a ↦ inl a | inr b ↦ inr (omega (arith, b)) ])
+      | inr (inl a) ↦ stands_more s J e p c (inl a)
+      | inr (inr (inl b)) ↦ stands_more s J e p c (inr (inl (omega (arith, b))))
+      | inr (inr (inr x)) ↦ stands_more s J e p c (inr (inr x))
     ]
 
 -- the report waits to be settled, or its contact stands
-abbrev Waits : List Entry → ℕ → Report → Type 0
-Waits J p r = Contains (unsettled p J) (Told r) ⊎ IsTakenOrFull J p r.contact
+abbrev Waits : Setting → List Entry → ℕ → Report → Type 0
+Waits s J p r = Contains (unsettled p J) (Told r) ⊎ IsTakenOrFull s J p r.contact
 
-waits_settled : (s : Setting) (J : List Entry) (e : Entry) (p : ℕ) (r : Report) → Fits s J e → settles_on p e ≡ true → IsUsable s.own r.contact → Passes s.policy r → Waits J p r → Waits (J ++ e ∷ []) p r
+waits_settled : (s : Setting) (J : List Entry) (e : Entry) (p : ℕ) (r : Report) → Fits s J e → settles_on p e ≡ true → IsUsable s.own r.contact → Passes s.policy r → Waits s J p r → Waits s (J ++ e ∷ []) p r
 waits_settled s J e p r f h u v old =
     let w = settles s J e p f h in
     let front = front_of p J w.thing w.front in
@@ -252,33 +263,33 @@ waits_settled s J e p r f h u v old =
     elim old [
       | inl waits ↦
           elim (first_or_rest w.thing front.rest (Told r) (subst (λ l. Contains l (Told r)) front.is waits)) [
-            | inl is ↦ inr (taken_stands J e p r.contact (settled_by s J e p r f (record { settles = h; first = w.front ∙ ap Some is }) u v))
+            | inl is ↦ inr (taken_stands s J e p r.contact (settled_by s J e p r f (record { settles = h; first = w.front ∙ ap Some is }) u v))
             | inr rest ↦ inl (subst (λ l. Contains l (Told r)) (sym left) rest)
           ]
-      | inr stands ↦ inr (stands_more J e p r.contact stands)
+      | inr stands ↦ inr (stands_more s J e p r.contact stands)
     ]
 
-waits_other : (s : Setting) (J : List Entry) (e : Entry) (p : ℕ) (r : Report) → Legal s J → settles_on p e ≡ false → Waits J p r → Waits (J ++ e ∷ []) p r
+waits_other : (s : Setting) (J : List Entry) (e : Entry) (p : ℕ) (r : Report) → Legal s J → settles_on p e ≡ false → Waits s J p r → Waits s (J ++ e ∷ []) p r
 waits_other s J e p r l h old =
     elim old [
       | inl waits ↦ inl (subst (λ l. Contains l (Told r)) (sym (unsettled_other s p J e l h)) (Contains-append_left (unsettled p J) (things_of p e) (Told r) waits))
-      | inr stands ↦ inr (stands_more J e p r.contact stands)
+      | inr stands ↦ inr (stands_more s J e p r.contact stands)
     ]
 
-waits_more : (s : Setting) (J : List Entry) (e : Entry) (p : ℕ) (r : Report) → Legal s J → Fits s J e → (Contains (things p J) (Told r) → Waits J p r) → IsUsable s.own r.contact → Passes s.policy r → Contains (things p (J ++ e ∷ [])) (Told r) → Waits (J ++ e ∷ []) p r
+waits_more : (s : Setting) (J : List Entry) (e : Entry) (p : ℕ) (r : Report) → Legal s J → Fits s J e → (Contains (things p J) (Told r) → Waits s J p r) → IsUsable s.own r.contact → Passes s.policy r → Contains (things p (J ++ e ∷ [])) (Told r) → Waits s (J ++ e ∷ []) p r
 waits_more s J e p r l f old u v h = by_test (settles_on p e) refl (Contains-append_cases (things p J) (things_of p e) (Told r) (subst (λ l. Contains l (Told r)) (things_more p J e) h))
   where
-    by_test : (b : Bool) → settles_on p e ≡ b → Contains (things p J) (Told r) ⊎ Contains (things_of p e) (Told r) → Waits (J ++ e ∷ []) p r
+    by_test : (b : Bool) → settles_on p e ≡ b → Contains (things p J) (Told r) ⊎ Contains (things_of p e) (Told r) → Waits s (J ++ e ∷ []) p r
     by_test true t (inl a) = waits_settled s J e p r f t u v (old a)
     by_test true t (inr b) = absurd (nothing_in (Told r) (subst (λ l. Contains l (Told r)) ((settles s J e p f t).no_things p) b))
     by_test false t (inl a) = waits_other s J e p r l t (old a)
     by_test false t (inr b) = inl (subst (λ l. Contains l (Told r)) (sym (unsettled_other s p J e l t)) (Contains-append_right (unsettled p J) (things_of p e) (Told r) b))
 
 -- what an answer named waits until its contact stands
-all_wait : (s : Setting) (J : List Entry) → Legal s J → (p : ℕ) (r : Report) → IsUsable s.own r.contact → Passes s.policy r → Contains (things p J) (Told r) → Waits J p r
+all_wait : (s : Setting) (J : List Entry) → Legal s J → (p : ℕ) (r : Report) → IsUsable s.own r.contact → Passes s.policy r → Contains (things p J) (Told r) → Waits s J p r
 unfolding things
 all_wait s =
-    along (λ J. (p : ℕ) (r : Report) → IsUsable s.own r.contact → Passes s.policy r → Contains (things p J) (Told r) → Waits J p r) s
+    along (λ J. (p : ℕ) (r : Report) → IsUsable s.own r.contact → Passes s.policy r → Contains (things p J) (Told r) → Waits s J p r) s
     (λ p r u v h. absurd (nothing_in (Told r) h))
     (λ J e l d f p r u v h. waits_more s J e p r l f (d p r u v) u v h)
 
@@ -288,7 +299,7 @@ drops_none s J l p responder c settled_all n =
     let usable = subst (IsUsable s.own) (sym n.of_it) n.usable in
     elim (all_wait s J l p n.report usable n.passes (answer_things p J responder n.reports n.report n.answer n.named)) [
       | inl waits ↦ absurd (nothing_in (Told n.report) (subst (λ l. Contains l (Told n.report)) settled_all waits))
-      | inr stands ↦ subst (IsTakenOrFull J p) n.of_it stands
+      | inr stands ↦ subst (IsTakenOrFull s J p) n.of_it stands
     ]
 
 -- ---- the whole

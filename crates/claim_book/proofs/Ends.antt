@@ -99,8 +99,7 @@ record OffPath (q : ℕ) (e : Entry) : Type 0 where
 
 off_step : (s : Setting) (J : List Entry) (e : Entry) (q : ℕ) → 0 < s.paths → s.paths ≤ q → Beyond q J → Fits s J e → OffPath q e
 off_step s J (Seed n d) q z le b f =
-    let lt : length J % s.paths < s.paths = omega arith in
-    let ne : n ≡ q → ⊥ = (λ e. let g = f.turn in absurd (omega arith)) in
+    let ne : n ≡ q → ⊥ = (λ e. let g = f.is_path in absurd (omega arith)) in
     record { no_path = off_path q n (d ∷ []) ne; no_things = refl; none_asked = refl }
 off_step s J (Ask n d) q z le b f =
     let ne : n ≡ q → ⊥ = (λ e. let i = may_ask_on_path s n J d f in let j = among_none (path q J) b.no_path d in let k = ap (λ m. among (path m J) d) e in absurd cc) in

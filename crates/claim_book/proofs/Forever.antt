@@ -124,7 +124,7 @@ no_seed other h i = i
 not_of : (s : Setting) (J : List Entry) (e : Entry) (p : ℕ) → Legal s J → Fits s J e → seed_of e ≡ [] → RunOut s p J → is_of p e ≡ false
 not_of s J e p l f none o = no_true (is_of p e) (λ h. no_seed e none (stays_out s J e p l f o h))
 
-both_none : (xs ys : List Contact) → xs ++ ys ≡ [] → (xs ≡ []) × (ys ≡ [])
+both_none : (xs ys : List Entry) → xs ++ ys ≡ [] → (xs ≡ []) × (ys ≡ [])
 both_none [] ys h = (refl, h)
 both_none (x ∷ xs) ys h = absurd cc
 

@@ -14,6 +14,7 @@ pub mod Seeding
 pub mod Forever
 pub mod Lists
 pub mod Keys
+pub mod Crowds
 pub mod Fronts
 pub mod Filters
 pub mod Mapped
@@ -22,3 +23,4 @@ pub mod Whole
 pub mod Reading
 pub mod Merging
 pub mod Dealt
+pub mod Hosted

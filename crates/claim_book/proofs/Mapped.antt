@@ -1,11 +1,12 @@
 -- The map of claims, after one more entry.
-use Rattle.std.proofs.Common.{◌≡◌, ℕ, List, [], ◌∷◌, ◌++◌, Bool, true, false, ◌||◌, cond, Option, Some, None, unwrap_or, refl, sym, ap, subst, ◌∙◌, eqb}
+use Rattle.std.proofs.Common.{◌≡◌, ℕ, ◌+◌, ◌<◌, ◌≤◌, List, [], ◌∷◌, ◌++◌, inl, inr, arith, Bool, true, false, ◌||◌, cond, Option, Some, None, unwrap_or, refl, sym, ap, subst, ◌∙◌, eqb}
 use Rattle.std.specs.Prelude.{IsSome, slice_get, drop, map}
 use Rattle.std.specs.List.{All}
 use Rattle.std.specs.Map.{lookup}
 use Rattle.std.proofs.lemmas.List.Elements.{All-weaker, All-head, All-drop, All-same, All-append, All-nil, All-cons, All-map}
-use Rattle.indexmap.specs.IndexMap.{get}
-use Rattle.kad_base.specs.declared.types.Id.{Id}
+use Rattle.std.specs.declared.random_state.RandomState.{RandomState}
+use Rattle.std.proofs.lemmas.Bool.{eqb-true, cases_lt}
+use Rattle.indexmap.specs.IndexMap.{IndexMap, get}
 use Rattle.kad_base.specs.declared.types.Contact.{Contact}
 use Rattle.kad_base.specs.declared.types.Report.{Report}
 use Rattle.kad_base.specs.Contacts.{same, among, IsUsable}
@@ -16,10 +17,16 @@ use Rattle.claim_book.specs.declared.types.Thing.{Thing}
 use Rattle.claim_book.specs.declared.types.Thing.TheVariants.{Responder, Told}
 use Rattle.claim_book.specs.declared.types.Entry.{Entry}
 use Rattle.claim_book.specs.declared.types.Entry.TheVariants.{Seed, Ask, Heard, Lost, Taken}
+use Rattle.claim_book.specs.declared.host.Host.{Host}
 use Rattle.claim_book.specs.declared.claim_map.Claim.{Claim}
-use Rattle.claim_book.specs.Journal.{ask_of, answer_of, fail_of, holder_of, things_in, things_of, settles_on, took, asked, holders, answered, failed, open_on, things, settled, unsettled, may_ask}
+use Rattle.claim_book.specs.declared.claim_map.Claims.{Claims}
+use Rattle.claim_book.specs.declared.claim_map.Seat.{Seat}
+use Rattle.claim_book.specs.Journal.{on_path, path_of, ask_of, answer_of, fail_of, holder_of, things_in, things_of, settles_on, took, path, asked, holders, answered, failed, open_on, things, settled, unsettled, may_ask}
 use Rattle.claim_book.specs.Legal.{Fits, Legal}
-use Rattle.claim_book.specs.Claims.{Claims, key_eq, blank, shown, claim_of, IsKnown, asked_claim, ended_claim, taken_claim, Sets, Keeps, IsMap}
+use Rattle.claim_book.specs.Hosts.{host}
+use Rattle.claim_book.specs.Crowded.{crowd, IsCrowded}
+use Rattle.claim_book.specs.Claims.{key_eq, seat_eq, seat, blank, shown, shown_crowd, claim_of, HasRoom, IsKnown, asked_claim, ended_claim, taken_claim, Sets, Takes, Keeps, IsMap}
+use Rattle.claim_book.proofs.Crowds.{seat_exact, one_of, crowd_gains, crowd_kept}
 use Rattle.claim_book.proofs.More.{asked_more, holders_more, answered_more, failed_more}
 use Rattle.claim_book.proofs.Among.{among_itself}
 use Rattle.claim_book.proofs.Claims.{may_ask_on_path, path_took, asked_on_path, open_says, among_left, among_right}
@@ -29,39 +36,82 @@ use Rattle.claim_book.proofs.Unsettled.{front_of, settles, unsettled_settle, uns
 use Rattle.claim_book.proofs.Keys.{key_exact, key_same}
 use Rattle.claim_book.proofs.Filters.{same_list}
 
--- a write at one contact, where the journal's new entry is about that contact alone
-claims_set : (m n : Claims) (J K : List Entry) (c : Contact) (k : Claim) → Sets m n c k → ((d : Contact) → shown m d ≡ claim_of d J) → k ≡ claim_of c K → ((d : Contact) → same c d ≡ false → claim_of d K ≡ claim_of d J) → (d : Contact) → shown n d ≡ claim_of d K
+-- a write at one contact
+abbrev SetsAt : Claims → Claims → Contact → Claim → Type 0
+SetsAt m n c k = (d : Contact) → get key_eq n.contacts d ≡ cond (key_eq c d) (Some k) (get key_eq m.contacts d)
+
+-- where the journal's new entry is about that contact alone
+claims_set : (m n : Claims) (J K : List Entry) (c : Contact) (k : Claim) → SetsAt m n c k → ((d : Contact) → shown m d ≡ claim_of d J) → k ≡ claim_of c K → ((d : Contact) → same c d ≡ false → claim_of d K ≡ claim_of d J) → (d : Contact) → shown n d ≡ claim_of d K
 claims_set m n J K c k sets was here apart d = by (key_eq c d) refl
   where
     by : (b : Bool) → key_eq c d ≡ b → shown n d ≡ claim_of d K
     by true e =
-        let at : get key_eq n d ≡ Some k = sets d ∙ ap (λ b. cond b (Some k) (get key_eq m d)) e in
+        let at : get key_eq n.contacts d ≡ Some k = sets d ∙ ap (λ b. cond b (Some k) (get key_eq m.contacts d)) e in
         ap (λ (o : Option Claim). unwrap_or o blank) at ∙ here ∙ ap (λ x. claim_of x K) (key_exact c d e)
     by false e =
-        let at : get key_eq n d ≡ get key_eq m d = sets d ∙ ap (λ b. cond b (Some k) (get key_eq m d)) e in
+        let at : get key_eq n.contacts d ≡ get key_eq m.contacts d = sets d ∙ ap (λ b. cond b (Some k) (get key_eq m.contacts d)) e in
         ap (λ (o : Option Claim). unwrap_or o blank) at ∙ was d ∙ sym (apart d (sym (key_same c d) ∙ e))
 
-knows_on : (m n : Claims) (c : Contact) (k : Claim) → Sets m n c k → Keeps m n
+-- n has the contacts and the hosts of m
+abbrev HasContacts : Claims → Claims → Type 0
+HasContacts m n = (d : Contact) → IsSome (get key_eq m.contacts d) → IsSome (get key_eq n.contacts d)
+
+abbrev HasHosts : Setting → Claims → Claims → Type 0
+HasHosts s m n = 0 < s.per_address → (k : Seat) → IsSome (get seat_eq m.crowds k) → IsSome (get seat_eq n.crowds k)
+
+knows_on : (m n : Claims) (c : Contact) (k : Claim) → SetsAt m n c k → HasContacts m n
 knows_on m n c k sets d h = by (key_eq c d) refl
   where
-    by : (b : Bool) → key_eq c d ≡ b → IsSome (get key_eq n d)
-    by true e = subst (λ (o : Option Claim). IsSome o) (sym (sets d ∙ ap (λ b. cond b (Some k) (get key_eq m d)) e)) refl
-    by false e = subst (λ (o : Option Claim). IsSome o) (sym (sets d ∙ ap (λ b. cond b (Some k) (get key_eq m d)) e)) h
+    by : (b : Bool) → key_eq c d ≡ b → IsSome (get key_eq n.contacts d)
+    by true e = subst (λ (o : Option Claim). IsSome o) (sym (sets d ∙ ap (λ b. cond b (Some k) (get key_eq m.contacts d)) e)) refl
+    by false e = subst (λ (o : Option Claim). IsSome o) (sym (sets d ∙ ap (λ b. cond b (Some k) (get key_eq m.contacts d)) e)) h
+
+hosts_like : (s : Setting) (m n : Claims) → n.crowds ≡ m.crowds → HasHosts s m n
+hosts_like s m n e z k h = subst (λ (x : IndexMap Seat ℕ RandomState). IsSome (get seat_eq x k)) (sym e) h
+
+hosts_taken : (s : Setting) (m n : Claims) (p : ℕ) (c : Contact) → Takes s.per_address m n p c → HasHosts s m n
+hosts_taken s m n p c t z k h = by (seat_eq (seat p (host c.addr)) k) refl
+  where
+    by : (b : Bool) → seat_eq (seat p (host c.addr)) k ≡ b → IsSome (get seat_eq n.crowds k)
+    by true e = subst (λ (o : Option ℕ). IsSome o) (sym (t.crowds z k ∙ ap (λ b. cond b (Some (shown_crowd m p (host c.addr) + 1)) (get seat_eq m.crowds k)) e)) refl
+    by false e = subst (λ (o : Option ℕ). IsSome o) (sym (t.crowds z k ∙ ap (λ b. cond b (Some (shown_crowd m p (host c.addr) + 1)) (get seat_eq m.crowds k)) e)) h
+
+-- what it says of hosts, after a contact is taken
+crowds_taken : (s : Setting) (J : List Entry) (e : Entry) (m n : Claims) (p : ℕ) (c : Contact) → Takes s.per_address m n p c → ((q : ℕ) → path_of q e ≡ on_path q p (c ∷ [])) → (0 < s.per_address → (q : ℕ) (h : Host) → shown_crowd m q h ≡ crowd q h J) → 0 < s.per_address → (q : ℕ) (h : Host) → shown_crowd n q h ≡ crowd q h (J ++ e ∷ [])
+crowds_taken s J e m n p c t gets was z q h = by (seat_eq (seat p (host c.addr)) (seat q h)) refl
+  where
+    by : (b : Bool) → seat_eq (seat p (host c.addr)) (seat q h) ≡ b → shown_crowd n q h ≡ crowd q h (J ++ e ∷ [])
+    by true f =
+        let at : shown_crowd n q h ≡ shown_crowd m p (host c.addr) + 1 = ap (λ (o : Option ℕ). unwrap_or o 0) (t.crowds z (seat q h) ∙ ap (λ b. cond b (Some (shown_crowd m p (host c.addr) + 1)) (get seat_eq m.crowds (seat q h))) f) in
+        let same_seat = seat_exact (seat p (host c.addr)) (seat q h) f in
+        let is : shown_crowd m p (host c.addr) ≡ shown_crowd m q h = ap (λ n. shown_crowd m n (host c.addr)) same_seat.0 ∙ ap (shown_crowd m q) same_seat.1 in
+        let one : one_of p c q h ≡ 1 = ap (λ b. cond b 1 0) f in
+        let old = was z q h in
+        omega (arith, crowd_gains q p h c J e (gets q))
+    by false f =
+        let at : shown_crowd n q h ≡ shown_crowd m q h = ap (λ (o : Option ℕ). unwrap_or o 0) (t.crowds z (seat q h) ∙ ap (λ b. cond b (Some (shown_crowd m p (host c.addr) + 1)) (get seat_eq m.crowds (seat q h))) f) in
+        let one : one_of p c q h ≡ 0 = ap (λ b. cond b 1 0) f in
+        let old = was z q h in
+        omega (arith, crowd_gains q p h c J e (gets q))
+
+-- and after an entry by which no path gets one
+crowds_like : (s : Setting) (J : List Entry) (e : Entry) (m n : Claims) → n.crowds ≡ m.crowds → ((q : ℕ) → path_of q e ≡ []) → (0 < s.per_address → (q : ℕ) (h : Host) → shown_crowd m q h ≡ crowd q h J) → 0 < s.per_address → (q : ℕ) (h : Host) → shown_crowd n q h ≡ crowd q h (J ++ e ∷ [])
+crowds_like s J e m n is none_ was z q h = ap (λ (x : IndexMap Seat ℕ RandomState). unwrap_or (get seat_eq x (seat q h)) 0) is ∙ was z q h ∙ sym (crowd_kept q h J e (none_ q))
 
 -- the map has each contact that a path has
-knows_held : (m : Claims) (J : List Entry) (c : Contact) (q : ℕ) → shown m c ≡ claim_of c J → slice_get (holders c J) 0 ≡ Some q → IsSome (get key_eq m c)
-knows_held m J c q is held = by (get key_eq m c) refl
+knows_held : (m : Claims) (J : List Entry) (c : Contact) (q : ℕ) → shown m c ≡ claim_of c J → slice_get (holders c J) 0 ≡ Some q → IsSome (get key_eq m.contacts c)
+knows_held m J c q is held = by (get key_eq m.contacts c) refl
   where
-    by : (o : Option Claim) → get key_eq m c ≡ o → IsSome (get key_eq m c)
+    by : (o : Option Claim) → get key_eq m.contacts c ≡ o → IsSome (get key_eq m.contacts c)
     by None e = let f : None ≡ Some q = ap (λ (o : Option Claim). (unwrap_or o blank).by) (sym e) ∙ ap (λ (k : Claim). k.by) is ∙ held in absurd cc
     by (Some k) e = subst (λ (o : Option Claim). IsSome o) (sym e) refl
 
-known_on : (own : Id) (m n : Claims) → Keeps m n → (t : Thing) → IsKnown own m t → IsKnown own n t
-known_on own m n f (Responder c) h = tt
-known_on own m n f (Told r) h = λ u. f r.contact (h u)
+known_on : (s : Setting) (p : ℕ) (m n : Claims) → HasContacts m n → HasHosts s m n → (t : Thing) → IsKnown s p m t → IsKnown s p n t
+known_on s p m n f g (Responder c) h = tt
+known_on s p m n f g (Told r) h = λ u. (let old = h u in record { contact = f r.contact old.contact; seated = λ z. g z (seat p (host r.contact.addr)) (old.seated z) })
 
-pub knows_each : (own : Id) (m n : Claims) (ts : List Thing) → Keeps m n → All (IsKnown own m) ts → All (IsKnown own n) ts
-knows_each own m n ts f all = All-weaker (IsKnown own m) (IsKnown own n) (known_on own m n f) ts all
+pub knows_each : (s : Setting) (p : ℕ) (m n : Claims) (ts : List Thing) → HasContacts m n → HasHosts s m n → All (IsKnown s p m) ts → All (IsKnown s p n) ts
+knows_each s p m n ts f g all = All-weaker (IsKnown s p m) (IsKnown s p n) (known_on s p m n f g) ts all
 
 abbrev claim_with : Option ℕ → Bool → Bool → Claim
 claim_with by asked ended = record { by = by; asked = asked; ended = ended }
@@ -135,88 +185,99 @@ all_unsettled P s J e p l f h g = by (settles_on p e) refl
 
 -- ---- the map after each kind of entry
 
-map_put : (s : Setting) (J : List Entry) (e : Entry) (m n : Claims) (c : Contact) (k : Claim) → Legal s J → Fits s J e → IsMap s J m → Sets m n c k → k ≡ claim_of c (J ++ e ∷ []) → ((d : Contact) → same c d ≡ false → claim_of d (J ++ e ∷ []) ≡ claim_of d J) → ((p : ℕ) → All (IsKnown s.own n) (things_of p e)) → IsMap s (J ++ e ∷ []) n
-map_put s J e m n c k l f x sets here apart gives = record {
+map_put : (s : Setting) (J : List Entry) (e : Entry) (m n : Claims) (c : Contact) (k : Claim) → Legal s J → Fits s J e → IsMap s J m → SetsAt m n c k → HasHosts s m n → (0 < s.per_address → (q : ℕ) (h : Host) → shown_crowd n q h ≡ crowd q h (J ++ e ∷ [])) → k ≡ claim_of c (J ++ e ∷ []) → ((d : Contact) → same c d ≡ false → claim_of d (J ++ e ∷ []) ≡ claim_of d J) → ((p : ℕ) → All (IsKnown s p n) (things_of p e)) → IsMap s (J ++ e ∷ []) n
+map_put s J e m n c k l f x sets hosts counts here apart gives = record {
   claims = claims_set m n J (J ++ e ∷ []) c k sets x.claims here apart;
-  known = λ p. all_unsettled (IsKnown s.own n) s J e p l f (knows_each s.own m n (unsettled p J) (knows_on m n c k sets) (x.known p)) (gives p);
+  counts = counts;
+  known = λ p. all_unsettled (IsKnown s p n) s J e p l f (knows_each s p m n (unsettled p J) (knows_on m n c k sets) hosts (x.known p)) (gives p);
 }
 
-nothing : (own : Id) (m : Claims) → All (IsKnown own m) []
-nothing own m = All-nil (IsKnown own m)
+nothing : (s : Setting) (p : ℕ) (m : Claims) → All (IsKnown s p m) []
+nothing s p m = All-nil (IsKnown s p m)
 
 pub map_asked : (s : Setting) (J : List Entry) (p : ℕ) (c : Contact) (m n : Claims) → Legal s J → may_ask s p J ≡ Some c → IsMap s J m → Sets m n c (asked_claim (shown m c)) → IsMap s (J ++ Ask p c ∷ []) n
 map_asked s J p c m n l f x sets =
-    map_put s J (Ask p c) m n c (asked_claim (shown m c)) l f x sets (ap asked_claim (x.claims c) ∙ sym (claim_asked p J c))
-    (λ d a. claim_kept J (Ask p c) d refl (ap (λ b. b || false) (same_back d c ∙ a)) refl refl) (λ q. nothing s.own n)
+    map_put s J (Ask p c) m n c (asked_claim (shown m c)) l f x sets.contacts (hosts_like s m n sets.crowds) (crowds_like s J (Ask p c) m n sets.crowds (λ q. refl) x.counts) (ap asked_claim (x.claims c) ∙ sym (claim_asked p J c))
+    (λ d a. claim_kept J (Ask p c) d refl (ap (λ b. b || false) (same_back d c ∙ a)) refl refl) (λ q. nothing s q n)
 
 pub map_lost : (s : Setting) (J : List Entry) (p : ℕ) (c : Contact) (cause : Cause) (m n : Claims) → Legal s J → among (open_on p J) c ≡ true → IsMap s J m → Sets m n c (ended_claim (shown m c)) → IsMap s (J ++ Lost p c cause ∷ []) n
 map_lost s J p c cause m n l f x sets =
-    map_put s J (Lost p c cause) m n c (ended_claim (shown m c)) l f x sets (ap ended_claim (x.claims c) ∙ sym (claim_lost p J c cause))
-    (λ d a. claim_kept J (Lost p c cause) d refl refl refl (ap (λ b. b || false) (same_back d c ∙ a))) (λ q. nothing s.own n)
+    map_put s J (Lost p c cause) m n c (ended_claim (shown m c)) l f x sets.contacts (hosts_like s m n sets.crowds) (crowds_like s J (Lost p c cause) m n sets.crowds (λ q. refl) x.counts) (ap ended_claim (x.claims c) ∙ sym (claim_lost p J c cause))
+    (λ d a. claim_kept J (Lost p c cause) d refl refl refl (ap (λ b. b || false) (same_back d c ∙ a))) (λ q. nothing s q n)
 
-known_reports : (own : Id) (m : Claims) (c : Contact) (reports : List Report) → All (λ r. IsKnown own m (Told r)) reports → All (IsKnown own m) (things_in c reports)
-known_reports own m c reports all = All-cons (IsKnown own m) (Responder c) (map Told reports) tt (All-map (IsKnown own m) Told reports all)
+known_reports : (s : Setting) (p : ℕ) (m : Claims) (c : Contact) (reports : List Report) → All (λ r. IsKnown s p m (Told r)) reports → All (IsKnown s p m) (things_in c reports)
+known_reports s p m c reports all = All-cons (IsKnown s p m) (Responder c) (map Told reports) tt (All-map (IsKnown s p m) Told reports all)
 
-pub map_heard : (s : Setting) (J : List Entry) (p : ℕ) (c : Contact) (reports : List Report) (m n : Claims) → Legal s J → Fits s J (Heard p c reports) → IsMap s J m → All (λ r. IsKnown s.own m (Told r)) reports → Sets m n c (ended_claim (shown m c)) → IsMap s (J ++ Heard p c reports ∷ []) n
+pub map_heard : (s : Setting) (J : List Entry) (p : ℕ) (c : Contact) (reports : List Report) (m n : Claims) → Legal s J → Fits s J (Heard p c reports) → IsMap s J m → All (λ r. IsKnown s p m (Told r)) reports → Sets m n c (ended_claim (shown m c)) → IsMap s (J ++ Heard p c reports ∷ []) n
 map_heard s J p c reports m n l f x knows sets =
-    map_put s J (Heard p c reports) m n c (ended_claim (shown m c)) l f x sets (ap ended_claim (x.claims c) ∙ sym (claim_heard p J c reports))
-    (λ d a. claim_kept J (Heard p c reports) d refl refl (ap (λ b. b || false) (same_back d c ∙ a)) refl) (λ q. gives q (eqb p q))
+    map_put s J (Heard p c reports) m n c (ended_claim (shown m c)) l f x sets.contacts (hosts_like s m n sets.crowds) (crowds_like s J (Heard p c reports) m n sets.crowds (λ q. refl) x.counts) (ap ended_claim (x.claims c) ∙ sym (claim_heard p J c reports))
+    (λ d a. claim_kept J (Heard p c reports) d refl refl (ap (λ b. b || false) (same_back d c ∙ a)) refl) (λ q. gives q (eqb p q) refl)
   where
-    gives : (q : ℕ) (b : Bool) → All (IsKnown s.own n) (cond b (things_in c reports) [])
-    gives q true = knows_each s.own m n (things_in c reports) (knows_on m n c (ended_claim (shown m c)) sets) (known_reports s.own m c reports knows)
-    gives q false = nothing s.own n
+    gives : (q : ℕ) (b : Bool) → eqb p q ≡ b → All (IsKnown s q n) (cond b (things_in c reports) [])
+    gives q true e = subst (λ r. All (IsKnown s r n) (things_in c reports)) (eqb-true p q e) (knows_each s p m n (things_in c reports) (knows_on m n c (ended_claim (shown m c)) sets.contacts) (hosts_like s m n sets.crowds) (known_reports s p m c reports knows))
+    gives q false e = nothing s q n
 
-pub map_taken : (s : Setting) (J : List Entry) (p : ℕ) (c : Contact) (m n : Claims) → Legal s J → Fits s J (Taken p c) → IsMap s J m → Sets m n c (taken_claim p (shown m c)) → IsMap s (J ++ Taken p c ∷ []) n
-map_taken s J p c m n l f x sets =
-    map_put s J (Taken p c) m n c (taken_claim p (shown m c)) l f x sets
+pub map_taken : (s : Setting) (J : List Entry) (p : ℕ) (c : Contact) (m n : Claims) → Legal s J → Fits s J (Taken p c) → IsMap s J m → Takes s.per_address m n p c → IsMap s (J ++ Taken p c ∷ []) n
+map_taken s J p c m n l f x takes =
+    map_put s J (Taken p c) m n c (taken_claim p (shown m c)) l f x takes.contacts (hosts_taken s m n p c takes) (crowds_taken s J (Taken p c) m n p c takes (λ q. refl) x.counts)
     (ap (taken_claim p) (x.claims c) ∙ sym (claim_gained p J (Taken p c) c f.1 (ap (λ b. cond b (p ∷ []) []) (same_itself c)) refl refl refl))
-    (λ d a. claim_kept J (Taken p c) d (ap (λ b. cond b (p ∷ []) []) (same_back d c ∙ a)) refl refl refl) (λ q. nothing s.own n)
+    (λ d a. claim_kept J (Taken p c) d (ap (λ b. cond b (p ∷ []) []) (same_back d c ∙ a)) refl refl refl) (λ q. nothing s q n)
 
-pub map_seeded : (s : Setting) (J : List Entry) (p : ℕ) (c : Contact) (m n : Claims) → Legal s J → Fits s J (Seed p c) → among (took J) c ≡ false → IsMap s J m → Sets m n c (taken_claim p (shown m c)) → IsMap s (J ++ Seed p c ∷ []) n
-map_seeded s J p c m n l f new x sets =
-    map_put s J (Seed p c) m n c (taken_claim p (shown m c)) l f x sets
+pub map_seeded : (s : Setting) (J : List Entry) (p : ℕ) (c : Contact) (m n : Claims) → Legal s J → Fits s J (Seed p c) → among (took J) c ≡ false → IsMap s J m → Takes s.per_address m n p c → IsMap s (J ++ Seed p c ∷ []) n
+map_seeded s J p c m n l f new x takes =
+    map_put s J (Seed p c) m n c (taken_claim p (shown m c)) l f x takes.contacts (hosts_taken s m n p c takes) (crowds_taken s J (Seed p c) m n p c takes (λ q. refl) x.counts)
     (ap (taken_claim p) (x.claims c) ∙ sym (claim_gained p J (Seed p c) c new (ap (λ b. cond b (p ∷ []) []) (same_itself c)) refl refl refl))
-    (λ d a. claim_kept J (Seed p c) d (ap (λ b. cond b (p ∷ []) []) (same_back d c ∙ a)) refl refl refl) (λ q. nothing s.own n)
+    (λ d a. claim_kept J (Seed p c) d (ap (λ b. cond b (p ∷ []) []) (same_back d c ∙ a)) refl refl refl) (λ q. nothing s q n)
 
 -- an entry that is about no claim
-pub map_quiet : (s : Setting) (J : List Entry) (e : Entry) (m : Claims) → Legal s J → Fits s J e → ((d : Contact) → holder_of d e ≡ []) → ask_of e ≡ [] → answer_of e ≡ [] → fail_of e ≡ [] → ((p : ℕ) → things_of p e ≡ []) → IsMap s J m → IsMap s (J ++ e ∷ []) m
-map_quiet s J e m l f h a n k g x = record {
+pub map_quiet : (s : Setting) (J : List Entry) (e : Entry) (m : Claims) → Legal s J → Fits s J e → ((d : Contact) → holder_of d e ≡ []) → ((q : ℕ) → path_of q e ≡ []) → ask_of e ≡ [] → answer_of e ≡ [] → fail_of e ≡ [] → ((p : ℕ) → things_of p e ≡ []) → IsMap s J m → IsMap s (J ++ e ∷ []) m
+map_quiet s J e m l f h o a n k g x = record {
   claims = λ d. x.claims d ∙ sym (claim_kept J e d (h d) (ap (λ l. among l d) a) (ap (λ l. among l d) n) (ap (λ l. among l d) k));
-  known = λ p. all_unsettled (IsKnown s.own m) s J e p l f (x.known p) (All-same (IsKnown s.own m) (things_of p e) [] (g p) (nothing s.own m));
+  counts = crowds_like s J e m m refl o x.counts;
+  known = λ p. all_unsettled (IsKnown s p m) s J e p l f (x.known p) (All-same (IsKnown s p m) (things_of p e) [] (g p) (nothing s p m));
 }
 
 -- a map that has more, and shows the same
-pub map_wider : (s : Setting) (J : List Entry) (m n : Claims) → IsMap s J m → ((c : Contact) → shown n c ≡ shown m c) → Keeps m n → IsMap s J n
-map_wider s J m n x same kept = record {
-  claims = λ c. same c ∙ x.claims c;
-  known = λ p. knows_each s.own m n (unsettled p J) kept (x.known p);
+pub map_wider : (s : Setting) (J : List Entry) (m n : Claims) → IsMap s J m → Keeps m n → IsMap s J n
+map_wider s J m n x kept = record {
+  claims = λ c. kept.same_claims c ∙ x.claims c;
+  counts = λ z q h. kept.same_crowds q h ∙ x.counts z q h;
+  known = λ p. knows_each s p m n (unsettled p J) kept.contacts (λ z. kept.crowds) (x.known p);
 }
 
-pub map_new : (s : Setting) (m : Claims) → m.entries ≡ [] → IsMap s [] m
-unfolding holders asked answered failed things settled unsettled
-map_new s m e = record {
+pub map_new : (s : Setting) (m : Claims) → m.contacts.entries ≡ [] → m.crowds.entries ≡ [] → IsMap s [] m
+unfolding path holders asked answered failed things settled unsettled
+map_new s m e f = record {
   claims = λ c. ap (λ es. unwrap_or (lookup (key_eq c) es) blank) e;
-  known = λ p. nothing s.own m;
+  counts = λ z q h. ap (λ es. unwrap_or (lookup (seat_eq (seat q h)) es) 0) f;
+  known = λ p. nothing s p m;
 }
 
 -- ---- what the map has
 
 -- a contact that may be asked
-pub knows_near : (s : Setting) (p : ℕ) (J : List Entry) (m : Claims) (c : Contact) → IsMap s J m → may_ask s p J ≡ Some c → IsSome (get key_eq m c)
+pub knows_near : (s : Setting) (p : ℕ) (J : List Entry) (m : Claims) (c : Contact) → IsMap s J m → may_ask s p J ≡ Some c → IsSome (get key_eq m.contacts c)
 knows_near s p J m c x fits =
     let held = held_by_some c J (path_took p J c (may_ask_on_path s p J c fits)) in
     knows_held m J c held.0 (x.claims c) held.1
 
 -- one that is open
-pub knows_open : (s : Setting) (p : ℕ) (J : List Entry) (m : Claims) (c : Contact) → Legal s J → IsMap s J m → among (open_on p J) c ≡ true → IsSome (get key_eq m c)
+pub knows_open : (s : Setting) (p : ℕ) (J : List Entry) (m : Claims) (c : Contact) → Legal s J → IsMap s J m → among (open_on p J) c ≡ true → IsSome (get key_eq m.contacts c)
 knows_open s p J m c l x h =
     let held = held_by_some c J (path_took p J c (asked_on_path s J l p c (open_says p J c h).0)) in
     knows_held m J c held.0 (x.claims c) held.1
 
--- and one that may be taken
-pub knows_front : (s : Setting) (p : ℕ) (J : List Entry) (m : Claims) (c : Contact) → IsMap s J m → Fits s J (Taken p c) → IsSome (get key_eq m c)
+-- and one that may be taken, which has its room
+pub knows_front : (s : Setting) (p : ℕ) (J : List Entry) (m : Claims) (c : Contact) → IsMap s J m → Fits s J (Taken p c) → HasRoom s.per_address m p c
 knows_front s p J m c x fits =
     let r = fits.0.report in
     let front = front_of p J (Told r) fits.0.first in
-    let knows = All-head (IsKnown s.own m) (Told r) front.rest (All-same (IsKnown s.own m) (Told r ∷ front.rest) (unsettled p J) (sym front.is) (x.known p)) in
-    subst (λ d. IsSome (get key_eq m d)) fits.0.contact (knows (subst (IsUsable s.own) (sym fits.0.contact) fits.0.usable))
+    let knows = All-head (IsKnown s p m) (Told r) front.rest (All-same (IsKnown s p m) (Told r ∷ front.rest) (unsettled p J) (sym front.is) (x.known p)) in
+    subst (HasRoom s.per_address m p) fits.0.contact (knows (subst (IsUsable s.own) (sym fits.0.contact) fits.0.usable))
+
+-- as long as its host doesn't crowd the path, one more can be counted
+pub counts_free : (s : Setting) (p : ℕ) (J : List Entry) (m : Claims) (c : Contact) → IsMap s J m → ¬ IsCrowded s J p c → 0 < s.per_address → shown_crowd m p (host c.addr) < s.per_address
+counts_free s p J m c x free z = elim (cases_lt (shown_crowd m p (host c.addr)) s.per_address) [
+  | inl lt ↦ lt
+  | inr ge ↦ absurd (free (record { limited = z; as_many = (let is = x.counts z p (host c.addr) in omega arith) }))
+]

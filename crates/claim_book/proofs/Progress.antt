@@ -36,7 +36,7 @@ settling s J p checked Skipped e h is = subst (Settling s J p) (let q : Skipped_
 settling s J p checked Rejected e h is = subst (Settling s J p) (let q : Rejected_entry p checked.report ≡ e = cc in q) (record { fits = (h.0.first, h.1, h.2); owed = tt; settles = eq-eqb p p refl })
 settling s J p checked (Held n) e h is = subst (Settling s J p) (let q : Held_entry p checked.report.contact n ≡ e = cc in q) (record { fits = (believed s J p checked h.0, h.1); owed = tt; settles = eq-eqb p p refl })
 settling s J p checked Turned e h is = subst (Settling s J p) (let q : Turned_entry p checked.report.contact ≡ e = cc in q) (record { fits = (believed s J p checked h.0, h.1, h.2); owed = tt; settles = eq-eqb p p refl })
-settling s J p checked Taken e h is = subst (Settling s J p) (let q : Taken_entry p checked.report.contact ≡ e = cc in q) (record { fits = (believed s J p checked h.0, h.1, h.2); owed = tt; settles = eq-eqb p p refl })
+settling s J p checked Taken e h is = subst (Settling s J p) (let q : Taken_entry p checked.report.contact ≡ e = cc in q) (record { fits = (believed s J p checked h.0, h.1, h.2, h.3); owed = tt; settles = eq-eqb p p refl })
 settling s J p checked other e h is = absurd cc
 
 -- a settled report leaves one thing less

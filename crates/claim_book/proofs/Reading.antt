@@ -17,7 +17,8 @@ use Rattle.claim_book.specs.Journal.{path, asked, answered, failed, open_any, op
 use Rattle.claim_book.specs.Legal.{Legal}
 use Rattle.claim_book.specs.RunOut.{RunOut}
 use Rattle.claim_book.specs.Calls.{asker}
-use Rattle.claim_book.specs.Claims.{Claims, shown, IsMap}
+use Rattle.claim_book.specs.declared.claim_map.Claims.{Claims}
+use Rattle.claim_book.specs.Claims.{shown, IsMap}
 use Rattle.claim_book.specs.Index.{IsPath}
 use Rattle.claim_book.proofs.Among.{among_none, none_found, found_among, found_passes}
 use Rattle.claim_book.proofs.Closest.{closest_within}

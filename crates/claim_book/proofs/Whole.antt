@@ -20,7 +20,8 @@ use Rattle.claim_book.specs.Journal.{ask_of, fail_of, turned_of, things_in, sett
 use Rattle.claim_book.specs.Legal.{Fits, is_of}
 use Rattle.claim_book.specs.Room.{frees, IsBook}
 use Rattle.claim_book.specs.Calls.{Counted}
-use Rattle.claim_book.specs.Claims.{Claims, shown, IsKnown, asked_claim, ended_claim, taken_claim, Sets, Keeps, IsMap}
+use Rattle.claim_book.specs.declared.claim_map.Claims.{Claims}
+use Rattle.claim_book.specs.Claims.{shown, IsKnown, asked_claim, ended_claim, Sets, Takes, Keeps, IsMap}
 use Rattle.claim_book.specs.Index.{IsPath, IsWhole, IsSettledOnly}
 use Rattle.claim_book.proofs.More.{asked_more, failed_more, turned_more}
 use Rattle.claim_book.proofs.Claims.{may_ask_on_path, asked_on_path, open_says}
@@ -120,7 +121,7 @@ whole_quiet : (s : Setting) (J K : List Entry) (e : Entry) (p : ℕ) (owed owed'
 whole_quiet s J K e p owed owed' room room' m xs x y counts counts' w f q is less has at near fresh count opens queue counted =
     let lt = settles_within s J owed room m xs counts p e w f q.settles in
     whole_put s J K e p owed owed' room room' m m xs y counts counts' w f q.owed q.of_path lt is less has
-    (map_quiet s J e m w.book.legal f q.none_held q.none_asked q.no_answer q.no_fail q.no_things w.map)
+    (map_quiet s J e m w.book.legal f q.none_held q.no_path q.none_asked q.no_answer q.no_fail q.no_things w.map)
     (path_passed s J e p x y q (path_at s J xs p x w.paths lt at) near fresh count opens queue)
     counted
 
@@ -147,7 +148,7 @@ whole_passed s J K e p owed owed' room room' m xs x y counts w f only is less ha
     (counted_more J e counts counts w.counted (omega (arith, ap length q.none_asked)) (omega (arith, ap length q.no_fail)) (omega (arith, ap length (none_turned p e only))))
 
 pub whole_taken : (s : Setting) (J K : List Entry) (p : ℕ) (c : Contact) (owed owed' room room' : ℕ) (m n : Claims) (xs : List Path) (x y : Path) (counts : Counts)
-    → IsWhole s J owed room m xs counts → Fits s J (Taken p c) → K ≡ J ++ Taken p c ∷ [] → owed' + 1 ≡ owed → length K + owed' ≤ room' → Sets m n c (taken_claim p (shown m c))
+    → IsWhole s J owed room m xs counts → Fits s J (Taken p c) → K ≡ J ++ Taken p c ∷ [] → owed' + 1 ≡ owed → length K + owed' ≤ room' → Takes s.per_address m n p c
     → x ≡ get_or xs p x → y.near.items ≡ put (closeness s.target) x.near.items c → vec_capacity x.near ≤ vec_capacity y.near → y.fresh.items ≡ put (closeness s.target) x.fresh.items c → vec_capacity x.fresh ≤ vec_capacity y.fresh
     → y.count ≡ x.count + 1 → y.opens ≡ x.opens → y.queue.items ≡ drop 1 x.queue.items
     → IsWhole s K owed' room' n (set xs p y) counts
@@ -161,10 +162,10 @@ whole_taken s J K p c owed owed' room room' m n xs x y counts w f is less has se
 -- ---- an answer: first room, then the entry
 
 pub whole_wider : (s : Setting) (J K : List Entry) (p : ℕ) (owed room room' : ℕ) (m n : Claims) (xs : List Path) (x y : Path) (counts : Counts)
-    → IsWhole s J owed room m xs counts → p < length xs → K ≡ J → length K + owed ≤ room' → ((c : Contact) → shown n c ≡ shown m c) → Keeps m n
+    → IsWhole s J owed room m xs counts → p < length xs → K ≡ J → length K + owed ≤ room' → Keeps m n
     → x ≡ get_or xs p x → y.near ≡ x.near → y.fresh ≡ x.fresh → y.count ≡ x.count → y.opens ≡ x.opens → y.queue.items ≡ x.queue.items
     → IsWhole s K owed room' n (set xs p y) counts
-whole_wider s J K p owed room room' m n xs x y counts w lt is has same kept at near fresh count opens queue = subst (λ j. IsWhole s j owed room' n (set xs p y) counts) (sym is) (record {
+whole_wider s J K p owed room room' m n xs x y counts w lt is has kept at near fresh count opens queue = subst (λ j. IsWhole s j owed room' n (set xs p y) counts) (sym is) (record {
   book = record {
     legal = w.book.legal;
     some_path = w.book.some_path;
@@ -173,24 +174,24 @@ whole_wider s J K p owed room room' m n xs x y counts w lt is has same kept at n
     all_owed = w.book.all_owed;
     fits = (let k = ap length is in omega arith);
   };
-  map = map_wider s J m n w.map same kept;
+  map = map_wider s J m n w.map kept;
   paths = paths_like s J p xs y lt w.paths (path_wider s J p x y (path_at s J xs p x w.paths lt at) near fresh count opens queue);
   counted = w.counted;
 })
 
 -- the same where a contact of the path is open, which it stays
 pub wider_open : (s : Setting) (J K : List Entry) (p : ℕ) (c : Contact) (owed room room' : ℕ) (m n : Claims) (xs : List Path) (x y : Path) (counts : Counts)
-    → IsWhole s J owed room m xs counts → among (open_on p J) c ≡ true → K ≡ J → length K + owed ≤ room' → ((c : Contact) → shown n c ≡ shown m c) → Keeps m n
+    → IsWhole s J owed room m xs counts → among (open_on p J) c ≡ true → K ≡ J → length K + owed ≤ room' → Keeps m n
     → x ≡ get_or xs p x → y.near ≡ x.near → y.fresh ≡ x.fresh → y.count ≡ x.count → y.opens ≡ x.opens → y.queue.items ≡ x.queue.items
     → IsWhole s K owed room' n (set xs p y) counts × (among (open_on p K) c ≡ true)
-wider_open s J K p c owed room room' m n xs x y counts w open_ is has same kept at near fresh count opens queue = (
-  whole_wider s J K p owed room room' m n xs x y counts w (open_within s J owed room m xs counts p c w open_) is has same kept at near fresh count opens queue,
+wider_open s J K p c owed room room' m n xs x y counts w open_ is has kept at near fresh count opens queue = (
+  whole_wider s J K p owed room room' m n xs x y counts w (open_within s J owed room m xs counts p c w open_) is has kept at near fresh count opens queue,
   subst (λ j. among (open_on p j) c ≡ true) (sym is) open_,
 )
 
 pub whole_heard : (s : Setting) (J K : List Entry) (p : ℕ) (c : Contact) (reports : List Report) (owed owed' room room' : ℕ) (m n : Claims) (xs : List Path) (x y : Path) (counts : Counts)
     → IsWhole s J owed room m xs counts → Fits s J (Heard p c reports) → K ≡ J ++ Heard p c reports ∷ [] → owed' + 1 ≡ owed + (3 * length reports + 1) → length K + owed' ≤ room'
-    → All (λ r. IsKnown s.own m (Told r)) reports → Sets m n c (ended_claim (shown m c))
+    → All (λ r. IsKnown s p m (Told r)) reports → Sets m n c (ended_claim (shown m c))
     → x ≡ get_or xs p x → y.near ≡ x.near → y.fresh ≡ x.fresh → y.count ≡ x.count → y.opens + 1 ≡ x.opens → y.queue.items ≡ x.queue.items ++ things_in c reports
     → IsWhole s K owed' room' n (set xs p y) counts
 whole_heard s J K p c reports owed owed' room room' m n xs x y counts w f is more has knows sets at near fresh count opens queue =

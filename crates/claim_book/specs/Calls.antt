@@ -1,5 +1,5 @@
 -- The book as an object whose calls are steps: who may make which call, when each reply comes, and what it leaves.
-use Rattle.std.specs.Prelude.{◌≡◌, ◌≢◌, ℕ, ◌-◌, ◌<◌, ◌≤◌, [], List, length, Option, Some, None, true, false, get_or}
+use Rattle.std.specs.Prelude.{◌≡◌, ◌≢◌, ◌⊎◌, ℕ, ◌-◌, ◌<◌, ◌≤◌, [], List, length, Option, Some, None, true, false, get_or}
 use Rattle.kad_base.specs.Limits.{max_path_contacts, max_reports}
 use Rattle.kad_base.specs.declared.types.Contact.{Contact}
 use Rattle.kad_base.specs.declared.types.Report.{Report}
@@ -16,6 +16,7 @@ use Rattle.claim_book.specs.declared.calls.BookReply.{BookReply}
 use Rattle.claim_book.specs.declared.calls.BookReply.TheVariants.{Ask, RunOut as RunOut_reply, Later, Kept, NotOpen, Found, NotYet, Alive, Report as Report_reply, Idle, NotFront, Taken, Held, Turned, Rejected, Skipped, NoMemory}
 use Rattle.claim_book.specs.CheckedState.{CheckedState}
 use Rattle.claim_book.specs.Journal.{took, path, asked, askers, failed, turned, open_any, unsettled, first_unsettled, may_ask}
+use Rattle.claim_book.specs.Crowded.{IsCrowded}
 use Rattle.claim_book.specs.RunOut.{RunOut}
 use Rattle.claim_book.specs.Result.{result_of}
 use Rattle.claim_book.specs.State.{BookState, added}
@@ -111,9 +112,9 @@ SettleStep s J p checked Skipped = IsFront s J p checked × ¬ IsUsable s.own ch
 SettleStep s J p checked Rejected = IsFront s J p checked × IsUsable s.own checked.report.contact × ¬ Passes s.policy checked.report
 SettleStep s J p checked (Held q) = IsSound s J p checked × (among (path q J) checked.report.contact ≡ true)
 SettleStep s J p checked Turned =
-    IsSound s J p checked × (among (took J) checked.report.contact ≡ false) × (length (path p J) ≡ max_path_contacts)
+    IsSound s J p checked × (among (took J) checked.report.contact ≡ false) × ((length (path p J) ≡ max_path_contacts) ⊎ IsCrowded s J p checked.report.contact)
 SettleStep s J p checked Taken =
-    IsSound s J p checked × (among (took J) checked.report.contact ≡ false) × (length (path p J) < max_path_contacts)
+    IsSound s J p checked × (among (took J) checked.report.contact ≡ false) × (length (path p J) < max_path_contacts) × ¬ IsCrowded s J p checked.report.contact
 SettleStep s J p checked NotFront = ¬ IsFront s J p checked
 SettleStep s J p checked other = ⊥
 

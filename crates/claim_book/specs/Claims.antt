@@ -1,9 +1,8 @@
--- The map of claims: what it shows of each contact, and what a journal says of it.
-use Rattle.std.specs.Prelude.{◌≡◌, ℕ, List, ◌++◌, Bool, true, false, if◌then◌else◌, Some, None, IsSome, unwrap_or, slice_get}
+-- The map of claims: what it shows of each contact, and what a journal says of it. And of each host: how many contacts of it
+-- each path has, where the lookup has a limit.
+use Rattle.std.specs.Prelude.{◌≡◌, ℕ, ◌+◌, ◌<◌, List, ◌++◌, Bool, true, false, if◌then◌else◌, Some, None, IsSome, unwrap_or, slice_get}
 use Rattle.std.specs.List.{All}
-use Rattle.std.specs.declared.random_state.RandomState.{RandomState}
-use Rattle.indexmap.specs.IndexMap.{IndexMap, get}
-use Rattle.kad_base.specs.declared.types.Id.{Id}
+use Rattle.indexmap.specs.IndexMap.{get}
 use Rattle.kad_base.specs.declared.types.Contact.{Contact}
 use Rattle.kad_base.specs.contracts.types.ContactPartialEq.TheImpl as contact_eq
 use Rattle.kad_base.specs.Contacts.{among, IsUsable}
@@ -11,16 +10,25 @@ use Rattle.claim_book.specs.declared.types.Setting.{Setting}
 use Rattle.claim_book.specs.declared.types.Thing.{Thing}
 use Rattle.claim_book.specs.declared.types.Thing.TheVariants.{Responder, Told}
 use Rattle.claim_book.specs.declared.types.Entry.{Entry}
+use Rattle.claim_book.specs.declared.host.Host.{Host}
 use Rattle.claim_book.specs.declared.claim_map.Claim.{Claim}
+use Rattle.claim_book.specs.declared.claim_map.Claims.{Claims}
+use Rattle.claim_book.specs.declared.claim_map.Seat.{Seat}
+use Rattle.claim_book.specs.contracts.claim_map.SeatPartialEq.TheImpl as seat_eq_of
 use Rattle.claim_book.specs.Journal.{holders, asked, answered, failed, unsettled}
+use Rattle.claim_book.specs.Hosts.{host}
+use Rattle.claim_book.specs.Crowded.{crowd}
 
 -- what `==` of two keys answers
 abbrev pub key_eq : Contact → Contact → Bool
 key_eq = (contact_eq.ghosts).eq
 
--- the map from each contact that a book knows of to who has it, and what came of asking it
-abbrev pub Claims : Type 0
-Claims = IndexMap Contact Claim RandomState
+abbrev pub seat_eq : Seat → Seat → Bool
+seat_eq = (seat_eq_of.ghosts).eq
+
+-- the key of a path and a host
+abbrev pub seat : ℕ → Host → Seat
+seat p h = record { path = p; host = h }
 
 -- no path has it, and nobody asked it
 abbrev pub blank : Claim
@@ -28,16 +36,25 @@ blank = record { by = None; asked = false; ended = false }
 
 -- what the map says of a contact: one that it doesn't have is as one that no path has
 abbrev pub shown : Claims → Contact → Claim
-shown m c = unwrap_or (get key_eq m c) blank
+shown m c = unwrap_or (get key_eq m.contacts c) blank
+
+-- how many contacts of a host it says that path p has
+abbrev pub shown_crowd : Claims → ℕ → Host → ℕ
+shown_crowd m p h = unwrap_or (get seat_eq m.crowds (seat p h)) 0
 
 -- what the journal says of it
 abbrev pub claim_of : Contact → List Entry → Claim
 claim_of c J = record { by = slice_get (holders c J) 0; asked = among (asked J) c; ended = among (answered J ++ failed J) c }
 
--- a usable contact that waits to be settled stands in the map
-abbrev pub IsKnown : Id → Claims → Thing → Type 0
-IsKnown own m (Responder c) = Unit {0}
-IsKnown own m (Told r) = IsUsable own r.contact → IsSome (get key_eq m r.contact)
+-- the contact stands in the map, and so does its host on path p where the lookup has a limit
+pub record HasRoom (limit : ℕ) (m : Claims) (p : ℕ) (c : Contact) : Type 0 where
+  pub contact : IsSome (get key_eq m.contacts c)
+  pub seated : 0 < limit → IsSome (get seat_eq m.crowds (seat p (host c.addr)))
+
+-- a usable contact that waits to be settled on path p has its room
+abbrev pub IsKnown : Setting → ℕ → Claims → Thing → Type 0
+IsKnown s p m (Responder c) = Unit {0}
+IsKnown s p m (Told r) = IsUsable s.own r.contact → HasRoom s.per_address m p r.contact
 
 -- what a claim is once its contact is asked, ended, or on path p
 abbrev pub asked_claim : Claim → Claim
@@ -50,14 +67,25 @@ abbrev pub taken_claim : ℕ → Claim → Claim
 taken_claim p k = record { by = Some p; asked = k.asked; ended = k.ended }
 
 -- n is m with k at the contact
-abbrev pub Sets : Claims → Claims → Contact → Claim → Type 0
-Sets m n c k = (d : Contact) → get key_eq n d ≡ (if key_eq c d then Some k else get key_eq m d)
+pub record Sets (m n : Claims) (c : Contact) (k : Claim) : Type 0 where
+  pub contacts : (d : Contact) → get key_eq n.contacts d ≡ (if key_eq c d then Some k else get key_eq m.contacts d)
+  pub crowds : n.crowds ≡ m.crowds
 
--- n has what m has
-abbrev pub Keeps : Claims → Claims → Type 0
-Keeps m n = (d : Contact) → IsSome (get key_eq m d) → IsSome (get key_eq n d)
+-- n is m with the contact on path p, which has one more of its host where the lookup has a limit
+pub record Takes (limit : ℕ) (m n : Claims) (p : ℕ) (c : Contact) : Type 0 where
+  pub contacts : (d : Contact) → get key_eq n.contacts d ≡ (if key_eq c d then Some (taken_claim p (shown m c)) else get key_eq m.contacts d)
+  pub crowds : 0 < limit → (k : Seat) → get seat_eq n.crowds k ≡ (if seat_eq (seat p (host c.addr)) k then Some (shown_crowd m p (host c.addr) + 1) else get seat_eq m.crowds k)
+  pub unlimited : limit ≡ 0 → n.crowds ≡ m.crowds
+
+-- n has what m has, and shows the same
+pub record Keeps (m n : Claims) : Type 0 where
+  pub same_claims : (c : Contact) → shown n c ≡ shown m c
+  pub same_crowds : (p : ℕ) (h : Host) → shown_crowd n p h ≡ shown_crowd m p h
+  pub contacts : (d : Contact) → IsSome (get key_eq m.contacts d) → IsSome (get key_eq n.contacts d)
+  pub crowds : (k : Seat) → IsSome (get seat_eq m.crowds k) → IsSome (get seat_eq n.crowds k)
 
 -- the map shows what the journal says, and has each contact that may still be taken
 pub record IsMap (s : Setting) (J : List Entry) (m : Claims) : Type 0 where
   pub claims : (c : Contact) → shown m c ≡ claim_of c J
-  pub known : (p : ℕ) → All (IsKnown s.own m) (unsettled p J)
+  pub counts : 0 < s.per_address → (p : ℕ) (h : Host) → shown_crowd m p h ≡ crowd p h J
+  pub known : (p : ℕ) → All (IsKnown s p m) (unsettled p J)

@@ -13,7 +13,8 @@ use Rattle.claim_book.specs.declared.types.Entry.TheVariants.{Note, Held, Reject
 use Rattle.claim_book.specs.declared.path.Path.{Path}
 use Rattle.claim_book.specs.Journal.{path, alive, asked, open_on, unsettled}
 use Rattle.claim_book.specs.Calls.{Counted}
-use Rattle.claim_book.specs.Claims.{Claims, IsMap}
+use Rattle.claim_book.specs.declared.claim_map.Claims.{Claims}
+use Rattle.claim_book.specs.Claims.{IsMap}
 use Rattle.claim_book.specs.Room.{IsBook}
 
 -- what is kept of path p: its contacts that are not lost, and those that nobody asked, in order; how many it has, and

@@ -16,12 +16,12 @@ use Rattle.claim_book.specs.declared.types.Entry.TheVariants.{Seed, Ask, Heard, 
 abbrev pub on_path : {A : Type 0} → ℕ → ℕ → List A → List A
 on_path p q xs = if q == p then xs else []
 
--- of one entry
-abbrev pub seed_of : Entry → List Contact
-seed_of (Seed q c) = c ∷ []
+-- of one entry: the seed that it is
+abbrev pub seed_of : Entry → List Entry
+seed_of (Seed q c) = Seed q c ∷ []
 seed_of other = []
 
--- the same of what is taken, asked, heard, lost and turned away, by any path or on path p; and who asked or has a
+-- what is taken, asked, heard, lost and turned away, by any path or on path p; and who asked or has a
 -- contact
 abbrev pub took_of : Entry → List Contact
 took_of (Seed q c) = c ∷ []
@@ -81,8 +81,8 @@ settles_on p (Rejected q r) = q == p
 settles_on p (Skipped q r) = q == p
 settles_on p other = false
 
--- the contacts that the paths began with
-unfoldable pub seeds : List Entry → List Contact
+-- the contacts that the paths began with, each with its path
+unfoldable pub seeds : List Entry → List Entry
 seeds J = flat_map seed_of J
 
 -- the contacts that the paths began with or took
@@ -117,7 +117,7 @@ answered J = flat_map answer_of J
 unfoldable pub failed : List Entry → List Contact
 failed J = flat_map fail_of J
 
--- those that a full path turned away
+-- those that a full path, or one crowded by their host, turned away
 unfoldable pub turned : List Entry → List Contact
 turned J = flat_map turned_of J
 

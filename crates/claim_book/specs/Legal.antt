@@ -1,5 +1,5 @@
 -- Which entry may follow a journal.
-use Rattle.std.specs.Prelude.{◌≡◌, ℕ, ◌+◌, ◌%◌, ◌<◌, ◌≤◌, List, [], ◌∷◌, ◌++◌, length, Some, Bool, true, false, ◌==◌}
+use Rattle.std.specs.Prelude.{◌≡◌, ◌⊎◌, ℕ, ◌+◌, ◌%◌, ◌<◌, ◌≤◌, List, [], ◌∷◌, ◌++◌, length, Some, Bool, true, false, ◌==◌, ◌||◌, nat_lt, if◌then◌else◌}
 use Rattle.std.specs.List.Sorted.{IsStrictlySortedBy}
 use Rattle.kad_base.specs.Limits.{max_path_contacts, max_reports}
 use Rattle.kad_base.specs.declared.types.Contact.{Contact}
@@ -12,14 +12,19 @@ use Rattle.claim_book.specs.declared.types.Thing.TheVariants.{Responder, Told}
 use Rattle.claim_book.specs.declared.types.Entry.{Entry}
 use Rattle.claim_book.specs.declared.types.Entry.TheVariants.{Seed, Ask, Heard, Lost, Note, Taken, Held, Turned, Rejected, Skipped}
 use Rattle.claim_book.specs.Journal.{seeds, took, path, open_on, first_unsettled, may_ask}
+use Rattle.claim_book.specs.Hosts.{host}
+use Rattle.claim_book.specs.Crowded.{crowd, IsCrowded}
 
--- the seeds stand first, dealt to the paths in turn (S/Kademlia, 2007, section 4.4): few, usable, nearest first
+-- the seeds stand first, dealt to the paths in turn (S/Kademlia, 2007, section 4.4): few, usable, nearest first, and none on a
+-- path that its host crowds, whose turn passes without a seed
 pub record SeedFits (s : Setting) (J : List Entry) (q : ℕ) (c : Contact) : Type 0 where
   pub first : length (seeds J) ≡ length J
   pub few : length J < s.k
-  pub turn : q ≡ length J % s.paths
+  pub is_path : q < s.paths
+  pub turn : s.per_address ≡ 0 → q ≡ length J % s.paths
   pub usable : IsUsable s.own c
   pub in_order : IsStrictlySortedBy (closeness s.target) (took J ++ c ∷ [])
+  pub free : ¬ IsCrowded s J q c
 
 -- the contact is that of the first unsettled thing of the path, a report that is usable and passes
 pub record Believed (s : Setting) (J : List Entry) (q : ℕ) (c : Contact) : Type 0 where
@@ -39,8 +44,8 @@ Fits s J (Note q c) = first_unsettled q J ≡ Some (Responder c)
 Fits s J (Skipped q r) = (first_unsettled q J ≡ Some (Told r)) × ¬ IsUsable s.own r.contact
 Fits s J (Rejected q r) = (first_unsettled q J ≡ Some (Told r)) × IsUsable s.own r.contact × ¬ Passes s.policy r
 Fits s J (Held q c by) = Believed s J q c × (among (path by J) c ≡ true)
-Fits s J (Turned q c) = Believed s J q c × (among (took J) c ≡ false) × (length (path q J) ≡ max_path_contacts)
-Fits s J (Taken q c) = Believed s J q c × (among (took J) c ≡ false) × (length (path q J) < max_path_contacts)
+Fits s J (Turned q c) = Believed s J q c × (among (took J) c ≡ false) × ((length (path q J) ≡ max_path_contacts) ⊎ IsCrowded s J q c)
+Fits s J (Taken q c) = Believed s J q c × (among (took J) c ≡ false) × (length (path q J) < max_path_contacts) × ¬ IsCrowded s J q c
 
 -- each of the entries may follow those before it
 abbrev pub LegalAfter : Setting → List Entry → List Entry → Type 0
@@ -52,13 +57,28 @@ unfoldable pub Legal : Setting → List Entry → Type 0
 Legal s J = LegalAfter s [] J
 
 -- the contacts from rank i on as seeds, each on its path
-abbrev pub seeded_from : ℕ → ℕ → List Contact → List Entry
-seeded_from paths i [] = []
-seeded_from paths i (c ∷ cs) = Seed (i % paths) c ∷ seeded_from paths (i + 1) cs
+abbrev pub dealt_from : ℕ → ℕ → List Contact → List Entry
+dealt_from paths i [] = []
+dealt_from paths i (c ∷ cs) = Seed (i % paths) c ∷ dealt_from paths (i + 1) cs
 
--- the journal of a lookup that begins with these contacts: the seed of rank i on path i mod the paths
-abbrev pub seeded : ℕ → List Contact → List Entry
-seeded paths cs = seeded_from paths 0 cs
+-- the contacts dealt to the paths: that of rank i to path i mod the paths
+abbrev pub dealt : ℕ → List Contact → List Entry
+dealt paths cs = dealt_from paths 0 cs
+
+-- A seed stays where there is no limit, or fewer than so many of those that its path was dealt before it have its host.
+abbrev pub stays : ℕ → List Entry → Entry → Bool
+stays limit before (Seed q c) = (limit == 0) || nat_lt (crowd q (host c.addr) before) limit
+stays limit before other = true
+
+-- those of the entries that stay, where the ones before them were dealt first
+abbrev pub staying : ℕ → List Entry → List Entry → List Entry
+staying limit before [] = []
+staying limit before (e ∷ es) = (if stays limit before e then e ∷ [] else []) ++ staying limit (before ++ e ∷ []) es
+
+-- the journal of a lookup that begins with these contacts: of those that a path is dealt, the first of each host, as many as
+-- the limit says
+abbrev pub seeded : ℕ → ℕ → List Contact → List Entry
+seeded limit paths cs = staying limit [] (dealt paths cs)
 
 -- the entry is of path p
 abbrev pub is_of : ℕ → Entry → Bool

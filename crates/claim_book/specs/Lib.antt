@@ -1,4 +1,6 @@
 pub mod Journal
+pub mod Hosts
+pub mod Crowded
 pub mod Legal
 pub mod RunOut
 pub mod Lineage

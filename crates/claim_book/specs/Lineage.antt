@@ -11,6 +11,7 @@ use Rattle.claim_book.specs.declared.types.Thing.TheVariants.{Told}
 use Rattle.claim_book.specs.declared.types.Entry.{Entry}
 use Rattle.claim_book.specs.declared.types.Entry.TheVariants.{Seed, Heard, Taken}
 use Rattle.claim_book.specs.Journal.{settles_on, took, path, asked_on, unsettled, first_unsettled}
+use Rattle.claim_book.specs.Crowded.{IsCrowded}
 
 -- The responder named the contact to path p: its answer to that path has a report of it, which passes the policy, and the
 -- node may ask the contact.
@@ -52,18 +53,18 @@ pub record SettlesReport (before : List Entry) (e : Entry) (p : ℕ) (r : Report
   pub settles : settles_on p e ≡ true
   pub first : first_unsettled p before ≡ Some (Told r)
 
--- A report that may be believed is settled otherwise than by taking its contact only where some path has that very contact
--- or the path has as many as a path may.
+-- A report that may be believed is settled otherwise than by taking its contact only where some path has that very contact,
+-- the path has as many as a path may, or as many of the contact's host.
 unfoldable pub TakesUnlessHeld : Setting → List Entry → Type 0
 TakesUnlessHeld s J = (before behind : List Entry) (e : Entry) (p : ℕ) (r : Report) → J ≡ before ++ e ∷ behind
     → SettlesReport before e p r → IsUsable s.own r.contact → Passes s.policy r
-    → (e ≡ Taken p r.contact) ⊎ (among (took before) r.contact ≡ true) ⊎ (length (path p before) ≡ max_path_contacts)
+    → (e ≡ Taken p r.contact) ⊎ (among (took before) r.contact ≡ true) ⊎ (length (path p before) ≡ max_path_contacts) ⊎ IsCrowded s before p r.contact
 
 -- So nothing that may be believed is dropped: once a path has settled all that it was told, each contact that was named to it
--- is on some path, or this path has as many as a path may.
+-- is on some path, or this path has as many as a path may, or as many of the contact's host.
 unfoldable pub DropsNone : Setting → List Entry → Type 0
 DropsNone s J = (p : ℕ) (responder c : Contact) → unsettled p J ≡ [] → Names s J p responder c
-    → (among (took J) c ≡ true) ⊎ (max_path_contacts ≤ length (path p J))
+    → (among (took J) c ≡ true) ⊎ (max_path_contacts ≤ length (path p J)) ⊎ IsCrowded s J p c
 
 -- Each path goes by its own seeds and answers: what disjoint paths are for.
 pub record GoesByOwnAnswers (s : Setting) (J : List Entry) : Type 0 where

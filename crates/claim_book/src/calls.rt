@@ -50,7 +50,7 @@ pub enum BookReply {
     Taken,
     /// The contact was on this path already.
     Held { path: u8 },
-    /// The path is full.
+    /// The path is full, or has as many contacts of this host as it may.
     Turned,
     /// The report does not pass.
     Rejected,

@@ -3,7 +3,6 @@ ghost use Rattle.std.specs.Prelude.{◌≡◌, ◌<◌, ◌≤◌, ◌+◌, ◌*
 ghost use Rattle.std.specs.List.{All};
 ghost use Rattle.std.specs.VecDeque.{deque_capacity};
 ghost use Rattle.kad_base.specs.Limits.{max_reports};
-ghost use Rattle.kad_base.specs.declared.types.Contact.{Contact};
 ghost use Rattle.kad_base.specs.Contacts.{among};
 ghost use Rattle.claim_book.specs.declared.types.Entry.TheVariants.{Ask, Heard, Lost, Taken, Turned};
 ghost use Rattle.claim_book.specs.declared.types.Thing.TheVariants.{Told};
@@ -11,14 +10,14 @@ ghost use Rattle.claim_book.specs.Journal.{may_ask, open_on};
 ghost use Rattle.claim_book.specs.Legal.{Fits};
 ghost use Rattle.claim_book.specs.Room.{frees};
 ghost use Rattle.claim_book.specs.State.{added};
-ghost use Rattle.claim_book.specs.Claims.{shown, IsKnown, Keeps};
+ghost use Rattle.claim_book.specs.Claims.{IsKnown, Keeps};
 ghost use Rattle.claim_book.specs.Index.{IsSettledOnly};
 
 use crate::claim_map::{Claims, learn, mark_asked, mark_ended, mark_taken};
 use crate::path::{Path, ask_one, hear_one, lose_one, settle_one, take_one, widen};
 use crate::state::Book;
-use crate::types::{Cause, Entry};
-use kad_base::{Contact, Id, NoMemory, Report, Reports};
+use crate::types::{Cause, Entry, Setting};
+use kad_base::{Contact, NoMemory, Report, Reports};
 
 impl Book {
     /// The path asks the contact. Takes no memory.
@@ -53,7 +52,8 @@ impl Book {
             self.owed,
             &mut self.claims,
             &mut self.paths[path as usize],
-            &self.setting.own,
+            &self.setting,
+            path,
             reports.as_slice(),
         )?;
         mark_ended(&mut self.claims, &contact);
@@ -100,11 +100,11 @@ impl Book {
             &mut self.owed,
             Entry::Taken { path, contact },
         );
-        mark_taken(&mut self.claims, path, &contact);
+        mark_taken(&mut self.claims, self.setting.per_address, path, &contact);
         take_one(&mut self.paths[path as usize], &self.setting, &contact);
     }
 
-    /// The reported contact that stands first finds the path full. Takes no memory.
+    /// The reported contact that stands first finds the path full, or crowded by its host. Takes no memory.
     pub(crate) fn turn_away(&mut self, path: u8, contact: Contact)
         requires { Fits self.old.setting self.old.journal (Turned path contact) }
         ensures { self.new ≡ added self.old (Turned path contact) }
@@ -163,7 +163,8 @@ fn make_room(
     owed: usize,
     claims: &mut Claims,
     path: &mut Path,
-    own: &Id,
+    setting: &Setting,
+    number: u8,
     reports: &[Report],
 ) -> Result<(), NoMemory>
     requires few { length reports.now ≤ max_reports }
@@ -172,9 +173,9 @@ fn make_room(
     ensures room { length journal.new.items + owed ≤ vec_capacity journal.new }
     ensures more_room { OnOk result (length journal.new.items + (owed + (3 * length
         reports.now + 1)) ≤ vec_capacity journal.new) }
-    ensures shown { (c : Contact) → shown claims.new c ≡ shown claims.old c }
     ensures kept { Keeps claims.old claims.new }
-    ensures known { OnOk result (All (λ r. IsKnown own.now claims.new (Told r)) reports.now) }
+    ensures known { OnOk result (All (λ r. IsKnown setting.now number claims.new (Told r))
+        reports.now) }
     ensures near { path.new.near ≡ path.old.near }
     ensures fresh { path.new.fresh ≡ path.old.fresh }
     ensures count { path.new.count ≡ path.old.count }
@@ -185,5 +186,5 @@ fn make_room(
 {
     journal.reserve(owed + (3 * reports.len() + 1))?;
     widen(path, reports.len() + 1)?;
-    learn(claims, own, reports)
+    learn(claims, setting, number, reports)
 }

@@ -1,13 +1,16 @@
-//! The map of claims: which path has a contact, and what came of it.
-ghost use Rattle.std.specs.Prelude.{◌≡◌, ◌≤◌, IsSome, Some, if◌then◌else◌, OnOk};
+//! The map of claims: which path has a contact, and what came of it; and how many contacts of each host a path has.
+ghost use Rattle.std.specs.Prelude.{◌≡◌, ◌↔◌, ◌≤◌, ◌<◌, ◌+◌, IsTrue, IsSome, Some, [], if◌then◌else◌, OnOk, unwrap_or};
 ghost use Rattle.std.specs.List.{All};
 ghost use Rattle.indexmap.specs.IndexMap.{get};
 ghost use Rattle.kad_base.specs.declared.types.Contact.{Contact};
 ghost use Rattle.claim_book.specs.declared.types.Thing.TheVariants.{Told};
-ghost use Rattle.claim_book.specs.Claims.{key_eq, blank, shown, asked_claim, ended_claim, taken_claim, IsKnown, Sets, Keeps};
+ghost use Rattle.claim_book.specs.Hosts.{host};
+ghost use Rattle.claim_book.specs.Claims.{key_eq, seat_eq, seat, blank, shown, shown_crowd, asked_claim, ended_claim, taken_claim, HasRoom, IsKnown, Sets, Takes, Keeps};
 
+use crate::host::{Host, host_of};
+use crate::types::Setting;
 use indexmap::IndexMap;
-use kad_base::{Contact, Id, NoMemory, Report, is_usable};
+use kad_base::{Contact, NoMemory, Report, is_usable};
 use std::alloc::Global;
 use std::hash::RandomState;
 
@@ -19,14 +22,37 @@ pub struct Claim {
     pub ended: bool,
 }
 
-/// Each contact that a path has or a report named, and what came of it.
-pub(crate) type Claims = IndexMap<Contact, Claim, RandomState, Global>;
+/// A path and a host.
+#[derive(Clone, Copy, Debug, PartialEq, Eq, Hash)]
+pub struct Seat {
+    pub path: u8,
+    pub host: Host,
+}
+
+/// Each contact that a path has or a report named, and what came of it. Where the lookup has a limit of contacts of one
+/// host, also how many each path has of each host that it has or that was named to it.
+#[derive(Drop)]
+pub struct Claims {
+    pub(crate) contacts: IndexMap<Contact, Claim, RandomState, Global>,
+    pub(crate) crowds: IndexMap<Seat, u8, RandomState, Global>,
+}
+
+/// A map that has nothing. Takes no memory.
+pub(crate) fn no_claims(alloc: Global, hasher: RandomState) -> Claims
+    ensures contacts { result.contacts.entries ≡ [] }
+    ensures crowds { result.crowds.entries ≡ [] }
+{
+    Claims {
+        contacts: IndexMap::with_hasher(alloc, hasher),
+        crowds: IndexMap::with_hasher(alloc, hasher),
+    }
+}
 
 /// What the map says of a contact.
 pub(crate) fn claim_at(claims: &Claims, contact: &Contact) -> Claim
     ensures { result ≡ shown claims.now contact.now }
 {
-    match claims.get(contact) {
+    match claims.contacts.get(contact) {
         Some(claim) => *claim,
         None => unclaimed(),
     }
@@ -45,10 +71,10 @@ fn unclaimed() -> Claim
 
 /// Writes what came of a contact that the map has. Takes no memory.
 fn set_claim(claims: &mut Claims, contact: Contact, claim: Claim)
-    requires known { IsSome (get key_eq claims.old contact) }
+    requires known { IsSome (get key_eq claims.old.contacts contact) }
     ensures each { Sets claims.old claims.new contact claim }
 {
-    match claims.insert(contact, claim) {
+    match claims.contacts.insert(contact, claim) {
         Ok(_) => {}
         Err(_) => unreachable!(),
     }
@@ -56,7 +82,7 @@ fn set_claim(claims: &mut Claims, contact: Contact, claim: Claim)
 
 /// The contact was asked. Takes no memory.
 pub(crate) fn mark_asked(claims: &mut Claims, contact: &Contact)
-    requires known { IsSome (get key_eq claims.old contact.now) }
+    requires known { IsSome (get key_eq claims.old.contacts contact.now) }
     ensures each { Sets claims.old claims.new contact.now
         (asked_claim (shown claims.old contact.now)) }
 {
@@ -73,7 +99,7 @@ pub(crate) fn mark_asked(claims: &mut Claims, contact: &Contact)
 
 /// The contact answered, or is lost. Takes no memory.
 pub(crate) fn mark_ended(claims: &mut Claims, contact: &Contact)
-    requires known { IsSome (get key_eq claims.old contact.now) }
+    requires known { IsSome (get key_eq claims.old.contacts contact.now) }
     ensures each { Sets claims.old claims.new contact.now
         (ended_claim (shown claims.old contact.now)) }
 {
@@ -89,10 +115,10 @@ pub(crate) fn mark_ended(claims: &mut Claims, contact: &Contact)
 }
 
 /// The path took the contact. Takes no memory.
-pub(crate) fn mark_taken(claims: &mut Claims, path: u8, contact: &Contact)
-    requires known { IsSome (get key_eq claims.old contact.now) }
-    ensures each { Sets claims.old claims.new contact.now
-        (taken_claim path (shown claims.old contact.now)) }
+pub(crate) fn mark_taken(claims: &mut Claims, limit: u8, path: u8, contact: &Contact)
+    requires known { HasRoom limit claims.old path contact.now }
+    requires free { 0 < limit → shown_crowd claims.old path (host contact.now.addr) < limit }
+    ensures { Takes limit claims.old claims.new path contact.now }
 {
     let claim = claim_at(claims, contact);
     set_claim(
@@ -103,55 +129,139 @@ pub(crate) fn mark_taken(claims: &mut Claims, path: u8, contact: &Contact)
             ..claim
         },
     );
+    if limit == 0 {
+        return;
+    }
+    count_one(
+        claims,
+        Seat {
+            path,
+            host: host_of(&contact.addr),
+        },
+    );
 }
 
-/// Enters a contact with which a path starts.
-pub(crate) fn enter(claims: &mut Claims, path: u8, contact: &Contact) -> Result<(), NoMemory>
-    ensures { OnOk result (Sets claims.old claims.new contact.now
-        (taken_claim path (shown claims.old contact.now))) }
+/// How many contacts of a host the path has.
+fn crowd_at(claims: &Claims, seat: &Seat) -> u8
+    ensures { result ≡ unwrap_or (get seat_eq claims.now.crowds seat.now) 0 }
 {
-    let claim = claim_at(claims, contact);
-    let claim = Claim {
-        by: Some(path),
-        ..claim
-    };
-    claims.insert(*contact, claim)?;
-    Ok(())
+    match claims.crowds.get(seat) {
+        Some(count) => *count,
+        None => 0,
+    }
+}
+
+/// The path has one contact more of a host that the map has. Takes no memory.
+fn count_one(claims: &mut Claims, at: Seat)
+    requires known { IsSome (get seat_eq claims.old.crowds at) }
+    requires free { unwrap_or (get seat_eq claims.old.crowds at) 0 < 255 }
+    ensures contacts { claims.new.contacts ≡ claims.old.contacts }
+    ensures crowds { (k : Seat) → get seat_eq claims.new.crowds k ≡ (if seat_eq at k
+        then Some (unwrap_or (get seat_eq claims.old.crowds at) 0 + 1)
+        else get seat_eq claims.old.crowds k) }
+{
+    let count = crowd_at(claims, &at);
+    match claims.crowds.insert(at, count + 1) {
+        Ok(_) => {}
+        Err(_) => unreachable!(),
+    }
+}
+
+/// Whether the path has as many contacts of the contact's host as it may. Without a limit nothing is looked up.
+pub(crate) fn is_crowded(claims: &Claims, limit: u8, path: u8, contact: &Contact) -> bool
+    ensures { IsTrue result ↔ ((0 < limit) × (limit ≤ shown_crowd claims.now path
+        (host contact.now.addr))) }
+{
+    if limit == 0 {
+        return false;
+    }
+    let count = crowd_at(
+        claims,
+        &Seat {
+            path,
+            host: host_of(&contact.addr),
+        },
+    );
+    count >= limit
 }
 
 /// Enters the contact as one that no path has, where the map doesn't have it.
-fn learn_one(claims: &mut Claims, contact: &Contact) -> Result<(), NoMemory>
-    ensures shown { (c : Contact) → shown claims.new c ≡ shown claims.old c }
+fn learn_contact(claims: &mut Claims, contact: &Contact) -> Result<(), NoMemory>
     ensures kept { Keeps claims.old claims.new }
-    ensures known { OnOk result (IsSome (get key_eq claims.new contact.now)) }
+    ensures known { OnOk result (IsSome (get key_eq claims.new.contacts contact.now)) }
 {
-    if claims.contains_key(contact) {
+    if claims.contacts.contains_key(contact) {
         return Ok(());
     }
-    claims.insert(*contact, unclaimed())?;
+    claims.contacts.insert(*contact, unclaimed())?;
     Ok(())
 }
 
-/// Enters the report's contact where it is usable.
-fn learn_report(claims: &mut Claims, own: &Id, report: &Report) -> Result<(), NoMemory>
-    ensures shown { (c : Contact) → shown claims.new c ≡ shown claims.old c }
+/// Enters the host as one of which the path has no contact, where the map doesn't have it.
+fn learn_host(claims: &mut Claims, at: Seat) -> Result<(), NoMemory>
     ensures kept { Keeps claims.old claims.new }
-    ensures known { OnOk result (IsKnown own.now claims.new (Told report.now)) }
+    ensures known { OnOk result (IsSome (get seat_eq claims.new.crowds at)) }
 {
-    if !is_usable(own, &report.contact) {
+    if claims.crowds.contains_key(&at) {
         return Ok(());
     }
-    learn_one(claims, &report.contact)
+    claims.crowds.insert(at, 0)?;
+    Ok(())
 }
 
-/// Enters each usable contact that an answer reports. Whatever it returns, the map shows what it showed.
-pub(crate) fn learn(claims: &mut Claims, own: &Id, reports: &[Report]) -> Result<(), NoMemory>
-    ensures shown { (c : Contact) → shown claims.new c ≡ shown claims.old c }
+/// Makes the room by which the path can take the contact without memory.
+pub(crate) fn make_place(
+    claims: &mut Claims,
+    limit: u8,
+    path: u8,
+    contact: &Contact,
+) -> Result<(), NoMemory>
     ensures kept { Keeps claims.old claims.new }
-    ensures known { OnOk result (All (λ r. IsKnown own.now claims.new (Told r)) reports.now) }
+    ensures known { OnOk result (HasRoom limit claims.new path contact.now) }
+{
+    learn_contact(claims, contact)?;
+    if limit == 0 {
+        return Ok(());
+    }
+    learn_host(
+        claims,
+        Seat {
+            path,
+            host: host_of(&contact.addr),
+        },
+    )
+}
+
+/// Makes room for the report's contact where it is usable.
+fn learn_report(
+    claims: &mut Claims,
+    setting: &Setting,
+    path: u8,
+    report: &Report,
+) -> Result<(), NoMemory>
+    ensures kept { Keeps claims.old claims.new }
+    ensures known { OnOk result (IsKnown setting.now path claims.new (Told report.now)) }
+{
+    if !is_usable(&setting.own, &report.contact) {
+        return Ok(());
+    }
+    make_place(claims, setting.per_address, path, &report.contact)
+}
+
+/// Makes room for each usable contact that an answer reports to the path. Whatever it returns, the map shows what it
+/// showed.
+pub(crate) fn learn(
+    claims: &mut Claims,
+    setting: &Setting,
+    path: u8,
+    reports: &[Report],
+) -> Result<(), NoMemory>
+    ensures kept { Keeps claims.old claims.new }
+    ensures known { OnOk result (All (λ r. IsKnown setting.now path claims.new (Told r))
+        reports.now) }
 {
     for report in reports {
-        learn_report(claims, own, report)?;
+        learn_report(claims, setting, path, report)?;
     }
     Ok(())
 }

@@ -7,7 +7,9 @@ ghost use Rattle.kad_base.specs.Contacts.{same, among};
 ghost use Rattle.claim_book.specs.declared.types.Setting.{Setting};
 ghost use Rattle.claim_book.specs.declared.types.Entry.{Entry};
 ghost use Rattle.claim_book.specs.Journal.{seeds, took, path, asked, asked_on, answered, open_any, open_on, unsettled, may_ask};
-ghost use Rattle.claim_book.specs.Legal.{Legal, is_of, IsSeed};
+ghost use Rattle.claim_book.specs.declared.host.Host.{Host};
+ghost use Rattle.claim_book.specs.Hosts.{at_host};
+ghost use Rattle.claim_book.specs.Legal.{Legal, is_of, IsSeed, dealt, seeded};
 ghost use Rattle.claim_book.specs.RunOut.{RunOut};
 ghost use Rattle.claim_book.specs.Lineage.{HasLineage, IsContained, TakesUnlessHeld, DropsNone};
 ghost use Rattle.claim_book.specs.Result.{result_of};
@@ -94,10 +96,26 @@ pub fn contained()
     ensures { (s : Setting) (J : List Entry) → Legal s J → IsContained s J }
 {}
 
-/// A report that may be believed is kept off a path only by that very contact on some path, or where the path is full: not
-/// by another contact with the same identifier or the same address. So none is dropped: once all is settled its contact is
-/// on a path, or the path is full.
+/// A report that may be believed is kept off a path only by that very contact on some path, where the path is full, or where
+/// it has as many contacts of this host as the lookup's limit: without a limit not by another contact with the same
+/// identifier or the same address. So none is dropped: once all is settled its contact is on a path, or the path is full or
+/// crowded by its host.
 pub fn taken_unless_held()
     ensures settled { (s : Setting) (J : List Entry) → Legal s J → TakesUnlessHeld s J }
     ensures none_dropped { (s : Setting) (J : List Entry) → Legal s J → DropsNone s J }
+{}
+
+/// With a limit, no path has more contacts of one host, lost ones among them; so it asks no more of them.
+pub fn few_of_a_host()
+    ensures path { (s : Setting) (J : List Entry) (p : ℕ) (h : Host) → Legal s J → 0 < s.per_address
+        → length (at_host h (path p J)) ≤ s.per_address }
+    ensures asked_on { (s : Setting) (J : List Entry) (p : ℕ) (h : Host) → Legal s J
+        → 0 < s.per_address → length (at_host h (asked_on p J)) ≤ s.per_address }
+{}
+
+/// Without a limit each seed stays on the path that it is dealt to. With one, a path that was dealt a seed keeps one.
+pub fn seeds_stay()
+    ensures unlimited { (paths : ℕ) (cs : List Contact) → seeded 0 paths cs ≡ dealt paths cs }
+    ensures first { (limit paths : ℕ) (cs : List Contact) (p : ℕ) → path p (seeded limit paths cs)
+        ≡ [] → path p (dealt paths cs) ≡ [] }
 {}

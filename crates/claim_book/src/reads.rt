@@ -6,10 +6,11 @@ ghost use Rattle.claim_book.specs.declared.types.Thing.TheVariants.{Responder, T
 ghost use Rattle.claim_book.specs.Journal.{holders, path as path_of_journal, open_any, first_unsettled, first_unasked, may_ask};
 ghost use Rattle.claim_book.specs.RunOut.{RunOut};
 ghost use Rattle.claim_book.specs.Result.{result_of};
+ghost use Rattle.claim_book.specs.Crowded.{IsCrowded};
 ghost use Rattle.claim_book.specs.Calls.{asker, Counted, IsNotYet, IsSound, SettleStep};
 
 use crate::calls::BookReply;
-use crate::claim_map::claim_at;
+use crate::claim_map::{claim_at, is_crowded};
 use crate::path::{first_fresh, first_thing};
 use crate::starting::nearest_lists;
 use crate::state::Book;
@@ -166,6 +167,13 @@ impl Book {
         self.paths[path as usize].count == MAX_PATH_CONTACTS
     }
 
+    /// Whether the path has as many contacts of the contact's host as it may, those that were lost among them.
+    fn is_crowded(&self, path: u8, contact: &Contact) -> bool
+        ensures { IsTrue result ↔ IsCrowded self.now.setting self.now.journal path contact.now }
+    {
+        is_crowded(&self.claims, self.setting.per_address, path, contact)
+    }
+
     /// The first rule that fits a checked report.
     pub(crate) fn judge(&self, path: u8, checked: &Checked) -> BookReply
         ensures { SettleStep self.now.setting self.now.journal path checked.now result }
@@ -193,10 +201,12 @@ impl Book {
             Some(by) => BookReply::Held { path: by },
             None => {
                 if self.is_full(path) {
-                    BookReply::Turned
-                } else {
-                    BookReply::Taken
+                    return BookReply::Turned;
                 }
+                if self.is_crowded(path, &report.contact) {
+                    return BookReply::Turned;
+                }
+                BookReply::Taken
             }
         }
     }

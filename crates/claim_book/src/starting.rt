@@ -10,7 +10,7 @@ ghost use Rattle.claim_book.specs.Legal.{seeded};
 ghost use Rattle.claim_book.specs.Claims.{IsMap};
 ghost use Rattle.claim_book.specs.Index.{IsEmptyPath, IsPaths};
 
-use crate::claim_map::{Claims, enter};
+use crate::claim_map::{Claims, is_crowded, make_place, mark_taken};
 use crate::path::{Path, add_one, new_path};
 use crate::types::{Entry, Setting};
 use kad_base::{Contact, Contacts, List, NoMemory};
@@ -29,7 +29,8 @@ pub(crate) fn new_paths(alloc: Global, count: u8) -> Result<Vec<Path>, NoMemory>
     Ok(paths)
 }
 
-/// Deals the seeds to the paths in turn, in a journal that has room for them.
+/// Deals the seeds to the paths in turn, in a journal that has room for them, and leaves out those whose host crowds their
+/// path.
 pub(crate) fn seed(
     journal: &mut Vec<Entry>,
     claims: &mut Claims,
@@ -46,16 +47,21 @@ pub(crate) fn seed(
     requires room { length seeds.now ≤ vec_capacity journal.old }
     requires none_claimed { IsMap setting.now [] claims.old }
     requires none_kept { IsPaths setting.now [] paths.old.items }
-    ensures items { OnOk result (journal.new.items ≡ seeded setting.now.paths seeds.now) }
+    ensures items { OnOk result (journal.new.items ≡ seeded setting.now.per_address
+        setting.now.paths seeds.now) }
     ensures room { vec_capacity journal.old ≤ vec_capacity journal.new }
     ensures claims { OnOk result (IsMap setting.now
-        (seeded setting.now.paths seeds.now) claims.new) }
+        (seeded setting.now.per_address setting.now.paths seeds.now) claims.new) }
     ensures paths { OnOk result (IsPaths setting.now
-        (seeded setting.now.paths seeds.now) paths.new.items) }
+        (seeded setting.now.per_address setting.now.paths seeds.now) paths.new.items) }
 {
     for (i, contact) in seeds.iter().enumerate() {
         let path = (i % setting.paths as usize) as u8;
-        enter(claims, path, contact)?;
+        if is_crowded(claims, setting.per_address, path, contact) {
+            continue;
+        }
+        make_place(claims, setting.per_address, path, contact)?;
+        mark_taken(claims, setting.per_address, path, contact);
         add_one(&mut paths[path as usize], setting, contact);
         put_seed(
             journal,

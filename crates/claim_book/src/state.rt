@@ -9,12 +9,11 @@ ghost use Rattle.claim_book.specs.declared.types.Entry.TheVariants.{Heard, Lost,
 ghost use Rattle.claim_book.specs.Journal.{unsettled};
 
 use crate::calls::BookReply;
-use crate::claim_map::Claims;
+use crate::claim_map::{Claims, no_claims};
 use crate::path::Path;
 use crate::starting::{new_paths, seed};
 use crate::types::{Cause, Counts, Entry, Journal, Setting, Thing};
 use crate::verdict::Checked;
-use indexmap::IndexMap;
 use kad_base::{Contact, List, NoMemory, Reports};
 use std::alloc::Global;
 use std::hash::RandomState;
@@ -53,7 +52,7 @@ impl Book {
 
     /// A book of a lookup that starts with these contacts, the closest that the routing table has. It takes the memory
     /// for all later calls on them. The seeds are dealt to the paths in turn (S/Kademlia, section 4.4), so there has to
-    /// be a path. Strangers choose the contacts, so the hasher is handed in.
+    /// be a path; of those of one host a path keeps the first `per_address`, and the others are no path's. Strangers choose the contacts, so the hasher is handed in.
     pub fn new(
         alloc: Global,
         setting: Setting,
@@ -65,12 +64,13 @@ impl Book {
         requires in_order { IsStrictlySortedBy (closeness setting.target) seeds.now }
         requires usable { All (IsUsable setting.own) seeds.now }
         ensures setting { IfOk result (λ book. book.setting ≡ setting) }
-        ensures journal { IfOk result (λ book. book.journal ≡ seeded setting.paths seeds.now) }
+        ensures journal { IfOk result (λ book. book.journal ≡ seeded setting.per_address
+            setting.paths seeds.now) }
         ensures legal { IfOk result (λ book. Legal book.setting book.journal) }
     {
         let owed = 2 * seeds.len();
         let mut journal = Vec::with_capacity(alloc, seeds.len() + owed)?;
-        let mut claims = IndexMap::with_hasher(alloc, hasher);
+        let mut claims = no_claims(alloc, hasher);
         let mut paths = new_paths(alloc, setting.paths)?;
         seed(&mut journal, &mut claims, &mut paths, &setting, seeds)?;
         Ok(Book {

@@ -3,7 +3,8 @@ use kad_base::{Contact, Id, List, Policy, Report, Reports};
 
 /// What a lookup is set to. `own` is the node that asks; each of `paths` disjoint paths (S/Kademlia, section 4.4) has at
 /// most `alpha` queries open and ends when its `k` closest contacts have answered (Kademlia, section 2.3). `policy`
-/// says which reports may be believed.
+/// says which reports may be believed. A path has at most `per_address` contacts of one host (`Host`), lost ones among
+/// them; 0 is no limit.
 #[derive(Clone, Copy, Debug, PartialEq, Eq)]
 pub struct Setting {
     pub own: Id,
@@ -12,6 +13,7 @@ pub struct Setting {
     pub paths: u8,
     pub alpha: u8,
     pub policy: Policy,
+    pub per_address: u8,
 }
 
 /// Why a contact that was asked is lost: the query was not sent, no answer came in time, the answer was another
@@ -24,7 +26,7 @@ pub enum Cause {
     Error { code: i64 },
 }
 
-/// How many contacts a lookup asked, how many of them were lost, and how many reports a full path turned away.
+/// How many contacts a lookup asked, how many of them were lost, and how many reports a full or crowded path turned away.
 #[derive(Clone, Copy, Debug, PartialEq, Eq)]
 pub struct Counts {
     pub asked: u32,
@@ -74,7 +76,7 @@ pub enum Entry {
         contact: Contact,
         by: u8,
     },
-    /// The path was full.
+    /// The path was full, or had as many contacts of this host as it may.
     Turned {
         path: u8,
         contact: Contact,

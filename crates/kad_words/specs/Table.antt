@@ -139,6 +139,10 @@ c2_option = choice (codes "c2") (Number 0 32) (OrElse 0) (lookup ∷ peers ∷ g
 abbrev pub family_option : Choice
 family_option = choice (codes "family") IpVersion (OrElse 4) (lookup ∷ peers ∷ get ∷ put ∷ [])
 
+-- how many contacts of one host a path has at most, and 0 for as many as come
+abbrev pub per_address_option : Choice
+per_address_option = choice (codes "per-address") (Number 0 255) (OrElse 0) (lookup ∷ peers ∷ get ∷ put ∷ [])
+
 abbrev pub bind_option : Choice
 bind_option = choice (codes "bind") Address Optional (lookup ∷ peers ∷ get ∷ put ∷ serve ∷ node ∷ refresh ∷ [])
 
@@ -185,7 +189,7 @@ hostile_option = choice (codes "hostile") (Number 0 100) (OrElse 0) (sim ∷ [])
 
 -- all of them
 abbrev pub every_option : List Choice
-every_option = target_option ∷ key_option ∷ value_option ∷ own_option ∷ k_option ∷ paths_option ∷ alpha_option ∷ timeout_option ∷ bits_option ∷ c1_option ∷ c2_option ∷ family_option ∷ bind_option ∷ group_option ∷ announce_option ∷ spread_option ∷ receives_option
+every_option = target_option ∷ key_option ∷ value_option ∷ own_option ∷ k_option ∷ paths_option ∷ alpha_option ∷ timeout_option ∷ bits_option ∷ c1_option ∷ c2_option ∷ family_option ∷ per_address_option ∷ bind_option ∷ group_option ∷ announce_option ∷ spread_option ∷ receives_option
     ∷ node_receives_option ∷ minutes_option ∷ workers_option ∷ table_option ∷ all_option ∷ seed_option ∷ tries_option ∷ nodes_option ∷ hostile_option ∷ []
 
 -- the options of a command
@@ -264,9 +268,10 @@ plain_look goal k paths alpha timeout = record {
   policy = policy.Plain;
   family = Four;
   sealed = false;
+  per_address = 0;
 }
 
--- the options of a lookup with this target, but for its family
+-- the options of a lookup with this target, but for its family and how many contacts of one host a path has
 pub record IsLookAt (goal : Id) (value : Values) (look : LookWords) : Type 0 where
   pub target : look.target ≡ goal
   pub own : MayIdOf own_option value look.own
@@ -278,17 +283,17 @@ pub record IsLookAt (goal : Id) (value : Values) (look : LookWords) : Type 0 whe
   pub policy : PolicyOf value look.policy
   pub sealed : StandsOf group_option value look.sealed
 
--- the same, if the target is the value of `goal`, and the family is that of the words
+-- the same, if the target is the value of `goal`, and the family and how many of one host are those of the words
 abbrev pub IsLook : Entry → Values → LookWords → Type 0
-IsLook goal value look = (IsGiven SpellsId (value goal.name) look.target × FamilyOf family_option value look.family) × IsLookAt look.target value look
+IsLook goal value look = (IsGiven SpellsId (value goal.name) look.target × FamilyOf family_option value look.family × NumberOf per_address_option value look.per_address) × IsLookAt look.target value look
 
 -- the same, if the target is the key of an item, which is the value of an option
 abbrev pub IsLookOf : Entry → Values → List ℕ → LookWords → Type 0
-IsLookOf goal value item look = (IsGiven SpellsBytes (value goal.name) item × FamilyOf family_option value look.family) × IsLookAt (key_of item) value look
+IsLookOf goal value item look = (IsGiven SpellsBytes (value goal.name) item × FamilyOf family_option value look.family × NumberOf per_address_option value look.per_address) × IsLookAt (key_of item) value look
 
--- the same of lookups over IPv4, whose targets the words don't name
+-- the same of lookups over IPv4, whose targets the words don't name, and with as many contacts of one host as come
 abbrev pub AreLooks : Values → LookWords → Type 0
-AreLooks value look = (look.family ≡ Four) × IsLookAt no_target value look
+AreLooks value look = (look.family ≡ Four) × (look.per_address ≡ 0) × IsLookAt no_target value look
 
 -- a part of a command, and the option that gives it: an identifier, a seed, a number, a number that may be left out,
 -- whether it says yes, whether it is given; or a policy, a lookup with the option that names its target, an item and the

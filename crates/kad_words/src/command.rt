@@ -1,6 +1,6 @@
 //! The commands: what each asks for, its word, its options, and how it is made of their values.
 ghost use Rattle.std.specs.Prelude.{◌≡◌, IfOk, MatchOption};
-ghost use Rattle.kad_words.specs.Table.{check, get, lookup, mint, node, peers, put, refresh, serve, sim, table, family_option, kind_word, key_of, links, options_of, plain_look, word_of, IsLook, IsLookAt, Says};
+ghost use Rattle.kad_words.specs.Table.{check, get, lookup, mint, node, peers, put, refresh, serve, sim, table, family_option, kind_word, key_of, links, options_of, per_address_option, plain_look, word_of, IsLook, IsLookAt, Says};
 ghost use Rattle.kad_words.specs.Listed.{entries_of, entry_of};
 ghost use Rattle.kad_words.specs.Taken.{taken_of};
 ghost use Rattle.kad_words.specs.Fitting.{AllFit, Fits, LookFits};
@@ -9,7 +9,7 @@ ghost use Rattle.kad_words.specs.declared.command.CommandKind.{CommandKind};
 use crate::choice::{Choice, Kind, Need};
 use crate::options::{
     ALL, ALPHA, ANNOUNCE, BIND, BITS, C1, C2, FAMILY, GROUP, HOSTILE, K, KEY, MINUTES,
-    NODE_RECEIVES, NODES, OWN, PATHS, RECEIVES, SEED, SPREAD, TARGET, TIMEOUT, TRIES, VALUE,
+    NODE_RECEIVES, NODES, OWN, PATHS, PER_ADDRESS, RECEIVES, SEED, SPREAD, TARGET, TIMEOUT, TRIES, VALUE,
     WITH_TABLE, WORKERS,
 };
 use crate::values::{
@@ -79,7 +79,8 @@ pub enum Command {
 
 /// The options that every lookup has: the target, the node's own identifier if it is named, Kademlia's k, the
 /// disjoint paths, alpha on each, how long to wait for an answer, in milliseconds, Kademlia's b, which contacts pass, the
-/// network it is in, which BEP 32 keeps apart by family, and whether an answer has to carry a group's tag.
+/// network it is in, which BEP 32 keeps apart by family, whether an answer has to carry a group's tag, and how many contacts
+/// of one host a path has at most (0: as many as come; so always in `node` and `sim`).
 #[derive(Clone, Copy, Debug, PartialEq, Eq)]
 pub struct LookWords {
     pub target: Id,
@@ -92,6 +93,7 @@ pub struct LookWords {
     pub policy: Policy,
     pub family: Family,
     pub sealed: bool,
+    pub per_address: u8,
 }
 
 /// The options of `serve`: the node's own identifier where it is named, Kademlia's k and b, which contacts pass, how many
@@ -178,6 +180,7 @@ pub fn plain_look(target: Id, k: u8, paths: u8, alpha: u8, timeout: u32) -> Look
         policy: Policy::Plain,
         family: Family::Four,
         sealed: false,
+        per_address: 0,
     }
 }
 
@@ -192,20 +195,20 @@ pub enum WordsFault {
     NoMemory,
 }
 
-static LOOKUP: [Choice; 12] = [
-    TARGET, OWN, K, PATHS, ALPHA, TIMEOUT, BITS, C1, C2, FAMILY, BIND, GROUP,
+static LOOKUP: [Choice; 13] = [
+    TARGET, OWN, K, PATHS, ALPHA, TIMEOUT, BITS, C1, C2, FAMILY, PER_ADDRESS, BIND, GROUP,
 ];
 
-static PEERS: [Choice; 14] = [
-    KEY, OWN, K, PATHS, ALPHA, TIMEOUT, BITS, C1, C2, FAMILY, BIND, GROUP, ANNOUNCE, SPREAD,
+static PEERS: [Choice; 15] = [
+    KEY, OWN, K, PATHS, ALPHA, TIMEOUT, BITS, C1, C2, FAMILY, PER_ADDRESS, BIND, GROUP, ANNOUNCE, SPREAD,
 ];
 
-static GET: [Choice; 12] = [
-    KEY, OWN, K, PATHS, ALPHA, TIMEOUT, BITS, C1, C2, FAMILY, BIND, GROUP,
+static GET: [Choice; 13] = [
+    KEY, OWN, K, PATHS, ALPHA, TIMEOUT, BITS, C1, C2, FAMILY, PER_ADDRESS, BIND, GROUP,
 ];
 
-static PUT: [Choice; 13] = [
-    VALUE, OWN, K, PATHS, ALPHA, TIMEOUT, BITS, C1, C2, FAMILY, BIND, GROUP, SPREAD,
+static PUT: [Choice; 14] = [
+    VALUE, OWN, K, PATHS, ALPHA, TIMEOUT, BITS, C1, C2, FAMILY, PER_ADDRESS, BIND, GROUP, SPREAD,
 ];
 
 static SERVE: [Choice; 11] = [
@@ -341,17 +344,26 @@ fn look(matches: &ArgMatches, goal: &Choice) -> LookWords
     requires kind { goal.now.kind ≡ Kind.Identifier }
     requires need { goal.now.need ≡ Need.Required }
     requires family { Fits family_option.entry (taken_of matches.now family_option.entry.name) }
+    requires per_address { Fits per_address_option.entry
+        (taken_of matches.now per_address_option.entry.name) }
     requires fits { LookFits (taken_of matches.now) }
     ensures { IsLook (entry_of goal.now) (taken_of matches.now) result }
 {
-    look_at(matches, needed_id(matches, goal), family(matches, &FAMILY))
+    look_at(
+        matches,
+        needed_id(matches, goal),
+        family(matches, &FAMILY),
+        small(matches, &PER_ADDRESS),
+    )
 }
 
-/// The options of a lookup with this target, in the network of this family.
-fn look_at(matches: &ArgMatches, target: Id, family: Family) -> LookWords
+/// The options of a lookup with this target, in the network of this family, with so many contacts of one host on a path at
+/// most.
+fn look_at(matches: &ArgMatches, target: Id, family: Family, per_address: u8) -> LookWords
     requires { LookFits (taken_of matches.now) }
     ensures look { IsLookAt target (taken_of matches.now) result }
     ensures family { result.family ≡ family }
+    ensures per_address { result.per_address ≡ per_address }
 {
     LookWords {
         target,
@@ -364,6 +376,7 @@ fn look_at(matches: &ArgMatches, target: Id, family: Family) -> LookWords
         policy: policy(matches),
         family,
         sealed: stands(matches, &GROUP),
+        per_address,
     }
 }
 
@@ -406,7 +419,12 @@ fn put(alloc: Global, matches: &ArgMatches) -> Result<Command, NoMemory>
 {
     let value = needed_bytes(alloc, matches, &VALUE)?;
     Ok(Command::Put {
-        look: look_at(matches, key_of(value.as_slice()), family(matches, &FAMILY)),
+        look: look_at(
+            matches,
+            key_of(value.as_slice()),
+            family(matches, &FAMILY),
+            small(matches, &PER_ADDRESS),
+        ),
         value,
         spread: says_yes(matches, &SPREAD),
     })
@@ -445,7 +463,7 @@ fn node(matches: &ArgMatches) -> Command
     ensures word { word_of result ≡ node }
 {
     let words = NodeWords {
-        look: look_at(matches, Id([0; 20]), Family::Four),
+        look: look_at(matches, Id([0; 20]), Family::Four, 0),
         receives: number(matches, &NODE_RECEIVES),
         minutes: number(matches, &MINUTES),
         table: says_yes(matches, &WITH_TABLE),

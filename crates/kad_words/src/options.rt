@@ -64,6 +64,9 @@ pub(crate) const FAMILY: Choice = Choice {
     need: Need::OrElse(4),
 };
 
+/// 0 is no limit.
+pub(crate) const PER_ADDRESS: Choice = choice!("per-address", 0, 255, 0);
+
 pub(crate) const BIND: Choice = choice!("bind", Address, Optional);
 
 pub(crate) const GROUP: Choice = choice!("group", Bytes32, Optional);

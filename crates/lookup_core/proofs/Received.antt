@@ -9,9 +9,10 @@ use Rattle.kad_base.specs.Contacts.{same, among}
 use Rattle.query_book.specs.declared.Query.{Query}
 use Rattle.claim_book.specs.declared.types.Cause.TheVariants.{WrongId, Error}
 use Rattle.claim_book.specs.declared.types.Entry.{Entry}
-use Rattle.claim_book.specs.declared.types.Entry.TheVariants.{Heard, Lost}
+use Rattle.claim_book.specs.declared.types.Entry.TheVariants.{Seed, Heard, Lost}
 use Rattle.claim_book.specs.Journal.{ask_of, asked, seed_of, seeds}
-use Rattle.claim_book.specs.Legal.{seeded_from}
+use Rattle.claim_book.specs.Legal.{seeded}
+use Rattle.claim_book.proofs.Seeding.{AreSeeds, seeded_seeds}
 use Rattle.lookup_core.specs.declared.quest.Quest.{Quest}
 use Rattle.lookup_core.specs.Driven.{is_driven, driven}
 use Rattle.lookup_core.specs.Matching.{OpenQuery, query_of, ReplyGives}
@@ -119,10 +120,15 @@ pub seeds_append : (J K : List Entry) → seeds (J ++ K) ≡ seeds J ++ seeds K
 unfolding seeds
 seeds_append J K = flat_map-append seed_of J K
 
-pub seeds_quiet : (paths i : ℕ) (cs : List Contact) → driven (seeded_from paths i cs) ≡ []
+-- a seed is none of the driver's
+pub all_quiet : (J : List Entry) → AreSeeds J → driven J ≡ []
 unfolding driven
-seeds_quiet paths i [] = refl
-seeds_quiet paths i (c ∷ cs) = seeds_quiet paths (i + 1) cs
+all_quiet [] h = refl
+all_quiet (Seed q c ∷ J) h = all_quiet J h.1
+all_quiet (x ∷ J) h = absurd h.0
+
+pub seeds_quiet : (limit paths : ℕ) (cs : List Contact) → driven (seeded limit paths cs) ≡ []
+seeds_quiet limit paths cs = all_quiet (seeded limit paths cs) (seeded_seeds limit paths cs)
 
 pub asks_closed : (qs : List OpenQuery) → asked (map timed_out qs) ≡ []
 unfolding asked

@@ -9,7 +9,8 @@ use Rattle.kad_base.specs.Outside.{Rose}
 use Rattle.claim_book.specs.declared.types.Cause.TheVariants.{SendFault, WrongId, Error}
 use Rattle.claim_book.specs.declared.types.Entry.{Entry}
 use Rattle.claim_book.specs.declared.types.Entry.TheVariants.{Seed, Ask, Heard, Lost, Note, Taken, Held, Turned, Rejected, Skipped}
-use Rattle.claim_book.specs.Legal.{seeded_from}
+use Rattle.claim_book.specs.Legal.{seeded}
+use Rattle.claim_book.proofs.Seeding.{AreSeeds, seeded_seeds}
 use Rattle.claim_book.specs.State.{BookState, added}
 use Rattle.lookup_core.specs.declared.quest.Quest.{Quest}
 use Rattle.lookup_core.specs.Driven.{driven}
@@ -94,14 +95,18 @@ refuses_unsent p q c d old mid new a b asks loses le rose = refuses_then old.jou
 
 -- ---- what begins, and what is overdue
 
-pub unsent_seeded : (paths i : ℕ) (cs : List Contact) → unsent (seeded_from paths i cs) ≡ []
+pub unsent_all : (J : List Entry) → AreSeeds J → unsent J ≡ []
 unfolding unsent
-unsent_seeded paths i [] = refl
-unsent_seeded paths i (c ∷ cs) = unsent_seeded paths (i + 1) cs
+unsent_all [] h = refl
+unsent_all (Seed q c ∷ J) h = unsent_all J h.1
+unsent_all (x ∷ J) h = absurd h.0
+
+pub unsent_seeded : (limit paths : ℕ) (cs : List Contact) → unsent (seeded limit paths cs) ≡ []
+unsent_seeded limit paths cs = unsent_all (seeded limit paths cs) (seeded_seeds limit paths cs)
 
 -- nobody was lost so where a lookup begins
-pub refused_seeded : (paths : ℕ) (cs : List Contact) (sends : ℕ) → RefusedIn (seeded_from paths 0 cs) sends sends
-refused_seeded paths cs sends = subst (λ l. Refused (length l) sends sends) (sym (unsent_seeded paths 0 cs)) (refused_none sends)
+pub refused_seeded : (limit paths : ℕ) (cs : List Contact) (sends : ℕ) → RefusedIn (seeded limit paths cs) sends sends
+refused_seeded limit paths cs sends = subst (λ l. Refused (length l) sends sends) (sym (unsent_seeded limit paths cs)) (refused_none sends)
 
 unsent_closed : (qs : List OpenQuery) → unsent (map timed_out qs) ≡ []
 unfolding unsent

@@ -75,7 +75,7 @@ looked_up scheduling look accepts words words' table opened after book moment fi
     let rises : faults ≤ since = omega (arith, still) in
     let along = along_of scheduling look accepts words table opened book moment first told mid o in
     let ends : IsOver scheduling look accepts words words' first work mid told' → Ends scheduling look accepts words words' table work told told' = λ over. ends_of scheduling look accepts words words' table opened book moment first work told mid told' o over legal in
-    let begun : RefusedIn first.lookup.book.journal sends sends = subst (λ J. RefusedIn J sends sends) (sym (journal_of look words table opened book moment first told mid o)) (refused_seeded look.paths (seeds_in look table) sends) in
+    let begun : RefusedIn first.lookup.book.journal sends sends = subst (λ J. RefusedIn J sends sends) (sym (journal_of look words table opened book moment first told mid o)) (refused_seeded look.per_address look.paths (seeds_in look table) sends) in
     let both = on_ok_both (IsOver scheduling look accepts words words' first work mid told') (Refuses first.lookup.book.journal work.lookup.book.journal sends sends') ended w.over w.refuses in
     record {
       lookup = closed_well work ended r _ w.over done (λ over x d. looks_up scheduling look accepts words words' table work told told' x ((ends over).done x d.done));
@@ -100,8 +100,8 @@ looked_up scheduling look accepts words words' table opened after book moment fi
     }
 
 -- there was no memory to begin
-pub never_looked : {Kept : Type 0} (scheduling : Scheduling) (look : LookSetting) (accepts : Accepts) (words : WordsState) (table after : TableState) (told : Option (List Event)) (faults sends : ℕ) (was : Kept) → All (IsUsable look.own) (contacts_of table) → after ≡ table → LooksUp scheduling look accepts table after words words told told faults faults sends sends was was (Err NoMemory)
-never_looked scheduling look accepts words table after told faults sends was usable same = record {
+pub never_looked : {Kept : Type 0} (scheduling : Scheduling) (look : LookSetting) (accepts : Accepts) (words : WordsState) (table after : TableState) (told : Option (List Event)) (faults sends : ℕ) (was : Kept) → 0 < look.paths → All (IsUsable look.own) (contacts_of table) → after ≡ table → LooksUp scheduling look accepts table after words words told told faults faults sends sends was was (Err NoMemory)
+never_looked scheduling look accepts words table after told faults sends was some usable same = record {
   lookup = tt;
   rounds = tt;
   own_answers = tt;
@@ -109,7 +109,7 @@ never_looked scheduling look accepts words table after told faults sends was usa
   none_gathered = tt;
   peers_in_order = tt;
   table = tt;
-  unfinished = never_began look accepts table words told usable sends;
+  unfinished = never_began look accepts table words told some usable sends;
   table_left = record { run = []; is_run = tt; leaves = same };
   strays = λ e. absurd cc;
   few_strays = tt;

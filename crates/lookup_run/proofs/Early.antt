@@ -11,7 +11,7 @@ use Rattle.kad_base.proofs.Grown.{grows_then}
 use Rattle.id_puzzles.specs.Drawn.{WordsState}
 use Rattle.contact_table.specs.TableState.{TableState}
 use Rattle.claim_book.specs.declared.types.Entry.{Entry}
-use Rattle.claim_book.specs.Legal.{Legal, seeded}
+use Rattle.claim_book.specs.Legal.{Legal}
 use Rattle.claim_book.specs.Journal.{seeds}
 use Rattle.lookup_run.specs.declared.types.LookFault.{LookFault}
 use Rattle.lookup_run.specs.declared.types.LookSetting.{LookSetting}
@@ -35,7 +35,7 @@ tells_of scheduling g J P s (e ∷ es) t Q heard h = (h.0.mid, h.0.gives, tells_
 pub so_far_of : (scheduling : Scheduling) (g : Given) (work : LookupState) (place b a : ℕ) (es : List Event) (h : Shows scheduling g work place b a es) → TellsSoFar g work.lookup.book.journal es h.end
 so_far_of scheduling g work place b a es h =
     subst (λ l. TellsSoFar g work.lookup.book.journal l h.end) (sym h.first)
-    (tells_of scheduling g work.lookup.book.journal (seeded g.setting.paths (seeds work.lookup.book.journal)) (begun h.at) h.rest h.end h.last h.heard h.walk, h.stands.given)
+    (tells_of scheduling g work.lookup.book.journal (seeds work.lookup.book.journal) (begun h.at) h.rest h.end h.last h.heard h.walk, h.stands.given)
 
 pub ran_of : (scheduling : Scheduling) (calls : List Told) (t u v : TableState) → v ≡ u → TableToldBy scheduling calls t u → TableRan t v
 ran_of scheduling calls t u v same h = record { run = h.run; is_run = h.is_run; leaves = same ∙ h.leaves }

@@ -8,7 +8,7 @@ use Rattle.kad_base.proofs.Grown.{grows_then, grows_weaker}
 use Rattle.id_puzzles.specs.Drawn.{WordsState}
 use Rattle.contact_table.specs.TableState.{TableState}
 use Rattle.claim_book.specs.Journal.{seeds}
-use Rattle.claim_book.specs.Legal.{Legal, seeded}
+use Rattle.claim_book.specs.Legal.{Legal}
 use Rattle.lookup_run.specs.declared.types.LookSetting.{LookSetting}
 use Rattle.lookup_run.specs.declared.types.LookupState.{LookupState}
 use Rattle.lookup_run.specs.Tells.{Given, HasFewStrays, NeverEnds, begun}
@@ -32,7 +32,7 @@ never_shown scheduling g work place b a es plain few h =
     let J = work.lookup.book.journal in
     let strays = h.stands.strays in
     subst (NeverEnds g max_strays) (sym h.first)
-    (not_ended g J h.at h.rest h.end max_strays plain (tells_of scheduling g J (seeded g.setting.paths (seeds J)) (begun h.at) h.rest h.end h.last h.heard h.walk) (omega (arith, few, strays)))
+    (not_ended g J h.at h.rest h.end max_strays plain (tells_of scheduling g J (seeds J) (begun h.at) h.rest h.end h.last h.heard h.walk) (omega (arith, few, strays)))
 
 -- the events tell the lookup's own journal with few strays
 pub few_told : (scheduling : Scheduling) (look : LookSetting) (accepts : Accepts) (start : WordsState) (table : TableState) (began : Option (List Event)) (words : WordsState) (work : LookupState) (b a : ℕ) (told : Option (List Event)) → work.progress.strays < max_strays → TraceInvariant scheduling look accepts start table began words work b a told

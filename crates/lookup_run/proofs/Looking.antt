@@ -26,15 +26,16 @@ use Rattle.contact_table.specs.declared.calls.TableReply.TheVariants.{List as Li
 use Rattle.contact_table.specs.TableStep.{TableStep, table_after, contacts_of}
 use Rattle.claim_book.specs.declared.types.Setting.{Setting}
 use Rattle.claim_book.specs.declared.types.Entry.{Entry}
+use Rattle.claim_book.specs.declared.types.Entry.TheVariants.{Seed}
 use Rattle.claim_book.specs.Journal.{seeds, asked, open_any, unsettled}
-use Rattle.claim_book.specs.Legal.{Legal, seeded_from, seeded}
+use Rattle.claim_book.specs.Legal.{Legal, seeded}
 use Rattle.lookup_core.proofs.Received.{seeds_quiet}
 use Rattle.claim_book.specs.RunOut.{RunOut}
 use Rattle.claim_book.specs.Result.{result_of}
 use Rattle.claim_book.specs.State.{BookState}
 use Rattle.claim_book.specs.Calls.{Counted, IsFound}
 use Rattle.claim_book.proofs.Ends.{over_or_ask}
-use Rattle.claim_book.proofs.Seeding.{legal_seeded}
+use Rattle.claim_book.proofs.Seeding.{AreSeeds, seeded_seeds, legal_seeded}
 use Rattle.lookup_core.specs.declared.quest.AskKind.TheVariants.{FindNode}
 use Rattle.lookup_run.specs.declared.types.LookSetting.{LookSetting}
 use Rattle.lookup_run.specs.declared.types.Gathered.{Gathered}
@@ -48,7 +49,7 @@ use Rattle.lookup_run.specs.Tells.{Given, Seen, driven, begun, Tells, HasFewStra
 use Rattle.lookup_run.specs.Rounds.{Scheduling, SettlesIn, AllSettled, NoneAsks, RoundsFrom, Rounds}
 use Rattle.lookup_core.specs.Reply.{Answered}
 use Rattle.lookup_run.specs.Gathered.{HearsFrom, IsEachOnce, GathersOf, Gathers}
-use Rattle.lookup_run.specs.Lookup.{setting_of, given_of, seeds_in, drawn_for, IsWithinLimits, told_of, table_calls, Finished, Unfinished, TableTold, TableToldBy}
+use Rattle.lookup_run.specs.Lookup.{setting_of, given_of, seeds_in, seeds_dealt, drawn_for, IsWithinLimits, told_of, table_calls, Finished, Unfinished, TableTold, TableToldBy}
 use Rattle.lookup_core.specs.LookupSteps.{as_open}
 use Rattle.lookup_run.specs.inner.DriverInvariant.{Keeps, Walk, Keeping, TraceInvariant}
 use Rattle.lookup_run.specs.inner.RoundSteps.{Begins, IsOver, IsDone, IsBookOf, asks_seeds, IsBegun, Ended}
@@ -64,9 +65,13 @@ use Rattle.lookup_core.proofs.Seeds.{seeds_stand, seeds_ask, seeds_settled, seed
 
 -- ---- a journal of seeds alone
 
-seeds_tell : (paths i : ℕ) (cs : List Contact) → flat_map told_of (seeded_from paths i cs) ≡ []
-seeds_tell paths i [] = refl
-seeds_tell paths i (c ∷ cs) = seeds_tell paths (i + 1) cs
+all_tell : (J : List Entry) → AreSeeds J → flat_map told_of J ≡ []
+all_tell [] h = refl
+all_tell (Seed q c ∷ J) h = all_tell J h.1
+all_tell (x ∷ J) h = absurd h.0
+
+seeds_tell : (limit paths : ℕ) (cs : List Contact) → flat_map told_of (seeded limit paths cs) ≡ []
+seeds_tell limit paths cs = all_tell (seeded limit paths cs) (seeded_seeds limit paths cs)
 
 -- ---- the beginning
 
@@ -78,7 +83,7 @@ pub record Opening (look : LookSetting) (words : WordsState) (table table' : Tab
   pub grows : Grows told told' (λ es. es ≡ Now moment ∷ [])
   pub place : words.place < 2 ^ 59
 
-pub journal_of : (look : LookSetting) (words : WordsState) (table table' : TableState) (book : BookState) (moment : ℕ) (work : LookupState) (told told' : Option (List Event)) → Opening look words table table' book moment work told told' → work.lookup.book.journal ≡ seeded look.paths (seeds_in look table)
+pub journal_of : (look : LookSetting) (words : WordsState) (table table' : TableState) (book : BookState) (moment : ℕ) (work : LookupState) (told told' : Option (List Event)) → Opening look words table table' book moment work told told' → work.lookup.book.journal ≡ seeds_dealt look table
 journal_of look words table table' book moment work told told' o = ap (λ (b : BookState). b.journal) o.begun_at.book_is ∙ o.book_of.journal
 
 pub begins_of : (look : LookSetting) (words : WordsState) (table table' : TableState) (book : BookState) (moment : ℕ) (work : LookupState) (told told' : Option (List Event)) → Opening look words table table' book moment work told told' → Begins look words work
@@ -89,7 +94,7 @@ begins_of look words table table' book moment work told told' o =
     record {
       keeps = record {
         setting = ap (λ (x : BookState). x.setting) b.book_is ∙ o.book_of.setting;
-        is_open = ap (map (λ (q : Query). q.contact)) b.none_open ∙ sym (ap open_any journal ∙ seeds_open look.paths (seeds_in look table));
+        is_open = ap (map (λ (q : Query). q.contact)) b.none_open ∙ sym (ap open_any journal ∙ seeds_open look.per_address look.paths (seeds_in look table));
         ids = subst (AllByRecursion (λ (q : Query). q.tx < 2 ^ 32)) (sym b.none_open) tt;
         deadlines = subst (AllByRecursion (λ (q : Query). q.deadline ≤ deadline_of work.progress.moment look.timeout)) (sym b.none_open) tt;
         few_strays = (let z = ap (λ (x : Progress). x.strays) progress in omega (arith, z));
@@ -98,7 +103,7 @@ begins_of look words table table' book moment work told told' o =
       };
       has_words = (let lt = o.place in omega (arith, lt));
       round_over = ap (λ (x : Progress). x.receives) progress;
-      settled = λ p lt. ap (unsettled p) journal ∙ seeds_settled p look.paths (seeds_in look table);
+      settled = λ p lt. ap (unsettled p) journal ∙ seeds_settled p look.per_address look.paths (seeds_in look table);
     }
 
 begun_keeping : (kind : AskKind) (g : Gathered) → g.peers ≡ [] → g.tokens ≡ [] → g.items ≡ [] → Keeping kind [] g
@@ -111,24 +116,24 @@ along_of scheduling look accepts words table table' book moment work told told' 
     let b = o.begun_at in
     let cs = seeds_in look table in
     let journal = journal_of look words table table' book moment work told told' o in
-    let begins : seeds work.lookup.book.journal ≡ cs = ap seeds journal ∙ seeds_stand look.paths 0 cs in
-    let none : length (asked work.lookup.book.journal) ≡ 0 = ap (λ J. length (asked J)) journal ∙ ap length (seeds_ask look.paths 0 cs) in
+    let begins : seeds work.lookup.book.journal ≡ seeds_dealt look table = ap seeds journal ∙ seeds_stand look.per_address look.paths cs in
+    let none : length (asked work.lookup.book.journal) ≡ 0 = ap (λ J. length (asked J)) journal ∙ ap length (seeds_ask look.per_address look.paths cs) in
     let place : words.place ≡ words.place + length (asked work.lookup.book.journal) = omega (arith, none) in
     record {
       drawn = ap (λ n. record { seed = words.seed; place = n }) place;
       seeds_are = begins;
       tabled = subst (λ (t : TableState). TableToldBy scheduling (table_calls look work.lookup.book.journal) table t) (sym b.table_is)
-          (subst (λ calls. TableToldBy scheduling calls table table') (sym (ap (table_calls look) journal ∙ ap (λ l. asks_seeds look ++ l) (seeds_tell look.paths 0 cs))) (told_in_any scheduling (asks_seeds look) table table' o.tabled));
+          (subst (λ calls. TableToldBy scheduling calls table table') (sym (ap (table_calls look) journal ∙ ap (λ l. asks_seeds look ++ l) (seeds_tell look.per_address look.paths cs))) (told_in_any scheduling (asks_seeds look) table table' o.tabled));
       shows = grows_weaker told told' _ _ o.grows (λ es is. record {
         at = moment;
         rest = [];
         first = is;
         end = begun moment;
-        last = seeded look.paths (seeds work.lookup.book.journal);
+        last = seeds work.lookup.book.journal;
         heard = [];
         walk = (refl, refl, refl);
         behind = [];
-        journal = journal ∙ ap (seeded look.paths) (sym begins) ∙ sym (append-nil (seeded look.paths (seeds work.lookup.book.journal)));
+        journal = journal ∙ sym begins ∙ sym (append-nil (seeds work.lookup.book.journal));
         settles = tt;
         below = tt;
         ascends = tt;
@@ -138,7 +143,7 @@ along_of scheduling look accepts words table table' book moment work told told' 
           sends = omega arith;
           strays = sym (ap (λ (x : Progress). x.strays) b.progress);
           receives = sym (ap (λ (x : Progress). x.receives) b.progress);
-          given = sym (ap driven journal ∙ seeds_quiet look.paths 0 cs);
+          given = sym (ap driven journal ∙ seeds_quiet look.per_address look.paths cs);
         };
         keeping = begun_keeping look.kind work.gathered b.no_peers b.no_tokens b.no_items;
       });
@@ -169,20 +174,20 @@ seeds_fit look table usable = record {
   usable = usable_seeds look table usable;
 }
 
-pub never_began : (look : LookSetting) (accepts : Accepts) (table : TableState) (words : WordsState) (told : Option (List Event)) → All (IsUsable look.own) (contacts_of table) → (sends : ℕ) → Unfinished look accepts table words words told told sends sends
-never_began look accepts table words told usable sends =
+pub never_began : (look : LookSetting) (accepts : Accepts) (table : TableState) (words : WordsState) (told : Option (List Event)) → 0 < look.paths → All (IsUsable look.own) (contacts_of table) → (sends : ℕ) → Unfinished look accepts table words words told told sends sends
+never_began look accepts table words told some usable sends =
     let cs = seeds_in look table in
-    let J = seeded look.paths cs in
+    let J = seeded look.per_address look.paths cs in
     let fit = seeds_fit look table usable in
-    let none : length (asked J) ≡ 0 = ap length (seeds_ask look.paths 0 cs) in
+    let none : length (asked J) ≡ 0 = ap length (seeds_ask look.per_address look.paths cs) in
     let place : words.place ≡ words.place + length (asked J) = omega (arith, none) in
     record {
       journal = J;
-      legal = legal_seeded (setting_of look) cs fit.few fit.in_order fit.usable;
-      seeds_are = seeds_stand look.paths 0 cs;
-      tells = grows_none told _ (record { front = []; end = begun 0; so_far = (seeds_quiet look.paths 0 cs, refl); few = omega arith; whole = inl refl });
+      legal = legal_seeded (setting_of look) cs some fit.few fit.in_order fit.usable;
+      seeds_are = seeds_stand look.per_address look.paths cs;
+      tells = grows_none told _ (record { front = []; end = begun 0; so_far = (seeds_quiet look.per_address look.paths cs, refl); few = omega arith; whole = inl refl });
       drawn = ap (λ n. record { seed = words.seed; place = n }) place;
-      refused = refused_seeded look.paths cs sends;
+      refused = refused_seeded look.per_address look.paths cs sends;
     }
 
 -- ---- the end
@@ -263,7 +268,7 @@ goes_by_rounds scheduling look accepts start words' table work began told' o d =
       at = h.at;
       rest = h.rest;
       first = h.first;
-      goes = rounds_of scheduling (given_of look accepts start) J (seeded look.paths (seeds J)) (begun h.at) h.rest h.end h.last h.behind h.heard h.walk h.journal h.settles;
+      goes = rounds_of scheduling (given_of look accepts start) J (seeds J) (begun h.at) h.rest h.end h.last h.behind h.heard h.walk h.journal h.settles;
       settled = d.settled;
       none_asks = d.none_asks;
     }))
@@ -279,7 +284,7 @@ gathered_all scheduling look accepts start words' table work began told' o d onc
       first = h.first;
       heard = h.heard;
       end = h.end;
-      hears = hears_of scheduling (given_of look accepts start) J (seeded look.paths (seeds J)) (begun h.at) h.rest h.end h.last h.heard h.walk;
+      hears = hears_of scheduling (given_of look accepts start) J (seeds J) (begun h.at) h.rest h.end h.last h.heard h.walk;
       tells = h.stands.given;
       gathers = gathers_of look.kind h.heard work.gathered o.peers o.tokens o.items h.keeping once tokens items;
     }))

@@ -6,7 +6,7 @@ use Rattle.kad_base.specs.declared.types.Event.TheVariants.{Now, Sent, Unsent, G
 use Rattle.claim_book.specs.declared.types.Setting.{Setting}
 use Rattle.claim_book.specs.declared.types.Entry.{Entry}
 use Rattle.claim_book.specs.Journal.{seeds}
-use Rattle.claim_book.specs.Legal.{LegalAfter, Legal, seeded}
+use Rattle.claim_book.specs.Legal.{LegalAfter, Legal}
 use Rattle.lookup_run.specs.Tells.{Given, Seen, Gives, begun}
 use Rattle.lookup_run.specs.Rounds.{sequential, AllSettled, SettlesIn, InTurn, WaitsInTurn, RoundsFrom, Rounds}
 use Rattle.lookup_run.proofs.OnceSettled.{settled_once}
@@ -106,5 +106,5 @@ rounds_once g J K events some l m same h k =
     let first : Now h.at ∷ h.rest ≡ Now k.at ∷ k.rest = sym h.first ∙ k.first in
     let at : h.at ≡ k.at = cc in
     let rest : h.rest ≡ k.rest = cc in
-    once_from g J K (seeded g.setting.paths (seeds K)) (begun k.at) k.rest some l m h.settled k.settled tt
-    (subst (λ es. RoundsFrom sequential g J (seeded g.setting.paths (seeds K)) (begun k.at) es) rest (subst (λ n. RoundsFrom sequential g J (seeded g.setting.paths (seeds K)) (begun n) h.rest) at (subst (λ cs. RoundsFrom sequential g J (seeded g.setting.paths cs) (begun h.at) h.rest) same h.goes))) k.goes
+    once_from g J K (seeds K) (begun k.at) k.rest some l m h.settled k.settled tt
+    (subst (λ es. RoundsFrom sequential g J (seeds K) (begun k.at) es) rest (subst (λ n. RoundsFrom sequential g J (seeds K) (begun n) h.rest) at (subst (λ cs. RoundsFrom sequential g J cs (begun h.at) h.rest) same h.goes))) k.goes

@@ -13,7 +13,8 @@ use Rattle.claim_book.specs.declared.types.Cause.TheVariants.{SendFault}
 use Rattle.claim_book.specs.declared.types.Entry.{Entry}
 use Rattle.claim_book.specs.declared.types.Entry.TheVariants.{Ask, Lost}
 use Rattle.claim_book.specs.Journal.{seeds, may_ask}
-use Rattle.claim_book.specs.Legal.{LegalAfter, Legal, seeded}
+use Rattle.claim_book.specs.Legal.{LegalAfter, Legal}
+use Rattle.claim_book.proofs.Seeding.{seeds_are_seeds}
 use Rattle.claim_book.proofs.Claims.{may_ask_on_path}
 use Rattle.claim_book.proofs.Ends.{path_below}
 use Rattle.lookup_core.specs.Matching.{OpenQuery, query_of, IsQuery}
@@ -25,7 +26,7 @@ use Rattle.lookup_run.specs.Rounds.{sequential, AllSettled, NoneAsks, AsksInTurn
 use Rattle.lookup_run.proofs.OnceEvents.{Apart, apart_gives, free_once, Asks, asks_of, asks_once}
 use Rattle.lookup_run.proofs.Once.{LegalStep, legal_step, legal_split, between_once, between_steps, past}
 use Rattle.lookup_run.proofs.OnceGiven.{last_seen, rounds_tell, rounds_give, told_once}
-use Rattle.lookup_core.proofs.Received.{seeds_quiet}
+use Rattle.lookup_core.proofs.Received.{all_quiet}
 use Rattle.std.proofs.lemmas.List.{append_cancel_left}
 
 -- ---- a send
@@ -123,14 +124,14 @@ calls_from g J K P s (x ∷ before) e f es fs some l m apart h k =
     calls_from g J K ((P ++ k.0.between) ++ k.0.gave) k.0.mid before e f es fs some l m (apart_gives g K s k.0.mid x apart k.0.gives) (past g J K P s x (before ++ e ∷ es) (before ++ f ∷ fs) some l m apart h k) k.1
 
 -- the walk behind the first event, from another journal's seeds and another's moment
-goes_with : (g : Given) (J : List Entry) (cs : List Contact) (at : ℕ) (rest : List Event) (h : Rounds sequential g J (Now at ∷ rest)) → seeds J ≡ cs → RoundsFrom sequential g J (seeded g.setting.paths cs) (begun at) rest
+goes_with : (g : Given) (J : List Entry) (cs : List Entry) (at : ℕ) (rest : List Event) (h : Rounds sequential g J (Now at ∷ rest)) → seeds J ≡ cs → RoundsFrom sequential g J cs (begun at) rest
 goes_with g J cs at rest h same =
     let first : Now at ∷ rest ≡ Now h.at ∷ h.rest = h.first in
     let one : h.at ≡ at = cc in
     let more : h.rest ≡ rest = cc in
-    subst (λ es. RoundsFrom sequential g J (seeded g.setting.paths cs) (begun at) es) more
-    (subst (λ n. RoundsFrom sequential g J (seeded g.setting.paths cs) (begun n) h.rest) one
-    (subst (λ l. RoundsFrom sequential g J (seeded g.setting.paths l) (begun h.at) h.rest) same h.goes))
+    subst (λ es. RoundsFrom sequential g J cs (begun at) es) more
+    (subst (λ n. RoundsFrom sequential g J cs (begun n) h.rest) one
+    (subst (λ l. RoundsFrom sequential g J l (begun h.at) h.rest) same h.goes))
 
 -- the first event tells the moment
 begins_with : (g : Given) (J : List Entry) (e : Event) (es : List Event) → Rounds sequential g J (e ∷ es) → (at : ℕ) × (e ≡ Now at)
@@ -143,7 +144,7 @@ next_call g J K [] rest others e f some l m same h k =
     ap call_of one.1 ∙ sym (ap call_of two.1)
 next_call g J K (x ∷ before) rest others e f some l m same h k =
     let one = begins_with g J x (before ++ e ∷ rest) h in
-    calls_from g J K (seeded g.setting.paths (seeds K)) (begun one.0) before e f rest others some l m tt
+    calls_from g J K (seeds K) (begun one.0) before e f rest others some l m tt
     (goes_with g J (seeds K) one.0 (before ++ e ∷ rest) (subst (λ y. Rounds sequential g J (y ∷ (before ++ e ∷ rest))) one.1 h) same)
     (goes_with g K (seeds K) one.0 (before ++ f ∷ others) (subst (λ y. Rounds sequential g K (y ∷ (before ++ f ∷ others))) one.1 k) refl)
 
@@ -191,10 +192,10 @@ last_call g J K [] rest f some l m same tells k h = (let first : [] ≡ Now k.at
 last_call g J K (x ∷ es) rest f some l m same tells k h =
     let one = begins_with g K x es k in
     let told = subst (λ y. TellsSoFar g K (y ∷ es) tells.end) one.1 tells.so_far in
-    let P = seeded g.setting.paths (seeds K) in
+    let P = seeds K in
     let goes = goes_with g K (seeds K) one.0 es (subst (λ y. Rounds sequential g K (y ∷ es)) one.1 k) refl in
     let last = last_seen sequential g K P (begun one.0) es goes in
-    let given : last.given ≡ tells.end.given = rounds_give sequential g K P (begun one.0) es goes (sym (seeds_quiet g.setting.paths 0 (seeds K))) ∙ sym told.1 in
+    let given : last.given ≡ tells.end.given = rounds_give sequential g K P (begun one.0) es goes (sym (all_quiet (seeds K) (seeds_are_seeds K))) ∙ sym told.1 in
     let is : last ≡ tells.end = told_once g K K (begun one.0) last tells.end es tt (rounds_tell sequential g K P (begun one.0) es goes) told.0 given in
     ends_from g J K P (begun one.0) es f rest some l m k.settled k.none_asks tt
     (goes_with g J (seeds K) one.0 (es ++ f ∷ rest) (subst (λ y. Rounds sequential g J (y ∷ (es ++ f ∷ rest))) one.1 h) same) goes

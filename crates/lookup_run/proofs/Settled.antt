@@ -22,7 +22,7 @@ use Rattle.contact_table.specs.TableStep.{TableMay, TableStep, table_after}
 use Rattle.claim_book.specs.declared.types.Entry.{Entry}
 use Rattle.claim_book.specs.declared.types.Entry.TheVariants.{Seed, Ask, Heard, Lost, Note, Taken, Held, Turned, Rejected, Skipped}
 use Rattle.claim_book.specs.Journal.{seeds, asked, open_any, unsettled, settles_on}
-use Rattle.claim_book.specs.Legal.{Legal, seeded}
+use Rattle.claim_book.specs.Legal.{Legal}
 use Rattle.path_worker.specs.Settling.{role_of, seen_with, Settling}
 use Rattle.lookup_run.specs.declared.types.LookSetting.{LookSetting}
 use Rattle.lookup_run.specs.declared.types.LookupState.{LookupState}
@@ -126,8 +126,8 @@ shows_settled scheduling g old new more place b b' a es over is_open m h =
     let J' = new.lookup.book.journal in
     let st = h.stands in
     let mute = m.continues.mute in
-    let longer : Walk scheduling g J' (seeded g.setting.paths (seeds J)) (begun h.at) h.rest h.end h.last h.heard =
-    subst (λ K. Walk scheduling g K (seeded g.setting.paths (seeds J)) (begun h.at) h.rest h.end h.last h.heard) (sym m.journal) (walk_longer scheduling g J more (seeded g.setting.paths (seeds J)) (begun h.at) h.rest h.end h.last h.heard h.walk) in
+    let longer : Walk scheduling g J' (seeds J) (begun h.at) h.rest h.end h.last h.heard =
+    subst (λ K. Walk scheduling g K (seeds J) (begun h.at) h.rest h.end h.last h.heard) (sym m.journal) (walk_longer scheduling g J more (seeds J) (begun h.at) h.rest h.end h.last h.heard h.walk) in
     let paths : map (as_open J') new.lookup.queries ≡ map (as_open J) old.lookup.queries =
     ap (map (as_open J')) m.queries ∙ ap (λ K. map (as_open K) old.lookup.queries) m.journal ∙ opens_kept J more old.lookup.queries (each_asked J old.lookup.queries is_open) in
     record {
@@ -137,7 +137,7 @@ shows_settled scheduling g old new more place b b' a es over is_open m h =
       end = h.end;
       last = h.last;
       heard = h.heard;
-      walk = subst (λ cs. Walk scheduling g J' (seeded g.setting.paths cs) (begun h.at) h.rest h.end h.last h.heard) (sym (seeds_same J more J' m.journal (no_seeds more mute))) longer;
+      walk = subst (λ cs. Walk scheduling g J' cs (begun h.at) h.rest h.end h.last h.heard) (sym (seeds_same J more J' m.journal (no_seeds more mute))) longer;
       behind = h.behind ++ more;
       journal = m.journal ∙ ap (λ l. l ++ more) h.journal ∙ append_assoc h.last h.behind more;
       settles = settles_in scheduling h.end.receives b b' h.behind more (st.receives ∙ over) m.continues h.settles h.below;

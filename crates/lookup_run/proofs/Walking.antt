@@ -21,7 +21,6 @@ use Rattle.contact_table.specs.TableState.{TableState}
 use Rattle.contact_table.specs.TableStep.{TableMay, TableStep, table_after}
 use Rattle.claim_book.specs.declared.types.Entry.{Entry}
 use Rattle.claim_book.specs.Journal.{seeds}
-use Rattle.claim_book.specs.Legal.{seeded}
 use Rattle.lookup_core.proofs.Lists.{all_weaker}
 use Rattle.lookup_run.specs.declared.types.LookSetting.{LookSetting}
 use Rattle.lookup_run.specs.declared.types.Gathered.{Gathered}
@@ -147,10 +146,10 @@ shows_next scheduling g old new more place place' b b' a a' e es fs journal no_s
     let J = old.lookup.book.journal in
     let J' = new.lookup.book.journal in
     let on = next h.end h.stands h.ascends in
-    let longer : Walk scheduling g J' (seeded g.setting.paths (seeds J)) (begun h.at) h.rest h.end h.last h.heard =
-    subst (λ K. Walk scheduling g K (seeded g.setting.paths (seeds J)) (begun h.at) h.rest h.end h.last h.heard) (sym journal) (walk_longer scheduling g J more (seeded g.setting.paths (seeds J)) (begun h.at) h.rest h.end h.last h.heard h.walk) in
-    let begins : Walk scheduling g J' (seeded g.setting.paths (seeds J')) (begun h.at) h.rest h.end h.last h.heard =
-    subst (λ cs. Walk scheduling g J' (seeded g.setting.paths cs) (begun h.at) h.rest h.end h.last h.heard) (sym (seeds_same J more J' journal no_seeds)) longer in
+    let longer : Walk scheduling g J' (seeds J) (begun h.at) h.rest h.end h.last h.heard =
+    subst (λ K. Walk scheduling g K (seeds J) (begun h.at) h.rest h.end h.last h.heard) (sym journal) (walk_longer scheduling g J more (seeds J) (begun h.at) h.rest h.end h.last h.heard h.walk) in
+    let begins : Walk scheduling g J' (seeds J') (begun h.at) h.rest h.end h.last h.heard =
+    subst (λ cs. Walk scheduling g J' cs (begun h.at) h.rest h.end h.last h.heard) (sym (seeds_same J more J' journal no_seeds)) longer in
     let step : Step scheduling g J' h.last h.end e = record {
       mid = on.after;
       between = h.behind;
@@ -169,7 +168,7 @@ shows_next scheduling g old new more place place' b b' a a' e es fs journal no_s
       end = on.after;
       last = (h.last ++ h.behind) ++ more;
       heard = h.heard ++ on.found;
-      walk = walk_on scheduling g J' (seeded g.setting.paths (seeds J')) (begun h.at) h.rest h.end h.last h.heard e begins step;
+      walk = walk_on scheduling g J' (seeds J') (begun h.at) h.rest h.end h.last h.heard e begins step;
       behind = [];
       journal = journal ∙ ap (λ l. l ++ more) h.journal ∙ sym (append-nil ((h.last ++ h.behind) ++ more));
       settles = settles_none scheduling on.after.receives;

@@ -24,7 +24,7 @@ use Rattle.claim_book.specs.declared.types.Cause.TheVariants.{Timeout}
 use Rattle.claim_book.specs.declared.types.Entry.{Entry}
 use Rattle.claim_book.specs.declared.types.Entry.TheVariants.{Lost, Note}
 use Rattle.claim_book.specs.Journal.{seeds, asked}
-use Rattle.claim_book.specs.Legal.{Legal}
+use Rattle.claim_book.specs.Legal.{Legal, seeded}
 use Rattle.claim_book.specs.RunOut.{RunOut}
 use Rattle.claim_book.specs.Result.{result_of}
 use Rattle.claim_book.specs.Calls.{Counted}
@@ -43,7 +43,7 @@ use Rattle.lookup_core.specs.Sealed.{Accepts}
 
 -- what the book is set to
 abbrev pub setting_of : LookSetting → Setting
-setting_of look = record { own = look.own; target = look.target; k = look.k; paths = look.paths; alpha = look.alpha; policy = look.policy }
+setting_of look = record { own = look.own; target = look.target; k = look.k; paths = look.paths; alpha = look.alpha; policy = look.policy; per_address = look.per_address }
 
 -- what it asks, and what it believes
 abbrev pub quest_of : LookSetting → Quest
@@ -65,6 +65,10 @@ given_of look accepts words = record { setting = setting_of look; quest = quest_
 abbrev pub seeds_in : LookSetting → TableState → List Contact
 seeds_in look table = k_closest look.target look.k (contacts_of table)
 
+-- and how it begins: with these, dealt to its paths
+abbrev pub seeds_dealt : LookSetting → TableState → List Entry
+seeds_dealt look table = seeded look.per_address look.paths (seeds_in look table)
+
 -- a word for each contact that was asked
 abbrev pub drawn_for : WordsState → List Entry → WordsState
 drawn_for words J = record { seed = words.seed; place = words.place + length (asked J) }
@@ -74,7 +78,7 @@ drawn_for words J = record { seed = words.seed; place = words.place + length (as
 -- contact; and the peers, tokens and items are those of the answers that were heard.
 pub record Finished (look : LookSetting) (accepts : Accepts) (table : TableState) (words words' : WordsState) (told told' : Option (List Event)) (outcome : Outcome) : Type 0 where
   pub legal : Legal (setting_of look) outcome.journal
-  pub seeds_are : seeds outcome.journal ≡ seeds_in look table
+  pub seeds_are : seeds outcome.journal ≡ seeds_dealt look table
   pub tells : Grows told told' (λ events. Tells (given_of look accepts words) outcome.journal events)
   pub run_out : (p : ℕ) → p < look.paths → RunOut (setting_of look) p outcome.journal
   pub found : outcome.found ≡ result_of (setting_of look) outcome.journal
@@ -94,7 +98,7 @@ pub record TellsEarly (g : Given) (J : List Entry) (events : List Event) : Type 
 pub record Unfinished (look : LookSetting) (accepts : Accepts) (table : TableState) (words words' : WordsState) (told told' : Option (List Event)) (sends sends' : ℕ) : Type 0 where
   pub journal : List Entry
   pub legal : Legal (setting_of look) journal
-  pub seeds_are : seeds journal ≡ seeds_in look table
+  pub seeds_are : seeds journal ≡ seeds_dealt look table
   pub tells : Grows told told' (λ events. TellsEarly (given_of look accepts words) journal events)
   pub drawn : words' ≡ drawn_for words journal
   pub refused : RefusedIn journal sends sends'
@@ -104,14 +108,14 @@ pub record Unfinished (look : LookSetting) (accepts : Accepts) (table : TableSta
 pub record EndsByStrays (look : LookSetting) (accepts : Accepts) (table : TableState) (words : WordsState) (told told' : Option (List Event)) : Type 0 where
   pub journal : List Entry
   pub legal : Legal (setting_of look) journal
-  pub seeds_are : seeds journal ≡ seeds_in look table
+  pub seeds_are : seeds journal ≡ seeds_dealt look table
   pub tells : Grows told told' (λ events. EndsAtStray (given_of look accepts words) journal events max_strays)
 
 -- A lookup that ended early and has met fewer: there is such a journal that the events tell, and by which there are fewer.
 pub record MeetsFewStrays (look : LookSetting) (accepts : Accepts) (table : TableState) (words : WordsState) (told told' : Option (List Event)) : Type 0 where
   pub journal : List Entry
   pub legal : Legal (setting_of look) journal
-  pub seeds_are : seeds journal ≡ seeds_in look table
+  pub seeds_are : seeds journal ≡ seeds_dealt look table
   pub tells : Grows told told' (λ events. HasFewStrays (given_of look accepts words) journal events max_strays)
 
 -- ---- the table

@@ -9,7 +9,6 @@ use Rattle.claim_book.specs.declared.types.Setting.{Setting}
 use Rattle.claim_book.specs.declared.types.Entry.{Entry}
 use Rattle.claim_book.specs.declared.types.Entry.TheVariants.{Seed, Ask, Heard, Lost, Note, Taken, Held, Turned, Rejected, Skipped}
 use Rattle.claim_book.specs.Journal.{seeds, settles_on, unsettled, may_ask}
-use Rattle.claim_book.specs.Legal.{seeded}
 use Rattle.lookup_run.specs.Tells.{Given, Seen, Gives, begun}
 
 -- the path of an entry
@@ -116,6 +115,6 @@ pub record Rounds (scheduling : Scheduling) (g : Given) (J : List Entry) (events
   pub at : ℕ
   pub rest : List Event
   pub first : events ≡ Now at ∷ rest
-  pub goes : RoundsFrom scheduling g J (seeded g.setting.paths (seeds J)) (begun at) rest
+  pub goes : RoundsFrom scheduling g J (seeds J) (begun at) rest
   pub settled : AllSettled g.setting.paths J
   pub none_asks : NoneAsks g.setting g.setting.paths J

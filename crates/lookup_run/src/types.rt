@@ -12,7 +12,8 @@ use thiserror::Error;
 /// most `alpha` queries open and ends when its `k` closest contacts have answered (Kademlia, section 2.3). `policy` says
 /// which reports may be believed, `timeout` how long to wait for an answer, in milliseconds, and `sealed` whether a reply
 /// has to carry a tag that the seal accepts. `family` is the network, of which there are two apart (BEP 32): in that of
-/// IPv6 queries ask for contacts of IPv6, and of answers the parts with these are read.
+/// IPv6 queries ask for contacts of IPv6, and of answers the parts with these are read. A path has at most `per_address`
+/// contacts of one host (`claim_book::Host`), lost ones among them; 0 is no limit.
 #[derive(Clone, Copy, Debug, PartialEq, Eq)]
 pub struct LookSetting {
     pub own: Id,
@@ -25,6 +26,7 @@ pub struct LookSetting {
     pub kind: AskKind,
     pub family: Family,
     pub sealed: bool,
+    pub per_address: u8,
 }
 
 impl LookSetting {
@@ -39,6 +41,7 @@ impl LookSetting {
             paths: self.paths,
             alpha: self.alpha,
             policy: self.policy,
+            per_address: self.per_address,
         }
     }
 

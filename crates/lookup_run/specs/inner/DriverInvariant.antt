@@ -10,7 +10,6 @@ use Rattle.query_book.specs.declared.Query.{Query}
 use Rattle.contact_table.specs.TableState.{TableState}
 use Rattle.claim_book.specs.declared.types.Entry.{Entry}
 use Rattle.claim_book.specs.Journal.{seeds, asked, open_any}
-use Rattle.claim_book.specs.Legal.{seeded}
 use Rattle.lookup_run.specs.declared.types.LookSetting.{LookSetting}
 use Rattle.lookup_run.specs.declared.types.Gathered.{Gathered}
 use Rattle.lookup_run.specs.declared.types.LookupState.{LookupState}
@@ -19,7 +18,7 @@ use Rattle.lookup_run.specs.Tells.{Given, Seen, driven, Gives, begun}
 use Rattle.lookup_run.specs.Rounds.{Scheduling, path_number, SettlesIn, InTurn}
 use Rattle.lookup_core.specs.Reply.{Answered}
 use Rattle.lookup_run.specs.Gathered.{Hears, values_of, token_of, item_of}
-use Rattle.lookup_run.specs.Lookup.{setting_of, given_of, seeds_in, drawn_for, table_calls, TableToldBy}
+use Rattle.lookup_run.specs.Lookup.{setting_of, given_of, seeds_dealt, drawn_for, table_calls, TableToldBy}
 use Rattle.lookup_core.specs.LookupSteps.{as_open}
 use Rattle.lookup_core.specs.declared.quest.AskKind.{AskKind}
 use Rattle.lookup_core.specs.declared.quest.AskKind.TheVariants.{FindNode, GetPeers, GetItem}
@@ -100,7 +99,7 @@ pub record Shows (scheduling : Scheduling) (g : Given) (work : LookupState) (pla
   pub end : Seen
   pub last : List Entry
   pub heard : List Answered
-  pub walk : Walk scheduling g work.lookup.book.journal (seeded g.setting.paths (seeds work.lookup.book.journal)) (begun at) rest end last heard
+  pub walk : Walk scheduling g work.lookup.book.journal (seeds work.lookup.book.journal) (begun at) rest end last heard
   pub behind : List Entry
   pub journal : work.lookup.book.journal ≡ last ++ behind
   pub settles : SettlesIn scheduling end.receives behind
@@ -112,7 +111,7 @@ pub record Shows (scheduling : Scheduling) (g : Given) (work : LookupState) (pla
 -- since the lookup began, with these words and this table
 pub record TraceInvariant (scheduling : Scheduling) (look : LookSetting) (accepts : Accepts) (start : WordsState) (table : TableState) (began : Option (List Event)) (words : WordsState) (work : LookupState) (b a : ℕ) (told : Option (List Event)) : Type 0 where
   pub drawn : words ≡ drawn_for start work.lookup.book.journal
-  pub seeds_are : seeds work.lookup.book.journal ≡ seeds_in look table
+  pub seeds_are : seeds work.lookup.book.journal ≡ seeds_dealt look table
   pub tabled : TableToldBy scheduling (table_calls look work.lookup.book.journal) table work.table
   pub shows : Grows began told (λ events. Shows scheduling (given_of look accepts start) work words.place b a events)
 

@@ -11,7 +11,7 @@ use Rattle.contact_table.specs.declared.calls.TableCall.TheVariants.{Closest}
 use Rattle.contact_table.specs.TableState.{TableState}
 use Rattle.claim_book.specs.declared.types.Entry.{Entry}
 use Rattle.claim_book.specs.Journal.{asked, may_ask}
-use Rattle.claim_book.specs.Legal.{Legal, seeded}
+use Rattle.claim_book.specs.Legal.{Legal}
 use Rattle.claim_book.specs.RunOut.{RunOut}
 use Rattle.claim_book.specs.Result.{result_of}
 use Rattle.claim_book.specs.Calls.{Counted}
@@ -31,7 +31,7 @@ use Rattle.lookup_run.specs.Rounds.{Scheduling, AllSettled, NoneAsks, WaitsInTur
 use Rattle.lookup_core.specs.Reply.{Answered}
 use Rattle.lookup_run.specs.Gathered.{values_of, token_of, item_of, IsEachOnce}
 use Rattle.lookup_core.specs.SendFaults.{unsent, RefusedIn}
-use Rattle.lookup_run.specs.Lookup.{IsWithinLimits, setting_of, given_of, seeds_in, told_of, Unfinished, EndsByStrays, MeetsFewStrays, TableRan, TableTold, Told, quest_of}
+use Rattle.lookup_run.specs.Lookup.{IsWithinLimits, setting_of, given_of, seeds_dealt, told_of, Unfinished, EndsByStrays, MeetsFewStrays, TableRan, TableTold, Told, quest_of}
 use Rattle.lookup_core.specs.LookupSteps.{as_open, LosesOverdue, IsMatch, RepliesToNone}
 use Rattle.lookup_run.specs.inner.DriverInvariant.{Keeps, HasWords, weight_of, TraceInvariant, PreservesBy, Preserves}
 use Rattle.lookup_core.specs.declared.quest.AskKind.{AskKind}
@@ -258,7 +258,7 @@ pub record IsClosed (work : LookupState) (ended : Result (Unit {0}) LookFault) (
 -- a book that begins with the closest contacts of the table
 pub record IsBookOf (look : LookSetting) (table : TableState) (book : BookState) : Type 0 where
   pub setting : book.setting ≡ setting_of look
-  pub journal : book.journal ≡ seeded look.paths (seeds_in look table)
+  pub journal : book.journal ≡ seeds_dealt look table
   pub legal : Legal book.setting book.journal
 
 -- the call for the seeds

@@ -7,7 +7,7 @@ use Rattle.lookup_run.proofs.Looking.{opening_of, begins_of, all_over}
 use Rattle.lookup_run.proofs.driver.look_by.Goals as goal
 
 pub returns-in-Err-clause-looks : goal.returns-in-Err-clause-looks
-returns-in-Err-clause-looks g c = never_looked g.O.Schedule.scheduling c.args.setting.now (g.G.SealCheck.accepted c.args.seal.now) c.args.words.now c.args.table _ _ _ _ _ c.requires.usable c.in-Err.ensures.err
+returns-in-Err-clause-looks g c = never_looked g.O.Schedule.scheduling c.args.setting.now (g.G.SealCheck.accepted c.args.seal.now) c.args.words.now c.args.table _ _ _ _ _ c.requires.limits.some_path c.requires.usable c.in-Err.ensures.err
 
 pub go_rounds-work-requires-clause-begins : goal.go_rounds-work-requires-clause-begins
 go_rounds-work-requires-clause-begins g c =

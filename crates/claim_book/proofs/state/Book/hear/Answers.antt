@@ -25,14 +25,14 @@ pub invariant_of-self : goal.invariant_of-self
 invariant_of-self c =
     let e = c.make_room.ensures in
     let fits = subst (λ (b : BookState). among (open_on c.args.path b.journal) c.args.contact ≡ true) (sym c.self.view_is) c.requires.asks in
-    let w = wider_open _ _ c.make_room.new.journal.items c.args.path _ _ _ (vec_capacity c.make_room.new.journal) _ c.make_room.new.claims _ c.index_mut.result.now c.make_room.new.path _ c.self.invariant fits e.journal e.room e.shown e.kept c.index_mut.ensures.value e.near e.fresh e.count e.opens e.queue in
+    let w = wider_open _ _ c.make_room.new.journal.items c.args.path _ _ _ (vec_capacity c.make_room.new.journal) _ c.make_room.new.claims _ c.index_mut.result.now c.make_room.new.path _ c.self.invariant fits e.journal e.room e.kept c.index_mut.ensures.value e.near e.fresh e.count e.opens e.queue in
     w.0
 
 pub mark_ended-requires : goal.mark_ended-requires
 mark_ended-requires c =
     let e = c.make_room.ensures in
     let fits = subst (λ (b : BookState). among (open_on c.args.path b.journal) c.args.contact ≡ true) (sym c.self.view_is) c.requires.asks in
-    let w = wider_open _ _ c.make_room.new.journal.items c.args.path _ _ _ (vec_capacity c.make_room.new.journal) _ c.make_room.new.claims _ c.index_mut.result.now c.make_room.new.path _ c.self.invariant fits e.journal e.room e.shown e.kept c.index_mut.ensures.value e.near e.fresh e.count e.opens e.queue in
+    let w = wider_open _ _ c.make_room.new.journal.items c.args.path _ _ _ (vec_capacity c.make_room.new.journal) _ c.make_room.new.claims _ c.index_mut.result.now c.make_room.new.path _ c.self.invariant fits e.journal e.room e.kept c.index_mut.ensures.value e.near e.fresh e.count e.opens e.queue in
     record { known = knows_open c.self.inside.setting c.args.path c.make_room.new.journal.items c.make_room.new.claims c.args.contact w.0.book.legal w.0.map w.1 }
 
 pub index_mut-requires-2 : goal.index_mut-requires-2
@@ -46,7 +46,7 @@ pub hear_one-requires-clause-some : goal.hear_one-requires-clause-some
 hear_one-requires-clause-some c =
     let e = c.make_room.ensures in
     let fits = subst (λ (b : BookState). among (open_on c.args.path b.journal) c.args.contact ≡ true) (sym c.self.view_is) c.requires.asks in
-    let w = wider_open _ _ c.make_room.new.journal.items c.args.path _ _ _ (vec_capacity c.make_room.new.journal) _ c.make_room.new.claims _ c.index_mut.result.now c.make_room.new.path _ c.self.invariant fits e.journal e.room e.shown e.kept c.index_mut.ensures.value e.near e.fresh e.count e.opens e.queue in
+    let w = wider_open _ _ c.make_room.new.journal.items c.args.path _ _ _ (vec_capacity c.make_room.new.journal) _ c.make_room.new.claims _ c.index_mut.result.now c.make_room.new.path _ c.self.invariant fits e.journal e.room e.kept c.index_mut.ensures.value e.near e.fresh e.count e.opens e.queue in
     let lt = open_within _ _ _ _ _ _ _ c.args.path c.args.contact c.self.invariant fits in
     let n = length-set c.self.inside.paths.items c.args.path c.make_room.new.path in
     let x = path_at _ c.make_room.new.journal.items _ c.args.path c.index_mut-2.result.now w.0.paths (omega arith) c.index_mut-2.ensures.value in
@@ -66,9 +66,9 @@ pub invariant_of-self-2 : goal.invariant_of-self-2
 invariant_of-self-2 c =
     let e = c.make_room.ensures in
     let fits = subst (λ (b : BookState). among (open_on c.args.path b.journal) c.args.contact ≡ true) (sym c.self.view_is) c.requires.asks in
-    let w = wider_open _ _ c.make_room.new.journal.items c.args.path _ _ _ (vec_capacity c.make_room.new.journal) _ c.make_room.new.claims _ c.index_mut.result.now c.make_room.new.path _ c.self.invariant fits e.journal e.room e.shown e.kept c.index_mut.ensures.value e.near e.fresh e.count e.opens e.queue in
+    let w = wider_open _ _ c.make_room.new.journal.items c.args.path _ _ _ (vec_capacity c.make_room.new.journal) _ c.make_room.new.claims _ c.index_mut.result.now c.make_room.new.path _ c.self.invariant fits e.journal e.room e.kept c.index_mut.ensures.value e.near e.fresh e.count e.opens e.queue in
     let h = c.hear_one.ensures in
     let more : c.put.new.owed + 1 ≡ c.self.inside.owed + (3 * length c.args.reports + 1) = omega (arith, c.put.ensures.owed, c.len.ensures) in
-    let knows = subst (All (λ r. IsKnown c.self.inside.setting.own c.make_room.new.claims (Told r))) c.as_slice.ensures c.in_ok-make_room.ensures.known in
+    let knows = subst (All (λ r. IsKnown c.self.inside.setting c.args.path c.make_room.new.claims (Told r))) c.as_slice.ensures c.in_ok-make_room.ensures.known in
     let gives = h.queue ∙ ap (λ l. c.index_mut-2.result.now.queue.items ++ things_in c.args.contact l) c.as_slice-2.ensures in
     whole_heard _ c.make_room.new.journal.items _ c.args.path c.args.contact c.args.reports _ _ _ _ _ _ _ _ _ _ w.0 (w.1, c.requires.few) c.put.ensures.items more c.put.ensures.room knows c.mark_ended.ensures.each c.index_mut-2.ensures.value h.near h.fresh h.count h.opens gives
