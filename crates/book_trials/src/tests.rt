@@ -2,6 +2,7 @@ ghost use Rattle.std.specs.Prelude.{◌≢◌, ◌<◌, ℕ, IfOk};
 ghost use Rattle.claim_book.specs.Calls.{BookMay};
 
 mod compare;
+mod hosts;
 mod large;
 mod merging;
 mod plain_book;
@@ -217,6 +218,7 @@ fn seeded(rt: &impl Abort, alloc: Global, hasher: RandomState, paths: u8) -> Res
         paths,
         alpha: 1,
         policy: Policy::Plain,
+        per_address: 0,
     };
     let first = contact(1);
     let second = contact(2);

@@ -104,15 +104,15 @@ seed_first limit p q P es c none_ is out =
 first_stays : (limit p : ℕ) (P es : List Entry) → AreSeeds es → path p P ≡ [] → path p (staying limit P es) ≡ [] → path p es ≡ []
 unfolding path
 first_stays limit p P [] h none_ out = refl
-first_stays limit p P (Seed q c ∷ es) h none_ out = by (eqb q p) refl
+first_stays limit p P (Seed q c ∷ es) h none_ out = by (λ more rest. first_stays limit p (P ++ Seed q c ∷ []) es h.1 more rest) (eqb q p) refl
   where
-    by : (b : Bool) → eqb q p ≡ b → on_path p q (c ∷ []) ++ path p es ≡ []
-    by true e = absurd (seed_first limit p q P (staying limit (P ++ Seed q c ∷ []) es) c none_ (eqb-true q p e) out)
-    by false e =
+    by : (path p (P ++ Seed q c ∷ []) ≡ [] → path p (staying limit (P ++ Seed q c ∷ []) es) ≡ [] → path p es ≡ []) → (b : Bool) → eqb q p ≡ b → on_path p q (c ∷ []) ++ path p es ≡ []
+    by go true e = absurd (seed_first limit p q P (staying limit (P ++ Seed q c ∷ []) es) c none_ (eqb-true q p e) out)
+    by go false e =
         let here : on_path p q (c ∷ []) ≡ [] = ap (λ b. cond b (c ∷ []) []) e in
         let more : path p (P ++ Seed q c ∷ []) ≡ [] = path_more p P (Seed q c) ∙ ap (λ l. l ++ on_path p q (c ∷ [])) none_ ∙ here in
         let rest = last_none (path p (kept limit P (Seed q c))) (path p (staying limit (P ++ Seed q c ∷ []) es)) (sym (path_both p (kept limit P (Seed q c)) (staying limit (P ++ Seed q c ∷ []) es)) ∙ out) in
-        ap (λ l. l ++ path p es) here ∙ first_stays limit p (P ++ Seed q c ∷ []) es h.1 more rest
+        ap (λ l. l ++ path p es) here ∙ go more rest
 first_stays limit p P (x ∷ es) h none_ out = absurd h.0
 
 none_yet : (p : ℕ) → path p [] ≡ []

@@ -106,7 +106,7 @@ knows_held m J c q is held = by (get key_eq m.contacts c) refl
     by None e = let f : None ≡ Some q = ap (λ (o : Option Claim). (unwrap_or o blank).by) (sym e) ∙ ap (λ (k : Claim). k.by) is ∙ held in absurd cc
     by (Some k) e = subst (λ (o : Option Claim). IsSome o) (sym e) refl
 
-known_on : (s : Setting) (p : ℕ) (m n : Claims) → HasContacts m n → HasHosts s m n → (t : Thing) → IsKnown s p m t → IsKnown s p n t
+pub known_on : (s : Setting) (p : ℕ) (m n : Claims) → HasContacts m n → HasHosts s m n → (t : Thing) → IsKnown s p m t → IsKnown s p n t
 known_on s p m n f g (Responder c) h = tt
 known_on s p m n f g (Told r) h = λ u. (let old = h u in record { contact = f r.contact old.contact; seated = λ z. g z (seat p (host r.contact.addr)) (old.seated z) })
 

@@ -37,6 +37,7 @@ look_of kind look random = record {
   kind = kind;
   family = look.family;
   sealed = look.sealed;
+  per_address = look.per_address;
 }
 
 -- what its book is set to

@@ -64,6 +64,7 @@ fn setting(paths: u8, policy: Policy) -> Setting
         paths,
         alpha: 1,
         policy,
+        per_address: 0,
     }
 }
 

@@ -10,7 +10,7 @@ use Rattle.kad_base.specs.declared.types.Policy.TheVariants as policy
 use Rattle.kad_base.specs.declared.types.Family.{Family}
 use Rattle.kad_base.specs.declared.types.Family.TheVariants.{Four, Six}
 use Rattle.kad_text.specs.Text.{SpellsBytes, SpellsHex, SpellsId, SpellsNumber, version}
-use Rattle.kad_words.specs.Table.{AreLooks, AreSaid, Choice, Entry, FamilyOf, IsLook, IsLookAt, IsLookOf, IsSaid, MayIdOf, MayNumberOf, MaySeedOf, NumberOf, Part, PolicyBy, Says, StandsOf, Values, Word, family_option, key_of, kind_of, kind_word, no_target, parts_of, word_of, YesOf}
+use Rattle.kad_words.specs.Table.{AreLooks, AreSaid, Choice, Entry, FamilyOf, IsLook, IsLookAt, IsLookOf, IsSaid, MayIdOf, MayNumberOf, MaySeedOf, NumberOf, Part, PolicyBy, Says, StandsOf, Values, Word, family_option, per_address_option, key_of, kind_of, kind_word, no_target, parts_of, word_of, YesOf}
 use Rattle.kad_words.specs.Table.Part.{gives_id, gives_seed, gives_number, may_give_number, gives_yes, says_whether, gives_policy, gives_look, gives_item, gives_looks}
 use Rattle.kad_words.specs.Plain.{CommandOf, IsPlain, pairs_of, values_of}
 use Rattle.kad_words.specs.Fitting.{ends_below}
@@ -116,8 +116,11 @@ yes_once kind need o x y s t = absurd s
 look_family_once : (value : Values) (a b : LookWords) → FamilyOf family_option value a.family → FamilyOf family_option value b.family → a.family ≡ b.family
 look_family_once value a b s t = family_by_once IpVersion (OrElse 4) _ a.family b.family s t
 
-look_at_once : (c d : Id) (value : Values) (a b : LookWords) → c ≡ d → a.family ≡ b.family → IsLookAt c value a → IsLookAt d value b → a ≡ b
-look_at_once c d value a b same family s t =
+look_crowd_once : (value : Values) (a b : LookWords) → NumberOf per_address_option value a.per_address → NumberOf per_address_option value b.per_address → a.per_address ≡ b.per_address
+look_crowd_once value a b s t = or_once 0 0 255 (lit< tt) _ a.per_address b.per_address s t
+
+look_at_once : (c d : Id) (value : Values) (a b : LookWords) → c ≡ d → a.family ≡ b.family → a.per_address ≡ b.per_address → IsLookAt c value a → IsLookAt d value b → a ≡ b
+look_at_once c d value a b same family crowd s t =
     let target = s.target ∙ same ∙ sym t.target in
     let own = may_once SpellsId id_once _ a.own b.own s.own t.own in
     let k = or_once 8 1 20 (lit< tt) _ a.k b.k s.k t.k in
@@ -127,15 +130,15 @@ look_at_once c d value a b same family s t =
     let bits = or_once 1 1 5 (lit< tt) _ a.bits b.bits s.bits t.bits in
     let passes = policy_once _ _ a.policy b.policy s.policy t.policy in
     let sealed = s.sealed ∙ sym t.sealed in
-    λ i. record { target = target i; own = own i; k = k i; paths = paths i; alpha = alpha i; timeout = timeout i; bits = bits i; policy = passes i; family = family i; sealed = sealed i }
+    λ i. record { target = target i; own = own i; k = k i; paths = paths i; alpha = alpha i; timeout = timeout i; bits = bits i; policy = passes i; family = family i; sealed = sealed i; per_address = crowd i }
 
 look_once : (goal : Entry) (value : Values) (a b : LookWords) → IsLook goal value a → IsLook goal value b → a ≡ b
 look_once goal value a b s t =
     let target = given_once SpellsId id_once _ a.target b.target s.0.0 t.0.0 in
-    look_at_once a.target b.target value a b target (look_family_once value a b s.0.1 t.0.1) s.1 t.1
+    look_at_once a.target b.target value a b target (look_family_once value a b s.0.1 t.0.1) (look_crowd_once value a b s.0.2 t.0.2) s.1 t.1
 
 looks_once : (value : Values) (a b : LookWords) → AreLooks value a → AreLooks value b → a ≡ b
-looks_once value a b s t = look_at_once no_target no_target value a b refl (s.0 ∙ sym t.0) s.1 t.1
+looks_once value a b s t = look_at_once no_target no_target value a b refl (s.0 ∙ sym t.0) (s.1 ∙ sym t.1) s.2 t.2
 
 item_once : (goal : Entry) (value : Values) (x y : List ℕ) → IsGiven SpellsBytes (value goal.name) x → IsGiven SpellsBytes (value goal.name) y → x ≡ y
 item_once goal value x y s t = given_once SpellsBytes bytes_once _ x y s t
@@ -213,7 +216,7 @@ part_once value (gives_item c x k) (gives_item d y l) e small s t =
     let same : d ≡ c = cc in
     let t' = subst (λ (g : Choice). IsLookOf g.entry value y l) same t in
     let one : x ≡ y = item_once c.entry value x y s.0.0 t'.0.0 in
-    let looks : k ≡ l = look_at_once (key_of x) (key_of y) value k l (ap key_of one) (look_family_once value k l s.0.1 t'.0.1) s.1 t'.1 in cc
+    let looks : k ≡ l = look_at_once (key_of x) (key_of y) value k l (ap key_of one) (look_family_once value k l s.0.1 t'.0.1) (look_crowd_once value k l s.0.2 t'.0.2) s.1 t'.1 in cc
 part_once value (gives_looks x) (gives_looks y) e small s t = ap gives_looks (looks_once value x y s t)
 part_once value x y e small s t = absurd cc
 

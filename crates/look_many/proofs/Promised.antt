@@ -32,10 +32,12 @@ use Rattle.item_store.specs.declared.calls.ItemReply.{ItemReply}
 use Rattle.claim_book.specs.declared.types.Setting.{Setting}
 use Rattle.claim_book.specs.declared.types.Entry.{Entry}
 use Rattle.claim_book.specs.Journal.{seed_of, seeds}
-use Rattle.claim_book.specs.Legal.{Legal, seeded_from}
+use Rattle.claim_book.specs.declared.types.Entry.TheVariants.{Seed}
+use Rattle.claim_book.specs.Legal.{Legal, seeded}
 use Rattle.claim_book.specs.Result.{result_of}
 use Rattle.claim_book.specs.RunOut.{RunOut}
 use Rattle.claim_book.proofs.Descent.{own_answers}
+use Rattle.claim_book.proofs.Seeding.{AreSeeds, seeded_seeds}
 use Rattle.node_serve.specs.declared.setting.ServeSetting.{ServeSetting}
 use Rattle.node_serve.specs.Calls.{Did, HadMemory, HasRoom, HasItemRoom}
 use Rattle.serve_crew.specs.Hands.{Hands, SameHands, Grew, TablePass, at_table, at_peers, at_items}
@@ -63,20 +65,24 @@ use Rattle.look_many.proofs.Ending.{Remembers, ended_ran, ended_of_driver, ended
 
 -- ---- one lookup
 
-seeds_noted : (paths i : ℕ) (cs : List Contact) → noted (seeded_from paths i cs) ≡ []
-seeds_noted paths i [] = refl
-seeds_noted paths i (c ∷ cs) = seeds_noted paths (i + 1) cs
+all_noted : (J : List Entry) → AreSeeds J → noted J ≡ []
+all_noted [] h = refl
+all_noted (Seed q c ∷ J) h = all_noted J h.1
+all_noted (x ∷ J) h = absurd h.0
+
+seeds_noted : (paths : ℕ) (cs : List Contact) → noted (seeded 0 paths cs) ≡ []
+seeds_noted paths cs = all_noted (seeded 0 paths cs) (seeded_seeds 0 paths cs)
 
 module _ (server : ServeSetting) (setting : ManySetting) (table : TableState) (limits : IsWithinLimits setting) (small : server.k < 256) where
   -- a lookup that lived on since it began
   live_setting : (target : Id) (old new : Seeker) → IsSeekerFor server setting table target old → Lives old new → new.lookup.book.setting ≡ setting_for server setting target
   live_setting target old new s l = l.setting ∙ s.book.setting_is
 
-  live_seeds : (target : Id) (old new : Seeker) → IsSeekerFor server setting table target old → Lives old new → seeds new.lookup.book.journal ≡ seeds_for server table target
+  live_seeds : (target : Id) (old new : Seeker) → IsSeekerFor server setting table target old → Lives old new → seeds new.lookup.book.journal ≡ seeded 0 setting.paths (seeds_for server table target)
   live_seeds target old new s l = ap seeds l.journal ∙ seeds_append old.lookup.book.journal l.more ∙ ap (λ x. seeds old.lookup.book.journal ++ x) l.no_seeds ∙ append-nil (seeds old.lookup.book.journal) ∙ begin_seeds server setting table limits small target old s
 
   live_notes : (target : Id) (old new : Seeker) → IsSeekerFor server setting table target old → (l : Lives old new) → noted new.lookup.book.journal ≡ noted l.more
-  live_notes target old new s l = ap noted l.journal ∙ flat_map-append note_of old.lookup.book.journal l.more ∙ ap (λ x. x ++ noted l.more) (ap noted s.book.journal ∙ seeds_noted setting.paths 0 (seeds_for server table target))
+  live_notes target old new s l = ap noted l.journal ∙ flat_map-append note_of old.lookup.book.journal l.more ∙ ap (λ x. x ++ noted l.more) (ap noted s.book.journal ∙ seeds_noted setting.paths (seeds_for server table target))
 
   journal_for : (target : Id) (old new : Seeker) → IsSeekerFor server setting table target old → Lives old new → IsLegal new → IsJournalFor server setting table target new.lookup.book.journal
   journal_for target old new s l legal = record {

@@ -32,6 +32,7 @@ fn setting_of(server: &ServeSetting, setting: &ManySetting, target: &Id) -> Sett
         paths: setting.paths,
         alpha: setting.alpha,
         policy: server.policy,
+        per_address: 0,
     }
 }
 

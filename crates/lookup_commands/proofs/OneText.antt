@@ -23,7 +23,7 @@ use Rattle.lookup_run.specs.declared.types.Item.{Item}
 use Rattle.lookup_run.specs.Tells.{Given, Tells}
 use Rattle.lookup_run.specs.Rounds.{Scheduling, Rounds, sequential, scheduling_by}
 use Rattle.lookup_run.specs.Gathered.{Gathers}
-use Rattle.lookup_run.specs.Lookup.{seeds_in}
+use Rattle.lookup_run.specs.Lookup.{seeds_dealt}
 use Rattle.lookup_run.proofs.Once.{rounds_once}
 use Rattle.lookup_run.proofs.OnceCalls.{last_call}
 use Rattle.lookup_run.proofs.OnceGathered.{gathered_once}
@@ -60,7 +60,7 @@ table_once look random source again range same a b =
     (subst (λ (l : List Contact). StartsWith look random l a.table) contacts a.told) b.told
 
 seeds_once : (kind : AskKind) (look : LookWords) (random : List ℕ) (source again : Shown ℕ) (J K : List Entry) → IsInRange look → SameInput source again → HasRunOut kind look random source J → HasRunOut kind look random again K → seeds J ≡ seeds K
-seeds_once kind look random source again J K range same h k = h.seeds_are ∙ ap (λ (t : TableState). seeds_in (look_of kind look random) t) (table_once look random source again range same h.start k.start) ∙ sym k.seeds_are
+seeds_once kind look random source again J K range same h k = h.seeds_are ∙ ap (λ (t : TableState). seeds_dealt (look_of kind look random) t) (table_once look random source again range same h.start k.start) ∙ sym k.seeds_are
 
 in_turn : (called : Called) (g : Given) (J : List Entry) (events : List Event) → called.slow ≡ false → Rounds (scheduling_by called.slow) g J events → Rounds sequential g J events
 in_turn called g J events quick h = subst (λ b. Rounds (scheduling_by b) g J events) quick h

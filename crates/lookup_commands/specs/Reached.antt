@@ -22,7 +22,7 @@ use Rattle.lookup_run.specs.declared.types.Token.{Token}
 use Rattle.lookup_run.specs.Tells.{Given, Tells, HasFewStrays, NeverEnds}
 use Rattle.lookup_run.specs.Rounds.{Scheduling, Rounds, scheduling_by}
 use Rattle.lookup_run.specs.Gathered.{Gathers, addr_cmp}
-use Rattle.lookup_run.specs.Lookup.{seeds_in, drawn_for}
+use Rattle.lookup_run.specs.Lookup.{seeds_dealt, drawn_for}
 use Rattle.lookup_core.specs.SendFaults.{RefusedIn}
 use Rattle.kad_words.specs.declared.command.LookWords.{LookWords}
 use Rattle.lookup_commands.specs.declared.run_lookup.Reached.{Reached}
@@ -36,7 +36,7 @@ use Rattle.command_base.specs.Started.{own_of, look_of, book_of, drawn_of, looku
 pub record HasRunOut (kind : AskKind) (look : LookWords) (random : List ℕ) (source : Shown ℕ) (J : List Entry) : Type 0 where
   pub start : Start look random source
   pub legal : Legal (book_of kind look random) J
-  pub seeds_are : seeds J ≡ seeds_in (look_of kind look random) start.table
+  pub seeds_are : seeds J ≡ seeds_dealt (look_of kind look random) start.table
   pub run_out : (p : ℕ) → p < look.paths → RunOut (book_of kind look random) p J
   pub taken_once : IsDistinct same (took J)
   pub asked_once : IsDistinct same (asked J)

@@ -45,6 +45,7 @@ fn setting(own: Id, paths: u8, kind: AskKind) -> LookSetting
         kind,
         family: Family::Four,
         sealed: false,
+        per_address: 0,
     }
 }
 

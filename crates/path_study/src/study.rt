@@ -142,6 +142,7 @@ fn look_setting(setting: &StudySetting, own: Id, target: Id) -> Option<LookSetti
         kind: AskKind::FindNode,
         family: Family::Four,
         sealed: false,
+        per_address: 0,
     })
 }
 

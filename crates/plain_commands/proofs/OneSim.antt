@@ -17,7 +17,7 @@ use Rattle.lookup_core.specs.declared.quest.AskKind.TheVariants.{FindNode}
 use Rattle.lookup_run.specs.LinkCalls.{LinkCall, sends, receives, call_of}
 use Rattle.lookup_run.specs.Tells.{Given, Tells}
 use Rattle.lookup_run.specs.Rounds.{Rounds, sequential}
-use Rattle.lookup_run.specs.Lookup.{seeds_in}
+use Rattle.lookup_run.specs.Lookup.{seeds_dealt}
 use Rattle.lookup_run.proofs.Once.{rounds_once}
 use Rattle.lookup_run.proofs.OnceCalls.{next_call, last_call}
 use Rattle.plain_commands.specs.declared.sim.Simulation.{Simulation}
@@ -72,7 +72,7 @@ seeds_once s t u h a b =
     let contacts = admits_once (own_of None s.seed) Four Plain (first_nodes s) a.contacts b.contacts a.admits b.admits in
     let told = subst (λ (l : List Contact). StartsWith (sim_look s) s.seed l a.table) contacts a.told in
     let table = new_once (own_of None s.seed) s.k 1 (map seen_call b.contacts) a.table b.table h.some_live h.few_live (omega arith) (omega arith) told b.told in
-    a.seeds_are ∙ ap (λ (x : TableState). seeds_in (look_of FindNode (sim_look s) s.seed) x) table ∙ sym b.seeds_are
+    a.seeds_are ∙ ap (λ (x : TableState). seeds_dealt (look_of FindNode (sim_look s) s.seed) x) table ∙ sym b.seeds_are
 
 -- so many events of both are the same
 same_rest : (s : Simulation) (t u : List ℕ) → IsSimulable s → (a : SimText s t) (b : SimText s u) → seeds a.journal ≡ seeds b.journal → (before r q : List Event) → a.events ≡ before ++ r → b.events ≡ before ++ q → r ≡ q

@@ -23,7 +23,7 @@ use Rattle.claim_book.specs.Result.{result_of}
 use Rattle.lookup_core.specs.declared.quest.AskKind.TheVariants.{FindNode}
 use Rattle.lookup_run.specs.Tells.{Tells}
 use Rattle.lookup_run.specs.Rounds.{Rounds, sequential}
-use Rattle.lookup_run.specs.Lookup.{seeds_in}
+use Rattle.lookup_run.specs.Lookup.{seeds_dealt}
 use Rattle.kad_words.specs.Table.{plain_look}
 use Rattle.kad_words.specs.declared.command.LookWords.{LookWords}
 use Rattle.kad_words.specs.declared.command.SimWords.{SimWords}
@@ -130,7 +130,7 @@ pub record SimText (s : Simulation) (text : List ℕ) : Type 0 where
   pub plays : Plays (network_of s) true events
   pub journal : List Entry
   pub legal : Legal (book_of FindNode (sim_look s) s.seed) journal
-  pub seeds_are : seeds journal ≡ seeds_in (look_of FindNode (sim_look s) s.seed) table
+  pub seeds_are : seeds journal ≡ seeds_dealt (look_of FindNode (sim_look s) s.seed) table
   pub tells : Grows (Some []) (Some events) (λ events. Tells (lookup_of FindNode (sim_look s) (sim_called s)) journal events)
   pub rounds : Grows (Some []) (Some events) (λ events. Rounds sequential (lookup_of FindNode (sim_look s) (sim_called s)) journal events)
   pub run_out : (p : ℕ) → p < s.paths → RunOut (book_of FindNode (sim_look s) s.seed) p journal

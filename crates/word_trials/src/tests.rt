@@ -63,6 +63,7 @@ fn look() -> LookWords {
         policy: Policy::Plain,
         family: Family::Four,
         sealed: false,
+        per_address: 0,
     }
 }
 
@@ -79,6 +80,7 @@ fn greatest() -> LookWords {
         policy: Policy::Puzzled { c1: 32, c2: 32 },
         family: Family::Six,
         sealed: true,
+        per_address: 255,
     }
 }
 
@@ -165,6 +167,14 @@ fn words_of_a_lookup(rt: HostRuntime) {
                 ..look
             },
         ),
+        ("lookup --per-address 0 --target ID", look),
+        (
+            "lookup --target ID --per-address 1",
+            LookWords {
+                per_address: 1,
+                ..look
+            },
+        ),
     ] {
         assert_eq!(rt;
             read_line(rt.alloc(), line),
@@ -192,7 +202,7 @@ fn words_of_peers(rt: HostRuntime) {
             false,
         ),
         (
-            "peers --key ID --own ID --k 20 --paths 8 --alpha 4 --timeout 60000 --bits 5 --c1 32 --c2 32 --family 6 --bind 1.2.3.4:5 --group SEED --announce 1 --spread yes",
+            "peers --key ID --own ID --k 20 --paths 8 --alpha 4 --timeout 60000 --bits 5 --c1 32 --c2 32 --family 6 --per-address 255 --bind 1.2.3.4:5 --group SEED --announce 1 --spread yes",
             greatest(),
             Some(1),
             true,
@@ -217,7 +227,7 @@ fn words_of_get(rt: HostRuntime) {
         ("get --key ID", look),
         ("get --k 3 --key ID", LookWords { k: 3, ..look }),
         (
-            "get --key ID --own ID --k 20 --paths 8 --alpha 4 --timeout 60000 --bits 5 --c1 32 --c2 32 --family 6 --bind 1.2.3.4:5 --group SEED",
+            "get --key ID --own ID --k 20 --paths 8 --alpha 4 --timeout 60000 --bits 5 --c1 32 --c2 32 --family 6 --per-address 255 --bind 1.2.3.4:5 --group SEED",
             greatest(),
         ),
     ] {
@@ -271,7 +281,7 @@ fn words_of_put(rt: HostRuntime) {
         ),
         ("put --spread yes --value 00", nothing, "\0", look, true),
         (
-            "put --value 353a68656c6c6f --own ID --k 20 --paths 8 --alpha 4 --timeout 60000 --bits 5 --c1 32 --c2 32 --family 6 --bind 1.2.3.4:5 --group SEED --spread yes",
+            "put --value 353a68656c6c6f --own ID --k 20 --paths 8 --alpha 4 --timeout 60000 --bits 5 --c1 32 --c2 32 --family 6 --bind 1.2.3.4:5 --group SEED --per-address 255 --spread yes",
             hello,
             "5:hello",
             greatest(),
@@ -345,6 +355,7 @@ fn words_of_node(rt: HostRuntime) {
     let greatest = LookWords {
         target,
         family: Family::Four,
+        per_address: 0,
         ..greatest()
     };
     for (line, look, receives, minutes, table) in [
@@ -548,6 +559,14 @@ fn words_that_are_refused(rt: HostRuntime) {
         "lookup --target ID --family 5",
         "lookup --target ID --family 06",
         "lookup --target ID --family 46",
+        "lookup --target ID --per-address 256",
+        "lookup --target ID --per-address -1",
+        "lookup --target ID --per-address",
+        "lookup --target ID --per-address 1 --per-address 1",
+        "node --per-address 1",
+        "serve --per-address 1",
+        "sim --per-address 1",
+        "table --per-address 1",
         "lookup --target ID --family",
         "lookup --target ID --family 4 --family 4",
         "lookup --target ID --group",

@@ -63,7 +63,7 @@ fn report_of(id: Id, port: u16, proof: Option<kad_base::Proof>) -> Report {
         contact: Contact {
             id,
             addr: Addr {
-                ip: Ip::V4([127, 0, 0, 1]),
+                ip: Ip::V4([127, 0, 0, 1 + id.0[0] % 4]),
                 port,
             },
         },
@@ -71,7 +71,7 @@ fn report_of(id: Id, port: u16, proof: Option<kad_base::Proof>) -> Report {
     }
 }
 
-/// 64 reports: of 15 minted identifiers, each at two ports, with its proof and without; two with port 0, and two of the
+/// 64 reports: of 15 minted identifiers, at four addresses, each at two ports, with its proof and without; two with port 0, and two of the
 /// node itself.
 fn nodes(alloc: Global, own: Id) -> Result<Vec<Report>, Fail> {
     let mut nodes = Vec::new(alloc);
@@ -345,6 +345,7 @@ fn call_one(
 struct Came {
     taken: bool,
     held: bool,
+    turned: bool,
     rejected: bool,
     skipped: bool,
     not_front: bool,
@@ -354,6 +355,7 @@ struct Came {
 fn mark(came: &mut Came, reply: &BookReply) {
     match reply {
         BookReply::Taken => came.taken = true,
+        BookReply::Turned => came.turned = true,
         BookReply::Held { .. } => came.held = true,
         BookReply::Rejected => came.rejected = true,
         BookReply::Skipped => came.skipped = true,
@@ -437,6 +439,7 @@ fn setting(n: u8) -> Setting
         } else {
             Policy::Puzzled { c1: 0, c2: 0 }
         },
+        per_address: [0, 0, 1, 2, 3, 4][n as usize],
     }
 }
 
@@ -445,6 +448,7 @@ fn answers_as_the_filters_of_its_journal(rt: HostRuntime) -> Result<(), Fail> {
     let mut came = Came {
         taken: false,
         held: false,
+        turned: false,
         rejected: false,
         skipped: false,
         not_front: false,
@@ -460,6 +464,7 @@ fn answers_as_the_filters_of_its_journal(rt: HostRuntime) -> Result<(), Fail> {
         Came {
             taken: true,
             held: true,
+            turned: true,
             rejected: true,
             skipped: true,
             not_front: true,

@@ -48,6 +48,7 @@ fn begun(
         paths,
         alpha: 1,
         policy: Policy::Plain,
+        per_address: 0,
     };
     let seeds = seeds(alloc, &setting, contacts)?;
     assert!(rt; all_usable(&setting.own, seeds.as_slice()));

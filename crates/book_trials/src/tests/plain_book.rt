@@ -1,6 +1,6 @@
 //! The book as filters over its journal, with no index: what the index is tried against. Each call costs more as the
 //! journal grows.
-use claim_book::{BookCall, BookReply, Cause, Checked, Counts, Entry, Setting, Thing};
+use claim_book::{BookCall, BookReply, Cause, Checked, Counts, Entry, Setting, Thing, host_of};
 use kad_base::limits::MAX_PATH_CONTACTS;
 use kad_base::{Contact, Contacts, NoMemory, Reports, is_usable};
 use kad_distance::k_least;
@@ -80,6 +80,20 @@ fn count_path(journal: &[Entry], one: u8) -> usize {
         }
     }
     contacts
+}
+
+/// Whether the path has as many contacts of the contact's host as the setting says.
+fn is_crowded(setting: &Setting, journal: &[Entry], one: u8, contact: &Contact) -> bool {
+    let host = host_of(&contact.addr);
+    let mut contacts = 0usize;
+    for entry in journal {
+        if let Some((path, other)) = gained(entry) {
+            if path == one && host_of(&other.addr) == host {
+                contacts = contacts.saturating_add(1);
+            }
+        }
+    }
+    setting.per_address > 0 && contacts >= setting.per_address as usize
 }
 
 fn count_open(journal: &[Entry], one: u8) -> usize {
@@ -173,7 +187,9 @@ impl PlainBook {
         let mut path = 0u8;
         for contact in seeds {
             let contact = *contact;
-            push(&mut journal, Entry::Seed { path, contact })?;
+            if !is_crowded(&setting, journal.as_slice(), path, &contact) {
+                push(&mut journal, Entry::Seed { path, contact })?;
+            }
             path = path.wrapping_add(1);
             if path >= setting.paths {
                 path = 0;
@@ -330,7 +346,9 @@ impl PlainBook {
                 Entry::Held { path, contact, by },
                 BookReply::Held { path: by },
             )
-        } else if count_path(journal, path) == MAX_PATH_CONTACTS {
+        } else if count_path(journal, path) == MAX_PATH_CONTACTS
+            || is_crowded(&self.setting, journal, path, &contact)
+        {
             (Entry::Turned { path, contact }, BookReply::Turned)
         } else {
             (Entry::Taken { path, contact }, BookReply::Taken)

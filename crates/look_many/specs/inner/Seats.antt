@@ -20,7 +20,7 @@ use Rattle.look_many.specs.ManyLooked.{setting_for, quest_for, seeds_for}
 -- a book that begins with the closest contacts of the table
 pub record IsBookFor (server : ServeSetting) (setting : ManySetting) (table : TableState) (target : Id) (book : BookState) : Type 0 where
   pub setting_is : book.setting ≡ setting_for server setting target
-  pub journal : book.journal ≡ seeded setting.paths (seeds_for server table target)
+  pub journal : book.journal ≡ seeded 0 setting.paths (seeds_for server table target)
   pub legal : Legal book.setting book.journal
 
 -- a lookup that has such a book, and asked nobody

@@ -1,6 +1,7 @@
-use Rattle.std.proofs.Common.{◌≡◌, ℕ, ◌<◌, ◌≤◌, ◌%◌, List, Bool, true, false, length, take, get_or, sym, ap, subst, ◌∙◌, arith, inl, inr}
+use Rattle.std.proofs.Common.{◌≡◌, ℕ, ◌<◌, ◌≤◌, ◌%◌, List, [], Bool, true, false, length, take, get_or, sym, ap, subst, ◌∙◌, arith, inl, inr}
 use Rattle.std.specs.Prelude.{vec_capacity}
 use Rattle.std.proofs.lemmas.Bool.{cases_lt}
+use Rattle.kad_base.specs.declared.types.Ip.TheVariants.{V4}
 use Rattle.kad_base.specs.declared.types.Contact.{Contact}
 use Rattle.claim_book.specs.declared.types.Setting.{Setting}
 use Rattle.claim_book.specs.declared.claim_map.Claims.{Claims}
@@ -13,21 +14,24 @@ use Rattle.claim_book.proofs.Pathed.{path_at, has_place}
 use Rattle.claim_book.proofs.Dealt.{Deals, IsFree, front, front_few, front_left, dealt_items, dealt_map, dealt_within, dealt_few, dealt_paths}
 use Rattle.claim_book.proofs.starting.seed.Goals as goal
 
+abbrev nobody : Contact
+nobody = record { id = record { 0 = [] }; addr = record { ip = V4 []; port = 0 } }
+
 clash : (b : Bool) → b ≡ false → b ≡ true → ⊥
 clash b e f = absurd cc
 
 -- what the map says of the seed's host is what the journal says
 free_here : (s : Setting) (cs : List Contact) (i : ℕ) (c : Contact) (m : Claims) (b : Bool) → IsMap s (front s cs i) m → (((0 < s.per_address) × (s.per_address ≤ shown_crowd m (i % s.paths) (host c.addr))) → b ≡ true) → b ≡ false → IsFree s cs i c
-free_here s cs i c m b x says no y =
+free_here s cs i c m b x says out y =
     let is = x.counts y.0 (i % s.paths) (host c.addr) in
     let many = y.1 in
-    clash b no (says (y.0, omega arith))
+    clash b out (says (y.0, omega arith))
 
 crowded_here : (s : Setting) (cs : List Contact) (i : ℕ) (c : Contact) (m : Claims) → IsMap s (front s cs i) m → 0 < s.per_address → s.per_address ≤ shown_crowd m (i % s.paths) (host c.addr) → s.per_address ≤ crowd (i % s.paths) (host c.addr) (front s cs i)
 crowded_here s cs i c m x z many = (let is = x.counts z (i % s.paths) (host c.addr) in omega arith)
 
 counts_free : (limit n : ℕ) (b : Bool) → (((0 < limit) × (limit ≤ n)) → b ≡ true) → b ≡ false → 0 < limit → n < limit
-counts_free limit n b says no z = elim (cases_lt n limit) [ inl lt ↦ lt | inr ge ↦ absurd (clash b no (says (z, ge))) ]
+counts_free limit n b says out z = elim (cases_lt n limit) [ inl lt ↦ lt | inr ge ↦ absurd (clash b out (says (z, ge))) ]
 
 pub mark_taken-requires : goal.mark_taken-requires
 mark_taken-requires c =
@@ -64,7 +68,7 @@ loop-i-preserved-then-is_crowded c =
     let i = c.loop-i.i in
     let d : Deals s cs i = record { some_path = c.requires.some_path; few = c.requires.few; small = c.requires.small; in_order = c.requires.in_order; usable = c.requires.usable; here = c.loop-i-test.true } in
     let says = c.is_crowded.ensures.0 c.if-is_crowded.true in
-    let is = front_left s cs i _ d says.0 (crowded_here s cs i _ c.loop-i.claims c.loop-i.invariant.claims says.0 says.1) in
+    let is = front_left s cs i nobody d says.0 (crowded_here s cs i (get_or cs i nobody) c.loop-i.claims c.loop-i.invariant.claims says.0 says.1) in
     record {
       items = c.loop-i.invariant.items ∙ sym is;
       room = c.loop-i.invariant.room;
@@ -78,11 +82,11 @@ loop-i-preserved c =
     let cs = c.args.seeds.now in
     let i = c.loop-i.i in
     let d : Deals s cs i = record { some_path = c.requires.some_path; few = c.requires.few; small = c.requires.small; in_order = c.requires.in_order; usable = c.requires.usable; here = c.loop-i-test.true } in
-    let free = free_here s cs i _ c.loop-i.claims c.is_crowded.result c.loop-i.invariant.claims c.is_crowded.ensures.1 c.if-is_crowded.false in
+    let free = free_here s cs i (get_or cs i nobody) c.loop-i.claims c.is_crowded.result c.loop-i.invariant.claims c.is_crowded.ensures.1 c.if-is_crowded.false in
     let e = c.add_one.ensures.gains in
     record {
-      items = dealt_items s cs i _ c.loop-i.journal.items c.put_seed.new.journal.items d free c.loop-i.invariant.items c.put_seed.ensures.items;
+      items = dealt_items s cs i nobody c.loop-i.journal.items c.put_seed.new.journal.items d free c.loop-i.invariant.items c.put_seed.ensures.items;
       room = (let a = c.put_seed.ensures.room in let b = c.loop-i.invariant.room in omega arith);
-      claims = dealt_map s cs i _ c.loop-i.claims c.make_place.new.claims c.mark_taken.new.claims d free c.loop-i.invariant.claims c.in_ok-make_place.ensures.kept c.mark_taken.ensures;
-      paths = dealt_paths s cs i _ c.loop-i.paths.items c.index_mut.result.now c.add_one.new.path d free c.loop-i.invariant.paths c.index_mut.ensures.value e.near e.near_room e.fresh e.fresh_room e.count e.opens c.add_one.ensures.queue;
+      claims = dealt_map s cs i nobody c.loop-i.claims c.make_place.new.claims c.mark_taken.new.claims d free c.loop-i.invariant.claims c.in_ok-make_place.ensures.kept c.mark_taken.ensures;
+      paths = dealt_paths s cs i nobody c.loop-i.paths.items c.index_mut.result.now c.add_one.new.path d free c.loop-i.invariant.paths c.index_mut.ensures.value e.near e.near_room e.fresh e.fresh_room e.count e.opens c.add_one.ensures.queue;
     }
