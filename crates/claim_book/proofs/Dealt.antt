@@ -15,19 +15,19 @@ use Rattle.claim_book.specs.declared.types.Counts.{Counts}
 use Rattle.claim_book.specs.declared.types.Entry.{Entry}
 use Rattle.claim_book.specs.declared.types.Entry.TheVariants.{Seed}
 use Rattle.claim_book.specs.declared.path.Path.{Path}
-use Rattle.claim_book.specs.Journal.{took, path, asked, failed, turned}
+use Rattle.claim_book.specs.Journal.{took, path}
 use Rattle.claim_book.specs.Hosts.{host}
 use Rattle.claim_book.specs.Crowded.{crowd}
 use Rattle.claim_book.specs.Legal.{SeedFits, Legal, dealt, stays, seeded}
 use Rattle.claim_book.specs.Calls.{Counted}
 use Rattle.claim_book.specs.declared.claim_map.Claims.{Claims}
-use Rattle.claim_book.specs.Claims.{shown_crowd, Takes, Keeps, IsMap}
+use Rattle.claim_book.specs.Claims.{Takes, Keeps, IsMap}
 use Rattle.claim_book.specs.Index.{IsPaths}
 use Rattle.claim_book.proofs.More.{legal_more}
 use Rattle.claim_book.proofs.Among.{among_itself}
 use Rattle.claim_book.proofs.Claims.{path_new}
 use Rattle.claim_book.proofs.Bounds.{path_within}
-use Rattle.claim_book.proofs.Seeding.{Begins, kept, seeded_seeds, seeds_asked, seeds_failed, seeds_turned, seeded_more, dealt_length, seed_fits, begins_at, stays_unless, stays_not}
+use Rattle.claim_book.proofs.Seeding.{Begins, seeded_seeds, seeds_asked, seeds_failed, seeds_turned, seeded_more, dealt_length, seed_fits, begins_at, stays_unless, stays_not}
 use Rattle.claim_book.proofs.Mapped.{map_seeded, map_wider}
 use Rattle.claim_book.proofs.Pathed.{paths_put, path_at, path_seeded}
 

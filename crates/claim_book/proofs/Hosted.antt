@@ -1,10 +1,9 @@
 -- No path has more contacts of one host than the limit says, and each that was dealt a seed keeps one.
-use Rattle.std.proofs.Common.{◌≡◌, ℕ, ◌+◌, ◌<◌, ◌≤◌, List, [], ◌∷◌, ◌++◌, length, Bool, true, false, ◌||◌, ◌&&◌, cond, inl, inr, refl, sym, ap, subst, ◌∙◌, eqb, arith}
+use Rattle.std.proofs.Common.{◌≡◌, ℕ, ◌<◌, ◌≤◌, List, [], ◌∷◌, ◌++◌, length, Bool, true, false, cond, inl, inr, refl, sym, ap, ◌∙◌, eqb, arith}
 use Rattle.std.specs.Prelude.{filter, nat_lt}
 use Rattle.std.specs.List.{IsDistinct, AllByRecursion}
 use Rattle.std.proofs.lemmas.Cmp.{eq_by_cmp_equiv}
 use Rattle.std.proofs.lemmas.Map.Made.{length-le_from_is_member}
-use Rattle.std.proofs.lemmas.List.{append-nil}
 use Rattle.std.proofs.lemmas.List.Concat.{flat_map-append}
 use Rattle.std.proofs.lemmas.Bool.{and_parts, and_from, or_left, or_right, eq-eqb, eqb-true, lt-ltb, cases_lt}
 use Rattle.kad_base.specs.declared.types.Contact.{Contact}
@@ -16,7 +15,7 @@ use Rattle.claim_book.specs.declared.types.Entry.TheVariants.{Seed, Taken}
 use Rattle.claim_book.specs.declared.host.Host.{Host}
 use Rattle.claim_book.specs.Journal.{on_path, path_of, path, asked_on}
 use Rattle.claim_book.specs.Hosts.{host, same_host, at_host}
-use Rattle.claim_book.specs.Crowded.{crowd, IsCrowded}
+use Rattle.claim_book.specs.Crowded.{crowd, IsCrowded, HasFewOfAHost}
 use Rattle.claim_book.specs.Claims.{seat_eq, seat}
 use Rattle.claim_book.specs.Legal.{Fits, Legal, dealt, stays, staying, seeded}
 use Rattle.claim_book.proofs.More.{path_more, along}
@@ -48,7 +47,7 @@ few_step s J (Taken q c) z f p h le = gains_few s J (Taken q c) q c z (λ p. ref
 few_step s J other z f p h le = omega (arith, crowd_kept p h J other refl)
 
 -- of what a path has
-pub few_held : (s : Setting) (J : List Entry) (p : ℕ) (h : Host) → Legal s J → 0 < s.per_address → length (at_host h (path p J)) ≤ s.per_address
+few_held : (s : Setting) (J : List Entry) (p : ℕ) (h : Host) → Legal s J → 0 < s.per_address → length (at_host h (path p J)) ≤ s.per_address
 unfolding path
 few_held s J p h l z = along (λ J. (p : ℕ) (h : Host) → crowd p h J ≤ s.per_address) s (λ p h. omega arith) (λ J e l d f p h. few_step s J e z f p h (d p h)) J l p h
 
@@ -66,7 +65,7 @@ distinct_filter T (x ∷ xs) d =
     apart (y ∷ ys) a = elim (T y) as (λ b. AllByRecursion (λ y. same x y ≡ false) (cond b (y ∷ filter T ys) (filter T ys))) [ true ↦ (a.0, apart ys a.1) | false ↦ apart ys a.1 ]
 
 -- and of what it asks
-pub few_asked_on : (s : Setting) (J : List Entry) (p : ℕ) (h : Host) → Legal s J → 0 < s.per_address → length (at_host h (asked_on p J)) ≤ s.per_address
+few_asked_on : (s : Setting) (J : List Entry) (p : ℕ) (h : Host) → Legal s J → 0 < s.per_address → length (at_host h (asked_on p J)) ≤ s.per_address
 few_asked_on s J p h l z =
     let T = λ (c : Contact). same_host (host c.addr) h in
     let have = few_held s J p h l z in
@@ -74,6 +73,9 @@ few_asked_on s J p h l z =
     let parts = and_parts (among (asked_on p J) c) (T c) (sym (among_filter T (asked_on p J) c) ∙ m) in
     among_filter T (path p J) c ∙ and_from (among (path p J) c) (T c) (asked_on_path s J l p c parts.0) parts.1) in
     omega arith
+
+pub has_few : (s : Setting) (J : List Entry) → Legal s J → HasFewOfAHost s J
+has_few s J l = record { has = λ z p h. few_held s J p h l z; asks = λ z p h. few_asked_on s J p h l z }
 
 -- ---- the first seed of a path stays
 

@@ -1,5 +1,5 @@
 -- The map of claims, after one more entry.
-use Rattle.std.proofs.Common.{◌≡◌, ℕ, ◌+◌, ◌<◌, ◌≤◌, List, [], ◌∷◌, ◌++◌, inl, inr, arith, Bool, true, false, ◌||◌, cond, Option, Some, None, unwrap_or, refl, sym, ap, subst, ◌∙◌, eqb}
+use Rattle.std.proofs.Common.{◌≡◌, ℕ, ◌+◌, ◌<◌, List, [], ◌∷◌, ◌++◌, inl, inr, arith, Bool, true, false, ◌||◌, cond, Option, Some, None, unwrap_or, refl, sym, ap, subst, ◌∙◌, eqb}
 use Rattle.std.specs.Prelude.{IsSome, slice_get, drop, map}
 use Rattle.std.specs.List.{All}
 use Rattle.std.specs.Map.{lookup}

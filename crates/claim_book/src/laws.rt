@@ -7,8 +7,7 @@ ghost use Rattle.kad_base.specs.Contacts.{same, among};
 ghost use Rattle.claim_book.specs.declared.types.Setting.{Setting};
 ghost use Rattle.claim_book.specs.declared.types.Entry.{Entry};
 ghost use Rattle.claim_book.specs.Journal.{seeds, took, path, asked, asked_on, answered, open_any, open_on, unsettled, may_ask};
-ghost use Rattle.claim_book.specs.declared.host.Host.{Host};
-ghost use Rattle.claim_book.specs.Hosts.{at_host};
+ghost use Rattle.claim_book.specs.Crowded.{HasFewOfAHost};
 ghost use Rattle.claim_book.specs.Legal.{Legal, is_of, IsSeed, dealt, seeded};
 ghost use Rattle.claim_book.specs.RunOut.{RunOut};
 ghost use Rattle.claim_book.specs.Lineage.{HasLineage, IsContained, TakesUnlessHeld, DropsNone};
@@ -107,10 +106,7 @@ pub fn taken_unless_held()
 
 /// With a limit, no path has more contacts of one host, lost ones among them; so it asks no more of them.
 pub fn few_of_a_host()
-    ensures path { (s : Setting) (J : List Entry) (p : ℕ) (h : Host) → Legal s J → 0 < s.per_address
-        → length (at_host h (path p J)) ≤ s.per_address }
-    ensures asked_on { (s : Setting) (J : List Entry) (p : ℕ) (h : Host) → Legal s J
-        → 0 < s.per_address → length (at_host h (asked_on p J)) ≤ s.per_address }
+    ensures { (s : Setting) (J : List Entry) → Legal s J → HasFewOfAHost s J }
 {}
 
 /// Without a limit each seed stays on the path that it is dealt to. With one, a path that was dealt a seed keeps one.

@@ -9,8 +9,8 @@ ghost use Rattle.kad_words.specs.declared.command.CommandKind.{CommandKind};
 use crate::choice::{Choice, Kind, Need};
 use crate::options::{
     ALL, ALPHA, ANNOUNCE, BIND, BITS, C1, C2, FAMILY, GROUP, HOSTILE, K, KEY, MINUTES,
-    NODE_RECEIVES, NODES, OWN, PATHS, PER_ADDRESS, RECEIVES, SEED, SPREAD, TARGET, TIMEOUT, TRIES, VALUE,
-    WITH_TABLE, WORKERS,
+    NODE_RECEIVES, NODES, OWN, PATHS, PER_ADDRESS, RECEIVES, SEED, SPREAD, TARGET, TIMEOUT, TRIES,
+    VALUE, WITH_TABLE, WORKERS,
 };
 use crate::values::{
     family, id, needed_bytes, needed_id, number, policy, port, says_yes, seed, small, stands,
@@ -196,19 +196,70 @@ pub enum WordsFault {
 }
 
 static LOOKUP: [Choice; 13] = [
-    TARGET, OWN, K, PATHS, ALPHA, TIMEOUT, BITS, C1, C2, FAMILY, PER_ADDRESS, BIND, GROUP,
+    TARGET,
+    OWN,
+    K,
+    PATHS,
+    ALPHA,
+    TIMEOUT,
+    BITS,
+    C1,
+    C2,
+    FAMILY,
+    PER_ADDRESS,
+    BIND,
+    GROUP,
 ];
 
 static PEERS: [Choice; 15] = [
-    KEY, OWN, K, PATHS, ALPHA, TIMEOUT, BITS, C1, C2, FAMILY, PER_ADDRESS, BIND, GROUP, ANNOUNCE, SPREAD,
+    KEY,
+    OWN,
+    K,
+    PATHS,
+    ALPHA,
+    TIMEOUT,
+    BITS,
+    C1,
+    C2,
+    FAMILY,
+    PER_ADDRESS,
+    BIND,
+    GROUP,
+    ANNOUNCE,
+    SPREAD,
 ];
 
 static GET: [Choice; 13] = [
-    KEY, OWN, K, PATHS, ALPHA, TIMEOUT, BITS, C1, C2, FAMILY, PER_ADDRESS, BIND, GROUP,
+    KEY,
+    OWN,
+    K,
+    PATHS,
+    ALPHA,
+    TIMEOUT,
+    BITS,
+    C1,
+    C2,
+    FAMILY,
+    PER_ADDRESS,
+    BIND,
+    GROUP,
 ];
 
 static PUT: [Choice; 14] = [
-    VALUE, OWN, K, PATHS, ALPHA, TIMEOUT, BITS, C1, C2, FAMILY, PER_ADDRESS, BIND, GROUP, SPREAD,
+    VALUE,
+    OWN,
+    K,
+    PATHS,
+    ALPHA,
+    TIMEOUT,
+    BITS,
+    C1,
+    C2,
+    FAMILY,
+    PER_ADDRESS,
+    BIND,
+    GROUP,
+    SPREAD,
 ];
 
 static SERVE: [Choice; 11] = [

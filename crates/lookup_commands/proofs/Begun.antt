@@ -17,6 +17,7 @@ use Rattle.claim_book.specs.Journal.{asked, failed, turned}
 use Rattle.claim_book.specs.Result.{result_of}
 use Rattle.claim_book.proofs.Claims.{asked_distinct}
 use Rattle.claim_book.proofs.Descent.{own_answers}
+use Rattle.claim_book.proofs.Hosted.{has_few}
 use Rattle.lookup_run.specs.declared.types.LookSetting.{LookSetting}
 use Rattle.lookup_core.specs.declared.quest.AskKind.{AskKind}
 use Rattle.lookup_run.specs.declared.types.Outcome.{Outcome}
@@ -46,6 +47,7 @@ begun_of kind look called source link start left h = record {
   so_far = h;
   asked_once = asked_distinct (book_of kind look called.random) h.journal h.legal;
   own_answers = own_answers (book_of kind look called.random) h.journal h.legal;
+  few_of_a_host = has_few (book_of kind look called.random) h.journal h.legal;
 }
 
 pub tells_early : (g : Given) (J : List Entry) (events : List Event) → HasFewStrays g J events max_strays → TellsEarly g J events

@@ -7,6 +7,7 @@ use Rattle.kad_base.specs.Outside.{Grows}
 use Rattle.kad_base.proofs.Grown.{grows_weaker}
 use Rattle.id_puzzles.specs.Drawn.{WordsState}
 use Rattle.contact_table.specs.TableState.{TableState}
+use Rattle.claim_book.proofs.Hosted.{has_few}
 use Rattle.claim_book.proofs.Claims.{took_distinct, asked_distinct}
 use Rattle.claim_book.proofs.Descent.{own_answers}
 use Rattle.claim_book.proofs.Ends.{found_answered}
@@ -52,6 +53,7 @@ ran_out kind look random accepts source start words left told told' o range up =
       taken_once = took_distinct set o.journal up.legal;
       asked_once = asked_distinct set o.journal up.legal;
       own_answers = own_answers set o.journal up.legal;
+      few_of_a_host = has_few set o.journal up.legal;
       have_answered = λ c has. found_answered set o.journal c range.some_path up.legal up.run_out has;
     }
 

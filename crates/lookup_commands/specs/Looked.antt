@@ -12,6 +12,7 @@ use Rattle.kad_base.specs.Outside.{Grows}
 use Rattle.id_puzzles.specs.Drawn.{WordsState}
 use Rattle.claim_book.specs.declared.types.Entry.{Entry}
 use Rattle.claim_book.specs.Journal.{asked}
+use Rattle.claim_book.specs.Crowded.{HasFewOfAHost}
 use Rattle.claim_book.specs.Lineage.{GoesByOwnAnswers}
 use Rattle.lookup_core.specs.declared.quest.AskKind.{AskKind}
 use Rattle.lookup_core.specs.declared.quest.AskKind.TheVariants.{FindNode}
@@ -65,6 +66,7 @@ pub record LookupBegun (kind : AskKind) (look : LookWords) (called : Called) (so
   pub so_far : Unfinished (look_of kind look called.random) called.accepts start.table (drawn_of called.random) left link.before link.after link.sends link.sends'
   pub asked_once : IsDistinct same (asked so_far.journal)
   pub own_answers : GoesByOwnAnswers (book_of kind look called.random) so_far.journal
+  pub few_of_a_host : HasFewOfAHost (book_of kind look called.random) so_far.journal
 
 -- one that ended with the last stray that it takes: so it is by a legal journal that begins with the same contacts
 pub record EndsByLastStray (kind : AskKind) (look : LookWords) (called : Called) (source : Shown ℕ) (link : Shown Event) : Type 0 where

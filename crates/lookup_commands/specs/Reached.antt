@@ -11,6 +11,7 @@ use Rattle.kad_base.specs.Limits.{max_strays}
 use Rattle.kad_base.specs.Outside.{Grows}
 use Rattle.claim_book.specs.declared.types.Entry.{Entry}
 use Rattle.claim_book.specs.Journal.{seeds, took, asked, answered}
+use Rattle.claim_book.specs.Crowded.{HasFewOfAHost}
 use Rattle.claim_book.specs.Legal.{Legal}
 use Rattle.claim_book.specs.RunOut.{RunOut}
 use Rattle.claim_book.specs.Result.{result_of}
@@ -41,6 +42,7 @@ pub record HasRunOut (kind : AskKind) (look : LookWords) (random : List ℕ) (so
   pub taken_once : IsDistinct same (took J)
   pub asked_once : IsDistinct same (asked J)
   pub own_answers : GoesByOwnAnswers (book_of kind look random) J
+  pub few_of_a_host : HasFewOfAHost (book_of kind look random) J
   pub have_answered : (c : Contact) → among (result_of (book_of kind look random) J) c ≡ true → among (answered J) c ≡ true
 
 -- what the events of a whole lookup tell: its journal, by rounds, with fewer strays than a lookup takes, and the peers,

@@ -1,8 +1,10 @@
 -- How a part of a journal may be settled: in one way alone.
-use Rattle.std.proofs.Common.{◌≡◌, ℕ, ◌<◌, List, [], ◌∷◌, ◌++◌, length, Option, Some, true, false, inl, inr, refl, sym, ap, subst, ◌∙◌, arith}
+use Rattle.std.proofs.Common.{◌≡◌, ◌⊎◌, ℕ, ◌<◌, List, [], ◌∷◌, ◌++◌, length, Option, Some, true, false, inl, inr, refl, sym, ap, subst, ◌∙◌, arith}
 use Rattle.std.specs.Prelude.{slice_get}
 use Rattle.std.proofs.lemmas.Bool.{cases_lt}
 use Rattle.std.proofs.lemmas.List.{append-nil, append_assoc}
+use Rattle.kad_base.specs.Limits.{max_path_contacts}
+use Rattle.kad_base.specs.declared.types.Contact.{Contact}
 use Rattle.kad_base.specs.declared.types.Report.{Report}
 use Rattle.kad_base.specs.Contacts.{among, IsUsable}
 use Rattle.kad_base.specs.Puzzles.{Passes}
@@ -12,6 +14,7 @@ use Rattle.claim_book.specs.declared.types.Thing.TheVariants.{Responder, Told}
 use Rattle.claim_book.specs.declared.types.Entry.{Entry}
 use Rattle.claim_book.specs.declared.types.Entry.TheVariants.{Note, Taken, Held, Turned, Rejected, Skipped}
 use Rattle.claim_book.specs.Journal.{took, path, things_of, settles_on, unsettled, first_unsettled}
+use Rattle.claim_book.specs.Crowded.{IsCrowded}
 use Rattle.claim_book.specs.Legal.{Fits, LegalAfter, Legal}
 use Rattle.claim_book.proofs.More.{legal_more}
 use Rattle.claim_book.proofs.Claims.{one_path, path_took}
@@ -22,6 +25,11 @@ use Rattle.lookup_run.specs.Rounds.{sequential, path_number, is_settling, Settle
 
 same_first : (P : List Entry) (q p : ℕ) (t u : Thing) → q ≡ p → first_unsettled q P ≡ Some t → first_unsettled p P ≡ Some u → t ≡ u
 same_first P q p t u e f h = (let same : ◌≡◌ {A = Option Thing} (Some t) (Some u) = sym f ∙ ap (λ n. first_unsettled n P) e ∙ h in cc)
+
+-- a path that is full, or crowded by the contact's host, takes no more of it
+turned_not_taken : (s : Setting) (P : List Entry) (q p : ℕ) (c d : Contact) → q ≡ p → c ≡ d → (length (path q P) ≡ max_path_contacts) ⊎ IsCrowded s P q c → length (path p P) < max_path_contacts → ¬ IsCrowded s P p d → ⊥
+turned_not_taken s P q p c d e one (inl full) lt free = (let at = ap (λ n. length (path n P)) e in omega (arith, at, full, lt))
+turned_not_taken s P q p c d e one (inr crowded) lt free = free (subst (IsCrowded s P p) one (subst (λ n. IsCrowded s P n c) e crowded))
 
 -- one thing has one outcome
 entry_once : (s : Setting) (P : List Entry) (a b : Entry) → Legal s P → Fits s P a → Fits s P b → is_settling a ≡ true → is_settling b ≡ true → path_number a ≡ path_number b → a ≡ b
@@ -58,13 +66,21 @@ entry_once s P (Turned q c) (Skipped p t) l f h sa sb e = (let same = same_first
 entry_once s P (Turned q c) (Rejected p t) l f h sa sb e = (let same = same_first P q p (Told f.0.report) (Told t) e f.0.first h.0 in let is : f.0.report ≡ t = cc in absurd (h.2 (subst (λ (w : Report). Passes s.policy w) is f.0.passes)))
 entry_once s P (Turned q c) (Held p d z) l f h sa sb e = (let same = same_first P q p (Told f.0.report) (Told h.0.report) e f.0.first h.0.first in let is : f.0.report ≡ h.0.report = cc in let one : c ≡ d = sym f.0.contact ∙ ap (λ (w : Report). w.contact) is ∙ h.0.contact in let has = path_took z P d h.1 in let not_yet = ap (λ w. among (took P) w) (sym one) ∙ f.1 in absurd cc)
 entry_once s P (Turned q c) (Turned p d) l f h sa sb e = (let same = same_first P q p (Told f.0.report) (Told h.0.report) e f.0.first h.0.first in let is : f.0.report ≡ h.0.report = cc in let one : c ≡ d = sym f.0.contact ∙ ap (λ (w : Report). w.contact) is ∙ h.0.contact in ap (λ n. Turned n c) e ∙ ap (λ w. Turned p w) one)
-entry_once s P (Turned q c) (Taken p d) l f h sa sb e = (let full = ap (λ n. length (path n P)) e in let a = f.2 in let b = h.2 in absurd (omega (arith, full, a, b)))
+entry_once s P (Turned q c) (Taken p d) l f h sa sb e =
+    let same = same_first P q p (Told f.0.report) (Told h.0.report) e f.0.first h.0.first in
+    let is : f.0.report ≡ h.0.report = cc in
+    let one : c ≡ d = sym f.0.contact ∙ ap (λ (w : Report). w.contact) is ∙ h.0.contact in
+    absurd (turned_not_taken s P q p c d e one f.2 h.2 h.3)
 entry_once s P (Turned q c) other l f h sa sb e = absurd cc
 entry_once s P (Taken q c) (Note p d) l f h sa sb e = (let same = same_first P q p (Told f.0.report) (Responder d) e f.0.first h in absurd cc)
 entry_once s P (Taken q c) (Skipped p t) l f h sa sb e = (let same = same_first P q p (Told f.0.report) (Told t) e f.0.first h.0 in let is : f.0.report ≡ t = cc in absurd (h.1 (subst (λ w. IsUsable s.own w) (sym f.0.contact ∙ ap (λ (w : Report). w.contact) is) f.0.usable)))
 entry_once s P (Taken q c) (Rejected p t) l f h sa sb e = (let same = same_first P q p (Told f.0.report) (Told t) e f.0.first h.0 in let is : f.0.report ≡ t = cc in absurd (h.2 (subst (λ (w : Report). Passes s.policy w) is f.0.passes)))
 entry_once s P (Taken q c) (Held p d z) l f h sa sb e = (let same = same_first P q p (Told f.0.report) (Told h.0.report) e f.0.first h.0.first in let is : f.0.report ≡ h.0.report = cc in let one : c ≡ d = sym f.0.contact ∙ ap (λ (w : Report). w.contact) is ∙ h.0.contact in let has = path_took z P d h.1 in let not_yet = ap (λ w. among (took P) w) (sym one) ∙ f.1 in absurd cc)
-entry_once s P (Taken q c) (Turned p d) l f h sa sb e = (let full = ap (λ n. length (path n P)) e in let a = f.2 in let b = h.2 in absurd (omega (arith, full, a, b)))
+entry_once s P (Taken q c) (Turned p d) l f h sa sb e =
+    let same = same_first P q p (Told f.0.report) (Told h.0.report) e f.0.first h.0.first in
+    let is : f.0.report ≡ h.0.report = cc in
+    let one : c ≡ d = sym f.0.contact ∙ ap (λ (w : Report). w.contact) is ∙ h.0.contact in
+    absurd (turned_not_taken s P p q d c (sym e) (sym one) h.2 f.2 f.3)
 entry_once s P (Taken q c) (Taken p d) l f h sa sb e = (let same = same_first P q p (Told f.0.report) (Told h.0.report) e f.0.first h.0.first in let is : f.0.report ≡ h.0.report = cc in let one : c ≡ d = sym f.0.contact ∙ ap (λ (w : Report). w.contact) is ∙ h.0.contact in ap (λ n. Taken n c) e ∙ ap (λ w. Taken p w) one)
 entry_once s P (Taken q c) other l f h sa sb e = absurd cc
 entry_once s P other b l f h sa sb e = absurd cc

@@ -1,4 +1,4 @@
-use Rattle.std.proofs.Common.{◌≡◌, ◌≤◌, subst, sym, arith}
+use Rattle.std.proofs.Common.{subst, sym, arith}
 use Rattle.claim_book.specs.State.{BookState}
 use Rattle.claim_book.specs.Hosts.{host}
 use Rattle.claim_book.specs.Crowded.{IsCrowded}
