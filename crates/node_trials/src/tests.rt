@@ -7,6 +7,7 @@ mod ipv6;
 mod items;
 mod lasting;
 mod nodes;
+mod one_address;
 mod paths;
 mod peering;
 mod puzzled;
