@@ -1,5 +1,5 @@
 -- A lookup has gone its rounds: what follows for what it answers.
-use Rattle.std.proofs.Common.{◌≡◌, ◌≢◌, ◌≤◌, ℕ, List, [], Option, inl, inr, refl, sym, arith, Result, Ok, Err, IfOk, subst, ◌∙◌}
+use Rattle.std.proofs.Common.{◌≡◌, ◌≢◌, ◌≤◌, ℕ, List, [], Option, inl, inr, refl, sym, arith, Result, Ok, Err, IfOk, subst, ◌∙◌, ◌<◌}
 use Rattle.std.specs.Prelude.{IfErr, OnOk, OnErr, IsErrOf}
 use Rattle.std.specs.List.{All}
 use Rattle.std.proofs.lemmas.Bool.{false≢true}

@@ -105,3 +105,12 @@ returns-in-Err-settled-clause-last g c is =
     let full : c.in-Err-settled.fault ≡ NoMemory = err_of c.settle-after.result.1 c.in-Err-settled.fault (λ f. f ≡ NoMemory) c.in-Err-settled.is settled.fault in
     let link : c.in-Err-settled.fault ≡ LinkFault = cc in
     absurd cc
+
+pub returns-in-Err-settled-clause-strays : goal.returns-in-Err-settled-clause-strays
+returns-in-Err-settled-clause-strays g c is =
+    let h = c.in-Ok-true.ensures.more c.in-Ok-true.field-0-test in
+    let may : MaySettle c.args.look.now c.ask_and_receive.new.work = record { limits = c.requires.limits; keeps = h.keeps; round_over = h.round_over } in
+    let settled = c.requires.settles c.ask_and_receive.new.work c.settle-after.result may c.settle-after.ensures in
+    let full : c.in-Err-settled.fault ≡ NoMemory = err_of c.settle-after.result.1 c.in-Err-settled.fault (λ f. f ≡ NoMemory) c.in-Err-settled.is settled.fault in
+    let strays : c.in-Err-settled.fault ≡ Strays = cc in
+    absurd cc
