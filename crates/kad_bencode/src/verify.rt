@@ -46,12 +46,7 @@ fn whole(bytes: &[u8]) -> Result<(), Bad>
 /// Where the value at a place ends, where that many lists and dictionaries are open.
 #[cycle(checking)]
 #[inline(always)]
-fn value_at(
-    bytes: &[u8],
-    at: usize,
-    depth: usize,
-    heads: &mut Option<Heads>,
-) -> Result<usize, Bad>
+fn value_at(bytes: &[u8], at: usize, depth: usize, heads: &mut Option<Heads>) -> Result<usize, Bad>
     requires within { at ≤ length bytes.now }
     requires depth { depth ≤ 16 }
     ensures moves { IfOk result (λ next. (at < next) × (next ≤ length bytes.now)) }
@@ -80,12 +75,7 @@ fn value_at(
 
 /// Where a list ends whose first value comes next, if it has one.
 #[cycle(checking)]
-fn list_at(
-    bytes: &[u8],
-    from: usize,
-    depth: usize,
-    heads: &mut Option<Heads>,
-) -> Result<usize, Bad>
+fn list_at(bytes: &[u8], from: usize, depth: usize, heads: &mut Option<Heads>) -> Result<usize, Bad>
     requires within { from ≤ length bytes.now }
     requires depth { depth ≤ 16 }
     ensures moves { IfOk result (λ next. (from < next) × (next ≤ length bytes.now)) }
