@@ -48,7 +48,7 @@ in_ranges (Lookup look) value s = look_in_range _ value look s.0.1
 in_ranges (Peers look announce spread) value s = look_in_range _ value look s.0.1
 in_ranges (Get look) value s = look_in_range _ value look s.0.1
 in_ranges (Put look item spread) value s = look_in_range _ value look s.0.1
-in_ranges (Node words) value s = look_in_range _ value words.look s.0.1
+in_ranges (Node words) value s = look_in_range _ value words.look s.0.2
 in_ranges other value s = search (rules, limits)
 
 pub ranged : (words : List Word) (command : Command) → CommandOf words command → (promise_of command).ranges
