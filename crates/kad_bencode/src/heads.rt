@@ -1,6 +1,6 @@
 //! The heads of a dictionary's keys: the first fifteen bytes of each, and how long it is, as a number by which the place of
 //! a further key is guessed. A guess is no more than that: what is filed there is compared with the key itself.
-ghost use Rattle.std.specs.Prelude.{◌≤◌, length};
+ghost use Rattle.std.specs.Prelude.{◌<◌, ◌≤◌, length};
 
 use crate::filed::MOST;
 
@@ -59,16 +59,33 @@ impl Heads {
         }
     }
 
-    /// How many of the keys that stand at these places have a head below this one.
+    /// 1 where the key that stands at one of these places has a head below this one, and 0 elsewhere.
+    #[inline(always)]
+    fn is_below(&self, places: &[u16], i: usize, head: u128) -> usize
+        requires { i < length places.now }
+        ensures { result ≤ 1 }
+    {
+        is_lower(self.heads[places[i] as usize / 4 % MANY], head)
+    }
+
+    /// How many of the keys that stand at these places have a head below this one. Three are looked at together: one after the
+    /// other, each would wait for the one before.
     pub(crate) fn below(&self, places: &[u16], head: u128) -> usize
         ensures { result ≤ length places.now }
     {
         let mut low = 0;
         let mut left = places.len();
+        while left > 2 {
+            let step = (left + 1) / 4;
+            let first = self.is_below(places, low + step - 1, head);
+            let second = self.is_below(places, low + 2 * step - 1, head);
+            let third = self.is_below(places, low + 3 * step - 1, head);
+            low += (first + second + third) * step;
+            left -= 3 * step;
+        }
         while left > 0 {
             let half = left - left / 2;
-            let there = self.heads[places[low + half - 1] as usize / 4 % MANY];
-            low += half * is_lower(there, head);
+            low += half * self.is_below(places, low + half - 1, head);
             left /= 2;
         }
         low

@@ -1,5 +1,5 @@
 //! Strings, integers and whole values of bencode where they stand: each call says where it ends, and takes no memory.
-ghost use Rattle.std.specs.Prelude.{◌≡◌, ℕ, suc, ◌+◌, ◌-◌, ◌<◌, ◌≤◌, List, [], ◌∷◌, ◌++◌, length, IsTrue, IfOk, IfSome, MatchOption, get_or};
+ghost use Rattle.std.specs.Prelude.{◌≡◌, ℕ, suc, ◌+◌, ◌-◌, ◌<◌, ◌≤◌, List, [], ◌∷◌, ◌++◌, length, IsTrue, true, IfOk, IfSome, MatchOption, get_or};
 ghost use Rattle.kad_bencode.specs.Spelling.{Fits, text_of};
 ghost use Rattle.kad_bencode.specs.Faults.{Open};
 ghost use Rattle.kad_bencode.specs.declared.value.Value.{Value};
@@ -19,6 +19,9 @@ pub(crate) fn string_at(bytes: &[u8], at: usize) -> Result<(&[u8], usize), Bad>
 {
     if has_six(bytes, at) {
         return Ok((&bytes[at + 2..at + 8], at + 8));
+    }
+    if has_empty(bytes, at) {
+        return Ok((&bytes[at..at], at + 2));
     }
     match short_at(bytes, at) {
         Some(next) => Ok((&bytes[at + 2..next], next)),
@@ -72,6 +75,18 @@ fn has_six(bytes: &[u8], at: usize) -> bool
         return false;
     }
     bytes[at + 1] == b':'
+}
+
+/// Whether an empty string stands at a place.
+#[inline(always)]
+fn has_empty(bytes: &[u8], at: usize) -> bool
+    ensures zero { IsTrue result → HasByte bytes.now at 48 true }
+    ensures colon { IsTrue result → HasByte bytes.now (at + 1) 58 true }
+{
+    if !has_byte(bytes, at, b'0') {
+        return false;
+    }
+    has_byte(bytes, at + 1, b':')
 }
 
 /// Where a string at a place ends whose length is one digit and not 0, as that of most keys is. So no digit after it is
@@ -202,6 +217,7 @@ fn has_digit(bytes: &[u8], at: usize) -> bool
 }
 
 /// Where a string ends, which is the next part of a value; it opens and closes nothing.
+#[inline(always)]
 fn string_part(bytes: &[u8], at: usize, depth: usize) -> Option<(usize, usize)>
     requires within { at < length bytes.now }
     requires depth { depth ≤ at }
@@ -219,6 +235,7 @@ fn string_part(bytes: &[u8], at: usize, depth: usize) -> Option<(usize, usize)>
 
 /// The next part of a value: a string, an integer, or where a list or a dictionary opens or closes. It says where the part
 /// ends, and how many are open there.
+#[inline(always)]
 fn part_at(bytes: &[u8], at: usize, depth: usize) -> Option<(usize, usize)>
     requires within { at < length bytes.now }
     requires depth { depth ≤ at }

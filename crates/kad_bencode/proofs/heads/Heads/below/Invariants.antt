@@ -6,3 +6,9 @@ invariant-loop-left l = l.low + l.left ≤ length l.places
 
 abbrev pub decreases-loop-left : goal.decreases-loop-left
 decreases-loop-left l = l.left
+
+abbrev pub invariant-loop-left-2 : goal.invariant-loop-left-2
+invariant-loop-left-2 l = l.low + l.left ≤ length l.places
+
+abbrev pub decreases-loop-left-2 : goal.decreases-loop-left-2
+decreases-loop-left-2 l = l.left
