@@ -30,22 +30,12 @@ enum Coming {
     },
 }
 
-/// A call of the link.
-#[derive(Clone, Copy)]
-enum Call {
-    Now,
-    Send { port: u16, text: &'static [u8] },
-    Receive { room: usize, until: u64 },
-}
-
-/// What a call answers.
+/// What a receive answers.
 #[derive(Clone, Copy, Debug, PartialEq, Eq)]
 enum Said<'a> {
-    Moment(u64),
-    Sent,
-    Failed,
     Datagram { from: Addr, text: &'a [u8], at: u64 },
     Quiet { at: u64 },
+    Failed,
 }
 
 /// An event of the transcript.
@@ -74,8 +64,32 @@ enum Told<'a> {
     },
 }
 
-/// A call and what it has to answer.
-type Row = (Call, Said<'static>);
+/// A call of the link and what it has to answer, or what the link has to tell. The ports are those of 127.0.0.1.
+#[derive(Clone, Copy, Debug)]
+enum Row {
+    /// The moment is this.
+    Now(u64),
+    /// A send to that port passes.
+    Sent(u16, &'static [u8]),
+    /// A send to that port fails.
+    Unsent(u16, &'static [u8]),
+    /// A send of that many bytes to that port passes.
+    SentMany(u16, usize),
+    /// A receive until that moment gives these bytes from that port, and tells that moment.
+    Gives(u64, u16, &'static [u8], u64),
+    /// So does one into a buffer of 4 bytes.
+    GivesCut(u64, u16, &'static [u8], u64),
+    /// A receive until that moment gives nothing, and tells that moment.
+    Waits(u64, u64),
+    /// A receive until that moment fails.
+    Fails(u64),
+    /// So often the link is asked for the moment, sends, and receives nothing: three events each.
+    Repeats(u32),
+    /// The transcript is this.
+    Tells(&'static [Told<'static>]),
+    /// The transcript is so many events, in turn those of `Repeats` at moment 5.
+    TellsRepeated(usize),
+}
 
 fn addr(port: u16) -> Addr {
     Addr {
@@ -136,11 +150,8 @@ fn link(
     Ok(ScriptLink::new(alloc, 5, script, failing_sends, failing_receives))
 }
 
-fn sends(link: &mut ScriptLink, port: u16, text: &[u8]) -> Said<'static> {
-    match link.send(addr(port), text) {
-        Ok(()) => Said::Sent,
-        Err(_) => Said::Failed,
-    }
+fn sends(link: &mut ScriptLink, port: u16, text: &[u8]) -> bool {
+    link.send(addr(port), text).is_ok()
 }
 
 fn receives<'a>(link: &mut ScriptLink, buf: &'a mut [u8], until: u64) -> Said<'a> {
@@ -155,35 +166,39 @@ fn receives<'a>(link: &mut ScriptLink, buf: &'a mut [u8], until: u64) -> Said<'a
     }
 }
 
-/// Makes a call.
-fn says<'a>(link: &mut ScriptLink, call: &Call, buf: &'a mut [u8; 64]) -> Said<'a> {
-    match *call {
-        Call::Now => Said::Moment(link.now()),
-        Call::Send { port, text } => sends(link, port, text),
-        Call::Receive { room, until } => receives(link, &mut buf[..room.min(64)], until),
-    }
+/// Whether a receive into a buffer of that length gives this.
+fn gives(link: &mut ScriptLink, room: usize, until: u64, port: u16, text: &[u8], at: u64) -> bool {
+    let mut buf = [0; 64];
+    let wanted = Said::Datagram {
+        from: addr(port),
+        text,
+        at,
+    };
+    receives(link, &mut buf[..room.min(64)], until) == wanted
 }
 
-/// Makes the calls one after another, and compares what they answer.
-fn play(rt: &impl Abort, link: &mut ScriptLink, rows: &[Row]) {
-    for (call, said) in rows {
-        let mut buf = [0; 64];
-        assert_eq!(rt; says(link, call, &mut buf), *said);
-    }
+/// Whether a receive gives nothing, and tells that moment.
+fn waits(link: &mut ScriptLink, until: u64, at: u64) -> bool {
+    receives(link, &mut [0; 64], until) == Said::Quiet { at }
 }
 
-/// Makes the calls of a link over two events.
-fn plays(
-    rt: &impl Abort,
-    alloc: Global,
-    coming: [Coming; 2],
-    failing_sends: &[u64],
-    failing_receives: &[u64],
-    rows: &[Row],
-) -> Result<(), Fail> {
-    let mut link = link(alloc, coming, failing_sends, failing_receives)?;
-    play(rt, &mut link, rows);
-    Ok(())
+fn fails(link: &mut ScriptLink, until: u64) -> bool {
+    receives(link, &mut [0; 64], until) == Said::Failed
+}
+
+/// Whether a send of that many bytes passes.
+fn sends_many(link: &mut ScriptLink, port: u16, count: usize) -> bool {
+    let bytes = [b'x'; 65_507];
+    sends(link, port, &bytes[..count.min(65_507)])
+}
+
+/// Asks for the moment, sends, and receives nothing, that many times: three events each.
+fn repeats(link: &mut ScriptLink, times: u32) {
+    for _ in 0..times {
+        link.now();
+        sends(link, 6003, b"sent");
+        receives(link, &mut [0; 64], 5);
+    }
 }
 
 fn shown(event: &Event) -> Told<'_> {
@@ -215,198 +230,14 @@ fn shown(event: &Event) -> Told<'_> {
     }
 }
 
-/// The transcript is this.
-fn tells(rt: &impl Abort, events: Option<&[Event]>, rows: &[Told<'static>]) {
+/// Whether the transcript is this.
+fn tells(events: Option<&[Event]>, wanted: &[Told<'_>]) -> bool {
     let events = events.unwrap_or(&[]);
-    assert_eq!(rt; events.len(), rows.len());
-    for (event, row) in events.iter().zip(rows) {
-        assert_eq!(rt; shown(event), *row);
-    }
-}
-
-fn bytes(at: u64, text: &'static [u8], times: u32) -> Coming {
-    Coming::Bytes { at, text, times }
-}
-
-/// A send passes.
-fn sent(port: u16, text: &'static [u8]) -> Row {
-    (Call::Send { port, text }, Said::Sent)
-}
-
-/// A send fails.
-fn unsent(port: u16, text: &'static [u8]) -> Row {
-    (Call::Send { port, text }, Said::Failed)
-}
-
-/// A receive gives these bytes from that port, and tells that moment.
-fn gives(until: u64, port: u16, text: &'static [u8], at: u64) -> Row {
-    (
-        Call::Receive { room: 64, until },
-        Said::Datagram {
-            from: addr(port),
-            text,
-            at,
-        },
-    )
-}
-
-/// A receive gives nothing, and tells that moment.
-fn waits(until: u64, at: u64) -> Row {
-    (Call::Receive { room: 64, until }, Said::Quiet { at })
-}
-
-const OTHER: Coming = Coming::Bytes {
-    at: 30,
-    text: b"other",
-    times: 1,
-};
-
-const ANSWER: Coming = Coming::Answer { at: 7 };
-
-#[test]
-fn an_answer_comes_once_its_query_was_sent(rt: HostRuntime) -> Result<(), Fail> {
-    plays(
-        &rt,
-        rt.alloc(),
-        [ANSWER, OTHER],
-        &[],
-        &[],
-        &[
-            waits(9, 9),
-            sent(6001, PING),
-            gives(9, 6001, PONG, 9),
-            waits(12, 12),
-        ],
-    )
-}
-
-#[test]
-fn a_query_elsewhere_makes_no_answer_ready(rt: HostRuntime) -> Result<(), Fail> {
-    let rows = [sent(6003, PING), waits(9, 9)];
-    plays(&rt, rt.alloc(), [ANSWER, OTHER], &[], &[], &rows)
-}
-
-#[test]
-fn the_second_query_does_not_change_the_id(rt: HostRuntime) -> Result<(), Fail> {
-    let rows = [
-        sent(6001, PING),
-        sent(6001, SECOND_PING),
-        gives(9, 6001, PONG, 7),
-    ];
-    plays(&rt, rt.alloc(), [ANSWER, OTHER], &[], &[], &rows)
-}
-
-#[test]
-fn a_failed_send_makes_no_answer_ready(rt: HostRuntime) -> Result<(), Fail> {
-    let rows = [
-        unsent(6001, SECOND_PING),
-        waits(9, 9),
-        sent(6001, PING),
-        gives(9, 6001, PONG, 9),
-    ];
-    plays(&rt, rt.alloc(), [ANSWER, OTHER], &[0], &[], &rows)
-}
-
-#[test]
-fn bytes_come_as_often_as_the_script_says(rt: HostRuntime) -> Result<(), Fail> {
-    let coming = [bytes(7, b"thrice", 3), bytes(6, b"never", 0)];
-    let rows = [
-        gives(9, 6002, b"thrice", 7),
-        gives(9, 6002, b"thrice", 7),
-        gives(9, 6002, b"thrice", 7),
-        waits(9, 9),
-    ];
-    plays(&rt, rt.alloc(), coming, &[], &[], &rows)
-}
-
-#[test]
-fn the_first_of_one_moment_comes_first(rt: HostRuntime) -> Result<(), Fail> {
-    let coming = [bytes(7, b"first", 1), bytes(7, b"second", 1)];
-    let rows = [gives(9, 6002, b"first", 7), gives(9, 6002, b"second", 7)];
-    plays(&rt, rt.alloc(), coming, &[], &[], &rows)
-}
-
-#[test]
-fn the_sooner_of_two_comes_first(rt: HostRuntime) -> Result<(), Fail> {
-    let coming = [bytes(8, b"later", 1), bytes(2, b"sooner", 1)];
-    let rows = [gives(9, 6002, b"sooner", 5), gives(8, 6002, b"later", 8)];
-    plays(&rt, rt.alloc(), coming, &[], &[], &rows)
-}
-
-#[test]
-fn a_receive_waits_no_less_than_the_last_moment(rt: HostRuntime) -> Result<(), Fail> {
-    let coming = [bytes(20, b"first", 1), bytes(30, b"second", 1)];
-    let rows = [waits(19, 19), waits(3, 19), gives(20, 6002, b"first", 20)];
-    plays(&rt, rt.alloc(), coming, &[], &[], &rows)
-}
-
-#[test]
-fn a_listed_receive_fails_and_takes_nothing(rt: HostRuntime) -> Result<(), Fail> {
-    let coming = [bytes(6, b"first", 1), bytes(7, b"second", 1)];
-    let receive = Call::Receive { room: 64, until: 9 };
-    let rows = [
-        gives(9, 6002, b"first", 6),
-        (receive, Said::Failed),
-        gives(9, 6002, b"second", 7),
-    ];
-    plays(&rt, rt.alloc(), coming, &[], &[1], &rows)
-}
-
-#[test]
-fn a_datagram_is_cut_to_the_buffer(rt: HostRuntime) -> Result<(), Fail> {
-    let coming = [bytes(6, b"abcdef", 1), bytes(7, b"second", 1)];
-    let call = Call::Receive { room: 4, until: 9 };
-    let cut = Said::Datagram {
-        from: addr(6002),
-        text: b"abcd",
-        at: 6,
-    };
-    plays(&rt, rt.alloc(), coming, &[], &[], &[(call, cut)])
-}
-
-/// The events that `it_tells_what_it_did` expects.
-fn transcript() -> [Told<'static>; 5] {
-    let to = addr(6003);
-    [
-        Told::Now { at: 5 },
-        Told::Sent { to, text: b"sent" },
-        Told::Unsent {
-            to,
-            text: b"unsent",
-        },
-        Told::Got {
-            from: addr(6002),
-            text: b"first",
-            until: 9,
-            at: 6,
-        },
-        Told::Quiet { until: 8, at: 8 },
-    ]
-}
-
-#[test]
-fn it_tells_what_it_did(rt: HostRuntime) -> Result<(), Fail> {
-    let coming = [bytes(6, b"first", 1), bytes(30, b"second", 1)];
-    let rows = [
-        (Call::Now, Said::Moment(5)),
-        sent(6003, b"sent"),
-        unsent(6003, b"unsent"),
-        gives(9, 6002, b"first", 6),
-        waits(8, 8),
-    ];
-    let mut link = link(rt.alloc(), coming, &[1], &[])?;
-    play(&rt, &mut link, &rows);
-    tells(&rt, link.events(), &transcript());
-    Ok(())
-}
-
-/// Asks for the moment, sends, and receives nothing, that many times: three events each.
-fn repeats(link: &mut ScriptLink, times: u32) {
-    for _ in 0..times {
-        link.now();
-        sends(link, 6003, b"sent");
-        receives(link, &mut [0; 64], 5);
-    }
+    events.len() == wanted.len()
+        && events
+            .iter()
+            .zip(wanted)
+            .all(|(event, told)| shown(event) == *told)
 }
 
 /// The event of that number of what `repeats` does at moment 5.
@@ -421,25 +252,232 @@ fn repeated(number: usize) -> Told<'static> {
     }
 }
 
-#[test]
-fn five_thousand_events_are_told(rt: HostRuntime) -> Result<(), Fail> {
-    let coming = [bytes(6, b"first", 1), bytes(7, b"second", 1)];
-    let mut link = link(rt.alloc(), coming, &[], &[])?;
-    repeats(&mut link, 1_667);
-    let events = link.events().unwrap_or(&[]);
-    assert_eq!(rt; events.len(), 5_001);
+/// Whether the transcript is so many of these events.
+fn tells_repeated(events: Option<&[Event]>, count: usize) -> bool {
+    let events = events.unwrap_or(&[]);
     for (number, event) in events.iter().enumerate() {
-        assert_eq!(rt; shown(event), repeated(number));
+        if shown(event) != repeated(number) {
+            return false;
+        }
+    }
+    events.len() == count
+}
+
+/// Makes the call, and says whether all is as the row has it.
+fn holds(link: &mut ScriptLink, row: &Row) -> bool {
+    match *row {
+        Row::Now(at) => link.now() == at,
+        Row::Sent(port, text) => sends(link, port, text),
+        Row::Unsent(port, text) => !sends(link, port, text),
+        Row::SentMany(port, count) => sends_many(link, port, count),
+        Row::Gives(until, port, text, at) => gives(link, 64, until, port, text, at),
+        Row::GivesCut(until, port, text, at) => gives(link, 4, until, port, text, at),
+        Row::Waits(until, at) => waits(link, until, at),
+        Row::Fails(until) => fails(link, until),
+        Row::Repeats(times) => {
+            repeats(link, times);
+            true
+        }
+        Row::Tells(wanted) => tells(link.events(), wanted),
+        Row::TellsRepeated(count) => tells_repeated(link.events(), count),
+    }
+}
+
+/// Makes the calls of a link over two events, one after another.
+fn plays(
+    rt: &impl Abort,
+    alloc: Global,
+    coming: [Coming; 2],
+    failing_sends: &[u64],
+    failing_receives: &[u64],
+    rows: &[Row],
+) -> Result<(), Fail> {
+    let mut link = link(alloc, coming, failing_sends, failing_receives)?;
+    for row in rows {
+        assert!(rt; holds(&mut link, row), "{row:?}");
     }
     Ok(())
 }
 
+fn bytes(at: u64, text: &'static [u8], times: u32) -> Coming {
+    Coming::Bytes { at, text, times }
+}
+
+const OTHER: Coming = Coming::Bytes {
+    at: 30,
+    text: b"other",
+    times: 1,
+};
+
+const ANSWER: Coming = Coming::Answer { at: 7 };
+
+const QUERY_AND_ANSWER: &[Row] = &[
+    Row::Waits(9, 9),
+    Row::Sent(6001, PING),
+    Row::Gives(9, 6001, PONG, 9),
+    Row::Waits(12, 12),
+];
+
+#[test]
+fn an_answer_comes_once_its_query_was_sent(rt: HostRuntime) -> Result<(), Fail> {
+    plays(&rt, rt.alloc(), [ANSWER, OTHER], &[], &[], QUERY_AND_ANSWER)
+}
+
+const ELSEWHERE: &[Row] = &[Row::Sent(6003, PING), Row::Waits(9, 9)];
+
+#[test]
+fn a_query_elsewhere_makes_no_answer_ready(rt: HostRuntime) -> Result<(), Fail> {
+    plays(&rt, rt.alloc(), [ANSWER, OTHER], &[], &[], ELSEWHERE)
+}
+
+const TWO_QUERIES: &[Row] = &[
+    Row::Sent(6001, PING),
+    Row::Sent(6001, SECOND_PING),
+    Row::Gives(9, 6001, PONG, 7),
+];
+
+#[test]
+fn the_second_query_does_not_change_the_id(rt: HostRuntime) -> Result<(), Fail> {
+    plays(&rt, rt.alloc(), [ANSWER, OTHER], &[], &[], TWO_QUERIES)
+}
+
+const FAILED_SEND: &[Row] = &[
+    Row::Unsent(6001, SECOND_PING),
+    Row::Waits(9, 9),
+    Row::Sent(6001, PING),
+    Row::Gives(9, 6001, PONG, 9),
+];
+
+#[test]
+fn a_failed_send_makes_no_answer_ready(rt: HostRuntime) -> Result<(), Fail> {
+    plays(&rt, rt.alloc(), [ANSWER, OTHER], &[0], &[], FAILED_SEND)
+}
+
+const THRICE: &[Row] = &[
+    Row::Gives(9, 6002, b"thrice", 7),
+    Row::Gives(9, 6002, b"thrice", 7),
+    Row::Gives(9, 6002, b"thrice", 7),
+    Row::Waits(9, 9),
+];
+
+#[test]
+fn bytes_come_as_often_as_the_script_says(rt: HostRuntime) -> Result<(), Fail> {
+    let coming = [bytes(7, b"thrice", 3), bytes(6, b"never", 0)];
+    plays(&rt, rt.alloc(), coming, &[], &[], THRICE)
+}
+
+const OF_ONE_MOMENT: &[Row] = &[
+    Row::Gives(9, 6002, b"first", 7),
+    Row::Gives(9, 6002, b"second", 7),
+];
+
+#[test]
+fn the_first_of_one_moment_comes_first(rt: HostRuntime) -> Result<(), Fail> {
+    let coming = [bytes(7, b"first", 1), bytes(7, b"second", 1)];
+    plays(&rt, rt.alloc(), coming, &[], &[], OF_ONE_MOMENT)
+}
+
+const SOONER_AND_LATER: &[Row] = &[
+    Row::Gives(9, 6002, b"sooner", 5),
+    Row::Gives(8, 6002, b"later", 8),
+];
+
+#[test]
+fn the_sooner_of_two_comes_first(rt: HostRuntime) -> Result<(), Fail> {
+    let coming = [bytes(8, b"later", 1), bytes(2, b"sooner", 1)];
+    plays(&rt, rt.alloc(), coming, &[], &[], SOONER_AND_LATER)
+}
+
+const PAST_MOMENTS: &[Row] = &[
+    Row::Waits(19, 19),
+    Row::Waits(3, 19),
+    Row::Gives(20, 6002, b"first", 20),
+];
+
+#[test]
+fn a_receive_waits_no_less_than_the_last_moment(rt: HostRuntime) -> Result<(), Fail> {
+    let coming = [bytes(20, b"first", 1), bytes(30, b"second", 1)];
+    plays(&rt, rt.alloc(), coming, &[], &[], PAST_MOMENTS)
+}
+
+const FAILED_RECEIVE: &[Row] = &[
+    Row::Gives(9, 6002, b"first", 6),
+    Row::Fails(9),
+    Row::Gives(9, 6002, b"second", 7),
+];
+
+#[test]
+fn a_listed_receive_fails_and_takes_nothing(rt: HostRuntime) -> Result<(), Fail> {
+    let coming = [bytes(6, b"first", 1), bytes(7, b"second", 1)];
+    plays(&rt, rt.alloc(), coming, &[], &[1], FAILED_RECEIVE)
+}
+
+#[test]
+fn a_datagram_is_cut_to_the_buffer(rt: HostRuntime) -> Result<(), Fail> {
+    let coming = [bytes(6, b"abcdef", 1), bytes(7, b"second", 1)];
+    let rows = [Row::GivesCut(9, 6002, b"abcd", 6)];
+    plays(&rt, rt.alloc(), coming, &[], &[], &rows)
+}
+
+/// 127.0.0.1:6002.
+const FROM: Addr = Addr {
+    ip: Ip::V4([127, 0, 0, 1]),
+    port: 6002,
+};
+
+/// 127.0.0.1:6003.
+const TO: Addr = Addr {
+    ip: Ip::V4([127, 0, 0, 1]),
+    port: 6003,
+};
+
+const WHAT_IT_DID: &[Row] = &[
+    Row::Now(5),
+    Row::Sent(6003, b"sent"),
+    Row::Unsent(6003, b"unsent"),
+    Row::Gives(9, 6002, b"first", 6),
+    Row::Waits(8, 8),
+    Row::Tells(&[
+        Told::Now { at: 5 },
+        Told::Sent {
+            to: TO,
+            text: b"sent",
+        },
+        Told::Unsent {
+            to: TO,
+            text: b"unsent",
+        },
+        Told::Got {
+            from: FROM,
+            text: b"first",
+            until: 9,
+            at: 6,
+        },
+        Told::Quiet { until: 8, at: 8 },
+    ]),
+];
+
+#[test]
+fn it_tells_what_it_did(rt: HostRuntime) -> Result<(), Fail> {
+    let coming = [bytes(6, b"first", 1), bytes(30, b"second", 1)];
+    plays(&rt, rt.alloc(), coming, &[1], &[], WHAT_IT_DID)
+}
+
+const FIVE_THOUSAND: &[Row] = &[Row::Repeats(1_667), Row::TellsRepeated(5_001)];
+
+#[test]
+fn five_thousand_events_are_told(rt: HostRuntime) -> Result<(), Fail> {
+    let coming = [bytes(6, b"first", 1), bytes(7, b"second", 1)];
+    plays(&rt, rt.alloc(), coming, &[], &[], FIVE_THOUSAND)
+}
+
+const LENGTHS: &[Row] = &[
+    Row::SentMany(6001, 0),
+    Row::SentMany(6001, 2_001),
+    Row::SentMany(6001, 65_507),
+];
+
 #[test]
 fn a_send_of_any_length_passes(rt: HostRuntime) -> Result<(), Fail> {
-    let rows = [
-        sent(6001, b""),
-        sent(6001, &[b'x'; 2_001]),
-        sent(6001, &[b'x'; 65_507]),
-    ];
-    plays(&rt, rt.alloc(), [ANSWER, OTHER], &[], &[], &rows)
+    plays(&rt, rt.alloc(), [ANSWER, OTHER], &[], &[], LENGTHS)
 }

@@ -27,22 +27,12 @@ struct Shown {
     short: bool,
 }
 
-/// A call of the link.
-#[derive(Clone, Copy)]
-enum Call {
-    Now,
-    Send { to: Addr, bytes: &'static [u8] },
-    Receive { until: u64 },
-}
-
-/// What a call answers.
+/// What a receive answers.
 #[derive(Clone, Copy, Debug, PartialEq, Eq)]
 enum Said {
-    Moment(u64),
-    Sent,
-    Failed,
-    Quiet { at: u64 },
     Datagram { from: Addr, at: u64, text: Text },
+    Quiet { at: u64 },
+    Failed,
 }
 
 /// What a datagram says.
@@ -59,11 +49,22 @@ enum Text {
     Other,
 }
 
-/// A call and what it has to answer.
-type Row = (Call, Said);
+/// A call of the link and what it has to answer. Nodes go by their numbers.
+#[derive(Clone, Copy, Debug)]
+enum Row {
+    /// The moment is this.
+    Now(u64),
+    /// A send to that node passes.
+    Sent(u16, &'static [u8]),
+    /// Nothing comes up to that moment.
+    Waits(u64),
+    /// In a receive until that moment, that node's datagram comes at that moment.
+    Gives(u64, u16, u64, Text),
+}
 
 /// The address of a node below 65,536.
-fn node_at(high: u8, low: u8) -> Addr {
+fn node_at(node: u16) -> Addr {
+    let [high, low] = node.to_be_bytes();
     Addr {
         ip: Ip::V4([10, 0, high, low]),
         port: 6881,
@@ -105,13 +106,6 @@ fn text_of(alloc: Global, bytes: &[u8]) -> Text {
     }
 }
 
-fn sends(net: &mut SimNet, to: Addr, bytes: &[u8]) -> Said {
-    match net.send(to, bytes) {
-        Ok(()) => Said::Sent,
-        Err(_) => Said::Failed,
-    }
-}
-
 fn receives(alloc: Global, net: &mut SimNet, until: u64) -> Said {
     let mut buf = [0; 1024];
     match net.recv(&mut buf, until) {
@@ -125,62 +119,39 @@ fn receives(alloc: Global, net: &mut SimNet, until: u64) -> Said {
     }
 }
 
-/// Makes a call.
-fn says(alloc: Global, net: &mut SimNet, call: &Call) -> Said {
-    match *call {
-        Call::Now => Said::Moment(net.now()),
-        Call::Send { to, bytes } => sends(net, to, bytes),
-        Call::Receive { until } => receives(alloc, net, until),
+/// Makes the call, and says whether its answer is as the row has it.
+fn holds(alloc: Global, net: &mut SimNet, row: &Row) -> bool {
+    match *row {
+        Row::Now(at) => net.now() == at,
+        Row::Sent(node, bytes) => net.send(node_at(node), bytes).is_ok(),
+        Row::Waits(until) => receives(alloc, net, until) == Said::Quiet { at: until },
+        Row::Gives(until, node, at, text) => {
+            let from = node_at(node);
+            receives(alloc, net, until) == Said::Datagram { from, at, text }
+        }
     }
 }
 
-/// Makes the calls one after another, and compares what they answer.
-fn play(rt: &impl Abort, alloc: Global, net: &mut SimNet, rows: &[Row]) {
-    for (call, said) in rows {
-        assert_eq!(rt; says(alloc, net, call), *said);
-    }
-}
-
-/// Makes the calls of a new network.
+/// Makes the calls of a new network, one after another.
 fn plays(rt: &impl Abort, alloc: Global, rows: &[Row]) -> Result<(), Fail> {
     let mut net = network(alloc)?;
-    play(rt, alloc, &mut net, rows);
+    for row in rows {
+        assert!(rt; holds(alloc, &mut net, row), "{row:?}");
+    }
     Ok(())
 }
 
-/// A send passes.
-fn sent(to: Addr, bytes: &'static [u8]) -> Row {
-    (Call::Send { to, bytes }, Said::Sent)
-}
+const OWN: Id = Id(
+    *b"\x76\xb8\xe0\xad\xa0\xf1\x3d\x90\x40\x5d\x6a\xe5\x53\x86\xbd\x28\xbd\xd2\x19\xb8",
+);
 
-/// Nothing comes up to that moment.
-fn waits(until: u64) -> Row {
-    (Call::Receive { until }, Said::Quiet { at: until })
-}
-
-/// A datagram comes at that moment.
-fn gives(until: u64, from: Addr, at: u64, text: Text) -> Row {
-    (Call::Receive { until }, Said::Datagram { from, at, text })
-}
-
-/// An identifier by its bytes.
-fn hex(bytes: &[u8; 20]) -> Id
-    ensures { result.0 ≡ bytes.now }
-{
-    Id(*bytes)
-}
-
-fn own() -> Id {
-    hex(b"\x76\xb8\xe0\xad\xa0\xf1\x3d\x90\x40\x5d\x6a\xe5\x53\x86\xbd\x28\xbd\xd2\x19\xb8")
-}
-
-fn target() -> Id {
-    hex(b"\x1a\xa4\xd4\x35\xd7\xbe\x3a\xcb\xf5\xee\x04\xa3\x8b\x86\x47\x56\x1d\xe9\xd0\x9b")
-}
+const TARGET: Id = Id(
+    *b"\x1a\xa4\xd4\x35\xd7\xbe\x3a\xcb\xf5\xee\x04\xa3\x8b\x86\x47\x56\x1d\xe9\xd0\x9b",
+);
 
 /// Whether these are the two closest to the target of the nodes that aren't hostile.
 fn are_closest(net: &SimNet, contacts: &[Contact]) -> Result<bool, NoMemory> {
-    let near = net.closest_honest(&target(), 2)?;
+    let near = net.closest_honest(&TARGET, 2)?;
     Ok(near.as_slice() == contacts)
 }
 
@@ -196,107 +167,117 @@ fn shows(alloc: Global) -> Result<Shown, NoMemory> {
     })
 }
 
+const SHOWN: &Shown = &Shown {
+    own: OWN,
+    target: TARGET,
+    last: Contact {
+        id: Id(
+            *b"\x7c\x6b\x46\x7c\x48\xef\x6d\xd7\xed\x50\xbb\x6a\xfc\xbd\x7f\x12\xc4\x6a\x9d\x73",
+        ),
+        addr: Addr {
+            ip: Ip::V4([10, 0, 1, 243]),
+            port: 6881,
+        },
+    },
+    closest: true,
+    short: false,
+};
+
 #[test]
 fn nodes_are_as_the_seed_says(rt: HostRuntime) -> Result<(), Fail> {
-    let last = Contact {
-        id: hex(
-            b"\x7c\x6b\x46\x7c\x48\xef\x6d\xd7\xed\x50\xbb\x6a\xfc\xbd\x7f\x12\xc4\x6a\x9d\x73",
-        ),
-        addr: node_at(1, 243),
-    };
-    let wanted = Shown {
-        own: own(),
-        target: target(),
-        last,
-        closest: true,
-        short: false,
-    };
-    assert_eq!(rt; shows(rt.alloc())?, wanted);
+    assert_eq!(rt; shows(rt.alloc())?, *SHOWN);
     Ok(())
 }
 
+/// The addresses of nodes 8 and 12.
+const NODE_8: Addr = Addr {
+    ip: Ip::V4([10, 0, 0, 8]),
+    port: 6881,
+};
+
+const NODE_12: Addr = Addr {
+    ip: Ip::V4([10, 0, 0, 12]),
+    port: 6881,
+};
+
 /// What an honest node answers.
-fn honest() -> Text {
-    Text::Names {
-        id: hex(
-            b"\xc3\x7d\x7e\x6e\xf7\x49\xc8\xa2\x2a\x2b\x9a\x9d\x37\xd9\xfe\x89\xec\xec\x47\xd6",
-        ),
-        count: 8,
-        first: node_at(0, 8),
-        last: node_at(0, 12),
-    }
-}
+const HONEST: Text = Text::Names {
+    id: Id(*b"\xc3\x7d\x7e\x6e\xf7\x49\xc8\xa2\x2a\x2b\x9a\x9d\x37\xd9\xfe\x89\xec\xec\x47\xd6"),
+    count: 8,
+    first: NODE_8,
+    last: NODE_12,
+};
 
 /// What a node that invents contacts answers.
-fn inventing() -> Text {
-    let invented = |r| Addr {
-        ip: Ip::V4([127, 0, 0, r]),
+const INVENTING: Text = Text::Names {
+    id: Id(*b"\x72\x0d\x90\x58\x8f\x75\x10\x99\x22\x71\x18\xe2\x5d\xe9\x17\xa9\x92\x68\x7f\x21"),
+    count: 16,
+    first: Addr {
+        ip: Ip::V4([127, 0, 0, 0]),
         port: 1,
-    };
-    Text::Names {
-        id: hex(
-            b"\x72\x0d\x90\x58\x8f\x75\x10\x99\x22\x71\x18\xe2\x5d\xe9\x17\xa9\x92\x68\x7f\x21",
-        ),
-        count: 16,
-        first: invented(0),
-        last: invented(15),
-    }
-}
+    },
+    last: Addr {
+        ip: Ip::V4([127, 0, 0, 15]),
+        port: 1,
+    },
+};
 
 /// What a node that poses as the target answers.
-fn posing() -> Text {
-    Text::Names {
-        id: hex(b"mnopqrstuvwxyz123456"),
-        count: 8,
-        first: node_at(0, 8),
-        last: node_at(0, 12),
-    }
-}
+const POSING: Text = Text::Names {
+    id: Id(*b"mnopqrstuvwxyz123456"),
+    count: 8,
+    first: NODE_8,
+    last: NODE_12,
+};
+
+const ANSWERS: &[Row] = &[
+    Row::Sent(25, FIND_NODE),
+    Row::Gives(1_000, 25, 35, HONEST),
+    Row::Sent(0, FIND_NODE),
+    Row::Gives(1_000, 0, 45, INVENTING),
+    Row::Sent(2, FIND_NODE),
+    Row::Gives(1_000, 2, 57, POSING),
+];
 
 #[test]
 fn honest_and_hostile_nodes_answer(rt: HostRuntime) -> Result<(), Fail> {
-    let rows = [
-        sent(node_at(0, 25), FIND_NODE),
-        gives(1_000, node_at(0, 25), 35, honest()),
-        sent(node_at(0, 0), FIND_NODE),
-        gives(1_000, node_at(0, 0), 45, inventing()),
-        sent(node_at(0, 2), FIND_NODE),
-        gives(1_000, node_at(0, 2), 57, posing()),
-    ];
-    plays(&rt, rt.alloc(), &rows)
+    plays(&rt, rt.alloc(), ANSWERS)
 }
+
+/// Node 500 isn't there.
+const SILENCE: &[Row] = &[
+    Row::Sent(1, FIND_NODE),
+    Row::Waits(100),
+    Row::Sent(500, FIND_NODE),
+    Row::Waits(200),
+    Row::Sent(25, PING),
+    Row::Waits(300),
+    Row::Sent(203, FIND_NODE),
+    Row::Sent(3, FIND_NODE),
+    Row::Gives(313, 203, 313, Text::ServerError),
+    Row::Gives(400, 3, 313, Text::ServerError),
+    Row::Now(313),
+];
 
 #[test]
 fn others_are_silent_and_the_first_of_one_moment_comes_first(rt: HostRuntime) -> Result<(), Fail> {
-    let rows = [
-        sent(node_at(0, 1), FIND_NODE),
-        waits(100),
-        sent(node_at(1, 244), FIND_NODE),
-        waits(200),
-        sent(node_at(0, 25), PING),
-        waits(300),
-        sent(node_at(0, 203), FIND_NODE),
-        sent(node_at(0, 3), FIND_NODE),
-        gives(313, node_at(0, 203), 313, Text::ServerError),
-        gives(400, node_at(0, 3), 313, Text::ServerError),
-        (Call::Now, Said::Moment(313)),
-    ];
-    plays(&rt, rt.alloc(), &rows)
+    plays(&rt, rt.alloc(), SILENCE)
 }
+
+const LAST_MOMENT: &[Row] = &[
+    Row::Waits(u64::MAX - 20),
+    Row::Sent(25, FIND_NODE),
+    Row::Sent(0, FIND_NODE),
+    Row::Waits(u64::MAX - 11),
+    Row::Gives(u64::MAX, 0, u64::MAX - 10, INVENTING),
+    Row::Waits(u64::MAX - 1),
+    Row::Gives(u64::MAX, 25, u64::MAX, HONEST),
+    Row::Waits(u64::MAX),
+];
 
 #[test]
 fn an_answer_past_the_last_moment_comes_at_it(rt: HostRuntime) -> Result<(), Fail> {
-    let rows = [
-        waits(u64::MAX - 20),
-        sent(node_at(0, 25), FIND_NODE),
-        sent(node_at(0, 0), FIND_NODE),
-        waits(u64::MAX - 11),
-        gives(u64::MAX, node_at(0, 0), u64::MAX - 10, inventing()),
-        waits(u64::MAX - 1),
-        gives(u64::MAX, node_at(0, 25), u64::MAX, honest()),
-        waits(u64::MAX),
-    ];
-    plays(&rt, rt.alloc(), &rows)
+    plays(&rt, rt.alloc(), LAST_MOMENT)
 }
 
 /// Whether the network is short after that many calls that it tells.

@@ -12,24 +12,36 @@ mod paths;
 mod peering;
 mod puzzled;
 mod replies;
-mod sending;
 mod spread;
 mod together;
+mod trial;
 
-use kad_base::{Event, List};
-use run_kit::{play, shows};
-use std::alloc::Global;
-use std::random::RandomSource;
-use std::sync::Wait;
+use crate::tests::trial::Outside::{self, Answers, Names, Says};
+use crate::tests::trial::Wanted::{Events, Sends};
+use crate::tests::trial::{SILENT, Told, Trial, all_play, plays};
+use kad_base::{Addr, Family, Ip};
 use std::test::Fail;
-use std::thread::Threads;
-use trial_kit::{LINE_1, Reply, contact, failing_link, lines, link, sent, tells};
+use trial_kit::{LINE_1, Reply};
 
 const FOUND_1: &str =
     "0000000000000000000000000000000000000001 127.0.0.1:6001\nfound 1 asked 1 failed 0 turned 0\n";
 
 const FOUND_2: &str =
     "0000000000000000000000000000000000000002 127.0.0.1:6002\nfound 1 asked 2 failed 1 turned 0\n";
+
+/// Contact 1 was asked and lost.
+const NOBODY: &str = "found 0 asked 1 failed 1 turned 0\n";
+
+/// The lines of contacts 1 and 2.
+const TWO_LINES: &str =
+    "0000000000000000000000000000000000000001 127.0.0.1:6001\n0000000000000000000000000000000000000002 127.0.0.1:6002\n";
+
+/// Contacts 1 and 2 were found, and contacts 1 to 3.
+const BOTH: &str =
+    "0000000000000000000000000000000000000001 127.0.0.1:6001\n0000000000000000000000000000000000000002 127.0.0.1:6002\nfound 2 asked 2 failed 0 turned 0\n";
+
+const FOUND_3: &str =
+    "0000000000000000000000000000000000000001 127.0.0.1:6001\n0000000000000000000000000000000000000002 127.0.0.1:6002\n0000000000000000000000000000000000000003 127.0.0.1:6003\nfound 3 asked 3 failed 0 turned 0\n";
 
 /// The answer of contact 1 that names nobody, to the first query.
 const ANSWER_1: &[u8] =
@@ -57,176 +69,277 @@ const PEERS: &[&str] = &[
     "1",
 ];
 
-/// The contacts from this one to the ninth answer at moment 10. The second names the ninth.
-fn naming_the_ninth(alloc: Global, first: u8) -> Result<Vec<Reply>, Fail> {
-    let mut replies = Vec::new(alloc);
-    for n in first..=9 {
-        let reply = if n == 2 {
-            Reply::naming(2, 10, 9)
-        } else {
-            Reply::of(n, 10)
-        };
-        replies.push(reply)?;
-    }
-    Ok(replies)
-}
-
 /// The query to contact 1, with the sixth word of the generator of 32 zero bytes.
-fn query(alloc: Global) -> Result<Vec<u8>, Fail> {
-    let mut query = Vec::new(alloc);
-    query.extend_from_slice(b"d1:ad2:id20:")?;
-    query.extend_from_slice(&[0xff; 20])?;
-    query.extend_from_slice(b"6:target20:")?;
-    query.extend_from_slice(&[0; 20])?;
-    query.extend_from_slice(b"e1:q9:find_node2:roi1e1:t4:")?;
-    query.extend_from_slice(&[0xa0, 0x8d, 0xed, 0x1a])?;
-    query.extend_from_slice(b"1:y1:qe")?;
-    Ok(query)
-}
+const QUERY: &[u8; 101] =
+    b"d1:ad2:id20:\xff\xff\xff\xff\xff\xff\xff\xff\xff\xff\xff\xff\xff\xff\xff\xff\xff\xff\xff\xff6:target20:\0\0\0\0\0\0\0\0\0\0\0\0\0\0\0\0\0\0\0\0e1:q9:find_node2:roi1e1:t4:\xa0\x8d\xed\x1a1:y1:qe";
+
+/// The address of contact 1.
+const CONTACT_1: Addr = Addr {
+    ip: Ip::V4([127, 0, 0, 1]),
+    port: 6001,
+};
+
+/// Who asks, and is no contact.
+const STRANGER: Addr = Addr {
+    ip: Ip::V4([127, 0, 0, 1]),
+    port: 7000,
+};
+
+/// Contact 1 begins and answers as it should.
+const FOUND: Trial<'static> = Trial {
+    words: ONE_PATH,
+    input: LINE_1,
+    outside: &[Answers(10, 1)],
+    text: FOUND_1,
+    ..SILENT
+};
 
 #[test]
 fn a_contact_that_answers_is_found(rt: HostRuntime) -> Result<(), Fail> {
-    let alloc = rt.alloc();
-    let query = query(alloc)?;
-    let played = play(&rt, ONE_PATH, LINE_1, link(alloc, &[Reply::of(1, 10)])?)?;
-    let sent = sent(alloc, &played.link)?;
-    assert_eq!(rt; played.status, 0);
-    assert_eq!(rt; played.text.as_str(), FOUND_1);
-    assert_eq!(rt; query.len(), 101);
-    assert_eq!(rt; sent.len(), 1);
-    assert_eq!(rt; sent[0].as_slice(), query.as_slice());
-    Ok(())
+    const TRIAL: &Trial<'static> = &Trial {
+        told: Sends(1, &[(0, 6001, QUERY)]),
+        ..FOUND
+    };
+    plays(&rt, TRIAL)
 }
 
 /// It asks for the moment, sends the query, and waits for the answer until the query's deadline, 2000 milliseconds later
 /// where no word says otherwise. The answer is BEP 5's with the identifier alone.
 #[test]
 fn a_lookup_tells_what_it_did(rt: HostRuntime) -> Result<(), Fail> {
-    let alloc = rt.alloc();
-    let played = play(&rt, ONE_PATH, LINE_1, link(alloc, &[Reply::of(1, 10)])?)?;
-    let addr = contact(1).addr;
-    let events = [
-        Event::Now { at: 0 },
-        Event::Sent {
-            to: addr,
-            bytes: List::from_vec(query(alloc)?),
-        },
-        Event::Got {
-            from: addr,
-            bytes: List::from_slice(alloc, ANSWER_1)?,
-            until: 2000,
-            at: 10,
-        },
-    ];
-    assert!(rt; tells(&played.link, &events));
-    Ok(())
+    const TRIAL: &Trial<'static> = &Trial {
+        told: Events(&[
+            Told::Now { at: 0 },
+            Told::Sent {
+                to: CONTACT_1,
+                bytes: QUERY,
+            },
+            Told::Got {
+                from: CONTACT_1,
+                bytes: ANSWER_1,
+                until: 2000,
+                at: 10,
+            },
+        ]),
+        ..FOUND
+    };
+    plays(&rt, TRIAL)
 }
 
 #[test]
 fn nothing_to_begin_with_sends_nothing(rt: HostRuntime) -> Result<(), Fail> {
-    let alloc = rt.alloc();
-    let played = play(&rt, ONE_PATH, "", link(alloc, &[Reply::of(1, 10)])?)?;
-    let sent = sent(alloc, &played.link)?;
-    assert_eq!(rt; played.status, 8);
-    assert_eq!(rt; played.text.as_str(), "no seeds\n");
-    assert_eq!(rt; sent.len(), 0);
-    Ok(())
+    const TRIAL: &Trial<'static> = &Trial {
+        input: "",
+        status: 8,
+        text: "no seeds\n",
+        told: Sends(0, &[]),
+        ..FOUND
+    };
+    plays(&rt, TRIAL)
 }
 
 #[test]
 fn an_answer_from_another_port_is_a_stray(rt: HostRuntime) -> Result<(), Fail> {
-    let from_another_port = Reply {
+    const FROM_ANOTHER_PORT: Reply = Reply {
+        family: Family::Four,
+        to: 1,
+        at: 5,
         port: 6999,
-        ..Reply::of(1, 5)
+        id: 1,
+        node: None,
     };
-    let link = link(rt.alloc(), &[from_another_port, Reply::of(1, 10)])?;
-    shows(&rt, ONE_PATH, LINE_1, link, 0, FOUND_1)
+    const TRIAL: &Trial<'static> = &Trial {
+        outside: &[Says(FROM_ANOTHER_PORT), Answers(10, 1)],
+        ..FOUND
+    };
+    plays(&rt, TRIAL)
 }
 
 #[test]
 fn an_answer_in_another_name_loses_the_contact(rt: HostRuntime) -> Result<(), Fail> {
-    let in_another_name = Reply {
+    const IN_ANOTHER_NAME: Reply = Reply {
+        family: Family::Four,
+        to: 1,
+        at: 10,
+        port: 6001,
         id: 7,
-        ..Reply::of(1, 10)
+        node: None,
     };
-    shows(
-        &rt,
-        ONE_PATH,
-        LINE_1,
-        link(rt.alloc(), &[in_another_name])?,
-        0,
-        "found 0 asked 1 failed 1 turned 0\n",
-    )
+    const TRIAL: &Trial<'static> = &Trial {
+        outside: &[Says(IN_ANOTHER_NAME)],
+        text: NOBODY,
+        ..FOUND
+    };
+    plays(&rt, TRIAL)
 }
 
 #[test]
 fn a_refused_send_loses_the_contact(rt: HostRuntime) -> Result<(), Fail> {
-    let two = lines(rt.alloc(), 1, 2)?;
-    let link = failing_link(rt.alloc(), &[Reply::of(2, 10)], &[0], &[])?;
-    shows(&rt, ONE_PATH, two.as_str(), link, 0, FOUND_2)
+    const TRIAL: &Trial<'static> = &Trial {
+        input: TWO_LINES,
+        outside: &[Answers(10, 2)],
+        refused: &[0],
+        text: FOUND_2,
+        ..FOUND
+    };
+    plays(&rt, TRIAL)
 }
 
 #[test]
 fn a_failed_receive_ends_the_lookup(rt: HostRuntime) -> Result<(), Fail> {
-    let link = failing_link(rt.alloc(), &[Reply::of(1, 10)], &[], &[0])?;
-    shows(&rt, ONE_PATH, LINE_1, link, 4, "link fault\n")
+    const TRIAL: &Trial<'static> = &Trial {
+        broken: &[0],
+        status: 4,
+        text: "link fault\n",
+        ..FOUND
+    };
+    plays(&rt, TRIAL)
 }
+
+/// The lines of contacts 1 to 8.
+const EIGHT_LINES: &str = "\
+0000000000000000000000000000000000000001 127.0.0.1:6001\n\
+0000000000000000000000000000000000000002 127.0.0.1:6002\n\
+0000000000000000000000000000000000000003 127.0.0.1:6003\n\
+0000000000000000000000000000000000000004 127.0.0.1:6004\n\
+0000000000000000000000000000000000000005 127.0.0.1:6005\n\
+0000000000000000000000000000000000000006 127.0.0.1:6006\n\
+0000000000000000000000000000000000000007 127.0.0.1:6007\n\
+0000000000000000000000000000000000000008 127.0.0.1:6008\n";
+
+/// Contacts 1 to 8 were found.
+const FOUND_1_TO_8: &str = "\
+0000000000000000000000000000000000000001 127.0.0.1:6001\n\
+0000000000000000000000000000000000000002 127.0.0.1:6002\n\
+0000000000000000000000000000000000000003 127.0.0.1:6003\n\
+0000000000000000000000000000000000000004 127.0.0.1:6004\n\
+0000000000000000000000000000000000000005 127.0.0.1:6005\n\
+0000000000000000000000000000000000000006 127.0.0.1:6006\n\
+0000000000000000000000000000000000000007 127.0.0.1:6007\n\
+0000000000000000000000000000000000000008 127.0.0.1:6008\n\
+found 8 asked 8 failed 0 turned 0\n";
+
+/// Contact 1 was lost, and contacts 2 to 9 were found.
+const FOUND_2_TO_9: &str = "\
+0000000000000000000000000000000000000002 127.0.0.1:6002\n\
+0000000000000000000000000000000000000003 127.0.0.1:6003\n\
+0000000000000000000000000000000000000004 127.0.0.1:6004\n\
+0000000000000000000000000000000000000005 127.0.0.1:6005\n\
+0000000000000000000000000000000000000006 127.0.0.1:6006\n\
+0000000000000000000000000000000000000007 127.0.0.1:6007\n\
+0000000000000000000000000000000000000008 127.0.0.1:6008\n\
+0000000000000000000000000000000000000009 127.0.0.1:6009\n\
+found 8 asked 9 failed 1 turned 0\n";
+
+/// All answer, and the second names the ninth.
+const NAMING_THE_NINTH: &[Outside<'static>] = &[
+    Answers(10, 1),
+    Names(10, 2, 9),
+    Answers(10, 3),
+    Answers(10, 4),
+    Answers(10, 5),
+    Answers(10, 6),
+    Answers(10, 7),
+    Answers(10, 8),
+    Answers(10, 9),
+];
 
 #[test]
 fn a_ninth_is_not_asked_while_eight_closer_ones_answer(rt: HostRuntime) -> Result<(), Fail> {
-    let alloc = rt.alloc();
-    let input = lines(alloc, 1, 8)?;
-    let mut text = lines(alloc, 1, 8)?;
-    text.push_str("found 8 asked 8 failed 0 turned 0\n")?;
-    let replies = naming_the_ninth(alloc, 1)?;
-    let link = link(alloc, replies.as_slice())?;
-    shows(&rt, ONE_PATH, input.as_str(), link, 0, text.as_str())
+    const TRIAL: &Trial<'static> = &Trial {
+        input: EIGHT_LINES,
+        outside: NAMING_THE_NINTH,
+        text: FOUND_1_TO_8,
+        ..FOUND
+    };
+    plays(&rt, TRIAL)
 }
 
 #[test]
 fn a_ninth_is_asked_where_one_of_eight_is_silent(rt: HostRuntime) -> Result<(), Fail> {
-    let alloc = rt.alloc();
-    let input = lines(alloc, 1, 8)?;
-    let mut text = lines(alloc, 2, 9)?;
-    text.push_str("found 8 asked 9 failed 1 turned 0\n")?;
-    let replies = naming_the_ninth(alloc, 2)?;
-    let link = link(alloc, replies.as_slice())?;
-    shows(&rt, ONE_PATH, input.as_str(), link, 0, text.as_str())
+    const TRIAL: &Trial<'static> = &Trial {
+        input: EIGHT_LINES,
+        outside: &[
+            Names(10, 2, 9),
+            Answers(10, 3),
+            Answers(10, 4),
+            Answers(10, 5),
+            Answers(10, 6),
+            Answers(10, 7),
+            Answers(10, 8),
+            Answers(10, 9),
+        ],
+        text: FOUND_2_TO_9,
+        ..FOUND
+    };
+    plays(&rt, TRIAL)
 }
 
 #[test]
 fn a_bad_line_is_named(rt: HostRuntime) -> Result<(), Fail> {
-    let input = "0000000000000000000000000000000000000001 127.0.0.1:6001\nxyz\n";
-    shows(
-        &rt,
-        ONE_PATH,
-        input,
-        link(rt.alloc(), &[Reply::of(1, 10)])?,
-        3,
-        "bad line 2\n",
-    )
+    const TRIAL: &Trial<'static> = &Trial {
+        input: "0000000000000000000000000000000000000001 127.0.0.1:6001\nxyz\n",
+        status: 3,
+        text: "bad line 2\n",
+        ..FOUND
+    };
+    plays(&rt, TRIAL)
 }
+
+const ZEROS: &str = "0000000000000000000000000000000000000000";
+
+const REFUSED_WORDS: Trial<'static> = Trial {
+    words: &[],
+    status: 2,
+    text: "usage\n",
+    ..FOUND
+};
 
 /// No words at all, a command that there is not, and what no command takes.
 #[test]
 fn words_that_ask_for_nothing(rt: HostRuntime) -> Result<(), Fail> {
-    let zeros = "0000000000000000000000000000000000000000";
-    refuses(&rt, &[])?;
-    refuses(&rt, &["find"])?;
-    refuses(&rt, &["serve", "--receives", "0"])?;
-    refuses(&rt, &["lookup"])?;
-    refuses(&rt, &["lookup", "--target", &zeros[1..]])?;
-    refuses(&rt, &["lookup", "--target", zeros, "--k", "21"])?;
-    refuses(&rt, &["lookup", "--target", zeros, "--k", "8", "--k", "8"])?;
-    refuses(&rt, &["lookup", "--target", zeros, "--k=8"])?;
-    refuses(&rt, &["lookup", "--target", zeros, "--k"])?;
-    refuses(&rt, &["lookup", "--target", zeros, "--speed", "1"])
-}
-
-fn refuses<R: AllocGlobal + RandomSource + Threads + Wait + Sync>(
-    rt: &R,
-    texts: &[&str],
-) -> Result<(), Fail> {
-    let link = link(rt.alloc(), &[Reply::of(1, 10)])?;
-    shows(rt, texts, LINE_1, link, 2, "usage\n")
+    const TRIALS: &[Trial<'static>] = &[
+        REFUSED_WORDS,
+        Trial {
+            words: &["find"],
+            ..REFUSED_WORDS
+        },
+        Trial {
+            words: &["serve", "--receives", "0"],
+            ..REFUSED_WORDS
+        },
+        Trial {
+            words: &["lookup"],
+            ..REFUSED_WORDS
+        },
+        Trial {
+            words: &[
+                "lookup",
+                "--target",
+                "000000000000000000000000000000000000000",
+            ],
+            ..REFUSED_WORDS
+        },
+        Trial {
+            words: &["lookup", "--target", ZEROS, "--k", "21"],
+            ..REFUSED_WORDS
+        },
+        Trial {
+            words: &["lookup", "--target", ZEROS, "--k", "8", "--k", "8"],
+            ..REFUSED_WORDS
+        },
+        Trial {
+            words: &["lookup", "--target", ZEROS, "--k=8"],
+            ..REFUSED_WORDS
+        },
+        Trial {
+            words: &["lookup", "--target", ZEROS, "--k"],
+            ..REFUSED_WORDS
+        },
+        Trial {
+            words: &["lookup", "--target", ZEROS, "--speed", "1"],
+            ..REFUSED_WORDS
+        },
+    ];
+    all_play(&rt, TRIALS)
 }

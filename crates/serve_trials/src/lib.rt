@@ -8,6 +8,8 @@ mod faults;
 #[cfg(test)]
 mod input;
 #[cfg(test)]
+mod outside;
+#[cfg(test)]
 mod plain;
 #[cfg(test)]
 mod refreshing;
@@ -17,5 +19,7 @@ mod saving;
 mod serving;
 #[cfg(test)]
 mod simulated;
+#[cfg(test)]
+mod trial;
 #[cfg(test)]
 mod workers;

@@ -1,15 +1,15 @@
 //! Whole commands `refresh`. The pings' transaction ids are the sixth and the seventh word of the generator of 32 zero bytes:
 //! a08ded1a and a836efcc of the keystream of ChaCha20 under a key of zeros. Texts and bytes were written by hand.
-use fake_net::ScriptLink;
-use id_puzzles::Sha1Check;
-use kad_base::{BytesSink, BytesSource, Link, List, Sink, SteadySource};
-use run_kit::{none, plain_status_of, play, shows, status_of, words};
-use std::alloc::Global;
+use crate::outside::{Input, Outside, ends};
+use crate::trial::{
+    Coming, Row, Told, Trial, Wanted, all_answer_plainly, all_play, answers, plays,
+};
+use kad_base::Family;
 use std::random::RandomSource;
 use std::sync::Wait;
 use std::test::Fail;
 use std::thread::Threads;
-use trial_kit::{Reply, Strangers, failing_link, link, link_with, local, sent};
+use trial_kit::{Reply, Strangers, local};
 
 /// A table of contact 1 alone, of the node of twenty bytes ff.
 const ONE: &str =
@@ -54,181 +54,254 @@ const TAGGED: &[u8] =
 
 const ZEROS_KEY: &str = "0000000000000000000000000000000000000000000000000000000000000000";
 
+/// A refresh of the table of contact 1, who answers.
+const ANSWERED: Trial = Trial {
+    words: &["refresh"],
+    input: ONE,
+    coming: Coming::Datagrams(&[(10, 6001, ANSWER_1)]),
+    failing_sends: &[],
+    failing_receives: &[],
+    status: 0,
+    text: ONE,
+    told: Wanted::Sends(&[PING_1]),
+};
+
+/// The same where nobody answers.
+const SILENT: Trial = Trial {
+    coming: Coming::Datagrams(&[]),
+    text: NOBODY,
+    told: Wanted::Sends(&[PING_1, PING_2]),
+    ..ANSWERED
+};
+
+/// Contact 1 answers.
+const REPLY_1: Reply = Reply {
+    family: Family::Four,
+    to: 1,
+    at: 10,
+    port: 6001,
+    id: 1,
+    node: None,
+};
+
+/// Contact 2 does.
+const REPLY_2: Reply = Reply {
+    family: Family::Four,
+    to: 2,
+    at: 20,
+    port: 6002,
+    id: 2,
+    node: None,
+};
+
 #[test]
 fn who_answers_stays(rt: HostRuntime) -> Result<(), Fail> {
-    let link = link_with(rt.alloc(), ANSWER_1, 10, 1, &[])?;
-    let played = play(&rt, &["refresh"], ONE, link)?;
-    assert_eq!(rt; played.status, 0);
-    assert_eq!(rt; played.text.as_str(), ONE);
-    let sent = sent(rt.alloc(), &played.link)?;
-    assert_eq!(rt; sent.len(), 1);
-    assert_eq!(rt; sent[0].as_slice(), PING_1);
-    Ok(())
+    plays(&rt, &ANSWERED)
 }
 
 /// Two tries of two seconds, and of a second.
+const TRIES: &[Trial] = &[
+    Trial {
+        told: Wanted::Events(&[
+            Told::Now(0),
+            Told::Sent(6001, PING_1),
+            Told::Quiet(2000, 2000),
+            Told::Sent(6001, PING_2),
+            Told::Quiet(4000, 4000),
+        ]),
+        ..SILENT
+    },
+    Trial {
+        words: &["refresh", "--timeout", "1000"],
+        told: Wanted::Events(&[
+            Told::Now(0),
+            Told::Sent(6001, PING_1),
+            Told::Quiet(1000, 1000),
+            Told::Sent(6001, PING_2),
+            Told::Quiet(2000, 2000),
+        ]),
+        ..SILENT
+    },
+];
+
 #[test]
 fn who_is_silent_is_pinged_twice_and_goes(rt: HostRuntime) -> Result<(), Fail> {
-    let played = play(&rt, &["refresh"], ONE, link(rt.alloc(), &[])?)?;
-    assert_eq!(rt; played.status, 0);
-    assert_eq!(rt; played.text.as_str(), NOBODY);
-    let sent = sent(rt.alloc(), &played.link)?;
-    assert_eq!(rt; sent.len(), 2);
-    assert_eq!(rt; sent[0].as_slice(), PING_1);
-    assert_eq!(rt; sent[1].as_slice(), PING_2);
-    assert_eq!(rt; now(played.link), 4000);
-    let short = play(
-        &rt,
-        &["refresh", "--timeout", "1000"],
-        ONE,
-        link(rt.alloc(), &[])?,
-    )?;
-    assert_eq!(rt; now(short.link), 2000);
-    Ok(())
+    all_play(&rt, TRIES)
 }
+
+const OF_TWO: &[Trial] = &[
+    Trial {
+        words: &["refresh", "--all", "yes"],
+        input: TWO,
+        coming: Coming::Replies(&[REPLY_1, REPLY_2]),
+        text: BOTH_SEEN,
+        told: Wanted::Sends(&[PING_1, PING_2]),
+        ..ANSWERED
+    },
+    Trial {
+        words: &["refresh", "--all", "no"],
+        input: TWO,
+        coming: Coming::Replies(&[REPLY_1, REPLY_2]),
+        text: FIRST_SEEN,
+        ..ANSWERED
+    },
+];
 
 #[test]
 fn all_are_pinged_by_wish_and_else_the_first_alone(rt: HostRuntime) -> Result<(), Fail> {
-    for (words, text) in [
-        (["refresh", "--all", "yes"], BOTH_SEEN),
-        (["refresh", "--all", "no"], FIRST_SEEN),
-    ] {
-        let link = link(rt.alloc(), &[Reply::of(1, 10), Reply::of(2, 20)])?;
-        shows(&rt, &words, TWO, link, 0, text)?;
-    }
-    Ok(())
+    all_play(&rt, OF_TWO)
 }
 
-/// The moment at which a link stands.
-fn now(link: ScriptLink) -> u64 {
-    let mut link = link;
-    link.now()
-}
+/// Nobody is asked.
+const UNASKED: Trial = Trial {
+    told: Wanted::Sends(&[]),
+    ..SILENT
+};
 
-/// The command writes this and asks nobody.
-fn refuses<R: AllocGlobal + RandomSource + Threads + Wait + Sync>(
-    rt: &R,
-    input: &str,
-    status: u8,
-    line: &str,
-) -> Result<(), Fail> {
-    let played = play(rt, &["refresh"], input, link(rt.alloc(), &[])?)?;
-    if played.status != status || played.text.as_str() != line {
-        return Err(Fail::new("another status or line"));
-    }
-    if sent(rt.alloc(), &played.link)?.len() != 0 {
-        return Err(Fail::new("it asked somebody"));
-    }
-    Ok(())
-}
+const NO_TABLES: &[Trial] = &[
+    Trial {
+        input: CUT,
+        status: 3,
+        text: "bad line 5\n",
+        ..UNASKED
+    },
+    Trial {
+        input: "",
+        status: 3,
+        text: "bad line 1\n",
+        ..UNASKED
+    },
+    Trial {
+        input: "0000000000000000000000000000000000000001 127.0.0.1:6001\n",
+        status: 3,
+        text: "bad line 1\n",
+        ..UNASKED
+    },
+];
 
 #[test]
 fn a_text_that_is_none_names_its_line(rt: HostRuntime) -> Result<(), Fail> {
-    refuses(&rt, CUT, 3, "bad line 5\n")?;
-    refuses(&rt, "", 3, "bad line 1\n")?;
-    let contact = "0000000000000000000000000000000000000001 127.0.0.1:6001\n";
-    refuses(&rt, contact, 3, "bad line 1\n")
+    all_play(&rt, NO_TABLES)
 }
+
+const UNSOUND: &Trial = &Trial {
+    input: TWICE,
+    status: 13,
+    text: "unsound\n",
+    ..UNASKED
+};
 
 #[test]
 fn a_table_that_no_calls_make_is_unsound(rt: HostRuntime) -> Result<(), Fail> {
-    refuses(&rt, TWICE, 13, "unsound\n")
+    plays(&rt, UNSOUND)
 }
+
+const OF_NOBODY: &Trial = &Trial {
+    input: NOBODY,
+    ..UNASKED
+};
 
 #[test]
 fn a_table_of_nobody_stays(rt: HostRuntime) -> Result<(), Fail> {
-    refuses(&rt, NOBODY, 0, NOBODY)
+    plays(&rt, OF_NOBODY)
 }
+
+const SEALED: &[Trial] = &[
+    Trial {
+        words: &["refresh", "--group", ZEROS_KEY],
+        coming: Coming::Datagrams(&[(10, 6001, TAGGED)]),
+        ..ANSWERED
+    },
+    Trial {
+        words: &["refresh", "--group", ZEROS_KEY],
+        coming: Coming::Datagrams(&[(10, 6001, ANSWER_1)]),
+        ..SILENT
+    },
+];
 
 #[test]
 fn a_sealed_refresh_believes_tags_alone(rt: HostRuntime) -> Result<(), Fail> {
-    let alloc = rt.alloc();
-    let words = ["refresh", "--group", ZEROS_KEY];
-    let tagged = link_with(alloc, TAGGED, 10, 1, &[])?;
-    shows(&rt, &words, ONE, tagged, 0, ONE)?;
-    let plain = link_with(alloc, ANSWER_1, 10, 1, &[])?;
-    shows(&rt, &words, ONE, plain, 0, NOBODY)
+    all_play(&rt, SEALED)
 }
+
+const FAILED: &Trial = &Trial {
+    failing_receives: &[1],
+    status: 4,
+    text: "link fault\n",
+    ..SILENT
+};
 
 #[test]
 fn a_failed_receive_ends_it(rt: HostRuntime) -> Result<(), Fail> {
-    let link = failing_link(rt.alloc(), &[], &[], &[1])?;
-    shows(&rt, &["refresh"], ONE, link, 4, "link fault\n")
+    plays(&rt, FAILED)
 }
 
 /// So a ping that can't be sent is a failed try.
+const UNSENT: &Trial = &Trial {
+    coming: Coming::Replies(&[REPLY_1]),
+    failing_sends: &[0, 1],
+    ..UNASKED
+};
+
 #[test]
 fn failed_sends_are_failed_tries(rt: HostRuntime) -> Result<(), Fail> {
-    let link = failing_link(rt.alloc(), &[Reply::of(1, 10)], &[0, 1], &[])?;
-    shows(&rt, &["refresh"], ONE, link, 0, NOBODY)
+    plays(&rt, UNSENT)
 }
 
 #[test]
 fn the_millionth_stray_ends_it(rt: HostRuntime) -> Result<(), Fail> {
-    let alloc = rt.alloc();
-    let words = words(alloc, &["refresh"])?;
-    let mut source = SteadySource::new(List::from_slice(alloc, ONE.as_bytes())?);
-    let mut sink = BytesSink::new(4096, none(alloc), List::new(alloc));
     let mut link = Strangers { from: local(6001) };
-    let status = status_of(&rt, &words, &mut source, &mut link, &mut sink, &Sha1Check)?;
-    assert_eq!(rt; status, 7);
-    assert_eq!(rt; sink.written(), b"strays\n".as_slice());
-    Ok(())
+    answers(&rt, &["refresh"], ONE, &mut link, 7, "strays\n")
 }
 
-/// The source gives a byte a call, and this call fails; the last read finds the end.
+/// The source gives a byte a call, and this call fails.
+fn fails_to_read<R: AllocGlobal + RandomSource + Threads + Wait + Sync>(
+    rt: &R,
+    n: u64,
+) -> Result<(), Fail> {
+    let outside = Outside {
+        input: Input::Text(ONE),
+        reads: (1, &[n]),
+        writes: (4096, &[]),
+    };
+    ends(rt, &["refresh"], &outside, &[], 6, b"source fault\n", 0)
+}
+
+/// The last read finds the end.
 #[test]
 fn a_failed_read_ends_it_unasked(rt: HostRuntime) -> Result<(), Fail> {
-    let alloc = rt.alloc();
-    let words = words(alloc, &["refresh"])?;
     for n in [0, 100, ONE.len() as u64] {
-        let input = List::from_slice(alloc, ONE.as_bytes())?;
-        let mut source = BytesSource::new(input, 1, List::from_slice(alloc, &[n])?);
-        let mut sink = BytesSink::new(4096, none(alloc), List::new(alloc));
-        let mut link = link(alloc, &[])?;
-        let status = status_of(&rt, &words, &mut source, &mut link, &mut sink, &Sha1Check)?;
-        assert_eq!(rt; status, 6);
-        assert_eq!(rt; sink.written(), b"source fault\n".as_slice());
-        assert_eq!(rt; sent(alloc, &link)?.len(), 0);
+        fails_to_read(&rt, n)?;
     }
     Ok(())
 }
 
+/// A byte a call, and the sixth call fails.
+const UNWRITTEN: &Outside = &Outside {
+    input: Input::Text(ONE),
+    reads: (4096, &[]),
+    writes: (1, &[5]),
+};
+
 #[test]
 fn a_failed_write_leaves_a_front(rt: HostRuntime) -> Result<(), Fail> {
-    let alloc = rt.alloc();
-    let words = words(alloc, &["refresh"])?;
-    let mut source = SteadySource::new(List::from_slice(alloc, ONE.as_bytes())?);
-    // A byte a call, and the sixth call fails.
-    let mut sink = BytesSink::new(1, List::from_slice(alloc, &[5])?, List::new(alloc));
-    let mut link = link(alloc, &[])?;
-    let status = status_of(&rt, &words, &mut source, &mut link, &mut sink, &Sha1Check)?;
-    assert_eq!(rt; status, 5);
-    assert_eq!(rt; sink.written(), b"table".as_slice());
-    Ok(())
+    ends(&rt, &["refresh"], UNWRITTEN, &[], 5, b"table", 2)
 }
+
+const TOO_LONG: &Outside = &Outside {
+    input: Input::Marks(1_048_577),
+    reads: (4096, &[]),
+    writes: (4096, &[]),
+};
 
 #[test]
 fn too_long_an_input_is_named(rt: HostRuntime) -> Result<(), Fail> {
-    let alloc = rt.alloc();
-    let words = words(alloc, &["refresh"])?;
-    let mut source = SteadySource::new(List::from_vec(vec![in alloc; b'#'; 1_048_577]?));
-    let mut sink = BytesSink::new(4096, none(alloc), List::new(alloc));
-    let mut link = link(alloc, &[])?;
-    let status = status_of(&rt, &words, &mut source, &mut link, &mut sink, &Sha1Check)?;
-    assert_eq!(rt; status, 11);
-    assert_eq!(rt; sink.written(), b"too long\n".as_slice());
-    Ok(())
+    ends(&rt, &["refresh"], TOO_LONG, &[], 11, b"too long\n", 0)
 }
+
+const NO_LINK: &[Row] = &[(&["refresh"], ONE, 2, "usage\n")];
 
 #[test]
 fn the_call_without_a_link_does_not_take_it(rt: HostRuntime) -> Result<(), Fail> {
-    let alloc = rt.alloc();
-    let words = words(alloc, &["refresh"])?;
-    let mut source = SteadySource::new(List::from_slice(alloc, ONE.as_bytes())?);
-    let mut sink = BytesSink::new(4096, none(alloc), List::new(alloc));
-    let status = plain_status_of(&rt, &words, &mut source, &mut sink)?;
-    assert_eq!(rt; status, 2);
-    assert_eq!(rt; sink.written(), b"usage\n".as_slice());
-    Ok(())
+    all_answer_plainly(&rt, NO_LINK)
 }

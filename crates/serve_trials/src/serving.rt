@@ -1,10 +1,9 @@
 //! Nodes that serve over a scripted link: what they answer, and how they end. The bytes were written by hand from BEP 5, and
 //! who asks has the identifier `abcdefghij0123456789` of its examples.
-use kad_base::{Event, List};
-use run_kit::{play, shows};
+use crate::trial::{Coming, Told, Trial, Wanted, answers, plays};
 use std::alloc::Global;
 use std::test::Fail;
-use trial_kit::{PROVED_LINES, link_from, local, sent, tells};
+use trial_kit::{PROVED_LINES, link_from};
 
 /// The node of ones serves for two receive calls, and for nine.
 const TWO: &[&str] = &[
@@ -85,32 +84,25 @@ const FOUND: &[u8] =
     b"d1:rd2:id20:\xff\xff\xff\xff\xff\xff\xff\xff\xff\xff\xff\xff\xff\xff\xff\xff\xff\xff\xff\xff5:nodes52:\xa3\xf8\xd0\x18\xd1\x5e\xae\x79\xbd\x51\x9f\xbe\xf9\x8c\x5e\x3c\xfb\x23\x36\x9e\x7f\0\0\x01\x17\x72\xf8\xb3\x6a\xfa\xa8\x2e\xfd\xb7\x23\x98\x84\xa0\x29\x6c\x9e\x20\x9d\xb1\xc4\xb0\x7f\0\0\x01\x17\x716:snodes156:\xa3\xf8\xd0\x18\xd1\x5e\xae\x79\xbd\x51\x9f\xbe\xf9\x8c\x5e\x3c\xfb\x23\x36\x9e\xf6\xa1\x2c\xa8\xff\xc3\x0a\x66\xca\x14\x0c\xcc\x72\x76\x33\x61\x15\x81\x93\x61\x18\x6d\x3f\x53\x5d\xd9\x9f\x8e\xaa\xca\x8f\xce\0\0\0\0\0\0\0\0\0\0\0\0\0\0\0\0\0\0\0\xc5\x7f\0\0\x01\x17\x72\xf8\xb3\x6a\xfa\xa8\x2e\xfd\xb7\x23\x98\x84\xa0\x29\x6c\x9e\x20\x9d\xb1\xc4\xb0\x02\x3f\x37\x20\x3a\x24\x76\xc4\x25\x66\xa6\x1c\xc5\x5c\x3c\xa8\x75\xdb\xb4\xcc\x41\xc0\xde\xb7\x89\xf8\xe7\xbf\x88\x18\x36\x38\0\0\0\0\0\0\0\0\0\0\0\0\0\0\0\0\0\0\0\x67\x7f\0\0\x01\x17\x71e1:t2:aa1:y1:re";
 
 /// It asks for the moment, waits for a minute, replies to the source, and waits for a minute from the last told moment.
+const PINGED: &Trial = &Trial {
+    words: TWO,
+    input: "",
+    coming: Coming::Datagrams(&[(10, 7000, PING)]),
+    failing_sends: &[],
+    failing_receives: &[],
+    status: 0,
+    text: "received 1 replied 1\n",
+    told: Wanted::Events(&[
+        Told::Now(0),
+        Told::Got(7000, PING, 60_000, 10),
+        Told::Sent(7000, PONG),
+        Told::Quiet(60_010, 60_010),
+    ]),
+};
+
 #[test]
 fn a_node_with_no_contacts_answers_a_ping(rt: HostRuntime) -> Result<(), Fail> {
-    let alloc = rt.alloc();
-    let link = link_from(alloc, &[(7000, PING)], &[], &[])?;
-    let played = play(&rt, TWO, "", link)?;
-    let events = [
-        Event::Now { at: 0 },
-        Event::Got {
-            from: local(7000),
-            bytes: List::from_slice(alloc, PING)?,
-            until: 60_000,
-            at: 10,
-        },
-        Event::Sent {
-            to: local(7000),
-            bytes: List::from_slice(alloc, PONG)?,
-        },
-        Event::Quiet {
-            until: 60_010,
-            at: 60_010,
-        },
-    ];
-    assert_eq!(rt; played.status, 0);
-    assert_eq!(rt; played.text.as_str(), "received 1 replied 1\n");
-    assert!(rt; tells(&played.link, &events));
-    Ok(())
+    plays(&rt, PINGED)
 }
 
 /// A ping of 4,097 bytes; 4,096 lists one in another; a query from port 0; a transaction id of 33 bytes; an answer that
@@ -120,7 +112,7 @@ fn hostile_datagrams_are_passed_over(rt: HostRuntime) -> Result<(), Fail> {
     let alloc = rt.alloc();
     let long = padded(alloc)?;
     let unsorted = falling(alloc)?;
-    let link = link_from(
+    let mut link = link_from(
         alloc,
         &[
             (6001, long.as_slice()),
@@ -134,7 +126,7 @@ fn hostile_datagrams_are_passed_over(rt: HostRuntime) -> Result<(), Fail> {
         &[],
         &[],
     )?;
-    shows(&rt, NINE, "", link, 0, "received 7 replied 1\n")
+    answers(&rt, NINE, "", &mut link, 0, "received 7 replied 1\n")
 }
 
 /// A ping that a key beside the others makes 4,097 bytes long.
@@ -160,82 +152,104 @@ fn falling(alloc: Global) -> Result<Vec<u8>, Fail> {
     Ok(ping)
 }
 
+const REFUSED: &Trial = &Trial {
+    words: TWO,
+    input: "",
+    coming: Coming::Datagrams(&[(10, 6001, PING), (20, 6001, PING)]),
+    failing_sends: &[0],
+    failing_receives: &[],
+    status: 0,
+    text: "received 2 replied 1\n",
+    told: Wanted::Sends(&[PONG]),
+};
+
 #[test]
 fn a_refused_reply_is_passed_over_and_not_counted(rt: HostRuntime) -> Result<(), Fail> {
-    let link = link_from(rt.alloc(), &[(6001, PING), (6001, PING)], &[0], &[])?;
-    let played = play(&rt, TWO, "", link)?;
-    let sent = sent(rt.alloc(), &played.link)?;
-    assert_eq!(rt; played.status, 0);
-    assert_eq!(rt; played.text.as_str(), "received 2 replied 1\n");
-    assert_eq!(rt; sent.len(), 1);
-    Ok(())
+    plays(&rt, REFUSED)
 }
+
+const FAILED: &Trial = &Trial {
+    words: NINE,
+    input: "",
+    coming: Coming::Datagrams(&[(10, 6001, PING), (20, 6001, PING)]),
+    failing_sends: &[],
+    failing_receives: &[1],
+    status: 4,
+    text: "link fault\n",
+    told: Wanted::Sends(&[PONG]),
+};
 
 #[test]
 fn a_failed_receive_ends_the_service(rt: HostRuntime) -> Result<(), Fail> {
-    let link = link_from(rt.alloc(), &[(6001, PING), (6001, PING)], &[], &[1])?;
-    let played = play(&rt, NINE, "", link)?;
-    let sent = sent(rt.alloc(), &played.link)?;
-    assert_eq!(rt; played.status, 4);
-    assert_eq!(rt; played.text.as_str(), "link fault\n");
-    assert_eq!(rt; sent.len(), 1);
-    Ok(())
+    plays(&rt, FAILED)
 }
+
+const BAD_LINE: &Trial = &Trial {
+    words: TWO,
+    input: "#\nxyz\n",
+    coming: Coming::Datagrams(&[(10, 6001, PING)]),
+    failing_sends: &[],
+    failing_receives: &[],
+    status: 3,
+    text: "bad line 2\n",
+    told: Wanted::Sends(&[]),
+};
 
 #[test]
 fn a_node_serves_no_bad_line(rt: HostRuntime) -> Result<(), Fail> {
-    let link = link_from(rt.alloc(), &[(6001, PING)], &[], &[])?;
-    shows(&rt, TWO, "#\nxyz\n", link, 3, "bad line 2\n")
+    plays(&rt, BAD_LINE)
 }
+
+const ASKED: &Trial = &Trial {
+    words: PUZZLED,
+    input: PROVED_LINES,
+    coming: Coming::Datagrams(&[(10, 7000, FIND)]),
+    failing_sends: &[],
+    failing_receives: &[],
+    status: 0,
+    text: "received 1 replied 1\n",
+    told: Wanted::Sends(&[FOUND]),
+};
 
 #[test]
 fn the_proofs_of_the_input_come_back(rt: HostRuntime) -> Result<(), Fail> {
-    let alloc = rt.alloc();
-    let link = link_from(alloc, &[(7000, FIND)], &[], &[])?;
-    let played = play(&rt, PUZZLED, PROVED_LINES, link)?;
-    let sent = sent(alloc, &played.link)?;
-    assert_eq!(rt; played.text.as_str(), "received 1 replied 1\n");
-    assert_eq!(rt; sent.len(), 1);
-    assert_eq!(rt; sent[0].as_slice(), FOUND);
-    Ok(())
+    plays(&rt, ASKED)
 }
+
+const MEMBER: &Trial = &Trial {
+    words: GROUPED,
+    input: "",
+    coming: Coming::Datagrams(&[(10, 7000, PING)]),
+    failing_sends: &[],
+    failing_receives: &[],
+    status: 0,
+    text: "received 1 replied 1\n",
+    told: Wanted::Sends(&[TAGGED_PONG]),
+};
 
 #[test]
 fn a_member_tags_what_it_says(rt: HostRuntime) -> Result<(), Fail> {
-    let link = link_from(rt.alloc(), &[(7000, PING)], &[], &[])?;
-    let played = play(&rt, GROUPED, "", link)?;
-    let sent = sent(rt.alloc(), &played.link)?;
-    assert_eq!(rt; played.text.as_str(), "received 1 replied 1\n");
-    assert_eq!(rt; sent.len(), 1);
-    assert_eq!(rt; sent[0].as_slice(), TAGGED_PONG);
-    Ok(())
+    plays(&rt, MEMBER)
 }
 
 /// It replies, and waits to the end of its minute. Then the table is printed, with who asked.
+const A_MINUTE: &Trial = &Trial {
+    words: TIMED,
+    input: "",
+    coming: Coming::Datagrams(&[(10, 7000, PING)]),
+    failing_sends: &[],
+    failing_receives: &[],
+    status: 0,
+    text: WITH_ASKER,
+    told: Wanted::Events(&[
+        Told::Now(0),
+        Told::Got(7000, PING, 60_000, 10),
+        Told::Sent(7000, PONG),
+        Told::Quiet(60_000, 60_000),
+    ]),
+};
+
 #[test]
 fn a_node_serves_for_a_minute_and_prints_its_table(rt: HostRuntime) -> Result<(), Fail> {
-    let alloc = rt.alloc();
-    let link = link_from(alloc, &[(7000, PING)], &[], &[])?;
-    let played = play(&rt, TIMED, "", link)?;
-    let events = [
-        Event::Now { at: 0 },
-        Event::Got {
-            from: local(7000),
-            bytes: List::from_slice(alloc, PING)?,
-            until: 60_000,
-            at: 10,
-        },
-        Event::Sent {
-            to: local(7000),
-            bytes: List::from_slice(alloc, PONG)?,
-        },
-        Event::Quiet {
-            until: 60_000,
-            at: 60_000,
-        },
-    ];
-    assert_eq!(rt; played.status, 0);
-    assert_eq!(rt; played.text.as_str(), WITH_ASKER);
-    assert!(rt; tells(&played.link, &events));
-    Ok(())
+    plays(&rt, A_MINUTE)
 }

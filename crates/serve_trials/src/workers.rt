@@ -1,10 +1,10 @@
 //! Nodes that serve by several workers, over a scripted link. The bytes were written by hand from BEP 5; who pings has the
 //! identifier `abcdefghij0123456789` of its examples.
+use crate::trial::{Coming, Told, Trial, Wanted, plays};
 use id_puzzles::Sha1Check;
-use kad_base::{Event, List};
-use run_kit::{play, play_under, shows, words};
+use run_kit::{play_under, words};
 use std::test::Fail;
-use trial_kit::{MeetingSeal, link_at, local, sent, tells};
+use trial_kit::{MeetingSeal, link_at};
 
 /// The node of ones serves by two workers for two receive calls, for four, and by eight for 45.
 const TWO: &[&str] = &[
@@ -92,113 +92,97 @@ const FOUND_NONE: &[u8] =
 const FOUND_5: &[u8] =
     b"d1:rd2:id20:\xff\xff\xff\xff\xff\xff\xff\xff\xff\xff\xff\xff\xff\xff\xff\xff\xff\xff\xff\xff5:nodes26:\0\0\0\0\0\0\0\0\0\0\0\0\0\0\0\0\0\0\0\x05\x7f\0\0\x01\x1b\x5de1:t2:aa1:y1:re";
 
+/// Two pings at one moment.
+const PINGS: &[(u64, u16, &[u8])] = &[(10, 7000, PING), (10, 7001, SECOND_PING)];
+
 /// The first receive call waits for a minute and the second for nothing; then both are answered, in order.
+const IN_ORDER: &Trial = &Trial {
+    words: TWO,
+    input: "",
+    coming: Coming::Datagrams(PINGS),
+    failing_sends: &[],
+    failing_receives: &[],
+    status: 0,
+    text: "received 2 replied 2\n",
+    told: Wanted::Events(&[
+        Told::Now(0),
+        Told::Got(7000, PING, 60_000, 10),
+        Told::Got(7001, SECOND_PING, 10, 10),
+        Told::Sent(7000, PONG),
+        Told::Sent(7001, SECOND_PONG),
+    ]),
+};
+
 #[test]
 fn a_batch_is_answered_in_its_order(rt: HostRuntime) -> Result<(), Fail> {
-    let alloc = rt.alloc();
-    let link = link_at(
-        alloc,
-        &[(10, 7000, PING), (10, 7001, SECOND_PING)],
-        &[],
-        &[],
-    )?;
-    let played = play(&rt, TWO, "", link)?;
-    let events = [
-        Event::Now { at: 0 },
-        Event::Got {
-            from: local(7000),
-            bytes: List::from_slice(alloc, PING)?,
-            until: 60_000,
-            at: 10,
-        },
-        Event::Got {
-            from: local(7001),
-            bytes: List::from_slice(alloc, SECOND_PING)?,
-            until: 10,
-            at: 10,
-        },
-        Event::Sent {
-            to: local(7000),
-            bytes: List::from_slice(alloc, PONG)?,
-        },
-        Event::Sent {
-            to: local(7001),
-            bytes: List::from_slice(alloc, SECOND_PONG)?,
-        },
-    ];
-    assert_eq!(rt; played.status, 0);
-    assert_eq!(rt; played.text.as_str(), "received 2 replied 2\n");
-    assert!(rt; tells(&played.link, &events));
-    Ok(())
+    plays(&rt, IN_ORDER)
 }
 
 /// Who asks is told to the table after its own answer, and is named to who asks in the next batch.
+const TWO_BATCHES: &Trial = &Trial {
+    words: FOUR,
+    input: "",
+    coming: Coming::Datagrams(&[(1, 7005, FIND_BY_5), (10, 7006, FIND_BY_6)]),
+    failing_sends: &[],
+    failing_receives: &[],
+    status: 0,
+    text: "received 2 replied 2\n",
+    told: Wanted::Sends(&[FOUND_NONE, FOUND_5]),
+};
+
 #[test]
 fn a_later_batch_names_who_asked_before(rt: HostRuntime) -> Result<(), Fail> {
-    let alloc = rt.alloc();
-    let link = link_at(
-        alloc,
-        &[(1, 7005, FIND_BY_5), (10, 7006, FIND_BY_6)],
-        &[],
-        &[],
-    )?;
-    let played = play(&rt, FOUR, "", link)?;
-    let sent = sent(alloc, &played.link)?;
-    assert_eq!(rt; played.text.as_str(), "received 2 replied 2\n");
-    assert_eq!(rt; sent.len(), 2);
-    assert_eq!(rt; sent[0].as_slice(), FOUND_NONE);
-    assert_eq!(rt; sent[1].as_slice(), FOUND_5);
-    Ok(())
+    plays(&rt, TWO_BATCHES)
 }
 
 /// A batch has at most 32 receive calls, and eight workers answer forty pings in two.
+const FORTY: &Trial = &Trial {
+    words: EIGHT,
+    input: "",
+    coming: Coming::Datagrams(&[(10, 7000, PING); 40]),
+    failing_sends: &[],
+    failing_receives: &[],
+    status: 0,
+    text: "received 40 replied 40\n",
+    told: Wanted::Sends(&[PONG; 40]),
+};
+
 #[test]
 fn more_than_a_batch_is_answered(rt: HostRuntime) -> Result<(), Fail> {
-    let alloc = rt.alloc();
-    let pings: [(u64, u16, &[u8]); 40] = [(10, 7000, PING); 40];
-    let link = link_at(alloc, &pings, &[], &[])?;
-    let played = play(&rt, EIGHT, "", link)?;
-    let sent = sent(alloc, &played.link)?;
-    assert_eq!(rt; played.status, 0);
-    assert_eq!(rt; played.text.as_str(), "received 40 replied 40\n");
-    assert_eq!(rt; sent.len(), 40);
-    Ok(())
+    plays(&rt, FORTY)
 }
+
+const REFUSED: &Trial = &Trial {
+    words: TWO,
+    input: "",
+    coming: Coming::Datagrams(PINGS),
+    failing_sends: &[0],
+    failing_receives: &[],
+    status: 0,
+    text: "received 2 replied 1\n",
+    told: Wanted::Sends(&[SECOND_PONG]),
+};
 
 #[test]
 fn a_reply_that_is_refused_is_passed_over(rt: HostRuntime) -> Result<(), Fail> {
-    let alloc = rt.alloc();
-    let link = link_at(
-        alloc,
-        &[(10, 7000, PING), (10, 7001, SECOND_PING)],
-        &[0],
-        &[],
-    )?;
-    let played = play(&rt, TWO, "", link)?;
-    let sent = sent(alloc, &played.link)?;
-    assert_eq!(rt; played.status, 0);
-    assert_eq!(rt; played.text.as_str(), "received 2 replied 1\n");
-    assert_eq!(rt; sent.len(), 1);
-    assert_eq!(rt; sent[0].as_slice(), SECOND_PONG);
-    Ok(())
+    plays(&rt, REFUSED)
 }
 
 /// The batch in which a receive fails is not answered.
+const FAILED: &Trial = &Trial {
+    words: FOUR,
+    input: "",
+    coming: Coming::Datagrams(PINGS),
+    failing_sends: &[],
+    failing_receives: &[2],
+    status: 4,
+    text: "link fault\n",
+    told: Wanted::Sends(&[]),
+};
+
 #[test]
 fn a_failed_receive_ends_it_without_the_replies_of_its_batch(rt: HostRuntime) -> Result<(), Fail> {
-    let alloc = rt.alloc();
-    let link = link_at(
-        alloc,
-        &[(10, 7000, PING), (10, 7001, SECOND_PING)],
-        &[],
-        &[2],
-    )?;
-    let played = play(&rt, FOUR, "", link)?;
-    let sent = sent(alloc, &played.link)?;
-    assert_eq!(rt; played.status, 4);
-    assert_eq!(rt; played.text.as_str(), "link fault\n");
-    assert_eq!(rt; sent.len(), 0);
-    Ok(())
+    plays(&rt, FAILED)
 }
 
 /// The tags of both replies are made at once: each waits until it sees the other.
@@ -219,8 +203,18 @@ fn two_workers_of_a_batch_are_at_work_at_once(rt: HostRuntime) -> Result<(), Fai
     Ok(())
 }
 
+const A_MINUTE: &Trial = &Trial {
+    words: TIMED,
+    input: "",
+    coming: Coming::Datagrams(&[(1, 7005, FIND_BY_5)]),
+    failing_sends: &[],
+    failing_receives: &[],
+    status: 0,
+    text: WITH_5,
+    told: Wanted::Sends(&[FOUND_NONE]),
+};
+
 #[test]
 fn workers_that_serve_for_a_minute_print_one_table(rt: HostRuntime) -> Result<(), Fail> {
-    let link = link_at(rt.alloc(), &[(1, 7005, FIND_BY_5)], &[], &[])?;
-    shows(&rt, TIMED, "", link, 0, WITH_5)
+    plays(&rt, A_MINUTE)
 }

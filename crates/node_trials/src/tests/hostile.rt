@@ -2,16 +2,21 @@
 //! byte does by a reader of bencode of its own, in another language.
 use crate::tests::paths::TWO_PATHS;
 use crate::tests::replies::A_USUAL_ANSWER;
-use crate::tests::{ANSWER_1, FOUND_1, FOUND_2, ONE_PATH, naming_the_ninth};
-use run_kit::{play, shows};
-use std::alloc::Global;
+use crate::tests::trial::Outside::{Answers, From, Names, Says};
+use crate::tests::trial::Wanted::Sends;
+use crate::tests::trial::{SILENT, Trial, all_play, plays};
+use crate::tests::{
+    ANSWER_1, BOTH, EIGHT_LINES, FOUND_1, FOUND_1_TO_8, FOUND_2, FOUND_2_TO_9, FOUND_3,
+    NAMING_THE_NINTH, NOBODY, ONE_PATH, TWO_LINES,
+};
+use fake_net::ScriptLink;
+use kad_base::Family;
+use run_kit::shows;
 use std::random::RandomSource;
 use std::sync::Wait;
 use std::test::Fail;
 use std::thread::Threads;
-use trial_kit::{LINE_1, Reply, failing_link, lines, link, link_with, sent};
-
-const NOBODY: &str = "found 0 asked 1 failed 1 turned 0\n";
+use trial_kit::{LINE_1, Reply, link, link_with};
 
 /// Contact 1 answered, and whom it named did not.
 const ONE_OF_TWO: &str =
@@ -29,8 +34,14 @@ const FOUND_3_OF_4: &str =
 const TWO_OF_AN_IDENTIFIER: &str =
     "0000000000000000000000000000000000000001 127.0.0.1:6001\n0000000000000000000000000000000000000002 127.0.0.1:6002\n0000000000000000000000000000000000000003 127.0.0.1:6003\n0000000000000000000000000000000000000003 127.0.0.1:6009\nfound 4 asked 4 failed 0 turned 0\n";
 
-const BOTH: &str =
-    "0000000000000000000000000000000000000001 127.0.0.1:6001\n0000000000000000000000000000000000000002 127.0.0.1:6002\nfound 2 asked 2 failed 0 turned 0\n";
+/// Contact 1 begins, and the lookup ends well with this text.
+fn one_finds<R: AllocGlobal + RandomSource + Threads + Wait + Sync>(
+    rt: &R,
+    link: ScriptLink,
+    text: &str,
+) -> Result<(), Fail> {
+    shows(rt, ONE_PATH, LINE_1, link, 0, text)
+}
 
 /// The answer cut to each length below its own says nothing.
 fn cut<R: AllocGlobal + RandomSource + Threads + Wait + Sync>(
@@ -39,7 +50,7 @@ fn cut<R: AllocGlobal + RandomSource + Threads + Wait + Sync>(
 ) -> Result<(), Fail> {
     for len in 0..answer.len() {
         let link = link_with(rt.alloc(), &answer[..len], 10, 1, &[])?;
-        shows(rt, ONE_PATH, LINE_1, link, 0, NOBODY)?;
+        one_finds(rt, link, NOBODY)?;
     }
     Ok(())
 }
@@ -132,7 +143,7 @@ fn with_one_changed<R: AllocGlobal + RandomSource + Threads + Wait + Sync>(
         *byte = value;
     }
     let link = link_with(rt.alloc(), &answer, 10, 1, &[Reply::of(2, 20)])?;
-    shows(rt, ONE_PATH, LINE_1, link, 0, text_of(given))
+    one_finds(rt, link, text_of(given))
 }
 
 #[test]
@@ -146,82 +157,193 @@ fn a_changed_byte_loses_no_more_than_it_says(rt: HostRuntime) -> Result<(), Fail
     Ok(())
 }
 
-/// The lines of the contacts from 1 to `last` without one, and the counts.
-fn without(alloc: Global, last: u8, left_out: u8, counts: &str) -> Result<String, Fail> {
-    let mut text = lines(alloc, 1, left_out.saturating_sub(1))?;
-    let rest = lines(alloc, left_out.saturating_add(1), last)?;
-    text.push_str(rest.as_str())?;
-    text.push_str(counts)?;
-    Ok(text)
-}
+/// Eight contacts begin, and the second names the ninth.
+const EIGHT: Trial<'static> = Trial {
+    words: ONE_PATH,
+    input: EIGHT_LINES,
+    outside: NAMING_THE_NINTH,
+    text: FOUND_1_TO_8,
+    ..SILENT
+};
 
-/// Eight contacts begin, and the second names the ninth: where the send to it is refused nobody learns of the ninth, where
-/// another is the ninth is asked in its place, and where none is the ninth is not asked.
-fn with_a_refused_send(alloc: Global, n: u8) -> Result<String, Fail> {
-    match n {
-        1 => without(alloc, 8, 2, "found 7 asked 8 failed 1 turned 0\n"),
-        8 => without(alloc, 8, 9, "found 8 asked 8 failed 0 turned 0\n"),
-        _ => without(
-            alloc,
-            9,
-            n.saturating_add(1),
-            "found 8 asked 9 failed 1 turned 0\n",
-        ),
-    }
-}
-
+/// Where the send to the contact that names the ninth is refused nobody learns of the ninth, where another is the ninth is
+/// asked in its place, and where none is the ninth is not asked.
 #[test]
 fn each_refused_send_loses_one_contact(rt: HostRuntime) -> Result<(), Fail> {
-    let alloc = rt.alloc();
-    let input = lines(alloc, 1, 8)?;
-    let replies = naming_the_ninth(alloc, 1)?;
-    for n in 0..=8 {
-        let text = with_a_refused_send(alloc, n)?;
-        let link = failing_link(alloc, replies.as_slice(), &[u64::from(n)], &[])?;
-        shows(&rt, ONE_PATH, input.as_str(), link, 0, text.as_str())?;
-    }
-    Ok(())
+    const TRIALS: &[Trial<'static>] = &[
+        Trial {
+            refused: &[0],
+            text: FOUND_2_TO_9,
+            ..EIGHT
+        },
+        Trial {
+            refused: &[1],
+            text: "\
+0000000000000000000000000000000000000001 127.0.0.1:6001\n\
+0000000000000000000000000000000000000003 127.0.0.1:6003\n\
+0000000000000000000000000000000000000004 127.0.0.1:6004\n\
+0000000000000000000000000000000000000005 127.0.0.1:6005\n\
+0000000000000000000000000000000000000006 127.0.0.1:6006\n\
+0000000000000000000000000000000000000007 127.0.0.1:6007\n\
+0000000000000000000000000000000000000008 127.0.0.1:6008\n\
+found 7 asked 8 failed 1 turned 0\n",
+            ..EIGHT
+        },
+        Trial {
+            refused: &[2],
+            text: "\
+0000000000000000000000000000000000000001 127.0.0.1:6001\n\
+0000000000000000000000000000000000000002 127.0.0.1:6002\n\
+0000000000000000000000000000000000000004 127.0.0.1:6004\n\
+0000000000000000000000000000000000000005 127.0.0.1:6005\n\
+0000000000000000000000000000000000000006 127.0.0.1:6006\n\
+0000000000000000000000000000000000000007 127.0.0.1:6007\n\
+0000000000000000000000000000000000000008 127.0.0.1:6008\n\
+0000000000000000000000000000000000000009 127.0.0.1:6009\n\
+found 8 asked 9 failed 1 turned 0\n",
+            ..EIGHT
+        },
+        Trial {
+            refused: &[3],
+            text: "\
+0000000000000000000000000000000000000001 127.0.0.1:6001\n\
+0000000000000000000000000000000000000002 127.0.0.1:6002\n\
+0000000000000000000000000000000000000003 127.0.0.1:6003\n\
+0000000000000000000000000000000000000005 127.0.0.1:6005\n\
+0000000000000000000000000000000000000006 127.0.0.1:6006\n\
+0000000000000000000000000000000000000007 127.0.0.1:6007\n\
+0000000000000000000000000000000000000008 127.0.0.1:6008\n\
+0000000000000000000000000000000000000009 127.0.0.1:6009\n\
+found 8 asked 9 failed 1 turned 0\n",
+            ..EIGHT
+        },
+        Trial {
+            refused: &[4],
+            text: "\
+0000000000000000000000000000000000000001 127.0.0.1:6001\n\
+0000000000000000000000000000000000000002 127.0.0.1:6002\n\
+0000000000000000000000000000000000000003 127.0.0.1:6003\n\
+0000000000000000000000000000000000000004 127.0.0.1:6004\n\
+0000000000000000000000000000000000000006 127.0.0.1:6006\n\
+0000000000000000000000000000000000000007 127.0.0.1:6007\n\
+0000000000000000000000000000000000000008 127.0.0.1:6008\n\
+0000000000000000000000000000000000000009 127.0.0.1:6009\n\
+found 8 asked 9 failed 1 turned 0\n",
+            ..EIGHT
+        },
+        Trial {
+            refused: &[5],
+            text: "\
+0000000000000000000000000000000000000001 127.0.0.1:6001\n\
+0000000000000000000000000000000000000002 127.0.0.1:6002\n\
+0000000000000000000000000000000000000003 127.0.0.1:6003\n\
+0000000000000000000000000000000000000004 127.0.0.1:6004\n\
+0000000000000000000000000000000000000005 127.0.0.1:6005\n\
+0000000000000000000000000000000000000007 127.0.0.1:6007\n\
+0000000000000000000000000000000000000008 127.0.0.1:6008\n\
+0000000000000000000000000000000000000009 127.0.0.1:6009\n\
+found 8 asked 9 failed 1 turned 0\n",
+            ..EIGHT
+        },
+        Trial {
+            refused: &[6],
+            text: "\
+0000000000000000000000000000000000000001 127.0.0.1:6001\n\
+0000000000000000000000000000000000000002 127.0.0.1:6002\n\
+0000000000000000000000000000000000000003 127.0.0.1:6003\n\
+0000000000000000000000000000000000000004 127.0.0.1:6004\n\
+0000000000000000000000000000000000000005 127.0.0.1:6005\n\
+0000000000000000000000000000000000000006 127.0.0.1:6006\n\
+0000000000000000000000000000000000000008 127.0.0.1:6008\n\
+0000000000000000000000000000000000000009 127.0.0.1:6009\n\
+found 8 asked 9 failed 1 turned 0\n",
+            ..EIGHT
+        },
+        Trial {
+            refused: &[7],
+            text: "\
+0000000000000000000000000000000000000001 127.0.0.1:6001\n\
+0000000000000000000000000000000000000002 127.0.0.1:6002\n\
+0000000000000000000000000000000000000003 127.0.0.1:6003\n\
+0000000000000000000000000000000000000004 127.0.0.1:6004\n\
+0000000000000000000000000000000000000005 127.0.0.1:6005\n\
+0000000000000000000000000000000000000006 127.0.0.1:6006\n\
+0000000000000000000000000000000000000007 127.0.0.1:6007\n\
+0000000000000000000000000000000000000009 127.0.0.1:6009\n\
+found 8 asked 9 failed 1 turned 0\n",
+            ..EIGHT
+        },
+        Trial {
+            refused: &[8],
+            text: FOUND_1_TO_8,
+            ..EIGHT
+        },
+    ];
+    all_play(&rt, TRIALS)
 }
 
-const TWO_LINES: &str =
-    "0000000000000000000000000000000000000001 127.0.0.1:6001\n0000000000000000000000000000000000000002 127.0.0.1:6002\n";
+/// Contacts 1 and 2 begin on two paths and name contact 3.
+const ON_TWO_PATHS: Trial<'static> = Trial {
+    words: TWO_PATHS,
+    input: TWO_LINES,
+    outside: &[Names(10, 1, 3), Names(10, 2, 3), Answers(10, 3)],
+    text: FOUND_3,
+    ..SILENT
+};
 
-const FOUND_3: &str =
-    "0000000000000000000000000000000000000001 127.0.0.1:6001\n0000000000000000000000000000000000000002 127.0.0.1:6002\n0000000000000000000000000000000000000003 127.0.0.1:6003\nfound 3 asked 3 failed 0 turned 0\n";
-
-/// Contacts 1 and 2 begin on two paths and name contact 3. Three receives bring three answers, and there is no fourth.
+/// Three receives bring three answers, and there is no fourth.
 #[test]
 fn each_failed_receive_ends_the_lookup(rt: HostRuntime) -> Result<(), Fail> {
-    let replies = [
-        Reply::naming(1, 10, 3),
-        Reply::naming(2, 10, 3),
-        Reply::of(3, 10),
+    const TRIALS: &[Trial<'static>] = &[
+        Trial {
+            broken: &[0],
+            status: 4,
+            text: "link fault\n",
+            ..ON_TWO_PATHS
+        },
+        Trial {
+            broken: &[1],
+            status: 4,
+            text: "link fault\n",
+            ..ON_TWO_PATHS
+        },
+        Trial {
+            broken: &[2],
+            status: 4,
+            text: "link fault\n",
+            ..ON_TWO_PATHS
+        },
+        Trial {
+            broken: &[3],
+            ..ON_TWO_PATHS
+        },
     ];
-    for n in 0..=3 {
-        let link = failing_link(rt.alloc(), &replies, &[], &[n])?;
-        let (status, text) = match n {
-            3 => (0, FOUND_3),
-            _ => (4, "link fault\n"),
-        };
-        shows(&rt, TWO_PATHS, TWO_LINES, link, status, text)?;
-    }
-    Ok(())
+    all_play(&rt, TRIALS)
 }
 
 /// Each answer comes three times, and once more while a fourth contact lets its time pass.
 #[test]
 fn answers_that_come_again_are_heard_once(rt: HostRuntime) -> Result<(), Fail> {
-    let mut replies = Vec::new(rt.alloc());
-    for at in [10, 10, 10, 1999] {
-        replies.push(Reply::naming(1, at, 3))?;
-        replies.push(Reply::naming(2, at, 3))?;
-        replies.push(Reply::naming(3, at, 4))?;
-    }
-    let link = link(rt.alloc(), &replies)?;
-    let played = play(&rt, TWO_PATHS, TWO_LINES, link)?;
-    assert_eq!(rt; played.text.as_str(), FOUND_3_OF_4);
-    assert_eq!(rt; sent(rt.alloc(), &played.link)?.len(), 4);
-    Ok(())
+    const TRIAL: &Trial<'static> = &Trial {
+        outside: &[
+            Names(10, 1, 3),
+            Names(10, 2, 3),
+            Names(10, 3, 4),
+            Names(10, 1, 3),
+            Names(10, 2, 3),
+            Names(10, 3, 4),
+            Names(10, 1, 3),
+            Names(10, 2, 3),
+            Names(10, 3, 4),
+            Names(1999, 1, 3),
+            Names(1999, 2, 3),
+            Names(1999, 3, 4),
+        ],
+        text: FOUND_3_OF_4,
+        told: Sends(4, &[]),
+        ..ON_TWO_PATHS
+    };
+    plays(&rt, TRIAL)
 }
 
 /// A contact has 2000 milliseconds to answer.
@@ -230,139 +352,298 @@ fn an_answer_after_its_deadline_is_none(rt: HostRuntime) -> Result<(), Fail> {
     for at in 1990..2010 {
         let text = if at <= 2000 { FOUND_1 } else { NOBODY };
         let link = link(rt.alloc(), &[Reply::of(1, at)])?;
-        shows(&rt, ONE_PATH, LINE_1, link, 0, text)?;
+        one_finds(&rt, link, text)?;
     }
     Ok(())
 }
 
-/// The compact record of identifier n at 127.0.0.1 and this port.
-fn compact(n: u8, port: u16) -> [u8; 26] {
-    let [high, low] = port.to_be_bytes();
-    [
-        0, 0, 0, 0, 0, 0, 0, 0, 0, 0, 0, 0, 0, 0, 0, 0, 0, 0, 0, n, 127, 0, 0, 1, high, low,
-    ]
-}
+/// Contact 1 answers the first query and names itself.
+const NAMING_ITSELF: &[u8] =
+    b"d1:rd2:id20:\0\0\0\0\0\0\0\0\0\0\0\0\0\0\0\0\0\0\0\x015:nodes26:\0\0\0\0\0\0\0\0\0\0\0\0\0\0\0\0\0\0\0\x01\x7f\0\0\x01\x17qe1:t4:\xa0\x8d\xed\x1a1:y1:re";
 
-/// The record of the identifier that asks.
-fn asker() -> [u8; 26] {
-    let mut compact = compact(0, 6050);
-    compact[..20].fill(0xff);
-    compact
-}
+/// It names the asker.
+const NAMING_THE_ASKER: &[u8] =
+    b"d1:rd2:id20:\0\0\0\0\0\0\0\0\0\0\0\0\0\0\0\0\0\0\0\x015:nodes26:\xff\xff\xff\xff\xff\xff\xff\xff\xff\xff\xff\xff\xff\xff\xff\xff\xff\xff\xff\xff\x7f\0\0\x01\x17\xa2e1:t4:\xa0\x8d\xed\x1a1:y1:re";
 
-/// The answer of contact 1 to the first query, which names these.
-fn naming(alloc: Global, records: &[[u8; 26]]) -> Result<Vec<u8>, Fail> {
-    let head = b"d1:rd2:id20:\0\0\0\0\0\0\0\0\0\0\0\0\0\0\0\0\0\0\0\x015:nodes";
-    let mut answer = head.to_vec(alloc)?;
-    let len = format!(in alloc; "{}:", records.len().saturating_mul(26))?;
-    answer.extend_from_slice(len.as_bytes())?;
-    for compact in records {
-        answer.extend_from_slice(compact)?;
-    }
-    answer.extend_from_slice(b"e1:t4:\xa0\x8d\xed\x1a1:y1:re")?;
-    Ok(answer)
-}
+/// It names contact 2 at port 0.
+const NAMING_PORT_0: &[u8] =
+    b"d1:rd2:id20:\0\0\0\0\0\0\0\0\0\0\0\0\0\0\0\0\0\0\0\x015:nodes26:\0\0\0\0\0\0\0\0\0\0\0\0\0\0\0\0\0\0\0\x02\x7f\0\0\x01\0\0e1:t4:\xa0\x8d\xed\x1a1:y1:re";
 
-/// Contact 1 begins and names these; over the other replies that gives the text.
-fn names<R: AllocGlobal + RandomSource + Threads + Wait + Sync>(
-    rt: &R,
-    records: &[[u8; 26]],
-    replies: &[Reply],
-    text: &str,
-) -> Result<(), Fail> {
-    let answer = naming(rt.alloc(), records)?;
-    let link = link_with(rt.alloc(), &answer, 10, 1, replies)?;
-    shows(rt, ONE_PATH, LINE_1, link, 0, text)
-}
+/// It names all of them, and then contact 2 at its port.
+const NAMING_ALL: &[u8] =
+    b"d1:rd2:id20:\0\0\0\0\0\0\0\0\0\0\0\0\0\0\0\0\0\0\0\x015:nodes104:\0\0\0\0\0\0\0\0\0\0\0\0\0\0\0\0\0\0\0\x02\x7f\0\0\x01\0\0\0\0\0\0\0\0\0\0\0\0\0\0\0\0\0\0\0\0\0\x01\x7f\0\0\x01\x17q\xff\xff\xff\xff\xff\xff\xff\xff\xff\xff\xff\xff\xff\xff\xff\xff\xff\xff\xff\xff\x7f\0\0\x01\x17\xa2\0\0\0\0\0\0\0\0\0\0\0\0\0\0\0\0\0\0\0\x02\x7f\0\0\x01\x17re1:t4:\xa0\x8d\xed\x1a1:y1:re";
+
+/// Contact 1 begins alone.
+const ALONE: Trial<'static> = Trial {
+    words: ONE_PATH,
+    input: LINE_1,
+    outside: &[],
+    text: FOUND_1,
+    ..SILENT
+};
 
 /// Itself, the asker, and a contact at port 0.
 #[test]
 fn names_of_nobody_to_ask_are_passed_over(rt: HostRuntime) -> Result<(), Fail> {
-    names(&rt, &[compact(1, 6001)], &[], FOUND_1)?;
-    names(&rt, &[asker()], &[], FOUND_1)?;
-    names(&rt, &[compact(2, 0)], &[], FOUND_1)?;
-    let all = [compact(2, 0), compact(1, 6001), asker(), compact(2, 6002)];
-    names(&rt, &all, &[Reply::of(2, 20)], BOTH)
+    const TRIALS: &[Trial<'static>] = &[
+        Trial {
+            outside: &[From(10, 6001, NAMING_ITSELF)],
+            ..ALONE
+        },
+        Trial {
+            outside: &[From(10, 6001, NAMING_THE_ASKER)],
+            ..ALONE
+        },
+        Trial {
+            outside: &[From(10, 6001, NAMING_PORT_0)],
+            ..ALONE
+        },
+        Trial {
+            outside: &[From(10, 6001, NAMING_ALL), Answers(20, 2)],
+            text: BOTH,
+            ..ALONE
+        },
+    ];
+    all_play(&rt, TRIALS)
 }
+
+/// Contact 1 answers the first query and names the target at port 6009.
+const NAMING_THE_TARGET: &[u8] =
+    b"d1:rd2:id20:\0\0\0\0\0\0\0\0\0\0\0\0\0\0\0\0\0\0\0\x015:nodes26:\0\0\0\0\0\0\0\0\0\0\0\0\0\0\0\0\0\0\0\0\x7f\0\0\x01\x17ye1:t4:\xa0\x8d\xed\x1a1:y1:re";
+
+/// Contact 9 answers in the target's name.
+const POSING: Reply = Reply {
+    family: Family::Four,
+    to: 9,
+    at: 20,
+    port: 6009,
+    id: 0,
+    node: None,
+};
 
 /// Nobody is there, or somebody of another name. Whoever answers in the target's name there is believed.
 #[test]
 fn the_target_at_a_wrong_address(rt: HostRuntime) -> Result<(), Fail> {
-    let posing = Reply {
-        id: 0,
-        ..Reply::of(9, 20)
-    };
-    let target = [compact(0, 6009)];
-    names(&rt, &target, &[], ONE_OF_TWO)?;
-    names(&rt, &target, &[Reply::of(9, 20)], ONE_OF_TWO)?;
-    names(&rt, &target, &[posing], POSED)
+    const TRIALS: &[Trial<'static>] = &[
+        Trial {
+            outside: &[From(10, 6001, NAMING_THE_TARGET)],
+            text: ONE_OF_TWO,
+            ..ALONE
+        },
+        Trial {
+            outside: &[From(10, 6001, NAMING_THE_TARGET), Answers(20, 9)],
+            text: ONE_OF_TWO,
+            ..ALONE
+        },
+        Trial {
+            outside: &[From(10, 6001, NAMING_THE_TARGET), Says(POSING)],
+            text: POSED,
+            ..ALONE
+        },
+    ];
+    all_play(&rt, TRIALS)
 }
+
+/// Contact 1 answers the first query and names contact 2 seventeen times.
+const SEVENTEEN_TIMES_2: &[u8] =
+    b"d1:rd2:id20:\0\0\0\0\0\0\0\0\0\0\0\0\0\0\0\0\0\0\0\x015:nodes442:\
+\0\0\0\0\0\0\0\0\0\0\0\0\0\0\0\0\0\0\0\x02\x7f\0\0\x01\x17r\
+\0\0\0\0\0\0\0\0\0\0\0\0\0\0\0\0\0\0\0\x02\x7f\0\0\x01\x17r\
+\0\0\0\0\0\0\0\0\0\0\0\0\0\0\0\0\0\0\0\x02\x7f\0\0\x01\x17r\
+\0\0\0\0\0\0\0\0\0\0\0\0\0\0\0\0\0\0\0\x02\x7f\0\0\x01\x17r\
+\0\0\0\0\0\0\0\0\0\0\0\0\0\0\0\0\0\0\0\x02\x7f\0\0\x01\x17r\
+\0\0\0\0\0\0\0\0\0\0\0\0\0\0\0\0\0\0\0\x02\x7f\0\0\x01\x17r\
+\0\0\0\0\0\0\0\0\0\0\0\0\0\0\0\0\0\0\0\x02\x7f\0\0\x01\x17r\
+\0\0\0\0\0\0\0\0\0\0\0\0\0\0\0\0\0\0\0\x02\x7f\0\0\x01\x17r\
+\0\0\0\0\0\0\0\0\0\0\0\0\0\0\0\0\0\0\0\x02\x7f\0\0\x01\x17r\
+\0\0\0\0\0\0\0\0\0\0\0\0\0\0\0\0\0\0\0\x02\x7f\0\0\x01\x17r\
+\0\0\0\0\0\0\0\0\0\0\0\0\0\0\0\0\0\0\0\x02\x7f\0\0\x01\x17r\
+\0\0\0\0\0\0\0\0\0\0\0\0\0\0\0\0\0\0\0\x02\x7f\0\0\x01\x17r\
+\0\0\0\0\0\0\0\0\0\0\0\0\0\0\0\0\0\0\0\x02\x7f\0\0\x01\x17r\
+\0\0\0\0\0\0\0\0\0\0\0\0\0\0\0\0\0\0\0\x02\x7f\0\0\x01\x17r\
+\0\0\0\0\0\0\0\0\0\0\0\0\0\0\0\0\0\0\0\x02\x7f\0\0\x01\x17r\
+\0\0\0\0\0\0\0\0\0\0\0\0\0\0\0\0\0\0\0\x02\x7f\0\0\x01\x17r\
+\0\0\0\0\0\0\0\0\0\0\0\0\0\0\0\0\0\0\0\x02\x7f\0\0\x01\x17r\
+e1:t4:\xa0\x8d\xed\x1a1:y1:re";
+
+/// It names contact 3 in the seventeenth record.
+const A_SEVENTEENTH: &[u8] = b"d1:rd2:id20:\0\0\0\0\0\0\0\0\0\0\0\0\0\0\0\0\0\0\0\x015:nodes442:\
+\0\0\0\0\0\0\0\0\0\0\0\0\0\0\0\0\0\0\0\x02\x7f\0\0\x01\x17r\
+\0\0\0\0\0\0\0\0\0\0\0\0\0\0\0\0\0\0\0\x02\x7f\0\0\x01\x17r\
+\0\0\0\0\0\0\0\0\0\0\0\0\0\0\0\0\0\0\0\x02\x7f\0\0\x01\x17r\
+\0\0\0\0\0\0\0\0\0\0\0\0\0\0\0\0\0\0\0\x02\x7f\0\0\x01\x17r\
+\0\0\0\0\0\0\0\0\0\0\0\0\0\0\0\0\0\0\0\x02\x7f\0\0\x01\x17r\
+\0\0\0\0\0\0\0\0\0\0\0\0\0\0\0\0\0\0\0\x02\x7f\0\0\x01\x17r\
+\0\0\0\0\0\0\0\0\0\0\0\0\0\0\0\0\0\0\0\x02\x7f\0\0\x01\x17r\
+\0\0\0\0\0\0\0\0\0\0\0\0\0\0\0\0\0\0\0\x02\x7f\0\0\x01\x17r\
+\0\0\0\0\0\0\0\0\0\0\0\0\0\0\0\0\0\0\0\x02\x7f\0\0\x01\x17r\
+\0\0\0\0\0\0\0\0\0\0\0\0\0\0\0\0\0\0\0\x02\x7f\0\0\x01\x17r\
+\0\0\0\0\0\0\0\0\0\0\0\0\0\0\0\0\0\0\0\x02\x7f\0\0\x01\x17r\
+\0\0\0\0\0\0\0\0\0\0\0\0\0\0\0\0\0\0\0\x02\x7f\0\0\x01\x17r\
+\0\0\0\0\0\0\0\0\0\0\0\0\0\0\0\0\0\0\0\x02\x7f\0\0\x01\x17r\
+\0\0\0\0\0\0\0\0\0\0\0\0\0\0\0\0\0\0\0\x02\x7f\0\0\x01\x17r\
+\0\0\0\0\0\0\0\0\0\0\0\0\0\0\0\0\0\0\0\x02\x7f\0\0\x01\x17r\
+\0\0\0\0\0\0\0\0\0\0\0\0\0\0\0\0\0\0\0\x02\x7f\0\0\x01\x17r\
+\0\0\0\0\0\0\0\0\0\0\0\0\0\0\0\0\0\0\0\x03\x7f\0\0\x01\x17s\
+e1:t4:\xa0\x8d\xed\x1a1:y1:re";
+
+/// It names contact 3 in the sixteenth record too.
+const A_SIXTEENTH: &[u8] = b"d1:rd2:id20:\0\0\0\0\0\0\0\0\0\0\0\0\0\0\0\0\0\0\0\x015:nodes442:\
+\0\0\0\0\0\0\0\0\0\0\0\0\0\0\0\0\0\0\0\x02\x7f\0\0\x01\x17r\
+\0\0\0\0\0\0\0\0\0\0\0\0\0\0\0\0\0\0\0\x02\x7f\0\0\x01\x17r\
+\0\0\0\0\0\0\0\0\0\0\0\0\0\0\0\0\0\0\0\x02\x7f\0\0\x01\x17r\
+\0\0\0\0\0\0\0\0\0\0\0\0\0\0\0\0\0\0\0\x02\x7f\0\0\x01\x17r\
+\0\0\0\0\0\0\0\0\0\0\0\0\0\0\0\0\0\0\0\x02\x7f\0\0\x01\x17r\
+\0\0\0\0\0\0\0\0\0\0\0\0\0\0\0\0\0\0\0\x02\x7f\0\0\x01\x17r\
+\0\0\0\0\0\0\0\0\0\0\0\0\0\0\0\0\0\0\0\x02\x7f\0\0\x01\x17r\
+\0\0\0\0\0\0\0\0\0\0\0\0\0\0\0\0\0\0\0\x02\x7f\0\0\x01\x17r\
+\0\0\0\0\0\0\0\0\0\0\0\0\0\0\0\0\0\0\0\x02\x7f\0\0\x01\x17r\
+\0\0\0\0\0\0\0\0\0\0\0\0\0\0\0\0\0\0\0\x02\x7f\0\0\x01\x17r\
+\0\0\0\0\0\0\0\0\0\0\0\0\0\0\0\0\0\0\0\x02\x7f\0\0\x01\x17r\
+\0\0\0\0\0\0\0\0\0\0\0\0\0\0\0\0\0\0\0\x02\x7f\0\0\x01\x17r\
+\0\0\0\0\0\0\0\0\0\0\0\0\0\0\0\0\0\0\0\x02\x7f\0\0\x01\x17r\
+\0\0\0\0\0\0\0\0\0\0\0\0\0\0\0\0\0\0\0\x02\x7f\0\0\x01\x17r\
+\0\0\0\0\0\0\0\0\0\0\0\0\0\0\0\0\0\0\0\x02\x7f\0\0\x01\x17r\
+\0\0\0\0\0\0\0\0\0\0\0\0\0\0\0\0\0\0\0\x03\x7f\0\0\x01\x17s\
+\0\0\0\0\0\0\0\0\0\0\0\0\0\0\0\0\0\0\0\x03\x7f\0\0\x01\x17s\
+e1:t4:\xa0\x8d\xed\x1a1:y1:re";
 
 /// It is asked once; a seventeenth record is not read.
 #[test]
 fn a_contact_that_is_named_sixteen_times(rt: HostRuntime) -> Result<(), Fail> {
-    let mut records = [compact(2, 6002); 17];
-    let replies = [Reply::of(2, 20), Reply::of(3, 20)];
-    names(&rt, &records, &replies, BOTH)?;
-    records[16] = compact(3, 6003);
-    names(&rt, &records, &replies, BOTH)?;
-    records[15] = compact(3, 6003);
-    names(&rt, &records, &replies, FOUND_3)
+    const TRIALS: &[Trial<'static>] = &[
+        Trial {
+            outside: &[
+                From(10, 6001, SEVENTEEN_TIMES_2),
+                Answers(20, 2),
+                Answers(20, 3),
+            ],
+            text: BOTH,
+            ..ALONE
+        },
+        Trial {
+            outside: &[
+                From(10, 6001, A_SEVENTEENTH),
+                Answers(20, 2),
+                Answers(20, 3),
+            ],
+            text: BOTH,
+            ..ALONE
+        },
+        Trial {
+            outside: &[From(10, 6001, A_SIXTEENTH), Answers(20, 2), Answers(20, 3)],
+            text: FOUND_3,
+            ..ALONE
+        },
+    ];
+    all_play(&rt, TRIALS)
 }
+
+/// Contact 1 answers the first query and names contacts 2 and 3 at the port of contact 2.
+const NAMING_2_AND_3: &[u8] =
+    b"d1:rd2:id20:\0\0\0\0\0\0\0\0\0\0\0\0\0\0\0\0\0\0\0\x015:nodes52:\0\0\0\0\0\0\0\0\0\0\0\0\0\0\0\0\0\0\0\x02\x7f\0\0\x01\x17r\0\0\0\0\0\0\0\0\0\0\0\0\0\0\0\0\0\0\0\x03\x7f\0\0\x01\x17re1:t4:\xa0\x8d\xed\x1a1:y1:re";
 
 /// Both are asked, and whoever is there has one name.
 #[test]
 fn two_contacts_at_one_address(rt: HostRuntime) -> Result<(), Fail> {
-    let records = [compact(2, 6002), compact(3, 6002)];
-    names(&rt, &records, &[Reply::of(2, 20)], TWO_OF_THREE)
+    const TRIAL: &Trial<'static> = &Trial {
+        outside: &[From(10, 6001, NAMING_2_AND_3), Answers(20, 2)],
+        text: TWO_OF_THREE,
+        ..ALONE
+    };
+    plays(&rt, TRIAL)
 }
 
-/// Contacts 1 and 2 begin on these paths; over the replies that gives the text.
-fn two_find<R: AllocGlobal + RandomSource + Threads + Wait + Sync>(
-    rt: &R,
-    texts: &[&str],
-    replies: &[Reply],
-    text: &str,
-) -> Result<(), Fail> {
-    shows(rt, texts, TWO_LINES, link(rt.alloc(), replies)?, 0, text)
-}
+/// Contact 1 names identifier 3 at one address.
+const NAMING_3_ELSEWHERE: Reply = Reply {
+    family: Family::Four,
+    to: 1,
+    at: 10,
+    port: 6001,
+    id: 1,
+    node: Some((3, 6009)),
+};
+
+/// Who is there has that name.
+const NAMED_3: Reply = Reply {
+    family: Family::Four,
+    to: 9,
+    at: 20,
+    port: 6009,
+    id: 3,
+    node: None,
+};
 
 /// Contact 1 names identifier 3 at one address and contact 2 at another, and both are there.
 #[test]
 fn one_identifier_at_two_addresses_on_two_paths(rt: HostRuntime) -> Result<(), Fail> {
-    let replies = [
-        Reply {
-            node: Some((3, 6009)),
-            ..Reply::of(1, 10)
-        },
-        Reply::naming(2, 10, 3),
-        Reply::of(3, 20),
-        Reply {
-            id: 3,
-            ..Reply::of(9, 20)
-        },
-    ];
-    two_find(&rt, TWO_PATHS, &replies, TWO_OF_AN_IDENTIFIER)
+    const TRIAL: &Trial<'static> = &Trial {
+        outside: &[
+            Says(NAMING_3_ELSEWHERE),
+            Names(10, 2, 3),
+            Answers(20, 3),
+            Says(NAMED_3),
+        ],
+        text: TWO_OF_AN_IDENTIFIER,
+        ..ON_TWO_PATHS
+    };
+    plays(&rt, TRIAL)
 }
+
+/// The answer of contact 1, which names contact 9, comes from the port of contact 2.
+const FROM_2_AS_1: Reply = Reply {
+    family: Family::Four,
+    to: 1,
+    at: 5,
+    port: 6002,
+    id: 1,
+    node: Some((9, 6009)),
+};
+
+/// That of contact 2 comes from the port of contact 1.
+const FROM_1_AS_2: Reply = Reply {
+    family: Family::Four,
+    to: 2,
+    at: 5,
+    port: 6001,
+    id: 2,
+    node: Some((9, 6009)),
+};
+
+/// That of contact 1 is in the name of contact 2.
+const AT_1_AS_2: Reply = Reply {
+    family: Family::Four,
+    to: 1,
+    at: 5,
+    port: 6001,
+    id: 2,
+    node: Some((9, 6009)),
+};
 
 /// Whoever answers from another address than the one that was asked, whatever the name, says nothing; whoever answers in
 /// another name is lost.
 #[test]
 fn a_liar_answers_for_another(rt: HostRuntime) -> Result<(), Fail> {
-    let from_2_as_1 = Reply {
-        port: 6002,
-        ..Reply::naming(1, 5, 9)
+    const ON_ONE_PATH: Trial<'static> = Trial {
+        words: ONE_PATH,
+        ..ON_TWO_PATHS
     };
-    let from_1_as_2 = Reply {
-        port: 6001,
-        ..Reply::naming(2, 5, 9)
-    };
-    let at_1_as_2 = Reply {
-        id: 2,
-        ..Reply::naming(1, 5, 9)
-    };
-    let (first, second) = (Reply::of(1, 10), Reply::of(2, 10));
-    two_find(&rt, ONE_PATH, &[from_2_as_1, first, second], BOTH)?;
-    two_find(&rt, ONE_PATH, &[from_1_as_2, first], ONE_OF_TWO)?;
-    two_find(&rt, ONE_PATH, &[at_1_as_2, second], FOUND_2)
+    const TRIALS: &[Trial<'static>] = &[
+        Trial {
+            outside: &[Says(FROM_2_AS_1), Answers(10, 1), Answers(10, 2)],
+            text: BOTH,
+            ..ON_ONE_PATH
+        },
+        Trial {
+            outside: &[Says(FROM_1_AS_2), Answers(10, 1)],
+            text: ONE_OF_TWO,
+            ..ON_ONE_PATH
+        },
+        Trial {
+            outside: &[Says(AT_1_AS_2), Answers(10, 2)],
+            text: FOUND_2,
+            ..ON_ONE_PATH
+        },
+    ];
+    all_play(&rt, TRIALS)
 }

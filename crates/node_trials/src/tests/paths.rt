@@ -1,11 +1,10 @@
 //! Lookups on one path and on two.
-use crate::tests::{FOUND_1, ONE_PATH};
-use run_kit::shows;
-use std::random::RandomSource;
-use std::sync::Wait;
+use crate::tests::trial::Outside::{Answers, Names, Often, Says};
+use crate::tests::trial::{SILENT, Trial, plays};
+use crate::tests::{BOTH, FOUND_1, FOUND_3, ONE_PATH, TWO_LINES};
+use kad_base::Family;
 use std::test::Fail;
-use std::thread::Threads;
-use trial_kit::{LINE_1, Reply, lines, link, link_with};
+use trial_kit::{LINE_1, Reply};
 
 /// A lookup of zeros by the node of ones, on two paths.
 pub(crate) const TWO_PATHS: &[&str] = &[
@@ -18,94 +17,91 @@ pub(crate) const TWO_PATHS: &[&str] = &[
     "2",
 ];
 
-/// Contacts 1 and 2 begin, and the output is the contacts from 1 to this one and these counts.
-fn finds<R: AllocGlobal + RandomSource + Threads + Wait + Sync>(
-    rt: &R,
-    texts: &[&str],
-    replies: &[Reply],
-    last: u8,
-    counts: &str,
-) -> Result<(), Fail> {
-    let input = lines(rt.alloc(), 1, 2)?;
-    let mut text = lines(rt.alloc(), 1, last)?;
-    text.push_str(counts)?;
-    let link = link(rt.alloc(), replies)?;
-    shows(rt, texts, input.as_str(), link, 0, text.as_str())
-}
+/// Contacts 1 and 2 begin on two paths and name contact 3.
+const FOUND: Trial<'static> = Trial {
+    words: TWO_PATHS,
+    input: TWO_LINES,
+    outside: &[Names(10, 1, 3), Names(10, 2, 3), Answers(10, 3)],
+    text: FOUND_3,
+    ..SILENT
+};
 
 /// The contact is taken on one path and held on the other.
 #[test]
 fn a_contact_that_two_paths_learn_is_asked_once(rt: HostRuntime) -> Result<(), Fail> {
-    let replies = [
-        Reply::naming(1, 10, 3),
-        Reply::naming(2, 10, 3),
-        Reply::of(3, 10),
-    ];
-    finds(
-        &rt,
-        TWO_PATHS,
-        &replies,
-        3,
-        "found 3 asked 3 failed 0 turned 0\n",
-    )
+    const TRIAL: &Trial<'static> = &FOUND;
+    plays(&rt, TRIAL)
 }
 
 /// Nobody answers at the first of them.
 #[test]
 fn two_addresses_of_an_identifier_are_two_contacts(rt: HostRuntime) -> Result<(), Fail> {
-    let elsewhere = Reply {
+    const ELSEWHERE: Reply = Reply {
+        family: Family::Four,
+        to: 1,
+        at: 10,
+        port: 6001,
+        id: 1,
         node: Some((3, 7000)),
-        ..Reply::of(1, 10)
     };
-    let replies = [elsewhere, Reply::naming(2, 20, 3), Reply::of(3, 20)];
-    finds(
-        &rt,
-        TWO_PATHS,
-        &replies,
-        3,
-        "found 3 asked 4 failed 1 turned 0\n",
-    )
+    const TRIAL: &Trial<'static> = &Trial {
+        outside: &[Says(ELSEWHERE), Names(20, 2, 3), Answers(20, 3)],
+        text: "0000000000000000000000000000000000000001 127.0.0.1:6001\n0000000000000000000000000000000000000002 127.0.0.1:6002\n0000000000000000000000000000000000000003 127.0.0.1:6003\nfound 3 asked 4 failed 1 turned 0\n",
+        ..FOUND
+    };
+    plays(&rt, TRIAL)
 }
 
 /// The second and the third are strays.
 #[test]
 fn an_answer_that_comes_three_times_is_heard_once(rt: HostRuntime) -> Result<(), Fail> {
-    let replies = [
-        Reply::of(1, 10),
-        Reply::of(1, 11),
-        Reply::of(1, 12),
-        Reply::of(2, 20),
-    ];
-    finds(
-        &rt,
-        ONE_PATH,
-        &replies,
-        2,
-        "found 2 asked 2 failed 0 turned 0\n",
-    )
+    const TRIAL: &Trial<'static> = &Trial {
+        words: ONE_PATH,
+        outside: &[
+            Answers(10, 1),
+            Answers(11, 1),
+            Answers(12, 1),
+            Answers(20, 2),
+        ],
+        text: BOTH,
+        ..FOUND
+    };
+    plays(&rt, TRIAL)
 }
 
 /// Both deadlines are 2000: contact 1 is heard, and contact 2 is lost.
 #[test]
 fn an_answer_at_the_moment_of_its_deadline_is_heard(rt: HostRuntime) -> Result<(), Fail> {
-    let replies = [Reply::of(1, 2000)];
-    finds(
-        &rt,
-        ONE_PATH,
-        &replies,
-        1,
-        "found 1 asked 2 failed 1 turned 0\n",
-    )
+    const TRIAL: &Trial<'static> = &Trial {
+        words: ONE_PATH,
+        outside: &[Answers(2000, 1)],
+        text: "0000000000000000000000000000000000000001 127.0.0.1:6001\nfound 1 asked 2 failed 1 turned 0\n",
+        ..FOUND
+    };
+    plays(&rt, TRIAL)
 }
 
 #[test]
 fn the_millionth_stray_ends_the_lookup(rt: HostRuntime) -> Result<(), Fail> {
-    let link = link_with(rt.alloc(), b"x", 1, 1_000_000, &[Reply::of(1, 10)])?;
-    shows(&rt, ONE_PATH, LINE_1, link, 7, "strays\n")
+    const TRIAL: &Trial<'static> = &Trial {
+        words: ONE_PATH,
+        input: LINE_1,
+        outside: &[Often(1, 6001, b"x", 1_000_000), Answers(10, 1)],
+        status: 7,
+        text: "strays\n",
+        ..FOUND
+    };
+    plays(&rt, TRIAL)
 }
 
 #[test]
 fn one_stray_less_does_not(rt: HostRuntime) -> Result<(), Fail> {
-    let link = link_with(rt.alloc(), b"x", 1, 999_999, &[Reply::of(1, 10)])?;
-    shows(&rt, ONE_PATH, LINE_1, link, 0, FOUND_1)
+    const TRIAL: &Trial<'static> = &Trial {
+        words: ONE_PATH,
+        input: LINE_1,
+        outside: &[Often(1, 6001, b"x", 999_999), Answers(10, 1)],
+        text: FOUND_1,
+        ..FOUND
+    };
+    plays(&rt, TRIAL)
 }

@@ -1,24 +1,57 @@
 //! Searches for peers over a scripted link: which peers are printed, and who is told of this node.
 //! The bytes of the answers and of the announcements were written by hand from BEP 5.
-use crate::tests::PEERS;
-use crate::tests::sending::{is_at, sends};
-use fake_net::ScriptLink;
+use crate::tests::trial::Outside::From;
+use crate::tests::trial::Wanted::{Anything, Sends};
+use crate::tests::trial::{SILENT, Trial, plays};
+use crate::tests::{PEERS, TWO_LINES};
 use run_kit::shows;
 use std::alloc::Global;
-use std::random::RandomSource;
-use std::sync::Wait;
 use std::test::Fail;
-use std::thread::Threads;
-use trial_kit::{LINE_1, lines, link_from};
+use trial_kit::{LINE_1, link_from};
 
-/// Further words: the port 6882 is announced.
-const ANNOUNCE: &[&str] = &["--announce", "6882"];
+/// The search, and the port 6882 is announced.
+const ANNOUNCE: &[&str] = &[
+    "peers",
+    "--key",
+    "0000000000000000000000000000000000000000",
+    "--own",
+    "ffffffffffffffffffffffffffffffffffffffff",
+    "--paths",
+    "1",
+    "--announce",
+    "6882",
+];
 
-/// Further words: the port that the datagram comes from is announced.
-const IMPLY: &[&str] = &["--announce", "0"];
+/// The search, and the port that the datagram comes from is announced.
+const IMPLY: &[&str] = &[
+    "peers",
+    "--key",
+    "0000000000000000000000000000000000000000",
+    "--own",
+    "ffffffffffffffffffffffffffffffffffffffff",
+    "--paths",
+    "1",
+    "--announce",
+    "0",
+];
 
-/// Further words: the port 6882 is announced, and one contact is looked for.
-const ONE_FOUND: &[&str] = &["--announce", "6882", "--k", "1"];
+/// The search for one contact, and the port 6882 is announced.
+const ONE_FOUND: &[&str] = &[
+    "peers",
+    "--key",
+    "0000000000000000000000000000000000000000",
+    "--own",
+    "ffffffffffffffffffffffffffffffffffffffff",
+    "--paths",
+    "1",
+    "--announce",
+    "6882",
+    "--k",
+    "1",
+];
+
+/// The line of contact 2.
+const LINE_2: &str = "0000000000000000000000000000000000000002 127.0.0.1:6002\n";
 
 /// The peers of the answers of contacts 1 and 2.
 const THREE_PEERS: &str =
@@ -74,134 +107,118 @@ const THIRD: &[u8] =
 const FOURTH: &[u8] =
     b"d1:ad2:id20:\xff\xff\xff\xff\xff\xff\xff\xff\xff\xff\xff\xff\xff\xff\xff\xff\xff\xff\xff\xff9:info_hash20:\0\0\0\0\0\0\0\0\0\0\0\0\0\0\0\0\0\0\0\x004:porti6882e5:token3:abce1:q13:announce_peer2:roi1e1:t4:\xda\x41\x59\x7c1:y1:qe";
 
-/// The words of the search, and further ones.
-fn search(alloc: Global, further: &[&'static str]) -> Result<Vec<&'static str>, Fail> {
-    let mut words = Vec::new(alloc);
-    words.extend_from_slice(PEERS)?;
-    words.extend_from_slice(further)?;
-    Ok(words)
-}
-
-/// The datagrams that the search with these further words sends over the link where it ends well
-/// with this text.
-fn search_sends<R: AllocGlobal + RandomSource + Threads + Wait + Sync>(
-    rt: &R,
-    further: &[&'static str],
-    input: &str,
-    link: ScriptLink,
-    text: &str,
-) -> Result<Vec<Vec<u8>>, Fail> {
-    let words = search(rt.alloc(), further)?;
-    sends(rt, words.as_slice(), input, link, text)
-}
+/// Contact 1 gives a peer, and the port 6882 is announced to it.
+const ANNOUNCING: Trial<'static> = Trial {
+    words: ANNOUNCE,
+    input: LINE_1,
+    outside: &[From(10, 6001, ONE_PEER)],
+    text: "127.0.0.1:6881\npeers 1 found 1 asked 1 failed 0 turned 0 announced 1\n",
+    told: Sends(2, &[(0, 6001, QUERY), (1, 6001, ANNOUNCED)]),
+    ..SILENT
+};
 
 #[test]
 fn a_peer_is_printed(rt: HostRuntime) -> Result<(), Fail> {
-    let link = link_from(rt.alloc(), &[(6001, ONE_PEER)], &[], &[])?;
-    let text = "127.0.0.1:6881\npeers 1 found 1 asked 1 failed 0 turned 0 announced 0\n";
-    let sent = search_sends(&rt, &[], LINE_1, link, text)?;
-    assert_eq!(rt; sent.len(), 1);
-    assert!(rt; is_at(&sent, 0, QUERY));
-    Ok(())
+    const TRIAL: &Trial<'static> = &Trial {
+        words: PEERS,
+        text: "127.0.0.1:6881\npeers 1 found 1 asked 1 failed 0 turned 0 announced 0\n",
+        told: Sends(1, &[(0, 6001, QUERY)]),
+        ..ANNOUNCING
+    };
+    plays(&rt, TRIAL)
 }
 
 #[test]
 fn a_port_is_announced_with_the_token(rt: HostRuntime) -> Result<(), Fail> {
-    let link = link_from(rt.alloc(), &[(6001, ONE_PEER)], &[], &[])?;
-    let text = "127.0.0.1:6881\npeers 1 found 1 asked 1 failed 0 turned 0 announced 1\n";
-    let sent = search_sends(&rt, ANNOUNCE, LINE_1, link, text)?;
-    assert_eq!(rt; sent.len(), 2);
-    assert!(rt; is_at(&sent, 1, ANNOUNCED));
-    Ok(())
+    const TRIAL: &Trial<'static> = &ANNOUNCING;
+    plays(&rt, TRIAL)
 }
 
 #[test]
 fn port_0_announces_the_one_that_the_datagram_comes_from(rt: HostRuntime) -> Result<(), Fail> {
-    let link = link_from(rt.alloc(), &[(6001, ONE_PEER)], &[], &[])?;
-    let text = "127.0.0.1:6881\npeers 1 found 1 asked 1 failed 0 turned 0 announced 1\n";
-    let sent = search_sends(&rt, IMPLY, LINE_1, link, text)?;
-    assert_eq!(rt; sent.len(), 2);
-    assert!(rt; is_at(&sent, 1, IMPLIED));
-    Ok(())
+    const TRIAL: &Trial<'static> = &Trial {
+        words: IMPLY,
+        told: Sends(2, &[(1, 6001, IMPLIED)]),
+        ..ANNOUNCING
+    };
+    plays(&rt, TRIAL)
 }
 
 #[test]
 fn a_refused_announcement_is_not_counted(rt: HostRuntime) -> Result<(), Fail> {
-    let link = link_from(rt.alloc(), &[(6001, ONE_PEER)], &[1], &[])?;
-    let text = "127.0.0.1:6881\npeers 1 found 1 asked 1 failed 0 turned 0 announced 0\n";
-    let sent = search_sends(&rt, ANNOUNCE, LINE_1, link, text)?;
-    assert_eq!(rt; sent.len(), 1);
-    Ok(())
+    const TRIAL: &Trial<'static> = &Trial {
+        refused: &[1],
+        text: "127.0.0.1:6881\npeers 1 found 1 asked 1 failed 0 turned 0 announced 0\n",
+        told: Sends(1, &[]),
+        ..ANNOUNCING
+    };
+    plays(&rt, TRIAL)
 }
 
 /// Two contacts give the same peer, one of them twice and among others: each stands once, in the
 /// order of addresses, and both contacts are told, in the order of the result.
 #[test]
 fn peers_of_several_answers_stand_once_and_in_order(rt: HostRuntime) -> Result<(), Fail> {
-    let input = lines(rt.alloc(), 1, 2)?;
-    let link = link_from(
-        rt.alloc(),
-        &[(6001, ONE_PEER), (6002, FOUR_PEERS)],
-        &[],
-        &[],
-    )?;
-    let sent = search_sends(&rt, ANNOUNCE, input.as_str(), link, THREE_PEERS)?;
-    assert_eq!(rt; sent.len(), 4);
-    assert!(rt; is_at(&sent, 2, THIRD));
-    assert!(rt; is_at(&sent, 3, FOURTH));
-    Ok(())
+    const TRIAL: &Trial<'static> = &Trial {
+        input: TWO_LINES,
+        outside: &[From(10, 6001, ONE_PEER), From(20, 6002, FOUR_PEERS)],
+        text: THREE_PEERS,
+        told: Sends(4, &[(2, 6001, THIRD), (3, 6002, FOURTH)]),
+        ..ANNOUNCING
+    };
+    plays(&rt, TRIAL)
 }
 
 /// A peer with port 0 is a peer; members of another length, and a number, are passed over. No
 /// token, no announcement.
 #[test]
 fn odd_peers_and_no_token(rt: HostRuntime) -> Result<(), Fail> {
-    let link = link_from(rt.alloc(), &[(6001, ODD_PEERS)], &[], &[])?;
-    let text = "127.0.0.1:0\npeers 1 found 1 asked 1 failed 0 turned 0 announced 0\n";
-    let sent = search_sends(&rt, ANNOUNCE, LINE_1, link, text)?;
-    assert_eq!(rt; sent.len(), 1);
-    Ok(())
+    const TRIAL: &Trial<'static> = &Trial {
+        outside: &[From(10, 6001, ODD_PEERS)],
+        text: "127.0.0.1:0\npeers 1 found 1 asked 1 failed 0 turned 0 announced 0\n",
+        told: Sends(1, &[]),
+        ..ANNOUNCING
+    };
+    plays(&rt, TRIAL)
 }
 
 /// Contact 2 gave a token, and contact 1 is closer: of one contact to find only contact 1 is told.
 #[test]
 fn a_token_of_a_contact_that_is_not_found_is_not_used(rt: HostRuntime) -> Result<(), Fail> {
-    let input = lines(rt.alloc(), 2, 2)?;
-    let link = link_from(
-        rt.alloc(),
-        &[(6002, NAMING_1), (6001, SECOND_ANSWER)],
-        &[],
-        &[],
-    )?;
-    let text = "peers 0 found 1 asked 2 failed 0 turned 0 announced 1\n";
-    let sent = search_sends(&rt, ONE_FOUND, input.as_str(), link, text)?;
-    assert_eq!(rt; sent.len(), 3);
-    assert!(rt; is_at(&sent, 2, THIRD));
-    Ok(())
+    const TRIAL: &Trial<'static> = &Trial {
+        words: ONE_FOUND,
+        input: LINE_2,
+        outside: &[From(10, 6002, NAMING_1), From(20, 6001, SECOND_ANSWER)],
+        text: "peers 0 found 1 asked 2 failed 0 turned 0 announced 1\n",
+        told: Sends(3, &[(2, 6001, THIRD)]),
+        ..ANNOUNCING
+    };
+    plays(&rt, TRIAL)
 }
 
 /// What it gives isn't printed, and it is told of nobody.
 #[test]
 fn an_answer_in_another_name_gives_no_peers(rt: HostRuntime) -> Result<(), Fail> {
-    let link = link_from(rt.alloc(), &[(6001, POSING)], &[], &[])?;
-    let text = "peers 0 found 0 asked 1 failed 1 turned 0 announced 0\n";
-    let sent = search_sends(&rt, ANNOUNCE, LINE_1, link, text)?;
-    assert_eq!(rt; sent.len(), 1);
-    Ok(())
+    const TRIAL: &Trial<'static> = &Trial {
+        outside: &[From(10, 6001, POSING)],
+        text: "peers 0 found 0 asked 1 failed 1 turned 0 announced 0\n",
+        told: Sends(1, &[]),
+        ..ANNOUNCING
+    };
+    plays(&rt, TRIAL)
 }
 
 /// Contact 2 begins and names contact 1, whose peer is printed; both are told, contact 1 first.
 #[test]
 fn a_contact_learnt_on_the_way_gives_its_peers(rt: HostRuntime) -> Result<(), Fail> {
-    let input = lines(rt.alloc(), 2, 2)?;
-    let datagrams: [(u16, &[u8]); 2] = [(6002, NAMING_1), (6001, SECOND_PEER)];
-    let link = link_from(rt.alloc(), &datagrams, &[], &[])?;
-    let text = "127.0.0.1:6881\npeers 1 found 2 asked 2 failed 0 turned 0 announced 2\n";
-    let sent = search_sends(&rt, ANNOUNCE, input.as_str(), link, text)?;
-    assert_eq!(rt; sent.len(), 4);
-    assert!(rt; is_at(&sent, 2, THIRD));
-    assert!(rt; is_at(&sent, 3, FOURTH));
-    Ok(())
+    const TRIAL: &Trial<'static> = &Trial {
+        input: LINE_2,
+        outside: &[From(10, 6002, NAMING_1), From(20, 6001, SECOND_PEER)],
+        text: "127.0.0.1:6881\npeers 1 found 2 asked 2 failed 0 turned 0 announced 2\n",
+        told: Sends(4, &[(2, 6001, THIRD), (3, 6002, FOURTH)]),
+        ..ANNOUNCING
+    };
+    plays(&rt, TRIAL)
 }
 
 /// What stands before the values of an answer of contact n, and after those of the answer to the
@@ -244,7 +261,6 @@ fn five_hundred_lines(alloc: Global, n: u8) -> Result<String, Fail> {
 #[test]
 fn a_thousand_peers_of_two_answers_are_printed(rt: HostRuntime) -> Result<(), Fail> {
     let alloc = rt.alloc();
-    let input = lines(alloc, 1, 2)?;
     let first = five_hundred(alloc, 1, FIRST_END)?;
     let second = five_hundred(alloc, 2, SECOND_END)?;
     let mut text = five_hundred_lines(alloc, 1)?;
@@ -252,11 +268,18 @@ fn a_thousand_peers_of_two_answers_are_printed(rt: HostRuntime) -> Result<(), Fa
     text.push_str("peers 1000 found 2 asked 2 failed 0 turned 0 announced 0\n")?;
     let datagrams = [(6001, first.as_slice()), (6002, second.as_slice())];
     let link = link_from(alloc, &datagrams, &[], &[])?;
-    shows(&rt, PEERS, input.as_str(), link, 0, text.as_str())
+    shows(&rt, PEERS, TWO_LINES, link, 0, text.as_str())
 }
 
 #[test]
 fn peers_begin_with_a_contact(rt: HostRuntime) -> Result<(), Fail> {
-    let link = link_from(rt.alloc(), &[(6001, ONE_PEER)], &[], &[])?;
-    shows(&rt, PEERS, "", link, 8, "no seeds\n")
+    const TRIAL: &Trial<'static> = &Trial {
+        words: PEERS,
+        input: "",
+        status: 8,
+        text: "no seeds\n",
+        told: Anything,
+        ..ANNOUNCING
+    };
+    plays(&rt, TRIAL)
 }

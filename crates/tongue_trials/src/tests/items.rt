@@ -1,27 +1,29 @@
 //! Items of BEP 44 in messages: what is got and put, values of any kind and hostile ones.
-use crate::tests::messages::{ABC, MNO, NOTHING, again, bare, bytes, reads, refuses};
+use super::said::{
+    ABC, Asked, BARE, MNO, NOTHING, Row, Said, again, all_refused, both_ways, refuses,
+};
+use super::text::{Text, joined, repeated};
 use kad_bencode::Bad;
 use kad_krpc::{Answer, Ask, Key, KrpcFault, Message, decode, get_into};
 use std::alloc::Global;
 use std::process::Abort;
-use std::test::Fail;
 
-/// The text of a read put: what stands in front of the value, the value, and what comes after it.
-fn putting(alloc: Global, v: &[u8]) -> Result<Vec<u8>, Fail> {
-    let mut text = Vec::new(alloc);
-    text.extend_from_slice(b"d1:ad2:id20:abcdefghij01234567895:token8:aoeusnth1:v")?;
-    text.extend_from_slice(v)?;
-    text.extend_from_slice(b"e1:q3:put1:t2:aa1:y1:qe")?;
-    Ok(text)
+/// The text of a put with that value.
+fn putting(v: &[u8]) -> Text {
+    joined(&[
+        b"d1:ad2:id20:abcdefghij01234567895:token8:aoeusnth1:v",
+        v,
+        b"e1:q3:put1:t2:aa1:y1:qe",
+    ])
 }
 
 /// The text of an answer with that value.
-fn answering(alloc: Global, v: &[u8]) -> Result<Vec<u8>, Fail> {
-    let mut text = Vec::new(alloc);
-    text.extend_from_slice(b"d1:rd2:id20:abcdefghij01234567891:v")?;
-    text.extend_from_slice(v)?;
-    text.extend_from_slice(b"e1:t2:aa1:y1:re")?;
-    Ok(text)
+fn answering(v: &[u8]) -> Text {
+    joined(&[
+        b"d1:rd2:id20:abcdefghij01234567891:v",
+        v,
+        b"e1:t2:aa1:y1:re",
+    ])
 }
 
 /// That a query puts an item of this written form.
@@ -72,23 +74,17 @@ fn answers_form(rt: &impl Abort, alloc: Global, text: &[u8], form: &[u8]) {
     }
 }
 
-#[test]
-fn a_get_is_read_and_written(rt: HostRuntime) -> Result<(), Fail> {
-    let alloc = rt.alloc();
-    let text =
-        b"d1:ad2:id20:abcdefghij01234567896:target20:mnopqrstuvwxyz123456e1:q3:get1:t2:aa1:y1:qe";
-    let message = Message::Query {
-        tx: bytes(alloc, b"aa")?,
+const GET: Row = (
+    b"d1:ad2:id20:abcdefghij01234567896:target20:mnopqrstuvwxyz123456e1:q3:get1:t2:aa1:y1:qe",
+    Said::Query {
         read_only: false,
-        ask: Ask::Get {
-            id: ABC,
-            target: MNO,
-            want: NOTHING,
-        },
-    };
-    reads(&rt, alloc, text, &message);
-    again(&rt, alloc, text);
-    Ok(())
+        ask: Asked::Get(NOTHING),
+    },
+);
+
+#[test]
+fn a_get_is_read_and_written(rt: HostRuntime) {
+    both_ways(&rt, rt.alloc(), &GET);
 }
 
 #[test]
@@ -109,178 +105,142 @@ fn a_lookups_get_is_written(rt: HostRuntime) {
 }
 
 #[test]
-fn a_put_is_read_and_written(rt: HostRuntime) -> Result<(), Fail> {
-    let alloc = rt.alloc();
-    let text = putting(alloc, b"5:hello")?;
-    puts_form(&rt, alloc, text.as_slice(), b"5:hello", false);
-    again(&rt, alloc, text.as_slice());
-    Ok(())
+fn a_put_is_read_and_written(rt: HostRuntime) {
+    let text = putting(b"5:hello");
+    puts_form(&rt, rt.alloc(), text.as_slice(), b"5:hello", false);
+    again(&rt, rt.alloc(), text.as_slice());
 }
+
+const WITH_A_KEY: &[u8] =
+    b"d1:ad2:id20:abcdefghij01234567891:k1:x3:seqi1e3:sig1:x5:token8:aoeusnth1:v5:helloe1:q3:put1:t2:aa1:y1:qe";
+
+/// The key may be of any kind.
+const WITH_A_LIST: &[u8] =
+    b"d1:ad2:id20:abcdefghij01234567891:kle5:token8:aoeusnth1:v5:helloe1:q3:put1:t2:aa1:y1:qe";
 
 #[test]
 fn an_item_with_a_key_is_mutable(rt: HostRuntime) {
-    let alloc = rt.alloc();
-    let text =
-        b"d1:ad2:id20:abcdefghij01234567891:k1:x3:seqi1e3:sig1:x5:token8:aoeusnth1:v5:helloe1:q3:put1:t2:aa1:y1:qe";
-    puts_form(&rt, alloc, text, b"5:hello", true);
-    // The key may be of any kind.
-    let text =
-        b"d1:ad2:id20:abcdefghij01234567891:kle5:token8:aoeusnth1:v5:helloe1:q3:put1:t2:aa1:y1:qe";
-    puts_form(&rt, alloc, text, b"5:hello", true);
+    puts_form(&rt, rt.alloc(), WITH_A_KEY, b"5:hello", true);
+    puts_form(&rt, rt.alloc(), WITH_A_LIST, b"5:hello", true);
 }
 
+const WITH_A_VALUE: &[u8] =
+    b"d1:rd2:id20:abcdefghij01234567895:token8:aoeusnth1:v5:hello6:valueslee1:t2:aa1:y1:re";
+
+const WITHOUT: Row = (
+    b"d1:rd2:id20:abcdefghij0123456789e1:t2:aa1:y1:re",
+    Said::Answer(BARE),
+);
+
 #[test]
-fn an_answer_with_a_value_is_read_and_written(rt: HostRuntime) -> Result<(), Fail> {
-    let alloc = rt.alloc();
-    let text =
-        b"d1:rd2:id20:abcdefghij01234567895:token8:aoeusnth1:v5:hello6:valueslee1:t2:aa1:y1:re";
-    answers_form(&rt, alloc, text, b"5:hello");
-    again(&rt, alloc, text);
-    let bare_text = b"d1:rd2:id20:abcdefghij0123456789e1:t2:aa1:y1:re";
-    let message = Message::Answer {
-        tx: bytes(alloc, b"aa")?,
-        answer: bare(ABC),
-    };
-    reads(&rt, alloc, bare_text, &message);
-    Ok(())
+fn an_answer_with_a_value_is_read_and_written(rt: HostRuntime) {
+    answers_form(&rt, rt.alloc(), WITH_A_VALUE, b"5:hello");
+    again(&rt, rt.alloc(), WITH_A_VALUE);
+    both_ways(&rt, rt.alloc(), &WITHOUT);
+}
+
+/// That a put and an answer of this value are read, and written again in both ways.
+fn value_again(rt: &impl Abort, alloc: Global, v: &[u8]) {
+    let text = putting(v);
+    again(rt, alloc, text.as_slice());
+    let text = answering(v);
+    again(rt, alloc, text.as_slice());
 }
 
 /// A value of each kind, in its written form.
-fn values() -> [&'static [u8]; 6] {
-    [b"i-7e", b"0:", b"le", b"de", b"li1e1:xe", b"d1:ad0:leee"]
-}
+const VALUES: &[&[u8]] = &[b"i-7e", b"0:", b"le", b"de", b"li1e1:xe", b"d1:ad0:leee"];
 
 #[test]
-fn a_value_may_be_of_any_kind(rt: HostRuntime) -> Result<(), Fail> {
-    let alloc = rt.alloc();
-    for v in values() {
-        let text = putting(alloc, v)?;
-        again(&rt, alloc, text.as_slice());
-        let text = answering(alloc, v)?;
-        again(&rt, alloc, text.as_slice());
+fn a_value_may_be_of_any_kind(rt: HostRuntime) {
+    for v in VALUES {
+        value_again(&rt, rt.alloc(), v);
     }
-    Ok(())
 }
 
 #[test]
-fn keys_out_of_order_are_put_in_order(rt: HostRuntime) -> Result<(), Fail> {
-    let alloc = rt.alloc();
-    let text = putting(alloc, b"d1:bi1e1:ad1:zle1:xi0eee")?;
-    puts_form(
-        &rt,
-        alloc,
-        text.as_slice(),
-        b"d1:ad1:xi0e1:zlee1:bi1ee",
-        false,
-    );
-    let text = answering(alloc, b"ld1:b0:1:a0:ee")?;
-    answers_form(&rt, alloc, text.as_slice(), b"ld1:a0:1:b0:ee");
-    Ok(())
+fn keys_out_of_order_are_put_in_order(rt: HostRuntime) {
+    let text = putting(b"d1:bi1e1:ad1:zle1:xi0eee");
+    let form = b"d1:ad1:xi0e1:zlee1:bi1ee";
+    puts_form(&rt, rt.alloc(), text.as_slice(), form, false);
+    let text = answering(b"ld1:b0:1:a0:ee");
+    answers_form(&rt, rt.alloc(), text.as_slice(), b"ld1:a0:1:b0:ee");
 }
 
 /// A value in which so many lists stand one in another.
-fn nested(alloc: Global, depth: usize) -> Result<Vec<u8>, Fail> {
-    let mut v = Vec::new(alloc);
-    for _ in 0..depth {
-        v.extend_from_slice(b"l")?;
-    }
-    for _ in 0..depth {
-        v.extend_from_slice(b"e")?;
-    }
-    Ok(v)
+fn nested(depth: u32) -> Text {
+    let ends = repeated(b"", b"e", depth, b"");
+    repeated(b"", b"l", depth, ends.as_slice())
 }
 
 #[test]
-fn a_value_nests_fourteen_deep_and_no_deeper(rt: HostRuntime) -> Result<(), Fail> {
-    let alloc = rt.alloc();
-    let deep = nested(alloc, 14)?;
-    let text = putting(alloc, deep.as_slice())?;
-    again(&rt, alloc, text.as_slice());
-    let text = answering(alloc, deep.as_slice())?;
-    again(&rt, alloc, text.as_slice());
-    let deeper = nested(alloc, 15)?;
+fn a_value_nests_fourteen_deep_and_no_deeper(rt: HostRuntime) {
+    let deep = nested(14);
+    value_again(&rt, rt.alloc(), deep.as_slice());
+    let deeper = nested(15);
     // The fifteenth list comes after 52 bytes of the put, or 35 of the answer, and 14 more.
-    let text = putting(alloc, deeper.as_slice())?;
-    refuses(
-        &rt,
-        alloc,
-        text.as_slice(),
-        KrpcFault::Bad(Bad::Deep { at: 66 }),
-    );
-    let text = answering(alloc, deeper.as_slice())?;
-    refuses(
-        &rt,
-        alloc,
-        text.as_slice(),
-        KrpcFault::Bad(Bad::Deep { at: 49 }),
-    );
-    Ok(())
+    let text = putting(deeper.as_slice());
+    let fault = KrpcFault::Bad(Bad::Deep { at: 66 });
+    refuses(&rt, rt.alloc(), text.as_slice(), fault);
+    let text = answering(deeper.as_slice());
+    let fault = KrpcFault::Bad(Bad::Deep { at: 49 });
+    refuses(&rt, rt.alloc(), text.as_slice(), fault);
+}
+
+/// A leading zero, a number that is too big, and a key that stands twice.
+const NO_BENCODE: &[(&[u8], Bad)] = &[
+    (b"i01e", Bad::NotBencode { at: 54 }),
+    (b"i9223372036854775808e", Bad::NumberTooBig { at: 52 }),
+    (b"d1:a0:1:a0:e", Bad::KeyTwice { at: 58 }),
+];
+
+/// That a put of this value is refused so.
+fn put_is_refused(rt: &impl Abort, alloc: Global, v: &[u8], bad: Bad) {
+    let text = putting(v);
+    refuses(rt, alloc, text.as_slice(), KrpcFault::Bad(bad));
 }
 
 #[test]
-fn a_value_is_bencode(rt: HostRuntime) -> Result<(), Fail> {
-    let alloc = rt.alloc();
-    // A leading zero, a number that is too big, and a key that stands twice.
-    let text = putting(alloc, b"i01e")?;
-    refuses(
-        &rt,
-        alloc,
-        text.as_slice(),
-        KrpcFault::Bad(Bad::NotBencode { at: 54 }),
-    );
-    let text = putting(alloc, b"i9223372036854775808e")?;
-    refuses(
-        &rt,
-        alloc,
-        text.as_slice(),
-        KrpcFault::Bad(Bad::NumberTooBig { at: 52 }),
-    );
-    let text = putting(alloc, b"d1:a0:1:a0:e")?;
-    refuses(
-        &rt,
-        alloc,
-        text.as_slice(),
-        KrpcFault::Bad(Bad::KeyTwice { at: 58 }),
-    );
-    Ok(())
-}
-
-/// The written form of a string of so many bytes.
-fn long(alloc: Global, front: &[u8], count: usize) -> Result<Vec<u8>, Fail> {
-    let mut v = Vec::new(alloc);
-    v.extend_from_slice(front)?;
-    for _ in 0..count {
-        v.extend_from_slice(b"x")?;
+fn a_value_is_bencode(rt: HostRuntime) {
+    for (v, bad) in NO_BENCODE {
+        put_is_refused(&rt, rt.alloc(), v, *bad);
     }
-    Ok(v)
 }
 
 #[test]
-fn a_message_bounds_no_value(rt: HostRuntime) -> Result<(), Fail> {
-    let alloc = rt.alloc();
+fn a_message_bounds_no_value(rt: HostRuntime) {
     // 1,001 bytes are more than an item may have, but a message may carry them.
-    let v = long(alloc, b"997:", 997)?;
-    let text = putting(alloc, v.as_slice())?;
-    puts_form(&rt, alloc, text.as_slice(), v.as_slice(), false);
-    let text = answering(alloc, v.as_slice())?;
-    again(&rt, alloc, text.as_slice());
-    Ok(())
+    let v = repeated(b"997:", b"x", 997, b"");
+    let text = putting(v.as_slice());
+    puts_form(&rt, rt.alloc(), text.as_slice(), v.as_slice(), false);
+    let text = answering(v.as_slice());
+    again(&rt, rt.alloc(), text.as_slice());
 }
+
+/// The token comes before the value.
+const FAULTS: &[(&[u8], KrpcFault)] = &[
+    (
+        b"d1:ad2:id20:abcdefghij0123456789e1:q3:get1:t2:aa1:y1:qe",
+        KrpcFault::Missing { key: Key::Target },
+    ),
+    (
+        b"d1:ad6:target20:mnopqrstuvwxyz123456e1:q3:get1:t2:aa1:y1:qe",
+        KrpcFault::Missing { key: Key::Id },
+    ),
+    (
+        b"d1:ad2:id20:abcdefghij0123456789e1:q3:put1:t2:aa1:y1:qe",
+        KrpcFault::Missing { key: Key::Token },
+    ),
+    (
+        b"d1:ad2:id20:abcdefghij01234567895:tokeni1ee1:q3:put1:t2:aa1:y1:qe",
+        KrpcFault::Shape { key: Key::Token },
+    ),
+    (
+        b"d1:ad2:id20:abcdefghij01234567895:token1:xe1:q3:put1:t2:aa1:y1:qe",
+        KrpcFault::Missing { key: Key::V },
+    ),
+];
 
 #[test]
 fn refusals_of_gets_and_puts_name_the_key(rt: HostRuntime) {
-    let alloc = rt.alloc();
-    let missing = |key| KrpcFault::Missing { key };
-    let shape = |key| KrpcFault::Shape { key };
-    let text = b"d1:ad2:id20:abcdefghij0123456789e1:q3:get1:t2:aa1:y1:qe";
-    refuses(&rt, alloc, text, missing(Key::Target));
-    let text = b"d1:ad6:target20:mnopqrstuvwxyz123456e1:q3:get1:t2:aa1:y1:qe";
-    refuses(&rt, alloc, text, missing(Key::Id));
-    // The token comes before the value.
-    let text = b"d1:ad2:id20:abcdefghij0123456789e1:q3:put1:t2:aa1:y1:qe";
-    refuses(&rt, alloc, text, missing(Key::Token));
-    let text = b"d1:ad2:id20:abcdefghij01234567895:tokeni1ee1:q3:put1:t2:aa1:y1:qe";
-    refuses(&rt, alloc, text, shape(Key::Token));
-    let text = b"d1:ad2:id20:abcdefghij01234567895:token1:xe1:q3:put1:t2:aa1:y1:qe";
-    refuses(&rt, alloc, text, missing(Key::V));
+    all_refused(&rt, rt.alloc(), FAULTS);
 }
