@@ -31,6 +31,15 @@ HASH = "e28910ea0adb94dd45ced75fbff3e135c01bc437"  # of the value 5:hello
 MANY, LONG_ENOUGH = 64, 0.2  # datagrams of one measurement, and the seconds of processor time after which it ends
 EACH = 8  # datagrams of one measurement of which the least counts
 ALONE, PAUSE = 15, 0.02  # datagrams of one measurement with pauses, and the seconds between two
+UNCOUNTED = 0.5  # seconds that a process waits, after which nothing was counted of what it did
+TRIES = 20  # times that a measurement is begun anew where something wasn't counted
+
+
+def counted(times):
+    """Those of which the system counted anything."""
+    some = [time for time in times if time > 0]
+    check(some, "the system counts none of its time")
+    return some
 
 
 # ----------------------------------------------------------------------------------------------------------- the keys
@@ -274,10 +283,20 @@ class Measured:
         return int(row[4].split(":")[1], 16) == 0 and edge.state(self.child) == "S"
 
     def rest(self, spent=-1.0):
-        """Until it waits, and has spent more than this: what is sent to it isn't at its socket at once on a busy machine."""
-        patience = time.monotonic() + 60
-        while not (self.is_waiting() and self.spent() > spent):
-            check(time.monotonic() < patience, "it doesn't get through what it was sent")
+        """Until it waits, and has spent more than this: what is sent to it isn't at its socket at once on a busy machine. It says
+        whether that was counted: where the host takes processors for others, the system may count nothing of a short time."""
+        patience, since = time.monotonic() + 60, None
+        while True:
+            now = time.monotonic()
+            if not self.is_waiting():
+                since = None
+            elif self.spent() > spent:
+                return True
+            else:
+                since = since or now
+                if now > since + UNCOUNTED:
+                    return False
+            check(now < patience, "it doesn't get through what it was sent")
             time.sleep(0.0001)
 
     def empty(self):
@@ -318,15 +337,18 @@ class Measured:
         """The processor time that one of these takes, in seconds, as the mean over many: each comes once those before it
         are done with, or so many come together, as far as they have a place in its socket."""
         self.rest()
-        began, sent = self.spent(), 0
-        while sent < many and self.spent() < began + LONG_ENOUGH:
-            before = self.spent()
-            for at in range(sent, sent + at_once):
-                self.send(datagrams[at % len(datagrams)], host)
-            sent += at_once
-            self.rest(before)
-            self.empty()
-        return (self.spent() - began) / sent
+        for _ in range(TRIES):
+            began, sent, counted = self.spent(), 0, True
+            while counted and sent < many and self.spent() < began + LONG_ENOUGH:
+                before = self.spent()
+                for at in range(sent, sent + at_once):
+                    self.send(datagrams[at % len(datagrams)], host)
+                sent += at_once
+                counted = self.rest(before)
+                self.empty()
+            if counted:
+                return (self.spent() - began) / sent
+        raise edge.Failure("the system doesn't count all of its time")
 
     def least(self, datagram, host=None):
         """The least processor time that one of some like this takes, in seconds, each once the one before is done with."""
@@ -334,7 +356,7 @@ class Measured:
         for _ in range(EACH):
             each.append(self.spends(lambda: self.send(datagram, host)))
             self.empty()
-        return min(each)
+        return min(counted(each))
 
     def alone(self, kinds, host=None):
         """The processor time that each of these takes where it comes after a pause, in seconds, as the median of some, in turn: the
@@ -345,7 +367,7 @@ class Measured:
                 times.append(self.spends(lambda: self.send(datagram, host)))
                 self.empty()
                 time.sleep(PAUSE)
-        return tuple(map(median, each))
+        return tuple(median(counted(times)) for times in each)
 
     def ask(self, query):
         self.empty()
