@@ -352,6 +352,24 @@ short_read bytes at next p s e a to long digit colon small =
     subst (ReadsString bytes at p s) end
     (string_read bytes at p n (at + 1) s (e ∙ ap (λ m. take m (drop (at + 2) bytes)) amount ∙ ap (λ m. take n (drop m bytes)) from) a (one_digit bytes at (omega (arith, to, long)) digit colon) (omega (arith, to, long), colon) (omega (arith, to, long)) small)
 
+-- one digit, which may be 0, a colon and as many bytes
+pub digit_read : (bytes : List ℕ) (at : ℕ) (p : Place) → AwaitsString bytes at p → 48 ≤ get_or bytes at 0 → get_or bytes at 0 ≤ 57 → get_or bytes (at + 1) 0 ≡ 58 → at + 2 + (get_or bytes at 0 - 48) ≤ length bytes → length bytes < 2 ^ 64 → ReadsString bytes at p (take (at + 2 + (get_or bytes at 0 - 48) - (at + 2)) (drop (at + 2) bytes)) (at + 2 + (get_or bytes at 0 - 48))
+digit_read bytes at p a low high colon long small =
+    let next : ℕ = at + 2 + (get_or bytes at 0 - 48) in
+    let s : List ℕ = take (next - (at + 2)) (drop (at + 2) bytes) in
+    elim (cases_lt 48 (get_or bytes at 0)) as (λ _. ReadsString bytes at p s next) [
+      | inl above ↦ short_read bytes at next p s refl a refl long (nonzero (get_or bytes at 0) above high) colon small
+      | inr below ↦
+          let is_zero : get_or bytes at 0 ≡ 48 = omega (arith, low, below) in
+          let none : next - (at + 2) ≡ 0 = omega (arith, is_zero) in
+          let same : at + 2 ≡ next = omega (arith, is_zero) in
+          subst (ReadsString bytes at p s) same
+          (empty_read bytes at p s (ap (λ n. take n (drop (at + 2) bytes)) none) a (omega (arith, long), is_zero) (omega (arith, long), colon))
+    ]
+  where
+    nonzero : (b : ℕ) → 48 < b → b ≤ 57 → is_nonzero b ≡ true
+    nonzero b k l = grind (arith, nat_tests)
+
 -- ---- a string of six bytes
 
 -- the digit 6, and none behind it

@@ -13,6 +13,7 @@ ghost use Rattle.kad_bencode.specs.declared.value.Value.{Value};
 
 use crate::find::{find, first_pair, string_in};
 use crate::heads::{Heads, IN_HEAD, head_of};
+use crate::scan::short_end;
 
 /// How many keys are filed at most: more than a datagram of 4,096 bytes has room for.
 pub(crate) const MOST: usize = 768;
@@ -43,7 +44,11 @@ fn key_at(bytes: &[u8], place: usize) -> &[u8]
     if place >= bytes.len() {
         return &bytes[..0];
     }
-    match string_in(&bytes[place..]) {
+    let rest = &bytes[place..];
+    if let Some(next) = short_end(rest, 0) {
+        return &rest[2..next];
+    }
+    match string_in(rest) {
         Some((key, _)) => key,
         None => &bytes[..0],
     }

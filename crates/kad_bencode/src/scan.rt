@@ -1,5 +1,5 @@
 //! Strings, integers and whole values of bencode where they stand: each call says where it ends, and takes no memory.
-ghost use Rattle.std.specs.Prelude.{◌≡◌, ℕ, suc, ◌+◌, ◌-◌, ◌<◌, ◌≤◌, List, [], ◌∷◌, ◌++◌, length, IsTrue, true, IfOk, IfSome, MatchOption, get_or};
+ghost use Rattle.std.specs.Prelude.{◌≡◌, ℕ, suc, ◌+◌, ◌-◌, ◌<◌, ◌≤◌, List, [], ◌∷◌, ◌++◌, length, take, drop, IsTrue, true, IfOk, IfSome, MatchOption, get_or};
 ghost use Rattle.kad_bencode.specs.Spelling.{Fits, text_of};
 ghost use Rattle.kad_bencode.specs.Faults.{Open};
 ghost use Rattle.kad_bencode.specs.declared.value.Value.{Value};
@@ -20,10 +20,7 @@ pub(crate) fn string_at(bytes: &[u8], at: usize) -> Result<(&[u8], usize), Bad>
     if has_six(bytes, at) {
         return Ok((&bytes[at + 2..at + 8], at + 8));
     }
-    if has_empty(bytes, at) {
-        return Ok((&bytes[at..at], at + 2));
-    }
-    match short_at(bytes, at) {
+    match short_end(bytes, at) {
         Some(next) => Ok((&bytes[at + 2..next], next)),
         None => any_string_at(bytes, at),
     }
@@ -77,33 +74,19 @@ fn has_six(bytes: &[u8], at: usize) -> bool
     bytes[at + 1] == b':'
 }
 
-/// Whether an empty string stands at a place.
+/// Where a string at a place ends whose length is one digit, as that of most keys is. So no digit after it is looked for.
 #[inline(always)]
-fn has_empty(bytes: &[u8], at: usize) -> bool
-    ensures zero { IsTrue result → HasByte bytes.now at 48 true }
-    ensures colon { IsTrue result → HasByte bytes.now (at + 1) 58 true }
-{
-    if !has_byte(bytes, at, b'0') {
-        return false;
-    }
-    has_byte(bytes, at + 1, b':')
-}
-
-/// Where a string at a place ends whose length is one digit and not 0, as that of most keys is. So no digit after it is
-/// looked for.
-#[inline(always)]
-fn short_at(bytes: &[u8], at: usize) -> Option<usize>
+pub(crate) fn short_end(bytes: &[u8], at: usize) -> Option<usize>
     requires { at ≤ length bytes.now }
-    ensures digit { IfSome result (λ next. next ≡ at + 2 + (get_or bytes.now at 0 - 48)) }
-    ensures nonzero { IfSome result (λ next. IsTrue (is_nonzero (get_or bytes.now at 0))) }
-    ensures colon { IfSome result (λ next. get_or bytes.now (at + 1) 0 ≡ 58) }
-    ensures within { IfSome result (λ next. (at + 2 < next) × (next ≤ length bytes.now)) }
+    ensures within { IfSome result (λ next. (at + 2 ≤ next) × (next ≤ length bytes.now)) }
+    ensures reads { (p : Place) → AwaitsString bytes.now at p
+        → IfSome result (λ next. ReadsString bytes.now at p (take (next - (at + 2)) (drop (at + 2) bytes.now)) next) }
 {
     if bytes.len() - at < 2 {
         return None;
     }
     let digit = bytes[at];
-    if digit < b'1' || digit > b'9' {
+    if digit < b'0' || digit > b'9' {
         return None;
     }
     if bytes[at + 1] != b':' {
@@ -227,7 +210,10 @@ fn string_part(bytes: &[u8], at: usize, depth: usize) -> Option<(usize, usize)>
         → (get_or bytes.now at 0 ≡ 100 → ⊥) → (get_or bytes.now at 0 ≡ 101 → ⊥)
         → MatchOption result ⊥ (λ x. IsBehind bytes.now t x.0 x.1) }
 {
-    match string_at(bytes, at) {
+    if let Some(next) = short_end(bytes, at) {
+        return Some((next, depth));
+    }
+    match any_string_at(bytes, at) {
         Ok((_, next)) => Some((next, depth)),
         Err(_) => None,
     }
@@ -268,6 +254,7 @@ fn part_at(bytes: &[u8], at: usize, depth: usize) -> Option<(usize, usize)>
 }
 
 /// Where the value at the front ends.
+#[inline(always)]
 pub(crate) fn past(bytes: &[u8]) -> usize
     ensures within { result ≤ length bytes.now }
     ensures moves { 0 < length bytes.now → 0 < result }

@@ -1,5 +1,5 @@
 use Rattle.std.proofs.Common.{◌≡◌, ◌+◌, ◌-◌, ◌<◌, ◌^◌, take, drop, length, refl, ap, arith}
-use Rattle.kad_bencode.proofs.Reading.{empty_read, six_read, short_read}
+use Rattle.kad_bencode.proofs.Reading.{six_read}
 use Rattle.kad_bencode.proofs.scan.string_at.Goals as goal
 
 pub returns-then-has_six-clause-reads : goal.returns-then-has_six-clause-reads
@@ -9,12 +9,5 @@ returns-then-has_six-clause-reads c p a =
     six_read c.args.bytes.now c.args.at p (take (c.args.at + 8 - (c.args.at + 2)) (drop (c.args.at + 2) c.args.bytes.now))
     (ap (λ n. take n (drop (c.args.at + 2) c.args.bytes.now)) e) a (c.if-has_six.ensures.long refl) (c.if-has_six.ensures.six refl) (c.if-has_six.ensures.colon refl) small
 
-pub returns-then-has_empty-clause-reads : goal.returns-then-has_empty-clause-reads
-returns-then-has_empty-clause-reads c p a =
-    let e : c.args.at - c.args.at ≡ 0 = omega arith in
-    empty_read c.args.bytes.now c.args.at p (take (c.args.at - c.args.at) (drop c.args.at c.args.bytes.now)) (ap (λ n. take n (drop c.args.at c.args.bytes.now)) e) a (c.if-has_empty.ensures.zero refl) (c.if-has_empty.ensures.colon refl)
-
 pub returns-in-Some-clause-reads : goal.returns-in-Some-clause-reads
-returns-in-Some-clause-reads c p a =
-    let small : length c.args.bytes.now < 2 ^ 64 = omega arith in
-    short_read c.args.bytes.now c.args.at c.in-Some.next p (take (c.in-Some.next - (c.args.at + 2)) (drop (c.args.at + 2) c.args.bytes.now)) refl a c.in-Some.ensures.digit (c.in-Some.ensures.within.1) c.in-Some.ensures.nonzero c.in-Some.ensures.colon small
+returns-in-Some-clause-reads c p a = c.in-Some.ensures.reads p a
