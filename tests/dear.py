@@ -29,7 +29,7 @@ ASKER = identifier(7)
 KEY = edge.KEY  # of a group
 HASH = "e28910ea0adb94dd45ced75fbff3e135c01bc437"  # of the value 5:hello
 MANY, LONG_ENOUGH = 64, 0.2  # datagrams of one measurement, and the seconds of processor time after which it ends
-EACH = 8  # datagrams of one measurement of which the least counts
+EACH = 9  # datagrams of one measurement whose median counts
 ALONE, PAUSE = 15, 0.02  # datagrams of one measurement with pauses, and the seconds between two
 UNCOUNTED = 0.5  # seconds that a process waits, after which nothing was counted of what it did
 TRIES = 20  # times that a measurement is begun anew where something wasn't counted
@@ -350,13 +350,14 @@ class Measured:
                 return (self.spent() - began) / sent
         raise edge.Failure("the system doesn't count all of its time")
 
-    def least(self, datagram, host=None):
-        """The least processor time that one of some like this takes, in seconds, each once the one before is done with."""
+    def usual(self, datagram, host=None):
+        """The processor time that one of some like this takes, in seconds, each once the one before is done with, as their
+        median: the least of them may be one that wasn't counted whole."""
         each = []
         for _ in range(EACH):
             each.append(self.spends(lambda: self.send(datagram, host)))
             self.empty()
-        return min(counted(each))
+        return median(counted(each))
 
     def alone(self, kinds, host=None):
         """The processor time that each of these takes where it comes after a pause, in seconds, as the median of some, in turn: the
