@@ -12,7 +12,7 @@ ghost use Rattle.kad_bencode.specs.declared.entries.Pair.{Pair};
 ghost use Rattle.kad_bencode.specs.declared.value.Value.{Value};
 
 use crate::find::{find, first_pair, string_in};
-use crate::heads::{Heads, IN_HEAD, head_of};
+use crate::heads::{Heads, IN_HEAD};
 use crate::scan::short_end;
 
 /// How many keys are filed at most: more than a datagram of 4,096 bytes has room for.
@@ -38,7 +38,7 @@ pub(crate) fn is_above(a: &[u8], b: &[u8]) -> bool
 
 /// The key whose text stands at a place.
 #[inline(always)]
-fn key_at(bytes: &[u8], place: usize) -> &[u8]
+pub(crate) fn key_at(bytes: &[u8], place: usize) -> &[u8]
     ensures { (key : List ℕ) → IsAt bytes.now place (string_text key) → result.now ≡ key }
 {
     if place >= bytes.len() {
@@ -60,9 +60,7 @@ fn tail_of(key: &[u8]) -> &[u8] {
 }
 
 /// Where a key may belong among those filed, by the heads, and among keys with its head by what is behind it.
-fn guess(bytes: &[u8], places: &[u16], heads: &Heads, head: u128, key: &[u8]) -> usize
-    ensures { result ≤ length places.now }
-{
+pub(crate) fn guess(bytes: &[u8], places: &[u16], heads: &Heads, head: u128, key: &[u8]) -> usize {
     let low = heads.below(places, head);
     if !heads.is_at(places, low, head) {
         return low;
@@ -76,7 +74,7 @@ fn guess(bytes: &[u8], places: &[u16], heads: &Heads, head: u128, key: &[u8]) ->
 }
 
 /// Where a key may belong among those filed, by the keys. Whether it does, and is new, is seen from its neighbours there.
-fn place_of(bytes: &[u8], places: &[u16], key: &[u8]) -> usize
+pub(crate) fn place_of(bytes: &[u8], places: &[u16], key: &[u8]) -> usize
     ensures { result ≤ length places.now }
 {
     places.partition_point(|place| is_above(key, key_at(bytes, *place as usize)))
@@ -133,13 +131,13 @@ fn fits(bytes: &[u8], places: &[u16], i: usize, key: &[u8]) -> bool
     is_before(bytes, places, i, key)
 }
 
-/// Where a key is to be filed, if it is known for new there: the place that the heads give, or else that of the keys.
-fn seat(bytes: &[u8], places: &[u16], heads: &Heads, head: u128, key: &[u8]) -> Option<usize>
+/// Where a key is to be filed, if it is known for new there: the place that was guessed, or else that which the keys give.
+fn seat(bytes: &[u8], places: &[u16], guessed: usize, key: &[u8]) -> Option<usize>
     ensures within { IfSome result (λ i. i ≤ length places.now) }
     ensures fits { IfSome result (λ i. (keys : List (List ℕ)) → AreAt bytes.now places.now keys
         → IsBehind keys i key.now true × IsBefore keys i key.now true) }
 {
-    let guessed = guess(bytes, places, heads, head, key);
+    let guessed = guessed.min(places.len());
     if fits(bytes, places, guessed, key) {
         return Some(guessed);
     }
@@ -151,14 +149,15 @@ fn seat(bytes: &[u8], places: &[u16], heads: &Heads, head: u128, key: &[u8]) -> 
 }
 
 /// Files a key that stands at a place, and answers how many are filed, or one more than `MOST` where the key isn't known for
-/// new: one like it is filed, there is no room, or the place is beyond 16 bits.
+/// new: one like it is filed, there is no room, or the place is beyond 16 bits. It is first tried where it was guessed to belong.
 pub(crate) fn file(
     bytes: &[u8],
     places: &mut [u16; MOST],
-    heads: &mut Heads,
+    room: &mut [u16; MOST],
     count: usize,
     at: usize,
     key: &[u8],
+    guessed: usize,
 ) -> usize
     ensures files { (keys : List (List ℕ)) → AreFiled bytes.now count places.old keys
         → IsAt bytes.now at (string_text key.now)
@@ -169,24 +168,22 @@ pub(crate) fn file(
     if count >= MOST || at > 65535 {
         return MOST + 1;
     }
-    let head = head_of(key);
-    match seat(bytes, &places[..count], heads, head, key) {
+    match seat(bytes, &places[..count], guessed, key) {
         Some(i) => {
-            put_in(places, &mut heads.room, count, i, at as u16);
-            heads.keep(at, head);
+            put_in(places, room, count, i, at as u16);
             count + 1
         }
         None => MOST + 1,
     }
 }
 
-/// Files the keys of the pairs between two places, and answers how many are filed.
+/// Files the keys of the pairs between two places, and answers how many are filed. Nearly all ascend.
 pub(crate) fn file_all(
     bytes: &[u8],
     from: usize,
     to: usize,
     places: &mut [u16; MOST],
-    heads: &mut Heads,
+    room: &mut [u16; MOST],
 ) -> usize
     requires order { from ≤ to }
     requires within { to ≤ length bytes.now }
@@ -198,7 +195,7 @@ pub(crate) fn file_all(
     while rest.len() > 0 {
         match first_pair(rest) {
             Some((key, _, others)) => {
-                count = file(bytes, places, heads, count, to - rest.len(), key);
+                count = file(bytes, places, room, count, to - rest.len(), key, count);
                 rest = others;
             }
             None => return MOST + 1,

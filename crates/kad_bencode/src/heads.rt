@@ -2,7 +2,7 @@
 //! a further key is guessed. A guess is no more than that: what is filed there is compared with the key itself.
 ghost use Rattle.std.specs.Prelude.{◌<◌, ◌≤◌, length};
 
-use crate::filed::MOST;
+use crate::filed::key_at;
 
 /// How many heads there are. A pair has four bytes at least, so in a datagram of 4,096 bytes no two keys share one.
 const MANY: usize = 1024;
@@ -14,8 +14,6 @@ pub(crate) const IN_HEAD: usize = 15;
 #[derive(Drop)]
 pub(crate) struct Heads {
     heads: [u128; MANY],
-    /// What is moved goes by way of it.
-    pub(crate) room: [u16; MOST],
 }
 
 /// The first eight bytes as a number, the first of them the highest; fewer as if zeros came after them.
@@ -52,11 +50,13 @@ fn is_lower(a: u128, b: u128) -> usize
 }
 
 impl Heads {
-    pub(crate) fn new() -> Heads {
-        Heads {
-            heads: [0; MANY],
-            room: [0; MOST],
+    /// The heads of the keys that stand at these places.
+    pub(crate) fn of(bytes: &[u8], places: &[u16]) -> Heads {
+        let mut heads = Heads { heads: [0; MANY] };
+        for place in places {
+            heads.keep(*place as usize, head_of(key_at(bytes, *place as usize)));
         }
+        heads
     }
 
     /// 1 where the key that stands at one of these places has a head below this one, and 0 elsewhere.
@@ -99,16 +99,5 @@ impl Heads {
     /// Keeps the head of a key that stands at a place.
     pub(crate) fn keep(&mut self, place: usize, head: u128) {
         self.heads[place / 4 % MANY] = head;
-    }
-}
-
-/// The heads, made at their first use.
-pub(crate) fn made(heads: &mut Option<Heads>) -> &mut Heads {
-    if heads.is_none() {
-        *heads = Some(Heads::new());
-    }
-    match heads {
-        Some(heads) => heads,
-        None => unreachable!(),
     }
 }

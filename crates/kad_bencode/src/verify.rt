@@ -1,6 +1,6 @@
 //! Whether bytes spell a value (BEP 3), without memory.
 ghost use Rattle.std.specs.Prelude.{◌≡◌, ℕ, suc, ◌+◌, ◌<◌, ◌≤◌, not, List, [], ◌∷◌, length, IsOk, IfOk, IfErr, OnOk, get_or, Err, MatchOption, true};
-ghost use Rattle.kad_bencode.specs.Keys.{key_cmp};
+ghost use Rattle.kad_bencode.specs.Keys.{keys_of, key_cmp};
 ghost use Rattle.kad_bencode.specs.Spelling.{Spells};
 ghost use Rattle.kad_bencode.specs.Faults.{Open, InList, IsFirstFault};
 ghost use Rattle.kad_bencode.specs.Machine.{Awaits, ReadsValue, Reached, Ready, Keyless, FitsOpen, FitsPairs};
@@ -9,15 +9,19 @@ ghost use Rattle.kad_bencode.specs.declared.value.Value.{Value};
 ghost use Rattle.kad_bencode.specs.declared.value.Bad.{Bad};
 ghost use Rattle.kad_bencode.specs.Scanning.{Scans};
 ghost use Rattle.kad_bencode.specs.Finding.{IsNext};
+ghost use Rattle.kad_bencode.specs.Filing.{AreFiled};
 
-use crate::filed::{MOST, file, file_all, has_key, is_above, is_new};
-use crate::heads::{Heads, made};
+use crate::filed::{MOST, file, file_all, guess, has_key, is_above, is_new, place_of};
+use crate::heads::{Heads, head_of};
 use crate::reader::MAX_DEPTH;
 use crate::scan::{has_byte, integer_at, string_at};
 use crate::value::Bad;
 
 /// How many bytes of pairs are few.
 const FEW_BYTES: usize = 16;
+
+/// How many keys are few.
+const FEW_KEYS: usize = 32;
 
 /// Whether the bytes spell a value, all of them, or the fault that is seen first.
 #[inline(always)]
@@ -35,8 +39,7 @@ pub fn check(bytes: &[u8]) -> Result<(), Bad>
 fn whole(bytes: &[u8]) -> Result<(), Bad>
     ensures { Scans bytes.now result (λ _. (v : Value) × Spells bytes.now v) }
 {
-    let mut heads = None;
-    let next = value_at(bytes, 0, 0, &mut heads)?;
+    let next = value_at(bytes, 0, 0)?;
     if next < bytes.len() {
         return Err(Bad::Trailing { at: next });
     }
@@ -46,7 +49,7 @@ fn whole(bytes: &[u8]) -> Result<(), Bad>
 /// Where the value at a place ends, where that many lists and dictionaries are open.
 #[cycle(checking)]
 #[inline(always)]
-fn value_at(bytes: &[u8], at: usize, depth: usize, heads: &mut Option<Heads>) -> Result<usize, Bad>
+fn value_at(bytes: &[u8], at: usize, depth: usize) -> Result<usize, Bad>
     requires within { at ≤ length bytes.now }
     requires depth { depth ≤ 16 }
     ensures moves { IfOk result (λ next. (at < next) × (next ≤ length bytes.now)) }
@@ -61,13 +64,13 @@ fn value_at(bytes: &[u8], at: usize, depth: usize, heads: &mut Option<Heads>) ->
         if depth == MAX_DEPTH {
             return Err(Bad::Deep { at });
         }
-        return list_at(bytes, at + 1, depth + 1, heads);
+        return list_at(bytes, at + 1, depth + 1);
     }
     if has_byte(bytes, at, b'd') {
         if depth == MAX_DEPTH {
             return Err(Bad::Deep { at });
         }
-        return dictionary_at(bytes, at + 1, depth + 1, heads);
+        return dictionary_at(bytes, at + 1, depth + 1);
     }
     let (_, next) = string_at(bytes, at)?;
     Ok(next)
@@ -75,7 +78,7 @@ fn value_at(bytes: &[u8], at: usize, depth: usize, heads: &mut Option<Heads>) ->
 
 /// Where a list ends whose first value comes next, if it has one.
 #[cycle(checking)]
-fn list_at(bytes: &[u8], from: usize, depth: usize, heads: &mut Option<Heads>) -> Result<usize, Bad>
+fn list_at(bytes: &[u8], from: usize, depth: usize) -> Result<usize, Bad>
     requires within { from ≤ length bytes.now }
     requires depth { depth ≤ 16 }
     ensures moves { IfOk result (λ next. (from < next) × (next ≤ length bytes.now)) }
@@ -85,19 +88,14 @@ fn list_at(bytes: &[u8], from: usize, depth: usize, heads: &mut Option<Heads>) -
 {
     let mut at = from;
     'values: while !has_byte(bytes, at, b'e') {
-        at = value_at(bytes, at, depth, heads)?;
+        at = value_at(bytes, at, depth)?;
     }
     Ok(at + 1)
 }
 
 /// Where a dictionary ends whose first key comes next, if it has one.
 #[cycle(checking)]
-fn dictionary_at(
-    bytes: &[u8],
-    from: usize,
-    depth: usize,
-    heads: &mut Option<Heads>,
-) -> Result<usize, Bad>
+fn dictionary_at(bytes: &[u8], from: usize, depth: usize) -> Result<usize, Bad>
     requires within { from ≤ length bytes.now }
     requires depth { depth ≤ 16 }
     ensures moves { IfOk result (λ next. (from < next) × (next ≤ length bytes.now)) }
@@ -110,10 +108,10 @@ fn dictionary_at(
     'pairs: while !has_byte(bytes, at, b'e') {
         let (key, behind) = string_at(bytes, at)?;
         if !is_next(at == from, greatest, key) {
-            return small_at(bytes, from, at, depth, heads);
+            return small_at(bytes, from, at, depth);
         }
         greatest = key;
-        at = value_at(bytes, behind, depth, heads)?;
+        at = value_at(bytes, behind, depth)?;
     }
     Ok(at + 1)
 }
@@ -121,13 +119,7 @@ fn dictionary_at(
 /// Where a dictionary ends that has pairs from `from` to `start`, and whose next key isn't above all of theirs. While its
 /// pairs take few bytes, each key is sought among all of them: rows of places would take longer to clear.
 #[cycle(checking)]
-fn small_at(
-    bytes: &[u8],
-    from: usize,
-    start: usize,
-    depth: usize,
-    heads: &mut Option<Heads>,
-) -> Result<usize, Bad>
+fn small_at(bytes: &[u8], from: usize, start: usize, depth: usize) -> Result<usize, Bad>
     requires order { from ≤ start }
     requires within { start ≤ length bytes.now }
     requires depth { depth ≤ 16 }
@@ -140,27 +132,20 @@ fn small_at(
     let mut at = start;
     'few: while !has_byte(bytes, at, b'e') {
         if at - from > FEW_BYTES {
-            return unsorted_at(bytes, from, at, depth, heads);
+            return unsorted_at(bytes, from, at, depth);
         }
         let (key, behind) = string_at(bytes, at)?;
         if has_key(&bytes[from..at], key) {
             return Err(Bad::KeyTwice { at });
         }
-        at = value_at(bytes, behind, depth, heads)?;
+        at = value_at(bytes, behind, depth)?;
     }
     Ok(at + 1)
 }
 
-/// The same for any dictionary. It files its keys in order, so that a new one is known by its neighbours alone. The heads are
-/// those of all dictionaries: they are cleared once, and keys that stand in different places share none.
+/// The same for any dictionary. It files its keys in order, so that a new one is known by its neighbours alone.
 #[cycle(checking)]
-fn unsorted_at(
-    bytes: &[u8],
-    from: usize,
-    start: usize,
-    depth: usize,
-    heads: &mut Option<Heads>,
-) -> Result<usize, Bad>
+fn unsorted_at(bytes: &[u8], from: usize, start: usize, depth: usize) -> Result<usize, Bad>
     requires order { from ≤ start }
     requires within { start ≤ length bytes.now }
     requires depth { depth ≤ 16 }
@@ -171,15 +156,61 @@ fn unsorted_at(
         → Scans bytes.now result (ReadsValue bytes.now from os) }
 {
     let mut places = [0u16; MOST];
-    let mut count = file_all(bytes, from, start, &mut places, made(heads));
+    let mut room = [0u16; MOST];
+    let mut count = file_all(bytes, from, start, &mut places, &mut room);
     let mut at = start;
     'loose: while !has_byte(bytes, at, b'e') {
+        if count >= FEW_KEYS {
+            return many_at(bytes, from, at, depth, &places, count);
+        }
         let (key, behind) = string_at(bytes, at)?;
-        count = file(bytes, &mut places, made(heads), count, at, key);
+        let sought = place_of(bytes, &places[..count], key);
+        count = file(bytes, &mut places, &mut room, count, at, key, sought);
         if !is_new(&bytes[from..at], count, key) {
             return Err(Bad::KeyTwice { at });
         }
-        at = value_at(bytes, behind, depth, heads)?;
+        at = value_at(bytes, behind, depth)?;
+    }
+    Ok(at + 1)
+}
+
+/// The same where so many keys are filed. The place of a further one is sought by the heads, which take longer to clear than
+/// a few keys to compare.
+#[cycle(checking)]
+#[inline(never)]
+fn many_at(
+    bytes: &[u8],
+    from: usize,
+    start: usize,
+    depth: usize,
+    filed: &[u16; MOST],
+    so_many: usize,
+) -> Result<usize, Bad>
+    requires order { from ≤ start }
+    requires within { start ≤ length bytes.now }
+    requires depth { depth ≤ 16 }
+    ensures moves { IfOk result (λ next. (start < next) × (next ≤ length bytes.now)) }
+    ensures reads { (os : List Open) (pairs : List (Pair Value)) → suc (length os) ≡ depth
+        → Reached bytes.now from (Keyless os []) → FitsOpen os
+        → Reached bytes.now start (Keyless os pairs) → FitsPairs os pairs
+        → AreFiled bytes.now so_many filed.now (keys_of pairs)
+        → Scans bytes.now result (ReadsValue bytes.now from os) }
+{
+    let mut places = *filed;
+    let mut room = [0u16; MOST];
+    let mut count = so_many;
+    let mut heads = Heads::of(bytes, &places[..count.min(MOST)]);
+    let mut at = start;
+    'many: while !has_byte(bytes, at, b'e') {
+        let (key, behind) = string_at(bytes, at)?;
+        let head = head_of(key);
+        let guessed = guess(bytes, &places[..count.min(MOST)], &heads, head, key);
+        count = file(bytes, &mut places, &mut room, count, at, key, guessed);
+        heads.keep(at, head);
+        if !is_new(&bytes[from..at], count, key) {
+            return Err(Bad::KeyTwice { at });
+        }
+        at = value_at(bytes, behind, depth)?;
     }
     Ok(at + 1)
 }

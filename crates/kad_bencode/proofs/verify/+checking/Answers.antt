@@ -220,3 +220,65 @@ pub unsorted_at-returns-clause-reads : goal.unsorted_at-returns-clause-reads
 unsorted_at-returns-clause-reads t c os ps d r f g h =
     let e = c.loose.invariant.so_far os ps d r f g h in
     pairs_end c.args.bytes.now c.args.from c.loose.at os e.0 (omega (arith, c.requires.order, c.loose.invariant.after)) c.loose-test.ensures
+
+pub unsorted_at-returns-then-count-ge-FEW_KEYS-clause-reads : goal.unsorted_at-returns-then-count-ge-FEW_KEYS-clause-reads
+unsorted_at-returns-then-count-ge-FEW_KEYS-clause-reads t c os ps d r f g h =
+    let e = c.loose.invariant.so_far os ps d r f g h in
+    c.many_at.ensures.reads os e.0.pairs d r f e.0.reached e.0.fits e.1
+
+-- ---- many of them
+
+pub many_at-many-init : goal.many_at-many-init
+many_at-many-init t c = record {
+  after = omega arith;
+  within = c.requires.within;
+  so_far = λ os ps d r f g h k.
+      let so : PairsSoFar c.args.bytes.now c.args.start os = record { pairs = ps; reached = g; fits = h } in
+      (so, k);
+}
+
+pub many_at-returns-in_err-key-clause-reads : goal.many_at-returns-in_err-key-clause-reads
+many_at-returns-in_err-key-clause-reads t c os ps d r f g h k =
+    let e = c.many.invariant.so_far os ps d r f g h k in
+    let p = err_from_is_err_and c.from_residual.result c.from_residual.ensures.1 in
+    handed c.args.bytes.now c.from_residual.result _ p.0 _ p.1 p.2 (c.in_err-key.ensures.reads (AsKey os e.0.pairs) (pairs_await c.args.bytes.now c.many.at os e.0 f c.many.invariant.within c.many-test.ensures))
+
+pub many_at-returns-then-not-is_new-clause-reads : goal.many_at-returns-then-not-is_new-clause-reads
+many_at-returns-then-not-is_new-clause-reads t c os ps d r f g h k =
+    let e = c.many.invariant.so_far os ps d r f g h k in
+    let after : c.args.from ≤ c.many.at = omega (arith, c.requires.order, c.many.invariant.after) in
+    let told = c.is_new.ensures e.0.pairs (are_pairs c.args.bytes.now c.args.from c.many.at os e.0 after c.many.invariant.within r) (c.file-count.ensures.new (keys_of e.0.pairs) e.1) in
+    key_twice c.args.bytes.now c.many.at os c.in_ok-key.key.now c.in_ok-key.behind e.0 c.many.invariant.within
+    (c.in_ok-key.ensures.reads (AsKey os e.0.pairs) (pairs_await c.args.bytes.now c.many.at os e.0 f c.many.invariant.within c.many-test.ensures))
+    (not_new _ c.is_new.result told (let t = c.if-not-is_new.true in cc))
+
+pub many_at-returns-in_err-at-clause-reads : goal.many_at-returns-in_err-at-clause-reads
+many_at-returns-in_err-at-clause-reads t c os ps d r f g h k =
+    let e = c.many.invariant.so_far os ps d r f g h k in
+    let after : c.args.from ≤ c.many.at = omega (arith, c.requires.order, c.many.invariant.after) in
+    let s = c.in_ok-key.ensures.reads (AsKey os e.0.pairs) (pairs_await c.args.bytes.now c.many.at os e.0 f c.many.invariant.within c.many-test.ensures) in
+    let told = c.is_new.ensures e.0.pairs (are_pairs c.args.bytes.now c.args.from c.many.at os e.0 after c.many.invariant.within r) (c.file-count.ensures.new (keys_of e.0.pairs) e.1) in
+    let new = is_fresh _ c.is_new.result told (let t = c.if-not-is_new.false in cc) in
+    let p = err_from_is_err_and c.from_residual-in_err-at.result c.from_residual-in_err-at.ensures.1 in
+    handed c.args.bytes.now c.from_residual-in_err-at.result _ p.0 _ p.1 p.2 (c.in_err-at.ensures.reads (InPair e.0.pairs c.in_ok-key.key.now ∷ os) d (key_new c.args.bytes.now c.many.at os c.in_ok-key.key.now c.in_ok-key.behind e.0 f s new))
+
+pub many_at-many-preserved : goal.many_at-many-preserved
+many_at-many-preserved t c = record {
+  after = omega (arith, c.in_ok-key.ensures.moves, c.in_ok-at.ensures.moves, c.many.invariant.after);
+  within = omega (arith, c.in_ok-at.ensures.moves);
+  so_far = λ os ps d r f g h k.
+      let e = c.many.invariant.so_far os ps d r f g h k in
+      let after : c.args.from ≤ c.many.at = omega (arith, c.requires.order, c.many.invariant.after) in
+      let s = c.in_ok-key.ensures.reads (AsKey os e.0.pairs) (pairs_await c.args.bytes.now c.many.at os e.0 f c.many.invariant.within c.many-test.ensures) in
+      let told = c.is_new.ensures e.0.pairs (are_pairs c.args.bytes.now c.args.from c.many.at os e.0 after c.many.invariant.within r) (c.file-count.ensures.new (keys_of e.0.pairs) e.1) in
+      let new = is_fresh _ c.is_new.result told (let t = c.if-not-is_new.false in cc) in
+      let v = c.in_ok-at.ensures.reads (InPair e.0.pairs c.in_ok-key.key.now ∷ os) d (key_new c.args.bytes.now c.many.at os c.in_ok-key.key.now c.in_ok-key.behind e.0 f s new) in
+      let stands = stands_between c.args.bytes.now c.many.at c.in_ok-key.behind (string_text c.in_ok-key.key.now) c.many.invariant.within s.text in
+      let filed = subst (AreFiled c.args.bytes.now c.file-count.result c.file-count.new.places) (sym (keys_push e.0.pairs c.in_ok-key.key.now v.tree)) (c.file-count.ensures.files (keys_of e.0.pairs) e.1 stands) in
+      (pairs_more c.args.bytes.now c.many.at os c.in_ok-key.key.now c.in_ok-key.behind c.in_ok-at.at e.0 new v, filed);
+}
+
+pub many_at-returns-clause-reads : goal.many_at-returns-clause-reads
+many_at-returns-clause-reads t c os ps d r f g h k =
+    let e = c.many.invariant.so_far os ps d r f g h k in
+    pairs_end c.args.bytes.now c.args.from c.many.at os e.0 (omega (arith, c.requires.order, c.many.invariant.after)) c.many-test.ensures
