@@ -50,13 +50,16 @@ fn is_lower(a: u128, b: u128) -> usize
 }
 
 impl Heads {
-    /// The heads of the keys that stand at these places.
-    pub(crate) fn of(bytes: &[u8], places: &[u16]) -> Heads {
-        let mut heads = Heads { heads: [0; MANY] };
+    #[inline(always)]
+    pub(crate) fn new() -> Heads {
+        Heads { heads: [0; MANY] }
+    }
+
+    /// Keeps the heads of the keys that stand at these places.
+    pub(crate) fn keep_all(&mut self, bytes: &[u8], places: &[u16]) {
         for place in places {
-            heads.keep(*place as usize, head_of(key_at(bytes, *place as usize)));
+            self.keep(*place as usize, head_of(key_at(bytes, *place as usize)));
         }
-        heads
     }
 
     /// 1 where the key that stands at one of these places has a head below this one, and 0 elsewhere.

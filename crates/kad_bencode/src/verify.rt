@@ -199,7 +199,8 @@ fn many_at(
     let mut places = *filed;
     let mut room = [0u16; MOST];
     let mut count = so_many;
-    let mut heads = Heads::of(bytes, &places[..count.min(MOST)]);
+    let mut heads = Heads::new();
+    heads.keep_all(bytes, &places[..count.min(MOST)]);
     let mut at = start;
     'many: while !has_byte(bytes, at, b'e') {
         let (key, behind) = string_at(bytes, at)?;
