@@ -71,8 +71,8 @@ impl Heads {
         is_lower(self.heads[places[i] as usize / 4 % MANY], head)
     }
 
-    /// How many of the keys that stand at these places have a head below this one. Three are looked at together: one after the
-    /// other, each would wait for the one before.
+    /// How many of the keys that stand at these places have a head below this one. Three are looked at together, and in the end
+    /// both that are left: one after the other, each would wait for the one before.
     pub(crate) fn below(&self, places: &[u16], head: u128) -> usize
         ensures { result ≤ length places.now }
     {
@@ -86,12 +86,14 @@ impl Heads {
             low += (first + second + third) * step;
             left -= 3 * step;
         }
-        while left > 0 {
-            let half = left - left / 2;
-            low += half * self.is_below(places, low + half - 1, head);
-            left /= 2;
+        let end = low + left;
+        let mut found = low;
+        let mut i = low;
+        while i < end {
+            found += self.is_below(places, i, head);
+            i += 1;
         }
-        low
+        found
     }
 
     /// Whether the key that stands at one of these places has this head.
