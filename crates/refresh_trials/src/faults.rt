@@ -1,11 +1,8 @@
 //! Receives that fail.
 
-use crate::play::{ANSWER_1, NOBODY, ONE, PING_1, Told, leaves, play, tells};
-use fake_net::ScriptLink;
-use std::alloc::Global;
+use crate::play::{ANSWER_1, ANSWERED, Coming, ONE, PING_1, PING_2, SILENT, Told, Trial, plays};
 use std::test::Fail;
 use table_refresh::RefreshFault;
-use trial_kit::{failing_link, link_from};
 
 /// Contact 1, and another row.
 const ROWS: &[u8] =
@@ -19,40 +16,63 @@ const FIRST_ANSWERED: &[u8] =
 const FAILED: &[u8] =
     b"table ffffffffffffffffffffffffffffffffffffffff 8 1\nrow -\nlive 0000000000000000000000000000000000000001 127.0.0.1:6001 1\nsibling 0000000000000000000000000000000000000001 127.0.0.1:6001\nend\n";
 
-/// A refresh of the table over this link ends at a receive that failed, and leaves the other table.
-fn faults(alloc: Global, text: &[u8], link: &mut ScriptLink, wanted: &[u8]) -> Result<(), Fail> {
-    let outcome = play(alloc, text, false, link)?;
-    if outcome.ended != Err(RefreshFault::LinkFault) {
-        return Err(Fail::new("it ended otherwise"));
-    }
-    if outcome.text.as_slice() != wanted {
-        return Err(Fail::new("it left another table"));
-    }
-    Ok(())
-}
+const FIRST: &Trial = &Trial {
+    failing_receives: &[0],
+    ended: Err(RefreshFault::LinkFault),
+    left: ONE,
+    told: &[Told::Now(0), Told::Sent(6001, PING_1)],
+    ..SILENT
+};
 
 #[test]
 fn the_first_receive_fails(rt: HostRuntime) -> Result<(), Fail> {
-    let mut link = failing_link(rt.alloc(), &[], &[], &[0])?;
-    faults(rt.alloc(), ONE, &mut link, ONE)?;
-    assert!(rt; tells(rt.alloc(), &link, &[Told::Now(0), Told::Sent(6001, PING_1)])?);
-    Ok(())
+    plays(rt.alloc(), FIRST)
 }
+
+const SECOND: &Trial = &Trial {
+    failing_receives: &[1],
+    ended: Err(RefreshFault::LinkFault),
+    left: FAILED,
+    told: &[
+        Told::Now(0),
+        Told::Sent(6001, PING_1),
+        Told::Quiet(2000, 2000),
+        Told::Sent(6001, PING_2),
+    ],
+    ..SILENT
+};
 
 #[test]
 fn a_failure_before_it_stands(rt: HostRuntime) -> Result<(), Fail> {
-    let mut link = failing_link(rt.alloc(), &[], &[], &[1])?;
-    faults(rt.alloc(), ONE, &mut link, FAILED)
+    plays(rt.alloc(), SECOND)
 }
+
+const AFTER_AN_ANSWER: &Trial = &Trial {
+    table: ROWS,
+    coming: Coming::Datagrams(&[(10, 6001, ANSWER_1)]),
+    failing_receives: &[1],
+    ended: Err(RefreshFault::LinkFault),
+    left: FIRST_ANSWERED,
+    told: &[
+        Told::Now(0),
+        Told::Sent(6001, PING_1),
+        Told::Got(6001, ANSWER_1, 2000, 10),
+        Told::Sent(6003, PING_2),
+    ],
+    ..ANSWERED
+};
 
 #[test]
 fn an_answer_before_it_stands(rt: HostRuntime) -> Result<(), Fail> {
-    let mut link = link_from(rt.alloc(), &[(6001, ANSWER_1)], &[], &[1])?;
-    faults(rt.alloc(), ROWS, &mut link, FIRST_ANSWERED)
+    plays(rt.alloc(), AFTER_AN_ANSWER)
 }
+
+const THIRD: &Trial = &Trial {
+    failing_receives: &[2],
+    ..SILENT
+};
 
 #[test]
 fn a_receive_that_is_not_made_does_not_fail(rt: HostRuntime) -> Result<(), Fail> {
-    let mut link = failing_link(rt.alloc(), &[], &[], &[2])?;
-    leaves(rt.alloc(), ONE, &mut link, NOBODY)
+    plays(rt.alloc(), THIRD)
 }

@@ -1,8 +1,9 @@
 //! Whom a refresh pings, and in which order.
 
-use crate::play::{ANSWER_1, PING_1, PING_2, Told, all_leave, leaves, tells};
+use crate::play::{
+    ANSWER_1, ANSWERED, Coming, PING_1, PING_2, REPLY_2, SILENT, Told, Trial, all_play, plays,
+};
 use std::test::Fail;
-use trial_kit::{Reply, link, link_at, link_from};
 
 /// Contacts 1 and 2 in one row.
 const TWO: &[u8] =
@@ -68,39 +69,48 @@ const PING_7: &[u8] =
 const PING_8: &[u8] =
     b"d1:ad2:id20:\xff\xff\xff\xff\xff\xff\xff\xff\xff\xff\xff\xff\xff\xff\xff\xff\xff\xff\xff\xffe1:q4:ping2:roi1e1:t4:\x6a\x43\xb8\xf41:y1:qe";
 
+const OF_NOBODY: Trial = Trial {
+    table: EMPTY_ROWS,
+    left: EMPTY_ROWS,
+    told: &[Told::Now(0)],
+    ..SILENT
+};
+
+const NO_HEADS: &Trial = &OF_NOBODY;
+
 #[test]
 fn a_table_of_nobody_pings_nobody(rt: HostRuntime) -> Result<(), Fail> {
-    let mut link = link(rt.alloc(), &[])?;
-    leaves(rt.alloc(), EMPTY_ROWS, &mut link, EMPTY_ROWS)?;
-    assert!(rt; tells(rt.alloc(), &link, &[Told::Now(0)])?);
-    Ok(())
+    plays(rt.alloc(), NO_HEADS)
 }
+
+const OF_TWO: &Trial = &Trial {
+    table: TWO,
+    left: TWO_SEEN,
+    ..ANSWERED
+};
 
 #[test]
 fn the_first_of_a_row_alone_is_pinged(rt: HostRuntime) -> Result<(), Fail> {
-    let mut link = link_from(rt.alloc(), &[(6001, ANSWER_1)], &[], &[])?;
-    leaves(rt.alloc(), TWO, &mut link, TWO_SEEN)?;
-    let events = [
-        Told::Now(0),
-        Told::Sent(6001, PING_1),
-        Told::Got(6001, ANSWER_1, 2000, 10),
-    ];
-    assert!(rt; tells(rt.alloc(), &link, &events)?);
-    Ok(())
+    plays(rt.alloc(), OF_TWO)
 }
 
 /// Contact 2 is the first of its row then, and isn't pinged.
-#[test]
-fn the_heads_are_those_of_the_table_at_first(rt: HostRuntime) -> Result<(), Fail> {
-    let mut link = link(rt.alloc(), &[Reply::of(2, 10)])?;
-    leaves(rt.alloc(), TWO, &mut link, SECOND)
-}
+const HEADS: &Trial = &Trial {
+    table: TWO,
+    coming: Coming::Replies(&[REPLY_2]),
+    left: SECOND,
+    ..SILENT
+};
 
 #[test]
-fn the_rows_are_gone_through_in_order(rt: HostRuntime) -> Result<(), Fail> {
-    let mut link = link(rt.alloc(), &[])?;
-    leaves(rt.alloc(), ROWS, &mut link, EMPTY_ROWS)?;
-    let events = [
+fn the_heads_are_those_of_the_table_at_first(rt: HostRuntime) -> Result<(), Fail> {
+    plays(rt.alloc(), HEADS)
+}
+
+const IN_ORDER: &Trial = &Trial {
+    table: ROWS,
+    left: EMPTY_ROWS,
+    told: &[
         Told::Now(0),
         Told::Sent(6001, PING_1),
         Told::Quiet(2000, 2000),
@@ -110,16 +120,19 @@ fn the_rows_are_gone_through_in_order(rt: HostRuntime) -> Result<(), Fail> {
         Told::Quiet(6000, 6000),
         Told::Sent(6003, PING_4),
         Told::Quiet(8000, 8000),
-    ];
-    assert!(rt; tells(rt.alloc(), &link, &events)?);
-    Ok(())
-}
+    ],
+    ..SILENT
+};
 
 #[test]
-fn one_row_answers_and_another_does_not(rt: HostRuntime) -> Result<(), Fail> {
-    let mut link = link_from(rt.alloc(), &[(6001, ANSWER_1)], &[], &[])?;
-    leaves(rt.alloc(), ROWS, &mut link, FIRST_ROW)?;
-    let events = [
+fn the_rows_are_gone_through_in_order(rt: HostRuntime) -> Result<(), Fail> {
+    plays(rt.alloc(), IN_ORDER)
+}
+
+const ONE_ROW: Trial = Trial {
+    table: ROWS,
+    left: FIRST_ROW,
+    told: &[
         Told::Now(0),
         Told::Sent(6001, PING_1),
         Told::Got(6001, ANSWER_1, 2000, 10),
@@ -127,22 +140,28 @@ fn one_row_answers_and_another_does_not(rt: HostRuntime) -> Result<(), Fail> {
         Told::Quiet(2010, 2010),
         Told::Sent(6003, PING_3),
         Told::Quiet(4010, 4010),
-    ];
-    assert!(rt; tells(rt.alloc(), &link, &events)?);
-    Ok(())
+    ],
+    ..ANSWERED
+};
+
+const TWO_HEADS: &Trial = &ONE_ROW;
+
+#[test]
+fn one_row_answers_and_another_does_not(rt: HostRuntime) -> Result<(), Fail> {
+    plays(rt.alloc(), TWO_HEADS)
 }
 
 /// Contact 5, which takes the place of contact 2, is not pinged.
-#[test]
-fn all_live_contacts_are_pinged_in_order(rt: HostRuntime) -> Result<(), Fail> {
-    let answers: [(u64, u16, &[u8]); 3] = [
+const ALL: &Trial = &Trial {
+    table: FULL_ROWS,
+    all: true,
+    coming: Coming::Datagrams(&[
         (10, 6001, ANSWER_1),
         (4020, 6003, ANSWER_4),
         (8030, 6012, ANSWER_7),
-    ];
-    let mut link = link_at(rt.alloc(), &answers, &[], &[])?;
-    all_leave(rt.alloc(), FULL_ROWS, &mut link, HALF_ROWS)?;
-    let events = [
+    ]),
+    left: HALF_ROWS,
+    told: &[
         Told::Now(0),
         Told::Sent(6001, PING_1),
         Told::Got(6001, ANSWER_1, 2000, 10),
@@ -160,16 +179,28 @@ fn all_live_contacts_are_pinged_in_order(rt: HostRuntime) -> Result<(), Fail> {
         Told::Got(6012, ANSWER_7, 10020, 8030),
         Told::Sent(6013, PING_8),
         Told::Quiet(10030, 10030),
-    ];
-    assert!(rt; tells(rt.alloc(), &link, &events)?);
-    Ok(())
+    ],
+    ..ANSWERED
+};
+
+#[test]
+fn all_live_contacts_are_pinged_in_order(rt: HostRuntime) -> Result<(), Fail> {
+    plays(rt.alloc(), ALL)
 }
 
 /// Of a table of nobody, and of one whose rows have one live contact each: contact 1 answers.
+const ALL_HEADS: &[Trial] = &[
+    Trial {
+        all: true,
+        ..OF_NOBODY
+    },
+    Trial {
+        all: true,
+        ..ONE_ROW
+    },
+];
+
 #[test]
 fn where_a_row_has_one_contact_all_are_its_head(rt: HostRuntime) -> Result<(), Fail> {
-    let mut silent = link(rt.alloc(), &[])?;
-    all_leave(rt.alloc(), EMPTY_ROWS, &mut silent, EMPTY_ROWS)?;
-    let mut link = link_from(rt.alloc(), &[(6001, ANSWER_1)], &[], &[])?;
-    all_leave(rt.alloc(), ROWS, &mut link, FIRST_ROW)
+    all_play(rt.alloc(), ALL_HEADS)
 }

@@ -7,12 +7,13 @@ ghost use Rattle.table_file.specs.SavedText.{FailedOnce};
 use contact_table::{Saved, Table};
 use fake_net::ScriptLink;
 use id_puzzles::Words;
-use kad_base::{Addr, Bytes, Event, Link, List, NoMemory};
+use kad_base::{Bytes, Event, Family, Link, NoMemory};
 use seal_tags::GroupSeal;
 use std::alloc::Global;
 use std::test::Fail;
 use table_file::{read, write};
 use table_refresh::{RefreshFault, RefreshSetting, refresh};
+use trial_kit::{Reply, failing_link, link_at, local};
 
 /// The first ping.
 pub const PING_1: &[u8] =
@@ -37,12 +38,103 @@ pub const ONE: &[u8] =
 /// The table without contact 1.
 pub const NOBODY: &[u8] = b"table ffffffffffffffffffffffffffffffffffffffff 8 1\nrow -\nend\n";
 
-/// What a refresh left: the table, how it ended, and the word that comes next.
-#[derive(Debug, Drop)]
-pub struct Outcome {
-    pub text: Bytes,
+/// Contact 1 answers its first query.
+pub const REPLY_1: Reply = Reply {
+    family: Family::Four,
+    to: 1,
+    at: 10,
+    port: 6001,
+    id: 1,
+    node: None,
+};
+
+/// The same by contact 2.
+pub const REPLY_2: Reply = Reply {
+    family: Family::Four,
+    to: 2,
+    at: 10,
+    port: 6002,
+    id: 2,
+    node: None,
+};
+
+/// A refresh of a table over a scripted link, and what has to come of it. Each try waits for two seconds.
+#[derive(Clone, Copy)]
+pub struct Trial {
+    pub table: &'static [u8],
+    pub sealed: bool,
+    /// Whether all live contacts are pinged, and not the first of each row alone.
+    pub all: bool,
+    pub coming: Coming,
+    /// The sends and the receives that fail, by their numbers from 0.
+    pub failing_sends: &'static [u64],
+    pub failing_receives: &'static [u64],
     pub ended: Result<(), RefreshFault>,
-    pub next: u32,
+    /// The text of the table that it leaves.
+    pub left: &'static [u8],
+    /// All that the link tells.
+    pub told: &'static [Told<'static>],
+    /// The word that comes next, if it is compared.
+    pub next: Option<u32>,
+}
+
+/// What comes over the link.
+#[derive(Clone, Copy)]
+pub enum Coming {
+    /// These bytes, each at its moment from 127.0.0.1 and its port.
+    Datagrams(&'static [(u64, u16, &'static [u8])]),
+    /// These replies to queries.
+    Replies(&'static [Reply]),
+}
+
+/// An event, whose address is that of 127.0.0.1 and this port.
+#[derive(Clone, Copy, Debug, PartialEq, Eq)]
+pub enum Told<'a> {
+    Now(u64),
+    Sent(u16, &'a [u8]),
+    Unsent(u16, &'a [u8]),
+    Got(u16, &'a [u8], u64, u64),
+    Quiet(u64, u64),
+}
+
+/// A refresh of the table of contact 1, who answers.
+pub const ANSWERED: Trial = Trial {
+    table: ONE,
+    sealed: false,
+    all: false,
+    coming: Coming::Datagrams(&[(10, 6001, ANSWER_1)]),
+    failing_sends: &[],
+    failing_receives: &[],
+    ended: Ok(()),
+    left: ONE,
+    told: &[
+        Told::Now(0),
+        Told::Sent(6001, PING_1),
+        Told::Got(6001, ANSWER_1, 2000, 10),
+    ],
+    next: None,
+};
+
+/// The same where nobody answers.
+pub const SILENT: Trial = Trial {
+    coming: Coming::Replies(&[]),
+    left: NOBODY,
+    told: &[
+        Told::Now(0),
+        Told::Sent(6001, PING_1),
+        Told::Quiet(2000, 2000),
+        Told::Sent(6001, PING_2),
+        Told::Quiet(4000, 4000),
+    ],
+    ..ANSWERED
+};
+
+/// What a refresh left: the table, how it ended, and the word that comes next.
+#[derive(Drop)]
+struct Outcome {
+    text: Bytes,
+    ended: Result<(), RefreshFault>,
+    next: u32,
 }
 
 /// The table of a short text.
@@ -68,23 +160,8 @@ fn text_of(alloc: Global, table: &Table) -> Result<Bytes, NoMemory> {
     write(alloc, &saved)
 }
 
-/// Refreshes the table of a text over the link, where each try waits for two seconds; of each row the first is pinged.
-pub fn play<L: Link>(
-    alloc: Global,
-    text: &[u8],
-    sealed: bool,
-    link: &mut L,
-) -> Result<Outcome, Fail> {
-    let setting = RefreshSetting {
-        timeout: 2000,
-        sealed,
-        all: false,
-    };
-    play_by(alloc, text, setting, link)
-}
-
 /// Refreshes the table of a text over the link.
-fn play_by<L: Link>(
+fn refreshed<L: Link>(
     alloc: Global,
     text: &[u8],
     setting: RefreshSetting,
@@ -99,86 +176,91 @@ fn play_by<L: Link>(
     Ok(Outcome { text, ended, next })
 }
 
-/// Refreshes the table of a text, which ends well and leaves the table of the other.
-pub fn leaves<L: Link>(
-    alloc: Global,
-    text: &[u8],
-    link: &mut L,
-    wanted: &[u8],
-) -> Result<(), Fail> {
-    let outcome = play(alloc, text, false, link)?;
-    left(&outcome, wanted)
-}
-
-/// The same where all live contacts are pinged.
-pub fn all_leave<L: Link>(
-    alloc: Global,
-    text: &[u8],
-    link: &mut L,
-    wanted: &[u8],
-) -> Result<(), Fail> {
+/// The refresh of a trial over any link ends as it says.
+pub fn ends<L: Link>(alloc: Global, trial: &Trial, link: &mut L) -> Result<(), Fail> {
     let setting = RefreshSetting {
         timeout: 2000,
-        sealed: false,
-        all: true,
+        sealed: trial.sealed,
+        all: trial.all,
     };
-    let outcome = play_by(alloc, text, setting, link)?;
-    left(&outcome, wanted)
+    let outcome = refreshed(alloc, trial.table, setting, link)?;
+    if outcome.ended != trial.ended {
+        return Err(Fail::new("it ended otherwise"));
+    }
+    if outcome.text.as_slice() != trial.left {
+        return Err(Fail::new("it left another table"));
+    }
+    match trial.next {
+        Some(next) if next != outcome.next => Err(Fail::new("another word comes next")),
+        _ => Ok(()),
+    }
 }
 
-/// It ended well, and left the table of this text.
-fn left(outcome: &Outcome, wanted: &[u8]) -> Result<(), Fail> {
-    if outcome.ended != Ok(()) {
-        return Err(Fail::new("it ended early"));
+fn link_of(alloc: Global, trial: &Trial) -> Result<ScriptLink, NoMemory> {
+    match trial.coming {
+        Coming::Datagrams(datagrams) => link_at(
+            alloc,
+            datagrams,
+            trial.failing_sends,
+            trial.failing_receives,
+        ),
+        Coming::Replies(replies) => failing_link(
+            alloc,
+            replies,
+            trial.failing_sends,
+            trial.failing_receives,
+        ),
     }
-    if outcome.text.as_slice() != wanted {
-        return Err(Fail::new("it left another table"));
+}
+
+/// Plays a trial.
+pub fn plays(alloc: Global, trial: &Trial) -> Result<(), Fail> {
+    let mut link = link_of(alloc, trial)?;
+    ends(alloc, trial, &mut link)?;
+    tells(&link, trial.told)
+}
+
+/// Plays these trials, one after another.
+pub fn all_play(alloc: Global, trials: &[Trial]) -> Result<(), Fail> {
+    for trial in trials {
+        plays(alloc, trial)?;
     }
     Ok(())
 }
 
-/// An event, whose bytes lie elsewhere.
-#[derive(Clone, Copy)]
-pub enum Told<'a> {
-    Now(u64),
-    Sent(u16, &'a [u8]),
-    Unsent(u16, &'a [u8]),
-    Got(u16, &'a [u8], u64, u64),
-    Quiet(u64, u64),
+/// The link tells these events and no others.
+fn tells(link: &ScriptLink, rows: &[Told]) -> Result<(), Fail> {
+    let Some(events) = link.events() else {
+        return Err(Fail::new("not told"));
+    };
+    if events.len() != rows.len() {
+        return Err(Fail::new("another number of events"));
+    }
+    for (event, row) in events.iter().zip(rows) {
+        if !is(event, row) {
+            return Err(Fail::new("another event"));
+        }
+    }
+    Ok(())
 }
 
-/// The event, whose addresses are of 127.0.0.1 and these ports.
-fn event(alloc: Global, told: &Told) -> Result<Event, NoMemory> {
-    match *told {
-        Told::Now(at) => Ok(Event::Now { at }),
-        Told::Sent(port, bytes) => Ok(Event::Sent {
-            to: local(port),
-            bytes: List::from_slice(alloc, bytes)?,
-        }),
-        Told::Unsent(port, bytes) => Ok(Event::Unsent {
-            to: local(port),
-            bytes: List::from_slice(alloc, bytes)?,
-        }),
-        Told::Got(port, bytes, until, at) => Ok(Event::Got {
-            from: local(port),
-            bytes: List::from_slice(alloc, bytes)?,
+fn is(event: &Event, row: &Told) -> bool {
+    match event {
+        Event::Now { at } => *row == Told::Now(*at),
+        Event::Sent { to, bytes } => {
+            *to == local(to.port) && *row == Told::Sent(to.port, bytes.as_slice())
+        }
+        Event::Unsent { to, bytes } => {
+            *to == local(to.port) && *row == Told::Unsent(to.port, bytes.as_slice())
+        }
+        Event::Got {
+            from,
+            bytes,
             until,
             at,
-        }),
-        Told::Quiet(until, at) => Ok(Event::Quiet { until, at }),
+        } => {
+            *from == local(from.port) && *row == Told::Got(from.port, bytes.as_slice(), *until, *at)
+        }
+        Event::Quiet { until, at } => *row == Told::Quiet(*until, *at),
     }
-}
-
-fn local(port: u16) -> Addr {
-    trial_kit::local(port)
-}
-
-/// Whether the link tells these events and no others.
-pub fn tells(alloc: Global, link: &ScriptLink, wanted: &[Told]) -> Result<bool, NoMemory> {
-    let mut events = List::new(alloc);
-    for told in wanted {
-        let event = event(alloc, told)?;
-        events.push(event)?;
-    }
-    Ok(trial_kit::tells(link, events.as_slice()))
 }

@@ -1,11 +1,8 @@
 //! Sealed refreshes, which take no reply without the tag of who says it. The tags are HMAC-SHA-1 under a key of 32 zero
-//! bytes, as Python's `hmac` makes them.
+//! bytes, as Python's `hmac` makes them. A stray ends no wait, so that the link tells one event more.
 
-use crate::play::{ANSWER_1, NOBODY, ONE, PING_1, Told, play, tells};
-use std::alloc::Global;
+use crate::play::{ANSWER_1, ANSWERED, Coming, NOBODY, PING_1, Told, Trial, all_play, plays};
 use std::test::Fail;
-use table_refresh::RefreshFault;
-use trial_kit::link_with;
 
 /// Contact 1 that failed once before, so that one failure more removes it.
 const FAILED: &[u8] =
@@ -34,63 +31,140 @@ const ERROR: &[u8] =
 /// The same without a tag.
 const PLAIN_ERROR: &[u8] = b"d1:eli202e12:Server Errore1:t4:\xa0\x8d\xed\x1a1:y1:ee";
 
-/// What a datagram is to the ping of contact 1.
-#[derive(Clone, Copy, PartialEq, Eq)]
-enum Case {
-    Answer,
-    Refusal,
-    Stray,
-}
+/// Contact 1 gives the answer that is waited for.
+const TAKEN: Trial = Trial {
+    table: FAILED,
+    sealed: true,
+    ..ANSWERED
+};
 
-/// A refresh ends so where contact 1 sends these bytes, which are that to it.
-fn is(alloc: Global, sealed: bool, bytes: &[u8], case: Case) -> Result<(), Fail> {
-    let mut link = link_with(alloc, bytes, 10, 1, &[])?;
-    let outcome = play(alloc, FAILED, sealed, &mut link)?;
-    let events = [
+/// It doesn't.
+const NOT_TAKEN: Trial = Trial {
+    left: NOBODY,
+    ..TAKEN
+};
+
+const TAG: &Trial = &Trial {
+    coming: Coming::Datagrams(&[(10, 6001, TAGGED)]),
+    told: &[
         Told::Now(0),
         Told::Sent(6001, PING_1),
-        Told::Got(6001, bytes, 2000, 10),
-        Told::Quiet(2000, 2000),
-    ];
-    let (wanted, count) = match case {
-        Case::Answer => (ONE, 3),
-        Case::Refusal => (NOBODY, 3),
-        Case::Stray => (NOBODY, 4),
-    };
-    if outcome.ended != Ok::<(), RefreshFault>(()) || outcome.text.as_slice() != wanted {
-        return Err(Fail::new("it ended otherwise"));
-    }
-    if !tells(alloc, &link, &events[..count])? {
-        return Err(Fail::new("the link tells otherwise"));
-    }
-    Ok(())
-}
+        Told::Got(6001, TAGGED, 2000, 10),
+    ],
+    ..TAKEN
+};
 
 #[test]
 fn a_tagged_answer_is_taken(rt: HostRuntime) -> Result<(), Fail> {
-    is(rt.alloc(), true, TAGGED, Case::Answer)
+    plays(rt.alloc(), TAG)
 }
+
+const NO_TAGS: &[Trial] = &[
+    Trial {
+        coming: Coming::Datagrams(&[(10, 6001, ANSWER_1)]),
+        told: &[
+            Told::Now(0),
+            Told::Sent(6001, PING_1),
+            Told::Got(6001, ANSWER_1, 2000, 10),
+            Told::Quiet(2000, 2000),
+        ],
+        ..NOT_TAKEN
+    },
+    Trial {
+        coming: Coming::Datagrams(&[(10, 6001, ONE_BIT)]),
+        told: &[
+            Told::Now(0),
+            Told::Sent(6001, PING_1),
+            Told::Got(6001, ONE_BIT, 2000, 10),
+            Told::Quiet(2000, 2000),
+        ],
+        ..NOT_TAKEN
+    },
+];
 
 #[test]
 fn an_answer_without_its_tag_is_a_stray(rt: HostRuntime) -> Result<(), Fail> {
-    is(rt.alloc(), true, ANSWER_1, Case::Stray)?;
-    is(rt.alloc(), true, ONE_BIT, Case::Stray)
+    all_play(rt.alloc(), NO_TAGS)
 }
+
+const NAMES: &[Trial] = &[
+    Trial {
+        coming: Coming::Datagrams(&[(10, 6001, ANOTHER)]),
+        told: &[
+            Told::Now(0),
+            Told::Sent(6001, PING_1),
+            Told::Got(6001, ANOTHER, 2000, 10),
+        ],
+        ..NOT_TAKEN
+    },
+    Trial {
+        coming: Coming::Datagrams(&[(10, 6001, DISGUISED)]),
+        told: &[
+            Told::Now(0),
+            Told::Sent(6001, PING_1),
+            Told::Got(6001, DISGUISED, 2000, 10),
+            Told::Quiet(2000, 2000),
+        ],
+        ..NOT_TAKEN
+    },
+];
 
 #[test]
 fn an_answer_in_another_name_needs_the_tag_of_that_name(rt: HostRuntime) -> Result<(), Fail> {
-    is(rt.alloc(), true, ANOTHER, Case::Refusal)?;
-    is(rt.alloc(), true, DISGUISED, Case::Stray)
+    all_play(rt.alloc(), NAMES)
 }
+
+const ERRORS: &[Trial] = &[
+    Trial {
+        coming: Coming::Datagrams(&[(10, 6001, ERROR)]),
+        told: &[
+            Told::Now(0),
+            Told::Sent(6001, PING_1),
+            Told::Got(6001, ERROR, 2000, 10),
+        ],
+        ..NOT_TAKEN
+    },
+    Trial {
+        coming: Coming::Datagrams(&[(10, 6001, PLAIN_ERROR)]),
+        told: &[
+            Told::Now(0),
+            Told::Sent(6001, PING_1),
+            Told::Got(6001, PLAIN_ERROR, 2000, 10),
+            Told::Quiet(2000, 2000),
+        ],
+        ..NOT_TAKEN
+    },
+];
 
 #[test]
 fn an_error_message_needs_the_tag_of_who_was_asked(rt: HostRuntime) -> Result<(), Fail> {
-    is(rt.alloc(), true, ERROR, Case::Refusal)?;
-    is(rt.alloc(), true, PLAIN_ERROR, Case::Stray)
+    all_play(rt.alloc(), ERRORS)
 }
+
+const UNSEALED: &[Trial] = &[
+    Trial {
+        sealed: false,
+        coming: Coming::Datagrams(&[(10, 6001, ONE_BIT)]),
+        told: &[
+            Told::Now(0),
+            Told::Sent(6001, PING_1),
+            Told::Got(6001, ONE_BIT, 2000, 10),
+        ],
+        ..TAKEN
+    },
+    Trial {
+        sealed: false,
+        coming: Coming::Datagrams(&[(10, 6001, DISGUISED)]),
+        told: &[
+            Told::Now(0),
+            Told::Sent(6001, PING_1),
+            Told::Got(6001, DISGUISED, 2000, 10),
+        ],
+        ..NOT_TAKEN
+    },
+];
 
 #[test]
 fn where_no_tag_is_asked_for_none_is_looked_at(rt: HostRuntime) -> Result<(), Fail> {
-    is(rt.alloc(), false, ONE_BIT, Case::Answer)?;
-    is(rt.alloc(), false, DISGUISED, Case::Refusal)
+    all_play(rt.alloc(), UNSEALED)
 }

@@ -1,8 +1,11 @@
 //! Datagrams that reply to no ping.
-use crate::play::{ANSWER_1, ANSWER_2, NOBODY, ONE, PING_1, Told, leaves, play, tells};
+use crate::play::{
+    ANSWER_1, ANSWER_2, ANSWERED, Coming, NOBODY, PING_1, PING_2, REPLY_1, SILENT, Told, Trial,
+    all_play, ends, plays,
+};
 use std::test::Fail;
 use table_refresh::RefreshFault;
-use trial_kit::{Reply, Strangers, link, link_from, link_with, local};
+use trial_kit::{Reply, Strangers, local};
 
 /// A query of contact 1 under the transaction id of the first ping.
 const QUERY: &[u8] =
@@ -12,19 +15,16 @@ const QUERY: &[u8] =
 const SHORT_ID: &[u8] =
     b"d1:rd2:id20:\0\0\0\0\0\0\0\0\0\0\0\0\0\0\0\0\0\0\0\x01e1:t3:\xa0\x8d\xed1:y1:re";
 
-#[test]
-fn strays_end_no_try(rt: HostRuntime) -> Result<(), Fail> {
-    let datagrams: [(u16, &[u8]); 6] = [
-        (6001, b"" as &[u8]),
-        (6001, ANSWER_2),
-        (6001, QUERY),
-        (6001, SHORT_ID),
-        (6002, ANSWER_1),
-        (6001, ANSWER_1),
-    ];
-    let mut link = link_from(rt.alloc(), &datagrams, &[], &[])?;
-    leaves(rt.alloc(), ONE, &mut link, ONE)?;
-    let events = [
+const STRAYS: &Trial = &Trial {
+    coming: Coming::Datagrams(&[
+        (10, 6001, b""),
+        (20, 6001, ANSWER_2),
+        (30, 6001, QUERY),
+        (40, 6001, SHORT_ID),
+        (50, 6002, ANSWER_1),
+        (60, 6001, ANSWER_1),
+    ]),
+    told: &[
         Told::Now(0),
         Told::Sent(6001, PING_1),
         Told::Got(6001, b"", 2000, 10),
@@ -33,35 +33,76 @@ fn strays_end_no_try(rt: HostRuntime) -> Result<(), Fail> {
         Told::Got(6001, SHORT_ID, 2000, 40),
         Told::Got(6002, ANSWER_1, 2000, 50),
         Told::Got(6001, ANSWER_1, 2000, 60),
-    ];
-    assert!(rt; tells(rt.alloc(), &link, &events)?);
-    Ok(())
+    ],
+    ..ANSWERED
+};
+
+#[test]
+fn strays_end_no_try(rt: HostRuntime) -> Result<(), Fail> {
+    plays(rt.alloc(), STRAYS)
 }
+
+const ELSEWHERE: &Trial = &Trial {
+    coming: Coming::Replies(&[Reply {
+        port: 6002,
+        ..REPLY_1
+    }]),
+    told: &[
+        Told::Now(0),
+        Told::Sent(6001, PING_1),
+        Told::Got(6002, ANSWER_1, 2000, 10),
+        Told::Quiet(2000, 2000),
+        Told::Sent(6001, PING_2),
+        Told::Quiet(4000, 4000),
+    ],
+    ..SILENT
+};
 
 #[test]
 fn an_answer_from_another_port_is_none(rt: HostRuntime) -> Result<(), Fail> {
-    let reply = Reply {
-        port: 6002,
-        ..Reply::of(1, 10)
-    };
-    let mut link = link(rt.alloc(), &[reply])?;
-    leaves(rt.alloc(), ONE, &mut link, NOBODY)
+    plays(rt.alloc(), ELSEWHERE)
 }
 
-/// The answer at its deadline is heard; the stray at it ends the try.
+/// The answer at its deadline is heard; the stray at it ends the try, and the answer to the first ping comes while the second
+/// waits.
+const AT_THE_DEADLINE: &[Trial] = &[
+    Trial {
+        coming: Coming::Datagrams(&[(2000, 6001, ANSWER_1)]),
+        told: &[
+            Told::Now(0),
+            Told::Sent(6001, PING_1),
+            Told::Got(6001, ANSWER_1, 2000, 2000),
+        ],
+        ..ANSWERED
+    },
+    Trial {
+        coming: Coming::Datagrams(&[(2000, 6001, b""), (2000, 6001, ANSWER_1)]),
+        left: NOBODY,
+        told: &[
+            Told::Now(0),
+            Told::Sent(6001, PING_1),
+            Told::Got(6001, b"", 2000, 2000),
+            Told::Sent(6001, PING_2),
+            Told::Got(6001, ANSWER_1, 4000, 2000),
+            Told::Quiet(4000, 4000),
+        ],
+        ..ANSWERED
+    },
+];
+
 #[test]
 fn the_deadline_is_the_last_moment(rt: HostRuntime) -> Result<(), Fail> {
-    let mut in_time = link_with(rt.alloc(), ANSWER_1, 2000, 1, &[])?;
-    leaves(rt.alloc(), ONE, &mut in_time, ONE)?;
-    let mut stray = link_with(rt.alloc(), b"", 2000, 1, &[Reply::of(1, 2000)])?;
-    leaves(rt.alloc(), ONE, &mut stray, NOBODY)
+    all_play(rt.alloc(), AT_THE_DEADLINE)
 }
+
+/// What a link tells isn't compared here.
+const STRANGERS: &Trial = &Trial {
+    ended: Err(RefreshFault::Strays),
+    ..ANSWERED
+};
 
 #[test]
 fn the_millionth_stray_ends_a_refresh(rt: HostRuntime) -> Result<(), Fail> {
     let mut link = Strangers { from: local(6001) };
-    let outcome = play(rt.alloc(), ONE, false, &mut link)?;
-    assert_eq!(rt; outcome.ended, Err(RefreshFault::Strays));
-    assert_eq!(rt; outcome.text.as_slice(), ONE);
-    Ok(())
+    ends(rt.alloc(), STRANGERS, &mut link)
 }
