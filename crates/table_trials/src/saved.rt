@@ -1,29 +1,20 @@
-//! Rows that come back as buckets, and rows that are none. The node's own identifier is 20 zero bytes, `far(n)` begins
-//! with the byte n.
-use crate::buckets::{far, told};
+//! Rows that come back as buckets, and rows that are none. The node's own identifier is 20 zero bytes, and those of
+//! contacts begin with the byte that names them.
+use crate::buckets::{Whom, told, who};
 use bucket_tree::{Buckets, Live, Lives, Prefix, Row, Rows, TableFault};
 use kad_base::{Contacts, List, NoMemory};
 use std::alloc::Global;
+use std::process::Abort;
 use std::test::Fail;
 use trial_kit::number;
 
-/// Stands where nothing stands.
-const NO: u8 = 255;
-
 /// A row: the bits of its prefix, the first bytes of its live contacts with their failures, and those of its spares.
 #[derive(Clone, Copy, Debug)]
-struct Shown {
-    bits: [u8; 2],
-    live: [(u8, u8); 3],
-    spare: [u8; 3],
-}
+struct Shown(&'static [u8], &'static [(u8, u8)], &'static [u8]);
 
-fn prefix_of(bits: &[u8; 2]) -> Prefix {
+fn prefix_of(bits: &[u8]) -> Prefix {
     let mut prefix = Prefix::empty();
     for bit in bits {
-        if *bit == NO {
-            continue;
-        }
         if prefix.len() < 160 {
             prefix = prefix.child(*bit == 1);
         }
@@ -31,36 +22,31 @@ fn prefix_of(bits: &[u8; 2]) -> Prefix {
     prefix
 }
 
-fn lives_of(alloc: Global, live: &[(u8, u8); 3]) -> Result<Lives, NoMemory> {
+fn lives_of(alloc: Global, live: &[(u8, u8)]) -> Result<Lives, NoMemory> {
     let mut lives: Lives = List::new(alloc);
     for (n, failures) in live {
-        if *n == NO {
-            continue;
-        }
         lives.push(Live {
-            contact: far(*n),
+            contact: who(Whom::First(*n)),
             failures: *failures,
         })?;
     }
     Ok(lives)
 }
 
-fn spares_of(alloc: Global, spare: &[u8; 3]) -> Result<Contacts, NoMemory> {
+fn spares_of(alloc: Global, spare: &[u8]) -> Result<Contacts, NoMemory> {
     let mut spares: Contacts = List::new(alloc);
     for n in spare {
-        if *n == NO {
-            continue;
-        }
-        spares.push(far(*n))?;
+        spares.push(who(Whom::First(*n)))?;
     }
     Ok(spares)
 }
 
 fn row_of(alloc: Global, shown: &Shown) -> Result<Row, NoMemory> {
+    let Shown(bits, live, spare) = *shown;
     Ok(Row {
-        prefix: prefix_of(&shown.bits),
-        live: lives_of(alloc, &shown.live)?,
-        spare: spares_of(alloc, &shown.spare)?,
+        prefix: prefix_of(bits),
+        live: lives_of(alloc, live)?,
+        spare: spares_of(alloc, spare)?,
     })
 }
 
@@ -74,79 +60,83 @@ fn answer(alloc: Global, k: u8, b: u8, shown: &[Shown]) -> Result<(), TableFault
     Ok(())
 }
 
-/// The row of all identifiers, of those that begin with 0, and with 1.
-const WHOLE: [u8; 2] = [NO, NO];
+/// The rows of all identifiers, of those that begin with 0, and with 1, with nothing in them.
+const ALL: Shown = Shown(&[], &[], &[]);
 
-const LOW: [u8; 2] = [0, NO];
+const LOW: Shown = Shown(&[0], &[], &[]);
 
-const HIGH: [u8; 2] = [1, NO];
+const HIGH: Shown = Shown(&[1], &[], &[]);
 
-/// No live contact there.
-const GONE: (u8, u8) = (NO, 0);
+/// k, b and rows.
+type Given = (u8, u8, &'static [Shown]);
 
-fn bare(bits: [u8; 2]) -> Shown {
-    row(bits, [GONE, GONE, GONE], [NO, NO, NO])
-}
-
-fn row(bits: [u8; 2], live: [(u8, u8); 3], spare: [u8; 3]) -> Shown {
-    Shown { bits, live, spare }
-}
-
-#[test]
-fn takes_rows_that_calls_can_lead_to(rt: HostRuntime) -> Result<(), Fail> {
-    let empty = [bare(LOW), bare(HIGH)];
-    assert_eq!(rt; answer(rt.alloc(), 1, 1, &empty), Ok(()));
-    let low = row(LOW, [(1, 0), (2, 1), GONE], [NO, NO, NO]);
-    let high = row(HIGH, [(129, 0), (130, 1), GONE], [131, 132, NO]);
-    assert_eq!(rt; answer(rt.alloc(), 2, 1, &[low, high]), Ok(()));
-    let whole = row(WHOLE, [(1, 1), (129, 0), GONE], [NO, NO, NO]);
-    assert_eq!(rt; answer(rt.alloc(), 20, 5, &[whole]), Ok(()));
-    Ok(())
-}
-
-#[test]
-fn refuses_other_rows(rt: HostRuntime) -> Result<(), Fail> {
-    let none = [NO, NO, NO];
-    let low = bare(LOW);
-    let high = bare(HIGH);
-    for rows in [
-        [].as_slice(),
-        &[low],
-        &[high],
-        &[high, low],
-        &[bare(WHOLE), high],
-        &[low, high, bare([1, 1])],
-        &[low, row(HIGH, [(129, 0), (129, 0), GONE], none)],
-        &[low, row(HIGH, [(1, 0), GONE, GONE], none)],
-        &[low, row(HIGH, [(129, 0), (130, 0), GONE], [1, NO, NO])],
-        &[row(LOW, [(0, 0), GONE, GONE], none), high],
-        &[low, row(HIGH, [(129, 2), GONE, GONE], none)],
-        &[low, row(HIGH, [(129, 0), (130, 0), (131, 0)], none)],
-        &[low, row(HIGH, [(129, 0), GONE, GONE], [131, NO, NO])],
-        &[row(LOW, [(1, 0), (2, 0), GONE], [3, NO, NO]), high],
-        &[low, row(HIGH, [(129, 0), (130, 0), GONE], [131, 132, 133])],
-        &[low, row(HIGH, [(129, 0), (130, 0), GONE], [129, NO, NO])],
-    ] {
-        assert_eq!(rt;
-            answer(rt.alloc(), 2, 1, rows),
-            Err(TableFault::Unsound),
-            "{rows:?}"
-        );
+/// That buckets of each of these answer so.
+fn answer_all(rt: &impl Abort, alloc: Global, all: &[Given], wanted: Result<(), TableFault>) {
+    for (k, b, rows) in all {
+        assert_eq!(rt; answer(alloc, *k, *b, rows), wanted, "{k} {b} {rows:?}");
     }
-    Ok(())
 }
 
+const SOUND: &[Given] = &[
+    (1, 1, &[LOW, HIGH]),
+    (
+        2,
+        1,
+        &[
+            Shown(&[0], &[(1, 0), (2, 1)], &[]),
+            Shown(&[1], &[(129, 0), (130, 1)], &[131, 132]),
+        ],
+    ),
+    (20, 5, &[Shown(&[], &[(1, 1), (129, 0)], &[])]),
+];
+
 #[test]
-fn refuses_settings_beyond_their_limits(rt: HostRuntime) -> Result<(), Fail> {
-    let rows = [bare(WHOLE)];
-    for (k, b) in [(0u8, 1u8), (21, 1), (1, 0), (1, 6)] {
-        assert_eq!(rt;
-            answer(rt.alloc(), k, b, &rows),
-            Err(TableFault::Unsound),
-            "{k} {b}"
-        );
-    }
-    Ok(())
+fn takes_rows_that_calls_can_lead_to(rt: HostRuntime) {
+    answer_all(&rt, rt.alloc(), SOUND, Ok(()));
+}
+
+const UNSOUND: &[Given] = &[
+    (2, 1, &[]),
+    (2, 1, &[LOW]),
+    (2, 1, &[HIGH]),
+    (2, 1, &[HIGH, LOW]),
+    (2, 1, &[ALL, HIGH]),
+    (2, 1, &[LOW, HIGH, Shown(&[1, 1], &[], &[])]),
+    (2, 1, &[LOW, Shown(&[1], &[(129, 0), (129, 0)], &[])]),
+    (2, 1, &[LOW, Shown(&[1], &[(1, 0)], &[])]),
+    (2, 1, &[LOW, Shown(&[1], &[(129, 0), (130, 0)], &[1])]),
+    (2, 1, &[Shown(&[0], &[(0, 0)], &[]), HIGH]),
+    (2, 1, &[LOW, Shown(&[1], &[(129, 2)], &[])]),
+    (
+        2,
+        1,
+        &[LOW, Shown(&[1], &[(129, 0), (130, 0), (131, 0)], &[])],
+    ),
+    (2, 1, &[LOW, Shown(&[1], &[(129, 0)], &[131])]),
+    (2, 1, &[Shown(&[0], &[(1, 0), (2, 0)], &[3]), HIGH]),
+    (
+        2,
+        1,
+        &[LOW, Shown(&[1], &[(129, 0), (130, 0)], &[131, 132, 133])],
+    ),
+    (2, 1, &[LOW, Shown(&[1], &[(129, 0), (130, 0)], &[129])]),
+];
+
+#[test]
+fn refuses_other_rows(rt: HostRuntime) {
+    answer_all(&rt, rt.alloc(), UNSOUND, Err(TableFault::Unsound));
+}
+
+const BEYOND: &[Given] = &[
+    (0, 1, &[ALL]),
+    (21, 1, &[ALL]),
+    (1, 0, &[ALL]),
+    (1, 6, &[ALL]),
+];
+
+#[test]
+fn refuses_settings_beyond_their_limits(rt: HostRuntime) {
+    answer_all(&rt, rt.alloc(), BEYOND, Err(TableFault::Unsound));
 }
 
 /// How many live contacts and spares the rows have, where these rows give buckets that have just these.
@@ -170,19 +160,19 @@ fn again(
     Ok(counts)
 }
 
+const SEVEN_FAR: &[Whom] = &[
+    Whom::First(129),
+    Whom::First(130),
+    Whom::First(131),
+    Whom::First(132),
+    Whom::First(1),
+    Whom::First(2),
+    Whom::First(3),
+];
+
 #[test]
 fn gives_rows_that_give_the_same_buckets(rt: HostRuntime) -> Result<(), Fail> {
-    let contacts = [
-        far(129),
-        far(130),
-        far(131),
-        far(132),
-        far(1),
-        far(2),
-        far(3),
-    ];
-    let buckets = told(rt.alloc(), 2, 1, &contacts)?;
-    let counts = again(rt.alloc(), 2, 1, &buckets)?;
-    assert_eq!(rt; counts, (5, 2, true));
+    let buckets = told(rt.alloc(), 2, 1, SEVEN_FAR)?;
+    assert_eq!(rt; again(rt.alloc(), 2, 1, &buckets), Ok((5, 2, true)));
     Ok(())
 }

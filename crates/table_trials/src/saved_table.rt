@@ -1,15 +1,25 @@
 //! Tables that are saved and made again. The node's own identifier is `number(0)`, and k and b are 1.
+use crate::buckets::{Whom, who};
 use crate::table::told;
 use bucket_tree::TableFault;
 use contact_table::{Saved, Table};
-use kad_base::{Contact, List, NoMemory};
+use kad_base::{Contacts, List, NoMemory};
 use std::alloc::Global;
+use std::process::Abort;
 use std::test::Fail;
-use trial_kit::{at, contact};
+
+/// The contacts that are meant.
+fn list_of(alloc: Global, named: &[Whom]) -> Result<Contacts, NoMemory> {
+    let mut list = List::new(alloc);
+    for whom in named {
+        list.push(who(*whom))?;
+    }
+    Ok(list)
+}
 
 /// The same with other siblings.
-fn with_siblings(alloc: Global, saved: Saved, siblings: &[Contact]) -> Result<Saved, NoMemory> {
-    let siblings = List::from_slice(alloc, siblings)?;
+fn with_siblings(alloc: Global, saved: Saved, siblings: &[Whom]) -> Result<Saved, NoMemory> {
+    let siblings = list_of(alloc, siblings)?;
     Ok(Saved {
         own: saved.own,
         k: saved.k,
@@ -30,46 +40,98 @@ fn counts(alloc: Global, saved: &Saved) -> Result<(usize, usize), TableFault> {
 fn counts_with(
     alloc: Global,
     table: &Table,
-    siblings: &[Contact],
+    siblings: &[Whom],
 ) -> Result<(usize, usize), TableFault> {
     let saved = with_siblings(alloc, table.rows()?, siblings)?;
     counts(alloc, &saved)
 }
 
-#[test]
-fn takes_and_refuses_siblings(rt: HostRuntime) -> Result<(), Fail> {
-    let table = told(rt.alloc(), &[contact(2), contact(1)])?;
-    let unsound = Err(TableFault::Unsound);
-    for (siblings, answer) in [
-        ([].as_slice(), Ok((160, 0))),
-        (&[contact(1), contact(2), at(2, 7000)], Ok((160, 3))),
-        (&[contact(2), contact(1)], unsound),
-        (&[contact(1), contact(1)], unsound),
-        (&[at(0, 6000), contact(1)], unsound),
-    ] {
+/// Siblings, and the counts of rows and siblings or the fault that a table with them gives.
+type Row = (&'static [Whom], Result<(usize, usize), TableFault>);
+
+/// That each gives this, with the rows of a table that was told these contacts.
+fn give(rt: &impl Abort, alloc: Global, contacts: &[Whom], rows: &[Row]) -> Result<(), Fail> {
+    let table = told(alloc, contacts)?;
+    for (siblings, answer) in rows {
         assert_eq!(rt;
-            counts_with(rt.alloc(), &table, siblings),
-            answer,
+            counts_with(alloc, &table, siblings),
+            *answer,
             "{siblings:?}"
         );
     }
     Ok(())
 }
 
+const FEW: &[Row] = &[
+    (&[], Ok((160, 0))),
+    (
+        &[Whom::Number(1), Whom::Number(2), Whom::At(2, 7000)],
+        Ok((160, 3)),
+    ),
+    (
+        &[Whom::Number(2), Whom::Number(1)],
+        Err(TableFault::Unsound),
+    ),
+    (
+        &[Whom::Number(1), Whom::Number(1)],
+        Err(TableFault::Unsound),
+    ),
+    (
+        &[Whom::At(0, 6000), Whom::Number(1)],
+        Err(TableFault::Unsound),
+    ),
+];
+
+#[test]
+fn takes_and_refuses_siblings(rt: HostRuntime) -> Result<(), Fail> {
+    give(&rt, rt.alloc(), &[Whom::Number(2), Whom::Number(1)], FEW)
+}
+
+const SIXTEEN: &[Whom] = &[
+    Whom::Number(1),
+    Whom::Number(2),
+    Whom::Number(3),
+    Whom::Number(4),
+    Whom::Number(5),
+    Whom::Number(6),
+    Whom::Number(7),
+    Whom::Number(8),
+    Whom::Number(9),
+    Whom::Number(10),
+    Whom::Number(11),
+    Whom::Number(12),
+    Whom::Number(13),
+    Whom::Number(14),
+    Whom::Number(15),
+    Whom::Number(16),
+];
+
+const SEVENTEEN: &[Whom] = &[
+    Whom::Number(1),
+    Whom::Number(2),
+    Whom::Number(3),
+    Whom::Number(4),
+    Whom::Number(5),
+    Whom::Number(6),
+    Whom::Number(7),
+    Whom::Number(8),
+    Whom::Number(9),
+    Whom::Number(10),
+    Whom::Number(11),
+    Whom::Number(12),
+    Whom::Number(13),
+    Whom::Number(14),
+    Whom::Number(15),
+    Whom::Number(16),
+    Whom::Number(17),
+];
+
+const MANY: &[Row] = &[
+    (SIXTEEN, Ok((1, 16))),
+    (SEVENTEEN, Err(TableFault::Unsound)),
+];
+
 #[test]
 fn refuses_a_seventeenth_sibling(rt: HostRuntime) -> Result<(), Fail> {
-    let mut siblings = [contact(1); 17];
-    for n in 0..17u8 {
-        siblings[n as usize] = contact(n + 1);
-    }
-    let table = told(rt.alloc(), &[contact(2)])?;
-    assert_eq!(rt;
-        counts_with(rt.alloc(), &table, &siblings[..16]),
-        Ok((1, 16))
-    );
-    assert_eq!(rt;
-        counts_with(rt.alloc(), &table, &siblings),
-        Err(TableFault::Unsound)
-    );
-    Ok(())
+    give(&rt, rt.alloc(), &[Whom::Number(2)], MANY)
 }

@@ -1,74 +1,108 @@
 //! Examples worked by hand. The node's own identifier is `number(0)`, and k and b are 1.
+use crate::buckets::{Whom, are, who};
 use bucket_tree::{Gone, Seen};
 use contact_table::{Table, TableCall, TableReply};
-use kad_base::{Addr, Contact, Id, Ip, Serial};
+use kad_base::{Addr, Contact, Contacts, Id, Ip, Serial};
 use std::alloc::Global;
+use std::process::Abort;
 use std::test::Fail;
-use trial_kit::{at, contact, number};
+use trial_kit::number;
 
 /// A table that was told these contacts by role 1.
-pub(crate) fn told(alloc: Global, contacts: &[Contact]) -> Result<Table, Fail> {
+pub(crate) fn told(alloc: Global, contacts: &[Whom]) -> Result<Table, Fail> {
     let mut table = Table::new(alloc, number(0), 1, 1)?;
-    for contact in contacts {
-        let _reply = table.apply(1, TableCall::Seen { contact: *contact });
+    for whom in contacts {
+        let contact = who(*whom);
+        let _reply = table.apply(1, TableCall::Seen { contact });
     }
     Ok(table)
 }
 
-#[test]
-fn tells_what_became_of_a_contact(rt: HostRuntime) -> Result<(), Fail> {
-    let mut table = told(rt.alloc(), &[contact(2), contact(1)])?;
-    for (contact, seen) in [
-        (contact(3), Seen::Spared),
-        (at(2, 7000), Seen::Conflict),
-        (at(0, 6000), Seen::Own),
-        (contact(1), Seen::Moved),
-    ] {
-        let reply = table.apply(0, TableCall::Seen { contact });
-        assert_eq!(rt; reply, TableReply::Seen { seen }, "{contact:?}");
-    }
-    Ok(())
-}
-
-#[test]
-fn forgets_a_contact_that_failed_twice(rt: HostRuntime) -> Result<(), Fail> {
-    let mut table = told(rt.alloc(), &[contact(2), contact(1), contact(3)])?;
-    for (n, gone) in [
-        (2, Gone::Kept),
-        (2, Gone::Replaced),
-        (3, Gone::Kept),
-        (3, Gone::Removed),
-        (9, Gone::Unknown),
-    ] {
-        let reply = table.apply(
-            0,
-            TableCall::Failed {
-                contact: contact(n),
-            },
-        );
-        assert_eq!(rt; reply, TableReply::Gone { gone }, "{n}");
-    }
-    Ok(())
+/// A call of the table, and what it has to answer.
+#[derive(Clone, Copy, Debug)]
+enum Step {
+    Seen(Whom, Seen),
+    Failed(Whom, Gone),
+    /// The n closest to the number.
+    Closest(u8, u8, &'static [Whom]),
+    /// So many are the n closest to the number.
+    Count(u8, u8, usize),
 }
 
 /// The closest contacts, where the table has the memory to list them.
-fn closest(table: &mut Table, target: u8, n: u8) -> Option<Vec<Contact>> {
+fn closest(table: &mut Table, target: u8, n: u8) -> Option<Contacts> {
     let target = number(target);
     match table.apply(1, TableCall::Closest { target, n }) {
-        TableReply::List { list } => Some(list.into_vec()),
+        TableReply::List { list } => Some(list),
         _ => None,
     }
 }
 
+fn answers(table: &mut Table, step: Step) -> bool {
+    match step {
+        Step::Seen(whom, seen) => {
+            let contact = who(whom);
+            table.apply(0, TableCall::Seen { contact }) == TableReply::Seen { seen }
+        }
+        Step::Failed(whom, gone) => {
+            let contact = who(whom);
+            table.apply(0, TableCall::Failed { contact }) == TableReply::Gone { gone }
+        }
+        Step::Closest(target, n, wanted) => closest(table, target, n).is_some_and(|found| are(
+            found.as_slice(),
+            wanted,
+        )),
+        Step::Count(target, n, count) => closest(table, target, n).is_some_and(|found| found.len()
+            == count),
+    }
+}
+
+/// Takes the steps in order, over a table that was told these contacts.
+fn take(rt: &impl Abort, alloc: Global, contacts: &[Whom], steps: &[Step]) -> Result<(), Fail> {
+    let mut table = told(alloc, contacts)?;
+    for step in steps {
+        assert!(rt; answers(&mut table, *step), "{step:?}");
+    }
+    Ok(())
+}
+
+const TWO_AND_ONE: &[Whom] = &[Whom::Number(2), Whom::Number(1)];
+
+const WHAT_BECAME: &[Step] = &[
+    Step::Seen(Whom::Number(3), Seen::Spared),
+    Step::Seen(Whom::At(2, 7000), Seen::Conflict),
+    Step::Seen(Whom::At(0, 6000), Seen::Own),
+    Step::Seen(Whom::Number(1), Seen::Moved),
+];
+
+#[test]
+fn tells_what_became_of_a_contact(rt: HostRuntime) -> Result<(), Fail> {
+    take(&rt, rt.alloc(), TWO_AND_ONE, WHAT_BECAME)
+}
+
+const TWO_ONE_THREE: &[Whom] = &[Whom::Number(2), Whom::Number(1), Whom::Number(3)];
+
+const FAILURES: &[Step] = &[
+    Step::Failed(Whom::Number(2), Gone::Kept),
+    Step::Failed(Whom::Number(2), Gone::Replaced),
+    Step::Failed(Whom::Number(3), Gone::Kept),
+    Step::Failed(Whom::Number(3), Gone::Removed),
+    Step::Failed(Whom::Number(9), Gone::Unknown),
+];
+
+#[test]
+fn forgets_a_contact_that_failed_twice(rt: HostRuntime) -> Result<(), Fail> {
+    take(&rt, rt.alloc(), TWO_ONE_THREE, FAILURES)
+}
+
+const AMONG_THE_SIBLINGS: &[Step] = &[
+    Step::Closest(3, 2, &[Whom::Number(3), Whom::Number(2)]),
+    Step::Count(0, 9, 3),
+];
+
 #[test]
 fn finds_spares_among_the_siblings(rt: HostRuntime) -> Result<(), Fail> {
-    let mut table = told(rt.alloc(), &[contact(2), contact(1), contact(3)])?;
-    let near = closest(&mut table, 3, 2).map(|found| found.as_slice()
-        == [contact(3), contact(2)].as_slice());
-    assert_eq!(rt; near, Some(true));
-    let all = closest(&mut table, 0, 9).map(|found| found.len());
-    assert_eq!(rt; all, Some(3));
-    Ok(())
+    take(&rt, rt.alloc(), TWO_ONE_THREE, AMONG_THE_SIBLINGS)
 }
 
 /// A contact of either family, with the identifier of 20 bytes n.
