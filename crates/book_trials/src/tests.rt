@@ -14,6 +14,7 @@ use kad_distance::closer;
 use std::alloc::Global;
 use std::hash::RandomState;
 use std::process::Abort;
+use std::random::RandomSource;
 use std::test::Fail;
 use trial_kit::contact;
 
@@ -129,6 +130,11 @@ fn told_of(reply: &BookReply) -> Told {
     }
 }
 
+/// The number of the first that is false, from 0.
+fn first_false(held: &[bool]) -> Option<usize> {
+    held.iter().position(|is| !*is)
+}
+
 /// The role that settles on a path.
 fn worker(path: u8) -> u8
     ensures { result ≢ 0 }
@@ -190,20 +196,34 @@ fn play(
     Ok(())
 }
 
-/// The lookup is over, and found these contacts.
-fn finds(
-    rt: &impl Abort,
-    alloc: Global,
-    book: &mut Book,
-    contacts: &[Contact],
+/// What a lookup that is over found, by the contacts' numbers.
+#[derive(Clone, Copy)]
+struct End {
+    found: &'static [u8],
     counts: Counts,
-) -> Result<(), NoMemory> {
-    let found = List::from_slice(alloc, contacts)?;
-    assert_eq!(rt;
-        book.apply(0, BookCall::Finish),
-        BookReply::Found { found, counts }
-    );
-    Ok(())
+}
+
+/// Whether these are the contacts, in order.
+fn are(contacts: &[Contact], numbers: &[u8]) -> bool {
+    contacts.len() == numbers.len()
+        && contacts
+            .iter()
+            .zip(numbers)
+            .all(|(one, n)| *one == contact(*n))
+}
+
+/// Whether the lookup is over and found this, if an end is given.
+fn ends(book: &mut Book, end: Option<&End>) -> bool {
+    let Some(end) = end else {
+        return true;
+    };
+    let reply = book.apply(0, BookCall::Finish);
+    match &reply {
+        BookReply::Found { found, counts } => {
+            *counts == end.counts && are(found.as_slice(), end.found)
+        }
+        _ => false,
+    }
 }
 
 /// A book with the first two contacts as its seeds.
@@ -228,205 +248,167 @@ fn seeded(rt: &impl Abort, alloc: Global, hasher: RandomState, paths: u8) -> Res
     Ok(Book::new(alloc, setting, &[first, second], hasher)?)
 }
 
-/// A lookup with two seeds on so many paths: the calls, and how each is replied to.
-fn plays(
-    rt: &impl Abort,
-    alloc: Global,
-    hasher: RandomState,
+/// A lookup with two seeds on so many paths: the calls and how each is replied to, what it found if it is over by then, and
+/// how many entries its journal has.
+fn plays<R: Abort + AllocGlobal + RandomSource>(
+    rt: &R,
     paths: u8,
     rows: &[(Step, Told)],
-) -> Result<Book, Fail>
+    end: Option<&End>,
+    entries: usize,
+) -> Result<(), Fail>
     requires { 0 < paths }
 {
-    let mut book = seeded(rt, alloc, hasher, paths)?;
-    play(rt, alloc, &mut book, rows)?;
-    Ok(book)
+    let mut book = seeded(rt, rt.alloc(), RandomState::new(rt)?, paths)?;
+    play(rt, rt.alloc(), &mut book, rows)?;
+    assert!(rt; ends(&mut book, end));
+    assert_eq!(rt; book.into_journal().len(), entries);
+    Ok(())
 }
+
+const OPEN: &[(Step, Told)] = &[
+    (Step::Next(0), Told::Ask(1)),
+    (Step::Next(0), Told::Later),
+    (Step::Next(5), Told::RunOut),
+    (Step::Finish, Told::NotYet(0)),
+    (Step::Heard(3, None), Told::NotOpen),
+    (Step::Heard(1, Some(3)), Told::Kept),
+    (Step::Heard(1, Some(3)), Told::NotOpen),
+];
 
 #[test]
 fn a_query_is_open_until_it_is_heard(rt: HostRuntime) -> Result<(), Fail> {
-    plays(
-        &rt,
-        rt.alloc(),
-        RandomState::new(&rt)?,
-        1,
-        &[
-            (Step::Next(0), Told::Ask(1)),
-            (Step::Next(0), Told::Later),
-            (Step::Next(5), Told::RunOut),
-            (Step::Finish, Told::NotYet(0)),
-            (Step::Heard(3, None), Told::NotOpen),
-            (Step::Heard(1, Some(3)), Told::Kept),
-            (Step::Heard(1, Some(3)), Told::NotOpen),
-        ],
-    )?;
-    Ok(())
+    plays(&rt, 1, OPEN, None, 4)
 }
+
+const IN_ORDER: &[(Step, Told)] = &[
+    (Step::Next(0), Told::Ask(1)),
+    (Step::Heard(1, Some(3)), Told::Kept),
+    (Step::Pull(0), Told::Alive(1)),
+    (Step::Settle(0, 3), Told::NotFront),
+    (Step::Note(0, 1), Told::Kept),
+    (Step::Pull(0), Told::Report(3)),
+    (Step::Settle(0, 3), Told::Taken),
+    (Step::Pull(0), Told::Idle),
+    (Step::Note(0, 1), Told::NotFront),
+    (Step::Next(0), Told::Ask(2)),
+];
 
 #[test]
 fn an_answer_is_settled_in_order(rt: HostRuntime) -> Result<(), Fail> {
-    plays(
-        &rt,
-        rt.alloc(),
-        RandomState::new(&rt)?,
-        1,
-        &[
-            (Step::Next(0), Told::Ask(1)),
-            (Step::Heard(1, Some(3)), Told::Kept),
-            (Step::Pull(0), Told::Alive(1)),
-            (Step::Settle(0, 3), Told::NotFront),
-            (Step::Note(0, 1), Told::Kept),
-            (Step::Pull(0), Told::Report(3)),
-            (Step::Settle(0, 3), Told::Taken),
-            (Step::Pull(0), Told::Idle),
-            (Step::Note(0, 1), Told::NotFront),
-            (Step::Next(0), Told::Ask(2)),
-        ],
-    )?;
-    Ok(())
+    plays(&rt, 1, IN_ORDER, None, 7)
 }
 
-#[test]
-fn a_lookup_finds_those_that_answered(rt: HostRuntime) -> Result<(), Fail> {
-    let mut book = plays(
-        &rt,
-        rt.alloc(),
-        RandomState::new(&rt)?,
-        1,
-        &[
-            (Step::Next(0), Told::Ask(1)),
-            (Step::Heard(1, Some(3)), Told::Kept),
-            (Step::Note(0, 1), Told::Kept),
-            (Step::Settle(0, 3), Told::Taken),
-            (Step::Next(0), Told::Ask(2)),
-            (Step::TimedOut(2), Told::Kept),
-            (Step::Next(0), Told::Ask(3)),
-            (Step::Heard(3, Some(1)), Told::Kept),
-            (Step::Note(0, 3), Told::Kept),
-            (Step::Settle(0, 1), Told::Held(0)),
-            (Step::Next(0), Told::RunOut),
-        ],
-    )?;
-    let counts = Counts {
+const ANSWERED: &[(Step, Told)] = &[
+    (Step::Next(0), Told::Ask(1)),
+    (Step::Heard(1, Some(3)), Told::Kept),
+    (Step::Note(0, 1), Told::Kept),
+    (Step::Settle(0, 3), Told::Taken),
+    (Step::Next(0), Told::Ask(2)),
+    (Step::TimedOut(2), Told::Kept),
+    (Step::Next(0), Told::Ask(3)),
+    (Step::Heard(3, Some(1)), Told::Kept),
+    (Step::Note(0, 3), Told::Kept),
+    (Step::Settle(0, 1), Told::Held(0)),
+    (Step::Next(0), Told::RunOut),
+];
+
+const FOUND: End = End {
+    found: &[1, 3],
+    counts: Counts {
         asked: 3,
         failed: 1,
         turned: 0,
-    };
-    finds(
-        &rt,
-        rt.alloc(),
-        &mut book,
-        &[contact(1), contact(3)],
-        counts,
-    )?;
-    assert_eq!(rt; book.into_journal().len(), 12);
-    Ok(())
+    },
+};
+
+#[test]
+fn a_lookup_finds_those_that_answered(rt: HostRuntime) -> Result<(), Fail> {
+    plays(&rt, 1, ANSWERED, Some(&FOUND), 12)
 }
+
+const OWN_SEEDS: &[(Step, Told)] = &[
+    (Step::Next(0), Told::Ask(1)),
+    (Step::Next(0), Told::Later),
+    (Step::Next(1), Told::Ask(2)),
+    (Step::Next(5), Told::RunOut),
+    (Step::Finish, Told::NotYet(0)),
+    (Step::Heard(3, None), Told::NotOpen),
+    (Step::Heard(1, Some(3)), Told::Kept),
+    (Step::Heard(1, Some(3)), Told::NotOpen),
+];
 
 #[test]
 fn each_path_asks_its_own_seed(rt: HostRuntime) -> Result<(), Fail> {
-    plays(
-        &rt,
-        rt.alloc(),
-        RandomState::new(&rt)?,
-        2,
-        &[
-            (Step::Next(0), Told::Ask(1)),
-            (Step::Next(0), Told::Later),
-            (Step::Next(1), Told::Ask(2)),
-            (Step::Next(5), Told::RunOut),
-            (Step::Finish, Told::NotYet(0)),
-            (Step::Heard(3, None), Told::NotOpen),
-            (Step::Heard(1, Some(3)), Told::Kept),
-            (Step::Heard(1, Some(3)), Told::NotOpen),
-        ],
-    )?;
-    Ok(())
+    plays(&rt, 2, OWN_SEEDS, None, 5)
 }
+
+const OWN_ANSWERS: &[(Step, Told)] = &[
+    (Step::Next(0), Told::Ask(1)),
+    (Step::Heard(1, Some(3)), Told::Kept),
+    (Step::Pull(1), Told::Idle),
+    (Step::Pull(0), Told::Alive(1)),
+    (Step::Settle(0, 3), Told::NotFront),
+    (Step::Note(0, 1), Told::Kept),
+    (Step::Pull(0), Told::Report(3)),
+    (Step::Settle(0, 3), Told::Taken),
+];
 
 #[test]
 fn a_path_settles_what_its_own_query_gave(rt: HostRuntime) -> Result<(), Fail> {
-    plays(
-        &rt,
-        rt.alloc(),
-        RandomState::new(&rt)?,
-        2,
-        &[
-            (Step::Next(0), Told::Ask(1)),
-            (Step::Heard(1, Some(3)), Told::Kept),
-            (Step::Pull(1), Told::Idle),
-            (Step::Pull(0), Told::Alive(1)),
-            (Step::Settle(0, 3), Told::NotFront),
-            (Step::Note(0, 1), Told::Kept),
-            (Step::Pull(0), Told::Report(3)),
-            (Step::Settle(0, 3), Told::Taken),
-        ],
-    )?;
-    Ok(())
+    plays(&rt, 2, OWN_ANSWERS, None, 6)
 }
+
+const TOOK: &[(Step, Told)] = &[
+    (Step::Next(0), Told::Ask(1)),
+    (Step::Heard(1, Some(3)), Told::Kept),
+    (Step::Note(0, 1), Told::Kept),
+    (Step::Settle(0, 3), Told::Taken),
+    (Step::Pull(0), Told::Idle),
+    (Step::Next(0), Told::Ask(3)),
+    (Step::Note(0, 1), Told::NotFront),
+];
 
 #[test]
 fn a_path_asks_what_it_took(rt: HostRuntime) -> Result<(), Fail> {
-    plays(
-        &rt,
-        rt.alloc(),
-        RandomState::new(&rt)?,
-        2,
-        &[
-            (Step::Next(0), Told::Ask(1)),
-            (Step::Heard(1, Some(3)), Told::Kept),
-            (Step::Note(0, 1), Told::Kept),
-            (Step::Settle(0, 3), Told::Taken),
-            (Step::Pull(0), Told::Idle),
-            (Step::Next(0), Told::Ask(3)),
-            (Step::Note(0, 1), Told::NotFront),
-        ],
-    )?;
-    Ok(())
+    plays(&rt, 2, TOOK, None, 7)
 }
+
+const ONE_PATH: &[(Step, Told)] = &[
+    (Step::Next(0), Told::Ask(1)),
+    (Step::Heard(1, Some(3)), Told::Kept),
+    (Step::Note(0, 1), Told::Kept),
+    (Step::Settle(0, 3), Told::Taken),
+    (Step::Next(1), Told::Ask(2)),
+    (Step::Heard(2, Some(3)), Told::Kept),
+    (Step::Note(1, 2), Told::Kept),
+    (Step::Settle(1, 3), Told::Held(0)),
+];
 
 #[test]
 fn a_contact_is_on_one_path(rt: HostRuntime) -> Result<(), Fail> {
-    plays(
-        &rt,
-        rt.alloc(),
-        RandomState::new(&rt)?,
-        2,
-        &[
-            (Step::Next(0), Told::Ask(1)),
-            (Step::Heard(1, Some(3)), Told::Kept),
-            (Step::Note(0, 1), Told::Kept),
-            (Step::Settle(0, 3), Told::Taken),
-            (Step::Next(1), Told::Ask(2)),
-            (Step::Heard(2, Some(3)), Told::Kept),
-            (Step::Note(1, 2), Told::Kept),
-            (Step::Settle(1, 3), Told::Held(0)),
-        ],
-    )?;
-    Ok(())
+    plays(&rt, 2, ONE_PATH, None, 10)
 }
 
-#[test]
-fn a_lookup_ends_with_its_last_path(rt: HostRuntime) -> Result<(), Fail> {
-    let mut book = plays(
-        &rt,
-        rt.alloc(),
-        RandomState::new(&rt)?,
-        2,
-        &[
-            (Step::Next(0), Told::Ask(1)),
-            (Step::Next(1), Told::Ask(2)),
-            (Step::Heard(1, None), Told::Kept),
-            (Step::Note(0, 1), Told::Kept),
-            (Step::Finish, Told::NotYet(1)),
-            (Step::TimedOut(2), Told::Kept),
-        ],
-    )?;
-    let counts = Counts {
+const LAST_PATH: &[(Step, Told)] = &[
+    (Step::Next(0), Told::Ask(1)),
+    (Step::Next(1), Told::Ask(2)),
+    (Step::Heard(1, None), Told::Kept),
+    (Step::Note(0, 1), Told::Kept),
+    (Step::Finish, Told::NotYet(1)),
+    (Step::TimedOut(2), Told::Kept),
+];
+
+const FOUND_ONE: End = End {
+    found: &[1],
+    counts: Counts {
         asked: 2,
         failed: 1,
         turned: 0,
-    };
-    finds(&rt, rt.alloc(), &mut book, &[contact(1)], counts)?;
-    Ok(())
+    },
+};
+
+#[test]
+fn a_lookup_ends_with_its_last_path(rt: HostRuntime) -> Result<(), Fail> {
+    plays(&rt, 2, LAST_PATH, Some(&FOUND_ONE), 7)
 }

@@ -443,33 +443,35 @@ fn setting(n: u8) -> Setting
     }
 }
 
+/// No replies, and each of them.
+const NONE: Came = Came {
+    taken: false,
+    held: false,
+    turned: false,
+    rejected: false,
+    skipped: false,
+    not_front: false,
+    found: false,
+};
+
+const EACH: Came = Came {
+    taken: true,
+    held: true,
+    turned: true,
+    rejected: true,
+    skipped: true,
+    not_front: true,
+    found: true,
+};
+
 #[test]
 fn answers_as_the_filters_of_its_journal(rt: HostRuntime) -> Result<(), Fail> {
-    let mut came = Came {
-        taken: false,
-        held: false,
-        turned: false,
-        rejected: false,
-        skipped: false,
-        not_front: false,
-        found: false,
-    };
+    let mut came = NONE;
     let mut dice = Dice { state: 1 };
     for n in 0..6u8 {
         let hasher = RandomState::new(&rt)?;
         compare(&rt, rt.alloc(), hasher, setting(n), &mut dice, &mut came)?;
     }
-    assert_eq!(rt;
-        came,
-        Came {
-            taken: true,
-            held: true,
-            turned: true,
-            rejected: true,
-            skipped: true,
-            not_front: true,
-            found: true,
-        }
-    );
+    assert_eq!(rt; came, EACH);
     Ok(())
 }

@@ -4,15 +4,16 @@
 ghost use Rattle.std.specs.Prelude.{◌<◌};
 
 use super::compare::{all_usable, seeds};
-use super::{Told, told_of};
+use super::{Told, first_false, told_of, worker};
 use claim_book::{
     Book, BookCall, BookReply, Cause, Checked, Entry, Host, Journal, Setting, host_of,
 };
 use id_puzzles::Sha1Check;
-use kad_base::{Addr, Contact, Id, Ip, List, NoMemory, Policy, Report, Serial};
+use kad_base::{Addr, Contact, Contacts, Id, Ip, List, NoMemory, Policy, Report, Serial};
 use std::alloc::Global;
 use std::hash::RandomState;
 use std::process::Abort;
+use std::random::RandomSource;
 use std::test::Fail;
 
 fn at(n: u8, ip: Ip) -> Contact {
@@ -38,14 +39,34 @@ fn six(n: u8, net: u8, host: u8) -> Contact {
     )
 }
 
+/// A contact by its numbers: `four(n, h)` or `six(n, net, h)`.
+#[derive(Clone, Copy, Debug)]
+enum Whom {
+    Four(u8, u8),
+    Six(u8, u8, u8),
+}
+
+fn who(whom: Whom) -> Contact {
+    match whom {
+        Whom::Four(n, host) => four(n, host),
+        Whom::Six(n, net, host) => six(n, net, host),
+    }
+}
+
+fn all_of(alloc: Global, named: &[Whom]) -> Result<Contacts, NoMemory> {
+    let mut contacts = List::new(alloc);
+    for whom in named {
+        contacts.push(who(*whom))?;
+    }
+    Ok(contacts)
+}
+
 /// A book of these seeds on so many paths, each of which takes so many contacts of one host.
-fn begun(
-    rt: &impl Abort,
-    alloc: Global,
-    hasher: RandomState,
+fn begun<R: Abort + AllocGlobal + RandomSource>(
+    rt: &R,
     paths: u8,
     per_address: u8,
-    contacts: &[Contact],
+    named: &[Whom],
 ) -> Result<Book, Fail>
     requires { 0 < paths }
 {
@@ -58,9 +79,10 @@ fn begun(
         policy: Policy::Plain,
         per_address,
     };
-    let seeds = seeds(alloc, &setting, contacts)?;
+    let contacts = all_of(rt.alloc(), named)?;
+    let seeds = seeds(rt.alloc(), &setting, contacts.as_slice())?;
     assert!(rt; all_usable(&setting.own, seeds.as_slice()));
-    Ok(Book::new(alloc, setting, seeds.as_slice(), hasher)?)
+    Ok(Book::new(rt.alloc(), setting, seeds.as_slice(), RandomState::new(rt)?)?)
 }
 
 fn report(contact: Contact) -> Report {
@@ -71,9 +93,7 @@ fn report(contact: Contact) -> Report {
 }
 
 /// The path asks what it may, which answers, and is noted: it named these four.
-fn hears(alloc: Global, book: &mut Book, path: u8, named: [Contact; 4]) -> Result<bool, NoMemory>
-    requires { path < 8 }
-{
+fn hears(alloc: Global, book: &mut Book, path: u8, named: [Whom; 4]) -> Result<bool, NoMemory> {
     let contact = match book.apply(0, BookCall::Next { path }) {
         BookReply::Ask { contact } => contact,
         _ => return Ok(false),
@@ -81,41 +101,40 @@ fn hears(alloc: Global, book: &mut Book, path: u8, named: [Contact; 4]) -> Resul
     let reports = List::from_slice(
         alloc,
         &[
-            report(named[0]),
-            report(named[1]),
-            report(named[2]),
-            report(named[3]),
+            report(who(named[0])),
+            report(who(named[1])),
+            report(who(named[2])),
+            report(who(named[3])),
         ],
     )?;
     let kept = book.apply(0, BookCall::Heard { contact, reports }) == BookReply::Kept;
-    let noted = book.apply(path + 1, BookCall::Note { contact }) == BookReply::Kept;
+    let noted = book.apply(worker(path), BookCall::Note { contact }) == BookReply::Kept;
     Ok(kept && noted)
 }
 
 /// How the path settles a report of the contact.
-fn settles(book: &mut Book, path: u8, contact: Contact) -> Told
-    requires { path < 8 }
-{
+fn settles(book: &mut Book, path: u8, contact: Contact) -> Told {
     let checked = Checked::of(&Sha1Check, Policy::Plain, report(contact));
-    told_of(&book.apply(path + 1, BookCall::Settle { checked }))
+    told_of(&book.apply(worker(path), BookCall::Settle { checked }))
 }
 
-/// The path hears of these four, and settles them so.
+/// Whether the path hears of these four, and settles them so.
 fn goes(
-    rt: &impl Abort,
     alloc: Global,
     book: &mut Book,
     path: u8,
-    named: [Contact; 4],
+    named: [Whom; 4],
     told: [Told; 4],
-) -> Result<(), NoMemory>
-    requires { path < 8 }
-{
-    assert!(rt; hears(alloc, book, path, named)?);
-    for i in 0..4usize {
-        assert_eq!(rt; settles(book, path, named[i]), told[i]);
+) -> Result<bool, NoMemory> {
+    if !hears(alloc, book, path, named)? {
+        return Ok(false);
     }
-    Ok(())
+    for i in 0..4usize {
+        if settles(book, path, who(named[i])) != told[i] {
+            return Ok(false);
+        }
+    }
+    Ok(true)
 }
 
 /// What asks nobody, and lets the time of what the path asks pass.
@@ -140,189 +159,274 @@ fn is_seed(entry: &Entry, path: u8, contact: &Contact) -> bool {
 }
 
 /// The journal has these seeds, and nothing else.
-fn begins(journal: &Journal, seeds: &[(u8, Contact)]) -> bool {
+fn begins(journal: &Journal, seeds: &[(u8, Whom)]) -> bool {
     let entries = journal.as_slice();
     if entries.len() != seeds.len() {
         return false;
     }
-    for (entry, (path, contact)) in entries.iter().zip(seeds) {
-        if !is_seed(entry, *path, contact) {
+    for (entry, (path, whom)) in entries.iter().zip(seeds) {
+        if !is_seed(entry, *path, &who(*whom)) {
             return false;
         }
     }
     true
 }
 
-#[test]
-fn a_host_is_an_address_or_a_subnet(rt: HostRuntime) {
-    assert_eq!(&rt; host_of(&four(1, 7).addr), Host::V4([10, 0, 0, 7]));
-    assert_eq!(&rt;
-        host_of(&six(1, 7, 9).addr),
-        Host::V6([0x20, 1, 0x0d, 0xb8, 0, 0, 0, 7])
-    );
-    assert!(&rt; host_of(&four(1, 7).addr) == host_of(&four(2, 7).addr));
-    assert!(&rt; host_of(&four(1, 7).addr) != host_of(&four(1, 8).addr));
-    assert!(&rt; host_of(&six(1, 7, 9).addr) == host_of(&six(2, 7, 200).addr));
-    assert!(&rt; host_of(&six(1, 7, 9).addr) != host_of(&six(1, 6, 9).addr));
+/// What happens on a path.
+#[derive(Clone, Copy, Debug)]
+enum Row {
+    /// It hears of these four, and settles them so.
+    Goes(u8, &'static [Whom; 4], &'static [Told; 4]),
+    /// It asks somebody, whose time passes.
+    Loses(u8),
 }
 
-#[test]
-fn a_report_past_the_limit_is_turned_away(rt: HostRuntime) -> Result<(), Fail> {
-    let alloc = rt.alloc();
-    let hasher = RandomState::new(&rt)?;
-    let mut book = begun(&rt, alloc, hasher, 1, 2, &[four(1, 1)])?;
-    goes(
-        &rt,
-        alloc,
-        &mut book,
-        0,
-        [four(2, 1), four(3, 1), four(4, 2), four(5, 1)],
-        [Told::Taken, Told::Turned, Told::Taken, Told::Turned],
-    )?;
-    goes(
-        &rt,
-        alloc,
-        &mut book,
-        0,
-        [four(3, 1), four(2, 1), four(6, 2), four(7, 2)],
-        [Told::Turned, Told::Held(0), Told::Taken, Told::Turned],
-    )?;
+fn happens(alloc: Global, book: &mut Book, row: &Row) -> Result<bool, NoMemory> {
+    match *row {
+        Row::Goes(path, named, told) => goes(alloc, book, path, *named, *told),
+        Row::Loses(path) => Ok(loses(book, path)),
+    }
+}
+
+/// Plays the rows over a book of these seeds.
+fn plays<R: Abort + AllocGlobal + RandomSource>(
+    rt: &R,
+    paths: u8,
+    per_address: u8,
+    named: &[Whom],
+    rows: &[Row],
+) -> Result<(), Fail>
+    requires { 0 < paths }
+{
+    let mut book = begun(rt, paths, per_address, named)?;
+    for row in rows {
+        assert!(rt; happens(rt.alloc(), &mut book, row)?, "{row:?}");
+    }
     Ok(())
 }
 
-#[test]
-fn another_port_or_another_address_of_the_subnet_is_the_same_host(
-    rt: HostRuntime,
-) -> Result<(), Fail> {
-    let alloc = rt.alloc();
-    let hasher = RandomState::new(&rt)?;
-    let mut book = begun(&rt, alloc, hasher, 1, 1, &[six(1, 1, 1)])?;
-    goes(
-        &rt,
-        alloc,
-        &mut book,
-        0,
-        [six(2, 1, 1), six(3, 1, 255), six(4, 2, 1), six(5, 2, 9)],
-        [Told::Turned, Told::Turned, Told::Taken, Told::Turned],
-    )?;
-    Ok(())
-}
+/// How many contacts of one host each path takes, and the seeds with which a book begins then, by their paths.
+type Start = (u8, &'static [(u8, Whom)]);
 
-#[test]
-fn without_a_limit_as_many_as_come_are_taken(rt: HostRuntime) -> Result<(), Fail> {
-    let alloc = rt.alloc();
-    for limit in [0, 255] {
-        let hasher = RandomState::new(&rt)?;
-        let mut book = begun(&rt, alloc, hasher, 1, limit, &[four(1, 1), four(2, 1)])?;
-        goes(
-            &rt,
-            alloc,
-            &mut book,
-            0,
-            [four(3, 1), four(4, 1), four(5, 1), four(6, 1)],
-            [Told::Taken, Told::Taken, Told::Taken, Told::Taken],
-        )?;
+/// That books of these contacts begin so, and with no other seeds.
+fn start<R: Abort + AllocGlobal + RandomSource>(
+    rt: &R,
+    paths: u8,
+    named: &[Whom],
+    starts: &[Start],
+) -> Result<(), Fail>
+    requires { 0 < paths }
+{
+    for (per_address, seeds) in starts {
+        let book = begun(rt, paths, *per_address, named)?;
+        assert!(rt; begins(&book.into_journal(), seeds));
     }
     Ok(())
 }
 
 #[test]
-fn another_path_takes_what_one_turns_away(rt: HostRuntime) -> Result<(), Fail> {
-    let alloc = rt.alloc();
-    let hasher = RandomState::new(&rt)?;
-    let mut book = begun(&rt, alloc, hasher, 2, 1, &[four(1, 1), four(2, 2)])?;
-    goes(
-        &rt,
-        alloc,
-        &mut book,
-        0,
-        [four(3, 1), four(4, 2), four(5, 2), four(2, 2)],
-        [Told::Turned, Told::Taken, Told::Turned, Told::Held(1)],
-    )?;
-    goes(
-        &rt,
-        alloc,
-        &mut book,
-        1,
-        [four(3, 1), four(5, 2), four(6, 1), four(4, 2)],
-        [Told::Taken, Told::Turned, Told::Turned, Told::Held(0)],
-    )?;
-    Ok(())
+fn a_host_is_an_address_or_a_subnet(rt: HostRuntime) {
+    let subnet = [0x20, 1, 0x0d, 0xb8, 0, 0, 0, 7];
+    let held = [
+        host_of(&four(1, 7).addr) == Host::V4([10, 0, 0, 7]),
+        host_of(&six(1, 7, 9).addr) == Host::V6(subnet),
+        host_of(&four(1, 7).addr) == host_of(&four(2, 7).addr),
+        host_of(&four(1, 7).addr) != host_of(&four(1, 8).addr),
+        host_of(&six(1, 7, 9).addr) == host_of(&six(2, 7, 200).addr),
+        host_of(&six(1, 7, 9).addr) != host_of(&six(1, 6, 9).addr),
+    ];
+    assert_eq!(&rt; first_false(&held), None);
 }
+
+const PAST_THE_LIMIT: &[Row] = &[
+    Row::Goes(
+        0,
+        &[
+            Whom::Four(2, 1),
+            Whom::Four(3, 1),
+            Whom::Four(4, 2),
+            Whom::Four(5, 1),
+        ],
+        &[Told::Taken, Told::Turned, Told::Taken, Told::Turned],
+    ),
+    Row::Goes(
+        0,
+        &[
+            Whom::Four(3, 1),
+            Whom::Four(2, 1),
+            Whom::Four(6, 2),
+            Whom::Four(7, 2),
+        ],
+        &[Told::Turned, Told::Held(0), Told::Taken, Told::Turned],
+    ),
+];
+
+#[test]
+fn a_report_past_the_limit_is_turned_away(rt: HostRuntime) -> Result<(), Fail> {
+    plays(&rt, 1, 2, &[Whom::Four(1, 1)], PAST_THE_LIMIT)
+}
+
+const OF_A_SUBNET: &[Row] = &[Row::Goes(
+    0,
+    &[
+        Whom::Six(2, 1, 1),
+        Whom::Six(3, 1, 255),
+        Whom::Six(4, 2, 1),
+        Whom::Six(5, 2, 9),
+    ],
+    &[Told::Turned, Told::Turned, Told::Taken, Told::Turned],
+)];
+
+#[test]
+fn another_port_or_another_address_of_the_subnet_is_the_same_host(
+    rt: HostRuntime,
+) -> Result<(), Fail> {
+    plays(&rt, 1, 1, &[Whom::Six(1, 1, 1)], OF_A_SUBNET)
+}
+
+const TWO_OF_A_HOST: &[Whom] = &[Whom::Four(1, 1), Whom::Four(2, 1)];
+
+const ALL_TAKEN: &[Row] = &[Row::Goes(
+    0,
+    &[
+        Whom::Four(3, 1),
+        Whom::Four(4, 1),
+        Whom::Four(5, 1),
+        Whom::Four(6, 1),
+    ],
+    &[Told::Taken, Told::Taken, Told::Taken, Told::Taken],
+)];
+
+#[test]
+fn without_a_limit_as_many_as_come_are_taken(rt: HostRuntime) -> Result<(), Fail> {
+    plays(&rt, 1, 0, TWO_OF_A_HOST, ALL_TAKEN)?;
+    plays(&rt, 1, 255, TWO_OF_A_HOST, ALL_TAKEN)
+}
+
+const OF_TWO_HOSTS: &[Whom] = &[Whom::Four(1, 1), Whom::Four(2, 2)];
+
+const ON_TWO_PATHS: &[Row] = &[
+    Row::Goes(
+        0,
+        &[
+            Whom::Four(3, 1),
+            Whom::Four(4, 2),
+            Whom::Four(5, 2),
+            Whom::Four(2, 2),
+        ],
+        &[Told::Turned, Told::Taken, Told::Turned, Told::Held(1)],
+    ),
+    Row::Goes(
+        1,
+        &[
+            Whom::Four(3, 1),
+            Whom::Four(5, 2),
+            Whom::Four(6, 1),
+            Whom::Four(4, 2),
+        ],
+        &[Told::Taken, Told::Turned, Told::Turned, Told::Held(0)],
+    ),
+];
+
+#[test]
+fn another_path_takes_what_one_turns_away(rt: HostRuntime) -> Result<(), Fail> {
+    plays(&rt, 2, 1, OF_TWO_HOSTS, ON_TWO_PATHS)
+}
+
+const AFTER_A_LOSS: &[Row] = &[
+    Row::Loses(0),
+    Row::Goes(
+        0,
+        &[
+            Whom::Four(3, 1),
+            Whom::Four(4, 3),
+            Whom::Four(5, 2),
+            Whom::Four(6, 4),
+        ],
+        &[Told::Turned, Told::Taken, Told::Turned, Told::Taken],
+    ),
+];
 
 #[test]
 fn a_lost_contact_still_counts(rt: HostRuntime) -> Result<(), Fail> {
-    let alloc = rt.alloc();
-    let hasher = RandomState::new(&rt)?;
-    let mut book = begun(&rt, alloc, hasher, 1, 1, &[four(1, 1), four(2, 2)])?;
-    assert!(&rt; loses(&mut book, 0));
-    goes(
-        &rt,
-        alloc,
-        &mut book,
-        0,
-        [four(3, 1), four(4, 3), four(5, 2), four(6, 4)],
-        [Told::Turned, Told::Taken, Told::Turned, Told::Taken],
-    )?;
-    Ok(())
+    plays(&rt, 1, 1, OF_TWO_HOSTS, AFTER_A_LOSS)
 }
+
+const EIGHT: &[Whom] = &[
+    Whom::Four(1, 1),
+    Whom::Four(2, 1),
+    Whom::Four(3, 1),
+    Whom::Four(4, 1),
+    Whom::Four(5, 2),
+    Whom::Four(6, 2),
+    Whom::Four(7, 1),
+    Whom::Four(8, 3),
+];
+
+/// All of them without a limit.
+const OF_EIGHT: &[Start] = &[
+    (
+        1,
+        &[
+            (0, Whom::Four(1, 1)),
+            (1, Whom::Four(2, 1)),
+            (0, Whom::Four(5, 2)),
+            (1, Whom::Four(6, 2)),
+            (1, Whom::Four(8, 3)),
+        ],
+    ),
+    (
+        2,
+        &[
+            (0, Whom::Four(1, 1)),
+            (1, Whom::Four(2, 1)),
+            (0, Whom::Four(3, 1)),
+            (1, Whom::Four(4, 1)),
+            (0, Whom::Four(5, 2)),
+            (1, Whom::Four(6, 2)),
+            (1, Whom::Four(8, 3)),
+        ],
+    ),
+    (
+        0,
+        &[
+            (0, Whom::Four(1, 1)),
+            (1, Whom::Four(2, 1)),
+            (0, Whom::Four(3, 1)),
+            (1, Whom::Four(4, 1)),
+            (0, Whom::Four(5, 2)),
+            (1, Whom::Four(6, 2)),
+            (0, Whom::Four(7, 1)),
+            (1, Whom::Four(8, 3)),
+        ],
+    ),
+];
 
 #[test]
 fn the_first_seeds_of_a_host_stay(rt: HostRuntime) -> Result<(), Fail> {
-    let alloc = rt.alloc();
-    let contacts = [
-        four(1, 1),
-        four(2, 1),
-        four(3, 1),
-        four(4, 1),
-        four(5, 2),
-        four(6, 2),
-        four(7, 1),
-        four(8, 3),
-    ];
-    let one = begun(&rt, alloc, RandomState::new(&rt)?, 2, 1, &contacts)?;
-    let kept = [
-        (0, contacts[0]),
-        (1, contacts[1]),
-        (0, contacts[4]),
-        (1, contacts[5]),
-        (1, contacts[7]),
-    ];
-    assert!(&rt; begins(&one.into_journal(), &kept));
-    let two = begun(&rt, alloc, RandomState::new(&rt)?, 2, 2, &contacts)?;
-    let more = [
-        (0, contacts[0]),
-        (1, contacts[1]),
-        (0, contacts[2]),
-        (1, contacts[3]),
-        (0, contacts[4]),
-        (1, contacts[5]),
-        (1, contacts[7]),
-    ];
-    assert!(&rt; begins(&two.into_journal(), &more));
-    let all = begun(&rt, alloc, RandomState::new(&rt)?, 2, 0, &contacts)?;
-    assert_eq!(&rt; all.into_journal().len(), 8);
-    Ok(())
+    start(&rt, 2, EIGHT, OF_EIGHT)
 }
+
+const SIX_OF_A_HOST: &[Whom] = &[
+    Whom::Four(1, 1),
+    Whom::Four(2, 1),
+    Whom::Four(3, 1),
+    Whom::Four(4, 1),
+    Whom::Four(5, 1),
+    Whom::Four(6, 1),
+];
+
+const OF_SIX: &[Start] = &[(
+    1,
+    &[
+        (0, Whom::Four(1, 1)),
+        (1, Whom::Four(2, 1)),
+        (2, Whom::Four(3, 1)),
+        (3, Whom::Four(4, 1)),
+    ],
+)];
 
 #[test]
 fn each_path_keeps_a_seed(rt: HostRuntime) -> Result<(), Fail> {
-    let alloc = rt.alloc();
-    let contacts = [
-        four(1, 1),
-        four(2, 1),
-        four(3, 1),
-        four(4, 1),
-        four(5, 1),
-        four(6, 1),
-    ];
-    let book = begun(&rt, alloc, RandomState::new(&rt)?, 4, 1, &contacts)?;
-    let kept = [
-        (0, contacts[0]),
-        (1, contacts[1]),
-        (2, contacts[2]),
-        (3, contacts[3]),
-    ];
-    assert!(&rt; begins(&book.into_journal(), &kept));
-    Ok(())
+    start(&rt, 4, SIX_OF_A_HOST, OF_SIX)
 }

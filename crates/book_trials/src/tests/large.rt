@@ -8,6 +8,7 @@ use kad_base::{Addr, Contact, Id, Ip, List, NoMemory, Policy, Report, Serial};
 use std::alloc::Global;
 use std::hash::RandomState;
 use std::process::Abort;
+use std::random::RandomSource;
 use std::test::Fail;
 
 fn numbered(n: u16) -> Contact {
@@ -31,10 +32,8 @@ fn reported(n: u16) -> Report {
 }
 
 /// A book of these seeds, of which each path is to find k.
-fn begun(
-    rt: &impl Abort,
-    alloc: Global,
-    hasher: RandomState,
+fn begun<R: Abort + AllocGlobal + RandomSource>(
+    rt: &R,
     k: u8,
     paths: u8,
     contacts: &[Contact],
@@ -50,9 +49,9 @@ fn begun(
         policy: Policy::Plain,
         per_address: 0,
     };
-    let seeds = seeds(alloc, &setting, contacts)?;
+    let seeds = seeds(rt.alloc(), &setting, contacts)?;
     assert!(rt; all_usable(&setting.own, seeds.as_slice()));
-    Ok(Book::new(alloc, setting, seeds.as_slice(), hasher)?)
+    Ok(Book::new(rt.alloc(), setting, seeds.as_slice(), RandomState::new(rt)?)?)
 }
 
 fn hears(
@@ -154,14 +153,7 @@ fn count_run_out(book: &mut Book, calls: u32) -> u32 {
 
 #[test]
 fn asking_a_long_lookup_again_is_quick(rt: HostRuntime) -> Result<(), Fail> {
-    let mut book = begun(
-        &rt,
-        rt.alloc(),
-        RandomState::new(&rt)?,
-        20,
-        1,
-        &[numbered(200)],
-    )?;
+    let mut book = begun(&rt, 20, 1, &[numbered(200)])?;
     chain(&rt, rt.alloc(), &mut book)?;
     assert_eq!(rt; count_run_out(&mut book, 10000000), 10000000);
     assert_eq!(rt; book.into_journal().len(), 3801);
@@ -200,36 +192,50 @@ fn round(
     Ok(all)
 }
 
-fn first_contacts(alloc: Global, count: u16) -> Result<Vec<Contact>, Fail> {
-    let mut contacts = Vec::new(alloc);
-    for n in 0..count {
-        contacts.push(numbered(n))?;
+/// 20 rounds: the number after the last contact that was named, how many reports were taken, and how many turned away.
+fn rounds(rt: &impl Abort, alloc: Global, book: &mut Book) -> Result<(u16, u32, u32), NoMemory> {
+    let mut all = (8u16, 0u32, 0u32);
+    for _ in 0..20u8 {
+        let (from, taken, turned) = round(rt, alloc, book, all.0)?;
+        all = (from, all.1.wrapping_add(taken), all.2.wrapping_add(turned));
     }
-    Ok(contacts)
+    Ok(all)
 }
+
+/// Whether these are the first 20 contacts.
+fn are_first(contacts: &[Contact]) -> bool {
+    contacts.len() == 20
+        && contacts
+            .iter()
+            .zip(0..20u16)
+            .all(|(one, n)| *one == numbered(n))
+}
+
+/// Whether the lookup is over, found the first 20 contacts, and counted so.
+fn ends(book: &mut Book, wanted: &Counts) -> bool {
+    let reply = book.apply(0, BookCall::Finish);
+    match &reply {
+        BookReply::Found { found, counts } => *counts == *wanted && are_first(found.as_slice()),
+        _ => false,
+    }
+}
+
+const COUNTS: Counts = Counts {
+    asked: 160,
+    failed: 0,
+    turned: 520,
+};
 
 /// 8 paths begin with one contact each, and each answer names contacts farther than all before: a path asks the 20
 /// closest of its own, takes 255 of the 320 that they name, and turns 65 away.
 #[test]
 fn eight_paths_fill_up(rt: HostRuntime) -> Result<(), Fail> {
-    let alloc = rt.alloc();
-    let seeds = first_contacts(alloc, 8)?;
-    let mut book = begun(&rt, alloc, RandomState::new(&rt)?, 20, 8, seeds.as_slice())?;
-    let mut all = (8u16, 0u32, 0u32);
-    for _ in 0..20u8 {
-        let (from, taken, turned) = round(&rt, alloc, &mut book, all.0)?;
-        all = (from, all.1.wrapping_add(taken), all.2.wrapping_add(turned));
+    let mut seeds = [numbered(0); 8];
+    for n in 0..8u16 {
+        seeds[n as usize] = numbered(n);
     }
-    assert_eq!(rt; all, (2568, 2040, 520));
-    let found = List::from_vec(first_contacts(alloc, 20)?);
-    let counts = Counts {
-        asked: 160,
-        failed: 0,
-        turned: 520,
-    };
-    assert_eq!(rt;
-        book.apply(0, BookCall::Finish),
-        BookReply::Found { found, counts }
-    );
+    let mut book = begun(&rt, 20, 8, &seeds)?;
+    assert_eq!(rt; rounds(&rt, rt.alloc(), &mut book)?, (2568, 2040, 520));
+    assert!(rt; ends(&mut book, &COUNTS));
     Ok(())
 }
