@@ -137,6 +137,13 @@ fn more_than_a_batch_is_answered(rt: HostRuntime) -> Result<(), Fail> {
     Ok(())
 }
 
+#[test]
+fn those_who_help_answer_batch_after_batch(rt: HostRuntime) -> Result<(), Fail> {
+    assert!(&rt; answers(&rt, 2, 100, 104, 100)?);
+    assert!(&rt; answers(&rt, 4, 100, 104, 100)?);
+    Ok(())
+}
+
 /// Whether two workers that make so many receive calls answer so many of these datagrams with just these replies.
 fn answers_with<R: AllocGlobal + Threads + Wait + Sync>(
     rt: &R,
@@ -194,5 +201,8 @@ fn a_failed_receive_ends_it_behind_whole_batches(rt: HostRuntime) -> Result<(), 
 fn a_sealed_crew_tags_its_replies(rt: HostRuntime) -> Result<(), Fail> {
     let link = link_with(rt.alloc(), PING, 10, 1, &[]);
     assert!(&rt; answers_with(&rt, link, 1, true, &[tagged_pong()])?);
+    let three = link_with(rt.alloc(), PING, 10, 3, &[]);
+    let wanted = [tagged_pong(), tagged_pong(), tagged_pong()];
+    assert!(&rt; answers_with(&rt, three, 3, true, &wanted)?);
     Ok(())
 }

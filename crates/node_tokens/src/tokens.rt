@@ -54,6 +54,19 @@ impl Tokens {
         }
     }
 
+    /// The same tokens, for another thread.
+    pub fn another(&self) -> Tokens
+        ensures { result ≡ self.now }
+    {
+        Tokens {
+            random: self.random,
+            began: self.began,
+            epoch: self.epoch,
+            secret: self.secret,
+            before: self.before,
+        }
+    }
+
     /// Keeps the secrets of the epoch of the moment and of the one before it. It makes them where it isn't the epoch whose
     /// secrets are kept.
     pub fn renew(&mut self, at: u64)

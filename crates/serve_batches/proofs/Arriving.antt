@@ -1,5 +1,5 @@
 -- Datagrams are put into the slots of a crew, one after another, as a batch is received.
-use Rattle.std.proofs.Common.{◌≡◌, ◌≢◌, ℕ, zero, suc, ◌+◌, ◌*◌, ◌<◌, ◌≤◌, List, [], ◌∷◌, ◌++◌, length, map, set, get_or, Bool, true, false, Option, inl, inr, refl, sym, ap, subst, ◌∙◌, append-nil, arith, All}
+use Rattle.std.proofs.Common.{◌≡◌, ◌≢◌, ℕ, zero, suc, ◌+◌, ◌*◌, ◌<◌, ◌≤◌, List, [], ◌∷◌, ◌++◌, length, map, set, get_or, true, false, Option, inl, inr, refl, sym, ap, subst, ◌∙◌, append-nil, arith, All}
 use Rattle.std.specs.Prelude.{min}
 use Rattle.std.proofs.lemmas.List.{get_or-map, get_or-set_same, get_or-set_other, length-map, length-set, get_or_default}
 use Rattle.std.proofs.lemmas.List.Elements.{All-nil, All-push, All-same}

@@ -18,6 +18,7 @@ use Rattle.node_serve.specs.Lasting.{is_over, waits_to}
 use Rattle.node_serve.specs.Receives.{got_in, sent_in}
 use Rattle.node_serve.specs.Sealing.{Tags}
 use Rattle.node_serve.specs.declared.service.ServeFault.{ServeFault}
+use Rattle.node_serve.specs.declared.service.ServeFault.TheVariants.{NoMemory as Out_of_memory}
 use Rattle.node_serve.specs.declared.setting.ServeSetting.{ServeSetting}
 use Rattle.node_serve.proofs.Receiving.{sent_then}
 use Rattle.serve_crew.specs.Hands.{SameHands, Grew}
@@ -219,3 +220,8 @@ can_by_roles tables stores shelves old new len roles can w d lt =
 -- what a served batch leaves of the conditions
 pub rose_behind : (a b c : ℕ) → a ≤ b → Rose b c → Rose a c
 rose_behind a b c le h = elim h [ inl lt ↦ inl (omega (arith, le, lt)) | inr last ↦ inr last ]
+
+-- nothing was served, since there was no memory
+pub stops_none : (tag_of : Tags) (limit : Option ℕ) (s : ServeSetting) (p : Progress) (crew : List Shift) (a : Option (List Event)) → Happens a a (StopsServing tag_of limit s p crew crew Out_of_memory)
+stops_none tag_of limit s p crew a =
+    served_stops tag_of limit s p p crew crew crew Out_of_memory a a a refl (roles_none crew) (served_none tag_of limit s p crew a) (happens_none a _ (inl refl)) (λ w d lt. ([], grew_none (get_or crew w d).worker))

@@ -4,7 +4,7 @@ use Rattle.std.specs.Prelude.{reverse, slice_index_or}
 use Rattle.std.specs.List.{range_with_len}
 use Rattle.std.proofs.lemmas.List.{length-append, map-append, reverse-append, length-reverse, length-map, get_or-map}
 use Rattle.std.proofs.lemmas.List.FromFn.{map-range_with_len_more, length-map-range_with_len, get_or-map-range_with_len}
-use Rattle.std.proofs.lemmas.List.Elements.{All-same, All-push, All-map}
+use Rattle.std.proofs.lemmas.List.Elements.{All-same, All-map}
 use Rattle.turn_book.proofs.Ended.{all_reverse}
 use Rattle.turn_book.specs.Turns.{TurnState, PassState, AreAll, fresh}
 use Rattle.contact_table.specs.TableState.{TableState}

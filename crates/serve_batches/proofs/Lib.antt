@@ -6,6 +6,7 @@ pub mod Circling
 pub mod Closing
 pub mod Crossing
 pub mod Dealing
+pub mod Doing
 pub mod Listing
 pub mod Parting
 pub mod Returning

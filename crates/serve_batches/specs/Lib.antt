@@ -2,6 +2,7 @@ pub mod Deal
 pub mod Ring
 pub mod Batches
 pub mod Crew
+pub mod Deeds
 pub mod ManyServed
 pub mod Passes
 pub mod Serving

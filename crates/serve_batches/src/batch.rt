@@ -1,6 +1,6 @@
 //! One batch: its datagrams are received, answered by all workers at once, and replied to; and all of them, one after
 //! another.
-ghost use Rattle.std.specs.Prelude.{◌≡◌, ◌≢◌, ◌⊎◌, ◌+◌, ◌≤◌, ◌<◌, ◌^◌, true, false, length, IfErr, OnOk};
+ghost use Rattle.std.specs.Prelude.{◌≡◌, ◌≢◌, ◌⊎◌, ◌+◌, ◌≤◌, ◌<◌, ◌^◌, true, false, length, Some, IfErr, OnOk};
 ghost use Rattle.std.specs.List.{All};
 ghost use Rattle.kad_base.specs.Failing.{FailsLast};
 ghost use Rattle.kad_base.specs.Outside.{Rose, Happens};
@@ -8,10 +8,12 @@ ghost use Rattle.node_serve.specs.Calls.{IsSetting};
 ghost use Rattle.node_serve.specs.Lasting.{is_over};
 ghost use Rattle.node_serve.specs.declared.service.ServeFault.{ServeFault};
 ghost use Rattle.serve_batches.specs.Crew.{AreRoomy, CanWork};
+ghost use Rattle.serve_batches.specs.Deeds.{known};
 ghost use Rattle.serve_batches.specs.ManyServed.{EndsEarly};
 ghost use Rattle.serve_batches.specs.Serving.{GrewSome, SameRoles, ServesBatch, ServesBatches, StopsServing};
 
 use crate::crew::work_all;
+use crate::deed::{Serving, Way};
 use crate::receiving::receive_batch;
 use crate::replying::{all_went, send_replies};
 use crate::shift::Shift;
@@ -22,8 +24,8 @@ use node_serve::{ServeFault, ServeSetting, is_over};
 use peer_store::Peers;
 use seal_tags::Seal;
 use std::sync::Wait;
-use std::thread::Threads;
 use turn_book::Turn;
+use work_desk::Vacant;
 
 /// How far a service is: the moment that its link told last, how many receive calls are left, how many datagrams came, and
 /// how many replies were sent.
@@ -43,7 +45,7 @@ fn renew(setting: &mut ServeSetting, at: u64)
 }
 
 /// Serves one batch, behind a moment before the end.
-fn serve_batch<R: Threads + Wait + Sync, L: Link, G: Seal + Sync>(
+fn serve_batch<B: Serving, R: Wait, L: Link, G: Seal>(
     rt: &R,
     link: &mut L,
     setting: &mut ServeSetting,
@@ -52,9 +54,11 @@ fn serve_batch<R: Threads + Wait + Sync, L: Link, G: Seal + Sync>(
     shelves: &Turn<Items>,
     seal: &G,
     end: Option<u64>,
+    posts: &mut Vec<Vacant<Shift, Way<B>>>,
     crew: &mut Vec<Shift>,
     progress: &mut Progress,
 ) -> Result<(), ServeFault>
+    requires known { B.known ≡ Some (known (G.tag_of seal.now) setting.old tables.now stores.now shelves.now) }
     requires setting { IsSetting setting.old }
     requires some { 0 < progress.old.left }
     requires goes { is_over end progress.old.moment ≡ false }
@@ -99,6 +103,8 @@ fn serve_batch<R: Threads + Wait + Sync, L: Link, G: Seal + Sync>(
         shelves,
         seal,
         &batch.place,
+        batch.moment,
+        posts,
         crew,
     );
     match all_went(crew, batch.came) {
@@ -114,7 +120,7 @@ fn serve_batch<R: Threads + Wait + Sync, L: Link, G: Seal + Sync>(
 }
 
 /// Serves batch after batch, until no receive call is left, or the moment told last is at the end or behind it.
-pub(crate) fn serve_each<R: Threads + Wait + Sync, L: Link, G: Seal + Sync>(
+pub(crate) fn serve_each<B: Serving, R: Wait, L: Link, G: Seal>(
     rt: &R,
     link: &mut L,
     setting: &mut ServeSetting,
@@ -123,9 +129,11 @@ pub(crate) fn serve_each<R: Threads + Wait + Sync, L: Link, G: Seal + Sync>(
     shelves: &Turn<Items>,
     seal: &G,
     end: Option<u64>,
+    posts: &mut Vec<Vacant<Shift, Way<B>>>,
     crew: &mut Vec<Shift>,
     progress: &mut Progress,
 ) -> Result<(), ServeFault>
+    requires known { B.known ≡ Some (known (G.tag_of seal.now) setting.old tables.now stores.now shelves.now) }
     requires setting { IsSetting setting.old }
     requires few { progress.old.received + progress.old.left < 2 ^ 32 }
     requires fewer { progress.old.replied ≤ progress.old.received }
@@ -157,7 +165,7 @@ pub(crate) fn serve_each<R: Threads + Wait + Sync, L: Link, G: Seal + Sync>(
             return Ok(());
         }
         match serve_batch(
-            rt, link, setting, tables, stores, shelves, seal, end, crew, progress,
+            rt, link, setting, tables, stores, shelves, seal, end, posts, crew, progress,
         ) {
             Ok(()) => {}
             Err(fault) => return Err(fault),

@@ -6,6 +6,7 @@
 
 mod batch;
 mod crew;
+mod deed;
 mod laws;
 mod many;
 mod passes;
@@ -14,6 +15,7 @@ mod receiving;
 mod replying;
 mod shift;
 mod slot;
+mod staying;
 
 pub use laws::each_has_its_share;
 pub use many::serve_many;

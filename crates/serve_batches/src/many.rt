@@ -1,18 +1,21 @@
 //! Serving by workers: the three turns are opened for it and closed at its end.
-ghost use Rattle.std.specs.Prelude.{◌≡◌, ◌≢◌, ◌*◌, ◌<◌, ◌≤◌, [], length, IfOk, IfErr, vec_capacity};
+ghost use Rattle.std.specs.Prelude.{◌≡◌, ◌≢◌, ◌*◌, ◌<◌, ◌≤◌, [], length, Some, IfOk, IfErr, vec_capacity};
 ghost use Rattle.std.specs.List.{All};
 ghost use Rattle.kad_base.specs.Failing.{FailsLast};
 ghost use Rattle.kad_base.specs.Outside.{Rose, Happens};
 ghost use Rattle.turn_book.specs.Turns.{all_fresh, AreAll};
 ghost use Rattle.node_serve.specs.Calls.{IsSetting};
 ghost use Rattle.node_serve.specs.declared.service.ServeFault.{ServeFault};
+ghost use Rattle.serve_batches.specs.Deeds.{known};
 ghost use Rattle.serve_batches.specs.ManyServed.{ManyServed, ManyBegun};
 ghost use Rattle.serve_batches.specs.Serving.{ServedBack, StoppedBack, rows};
 
-use crate::batch::{Progress, serve_each};
+use crate::batch::Progress;
+use crate::deed::Serving;
 use crate::passes::{all_slots, deal_passes, gather_passes};
 use crate::shift::Shift;
 use crate::slot::Slot;
+use crate::staying::serve_helped;
 use contact_table::Table;
 use item_store::Items;
 use kad_base::{Link, NoMemory};
@@ -20,12 +23,13 @@ use node_serve::{Lasting, ServeCounts, ServeFault, ServeSetting, end_of};
 use peer_store::Peers;
 use seal_tags::Seal;
 use std::alloc::Global;
+use std::marker::Brand;
 use std::sync::Wait;
 use std::thread::Threads;
 use turn_book::{Passes, Turn, TurnNoMemory};
 
 /// Deals the passes and the slots to workers, serves all batches, and puts the passes back.
-fn work<R: Threads + Wait + Sync, L: Link, G: Seal + Sync>(
+fn work<B: Serving + Send + Sync, R: Threads + Wait + Sync, L: Link, G: Seal + Sync>(
     rt: &R,
     alloc: Global,
     link: &mut L,
@@ -43,6 +47,7 @@ fn work<R: Threads + Wait + Sync, L: Link, G: Seal + Sync>(
     began: u64,
     lasting: Lasting,
 ) -> Result<ServeCounts, ServeFault>
+    requires known { B.known ≡ Some (known (G.tag_of seal.now) setting tables.now stores.now shelves.now) }
     requires setting { IsSetting setting }
     requires some { 0 < workers }
     requires table_roles { tables.now.roles ≡ workers }
@@ -88,8 +93,10 @@ fn work<R: Threads + Wait + Sync, L: Link, G: Seal + Sync>(
         received: 0,
         replied: 0,
     };
-    let answer = serve_each(
+    let answer = serve_helped::<B, _, _, _>(
         rt,
+        alloc,
+        workers,
         link,
         &mut setting,
         tables,
@@ -115,9 +122,9 @@ fn work<R: Threads + Wait + Sync, L: Link, G: Seal + Sync>(
 /// is told that is at its end by time or behind it, and answers the queries that come, tagged by the seal where the setting is
 /// sealed. A batch begins with a receive call that waits for a minute, but to that end at most, and as long as something came
 /// before the end it goes on without waiting, up to 32 calls. The datagram of place j of a batch is answered by worker j
-/// mod n, all workers answer at once, each on a thread of its own where it isn't the only one with something to do, and
-/// then the replies are sent in the order of the batch. Where the link refuses a reply it goes on. The table comes back
-/// after all calls that were made on it.
+/// mod n, all workers answer at once, those whose datagrams are worth it each on a thread of its own that stays as long as
+/// it serves, and then the replies are sent in the order of the batch. Where the link refuses a reply it goes on. The table
+/// comes back after all calls that were made on it.
 pub fn serve_many<R: Threads + Wait + Sync, L: Link, G: Seal + Sync>(
     rt: &R,
     alloc: Global,
@@ -173,7 +180,7 @@ pub fn serve_many<R: Threads + Wait + Sync, L: Link, G: Seal + Sync>(
             return (table, Err(ServeFault::NoMemory));
         }
     };
-    let answer = work(
+    let answer = work::<Brand, _, _, _>(
         rt,
         alloc,
         link,

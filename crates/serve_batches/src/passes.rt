@@ -110,6 +110,8 @@ fn deal_last(
         crew.push_reserved(Shift {
             worker: ServeWorker::new(alloc, table, peers, items),
             slots: taken,
+            given: 0,
+            at: 0,
         });
     }
 }

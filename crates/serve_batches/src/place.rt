@@ -1,5 +1,5 @@
 //! A place of a thing that is dealt.
-ghost use Rattle.std.specs.Prelude.{◌≡◌, ◌+◌, ◌<◌, ◌≤◌, ◌^◌, ℕ};
+ghost use Rattle.std.specs.Prelude.{◌≡◌, ◌+◌, ◌<◌, ◌≤◌, ◌^◌};
 ghost use Rattle.serve_batches.specs.Ring.{behind, place, ring, share};
 
 /// Whose a thing is that is dealt, and the how many-th of its holder, each from 0.
@@ -49,17 +49,5 @@ impl Place {
             return self.round + 1;
         }
         self.round
-    }
-
-    /// How many holders have something, of n in a ring, where the next thing would go to this place: they are the first.
-    pub fn busy_of(self, n: usize) -> usize
-        requires within { self.holder < n }
-        ensures few { result ≤ n }
-        ensures rest { (w : ℕ) → result ≤ w → w < n → share self w ≡ 0 }
-    {
-        if self.round > 0 {
-            return n;
-        }
-        self.holder
     }
 }

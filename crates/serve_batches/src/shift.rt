@@ -18,11 +18,13 @@ use serve_crew::ServeWorker;
 use std::sync::Wait;
 use turn_book::Turn;
 
-/// A worker, and the slots of the datagrams that it is to answer.
+/// A worker, the slots of the datagrams that it is to answer, how many of them it is given, and the moment at which it is.
 #[derive(Drop)]
 pub(crate) struct Shift {
     pub worker: ServeWorker,
     pub slots: Vec<Slot>,
+    pub given: usize,
+    pub at: u64,
 }
 
 /// Receives into a slot of a list.
@@ -109,7 +111,16 @@ impl Shift {
     ghost use Rattle.kad_base.specs.Outside.{Grows, Rose};
     ghost use Rattle.node_serve.specs.Calls.{IsSetting};
     ghost use Rattle.serve_batches.specs.Crew.{CanWork, Worked, no_slot};
+    ghost use Rattle.serve_batches.specs.Deeds.{IsTold};
     ghost use Rattle.serve_batches.specs.Slots.{datagram_in, took_event, Took};
+
+    /// Tells the worker how many datagrams it has, at a moment.
+    pub(crate) fn tell(&mut self, given: usize, at: u64)
+        ensures { IsTold given self.old self.new }
+    {
+        self.given = given;
+        self.at = at;
+    }
 
     /// Receives a datagram into a slot, until the moment in milliseconds.
     pub(crate) fn receive<L: Link>(

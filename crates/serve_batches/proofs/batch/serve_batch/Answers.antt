@@ -17,16 +17,16 @@ pub returns-in-Err-clause-grew : goal.returns-in-Err-clause-grew
 returns-in-Err-clause-grew g c = grew_kept c.args.crew.now.items c.receive_batch.new.crew.items c.in-Err.ensures.same
 
 pub work_all-requires-clause-few : goal.work_all-requires-clause-few
-work_all-requires-clause-few g c κs within = place_small (length c.receive_batch.new.crew.items) c.in-Ok.batch.came c.in-Ok.batch.place c.in-Ok.ensures.place c.in-Ok.ensures.came
+work_all-requires-clause-few g c = place_small (length c.receive_batch.new.crew.items) c.in-Ok.batch.came c.in-Ok.batch.place c.in-Ok.ensures.place c.in-Ok.ensures.came
 
 pub work_all-requires-clause-within : goal.work_all-requires-clause-within
-work_all-requires-clause-within g c κs within =
+work_all-requires-clause-within g c =
     let len = c.in-Ok.ensures.same.len in
     let some = c.requires.workers in
     place_within (length c.receive_batch.new.crew.items) c.in-Ok.batch.came c.in-Ok.batch.place c.in-Ok.ensures.place (omega (arith, len, some))
 
 pub work_all-requires-clause-shares : goal.work_all-requires-clause-shares
-work_all-requires-clause-shares g c κs within =
+work_all-requires-clause-shares g c =
     shares_here c.receive_batch.new.crew.items c.in-Ok.batch.came c.in-Ok.batch.place c.in-Ok.ensures.place c.in-Ok.ensures.came (roomy_after c.args.crew.now.items c.receive_batch.new.crew.items c.in-Ok.ensures.same c.requires.roomy)
 
 pub all_went-requires-clause-roomy : goal.all_went-requires-clause-roomy

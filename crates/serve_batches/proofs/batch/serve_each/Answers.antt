@@ -21,10 +21,10 @@ loop-progress-init g c = record {
 }
 
 pub serve_batch-requires-clause-can : goal.serve_batch-requires-clause-can
-serve_batch-requires-clause-can g c κs within = can_by_roles c.args.tables.now c.args.stores.now c.args.shelves.now c.args.crew.now.items c.loop-progress.crew.items c.loop-progress.invariant.len c.loop-progress.invariant.roles c.requires.can
+serve_batch-requires-clause-can g c = can_by_roles c.args.tables.now c.args.stores.now c.args.shelves.now c.args.crew.now.items c.loop-progress.crew.items c.loop-progress.invariant.len c.loop-progress.invariant.roles c.requires.can
 
 pub serve_batch-requires-clause-goes : goal.serve_batch-requires-clause-goes
-serve_batch-requires-clause-goes g c κs within = sym c.is_over.ensures ∙ c.if-is_over.false
+serve_batch-requires-clause-goes g c = sym c.is_over.ensures ∙ c.if-is_over.false
 
 pub returns-then-is_over-clause-all : goal.returns-then-is_over-clause-all
 returns-then-is_over-clause-all g c = inr (sym c.is_over.ensures ∙ c.if-is_over.true)

@@ -23,7 +23,7 @@ loop-left-preserved c =
     let some : 0 < c.loop-left.left = c.loop-left-test.true in
     let most : c.loop-left.left ≤ c.args.workers = inv.most in
     let up : c.loop-left.left ≡ (c.loop-left.left - 1) + 1 = omega (arith, some) in
-    let shift : Shift = record { worker = c.new.result; slots = c.take_slots-taken.result } in
+    let shift : Shift = record { worker = c.new.result; slots = c.take_slots-taken.result; given = 0; at = 0 } in
     let items : c.push_reserved.new.self.items ≡ c.loop-left.crew.items ++ shift ∷ [] = c.push_reserved.ensures.items in
     let worker : c.new.result ≡ new_hands tables stores shelves (l - 1) =
     c.new.ensures ∙ ap (λ p. hands p c.take_last-peers.result c.take_last-items.result) c.take_last-table.ensures.last
