@@ -1,5 +1,5 @@
 -- Over the parts of a value that stands at the front.
-use Rattle.std.proofs.Common.{◌≡◌, ℕ, suc, ◌+◌, ◌-◌, ◌<◌, ◌≤◌, true, false, List, [], ◌∷◌, ◌++◌, length, take, drop, get_or, Some, None, sym, ap, ◌∙◌, arith, inl, inr, ⊎_elim, append_assoc, length-append, length-drop, append-nil}
+use Rattle.std.proofs.Common.{subst, ◌≡◌, ℕ, suc, ◌+◌, ◌-◌, ◌<◌, ◌≤◌, true, false, List, [], ◌∷◌, ◌++◌, length, take, drop, get_or, Some, None, sym, ap, ◌∙◌, arith, inl, inr, ⊎_elim, append_assoc, length-append, length-drop, append-nil}
 use Rattle.std.proofs.lemmas.Bool.{cases_lt}
 use Rattle.std.proofs.lemmas.List.{length-take-le, take_more}
 use Rattle.std.proofs.Math.Seq.{take-append_seam}
@@ -200,3 +200,10 @@ module _ (bytes : List ℕ) (t : Value) (b : Begins bytes t) where
     pub string_behind : (p : Place) (s : List ℕ) (next : ℕ) → opens p ≡ depth → next ≤ length bytes → Reached bytes next (stored p s) → IsBehind bytes t next depth
     string_behind (AsValue os) s next d k r = behind_filled os (value.Text s) next depth d k r
     string_behind (AsKey os ps) s next d k r = behind_open (AsValue (InPair ps s ∷ os)) next depth d (omega (arith, d)) k r
+
+  -- a list or a dictionary that closes where it opens
+  pub empty_closes : (at depth : ℕ) → IsBehind bytes t (at + 1) (depth + 1) → HasByte bytes (at + 1) 101 true → IsBehind bytes t (at + 2) depth
+  empty_closes at depth o h =
+      let next : (at + 1) + 1 ≡ at + 2 = omega arith in
+      let left : (depth + 1) - 1 ≡ depth = omega arith in
+      subst (λ n. IsBehind bytes t n depth) next (subst (IsBehind bytes t ((at + 1) + 1)) left (closes (at + 1) (depth + 1) (o.goes_on (omega arith)) h).1)

@@ -219,8 +219,8 @@ fn string_part(bytes: &[u8], at: usize, depth: usize) -> Option<(usize, usize)>
     }
 }
 
-/// The next part of a value: a string, an integer, or where a list or a dictionary opens or closes. It says where the part
-/// ends, and how many are open there.
+/// The next part of a value: a string, an integer, an empty list or dictionary, or where another opens or closes. It says where
+/// the part ends, and how many are open there.
 #[inline(always)]
 fn part_at(bytes: &[u8], at: usize, depth: usize) -> Option<(usize, usize)>
     requires within { at < length bytes.now }
@@ -233,9 +233,15 @@ fn part_at(bytes: &[u8], at: usize, depth: usize) -> Option<(usize, usize)>
         return string_part(bytes, at, depth);
     }
     if has_byte(bytes, at, b'l') {
+        if has_byte(bytes, at + 1, b'e') {
+            return Some((at + 2, depth));
+        }
         return Some((at + 1, depth + 1));
     }
     if has_byte(bytes, at, b'd') {
+        if has_byte(bytes, at + 1, b'e') {
+            return Some((at + 2, depth));
+        }
         return Some((at + 1, depth + 1));
     }
     if has_byte(bytes, at, b'e') {

@@ -64,11 +64,17 @@ fn value_at(bytes: &[u8], at: usize, depth: usize) -> Result<usize, Bad>
         if depth == MAX_DEPTH {
             return Err(Bad::Deep { at });
         }
+        if has_byte(bytes, at + 1, b'e') {
+            return Ok(at + 2);
+        }
         return list_at(bytes, at + 1, depth + 1);
     }
     if has_byte(bytes, at, b'd') {
         if depth == MAX_DEPTH {
             return Err(Bad::Deep { at });
+        }
+        if has_byte(bytes, at + 1, b'e') {
+            return Ok(at + 2);
         }
         return dictionary_at(bytes, at + 1, depth + 1);
     }
