@@ -6,8 +6,9 @@ use Rattle.std.specs.Ordering.{is_eq}
 use Rattle.std.specs.declared.cmp.Ordering.TheVariants.{Less, Greater}
 use Rattle.std.proofs.lemmas.Cmp.{nat_list_cmp_total}
 use Rattle.std.proofs.lemmas.List.{length-drop, length-take-le, take-append-le, take-take, drop-take, drop-drop, drop_at}
+use Rattle.std.proofs.lemmas.List.Edits.{take-paste}
 use Rattle.std.proofs.lemmas.Slice.{take-put_mid}
-use Rattle.std.proofs.Math.Seq.{take-suc, take-set-lt, set-append_seam}
+use Rattle.std.proofs.Math.Seq.{take-suc, take-set-lt, set-append_seam, paste}
 use Rattle.std.proofs.Math.ListN.{set}
 use borrow.Rule.Slice.PartMut.{put_mid}
 use Rattle.kad_bencode.specs.Keys.{key_cmp, keys_of}
@@ -155,30 +156,50 @@ moved_whole old first post ys count i h r d e =
     ∙ take-append-le n (take n (drop i old)) post (omega (arith, all))
     ∙ take-take n n (drop i old) (omega arith)
 
--- a place put in among others
-pub put_among : (old ys : List ℕ) (count i x k : ℕ) → i ≤ count → count < length old
-    → ys ≡ take (count - i) (drop i old)
-    → take (count + 1) (set (put_mid (i + 1) k old ys) i x) ≡ insert (take count old) i x
-put_among old ys count i x k h r e =
+-- a place put where the others were moved up by one
+pub put_over : (old moved : List ℕ) (count i x : ℕ) → i ≤ count → count < length old
+    → take (count + 1) moved ≡ take (i + 1) old ++ take (count - i) (drop i old)
+    → take (count + 1) (set moved i x) ≡ insert (take count old) i x
+put_over old moved count i x h r e =
     let n : ℕ = count - i in
     let z : ℕ = get_or old i 0 in
-    let l = length-drop i old in
     let whole : i + n ≡ count = omega (arith, h) in
     let long : length (take i old) ≡ i = length-take-le i old (omega (arith, h, r)) in
-    let all : length (take n (drop i old)) ≡ n = length-take-le n (drop i old) (omega (arith, h, r, l)) in
-    let many : length ys ≡ n = ap length e ∙ all in
     let one : take (i + 1) old ≡ take i old ++ z ∷ [] =
     (let f : i + 1 ≡ suc i = omega arith in ap (λ m. take m old) f)
     ∙ take-suc old i 0 (omega (arith, h, r)) in
-    take-set-lt (count + 1) (put_mid (i + 1) k old ys) i x (omega (arith, h))
-    ∙ ap (λ l. set l i x) (take-put_mid (i + 1) k old ys (count + 1) (omega (arith, h, many)) (omega (arith, h, r))
-    ∙ ap (λ f. take (i + 1) old ++ f) e
+    take-set-lt (count + 1) moved i x (omega (arith, h))
+    ∙ ap (λ l. set l i x) (e
     ∙ ap (λ f. f ++ take n (drop i old)) one
     ∙ append_assoc (take i old) (z ∷ []) (take n (drop i old)))
     ∙ ap (λ m. set (take i old ++ z ∷ take n (drop i old)) m x) (sym long)
     ∙ set-append_seam (take i old) z (take n (drop i old)) x
     ∙ sym (ap (λ f. f ++ x ∷ drop i (take count old)) (take-take i count old h)
     ∙ ap (λ b. take i old ++ x ∷ b) (ap (λ m. drop i (take m old)) (sym whole) ∙ drop-take i n old))
+
+-- a place put in among others
+pub put_among : (old ys : List ℕ) (count i x k : ℕ) → i ≤ count → count < length old
+    → ys ≡ take (count - i) (drop i old)
+    → take (count + 1) (set (put_mid (i + 1) k old ys) i x) ≡ insert (take count old) i x
+put_among old ys count i x k h r e =
+    let n : ℕ = count - i in
+    let l = length-drop i old in
+    let all : length (take n (drop i old)) ≡ n = length-take-le n (drop i old) (omega (arith, h, r, l)) in
+    let many : length ys ≡ n = ap length e ∙ all in
+    put_over old (put_mid (i + 1) k old ys) count i x h r
+    (take-put_mid (i + 1) k old ys (count + 1) (omega (arith, h, many)) (omega (arith, h, r))
+    ∙ ap (λ f. take (i + 1) old ++ f) e)
+
+-- the same where they were moved within
+pub put_within : (old : List ℕ) (count i x : ℕ) → i ≤ count → count < length old
+    → take (count + 1) (set (paste old (i + 1) (drop i old) (count - i)) i x) ≡ insert (take count old) i x
+put_within old count i x h r =
+    let n : ℕ = count - i in
+    let l = length-drop i old in
+    let whole : i + 1 + n ≡ count + 1 = omega (arith, h) in
+    put_over old (paste old (i + 1) (drop i old) n) count i x h r
+    (subst (λ m. take m (paste old (i + 1) (drop i old) n) ≡ take (i + 1) old ++ take n (drop i old)) whole
+    (take-paste old (i + 1) (drop i old) n (omega (arith, h, r)) (omega (arith, h, r, l))))
 
 -- ---- one more key
 

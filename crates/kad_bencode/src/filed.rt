@@ -106,14 +106,31 @@ fn is_before(bytes: &[u8], places: &[u16], i: usize, key: &[u8]) -> bool
     is_above(key_at(bytes, places[i] as usize), key)
 }
 
-/// Puts a place in among so many. Those after it are moved as a whole, by way of the room: a move one by one takes longer
-/// than all else does.
+/// How many places are moved one by one.
+const NEAR: usize = 24;
+
+/// Puts a place in among so many, a few before the end.
+fn put_near(places: &mut [u16; MOST], count: usize, i: usize, at: u16)
+    requires order { i ≤ count }
+    requires room { count < 768 }
+    ensures { take (count + 1) places.new ≡ insert (take count places.old) i at }
+{
+    places.copy_within(i..count, i + 1);
+    places[i] = at;
+}
+
+/// Puts a place in among so many. Many that come after it are moved as a whole, by way of the room: a move one by one takes
+/// longer than all else does.
 fn put_in(places: &mut [u16; MOST], room: &mut [u16; MOST], count: usize, i: usize, at: u16)
     requires order { i ≤ count }
     requires room { count < 768 }
     ensures { take (count + 1) places.new ≡ insert (take count places.old) i at }
 {
     let after = count - i;
+    if after < NEAR {
+        put_near(places, count, i, at);
+        return;
+    }
     room[..after].copy_from_slice(&places[i..count]);
     places[i + 1..count + 1].copy_from_slice(&room[..after]);
     places[i] = at;

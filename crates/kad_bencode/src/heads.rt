@@ -41,6 +41,55 @@ pub(crate) fn head_of(key: &[u8]) -> u128 {
     ((first << 56 | (second >> 8) as u128) << 7) | key.len().min(IN_HEAD + 1) as u128
 }
 
+/// How many keys are few.
+pub(crate) const FEW_KEYS: usize = 96;
+
+/// The heads of a few keys, in no order: so many that are below another one are counted without a branch.
+#[derive(Drop)]
+pub(crate) struct FewHeads {
+    heads: [u64; FEW_KEYS],
+    count: usize,
+}
+
+/// The first seven bytes of a key and its length as a number, as `head_of` has more of them.
+pub(crate) fn short_head_of(key: &[u8]) -> u64 {
+    (word_of(key) >> 8 << 4) | key.len().min(8) as u64
+}
+
+impl FewHeads {
+    #[inline(always)]
+    pub(crate) fn new() -> FewHeads {
+        FewHeads {
+            heads: [0; FEW_KEYS],
+            count: 0,
+        }
+    }
+
+    /// Keeps the heads of the keys that stand at these places.
+    pub(crate) fn keep_all(&mut self, bytes: &[u8], places: &[u16]) {
+        for place in places {
+            self.keep(short_head_of(key_at(bytes, *place as usize)));
+        }
+    }
+
+    /// How many of the heads are below this one.
+    pub(crate) fn below(&self, head: u64) -> usize {
+        let mut found = 0;
+        for other in &self.heads[..self.count.min(FEW_KEYS)] {
+            found = (other.wrapping_sub(head) >> 63).wrapping_add(found);
+        }
+        found as usize
+    }
+
+    /// Keeps one more, if there is room.
+    pub(crate) fn keep(&mut self, head: u64) {
+        if self.count < FEW_KEYS {
+            self.heads[self.count] = head;
+            self.count += 1;
+        }
+    }
+}
+
 /// 1 where the first head is below the second, and 0 elsewhere. It is computed: where keys come in any order, a processor
 /// guesses every second branch wrong.
 fn is_lower(a: u128, b: u128) -> usize

@@ -191,7 +191,7 @@ pub(crate) fn has_byte(bytes: &[u8], at: usize, byte: u8) -> bool
 }
 
 /// Whether a digit stands at a place.
-fn has_digit(bytes: &[u8], at: usize) -> bool
+pub(crate) fn has_digit(bytes: &[u8], at: usize) -> bool
     requires { at < length bytes.now }
     ensures least { IsTrue result → 48 ≤ get_or bytes.now at 0 }
     ensures most { IsTrue result → get_or bytes.now at 0 ≤ 57 }

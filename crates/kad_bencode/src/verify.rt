@@ -1,5 +1,5 @@
 //! Whether bytes spell a value (BEP 3), without memory.
-ghost use Rattle.std.specs.Prelude.{◌≡◌, ℕ, suc, ◌+◌, ◌<◌, ◌≤◌, not, List, [], ◌∷◌, length, IsOk, IfOk, IfErr, OnOk, get_or, Err, MatchOption, true};
+ghost use Rattle.std.specs.Prelude.{◌≡◌, ℕ, suc, ◌+◌, ◌<◌, ◌≤◌, not, List, [], ◌∷◌, length, IsOk, IfOk, IfErr, IfSome, OnOk, get_or, Err, MatchOption, true};
 ghost use Rattle.kad_bencode.specs.Keys.{keys_of, key_cmp};
 ghost use Rattle.kad_bencode.specs.Spelling.{Spells};
 ghost use Rattle.kad_bencode.specs.Faults.{Open, InList, IsFirstFault};
@@ -11,17 +11,15 @@ ghost use Rattle.kad_bencode.specs.Scanning.{Scans};
 ghost use Rattle.kad_bencode.specs.Finding.{IsNext};
 ghost use Rattle.kad_bencode.specs.Filing.{AreFiled};
 
-use crate::filed::{MOST, file, file_all, guess, has_key, is_above, is_new, place_of};
-use crate::heads::{Heads, head_of};
+use crate::filed::{MOST, file, file_all, guess, has_key, is_above, is_new};
+use crate::heads::{FEW_KEYS, FewHeads, Heads, head_of, short_head_of};
 use crate::reader::MAX_DEPTH;
-use crate::scan::{has_byte, integer_at, string_at};
+use crate::scan::{has_byte, has_digit, integer_at, short_end, string_at};
 use crate::value::Bad;
 
 /// How many bytes of pairs are few.
-const FEW_BYTES: usize = 16;
+const FEW_BYTES: usize = 8;
 
-/// How many keys are few.
-const FEW_KEYS: usize = 32;
 
 /// Whether the bytes spell a value, all of them, or the fault that is seen first.
 #[inline(always)]
@@ -64,22 +62,37 @@ fn value_at(bytes: &[u8], at: usize, depth: usize) -> Result<usize, Bad>
         if depth == MAX_DEPTH {
             return Err(Bad::Deep { at });
         }
-        if has_byte(bytes, at + 1, b'e') {
-            return Ok(at + 2);
-        }
         return list_at(bytes, at + 1, depth + 1);
     }
     if has_byte(bytes, at, b'd') {
         if depth == MAX_DEPTH {
             return Err(Bad::Deep { at });
         }
-        if has_byte(bytes, at + 1, b'e') {
-            return Ok(at + 2);
-        }
         return dictionary_at(bytes, at + 1, depth + 1);
     }
     let (_, next) = string_at(bytes, at)?;
     Ok(next)
+}
+
+/// The same. Most values are short strings, or empty, and are passed without a call.
+#[cycle(checking)]
+#[inline(always)]
+fn item_at(bytes: &[u8], at: usize, depth: usize) -> Result<usize, Bad>
+    requires within { at ≤ length bytes.now }
+    requires depth { depth ≤ 16 }
+    ensures moves { IfOk result (λ next. (at < next) × (next ≤ length bytes.now)) }
+    ensures reads { (os : List Open) → length os ≡ depth → Awaits bytes.now at os
+        → Scans bytes.now result (ReadsValue bytes.now at os) }
+{
+    if let Some(next) = text_end(bytes, at) {
+        return Ok(next);
+    }
+    if depth < MAX_DEPTH {
+        if let Some(next) = empty_end(bytes, at) {
+            return Ok(next);
+        }
+    }
+    value_at(bytes, at, depth)
 }
 
 /// Where a list ends whose first value comes next, if it has one.
@@ -94,7 +107,7 @@ fn list_at(bytes: &[u8], from: usize, depth: usize) -> Result<usize, Bad>
 {
     let mut at = from;
     'values: while !has_byte(bytes, at, b'e') {
-        at = value_at(bytes, at, depth)?;
+        at = item_at(bytes, at, depth)?;
     }
     Ok(at + 1)
 }
@@ -117,7 +130,7 @@ fn dictionary_at(bytes: &[u8], from: usize, depth: usize) -> Result<usize, Bad>
             return small_at(bytes, from, at, depth);
         }
         greatest = key;
-        at = value_at(bytes, behind, depth)?;
+        at = item_at(bytes, behind, depth)?;
     }
     Ok(at + 1)
 }
@@ -144,7 +157,7 @@ fn small_at(bytes: &[u8], from: usize, start: usize, depth: usize) -> Result<usi
         if has_key(&bytes[from..at], key) {
             return Err(Bad::KeyTwice { at });
         }
-        at = value_at(bytes, behind, depth)?;
+        at = item_at(bytes, behind, depth)?;
     }
     Ok(at + 1)
 }
@@ -164,24 +177,27 @@ fn unsorted_at(bytes: &[u8], from: usize, start: usize, depth: usize) -> Result<
     let mut places = [0u16; MOST];
     let mut room = [0u16; MOST];
     let mut count = file_all(bytes, from, start, &mut places, &mut room);
+    let mut heads = FewHeads::new();
+    heads.keep_all(bytes, &places[..count.min(MOST)]);
     let mut at = start;
     'loose: while !has_byte(bytes, at, b'e') {
         if count >= FEW_KEYS {
             return many_at(bytes, from, at, depth, &places, count);
         }
         let (key, behind) = string_at(bytes, at)?;
-        let sought = place_of(bytes, &places[..count], key);
-        count = file(bytes, &mut places, &mut room, count, at, key, sought);
+        let head = short_head_of(key);
+        count = file(bytes, &mut places, &mut room, count, at, key, heads.below(head));
+        heads.keep(head);
         if !is_new(&bytes[from..at], count, key) {
             return Err(Bad::KeyTwice { at });
         }
-        at = value_at(bytes, behind, depth)?;
+        at = item_at(bytes, behind, depth)?;
     }
     Ok(at + 1)
 }
 
 /// The same where so many keys are filed. The place of a further one is sought by the heads, which take longer to clear than
-/// a few keys to compare.
+/// a few to count.
 #[cycle(checking)]
 #[inline(never)]
 fn many_at(
@@ -217,9 +233,43 @@ fn many_at(
         if !is_new(&bytes[from..at], count, key) {
             return Err(Bad::KeyTwice { at });
         }
-        at = value_at(bytes, behind, depth)?;
+        at = item_at(bytes, behind, depth)?;
     }
     Ok(at + 1)
+}
+
+/// Where the string at a place ends, as a value, if its length is one digit.
+#[inline(always)]
+fn text_end(bytes: &[u8], at: usize) -> Option<usize>
+    ensures moves { IfSome result (λ next. (at < next) × (next ≤ length bytes.now)) }
+    ensures reads { (os : List Open) → Awaits bytes.now at os
+        → IfSome result (ReadsValue bytes.now at os) }
+{
+    if at < bytes.len() {
+        if has_digit(bytes, at) {
+            return short_end(bytes, at);
+        }
+    }
+    None
+}
+
+/// Where the empty list or dictionary at a place ends, if one stands there.
+#[inline(always)]
+fn empty_end(bytes: &[u8], at: usize) -> Option<usize>
+    requires { at ≤ length bytes.now }
+    ensures moves { IfSome result (λ next. (at < next) × (next ≤ length bytes.now)) }
+    ensures reads { (os : List Open) → length os < 16 → Awaits bytes.now at os
+        → IfSome result (ReadsValue bytes.now at os) }
+{
+    if has_byte(bytes, at + 1, b'e') {
+        if has_byte(bytes, at, b'l') {
+            return Some(at + 2);
+        }
+        if has_byte(bytes, at, b'd') {
+            return Some(at + 2);
+        }
+    }
+    None
 }
 
 /// Whether a key is the first, or above the greatest.

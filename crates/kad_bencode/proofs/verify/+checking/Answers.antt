@@ -1,8 +1,8 @@
-use Rattle.std.proofs.Common.{◌+◌, ◌≡◌, ◌≤◌, nat_eq, sym, subst, [], ◌∷◌, refl, ◌∙◌, arith, inl, inr}
+use Rattle.std.proofs.Common.{◌≤◌, nat_eq, sym, subst, [], ◌∷◌, refl, ◌∙◌, arith, inl, inr}
 use Rattle.std.proofs.lemmas.Result.{err_from_is_err_and}
 use Rattle.kad_bencode.specs.Keys.{keys_of}
 use Rattle.kad_bencode.specs.Faults.{InList, InPair}
-use Rattle.kad_bencode.specs.Machine.{AsKey, AsValue, ReadsValue}
+use Rattle.kad_bencode.specs.Machine.{AsKey, AsValue}
 use Rattle.kad_bencode.proofs.Nested.{awaits_integer, integer_value, begun, too_deep, list_opened, dictionary_opened, opened_value, awaits_text, text_value, list_awaits, list_more, list_ends, PairsSoFar, pairs_await, key_twice, key_new, pairs_more, pairs_end}
 use Rattle.kad_bencode.proofs.Verifying.{handed, widened, are_pairs, up_to_more, next_key, not_new, is_fresh}
 use Rattle.kad_bencode.proofs.Limits.{keys_push}
@@ -24,32 +24,22 @@ value_at-returns-then-has_byte-2-clause-reads t c os d a =
     widened c.args.bytes.now c.list_at.result _ _ (opened_value c.args.bytes.now c.args.at os)
     (c.list_at.ensures.reads os (omega (arith, d)) (list_opened c.args.bytes.now c.args.at os a c.if-has_byte-2.ensures) a.fits)
 
+pub value_at-returns-then-depth-eq-MAX_DEPTH-2-clause-reads : goal.value_at-returns-then-depth-eq-MAX_DEPTH-2-clause-reads
+value_at-returns-then-depth-eq-MAX_DEPTH-2-clause-reads t c os d a = too_deep c.args.bytes.now c.args.at os a (d ∙ c.if-depth-eq-MAX_DEPTH-2.true) (inr (begun c.args.bytes.now c.args.at 100 c.if-has_byte-3.ensures))
+
 pub value_at-returns-then-has_byte-3-clause-reads : goal.value_at-returns-then-has_byte-3-clause-reads
 value_at-returns-then-has_byte-3-clause-reads t c os d a =
-    let next : (c.args.at + 1) + 1 ≡ c.args.at + 2 = omega arith in
-    subst (ReadsValue c.args.bytes.now c.args.at os) next (opened_value c.args.bytes.now c.args.at os _ (list_ends c.args.bytes.now (c.args.at + 1) (c.args.at + 1) os (record { trees = []; reached = list_opened c.args.bytes.now c.args.at os a c.if-has_byte-2.ensures; fits = tt }) (let few = c.requires.depth in let deep = c.if-depth-eq-MAX_DEPTH.false in omega (arith, d, few, deep)) (omega arith) c.if-has_byte-3.ensures))
-
-pub value_at-returns-then-has_byte-5-clause-reads : goal.value_at-returns-then-has_byte-5-clause-reads
-value_at-returns-then-has_byte-5-clause-reads t c os d a =
-    let next : (c.args.at + 1) + 1 ≡ c.args.at + 2 = omega arith in
-    subst (ReadsValue c.args.bytes.now c.args.at os) next (opened_value c.args.bytes.now c.args.at os _ (pairs_end c.args.bytes.now (c.args.at + 1) (c.args.at + 1) os (record { pairs = []; reached = dictionary_opened c.args.bytes.now c.args.at os a c.if-has_byte-4.ensures; fits = (let few = c.requires.depth in let deep = c.if-depth-eq-MAX_DEPTH-2.false in omega (arith, d, few, deep), tt, refl) }) (omega arith) c.if-has_byte-5.ensures))
-
-pub value_at-returns-then-depth-eq-MAX_DEPTH-2-clause-reads : goal.value_at-returns-then-depth-eq-MAX_DEPTH-2-clause-reads
-value_at-returns-then-depth-eq-MAX_DEPTH-2-clause-reads t c os d a = too_deep c.args.bytes.now c.args.at os a (d ∙ c.if-depth-eq-MAX_DEPTH-2.true) (inr (begun c.args.bytes.now c.args.at 100 c.if-has_byte-4.ensures))
-
-pub value_at-returns-then-has_byte-4-clause-reads : goal.value_at-returns-then-has_byte-4-clause-reads
-value_at-returns-then-has_byte-4-clause-reads t c os d a =
     widened c.args.bytes.now c.dictionary_at.result _ _ (opened_value c.args.bytes.now c.args.at os)
-    (c.dictionary_at.ensures.reads os (omega (arith, d)) (dictionary_opened c.args.bytes.now c.args.at os a c.if-has_byte-4.ensures) a.fits)
+    (c.dictionary_at.ensures.reads os (omega (arith, d)) (dictionary_opened c.args.bytes.now c.args.at os a c.if-has_byte-3.ensures) a.fits)
 
 pub value_at-returns-in_err-next-2-clause-reads : goal.value_at-returns-in_err-next-2-clause-reads
 value_at-returns-in_err-next-2-clause-reads t c os d a =
     let p = err_from_is_err_and c.from_residual-in_err-next-2.result c.from_residual-in_err-next-2.ensures.1 in
-    handed c.args.bytes.now c.from_residual-in_err-next-2.result _ p.0 _ p.1 p.2 (c.in_err-next-2.ensures.reads (AsValue os) (awaits_text c.args.bytes.now c.args.at os a c.if-has_byte.ensures c.if-has_byte-2.ensures c.if-has_byte-4.ensures))
+    handed c.args.bytes.now c.from_residual-in_err-next-2.result _ p.0 _ p.1 p.2 (c.in_err-next-2.ensures.reads (AsValue os) (awaits_text c.args.bytes.now c.args.at os a c.if-has_byte.ensures c.if-has_byte-2.ensures c.if-has_byte-3.ensures))
 
 pub value_at-returns-clause-reads : goal.value_at-returns-clause-reads
 value_at-returns-clause-reads t c os d a =
-    text_value c.args.bytes.now c.args.at os _ _ a (c.in_ok-next-2.ensures.reads (AsValue os) (awaits_text c.args.bytes.now c.args.at os a c.if-has_byte.ensures c.if-has_byte-2.ensures c.if-has_byte-4.ensures))
+    text_value c.args.bytes.now c.args.at os _ _ a (c.in_ok-next-2.ensures.reads (AsValue os) (awaits_text c.args.bytes.now c.args.at os a c.if-has_byte.ensures c.if-has_byte-2.ensures c.if-has_byte-3.ensures))
 
 -- ---- lists
 

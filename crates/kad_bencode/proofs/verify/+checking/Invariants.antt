@@ -11,13 +11,16 @@ use Rattle.kad_bencode.proofs.verify.+checking.Given as goal
 
 -- the lists and dictionaries that may still be opened
 abbrev pub decreases-value_at : goal.decreases-value_at
-decreases-value_at l = 5 * (16 - l.depth) + 1
+decreases-value_at l = 6 * (16 - l.depth) + 1
+
+abbrev pub decreases-item_at : goal.decreases-item_at
+decreases-item_at l = 6 * (16 - l.depth) + 2
 
 abbrev pub decreases-list_at : goal.decreases-list_at
-decreases-list_at l = 5 * (16 - l.depth) + 2
+decreases-list_at l = 6 * (16 - l.depth) + 3
 
 abbrev pub decreases-dictionary_at : goal.decreases-dictionary_at
-decreases-dictionary_at l = 5 * (16 - l.depth) + 5
+decreases-dictionary_at l = 6 * (16 - l.depth) + 6
 
 abbrev pub invariant-list_at-values : goal.invariant-list_at-values
 invariant-list_at-values l = record {
@@ -40,7 +43,7 @@ abbrev pub decreases-dictionary_at-pairs : goal.decreases-dictionary_at-pairs
 decreases-dictionary_at-pairs l = length l.bytes - l.at
 
 abbrev pub decreases-small_at : goal.decreases-small_at
-decreases-small_at l = 5 * (16 - l.depth) + 4
+decreases-small_at l = 6 * (16 - l.depth) + 5
 
 abbrev pub invariant-small_at-few : goal.invariant-small_at-few
 invariant-small_at-few l = record {
@@ -53,7 +56,7 @@ abbrev pub decreases-small_at-few : goal.decreases-small_at-few
 decreases-small_at-few l = length l.bytes - l.at
 
 abbrev pub decreases-unsorted_at : goal.decreases-unsorted_at
-decreases-unsorted_at l = 5 * (16 - l.depth) + 3
+decreases-unsorted_at l = 6 * (16 - l.depth) + 4
 
 abbrev pub invariant-unsorted_at-loose : goal.invariant-unsorted_at-loose
 invariant-unsorted_at-loose l = record {
@@ -66,7 +69,7 @@ abbrev pub decreases-unsorted_at-loose : goal.decreases-unsorted_at-loose
 decreases-unsorted_at-loose l = length l.bytes - l.at
 
 abbrev pub decreases-many_at : goal.decreases-many_at
-decreases-many_at l = 5 * (16 - l.depth) + 2
+decreases-many_at l = 6 * (16 - l.depth) + 3
 
 abbrev pub invariant-many_at-many : goal.invariant-many_at-many
 invariant-many_at-many l = record {
