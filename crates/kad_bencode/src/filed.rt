@@ -1,7 +1,7 @@
 //! A dictionary's keys, filed by the places where they stand, the lowest first. A key is known for new by its two
-//! neighbours there, whatever the others are. A few keys are sought by the keys themselves; where there are more, by their
-//! heads first, which are numbers, and by the keys only if that place isn't its own: some sixteen comparisons a key, and a
-//! move of the places after it.
+//! neighbours there, whatever the others are. Where it goes is first sought by the keys' heads, which are numbers: of a few
+//! keys those below are counted, among more there is a search. By the keys it is sought only if that place isn't its own. So
+//! many keys cost some sixteen comparisons each, and a move of the places after them.
 ghost use Rattle.std.specs.Prelude.{◌≡◌, ◌↔◌, ℕ, ◌+◌, ◌-◌, ◌<◌, ◌≤◌, List, [], ◌∷◌, ◌++◌, length, take, drop, not, true, false, IfSome};
 ghost use Rattle.std.specs.List.{insert};
 ghost use Rattle.kad_bencode.specs.Keys.{keys_of, key_cmp};

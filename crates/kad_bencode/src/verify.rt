@@ -20,7 +20,6 @@ use crate::value::Bad;
 /// How many bytes of pairs are few.
 const FEW_BYTES: usize = 8;
 
-
 /// Whether the bytes spell a value, all of them, or the fault that is seen first.
 #[inline(always)]
 pub fn check(bytes: &[u8]) -> Result<(), Bad>
@@ -186,7 +185,8 @@ fn unsorted_at(bytes: &[u8], from: usize, start: usize, depth: usize) -> Result<
         }
         let (key, behind) = string_at(bytes, at)?;
         let head = short_head_of(key);
-        count = file(bytes, &mut places, &mut room, count, at, key, heads.below(head));
+        let sought = heads.below(head);
+        count = file(bytes, &mut places, &mut room, count, at, key, sought);
         heads.keep(head);
         if !is_new(&bytes[from..at], count, key) {
             return Err(Bad::KeyTwice { at });
