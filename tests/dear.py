@@ -65,7 +65,7 @@ def pairs(keys):
 
 
 # How a place may be filled: the order of a dictionary's keys, how long they are, what they begin with, and how many each of many
-# small dictionaries has; 0: there is one.
+# small dictionaries has; 0: there is one; None: they stand one in another.
 ORDERS = {
     "falling": (falling, 2, b"", 0),
     "any order": (shuffled, 2, b"", 0),
@@ -76,19 +76,51 @@ ORDERS = {
     "any order, long, alike": (shuffled, 30, b"z" * 28, 0),
     "falling, five each": (falling, 1, b"", 5),
     "falling, fourteen each": (falling, 1, b"", 14),
+    "falling, one in another": (falling, 1, b"", None),
+    "ascending, one in another": (list, 1, b"", None),
 }
-SMALL = b"2:zzl"  # a key, and the list of small dictionaries under it
+UNDER = b"2:zz"  # the key of what is no pairs
+LEVELS = 12  # dictionaries one in another, as many as each place has room for
 
 
 def small(keys, room):
+    """A list of small dictionaries."""
     one = b"d" + pairs(keys) + b"e"
-    return SMALL + one * ((room - len(SMALL) - 1) // len(one)) + b"e"
+    return UNDER + b"l" + one * ((room - len(UNDER) - 2) // len(one)) + b"e"
+
+
+def nested(order, room):
+    """Dictionaries one in another, with one more key in each, and numbers in the innermost."""
+    front, behind = (b"", b"1:a0:") if order([0, 1]) == [1, 0] else (b"1:a0:", b"")
+    begin, end = UNDER + (b"d" + front + b"1:b") * LEVELS + b"l", b"e" + (behind + b"e") * LEVELS
+    return begin + b"i1e" * (max(room - len(begin + end), 0) // 3) + end
+
+
+def depth(fill):
+    """How many lists and dictionaries stand one in another in these pairs; any number if they are none."""
+    at = deep = most = 0
+    while at < len(fill):
+        first, colon = fill[at : at + 1], fill.find(b":", at)
+        if first.isdigit() and fill[at:colon].isdigit():
+            at = colon + int(fill[at:colon])
+        elif first in b"ld":
+            deep += 1
+            most = max(most, deep)
+        elif first == b"i":
+            at = fill.find(b"e", at) if b"e" in fill[at:] else len(fill)
+        else:
+            deep -= first == b"e"
+        at += 1
+    return min(most, DEEPEST - 2)
 
 
 def fills(room):
     """Pairs of about so many bytes, by each of the orders: as they stand, and ascending."""
     made = []
     for order, size, front, each in ORDERS.values():
+        if each is None:
+            made.append((nested(order, room), nested(list, room)))
+            continue
         if each:
             keys = [bytes([99 + number]) for number in range(each)]
             made.append((small(order(keys), room), small(keys, room)))
@@ -121,7 +153,7 @@ def put_in(place, fill, parts, front=b"", behind=b""):
     elif place == "v":
         more = b"1:vd" + fill + b"e"
     elif place == "nested":
-        outer = DEEPEST - (4 if fill.startswith(SMALL) else 2)
+        outer = DEEPEST - 2 - depth(fill)
         more = b"1:v" + b"d1:k" * outer + b"d" + fill + b"e" * (outer + 1)
     elif place == "plain":
         more = b"1:v" + text(fill)

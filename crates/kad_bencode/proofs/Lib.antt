@@ -19,6 +19,7 @@ pub mod Listing
 pub mod Putting
 pub mod Paired
 pub mod Filing
+pub mod Judging
 pub mod Parting
 pub mod Above
 pub mod Ascending

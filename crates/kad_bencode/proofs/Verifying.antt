@@ -1,5 +1,5 @@
 -- What is kept while bytes are checked.
-use Rattle.std.proofs.Common.{◌≡◌, ◌≢◌, ℕ, suc, ◌+◌, ◌-◌, ◌≤◌, Bool, true, false, not, cond, ◌||◌, List, [], ◌∷◌, ◌++◌, length, take, drop, Option, Some, option_map, is_some, Result, Ok, Err, IsOk, refl, sym, ap, ◌∙◌, subst, arith, append_assoc}
+use Rattle.std.proofs.Common.{◌≡◌, ◌≢◌, ℕ, suc, ◌+◌, ◌-◌, ◌≤◌, Bool, true, false, cond, ◌||◌, List, [], ◌∷◌, ◌++◌, length, take, drop, Option, Some, option_map, is_some, Result, Ok, Err, IsOk, refl, sym, ap, ◌∙◌, subst, arith, append_assoc}
 use Rattle.std.specs.List.{AllByRecursion}
 use Rattle.std.specs.Ordering.{is_eq}
 use Rattle.std.proofs.lemmas.List.{length-take-le, drop-take}
@@ -94,14 +94,6 @@ next_key bytes from at os ps r g true e greatest key told t h u =
     let empty : ps ≡ [] = same_pairs bytes from os ps [] (subst (λ n. Reached bytes n (Keyless os ps)) (e refl) g) r in
     subst (λ l. IsNew key (keys_of l) key) (sym empty) (record { new = refl; others = tt; itself = λ f. let z : false ≡ true = sym (ap is_eq f) ∙ same_key key in cc })
 next_key bytes from at os ps r g false e greatest key told t h u = new_greatest (keys_of ps) greatest key (subst (IsAbove (key_cmp key greatest)) t h) u
-
-pub not_new : (b told : Bool) → told ≡ not b → told ≡ false → b ≡ true
-not_new true told e f = refl
-not_new false told e f = absurd (let z : false ≡ true = sym f ∙ e in cc)
-
-pub is_fresh : (b told : Bool) → told ≡ not b → told ≡ true → b ≡ false
-is_fresh true told e f = absurd (let z : true ≡ false = sym f ∙ e in cc)
-is_fresh false told e f = refl
 
 -- ---- the answer is the only one
 

@@ -42,7 +42,7 @@ pub(crate) fn first_pair(pairs: &[u8]) -> Option<(&[u8], &[u8], &[u8])>
 }
 
 /// Whether two strings are the same.
-fn same(a: &[u8], b: &[u8]) -> bool
+pub(crate) fn same(a: &[u8], b: &[u8]) -> bool
     ensures { IsTrue result ↔ (a.now ≡ b.now) }
 {
     a == b

@@ -3,6 +3,7 @@
 #![tactic(auto)]
 
 mod built;
+mod distinct;
 pub mod entries;
 mod filed;
 mod find;

@@ -1,24 +1,21 @@
 //! Whether bytes spell a value (BEP 3), without memory.
-ghost use Rattle.std.specs.Prelude.{◌≡◌, ℕ, suc, ◌+◌, ◌<◌, ◌≤◌, not, List, [], ◌∷◌, length, IsOk, IfOk, IfErr, IfSome, OnOk, get_or, Err, MatchOption, true};
+ghost use Rattle.std.specs.Prelude.{◌≡◌, ℕ, suc, ◌+◌, ◌-◌, ◌<◌, ◌≤◌, not, List, [], ◌∷◌, length, take, drop, IsTrue, IsOk, IfOk, IfErr, IfSome, OnOk, get_or, Err, MatchOption, true};
 ghost use Rattle.kad_bencode.specs.Keys.{keys_of, key_cmp};
-ghost use Rattle.kad_bencode.specs.Spelling.{Spells};
-ghost use Rattle.kad_bencode.specs.Faults.{Open, InList, IsFirstFault};
+ghost use Rattle.kad_bencode.specs.Spelling.{Spells, has_key, string_text};
+ghost use Rattle.kad_bencode.specs.Faults.{Open, InList, IsAt, IsFirstFault};
 ghost use Rattle.kad_bencode.specs.Machine.{Awaits, ReadsValue, Reached, Ready, Keyless, FitsOpen, FitsPairs};
 ghost use Rattle.kad_bencode.specs.declared.entries.Pair.{Pair};
 ghost use Rattle.kad_bencode.specs.declared.value.Value.{Value};
 ghost use Rattle.kad_bencode.specs.declared.value.Bad.{Bad};
 ghost use Rattle.kad_bencode.specs.Scanning.{Scans};
-ghost use Rattle.kad_bencode.specs.Finding.{IsNext};
-ghost use Rattle.kad_bencode.specs.Filing.{AreFiled};
+ghost use Rattle.kad_bencode.specs.Finding.{ArePairs, IsNext};
+ghost use Rattle.kad_bencode.specs.Filing.{own, Differ, AreKeys, Noted};
 
-use crate::filed::{MOST, file, file_all, guess, has_key, is_above, is_new};
-use crate::heads::{FEW_KEYS, FewHeads, Heads, head_of, short_head_of};
+use crate::distinct::first_twice;
+use crate::filed::{MOST, has_key, is_above, key_at, note};
 use crate::reader::MAX_DEPTH;
 use crate::scan::{has_byte, has_digit, integer_at, short_end, string_at};
 use crate::value::Bad;
-
-/// How many bytes of pairs are few.
-const FEW_BYTES: usize = 8;
 
 /// Whether the bytes spell a value, all of them, or the fault that is seen first.
 #[inline(always)]
@@ -36,20 +33,28 @@ pub fn check(bytes: &[u8]) -> Result<(), Bad>
 fn whole(bytes: &[u8]) -> Result<(), Bad>
     ensures { Scans bytes.now result (λ _. (v : Value) × Spells bytes.now v) }
 {
-    let next = value_at(bytes, 0, 0)?;
+    let mut places = [0u16; MOST];
+    let next = value_at(bytes, 0, 0, &mut places, 0)?;
     if next < bytes.len() {
         return Err(Bad::Trailing { at: next });
     }
     Ok(())
 }
 
-/// Where the value at a place ends, where that many lists and dictionaries are open.
+/// Where the value at a place ends, where that many lists and dictionaries are open, and so many of their keys are noted.
 #[cycle(checking)]
 #[inline(always)]
-fn value_at(bytes: &[u8], at: usize, depth: usize) -> Result<usize, Bad>
+fn value_at(
+    bytes: &[u8],
+    at: usize,
+    depth: usize,
+    places: &mut [u16; MOST],
+    top: usize,
+) -> Result<usize, Bad>
     requires within { at ≤ length bytes.now }
     requires depth { depth ≤ 16 }
     ensures moves { IfOk result (λ next. (at < next) × (next ≤ length bytes.now)) }
+    ensures frame { take top places.new ≡ take top places.old }
     ensures reads { (os : List Open) → length os ≡ depth → Awaits bytes.now at os
         → Scans bytes.now result (ReadsValue bytes.now at os) }
 {
@@ -61,13 +66,13 @@ fn value_at(bytes: &[u8], at: usize, depth: usize) -> Result<usize, Bad>
         if depth == MAX_DEPTH {
             return Err(Bad::Deep { at });
         }
-        return list_at(bytes, at + 1, depth + 1);
+        return list_at(bytes, at + 1, depth + 1, places, top);
     }
     if has_byte(bytes, at, b'd') {
         if depth == MAX_DEPTH {
             return Err(Bad::Deep { at });
         }
-        return dictionary_at(bytes, at + 1, depth + 1);
+        return dictionary_at(bytes, at + 1, depth + 1, places, top);
     }
     let (_, next) = string_at(bytes, at)?;
     Ok(next)
@@ -76,10 +81,17 @@ fn value_at(bytes: &[u8], at: usize, depth: usize) -> Result<usize, Bad>
 /// The same. Most values are short strings, or empty, and are passed without a call.
 #[cycle(checking)]
 #[inline(always)]
-fn item_at(bytes: &[u8], at: usize, depth: usize) -> Result<usize, Bad>
+fn item_at(
+    bytes: &[u8],
+    at: usize,
+    depth: usize,
+    places: &mut [u16; MOST],
+    top: usize,
+) -> Result<usize, Bad>
     requires within { at ≤ length bytes.now }
     requires depth { depth ≤ 16 }
     ensures moves { IfOk result (λ next. (at < next) × (next ≤ length bytes.now)) }
+    ensures frame { take top places.new ≡ take top places.old }
     ensures reads { (os : List Open) → length os ≡ depth → Awaits bytes.now at os
         → Scans bytes.now result (ReadsValue bytes.now at os) }
 {
@@ -91,151 +103,199 @@ fn item_at(bytes: &[u8], at: usize, depth: usize) -> Result<usize, Bad>
             return Ok(next);
         }
     }
-    value_at(bytes, at, depth)
+    value_at(bytes, at, depth, places, top)
 }
 
 /// Where a list ends whose first value comes next, if it has one.
 #[cycle(checking)]
-fn list_at(bytes: &[u8], from: usize, depth: usize) -> Result<usize, Bad>
+fn list_at(
+    bytes: &[u8],
+    from: usize,
+    depth: usize,
+    places: &mut [u16; MOST],
+    top: usize,
+) -> Result<usize, Bad>
     requires within { from ≤ length bytes.now }
     requires depth { depth ≤ 16 }
     ensures moves { IfOk result (λ next. (from < next) × (next ≤ length bytes.now)) }
+    ensures frame { take top places.new ≡ take top places.old }
     ensures reads { (os : List Open) → suc (length os) ≡ depth
         → Reached bytes.now from (Ready (InList [] ∷ os)) → FitsOpen os
         → Scans bytes.now result (ReadsValue bytes.now from os) }
 {
     let mut at = from;
     'values: while !has_byte(bytes, at, b'e') {
-        at = item_at(bytes, at, depth)?;
+        at = item_at(bytes, at, depth, places, top)?;
     }
     Ok(at + 1)
 }
 
-/// Where a dictionary ends whose first key comes next, if it has one.
+/// Where a dictionary ends whose first key comes next, if it has one. Each key's place is noted before its value is read.
 #[cycle(checking)]
-fn dictionary_at(bytes: &[u8], from: usize, depth: usize) -> Result<usize, Bad>
+fn dictionary_at(
+    bytes: &[u8],
+    from: usize,
+    depth: usize,
+    places: &mut [u16; MOST],
+    base: usize,
+) -> Result<usize, Bad>
     requires within { from ≤ length bytes.now }
     requires depth { depth ≤ 16 }
     ensures moves { IfOk result (λ next. (from < next) × (next ≤ length bytes.now)) }
+    ensures frame { take base places.new ≡ take base places.old }
     ensures reads { (os : List Open) → suc (length os) ≡ depth
         → Reached bytes.now from (Keyless os []) → FitsOpen os
         → Scans bytes.now result (ReadsValue bytes.now from os) }
 {
     let mut at = from;
+    let mut top = base;
     let mut greatest = &bytes[from..from];
     'pairs: while !has_byte(bytes, at, b'e') {
         let (key, behind) = string_at(bytes, at)?;
         if !is_next(at == from, greatest, key) {
-            return small_at(bytes, from, at, depth);
+            return unsorted_at(bytes, from, at, depth, places, base, top);
         }
         greatest = key;
-        at = item_at(bytes, behind, depth)?;
+        top = note(places, top, at);
+        at = item_at(bytes, behind, depth, places, top)?;
     }
     Ok(at + 1)
 }
 
-/// Where a dictionary ends that has pairs from `from` to `start`, and whose next key isn't above all of theirs. While its
-/// pairs take few bytes, each key is sought among all of them: rows of places would take longer to clear.
+/// Where a dictionary ends that has pairs from `from` to `start`, whose keys' places are noted from `base` to `noted`, and whose
+/// next key isn't above all of theirs. It notes the others too, and looks for one that stands twice when all are, or at the first
+/// other fault.
 #[cycle(checking)]
-fn small_at(bytes: &[u8], from: usize, start: usize, depth: usize) -> Result<usize, Bad>
-    requires order { from ≤ start }
-    requires within { start ≤ length bytes.now }
-    requires depth { depth ≤ 16 }
-    ensures moves { IfOk result (λ next. (start < next) × (next ≤ length bytes.now)) }
-    ensures reads { (os : List Open) (pairs : List (Pair Value)) → suc (length os) ≡ depth
-        → Reached bytes.now from (Keyless os []) → FitsOpen os
-        → Reached bytes.now start (Keyless os pairs) → FitsPairs os pairs
-        → Scans bytes.now result (ReadsValue bytes.now from os) }
-{
-    let mut at = start;
-    'few: while !has_byte(bytes, at, b'e') {
-        if at - from > FEW_BYTES {
-            return unsorted_at(bytes, from, at, depth);
-        }
-        let (key, behind) = string_at(bytes, at)?;
-        if has_key(&bytes[from..at], key) {
-            return Err(Bad::KeyTwice { at });
-        }
-        at = item_at(bytes, behind, depth)?;
-    }
-    Ok(at + 1)
-}
-
-/// The same for any dictionary. It files its keys in order, so that a new one is known by its neighbours alone.
-#[cycle(checking)]
-fn unsorted_at(bytes: &[u8], from: usize, start: usize, depth: usize) -> Result<usize, Bad>
-    requires order { from ≤ start }
-    requires within { start ≤ length bytes.now }
-    requires depth { depth ≤ 16 }
-    ensures moves { IfOk result (λ next. (start < next) × (next ≤ length bytes.now)) }
-    ensures reads { (os : List Open) (pairs : List (Pair Value)) → suc (length os) ≡ depth
-        → Reached bytes.now from (Keyless os []) → FitsOpen os
-        → Reached bytes.now start (Keyless os pairs) → FitsPairs os pairs
-        → Scans bytes.now result (ReadsValue bytes.now from os) }
-{
-    let mut places = [0u16; MOST];
-    let mut room = [0u16; MOST];
-    let mut count = file_all(bytes, from, start, &mut places, &mut room);
-    let mut heads = FewHeads::new();
-    heads.keep_all(bytes, &places[..count.min(MOST)]);
-    let mut at = start;
-    'loose: while !has_byte(bytes, at, b'e') {
-        if count >= FEW_KEYS {
-            return many_at(bytes, from, at, depth, &places, count);
-        }
-        let (key, behind) = string_at(bytes, at)?;
-        let head = short_head_of(key);
-        let sought = heads.below(head);
-        count = file(bytes, &mut places, &mut room, count, at, key, sought);
-        heads.keep(head);
-        if !is_new(&bytes[from..at], count, key) {
-            return Err(Bad::KeyTwice { at });
-        }
-        at = item_at(bytes, behind, depth)?;
-    }
-    Ok(at + 1)
-}
-
-/// The same where so many keys are filed. The place of a further one is sought by the heads, which take longer to clear than
-/// a few to count.
-#[cycle(checking)]
-#[inline(never)]
-fn many_at(
+fn unsorted_at(
     bytes: &[u8],
     from: usize,
     start: usize,
     depth: usize,
-    filed: &[u16; MOST],
-    so_many: usize,
+    places: &mut [u16; MOST],
+    base: usize,
+    noted: usize,
+) -> Result<usize, Bad>
+    requires order { from ≤ start }
+    requires within { start ≤ length bytes.now }
+    requires depth { depth ≤ 16 }
+    requires above { base ≤ noted }
+    ensures moves { IfOk result (λ next. (start < next) × (next ≤ length bytes.now)) }
+    ensures frame { take base places.new ≡ take base places.old }
+    ensures reads { (os : List Open) (pairs : List (Pair Value)) → suc (length os) ≡ depth
+        → Reached bytes.now from (Keyless os []) → FitsOpen os
+        → Reached bytes.now start (Keyless os pairs) → FitsPairs os pairs
+        → (noted ≤ 1024 → Noted bytes.now (own base noted places.old) os (keys_of pairs))
+        → Scans bytes.now result (ReadsValue bytes.now from os) }
+{
+    let mut at = start;
+    let mut top = noted;
+    'loose: while !has_byte(bytes, at, b'e') {
+        let behind = match string_at(bytes, at) {
+            Ok((_, behind)) => behind,
+            Err(bad) => {
+                return judged(bytes, from, start, depth, places, base, top, Err(bad));
+            }
+        };
+        top = note(places, top, at);
+        if top > MOST {
+            return searched_at(bytes, from, start, depth, places, top);
+        }
+        match item_at(bytes, behind, depth, places, top) {
+            Ok(next) => at = next,
+            Err(bad) => {
+                return judged(bytes, from, start, depth, places, base, top, Err(bad));
+            }
+        }
+    }
+    judged(bytes, from, start, depth, places, base, top, Ok(at + 1))
+}
+
+/// What is answered of a dictionary whose keys stand at the places from `base` to `top`: what is given, or that one of them
+/// stands twice. Where the order of the keys shows neither, each is sought.
+#[cycle(checking)]
+fn judged(
+    bytes: &[u8],
+    from: usize,
+    start: usize,
+    depth: usize,
+    places: &mut [u16; MOST],
+    base: usize,
+    top: usize,
+    end: Result<usize, Bad>,
+) -> Result<usize, Bad>
+    requires order { from ≤ start }
+    requires within { start ≤ length bytes.now }
+    requires depth { depth ≤ 16 }
+    requires above { base ≤ top }
+    requires moves { IfOk end (λ next. (start < next) × (next ≤ length bytes.now)) }
+    ensures moves { IfOk result (λ next. (start < next) × (next ≤ length bytes.now)) }
+    ensures frame { take base places.new ≡ take base places.old }
+    ensures reads { (os : List Open) (pairs : List (Pair Value)) → suc (length os) ≡ depth
+        → Reached bytes.now from (Keyless os []) → FitsOpen os
+        → Reached bytes.now start (Keyless os pairs) → FitsPairs os pairs
+        → (top ≤ 1024 → AreKeys bytes.now (own base top places.old) os)
+        → (top ≤ 1024 → Differ bytes.now (own base top places.old) → Scans bytes.now end (ReadsValue bytes.now from os))
+        → Scans bytes.now result (ReadsValue bytes.now from os) }
+{
+    if top <= MOST {
+        let keys = &places[base..top];
+        if let Some(i) = first_twice(bytes, keys) {
+            if i >= keys.len() {
+                return end;
+            }
+            let at = keys[i] as usize;
+            if is_twice(bytes, from, at) {
+                return Err(Bad::KeyTwice { at });
+            }
+        }
+    }
+    searched_at(bytes, from, start, depth, places, top)
+}
+
+/// The same for any dictionary, where each key is sought among all in front of it.
+#[cycle(checking)]
+#[inline(never)]
+fn searched_at(
+    bytes: &[u8],
+    from: usize,
+    start: usize,
+    depth: usize,
+    places: &mut [u16; MOST],
+    top: usize,
 ) -> Result<usize, Bad>
     requires order { from ≤ start }
     requires within { start ≤ length bytes.now }
     requires depth { depth ≤ 16 }
     ensures moves { IfOk result (λ next. (start < next) × (next ≤ length bytes.now)) }
+    ensures frame { take top places.new ≡ take top places.old }
     ensures reads { (os : List Open) (pairs : List (Pair Value)) → suc (length os) ≡ depth
         → Reached bytes.now from (Keyless os []) → FitsOpen os
         → Reached bytes.now start (Keyless os pairs) → FitsPairs os pairs
-        → AreFiled bytes.now so_many filed.now (keys_of pairs)
         → Scans bytes.now result (ReadsValue bytes.now from os) }
 {
-    let mut places = *filed;
-    let mut room = [0u16; MOST];
-    let mut count = so_many;
-    let mut heads = Heads::new();
-    heads.keep_all(bytes, &places[..count.min(MOST)]);
     let mut at = start;
-    'many: while !has_byte(bytes, at, b'e') {
+    'sought: while !has_byte(bytes, at, b'e') {
         let (key, behind) = string_at(bytes, at)?;
-        let head = head_of(key);
-        let guessed = guess(bytes, &places[..count.min(MOST)], &heads, head, key);
-        count = file(bytes, &mut places, &mut room, count, at, key, guessed);
-        heads.keep(at, head);
-        if !is_new(&bytes[from..at], count, key) {
+        let before = &bytes[from..at];
+        if has_key(before, key) {
             return Err(Bad::KeyTwice { at });
         }
-        at = item_at(bytes, behind, depth)?;
+        at = item_at(bytes, behind, depth, places, top)?;
     }
     Ok(at + 1)
+}
+
+/// Whether the key at a place is among the pairs from another place up to it.
+fn is_twice(bytes: &[u8], from: usize, at: usize) -> bool
+    ensures within { IsTrue result → (from ≤ at) × (at ≤ length bytes.now) }
+    ensures twice { IsTrue result → (ps : List (Pair Value)) (key : List ℕ)
+        → ArePairs (take (at - from) (drop from bytes.now)) ps
+        → IsAt bytes.now at (string_text key) → has_key (keys_of ps) key ≡ true }
+{
+    if at < from || at > bytes.len() {
+        return false;
+    }
+    has_key(&bytes[from..at], key_at(bytes, at))
 }
 
 /// Where the string at a place ends, as a value, if its length is one digit.
