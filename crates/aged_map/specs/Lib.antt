@@ -1,2 +1,4 @@
 pub mod Ages
 pub mod Marks
+pub mod PerHost
+pub mod Addressed

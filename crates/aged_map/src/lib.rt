@@ -3,7 +3,9 @@
 #![tactic(auto)]
 
 mod aged;
+mod hosted;
 mod map;
 
 pub use aged::{Aged, Stored};
+pub use hosted::{Hosted, HostedMap, Refused};
 pub use map::AgedMap;

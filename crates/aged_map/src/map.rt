@@ -6,7 +6,7 @@ ghost use Rattle.std.specs.Map.{keys_of, lookup};
 ghost use Rattle.std.specs.BTreeMap.{insert_entry, is_at};
 ghost use Rattle.std.specs.BTreeMap.Range.{entries_between};
 ghost use Rattle.std.specs.Ordering.{is_gt};
-ghost use Rattle.std.specs.declared.ops.Bound.TheVariants.{Included};
+ghost use Rattle.std.specs.declared.ops.Bound.TheVariants.{Included, Excluded};
 ghost use Rattle.aged_map.specs.Ages.{Holds, purged};
 ghost use Rattle.aged_map.specs.Marks.{AreMarked};
 
@@ -107,6 +107,14 @@ impl<K: Ord + Copy + Drop, V: Aged + Drop> AgedMap<K, V> {
         ensures { result ≡ entries_between K.cmp (Included low) (Included high) self.now }
     {
         self.held.range(low..=high)
+    }
+
+    /// What is held from one key on, it among it, and below another, in order.
+    pub fn range_below(&self, low: K, high: K) -> Range<'_, K, V>
+        requires { is_gt (K.cmp low high) ≡ false }
+        ensures { result ≡ entries_between K.cmp (Included low) (Excluded high) self.now }
+    {
+        self.held.range(low..high)
     }
 
     /// Whether it is sure that nothing that is held was renewed within the age before the moment. Costs one search by age.

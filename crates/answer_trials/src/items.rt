@@ -4,7 +4,7 @@ ghost use Rattle.item_store.specs.Items.{IsItem};
 
 use crate::replies::first_false;
 use item_store::{ItemCall, ItemFault, ItemReply, Items, item_key};
-use kad_base::{Bytes, Id, List, NoMemory, Serial};
+use kad_base::{Addr, Bytes, Id, Ip, List, NoMemory, Serial};
 use peer_store::Stored;
 use std::alloc::Global;
 use std::process::Abort;
@@ -24,13 +24,32 @@ fn item(alloc: Global, high: u8, low: u8) -> Result<Bytes, NoMemory>
     List::from_slice(alloc, &[b'2', b':', high, low])
 }
 
-/// Adds the item of a number at the moment.
-fn add(items: &mut Items, alloc: Global, n: u16, at: u64) -> Result<Stored, ItemFault> {
+/// 127.0.0.n with port 6881.
+fn host(n: u8) -> Addr {
+    Addr {
+        ip: Ip::V4([127, 0, 0, n]),
+        port: 6881,
+    }
+}
+
+/// Adds the item of a number, from a host at the moment.
+fn add_from(
+    items: &mut Items,
+    alloc: Global,
+    n: u16,
+    from: u8,
+    at: u64,
+) -> Result<Stored, ItemFault> {
     let [high, low] = n.to_be_bytes();
     match item(alloc, high, low) {
-        Ok(v) => items.add(v, at),
+        Ok(v) => items.add(v, host(from), at),
         Err(NoMemory) => Err(ItemFault::NoMemory),
     }
+}
+
+/// Adds the item of a number at the moment.
+fn add(items: &mut Items, alloc: Global, n: u16, at: u64) -> Result<Stored, ItemFault> {
+    add_from(items, alloc, n, 1, at)
 }
 
 /// Whether the item of a number is handed out at the moment.
@@ -167,7 +186,14 @@ fn sent<T: Send>(value: T) -> T {
 /// Puts the item of a number at a moment by a call of role 1.
 fn call_put(items: &mut Items, alloc: Global, number: u8, at: u64) -> ItemReply {
     match item(alloc, 0, number) {
-        Ok(v) => items.apply(1, ItemCall::Put { v, at }),
+        Ok(v) => items.apply(
+            1,
+            ItemCall::Put {
+                v,
+                from: host(1),
+                at,
+            },
+        ),
         Err(NoMemory) => ItemReply::NoMemory,
     }
 }
@@ -202,4 +228,42 @@ fn replies_to_calls(items: &mut Items, alloc: Global) -> Option<usize> {
 #[test]
 fn calls_have_their_replies(rt: HostRuntime) {
     over(&rt, replies_to_calls)
+}
+
+/// Plays a trial over a store of no items that holds at most one item of one host.
+fn over_one_of_a_host<R: AllocGlobal + Abort, F: FnOnce(&mut Items, Global) -> Option<usize>>(
+    rt: &R,
+    trial: F,
+)
+    requires { F.IsAlwaysCallable trial }
+{
+    let mut items = Items::limited(rt.alloc(), 1);
+    assert_eq!(rt; trial(&mut items, rt.alloc()), None);
+}
+
+/// Whether the host is crowded to the item of a number at the moment.
+fn is_crowded(items: &mut Items, alloc: Global, n: u16, from: u8, at: u64) -> bool {
+    add_from(items, alloc, n, from, at) == Err(ItemFault::Crowded)
+}
+
+fn counts_hosts(items: &mut Items, alloc: Global) -> Option<usize> {
+    first_false(&[
+        add_from(items, alloc, 1, 1, 0) == Ok(Stored::New),
+        is_crowded(items, alloc, 2, 1, 0),
+        add_from(items, alloc, 2, 2, 0) == Ok(Stored::New),
+        // An item counts for the host that put it first.
+        add_from(items, alloc, 2, 1, 5) == Ok(Stored::Renewed),
+        is_crowded(items, alloc, 3, 2, 5),
+        call_put(items, alloc, 3, 5) == ItemReply::Crowded,
+        // What was purged counts no more.
+        stays(items, 2, TWO_HOURS),
+        !has(items, 1, 0),
+        add_from(items, alloc, 3, 1, TWO_HOURS) == Ok(Stored::New),
+        is_crowded(items, alloc, 4, 2, TWO_HOURS),
+    ])
+}
+
+#[test]
+fn at_most_one_item_of_a_host(rt: HostRuntime) {
+    over_one_of_a_host(&rt, counts_hosts)
 }

@@ -319,6 +319,7 @@ fn lists(peers: &mut Peers, n: u8, count: usize) -> bool {
         PeerCall::List {
             key: number(n),
             at: 0,
+            first: [0; 4],
         },
     ) {
         PeerReply::Listed { list } => list.len() == count,
@@ -338,6 +339,143 @@ fn refuses_when_full(peers: &mut Peers) -> Option<usize> {
 #[test]
 fn a_call_for_a_full_store_is_refused(rt: HostRuntime) {
     over(&rt, refuses_when_full)
+}
+
+/// Plays a trial over a store of no peers that holds at most two pairs of one host.
+fn over_two_of_a_host<R: AllocGlobal + Abort, F: FnOnce(&mut Peers) -> Option<usize>>(
+    rt: &R,
+    trial: F,
+)
+    requires { F.IsAlwaysCallable trial }
+{
+    let mut peers = Peers::limited(rt.alloc(), 2);
+    assert_eq!(rt; trial(&mut peers), None);
+}
+
+/// Whether the peer's host is crowded under a key at the moment.
+fn is_crowded(peers: &mut Peers, key: u8, peer: Addr, at: u64) -> bool {
+    peers.add(number(key), peer, at) == Err(PeerFault::Crowded)
+}
+
+fn counts_hosts(peers: &mut Peers) -> Option<usize> {
+    first_false(&[
+        is_new(peers, at_port(1), 0),
+        is_new(peers, at_port(2), 1),
+        is_crowded(peers, 1, at_port(3), 1),
+        is_crowded(peers, 2, at_port(1), 1),
+        is_renewed(peers, at_port(2), 2),
+        is_new(peers, peer(1), 2),
+        is_put(peers, at_port(3), 2, PeerReply::Crowded),
+        // What was purged counts no more.
+        leaves(peers, HALF_AN_HOUR, 2),
+        is_new(peers, at_port(3), HALF_AN_HOUR),
+        is_crowded(peers, 1, at_port(1), HALF_AN_HOUR),
+    ])
+}
+
+#[test]
+fn at_most_two_pairs_of_a_host(rt: HostRuntime) {
+    over_two_of_a_host(&rt, counts_hosts)
+}
+
+/// The address of this number in the subnet 2001:db8:0:net of IPv6, with port 6881.
+fn in_subnet(net: u8, n: u8) -> Addr {
+    Addr {
+        ip: Ip::V6([0x20, 0x01, 0x0d, 0xb8, 0, 0, 0, net, 0, 0, 0, 0, 0, 0, 0, n]),
+        port: 6881,
+    }
+}
+
+fn counts_subnets(peers: &mut Peers) -> Option<usize> {
+    first_false(&[
+        is_new(peers, in_subnet(1, 1), 0),
+        is_new(peers, in_subnet(1, 2), 0),
+        is_crowded(peers, 1, in_subnet(1, 3), 0),
+        is_new(peers, in_subnet(2, 3), 0),
+    ])
+}
+
+#[test]
+fn at_most_two_pairs_of_a_subnet(rt: HostRuntime) {
+    over_two_of_a_host(&rt, counts_subnets)
+}
+
+/// 10.0.0.n with port 6881.
+fn next_door(n: u8) -> Addr {
+    Addr {
+        ip: Ip::V4([10, 0, 0, n]),
+        port: 6881,
+    }
+}
+
+/// Adds those of the numbers 100 to 199 under key 1.
+fn add_hundred(peers: &mut Peers) -> Result<(), PeerFault> {
+    for n in 100..200 {
+        peers.add(number(1), next_door(n), 0)?;
+    }
+    Ok(())
+}
+
+/// Whether these are 50 of them, that of this number first, and each the next after the one before it; after 199 comes 100.
+fn go_round(list: &[Addr], first: u8) -> bool {
+    let mut n = first;
+    for peer in list {
+        if *peer != next_door(n) {
+            return false;
+        }
+        n = if n == 199 { 100 } else { n.wrapping_add(1) };
+    }
+    list.len() == 50
+}
+
+/// Whether a call that gives this point lists them from that of a number on.
+fn lists_from(peers: &mut Peers, first: [u8; 4], n: u8) -> bool {
+    match peers.apply(
+        0,
+        PeerCall::List {
+            key: number(1),
+            at: 0,
+            first,
+        },
+    ) {
+        PeerReply::Listed { list } => go_round(list.as_slice(), n),
+        _ => false,
+    }
+}
+
+/// The points of 127.0.0.1 and 127.0.0.2 for key 1 in the first epoch.
+const NEAR_POINT: [u8; 4] = [219, 165, 183, 209];
+
+const NEXT_POINT: [u8; 4] = [198, 13, 157, 255];
+
+fn lists_by_points(peers: &mut Peers) -> Option<usize> {
+    first_false(&[
+        add_hundred(peers).is_ok(),
+        lists_from(peers, NEAR_POINT, 101),
+        lists_from(peers, NEXT_POINT, 183),
+        lists_from(peers, [0; 4], 100),
+        lists_from(peers, [0, 0, 0, 99], 199),
+        lists_from(peers, [0, 0, 0, 100], 100),
+        lists_from(peers, [255; 4], 195),
+    ])
+}
+
+#[test]
+fn a_list_begins_at_the_point_of_who_asks_and_goes_round(rt: HostRuntime) {
+    over_two_of_a_host(&rt, lists_by_points)
+}
+
+fn lists_by_no_points(peers: &mut Peers) -> Option<usize> {
+    first_false(&[
+        add_hundred(peers).is_ok(),
+        lists_from(peers, NEAR_POINT, 100),
+        lists_from(peers, NEXT_POINT, 100),
+    ])
+}
+
+#[test]
+fn without_a_limit_a_list_begins_at_the_lowest_address(rt: HostRuntime) {
+    over(&rt, lists_by_no_points)
 }
 
 /// The bytes 0 to 31.
@@ -395,6 +533,33 @@ fn tokens_are_the_same_whichever_secrets_are_kept(rt: HostRuntime) {
     for kept in [300_000, 300_001, 0, 600_000, u64::MAX] {
         assert!(&rt; makes_all_after(&mut tokens, kept), "{kept}");
     }
+}
+
+/// Whether the point of an address for a key at a moment is this.
+fn draws(tokens: &Tokens, from: [u8; 4], at: u64, key: u8, point: [u8; 4]) -> bool {
+    tokens.point(from, at, &number(key)) == point
+}
+
+fn draw_points(tokens: &Tokens) -> Option<usize> {
+    first_false(&[
+        draws(tokens, NEAR, 0, 1, NEAR_POINT),
+        draws(tokens, NEAR, 299_999, 1, NEAR_POINT),
+        draws(tokens, NEAR, 300_000, 1, [72, 49, 126, 1]),
+        draws(tokens, NEAR, 0, 2, [14, 58, 61, 50]),
+        draws(tokens, [127, 0, 0, 2], 0, 1, NEXT_POINT),
+    ])
+}
+
+#[test]
+fn points_are_as_another_program_draws_them(rt: HostRuntime) {
+    let tokens = Tokens::limited(&seed(), 0, 1);
+    assert_eq!(&rt; draw_points(&tokens), None);
+}
+
+#[test]
+fn without_a_limit_no_point_is_drawn(rt: HostRuntime) {
+    let tokens = Tokens::new(&seed(), 0);
+    assert!(&rt; draws(&tokens, NEAR, 0, 1, [0; 4]));
 }
 
 /// Whether the token of one moment is taken at another.

@@ -23,3 +23,4 @@ pub mod Distinct
 pub mod Spelled
 pub mod Hanging
 pub mod Grafting
+pub mod Found

@@ -41,6 +41,13 @@ pub record IsTidy (row : RowState) : Type 0 where
 abbrev pub path : ℕ → Id → List Bool
 path at id = bits_from at 0 id.0
 
+-- the row of an identifier: the one of these whose prefix begins it
+pub record IsRowOf (id : Id) (rows : List RowState) (row : RowState) : Type 0 where
+  pub front : List RowState
+  pub back : List RowState
+  pub rows_are : rows ≡ front ++ row ∷ back
+  pub covers : begins row.prefix (id_bits id) ≡ true
+
 -- a tree that hangs that deep, under some prefix
 pub record HangsAt (at : ℕ) (node : Node) : Type 0 where
   pub prefix : List Bool

@@ -1,13 +1,16 @@
 //! One bucket.
 ghost use Rattle.std.specs.Prelude.{IfOk, OnOk, OnErr, cond, nat_le, drop, filter, not, ◌≡◌, ◌↔◌, ◌<◌, ◌≤◌, IsTrue, [], ◌∷◌, ◌++◌, length, map, All, false, true, vec_capacity};
+ghost use Rattle.std.specs.List.{list_any};
 ghost use Rattle.kad_base.specs.Contacts.{among};
 ghost use Rattle.bucket_tree.specs.Partition.{id_bits, begins};
 ghost use Rattle.bucket_tree.specs.Rows.{RowState, contact_of, live_in, may_split, same_id};
 ghost use Rattle.bucket_tree.specs.Refills.{Refilled};
-ghost use Rattle.bucket_tree.specs.States.{state_of};
+ghost use Rattle.bucket_tree.specs.States.{kept_in, state_of};
 ghost use Rattle.bucket_tree.specs.BucketSteps.{NeedsSplit, RowSeen, RowFailed, half as half_of, fresh as fresh_of, without, with_room as with_room_of};
 
-use crate::entries::{append, covered, failures, has, has_id, mark, take_id_out, take_out};
+use crate::entries::{
+    append, covered, failures, has, has_id, is_one_of, mark, take_id_out, take_out,
+};
 use crate::prefix::Prefix;
 use crate::rows::Row;
 use crate::types::{Gone, Live, Seen, Setting};
@@ -172,6 +175,20 @@ impl Bucket {
         ensures { result ≡ self.now.prefix }
     {
         self.prefix.copied()
+    }
+
+    /// Whether the contact is live or a spare.
+    pub(crate) fn keeps(&self, contact: &Contact) -> bool
+        ensures { result ≡ among (kept_in self.now) contact.now }
+    {
+        has(self.live.as_slice(), contact) || is_one_of(self.spares.as_slice(), contact)
+    }
+
+    /// Whether a live contact has the identifier.
+    pub(crate) fn knows_id(&self, id: &Id) -> bool
+        ensures { result ≡ list_any (λ c. same_id c.id id.now) (live_in self.now) }
+    {
+        has_id(self.live.as_slice(), id)
     }
 
     /// Its live entries, the least recently seen first.

@@ -1,14 +1,17 @@
 //! All buckets, as a tree by the bits of their prefixes.
 ghost use Rattle.std.specs.Prelude.{◌≡◌, ◌<◌, ◌≤◌, ◌++◌, ◌∷◌, [], IfOk, OnErr, Err};
+ghost use Rattle.std.specs.List.{flat_map, list_any};
+ghost use Rattle.kad_base.specs.Contacts.{among};
 ghost use Rattle.kad_distance.specs.KClosest.{k_closest};
-ghost use Rattle.bucket_tree.specs.Rows.{BucketsState, Sound, live_of, prefixes_of};
-ghost use Rattle.bucket_tree.specs.States.{states_of};
+ghost use Rattle.bucket_tree.specs.Rows.{BucketsState, Sound, live_of, prefixes_of, same_id};
+ghost use Rattle.bucket_tree.specs.States.{kept_in, states_of};
 ghost use Rattle.bucket_tree.specs.BucketSteps.{SeenStep, FailedStep};
 ghost use Rattle.bucket_tree.specs.Trees.{IsWhole};
 
 use crate::bucket::Bucket;
 use crate::entries::is_same_id;
 use crate::failing::fail_in;
+use crate::finding::row_of;
 use crate::nearest;
 use crate::node::{Node, leaf, list_live, list_prefixes, list_rows};
 use crate::prefix::Prefixes;
@@ -110,6 +113,20 @@ impl Buckets {
         ensures b { self.new.b ≡ self.old.b }
     {
         fail_in(&mut self.root, contact, 0)
+    }
+
+    /// Whether the contact is live or a spare. Looks at its row alone.
+    pub fn keeps(&self, contact: &Contact) -> bool
+        ensures { result ≡ among (flat_map kept_in self.now.rows) contact.now }
+    {
+        row_of(&self.root, &contact.id, 0).keeps(contact)
+    }
+
+    /// Whether a live contact has the identifier, at whatever address. Looks at its row alone.
+    pub fn knows_id(&self, id: &Id) -> bool
+        ensures { result ≡ list_any (λ c. same_id c.id id.now) (live_of self.now.rows) }
+    {
+        row_of(&self.root, id, 0).knows_id(id)
     }
 
     /// The n live contacts that are closest to the target, of all buckets, nearest first. Takes memory for n contacts.

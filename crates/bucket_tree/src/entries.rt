@@ -37,6 +37,13 @@ pub(crate) fn has(entries: &[Live], contact: &Contact) -> bool
     entries.iter().any(|entry| is_same(contact, &entry.contact))
 }
 
+/// Whether the contact is one of those.
+pub(crate) fn is_one_of(contacts: &[Contact], contact: &Contact) -> bool
+    ensures { result ≡ among contacts.now contact.now }
+{
+    contacts.iter().any(|other| is_same(contact, other))
+}
+
 /// Whether an entry has the identifier. Where none has it, none has the same bits.
 pub(crate) fn has_id(entries: &[Live], id: &Id) -> bool
     ensures known { result ≡ list_any (λ e. same_id e.contact.id id.now) entries.now }

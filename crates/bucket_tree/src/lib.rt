@@ -8,6 +8,7 @@ mod bucket;
 mod buckets;
 mod entries;
 mod failing;
+mod finding;
 mod laws;
 mod nearest;
 mod node;

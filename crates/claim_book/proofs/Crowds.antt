@@ -6,11 +6,11 @@ use Rattle.std.proofs.lemmas.List.{length-append}
 use Rattle.std.proofs.lemmas.List.Elements.{filter-append}
 use Rattle.kad_base.specs.declared.types.Contact.{Contact}
 use Rattle.claim_book.specs.declared.types.Entry.{Entry}
-use Rattle.claim_book.specs.declared.host.Host.{Host}
-use Rattle.claim_book.specs.declared.host.Host.TheVariants.{V4, V6}
+use Rattle.kad_base.specs.declared.host.Host.{Host}
+use Rattle.kad_base.specs.declared.host.Host.TheVariants.{V4, V6}
 use Rattle.claim_book.specs.declared.claim_map.Seat.{Seat}
 use Rattle.claim_book.specs.Journal.{on_path, path_of, path}
-use Rattle.claim_book.specs.Hosts.{host, same_host, at_host}
+use Rattle.kad_base.specs.Hosts.{host, same_host, at_host}
 use Rattle.claim_book.specs.Crowded.{crowd}
 use Rattle.claim_book.specs.Claims.{seat_eq, seat}
 use Rattle.claim_book.proofs.More.{path_more}

@@ -16,7 +16,7 @@ use Rattle.claim_book.specs.declared.types.Entry.{Entry}
 use Rattle.claim_book.specs.declared.types.Entry.TheVariants.{Seed}
 use Rattle.claim_book.specs.declared.path.Path.{Path}
 use Rattle.claim_book.specs.Journal.{took, path}
-use Rattle.claim_book.specs.Hosts.{host}
+use Rattle.kad_base.specs.Hosts.{host}
 use Rattle.claim_book.specs.Crowded.{crowd}
 use Rattle.claim_book.specs.Legal.{SeedFits, Legal, dealt, stays, seeded}
 use Rattle.claim_book.specs.Calls.{Counted}

@@ -17,7 +17,7 @@ use Rattle.claim_book.specs.declared.types.Entry.{Entry}
 use Rattle.claim_book.specs.declared.types.Entry.TheVariants.{Seed, Heard, Note, Taken, Held, Turned, Rejected, Skipped}
 use Rattle.claim_book.specs.Journal.{things_in, things_of, took_of, path_of, ask_on, settles_on, took, path, asked_on, things, settled, unsettled, first_unsettled}
 use Rattle.claim_book.specs.Legal.{Fits, Legal, Believed}
-use Rattle.claim_book.specs.Hosts.{host}
+use Rattle.kad_base.specs.Hosts.{host}
 use Rattle.claim_book.specs.Crowded.{IsCrowded}
 use Rattle.claim_book.specs.Lineage.{Names, Descends, HasLineage, Closed, IsContained, SettlesReport, TakesUnlessHeld, DropsNone, GoesByOwnAnswers}
 use Rattle.claim_book.proofs.Crowds.{crowd_grows}

@@ -12,9 +12,9 @@ use Rattle.kad_base.proofs.Contacts.{contact_total}
 use Rattle.claim_book.specs.declared.types.Setting.{Setting}
 use Rattle.claim_book.specs.declared.types.Entry.{Entry}
 use Rattle.claim_book.specs.declared.types.Entry.TheVariants.{Seed, Taken}
-use Rattle.claim_book.specs.declared.host.Host.{Host}
+use Rattle.kad_base.specs.declared.host.Host.{Host}
 use Rattle.claim_book.specs.Journal.{on_path, path_of, path, asked_on}
-use Rattle.claim_book.specs.Hosts.{host, same_host, at_host}
+use Rattle.kad_base.specs.Hosts.{host, same_host, at_host}
 use Rattle.claim_book.specs.Crowded.{crowd, IsCrowded, HasFewOfAHost}
 use Rattle.claim_book.specs.Claims.{seat_eq, seat}
 use Rattle.claim_book.specs.Legal.{Fits, Legal, dealt, stays, staying, seeded}

@@ -17,13 +17,13 @@ use Rattle.claim_book.specs.declared.types.Thing.{Thing}
 use Rattle.claim_book.specs.declared.types.Thing.TheVariants.{Responder, Told}
 use Rattle.claim_book.specs.declared.types.Entry.{Entry}
 use Rattle.claim_book.specs.declared.types.Entry.TheVariants.{Seed, Ask, Heard, Lost, Taken}
-use Rattle.claim_book.specs.declared.host.Host.{Host}
+use Rattle.kad_base.specs.declared.host.Host.{Host}
 use Rattle.claim_book.specs.declared.claim_map.Claim.{Claim}
 use Rattle.claim_book.specs.declared.claim_map.Claims.{Claims}
 use Rattle.claim_book.specs.declared.claim_map.Seat.{Seat}
 use Rattle.claim_book.specs.Journal.{on_path, path_of, ask_of, answer_of, fail_of, holder_of, things_in, things_of, settles_on, took, path, asked, holders, answered, failed, open_on, things, settled, unsettled, may_ask}
 use Rattle.claim_book.specs.Legal.{Fits, Legal}
-use Rattle.claim_book.specs.Hosts.{host}
+use Rattle.kad_base.specs.Hosts.{host}
 use Rattle.claim_book.specs.Crowded.{crowd, IsCrowded}
 use Rattle.claim_book.specs.Claims.{key_eq, seat_eq, seat, blank, shown, shown_crowd, claim_of, HasRoom, IsKnown, asked_claim, ended_claim, taken_claim, Sets, Takes, Keeps, IsMap}
 use Rattle.claim_book.proofs.Crowds.{seat_exact, one_of, crowd_gains, crowd_kept}

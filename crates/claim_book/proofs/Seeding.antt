@@ -15,9 +15,9 @@ use Rattle.claim_book.specs.declared.types.Setting.{Setting}
 use Rattle.claim_book.specs.declared.types.Thing.{Thing}
 use Rattle.claim_book.specs.declared.types.Entry.{Entry}
 use Rattle.claim_book.specs.declared.types.Entry.TheVariants.{Seed}
-use Rattle.claim_book.specs.declared.host.Host.{Host}
+use Rattle.kad_base.specs.declared.host.Host.{Host}
 use Rattle.claim_book.specs.Journal.{seeds, took, path, asked, answered, failed, turned, open_any, things, settled, unsettled}
-use Rattle.claim_book.specs.Hosts.{host}
+use Rattle.kad_base.specs.Hosts.{host}
 use Rattle.claim_book.specs.Crowded.{crowd, IsCrowded}
 use Rattle.claim_book.specs.Claims.{seat_eq, seat}
 use Rattle.claim_book.specs.Legal.{SeedFits, Legal, IsSeed, dealt_from, dealt, stays, staying, seeded}

@@ -10,13 +10,13 @@ use Rattle.claim_book.specs.declared.types.Setting.{Setting}
 use Rattle.claim_book.specs.declared.types.Thing.{Thing}
 use Rattle.claim_book.specs.declared.types.Thing.TheVariants.{Responder, Told}
 use Rattle.claim_book.specs.declared.types.Entry.{Entry}
-use Rattle.claim_book.specs.declared.host.Host.{Host}
+use Rattle.kad_base.specs.declared.host.Host.{Host}
 use Rattle.claim_book.specs.declared.claim_map.Claim.{Claim}
 use Rattle.claim_book.specs.declared.claim_map.Claims.{Claims}
 use Rattle.claim_book.specs.declared.claim_map.Seat.{Seat}
 use Rattle.claim_book.specs.contracts.claim_map.SeatPartialEq.TheImpl as seat_eq_of
 use Rattle.claim_book.specs.Journal.{holders, asked, answered, failed, unsettled}
-use Rattle.claim_book.specs.Hosts.{host}
+use Rattle.kad_base.specs.Hosts.{host}
 use Rattle.claim_book.specs.Crowded.{crowd}
 
 -- what `==` of two keys answers

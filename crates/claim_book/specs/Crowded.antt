@@ -3,9 +3,9 @@ use Rattle.std.specs.Prelude.{ℕ, ◌<◌, ◌≤◌, List, length}
 use Rattle.kad_base.specs.declared.types.Contact.{Contact}
 use Rattle.claim_book.specs.declared.types.Setting.{Setting}
 use Rattle.claim_book.specs.declared.types.Entry.{Entry}
-use Rattle.claim_book.specs.declared.host.Host.{Host}
+use Rattle.kad_base.specs.declared.host.Host.{Host}
 use Rattle.claim_book.specs.Journal.{path, asked_on}
-use Rattle.claim_book.specs.Hosts.{host, at_host}
+use Rattle.kad_base.specs.Hosts.{host, at_host}
 
 -- how many contacts of the host path p began with or took, lost ones among them
 abbrev pub crowd : ℕ → Host → List Entry → ℕ

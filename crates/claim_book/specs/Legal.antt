@@ -12,7 +12,7 @@ use Rattle.claim_book.specs.declared.types.Thing.TheVariants.{Responder, Told}
 use Rattle.claim_book.specs.declared.types.Entry.{Entry}
 use Rattle.claim_book.specs.declared.types.Entry.TheVariants.{Seed, Ask, Heard, Lost, Note, Taken, Held, Turned, Rejected, Skipped}
 use Rattle.claim_book.specs.Journal.{seeds, took, path, open_on, first_unsettled, may_ask}
-use Rattle.claim_book.specs.Hosts.{host}
+use Rattle.kad_base.specs.Hosts.{host}
 use Rattle.claim_book.specs.Crowded.{crowd, IsCrowded}
 
 -- the seeds stand first, dealt to the paths in turn (S/Kademlia, 2007, section 4.4): few, usable, nearest first, and none on a

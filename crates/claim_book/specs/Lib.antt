@@ -1,5 +1,4 @@
 pub mod Journal
-pub mod Hosts
 pub mod Crowded
 pub mod Legal
 pub mod RunOut

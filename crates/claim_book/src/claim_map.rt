@@ -4,13 +4,12 @@ ghost use Rattle.std.specs.List.{All};
 ghost use Rattle.indexmap.specs.IndexMap.{get};
 ghost use Rattle.kad_base.specs.declared.types.Contact.{Contact};
 ghost use Rattle.claim_book.specs.declared.types.Thing.TheVariants.{Told};
-ghost use Rattle.claim_book.specs.Hosts.{host};
+ghost use Rattle.kad_base.specs.Hosts.{host};
 ghost use Rattle.claim_book.specs.Claims.{key_eq, seat_eq, seat, blank, shown, shown_crowd, asked_claim, ended_claim, taken_claim, HasRoom, IsKnown, Sets, Takes, Keeps};
 
-use crate::host::{Host, host_of};
 use crate::types::Setting;
 use indexmap::IndexMap;
-use kad_base::{Contact, NoMemory, Report, is_usable};
+use kad_base::{Contact, Host, NoMemory, Report, host_of, is_usable};
 use std::alloc::Global;
 use std::hash::RandomState;
 

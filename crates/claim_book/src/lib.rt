@@ -7,7 +7,6 @@
 mod calls;
 mod changes;
 mod claim_map;
-mod host;
 mod laws;
 mod path;
 mod reads;
@@ -18,7 +17,6 @@ mod types;
 mod verdict;
 
 pub use calls::{BookCall, BookReply};
-pub use host::{Host, host_of};
 pub use laws::{
     answered, bounded, contained, disjoint, few_of_a_host, lineage, lively, one_path,
     open_on_asker, past_the_last, seeds_stay, stable, taken_unless_held,

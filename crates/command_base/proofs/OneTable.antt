@@ -8,9 +8,9 @@ use Rattle.contact_table.specs.declared.calls.TableCall.{TableCall}
 use Rattle.contact_table.specs.declared.calls.TableReply.{TableReply}
 use Rattle.contact_table.specs.declared.calls.TableReply.TheVariants as reply
 use Rattle.contact_table.specs.TableState.{TableState, SoundTable}
-use Rattle.contact_table.specs.Told.{HasMemory, calls_in, replies_in, new_table}
+use Rattle.contact_table.specs.Told.{HasMemory, calls_in, replies_in, limited_table}
 use Rattle.contact_table.proofs.Outcome.{run-state}
-use Rattle.contact_table.proofs.StaysSound.{new-sound}
+use Rattle.contact_table.proofs.StaysSound.{limited-sound}
 use Rattle.lookup_run.specs.Lookup.{Told, told_in, TableTold}
 
 had_memory : (x : TableReply) → x ≢ reply.NoMemory → HasMemory x
@@ -30,5 +30,5 @@ table_once calls table a b sound h k =
     let same : calls_in h.run ≡ calls_in k.run = sym (calls_told h.run) ∙ ap (map (λ (t : Told). t.call)) told ∙ calls_told k.run in
     h.leaves ∙ run-state table h.run k.run sound h.is_run k.is_run same (all_memory h.run h.kept) (all_memory k.run k.kept) ∙ sym k.leaves
 
-pub new_once : (own : Id) (k bits : ℕ) (calls : List Told) (a b : TableState) → 1 ≤ k → k ≤ 20 → 1 ≤ bits → bits ≤ 5 → TableTold calls (new_table own k bits) a → TableTold calls (new_table own k bits) b → a ≡ b
-new_once own k bits calls a b some few more less h j = table_once calls (new_table own k bits) a b (new-sound own k bits (omega (arith, some)) few (omega (arith, more)) less) h j
+pub new_once : (own : Id) (k bits n : ℕ) (calls : List Told) (a b : TableState) → 1 ≤ k → k ≤ 20 → 1 ≤ bits → bits ≤ 5 → TableTold calls (limited_table own k bits n) a → TableTold calls (limited_table own k bits n) b → a ≡ b
+new_once own k bits n calls a b some few more less h j = table_once calls (limited_table own k bits n) a b (limited-sound own k bits n (omega (arith, some)) few (omega (arith, more)) less) h j

@@ -13,11 +13,11 @@ use Rattle.kad_base.specs.Serial.{left_by, IsRun, made}
 use Rattle.contact_table.specs.declared.calls.TableCall.{TableCall}
 use Rattle.contact_table.specs.declared.calls.TableCall.TheVariants.{Seen as Seen_call, Failed, Closest}
 use Rattle.contact_table.specs.declared.calls.TableReply.{TableReply}
-use Rattle.contact_table.specs.declared.calls.TableReply.TheVariants.{Seen as Seen_reply, Gone as Gone_reply, List as List_reply, NoMemory}
+use Rattle.contact_table.specs.declared.calls.TableReply.TheVariants.{Seen as Seen_reply, Gone as Gone_reply, List as List_reply, Crowded, NoMemory}
 use Rattle.contact_table.specs.TableState.{TableState}
 use Rattle.contact_table.specs.TableStep.{TableMay, TableStep, table_after, contacts_of}
-use Rattle.contact_table.specs.Told.{new_table, told_by, told_in as contacts_in}
-use Rattle.contact_table.proofs.Holding.{since-new}
+use Rattle.contact_table.specs.Told.{limited_table, told_by, told_in as contacts_in}
+use Rattle.contact_table.proofs.Holding.{since-limited}
 use Rattle.lookup_run.specs.Lookup.{Told, told_in, TableTold, IsWithinLimits}
 use Rattle.node_serve.specs.AnswerOf.{IsSeen}
 use Rattle.command_base.specs.Started.{seen_call, look_of, IsInRange}
@@ -72,14 +72,17 @@ own_after : (s : TableState) (role : ℕ) (call : TableCall) (reply : TableReply
 own_after s role (Seen_call c) (Seen_reply seen) = refl
 own_after s role (Seen_call c) (Gone_reply gone) = refl
 own_after s role (Seen_call c) (List_reply list) = refl
+own_after s role (Seen_call c) Crowded = refl
 own_after s role (Seen_call c) NoMemory = refl
 own_after s role (Failed c) (Seen_reply seen) = refl
 own_after s role (Failed c) (Gone_reply gone) = refl
 own_after s role (Failed c) (List_reply list) = refl
+own_after s role (Failed c) Crowded = refl
 own_after s role (Failed c) NoMemory = refl
 own_after s role (Closest target n) (Seen_reply seen) = refl
 own_after s role (Closest target n) (Gone_reply gone) = refl
 own_after s role (Closest target n) (List_reply list) = refl
+own_after s role (Closest target n) Crowded = refl
 own_after s role (Closest target n) NoMemory = refl
 
 own_left : (s : TableState) (run : List (Made TableCall TableReply)) → (left_by table_after s run).own ≡ s.own
@@ -102,11 +105,11 @@ told_contacts (m ∷ run) (c ∷ cs) e =
     flat_map-cons (λ (e : Made TableCall TableReply). contacts_in e.call) m run
     ∙ ap (λ (t : Told). contacts_in t.call ++ told_by run) first ∙ ap (λ (l : List Contact). c ∷ l) (told_contacts run cs rest)
 
-pub usable_told : (own : Id) (k b : ℕ) (cs : List Contact) (t : TableState) → All (IsUsable own) cs → TableTold (map seen_call cs) (new_table own k b) t → All (IsUsable own) (contacts_of t)
-usable_told own k b cs t usable h i d lt =
+pub usable_told : (own : Id) (k b n : ℕ) (cs : List Contact) (t : TableState) → All (IsUsable own) cs → TableTold (map seen_call cs) (limited_table own k b n) t → All (IsUsable own) (contacts_of t)
+usable_told own k b n cs t usable h i d lt =
     let held : Contains cs (get_or (contacts_of t) i d) =
     subst (λ (l : List Contact). Contains l (get_or (contacts_of t) i d)) (told_contacts h.run cs h.calls_are)
-    (subst (λ (s : TableState). All (Contains (told_by h.run)) (contacts_of s)) (sym h.leaves) (since-new own k b h.run) i d lt) in
+    (subst (λ (s : TableState). All (Contains (told_by h.run)) (contacts_of s)) (sym h.leaves) (since-limited own k b n h.run) i d lt) in
     All-contains (IsUsable own) cs _ usable held
 
 pub admits_usable : (own : Id) (family : Family) (policy : Policy) (rs : List Report) (cs : List Contact) → Admits own family policy rs cs → All (IsUsable own) cs

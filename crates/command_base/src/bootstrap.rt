@@ -1,6 +1,6 @@
 //! What a lookup starts from: its setting, by the words, and a routing table that was told of the contacts of the input.
 ghost use Rattle.std.specs.Prelude.{◌≡◌, map, IfOk, OnOk};
-ghost use Rattle.contact_table.specs.Told.{new_table};
+ghost use Rattle.contact_table.specs.Told.{limited_table};
 ghost use Rattle.lookup_run.specs.Lookup.{TableTold};
 ghost use Rattle.node_serve.specs.AnswerOf.{IsSeen};
 ghost use Rattle.command_base.specs.Started.{own_of, look_of, AreTableBounds, seen_call};
@@ -63,18 +63,20 @@ fn notify_seen(table: &mut Table, contact: &Contact) -> Result<(), NoMemory>
     }
 }
 
-/// A new table that was told of the contacts, in order.
+/// A new table that takes no more than `per_address` contacts of one host (0: as many as there are), and was told of the
+/// contacts, in order.
 pub fn table_of(
     alloc: Global,
     own: Id,
     k: u8,
     bits: u8,
+    per_address: u8,
     contacts: &[Contact],
 ) -> Result<Table, NoMemory>
     requires { AreTableBounds k bits }
-    ensures { IfOk result (TableTold (map seen_call contacts.now) (new_table own k bits)) }
+    ensures { IfOk result (TableTold (map seen_call contacts.now) (limited_table own k bits per_address)) }
 {
-    let mut table = Table::new(alloc, own, k, bits)?;
+    let mut table = Table::limited(alloc, own, k, bits, per_address)?;
     for contact in contacts {
         notify_seen(&mut table, contact)?;
     }

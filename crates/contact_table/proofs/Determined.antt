@@ -255,30 +255,30 @@ module _ (own : Id) (k b : ℕ) where
   failed-is c rows after Replaced s step = in-its-row c rows after Replaced s step
 
 -- the table from its parts
-abbrev view_of : BucketsState → List Contact → TableState
-view_of t siblings = record { own = t.own; k = t.k; b = t.b; rows = t.rows; siblings = siblings }
+abbrev pub view_of : BucketsState → List Contact → ℕ → TableState
+view_of t siblings n = record { own = t.own; k = t.k; b = t.b; rows = t.rows; siblings = siblings; per_address = n }
 
-abbrev parts : Id → ℕ → ℕ → List RowState → List Contact → TableState
-parts own k b rows siblings = record { own = own; k = k; b = b; rows = rows; siblings = siblings }
+abbrev parts : Id → ℕ → ℕ → List RowState → List Contact → ℕ → TableState
+parts own k b rows siblings n = record { own = own; k = k; b = b; rows = rows; siblings = siblings; per_address = n }
 
 abbrev list_with : Id → List Contact → SiblingList
 list_with own list = record { own = own; list = list }
 
-same-parts : (o o' : Id) (k k' b b' : ℕ) (r r' : List RowState) (l l' : List Contact) → o ≡ o' → k ≡ k' → b ≡ b' → r ≡ r' → l ≡ l' → parts o k b r l ≡ parts o' k' b' r' l'
-same-parts o o' k k' b b' r r' l l' e f g h i = cc
+same-parts : (o o' : Id) (k k' b b' : ℕ) (r r' : List RowState) (l l' : List Contact) (n : ℕ) → o ≡ o' → k ≡ k' → b ≡ b' → r ≡ r' → l ≡ l' → parts o k b r l n ≡ parts o' k' b' r' l' n
+same-parts o o' k k' b b' r r' l l' n e f g h i = cc
 
-pub table-seen : (t : BucketsState) (s : SiblingList) (t' : BucketsState) (s' : SiblingList) (whole : TableState) (c : Contact) (seen : Seen) → view_of t s.list ≡ whole → s.own ≡ t.own → SoundRows t.own t.k t.b t.rows
+pub table-seen : (t : BucketsState) (s : SiblingList) (t' : BucketsState) (s' : SiblingList) (whole : TableState) (n : ℕ) (c : Contact) (seen : Seen) → view_of t s.list n ≡ whole → s.own ≡ t.own → SoundRows t.own t.k t.b t.rows
     → SeenStep t.own t.k t.b c t.rows seen t'.rows → t'.own ≡ t.own → t'.k ≡ t.k → t'.b ≡ t.b → s'.list ≡ seen_siblings s c seen
-    → view_of t' s'.list ≡ with_rows whole (seen_rows whole.own whole.k whole.b c whole.rows) (seen_siblings (siblings_of whole) c seen)
-table-seen t s t' s' whole c seen v own sound step o k b l =
+    → view_of t' s'.list n ≡ with_rows whole (seen_rows whole.own whole.k whole.b c whole.rows) (seen_siblings (siblings_of whole) c seen)
+table-seen t s t' s' whole n c seen v own sound step o k b l =
     let mine : seen_siblings s c seen ≡ seen_siblings (list_with t.own s.list) c seen = ap (λ (i : Id). seen_siblings (list_with i s.list) c seen) own in
-    same-parts t'.own t.own t'.k t.k t'.b t.b t'.rows (seen_rows t.own t.k t.b c t.rows) s'.list (seen_siblings (list_with t.own s.list) c seen) o k b (seen-is t.own t.k t.b c t.rows t'.rows seen sound step) (l ∙ mine)
+    same-parts t'.own t.own t'.k t.k t'.b t.b t'.rows (seen_rows t.own t.k t.b c t.rows) s'.list (seen_siblings (list_with t.own s.list) c seen) n o k b (seen-is t.own t.k t.b c t.rows t'.rows seen sound step) (l ∙ mine)
     ∙ ap (λ (w : TableState). with_rows w (seen_rows w.own w.k w.b c w.rows) (seen_siblings (siblings_of w) c seen)) v
 
-pub table-failed : (t : BucketsState) (s : SiblingList) (t' : BucketsState) (s' : SiblingList) (whole : TableState) (c : Contact) (gone : Gone) → view_of t s.list ≡ whole → s.own ≡ t.own → SoundRows t.own t.k t.b t.rows
+pub table-failed : (t : BucketsState) (s : SiblingList) (t' : BucketsState) (s' : SiblingList) (whole : TableState) (n : ℕ) (c : Contact) (gone : Gone) → view_of t s.list n ≡ whole → s.own ≡ t.own → SoundRows t.own t.k t.b t.rows
     → FailedStep c t.rows gone t'.rows → t'.own ≡ t.own → t'.k ≡ t.k → t'.b ≡ t.b → s'.list ≡ failed_siblings s c gone
-    → view_of t' s'.list ≡ with_rows whole (failed_rows gone c whole.rows) (failed_siblings (siblings_of whole) c gone)
-table-failed t s t' s' whole c gone v own sound step o k b l =
+    → view_of t' s'.list n ≡ with_rows whole (failed_rows gone c whole.rows) (failed_siblings (siblings_of whole) c gone)
+table-failed t s t' s' whole n c gone v own sound step o k b l =
     let mine : failed_siblings s c gone ≡ failed_siblings (list_with t.own s.list) c gone = ap (λ (i : Id). failed_siblings (list_with i s.list) c gone) own in
-    same-parts t'.own t.own t'.k t.k t'.b t.b t'.rows (failed_rows gone c t.rows) s'.list (failed_siblings (list_with t.own s.list) c gone) o k b (failed-is t.own t.k t.b c t.rows t'.rows gone sound step) (l ∙ mine)
+    same-parts t'.own t.own t'.k t.k t'.b t.b t'.rows (failed_rows gone c t.rows) s'.list (failed_siblings (list_with t.own s.list) c gone) n o k b (failed-is t.own t.k t.b c t.rows t'.rows gone sound step) (l ∙ mine)
     ∙ ap (λ (w : TableState). with_rows w (failed_rows gone c w.rows) (failed_siblings (siblings_of w) c gone)) v

@@ -19,21 +19,24 @@ use Rattle.bucket_tree.specs.declared.types.Seen.TheVariants.{Added, Moved, Spar
 use Rattle.bucket_tree.specs.declared.types.Gone.{Gone}
 use Rattle.bucket_tree.specs.declared.types.Gone.TheVariants.{Kept, Removed, Replaced, Unknown}
 use Rattle.bucket_tree.specs.Partition.{id_bits, begins}
-use Rattle.bucket_tree.specs.Rows.{RowState, contact_of, live_in, live_of, same_id}
-use Rattle.bucket_tree.specs.BucketSteps.{knows, knows_id, fresh, without, moved, added, spared, with_room, half, marked, removed}
+use Rattle.bucket_tree.specs.Rows.{RowState, SoundRows, contact_of, live_in, live_of, same_id}
+use Rattle.bucket_tree.specs.BucketSteps.{knows, knows_id, fresh, without, moved, added, spared, with_room, half, marked, removed, SeenStep, is_own, in_row, split}
 use Rattle.bucket_tree.proofs.Counted.{filter-map}
-use Rattle.bucket_tree.proofs.Every.{all-left, all-right, all-one}
+use Rattle.bucket_tree.proofs.Every.{all-left, all-right, all-one, all-here, all-put}
 use Rattle.bucket_tree.proofs.RowKept.{all-without, all-ended, all-room}
 use Rattle.bucket_tree.proofs.RowSteps.{mark-contacts}
 use Rattle.sibling_list.specs.Siblings.{with_one, without_one}
 use Rattle.contact_table.specs.declared.calls.TableCall.{TableCall}
 use Rattle.contact_table.specs.declared.calls.TableCall.TheVariants.{Seen as Seen_call, Failed, Closest}
 use Rattle.contact_table.specs.declared.calls.TableReply.{TableReply}
-use Rattle.contact_table.specs.declared.calls.TableReply.TheVariants.{Seen as Seen_reply, Gone as Gone_reply, List as List_reply, NoMemory}
+use Rattle.contact_table.specs.declared.calls.TableReply.TheVariants.{Seen as Seen_reply, Gone as Gone_reply, List as List_reply, Crowded, NoMemory}
 use Rattle.contact_table.specs.RowsAfter.{put_rows, needs_split, taken, seen_row, seen_rows, failed_row, failed_rows}
 use Rattle.contact_table.specs.TableState.{TableState, siblings_of}
 use Rattle.contact_table.specs.TableStep.{table_after, contacts_of, seen_siblings, failed_siblings}
-use Rattle.contact_table.specs.Told.{told_in, told_by, kept_in, held_in, new_table}
+use Rattle.contact_table.specs.Told.{told_in, told_by, kept_in, held_by, held_in, limited_table, new_table}
+use Rattle.contact_table.specs.Crowded.{IsNew}
+use Rattle.contact_table.proofs.Determined.{seen-is}
+use Rattle.contact_table.proofs.Newness.{passes-among, row-new, new-or-old}
 
 contacts-fresh : (cs : List Contact) → map contact_of (map fresh cs) ≡ cs
 contacts-fresh [] = refl
@@ -162,12 +165,48 @@ module _ (P : Contact → Type 0) where
       held (seen_rows s.own s.k s.b c s.rows) (seen_siblings (siblings_of s) c seen) (seen_rows-keeps s.own s.k s.b c s.rows here (rows-held s a)) (seen-siblings s.own s.siblings c seen here (siblings-held s a))
   step-holds s role (Seen_call c) (Gone_reply x) a p = a
   step-holds s role (Seen_call c) (List_reply x) a p = a
+  step-holds s role (Seen_call c) Crowded a p = a
   step-holds s role (Seen_call c) NoMemory a p = a
   step-holds s role (Failed c) (Gone_reply gone) a p = held (failed_rows gone c s.rows) (failed_siblings (siblings_of s) c gone) (failed_rows-keeps gone c s.rows (rows-held s a)) (failed-siblings s.own s.siblings c gone (siblings-held s a))
   step-holds s role (Failed c) (Seen_reply x) a p = a
   step-holds s role (Failed c) (List_reply x) a p = a
+  step-holds s role (Failed c) Crowded a p = a
   step-holds s role (Failed c) NoMemory a p = a
   step-holds s role (Closest target n) x a p = a
+
+  -- what holds of all that are held, and of a contact that is new to the buckets, holds after that contact was seen
+  known-keeps : (own : Id) (k b : ℕ) (c : Contact) (rows after : List RowState) (seen : Seen) (S : List Contact) → SoundRows own k b rows → SeenStep own k b c rows seen after → (¬ IsNew own rows c) → All Keeps rows → All P S
+      → All P (held_by after (seen_siblings (record { own = own; list = S }) c seen))
+  known-keeps own k b c rows after seen S s (is_own o) old a z = held rows S a z
+  known-keeps own k b c rows after seen S s (split f g row o e here n t) old a z =
+      absurd (old (row-new own k b rows row c s (record { front = f; back = g; rows_are = e; covers = here }) o n.new))
+  known-keeps own k b c rows after Added S s (in_row f g row row' o e here w t q) old a z =
+      absurd (old (row-new own k b rows row c s (record { front = f; back = g; rows_are = e; covers = here }) o t.0))
+  known-keeps own k b c rows after Spared S s (in_row f g row row' o e here w t q) old a z =
+      absurd (old (row-new own k b rows row c s (record { front = f; back = g; rows_are = e; covers = here }) o t.0))
+  known-keeps own k b c rows after Own S s (in_row f g row row' o e here w t q) old a z = absurd t
+  known-keeps own k b c rows after Conflict S s (in_row f g row row' o e here w t q) old a z =
+      held after S (subst (All Keeps) (e ∙ ap (λ (r : RowState). f ++ r ∷ g) (sym t.2) ∙ sym q) a) z
+  known-keeps own k b c rows after Moved S s (in_row f g row row' o e here w t q) old a z =
+      let all : All Keeps (f ++ row ∷ g) = subst (All Keeps) e a in
+      let here_all : Keeps row = all-here Keeps f row g all in
+      let p : P c = passes-among P (live_in row) c t.0 (lives row here_all) in
+      let kept : Keeps (moved c row) = All-append P (map contact_of (without c row.live ++ fresh c ∷ [])) row.spares (all-ended P (without c row.live) c (all-without P c row.live (lives row here_all)) p) (spares row here_all) in
+      held after (with_one (record { own = own; list = S }) c) (subst (All Keeps) (sym q) (all-put Keeps f row row' g all (subst Keeps (sym t.1) kept))) (with-keeps own S c p z)
+
+  pub seen-holds : (own : Id) (k b : ℕ) (c : Contact) (rows after : List RowState) (seen : Seen) (S : List Contact) → SoundRows own k b rows → SeenStep own k b c rows seen after → (IsNew own rows c → P c) → All P (held_by rows S)
+      → All P (held_by after (seen_siblings (record { own = own; list = S }) c seen))
+  seen-holds own k b c rows after seen S s t new a =
+      let in_rows = to-rows rows (all-left P (flat_map kept_in rows) S a) in
+      let in_siblings = all-right P (flat_map kept_in rows) S a in
+      new-or-old (All P (held_by after (seen_siblings (record { own = own; list = S }) c seen))) own rows c
+      (λ is. subst (λ (l : List RowState). All P (held_by l (seen_siblings (record { own = own; list = S }) c seen))) (sym (seen-is own k b c rows after seen s t))
+      (held (seen_rows own k b c rows) (seen_siblings (record { own = own; list = S }) c seen) (seen_rows-keeps own k b c rows (new is) in_rows) (seen-siblings own S c seen (new is) in_siblings)))
+      (λ old. known-keeps own k b c rows after seen S s t old in_rows in_siblings)
+
+  pub failed-holds : (own : Id) (c : Contact) (rows : List RowState) (gone : Gone) (S : List Contact) → All P (held_by rows S) → All P (held_by (failed_rows gone c rows) (failed_siblings (record { own = own; list = S }) c gone))
+  failed-holds own c rows gone S a =
+      held (failed_rows gone c rows) (failed_siblings (record { own = own; list = S }) c gone) (failed_rows-keeps gone c rows (to-rows rows (all-left P (flat_map kept_in rows) S a))) (failed-siblings own S c gone (all-right P (flat_map kept_in rows) S a))
 
   pub run-holds : (s : TableState) (run : List (Made TableCall TableReply)) → All P (held_in s) → All P (told_by run) → All P (held_in (left_by table_after s run))
   run-holds s [] a p = a
@@ -184,7 +223,10 @@ holds s run =
     let told : All (Contains (held_in s ++ told_by run)) (told_by run) = λ i d lt. Contains-append_right (held_in s) (told_by run) _ (All-contains_itself (told_by run) i d lt) in
     run-holds (Contains (held_in s ++ told_by run)) s run had told
 
+pub since-limited : (own : Id) (k b n : ℕ) (run : List (Made TableCall TableReply)) → All (Contains (told_by run)) (contacts_of (left_by table_after (limited_table own k b n) run))
+since-limited own k b n run =
+    listed (Contains (told_by run)) (left_by table_after (limited_table own k b n) run)
+    (run-holds (Contains (told_by run)) (limited_table own k b n) run (All-nil (Contains (told_by run))) (All-contains_itself (told_by run)))
+
 pub since-new : (own : Id) (k b : ℕ) (run : List (Made TableCall TableReply)) → All (Contains (told_by run)) (contacts_of (left_by table_after (new_table own k b) run))
-since-new own k b run =
-    listed (Contains (told_by run)) (left_by table_after (new_table own k b) run)
-    (run-holds (Contains (told_by run)) (new_table own k b) run (All-nil (Contains (told_by run))) (All-contains_itself (told_by run)))
+since-new own k b run = since-limited own k b 0 run

@@ -3,3 +3,8 @@ pub mod StaysSound
 pub mod Outcome
 pub mod Holding
 pub mod Naming
+pub mod Newness
+pub mod Seating
+pub mod Few
+pub mod Kept
+pub mod Sweeping

@@ -22,7 +22,7 @@ use Rattle.bucket_tree.proofs.Places.{covers, one-covers}
 use Rattle.contact_table.specs.declared.calls.TableCall.{TableCall}
 use Rattle.contact_table.specs.declared.calls.TableCall.TheVariants.{Seen as Seen_call, Failed, Closest}
 use Rattle.contact_table.specs.declared.calls.TableReply.{TableReply}
-use Rattle.contact_table.specs.declared.calls.TableReply.TheVariants.{Seen as Seen_reply, Gone as Gone_reply, List as List_reply, NoMemory}
+use Rattle.contact_table.specs.declared.calls.TableReply.TheVariants.{Seen as Seen_reply, Gone as Gone_reply, List as List_reply, Crowded, NoMemory}
 use Rattle.contact_table.specs.TableState.{TableState, SoundTable}
 use Rattle.contact_table.specs.TableStep.{TableMay, TableStep, table_after}
 use Rattle.contact_table.specs.Told.{HasMemory, calls_in, replies_in}
@@ -196,7 +196,13 @@ module _ (own : Id) (k b : ℕ) where
 pub one-reply : (s : TableState) (role other : ℕ) (call : TableCall) (x y : TableReply) → SoundTable s → TableStep s role call x → TableStep s other call y → HasMemory x → HasMemory y → x ≡ y
 one-reply s role other (Seen_call c) (Seen_reply x) (Seen_reply y) q t u m n =
     let one = one-covers c.id s.rows q.buckets.rows.partition q.buckets.rows.short in
-    ap Seen_reply (one-seen s.own s.k s.b c s.rows _ _ x y t u (omega (arith, one)))
+    ap Seen_reply (one-seen s.own s.k s.b c s.rows _ _ x y t.0 u.0 (omega (arith, one)))
+one-reply s role other (Seen_call c) Crowded Crowded q t u m n = refl
+one-reply s role other (Seen_call c) (Seen_reply x) Crowded q t u m n = absurd (t.1 u)
+one-reply s role other (Seen_call c) Crowded (Seen_reply y) q t u m n = absurd (u.1 t)
+one-reply s role other (Seen_call c) Crowded (Gone_reply y) q t u m n = absurd u
+one-reply s role other (Seen_call c) Crowded (List_reply y) q t u m n = absurd u
+one-reply s role other (Seen_call c) Crowded NoMemory q t u m n = absurd n
 one-reply s role other (Failed c) (Gone_reply x) (Gone_reply y) q t u m n = ap Gone_reply (one-gone s.own s.k s.b c s.rows _ _ x y q.buckets.rows t u)
 one-reply s role other (Closest target k) (List_reply x) (List_reply y) q t u m n = ap List_reply (t ∙ sym u)
 one-reply s role other (Seen_call c) (Gone_reply x) y q t u m n = absurd t
@@ -208,12 +214,16 @@ one-reply s role other (Seen_call c) (Seen_reply x) NoMemory q t u m n = absurd 
 one-reply s role other (Failed c) (Seen_reply x) y q t u m n = absurd t
 one-reply s role other (Failed c) (List_reply x) y q t u m n = absurd t
 one-reply s role other (Failed c) NoMemory y q t u m n = absurd m
+one-reply s role other (Failed c) Crowded y q t u m n = absurd t
+one-reply s role other (Failed c) (Gone_reply x) Crowded q t u m n = absurd u
 one-reply s role other (Failed c) (Gone_reply x) (Seen_reply y) q t u m n = absurd u
 one-reply s role other (Failed c) (Gone_reply x) (List_reply y) q t u m n = absurd u
 one-reply s role other (Failed c) (Gone_reply x) NoMemory q t u m n = absurd n
 one-reply s role other (Closest target k) (Seen_reply x) y q t u m n = absurd t
 one-reply s role other (Closest target k) (Gone_reply x) y q t u m n = absurd t
 one-reply s role other (Closest target k) NoMemory y q t u m n = absurd m
+one-reply s role other (Closest target k) Crowded y q t u m n = absurd t
+one-reply s role other (Closest target k) (List_reply x) Crowded q t u m n = absurd u
 one-reply s role other (Closest target k) (List_reply x) (Seen_reply y) q t u m n = absurd u
 one-reply s role other (Closest target k) (List_reply x) (Gone_reply y) q t u m n = absurd u
 one-reply s role other (Closest target k) (List_reply x) NoMemory q t u m n = absurd n
@@ -223,10 +233,12 @@ any-role : (s : TableState) (role other : ℕ) (call : TableCall) (x : TableRepl
 any-role s role other (Seen_call c) (Seen_reply x) = refl
 any-role s role other (Seen_call c) (Gone_reply x) = refl
 any-role s role other (Seen_call c) (List_reply x) = refl
+any-role s role other (Seen_call c) Crowded = refl
 any-role s role other (Seen_call c) NoMemory = refl
 any-role s role other (Failed c) (Seen_reply x) = refl
 any-role s role other (Failed c) (Gone_reply x) = refl
 any-role s role other (Failed c) (List_reply x) = refl
+any-role s role other (Failed c) Crowded = refl
 any-role s role other (Failed c) NoMemory = refl
 any-role s role other (Closest target n) x = refl
 

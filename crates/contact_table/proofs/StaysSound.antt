@@ -22,11 +22,11 @@ use Rattle.sibling_list.proofs.Listing.{none_yet, grows, stays}
 use Rattle.contact_table.specs.declared.calls.TableCall.{TableCall}
 use Rattle.contact_table.specs.declared.calls.TableCall.TheVariants.{Seen as Seen_call, Failed, Closest}
 use Rattle.contact_table.specs.declared.calls.TableReply.{TableReply}
-use Rattle.contact_table.specs.declared.calls.TableReply.TheVariants.{Seen as Seen_reply, Gone as Gone_reply, List as List_reply, NoMemory}
+use Rattle.contact_table.specs.declared.calls.TableReply.TheVariants.{Seen as Seen_reply, Gone as Gone_reply, List as List_reply, Crowded, NoMemory}
 use Rattle.contact_table.specs.TableState.{TableState, SoundTable}
 use Rattle.contact_table.specs.TableStep.{TableMay, TableStep, table_after, seen_siblings, failed_siblings}
 use Rattle.contact_table.specs.RowsAfter.{seen_rows, failed_rows}
-use Rattle.contact_table.specs.Told.{new_table}
+use Rattle.contact_table.specs.Told.{limited_table, new_table}
 use Rattle.contact_table.proofs.Determined.{one-row, halves-of, some-covers}
 
 module _ (own : Id) (k b : ℕ) where
@@ -89,9 +89,10 @@ with-parts s rows q r = record { some_live = q.some_live; few_live = q.few_live;
 
 pub step-sound : (s : TableState) (role : ℕ) (call : TableCall) (x : TableReply) → SoundTable s → TableStep s role call x → SoundTable (table_after s role call x)
 step-sound s role (Seen_call c) (Seen_reply seen) q t = record {
-  buckets = with-parts s (seen_rows s.own s.k s.b c s.rows) q.buckets (seen-sound s.own s.k s.b c s.rows (seen_rows s.own s.k s.b c s.rows) seen q.buckets.some_live q.buckets.rows t);
+  buckets = with-parts s (seen_rows s.own s.k s.b c s.rows) q.buckets (seen-sound s.own s.k s.b c s.rows (seen_rows s.own s.k s.b c s.rows) seen q.buckets.some_live q.buckets.rows t.0);
   siblings = seen-siblings s.own s.siblings c seen q.siblings;
 }
+step-sound s role (Seen_call c) Crowded q t = q
 step-sound s role (Seen_call c) NoMemory q t = q
 step-sound s role (Seen_call c) (Gone_reply g) q t = absurd t
 step-sound s role (Seen_call c) (List_reply l) q t = absurd t
@@ -101,9 +102,11 @@ step-sound s role (Failed c) (Gone_reply gone) q t = record {
 }
 step-sound s role (Failed c) (Seen_reply x) q t = absurd t
 step-sound s role (Failed c) (List_reply x) q t = absurd t
+step-sound s role (Failed c) Crowded q t = absurd t
 step-sound s role (Failed c) NoMemory q t = absurd t
 step-sound s role (Closest target n) (List_reply x) q t = q
 step-sound s role (Closest target n) NoMemory q t = q
+step-sound s role (Closest target n) Crowded q t = absurd t
 step-sound s role (Closest target n) (Seen_reply x) q t = absurd t
 step-sound s role (Closest target n) (Gone_reply x) q t = absurd t
 
@@ -111,5 +114,8 @@ pub run-sound : (s : TableState) (run : List (Made TableCall TableReply)) → So
 run-sound s [] q r = q
 run-sound s (e ∷ run) q r = run-sound (table_after s e.role e.call e.reply) run (step-sound s e.role e.call e.reply q r.1) r.2
 
+pub limited-sound : (own : Id) (k b n : ℕ) → 0 < k → k ≤ 20 → 0 < b → b ≤ 5 → SoundTable (limited_table own k b n)
+limited-sound own k b n some few bits few_bits = record { buckets = sound-new own k b (record { prefix = []; live = []; spares = [] } ∷ []) refl some few bits few_bits; siblings = none_yet own [] refl }
+
 pub new-sound : (own : Id) (k b : ℕ) → 0 < k → k ≤ 20 → 0 < b → b ≤ 5 → SoundTable (new_table own k b)
-new-sound own k b some few bits few_bits = record { buckets = sound-new own k b (record { prefix = []; live = []; spares = [] } ∷ []) refl some few bits few_bits; siblings = none_yet own [] refl }
+new-sound own k b some few bits few_bits = limited-sound own k b 0 some few bits few_bits

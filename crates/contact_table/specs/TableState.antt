@@ -1,4 +1,5 @@
--- What callers see of the routing table: its buckets as a list of rows, and its siblings.
+-- What callers see of the routing table: its buckets as a list of rows, its siblings, and how many contacts of one host
+-- it holds at most (0: as many as there are).
 use Rattle.std.specs.Prelude.{ℕ, List}
 use Rattle.kad_base.specs.declared.types.Id.{Id}
 use Rattle.kad_base.specs.declared.types.Contact.{Contact}
@@ -11,6 +12,7 @@ pub record TableState : Type 0 where
   pub b : ℕ
   pub rows : List RowState
   pub siblings : List Contact
+  pub per_address : ℕ
 
 -- its buckets, and its siblings, each as their own crate has them
 abbrev pub buckets_of : TableState → BucketsState
@@ -23,3 +25,7 @@ siblings_of s = record { own = s.own; list = s.siblings }
 pub record SoundTable (s : TableState) : Type 0 where
   pub buckets : Sound (buckets_of s)
   pub siblings : IsSiblings (siblings_of s)
+
+-- the table without its limit
+abbrev pub unlimited : TableState → TableState
+unlimited s = record { own = s.own; k = s.k; b = s.b; rows = s.rows; siblings = s.siblings; per_address = 0 }

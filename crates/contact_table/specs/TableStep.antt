@@ -13,9 +13,11 @@ use Rattle.sibling_list.specs.Siblings.{SiblingList, with_one, without_one}
 use Rattle.contact_table.specs.declared.calls.TableCall.{TableCall}
 use Rattle.contact_table.specs.declared.calls.TableCall.TheVariants.{Seen as Seen_call, Failed, Closest}
 use Rattle.contact_table.specs.declared.calls.TableReply.{TableReply}
-use Rattle.contact_table.specs.declared.calls.TableReply.TheVariants.{Seen as Seen_reply, Gone as Gone_reply, List as List_reply, NoMemory}
+use Rattle.contact_table.specs.declared.calls.TableReply.TheVariants.{Seen as Seen_reply, Gone as Gone_reply, List as List_reply, Crowded, NoMemory}
 use Rattle.contact_table.specs.RowsAfter.{seen_rows, failed_rows}
 use Rattle.contact_table.specs.TableState.{TableState, siblings_of}
+use Rattle.contact_table.specs.Told.{held_in}
+use Rattle.contact_table.specs.Crowded.{IsCrowded, IsNew}
 
 -- role 0 may make every call, the others Seen and Closest
 abbrev pub TableMay : ℕ → TableCall → Type 0
@@ -42,9 +44,14 @@ failed_siblings s c Unknown = without_one s c
 abbrev pub contacts_of : TableState → List Contact
 contacts_of s = live_of s.rows ++ s.siblings
 
+-- the table turns a contact away: its identifier is new, and its host has as many others as the table takes
+abbrev pub TurnsAway : TableState → Contact → Type 0
+TurnsAway s c = IsNew s.own s.rows c × IsCrowded s.per_address (held_in s) c
+
 -- when each reply comes; Seen and Closest need memory, Failed none
 abbrev pub TableStep : TableState → ℕ → TableCall → TableReply → Type 0
-TableStep s role (Seen_call c) (Seen_reply seen) = SeenStep s.own s.k s.b c s.rows seen (seen_rows s.own s.k s.b c s.rows)
+TableStep s role (Seen_call c) (Seen_reply seen) = SeenStep s.own s.k s.b c s.rows seen (seen_rows s.own s.k s.b c s.rows) × (¬ TurnsAway s c)
+TableStep s role (Seen_call c) Crowded = TurnsAway s c
 TableStep s role (Seen_call c) NoMemory = Unit {0}
 TableStep s role (Seen_call c) other = ⊥
 TableStep s role (Failed c) (Gone_reply gone) = FailedStep c s.rows gone (failed_rows gone c s.rows)
@@ -55,9 +62,9 @@ TableStep s role (Closest target n) other = ⊥
 
 -- the table with other rows and siblings
 abbrev pub with_rows : TableState → List RowState → List Contact → TableState
-with_rows s rows siblings = record { own = s.own; k = s.k; b = s.b; rows = rows; siblings = siblings }
+with_rows s rows siblings = record { own = s.own; k = s.k; b = s.b; rows = rows; siblings = siblings; per_address = s.per_address }
 
--- the table after a reply; as it was after Closest and where memory ran out
+-- the table after a reply; as it was after Closest, where a contact was turned away, and where memory ran out
 abbrev pub table_after : TableState → ℕ → TableCall → TableReply → TableState
 table_after s role (Seen_call c) (Seen_reply seen) = with_rows s (seen_rows s.own s.k s.b c s.rows) (seen_siblings (siblings_of s) c seen)
 table_after s role (Failed c) (Gone_reply gone) = with_rows s (failed_rows gone c s.rows) (failed_siblings (siblings_of s) c gone)

@@ -11,9 +11,20 @@ use Rattle.contact_table.specs.declared.calls.TableReply.{TableReply}
 use Rattle.contact_table.specs.declared.calls.TableReply.TheVariants.{NoMemory}
 use Rattle.contact_table.specs.TableState.{TableState}
 
--- the table that has no contact yet
+-- the table that has no contact yet, and takes no more than n of one host
+abbrev pub limited_table : Id → ℕ → ℕ → ℕ → TableState
+limited_table own k b n = record {
+  own = own;
+  k = k;
+  b = b;
+  rows = record { prefix = []; live = []; spares = [] } ∷ [];
+  siblings = [];
+  per_address = n;
+}
+
+-- the one without a limit
 abbrev pub new_table : Id → ℕ → ℕ → TableState
-new_table own k b = record { own = own; k = k; b = b; rows = record { prefix = []; live = []; spares = [] } ∷ []; siblings = [] }
+new_table own k b = limited_table own k b 0
 
 -- the contact that a call says was seen
 abbrev pub told_in : TableCall → List Contact
@@ -29,9 +40,13 @@ told_by run = flat_map (λ e. told_in e.call) run
 abbrev pub kept_in : RowState → List Contact
 kept_in row = live_in row ++ row.spares
 
--- those of a table, followed by its siblings
+-- those of some rows, followed by siblings
+abbrev pub held_by : List RowState → List Contact → List Contact
+held_by rows siblings = flat_map kept_in rows ++ siblings
+
+-- the contacts of a table
 abbrev pub held_in : TableState → List Contact
-held_in s = flat_map kept_in s.rows ++ s.siblings
+held_in s = held_by s.rows s.siblings
 
 -- the calls of a run, and its replies
 abbrev pub calls_in : List (Made TableCall TableReply) → List TableCall

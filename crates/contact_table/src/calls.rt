@@ -22,6 +22,8 @@ pub enum TableReply {
     Gone { gone: Gone },
     /// The closest contacts, nearest first.
     List { list: Contacts },
+    /// The contact was turned away: the table holds as many others of its host as it may. The table is as it was.
+    Crowded,
     /// The allocator gave no memory; the table is as it was.
     NoMemory,
 }

@@ -10,7 +10,8 @@ ghost use Rattle.contact_table.specs.declared.calls.TableCall.{TableCall};
 ghost use Rattle.contact_table.specs.declared.calls.TableReply.{TableReply};
 ghost use Rattle.contact_table.specs.TableState.{TableState, SoundTable};
 ghost use Rattle.contact_table.specs.TableStep.{TableMay, TableStep, table_after, contacts_of};
-ghost use Rattle.contact_table.specs.Told.{HasMemory, calls_in, replies_in, held_in, new_table, seen_calls, told_by};
+ghost use Rattle.contact_table.specs.Told.{HasMemory, calls_in, replies_in, held_in, limited_table, new_table, seen_calls, told_by};
+ghost use Rattle.contact_table.specs.Crowded.{HasFew};
 
 /// A call of a sound table has one outcome, unless it is out of memory: its reply and the state that it leaves follow from the
 /// state and the call. So do the replies of a run and the state at its end from the calls: an input gives one table.
@@ -37,6 +38,8 @@ pub fn one_outcome()
 pub fn stays_sound()
     ensures new { (own : Id) (k b : ℕ) → 0 < k → k ≤ 20 → 0 < b → b ≤ 5
         → SoundTable (new_table own k b) }
+    ensures limited { (own : Id) (k b n : ℕ) → 0 < k → k ≤ 20 → 0 < b → b ≤ 5
+        → SoundTable (limited_table own k b n) }
     ensures step { (s : TableState) (role : ℕ) (call : TableCall) (x : TableReply) → SoundTable s
         → TableStep s role call x → SoundTable (table_after s role call x) }
     ensures run { (s : TableState) (run : List (Made TableCall TableReply)) → SoundTable s
@@ -50,17 +53,29 @@ pub fn holds_what_it_was_told()
         → All (Contains (held_in s ++ told_by run)) (held_in (left_by table_after s run)) }
     ensures since_new { (own : Id) (k b : ℕ) (run : List (Made TableCall TableReply))
         → All (Contains (told_by run)) (contacts_of (left_by table_after (new_table own k b) run)) }
+    ensures since_limited { (own : Id) (k b n : ℕ) (run : List (Made TableCall TableReply))
+        → All (Contains (told_by run))
+        (contacts_of (left_by table_after (limited_table own k b n) run)) }
 {}
 
-/// A new table that was told of contacts, and not out of memory, names none as closest exactly if it was told of none. The
+/// A table that began without contacts holds no more different ones of one host than its limit says, if it has one: among its
+/// live contacts, spares and siblings together, whoever made which calls.
+pub fn few_of_a_host()
+    ensures { (own : Id) (k b n : ℕ) (run : List (Made TableCall TableReply)) → 0 < k → k ≤ 20
+        → 0 < b → b ≤ 5 → IsRun TableMay TableStep table_after (limited_table own k b n) run
+        → HasFew n (held_in (left_by table_after (limited_table own k b n) run)) }
+{}
+
+/// A new table, whatever its limit, that was told of contacts, and not out of memory, names none as closest exactly if it was told of none. The
 /// table's own identifier is no contact's: it would take none in of those. So a lookup lacks contacts to begin with exactly
 /// where its input gives none.
 pub fn names_none_of_none()
-    ensures { (own target : Id) (k b n : ℕ) (contacts : List Contact)
+    ensures { (own target : Id) (k b per_address n : ℕ) (contacts : List Contact)
         (run : List (Made TableCall TableReply)) → 0 < k → 0 < n
         → All (λ (c : Contact). c.id ≢ own) contacts
-        → IsRun TableMay TableStep table_after (new_table own k b) run
+        → IsRun TableMay TableStep table_after (limited_table own k b per_address) run
         → calls_in run ≡ seen_calls contacts → All HasMemory (replies_in run)
-        → (k_closest target n (contacts_of (left_by table_after (new_table own k b) run)) ≡ [])
+        → (k_closest target n
+        (contacts_of (left_by table_after (limited_table own k b per_address) run)) ≡ [])
         ↔ (contacts ≡ []) }
 {}

@@ -5,10 +5,13 @@
 mod calls;
 mod laws;
 mod saved;
+mod seats;
 mod table;
 mod threads;
 
 pub use calls::{TableCall, TableReply};
-pub use laws::{holds_what_it_was_told, names_none_of_none, one_outcome, stays_sound};
+pub use laws::{
+    few_of_a_host, holds_what_it_was_told, names_none_of_none, one_outcome, stays_sound,
+};
 pub use saved::Saved;
 pub use table::Table;

@@ -1,38 +1,46 @@
 //! The table, and what its calls do.
-ghost use Rattle.std.specs.Prelude.{◌≡◌, ◌<◌, ◌≤◌, [], ◌∷◌, IfOk, OnErr, Err};
+ghost use Rattle.std.specs.Prelude.{◌≡◌, ◌<◌, ◌≤◌, IfOk, Err};
 ghost use Rattle.kad_distance.specs.KClosest.{k_closest};
 ghost use Rattle.bucket_tree.specs.BucketSteps.{SeenStep, FailedStep};
 ghost use Rattle.contact_table.specs.RowsAfter.{seen_rows, failed_rows};
 ghost use Rattle.contact_table.specs.TableStep.{TableMay, TableStep, table_after, contacts_of, seen_siblings, failed_siblings};
 ghost use Rattle.contact_table.specs.SavedState.{state_of};
-ghost use Rattle.contact_table.specs.TableState.{SoundTable};
+ghost use Rattle.contact_table.specs.TableState.{SoundTable, unlimited};
+ghost use Rattle.contact_table.specs.Told.{limited_table, new_table};
 ghost use Rattle.bucket_tree.specs.declared.rows.TableFault.{TableFault};
 ghost use Rattle.contact_table.specs.declared.calls.TableCall.{TableCall};
 
 use crate::calls::{TableCall, TableReply};
 use crate::saved::Saved;
+use crate::seats::{Admission, Seat, admit};
 use bucket_tree::{Buckets, Gone, Seen, TableFault};
 use kad_base::{Contact, Contacts, Id, NoMemory, Serial};
 use sibling_list::Siblings;
 use std::alloc::Global;
+use std::collections::BTreeMap;
 use std::marker::Model;
 
-/// The routing table of a node, seen as its identifier, k, b, the rows of its buckets, and its siblings.
+/// The routing table of a node, seen as its identifier, k, b, the rows of its buckets, its siblings, and how many contacts of
+/// one host it holds at most.
 #[derive(Drop)]
 pub struct Table {
     buckets: Buckets,
     siblings: Siblings,
+    per_address: u8,
+    seats: BTreeMap<Seat, Contact>,
 }
 
 impl Model for Table {
     ghost use Rattle.std.specs.Prelude.{◌≡◌};
     ghost use Rattle.contact_table.specs.TableState.{TableState};
+    ghost use Rattle.contact_table.specs.Told.{held_by};
+    ghost use Rattle.contact_table.specs.Seats.{HasSeats};
 
     ghost Value = { TableState };
 
-    ghost view = { λ t. record { own = t.buckets.own; k = t.buckets.k; b = t.buckets.b; rows = t.buckets.rows; siblings = t.siblings.list } };
+    ghost view = { λ t. record { own = t.buckets.own; k = t.buckets.k; b = t.buckets.b; rows = t.buckets.rows; siblings = t.siblings.list; per_address = t.per_address } };
 
-    ghost invariant = { λ t. t.siblings.own ≡ t.buckets.own };
+    ghost invariant = { λ t. (t.siblings.own ≡ t.buckets.own) × HasSeats t.per_address (held_by t.buckets.rows t.siblings.list) t.seats };
 }
 
 impl Table {
@@ -43,23 +51,40 @@ impl Table {
         requires few_live { k ≤ 20 }
         requires some_bits { 0 < b }
         requires few_bits { b ≤ 5 }
-        ensures { IfOk result (λ table. table
-            ≡ record {
-              own = own;
-              k = k;
-              b = b;
-              rows = record { prefix = []; live = []; spares = [] } ∷ [];
-              siblings = [];
-            }) }
+        ensures { IfOk result (λ table. table ≡ new_table own k b) }
+    {
+        Table::limited(alloc, own, k, b, 0)
+    }
+
+    /// The same, of a table that takes no more than `per_address` contacts of one host (0: as many as there are), in buckets,
+    /// spares and siblings together.
+    pub fn limited(alloc: Global, own: Id, k: u8, b: u8, per_address: u8) -> Result<Table, NoMemory>
+        requires some_live { 0 < k }
+        requires few_live { k ≤ 20 }
+        requires some_bits { 0 < b }
+        requires few_bits { b ≤ 5 }
+        ensures { IfOk result (λ table. table ≡ limited_table own k b per_address) }
     {
         let buckets = Buckets::new(alloc, own, k, b)?;
         let siblings = Siblings::new(alloc, own)?;
-        Ok(Table { buckets, siblings })
+        Ok(Table {
+            buckets,
+            siblings,
+            per_address,
+            seats: BTreeMap::new(alloc),
+        })
     }
 
-    /// All that the table holds, in memory of its own.
+    /// How many contacts of one host it takes at most (0: as many as there are).
+    pub fn per_address(&self) -> u8
+        ensures { result ≡ self.now.per_address }
+    {
+        self.per_address
+    }
+
+    /// All that the table holds, in memory of its own. Its limit isn't saved.
     pub fn rows(&self) -> Result<Saved, NoMemory>
-        ensures { IfOk result (λ saved. state_of saved ≡ self.now) }
+        ensures { IfOk result (λ saved. state_of saved ≡ unlimited self.now) }
     {
         let rows = self.buckets.rows()?;
         let siblings = self.siblings.contacts()?;
@@ -72,7 +97,7 @@ impl Table {
         })
     }
 
-    /// The table that holds this. Unsound where k or b is outside its limits, the rows are none that buckets can have (see
+    /// The table that holds this, without a limit. Unsound where k or b is outside its limits, the rows are none that buckets can have (see
     /// `Buckets::of_rows`), or the siblings aren't in strict order to `own`, at most 16 and without `own`: then no calls lead
     /// to it.
     pub fn of_rows(alloc: Global, saved: &Saved) -> Result<Table, TableFault>
@@ -83,7 +108,12 @@ impl Table {
         let buckets = Buckets::of_rows(alloc, saved.own, saved.k, saved.b, &saved.rows)?;
         match Siblings::of_list(alloc, saved.own, saved.siblings.as_slice())? {
             Some(siblings) => {
-                let table = Table { buckets, siblings };
+                let table = Table {
+                    buckets,
+                    siblings,
+                    per_address: 0,
+                    seats: BTreeMap::new(alloc),
+                };
                 table.sound();
                 Ok(table)
             }
@@ -106,6 +136,17 @@ impl Table {
         ensures after { self.new ≡ table_after self.old 0 (TableCall.Seen contact) result }
     {
         self.buckets.sound();
+        match admit(
+            &self.buckets,
+            &self.siblings,
+            self.per_address,
+            &mut self.seats,
+            &contact,
+        ) {
+            Admission::Admitted => {}
+            Admission::Crowded => return TableReply::Crowded,
+            Admission::NoMemory => return TableReply::NoMemory,
+        }
         match self.buckets.seen(contact) {
             Ok(seen) => {
                 note_seen(&mut self.siblings, seen, contact);

@@ -1,5 +1,5 @@
 -- What is kept stays so through an add and a purge.
-use Rattle.std.proofs.Common.{◌≡◌, ◌≢◌, ◌↔◌, ℕ, ◌+◌, ◌≤◌, List, [], ◌∷◌, length, Result, Ok, refl, sym, ap, ◌∙◌, subst, arith}
+use Rattle.std.proofs.Common.{◌≡◌, ◌↔◌, ℕ, ◌≤◌, List, [], ◌∷◌, length, Option, Some, None, refl, sym, ap, ◌∙◌, subst, arith}
 use Rattle.std.specs.List.{All}
 use Rattle.std.specs.List.Sorted.{IsStrictlySortedBy}
 use Rattle.std.specs.Map.{keys_of}
@@ -11,11 +11,15 @@ use Rattle.std.proofs.lemmas.Map.Text.{is_eq-slice_cmp}
 use Rattle.std.proofs.lemmas.Slice.Eq.{bytes_eq-Decides}
 use Rattle.std.proofs.lemmas.List.Elements.{All-nil, All-cons, All-head, All-tail, All-filter}
 use Rattle.kad_base.specs.declared.types.Id.{Id}
-use Rattle.kad_base.specs.declared.types.NoMemory.{NoMemory}
-use Rattle.aged_map.specs.declared.aged.Stored.{Stored}
-use Rattle.aged_map.specs.declared.aged.Stored.TheVariants.{New, Renewed}
 use Rattle.item_store.specs.declared.held.Item.{Item}
-use Rattle.item_store.specs.Items.{Held, IsItem, IsItems, IsSound, Holds, HasNoPlace, key_of, key_cmp, max_items, is_fresh, with_item, purged}
+use Rattle.item_store.specs.Items.{Held, ItemsState, IsItem, IsItems, IsSound, key_of, key_cmp, item_host, max_items, is_fresh, first_from, found, Holds, IsCrowded, HasNoPlace, with_entry, with_item, purged}
+use Rattle.std.specs.Option.{IfSome, is_some}
+use Rattle.kad_base.specs.Hosts.{host}
+use Rattle.kad_base.specs.declared.types.Addr.{Addr}
+use Rattle.kad_base.specs.declared.host.Host.{Host}
+use Rattle.aged_map.specs.PerHost.{HasFewOfEach, HasNoPlaceAt, HasNoPlaceAmong, holding}
+use Rattle.std.specs.List.{list_any}
+use Rattle.std.proofs.lemmas.Map.Made.{is_some-lookup}
 
 -- keys that compare as equal are the same bytes
 pub same_key : (a b : Id) → key_cmp a b ≡ Equal → a.0 ≡ b.0
@@ -34,30 +38,55 @@ All-insert P (h ∷ held) key item here again all =
     by Equal there more = All-cons P (h.0, item) held (there refl) (All-tail P h held all)
     by Greater there more = All-cons P h (insert_entry key_cmp held key item) (All-head P h held all) more
 
-sound_add : (held : List Held) (v : List ℕ) (at : ℕ) → IsItem v → All IsSound held → All IsSound (with_item held v at)
-sound_add held v at item all =
-    let new : Item = record { v = v; last = at } in
-    All-insert IsSound held (key_of v) new (record { key = refl; item = item })
+sound_add : (s : ItemsState) (v : List ℕ) (from : Addr) (at : ℕ) → IsItem v → All IsSound s.held → All IsSound (with_item s v from at).held
+sound_add s v from at item all =
+    let new : Item = record { v = v; last = at; from = first_from (found s (key_of v)) (host from) } in
+    All-insert IsSound s.held (key_of v) new (record { key = refl; item = item })
     (λ k e. record { key = sym (same_key (key_of v) k e); item = item }) all
 
-pub kept_add : (held new : List Held) (v : List ℕ) (at : ℕ) → IsItems held → IsItem v → new ≡ with_item held v at
-    → IsStrictlySortedBy key_cmp (keys_of new) → length new ≤ max_items → IsItems new
-kept_add held new v at kept item is sorted few = record { sorted = sorted; few = few; sound = subst (All IsSound) (sym is) (sound_add held v at item kept.sound) }
+pub kept_add : (s new : ItemsState) (v : List ℕ) (from : Addr) (at : ℕ) → IsItems s → IsItem v → new ≡ with_item s v from at
+    → IsStrictlySortedBy key_cmp (keys_of new.held) → length new.held ≤ max_items → HasFewOfEach item_host new → IsItems new
+kept_add s new v from at kept item is sorted few each = record {
+  sorted = sorted;
+  few = few;
+  sound = subst (λ n. All IsSound n.held) (sym is) (sound_add s v from at item kept.sound);
+  few_of_a_host = each;
+}
 
-pub kept_purge : (held new : List Held) (at : ℕ) → IsItems held → new ≡ purged held at → length new ≤ length held → IsStrictlySortedBy key_cmp (keys_of new) → IsItems new
-kept_purge held new at kept is fewer sorted =
-    let few : length new ≤ max_items = let old : length held ≤ max_items = kept.few in omega arith in
-    record { sorted = sorted; few = few; sound = subst (All IsSound) (sym is) (All-filter (λ h. is_fresh at h.1) IsSound held kept.sound) }
+pub kept_purge : (s new : ItemsState) (at : ℕ) → IsItems s → new ≡ purged s at → length new.held ≤ length s.held → IsStrictlySortedBy key_cmp (keys_of new.held)
+    → HasFewOfEach item_host new → IsItems new
+kept_purge s new at kept is fewer sorted each =
+    let few : length new.held ≤ max_items = let old : length s.held ≤ max_items = kept.few in omega arith in
+    record { sorted = sorted; few = few; sound = subst (λ n. All IsSound n.held) (sym is) (All-filter (λ h. is_fresh at h.1) IsSound s.held kept.sound); few_of_a_host = each }
 
--- an add leaves no more than may be
-pub few_after : (held : List Held) (key : Id) (n : ℕ) (stored : Stored) → n ≤ length held + 1 → length held ≤ max_items
-    → ¬ (HasNoPlace held key) → (◌≡◌ {A = Result Stored NoMemory} (Ok stored) (Ok Renewed) → n ≡ length held)
-    → (◌≡◌ {A = Result Stored NoMemory} (Ok stored) (Ok Renewed)) ↔ Holds held key → n ≤ max_items
-few_after held key n Renewed le old place same holds = let e : n ≡ length held = same refl in omega arith
-few_after held key n New le old place same holds =
-    let absent : ¬ (Holds held key) = λ h. absurd (apart (holds.1 h)) in
-    let room : length held ≢ max_items = λ g. place (absent, g) in
-    omega arith
-  where
-    apart : ◌≡◌ {A = Result Stored NoMemory} (Ok New) (Ok Renewed) → ⊥
-    apart e = absurd cc
+-- ---- whose an item is that is put
+
+module _ (s : ItemsState) (key : Id) (from : Addr) (g h : Host) (at : h ≡ host from) (is : g ≡ first_from (found s key) h) where
+  -- what is held has the host that it keeps
+  pub own_host : IfSome (found s key) (λ w. w.from ≡ g)
+  own_host = subst (λ x. IfSome (found s key) (λ w. w.from ≡ x)) (sym is) (by (found s key))
+    where
+      by : (x : Option Item) → IfSome x (λ w. w.from ≡ first_from x h)
+      by None = tt
+      by (Some w) = refl
+
+  -- and a new one is its that puts it
+  new_host : ¬ Holds s key → g ≡ host from
+  new_host absent = is ∙ by (found s key) (is_some-lookup (λ k. is_eq (key_cmp key k)) s.held) ∙ at
+    where
+      by : (x : Option Item) → is_some x ≡ list_any (λ k. is_eq (key_cmp key k)) (keys_of s.held) → first_from x h ≡ h
+      by None e = refl
+      by (Some w) e = absurd (absent (sym e))
+
+  pub crowded_by : (A : Type 0) → A ↔ HasNoPlaceAt key_cmp item_host s key g → A ↔ IsCrowded s key from
+  crowded_by A e = (λ a. (let p = e.0 a in subst (HasNoPlaceAt key_cmp item_host s key) (new_host p.0) p), λ p. e.1 (subst (HasNoPlaceAt key_cmp item_host s key) (sym (new_host p.0)) p))
+
+  pub full_by : (A : Type 0) → A ↔ HasNoPlaceAmong key_cmp item_host s key g max_items → A ↔ HasNoPlace s key from
+  full_by A e = (
+    λ a. (let p = e.0 a in subst (λ x. HasNoPlaceAmong key_cmp item_host s key x max_items) (new_host p.absent) p),
+    λ p. e.1 (subst (λ x. HasNoPlaceAmong key_cmp item_host s key x max_items) (sym (new_host p.absent)) p),
+  )
+
+  pub entry_is : (v : List ℕ) (last : ℕ) → holding s (insert_entry key_cmp s.held key (record { v = v; last = last; from = g })) ≡ with_entry s key v (host from) last
+  entry_is v last =
+      ap (λ x. holding s (insert_entry key_cmp s.held key (record { v = v; last = last; from = x }))) (is ∙ ap (first_from (found s key)) at)

@@ -1,11 +1,11 @@
 //! The items of a node.
-ghost use Rattle.std.specs.Prelude.{◌≡◌, ◌↔◌, [], OnOk, OnErr, IfOk, IfSome, option_copied};
+ghost use Rattle.std.specs.Prelude.{◌≡◌, ◌↔◌, OnOk, OnErr, IfOk, IfSome, option_copied};
 ghost use Rattle.kad_base.specs.Puzzles.{hash};
-ghost use Rattle.item_store.specs.Items.{IsItem, IsItems, Holds, HasNoPlace, key_of, with_item, purged, handed_out};
+ghost use Rattle.item_store.specs.Items.{IsItem, IsItems, Holds, IsCrowded, HasNoPlace, key_of, no_items, with_item, purged, handed_out};
 
-use crate::held::{Held, Item, MAX_AGE, has_no_place, is_fresh};
-use aged_map::{AgedMap, Stored};
-use kad_base::{Bytes, Id, List, NoMemory};
+use crate::held::{Held, MAX_AGE, is_fresh, put};
+use aged_map::{HostedMap, Refused, Stored};
+use kad_base::{Addr, Bytes, Id, List, NoMemory};
 use sha1::Sha1;
 use std::alloc::Global;
 use std::marker::Model;
@@ -17,6 +17,9 @@ pub const MAX_ITEM: usize = 1_000;
 /// Why an item wasn't added.
 #[derive(Clone, Copy, Debug, PartialEq, Eq, Error)]
 pub enum ItemFault {
+    /// None of its key is held, and as many items that its host put first are held as may be.
+    #[error("as many items from this address are held as may be")]
+    Crowded,
     /// None of its key is held, and as many items are as may be: 4,096.
     #[error("as many items are held as may be")]
     Full,
@@ -43,10 +46,9 @@ pub struct Items {
 }
 
 impl Model for Items {
-    ghost use Rattle.item_store.specs.Items.{Held, IsItems};
-    ghost use Rattle.std.specs.Prelude.{List};
+    ghost use Rattle.item_store.specs.Items.{ItemsState, IsItems};
 
-    ghost Value = { List Held };
+    ghost Value = { ItemsState };
 
     ghost view = { λ s. s.held };
 
@@ -54,35 +56,43 @@ impl Model for Items {
 }
 
 impl Items {
-    /// No items. Takes no memory.
+    /// No items, and no limit of one host. Takes no memory.
     pub fn new(alloc: Global) -> Items
-        ensures { result ≡ [] }
+        ensures { result ≡ no_items 0 }
+    {
+        Items::limited(alloc, 0)
+    }
+
+    /// No items, of which at most so many may be put first from one host (`kad_base::Host`); 0 is no limit. Takes no memory.
+    pub fn limited(alloc: Global, per_address: usize) -> Items
+        ensures { result ≡ no_items per_address }
     {
         Items {
             alloc,
-            held: AgedMap::new(alloc),
+            held: HostedMap::new(alloc, per_address),
         }
     }
 
-    /// Adds the item at the moment, or sets its last add where its key is held, be it earlier or later than it was. `v` is
-    /// the written form of its value, of at most 1,000 bytes and with at most 14 lists and dictionaries one in another. An
-    /// item that is held takes no memory that it needs: where the index by age has none, it has no index from then on until
-    /// nothing is held. Of two values with one key the last is kept. On a fault all is as before. Costs one SHA-1 and four
-    /// searches, and one more where no place is left.
-    pub fn add(&mut self, v: Bytes, at: u64) -> Result<Stored, ItemFault>
+    /// Adds the item that came from the address at the moment, or sets its last add where its key is held, be it earlier or
+    /// later than it was. `v` is the written form of its value, of at most 1,000 bytes and with at most 14 lists and
+    /// dictionaries one in another. An item that is held takes no memory that it needs: where the index by age has none, it
+    /// has no index from then on until nothing is held. Of two values with one key the last is kept, and the host that put
+    /// the first. On a fault all is as before. Costs one SHA-1 and five searches, and one more where no place is left; where
+    /// there is a limit of one host, and the key isn't held, also two and one for each item of the host.
+    pub fn add(&mut self, v: Bytes, from: Addr, at: u64) -> Result<Stored, ItemFault>
         requires { IsItem v }
-        ensures stored { OnOk result (self.new ≡ with_item self.old v at) }
+        ensures stored { OnOk result (self.new ≡ with_item self.old v from at) }
         ensures fault { OnErr result (self.new ≡ self.old) }
         ensures renewed { (result ≡ Ok Stored.Renewed) ↔ Holds self.old (key_of v) }
-        ensures full { (result ≡ Err ItemFault.Full) ↔ HasNoPlace self.old (key_of v) }
+        ensures crowded { (result ≡ Err ItemFault.Crowded) ↔ IsCrowded self.old (key_of v) from }
+        ensures full { (result ≡ Err ItemFault.Full) ↔ HasNoPlace self.old (key_of v) from }
     {
         let key = item_key(v.as_slice());
-        if has_no_place(&self.held, key) {
-            return Err(ItemFault::Full);
-        }
-        let stored = match self.held.put(key, Item { v, last: at }) {
+        let stored = match put(&mut self.held, key, v, from, at) {
             Ok(stored) => stored,
-            Err(NoMemory) => return Err(ItemFault::NoMemory),
+            Err(Refused::Crowded) => return Err(ItemFault::Crowded),
+            Err(Refused::Full) => return Err(ItemFault::Full),
+            Err(Refused::NoMemory) => return Err(ItemFault::NoMemory),
         };
         Ok(stored)
     }

@@ -6,7 +6,7 @@ ghost use Rattle.item_store.specs.declared.calls.ItemCall.{ItemCall};
 
 use crate::calls::{ItemCall, ItemReply};
 use crate::items::{ItemFault, Items};
-use kad_base::{Bytes, Id, NoMemory, Serial};
+use kad_base::{Addr, Bytes, Id, NoMemory, Serial};
 
 impl Items {
     /// Answers with a copy of the written form of an item.
@@ -21,14 +21,15 @@ impl Items {
     }
 
     /// Drops what is old, and answers what became of an item.
-    fn put_one(&mut self, v: Bytes, at: u64) -> ItemReply
+    fn put_one(&mut self, v: Bytes, from: Addr, at: u64) -> ItemReply
         requires { IsItem v }
-        ensures step { ItemStep self.old 0 (ItemCall.Put v at) result }
-        ensures after { self.new ≡ item_after self.old 0 (ItemCall.Put v at) result }
+        ensures step { ItemStep self.old 0 (ItemCall.Put v from at) result }
+        ensures after { self.new ≡ item_after self.old 0 (ItemCall.Put v from at) result }
     {
         self.purge(at);
-        match self.add(v, at) {
+        match self.add(v, from, at) {
             Ok(stored) => ItemReply::Stored { stored },
+            Err(ItemFault::Crowded) => ItemReply::Crowded,
             Err(ItemFault::Full) => ItemReply::Full,
             Err(ItemFault::NoMemory) => ItemReply::NoMemory,
         }
@@ -49,7 +50,7 @@ impl Serial for Items {
     fn apply(&mut self, role: u8, call: ItemCall) -> ItemReply {
         match call {
             ItemCall::Get { key, at } => self.get_one(&key, at),
-            ItemCall::Put { v, at } => self.put_one(v, at),
+            ItemCall::Put { v, from, at } => self.put_one(v, from, at),
         }
     }
 }

@@ -1,6 +1,7 @@
 pub mod Outside
 pub mod Failing
 pub mod Contacts
+pub mod Hosts
 pub mod Hashes
 pub mod Bits
 pub mod Words

@@ -1,5 +1,5 @@
 -- What contracts see of the sources and sinks in memory.
-use Rattle.std.specs.Prelude.{◌≡◌, ℕ, ◌+◌, ◌-◌, ◌^◌, min, List, take, drop, length}
+use Rattle.std.specs.Prelude.{ℕ, ◌+◌, ◌-◌, ◌^◌, min, List}
 
 -- a source: the bytes that it has still to give, the most that it gives a call, the numbers of the calls that fail, how
 -- many calls there were, and how often it has failed

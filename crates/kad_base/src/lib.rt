@@ -5,6 +5,7 @@
 
 pub mod bits;
 pub mod bytes;
+pub mod host;
 pub mod laws;
 pub mod limits;
 pub mod list;
@@ -16,6 +17,7 @@ pub mod types;
 
 pub use bits::{leading_zeros, xor};
 pub use bytes::put_bytes;
+pub use host::{Host, host_of};
 pub use list::{Addrs, Bytes, Contacts, List, Numbers, Reports};
 pub use memory::{BytesSink, BytesSource};
 pub use outside::{Check, Link, Sink, Source};

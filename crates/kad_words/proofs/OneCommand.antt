@@ -138,7 +138,7 @@ look_once goal value a b s t =
     look_at_once a.target b.target value a b target (look_family_once value a b s.0.1 t.0.1) (look_crowd_once value a b s.0.2 t.0.2) s.1 t.1
 
 looks_once : (value : Values) (a b : LookWords) → AreLooks value a → AreLooks value b → a ≡ b
-looks_once value a b s t = look_at_once no_target no_target value a b refl (s.0 ∙ sym t.0) (s.1 ∙ sym t.1) s.2 t.2
+looks_once value a b s t = look_at_once no_target no_target value a b refl (s.0 ∙ sym t.0) (look_crowd_once value a b s.1 t.1) s.2 t.2
 
 item_once : (goal : Entry) (value : Values) (x y : List ℕ) → IsGiven SpellsBytes (value goal.name) x → IsGiven SpellsBytes (value goal.name) y → x ≡ y
 item_once goal value x y s t = given_once SpellsBytes bytes_once _ x y s t
@@ -247,12 +247,13 @@ serve_once a b same =
     let k_is : a.k ≡ b.k = cc in
     let bits_is : a.bits ≡ b.bits = cc in
     let policy_is : a.policy ≡ b.policy = cc in
+    let per_address_is : a.per_address ≡ b.per_address = cc in
     let receives_is : a.receives ≡ b.receives = cc in
     let minutes_is : a.minutes ≡ b.minutes = cc in
     let workers_is : a.workers ≡ b.workers = cc in
     let sealed_is : a.sealed ≡ b.sealed = cc in
     let table_is : a.table ≡ b.table = cc in
-    λ i. record { own = own_is i; k = k_is i; bits = bits_is i; policy = policy_is i; receives = receives_is i; minutes = minutes_is i; workers = workers_is i; sealed = sealed_is i; table = table_is i }
+    λ i. record { own = own_is i; k = k_is i; bits = bits_is i; policy = policy_is i; per_address = per_address_is i; receives = receives_is i; minutes = minutes_is i; workers = workers_is i; sealed = sealed_is i; table = table_is i }
 
 node_once : (a b : NodeWords) → parts_of (Node a) ≡ parts_of (Node b) → a ≡ b
 node_once a b same =

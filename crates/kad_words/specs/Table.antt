@@ -139,9 +139,10 @@ c2_option = choice (codes "c2") (Number 0 32) (OrElse 0) (lookup ∷ peers ∷ g
 abbrev pub family_option : Choice
 family_option = choice (codes "family") IpVersion (OrElse 4) (lookup ∷ peers ∷ get ∷ put ∷ [])
 
--- how many contacts of one host a path has at most, and 0 for as many as come
+-- how many contacts of one host a path has at most, and of `serve` and `node` how many their tables, how many pairs of a key and a
+-- peer, and how many items they keep; 0 for as many as come
 abbrev pub per_address_option : Choice
-per_address_option = choice (codes "per-address") (Number 0 255) (OrElse 0) (lookup ∷ peers ∷ get ∷ put ∷ [])
+per_address_option = choice (codes "per-address") (Number 0 255) (OrElse 0) (lookup ∷ peers ∷ get ∷ put ∷ serve ∷ node ∷ [])
 
 abbrev pub bind_option : Choice
 bind_option = choice (codes "bind") Address Optional (lookup ∷ peers ∷ get ∷ put ∷ serve ∷ node ∷ refresh ∷ [])
@@ -291,9 +292,9 @@ IsLook goal value look = (IsGiven SpellsId (value goal.name) look.target × Fami
 abbrev pub IsLookOf : Entry → Values → List ℕ → LookWords → Type 0
 IsLookOf goal value item look = (IsGiven SpellsBytes (value goal.name) item × FamilyOf family_option value look.family × NumberOf per_address_option value look.per_address) × IsLookAt (key_of item) value look
 
--- the same of lookups over IPv4, whose targets the words don't name, and with as many contacts of one host as come
+-- the same of lookups over IPv4, whose targets the words don't name
 abbrev pub AreLooks : Values → LookWords → Type 0
-AreLooks value look = (look.family ≡ Four) × (look.per_address ≡ 0) × IsLookAt no_target value look
+AreLooks value look = (look.family ≡ Four) × NumberOf per_address_option value look.per_address × IsLookAt no_target value look
 
 -- a part of a command, and the option that gives it: an identifier, a seed, a number, a number that may be left out,
 -- whether it says yes, whether it is given; or a policy, a lookup with the option that names its target, an item and the
@@ -335,7 +336,7 @@ parts_of (Peers look announce spread) = gives_look key_option look ∷ may_give_
 parts_of (Get look) = gives_look key_option look ∷ []
 parts_of (Put look item spread) = gives_item value_option item look ∷ gives_yes spread_option spread ∷ []
 parts_of (Serve words) =
-    gives_id own_option words.own ∷ gives_number k_option words.k ∷ gives_number bits_option words.bits ∷ gives_policy words.policy ∷ gives_number receives_option words.receives ∷ gives_number minutes_option words.minutes ∷ gives_number workers_option words.workers ∷ says_whether group_option words.sealed ∷ gives_yes table_option words.table ∷ []
+    gives_id own_option words.own ∷ gives_number k_option words.k ∷ gives_number bits_option words.bits ∷ gives_policy words.policy ∷ gives_number per_address_option words.per_address ∷ gives_number receives_option words.receives ∷ gives_number minutes_option words.minutes ∷ gives_number workers_option words.workers ∷ says_whether group_option words.sealed ∷ gives_yes table_option words.table ∷ []
 parts_of (Node words) = gives_looks words.look ∷ gives_number node_receives_option words.receives ∷ gives_number minutes_option words.minutes ∷ gives_yes table_option words.table ∷ []
 parts_of (Table words) = gives_id own_option words.own ∷ gives_number k_option words.k ∷ gives_number bits_option words.bits ∷ gives_policy words.policy ∷ []
 parts_of (Refresh words) = gives_number timeout_option words.timeout ∷ says_whether group_option words.sealed ∷ gives_yes all_option words.all ∷ []

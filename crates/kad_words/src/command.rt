@@ -80,7 +80,8 @@ pub enum Command {
 /// The options that every lookup has: the target, the node's own identifier if it is named, Kademlia's k, the
 /// disjoint paths, alpha on each, how long to wait for an answer, in milliseconds, Kademlia's b, which contacts pass, the
 /// network it is in, which BEP 32 keeps apart by family, whether an answer has to carry a group's tag, and how many contacts
-/// of one host a path has at most (0: as many as come; so always in `node` and `sim`).
+/// of one host a path has at most (0: as many as come; so always in `sim`). In `node` its table takes no more either, and its
+/// stores keep no more peers and items of one host.
 #[derive(Clone, Copy, Debug, PartialEq, Eq)]
 pub struct LookWords {
     pub target: Id,
@@ -97,14 +98,16 @@ pub struct LookWords {
 }
 
 /// The options of `serve`: the node's own identifier where it is named, Kademlia's k and b, which contacts pass, how many
-/// receive calls are made, after how many minutes it ends at the latest (0: it doesn't end by time), how many workers
-/// answer, whether replies carry a group's tag, and whether the routing table is printed at the end.
+/// contacts, peers and items of one host it holds at most, of each (0: as many as come), how many receive calls are made,
+/// after how many minutes it ends at the latest (0: it doesn't end by time), how many workers answer, whether replies carry a
+/// group's tag, and whether the routing table is printed at the end.
 #[derive(Clone, Copy, Debug, PartialEq, Eq)]
 pub struct ServeWords {
     pub own: Option<Id>,
     pub k: u8,
     pub bits: u8,
     pub policy: Policy,
+    pub per_address: u8,
     pub receives: u32,
     pub minutes: u32,
     pub workers: u8,
@@ -262,11 +265,22 @@ static PUT: [Choice; 14] = [
     SPREAD,
 ];
 
-static SERVE: [Choice; 11] = [
-    OWN, K, BITS, C1, C2, BIND, GROUP, RECEIVES, MINUTES, WORKERS, WITH_TABLE,
+static SERVE: [Choice; 12] = [
+    OWN,
+    K,
+    BITS,
+    C1,
+    C2,
+    PER_ADDRESS,
+    BIND,
+    GROUP,
+    RECEIVES,
+    MINUTES,
+    WORKERS,
+    WITH_TABLE,
 ];
 
-static NODE: [Choice; 13] = [
+static NODE: [Choice; 14] = [
     OWN,
     K,
     PATHS,
@@ -275,6 +289,7 @@ static NODE: [Choice; 13] = [
     BITS,
     C1,
     C2,
+    PER_ADDRESS,
     BIND,
     GROUP,
     NODE_RECEIVES,
@@ -499,6 +514,7 @@ fn serve(matches: &ArgMatches) -> Command
         k: small(matches, &K),
         bits: small(matches, &BITS),
         policy: policy(matches),
+        per_address: small(matches, &PER_ADDRESS),
         receives: number(matches, &RECEIVES),
         minutes: number(matches, &MINUTES),
         workers: small(matches, &WORKERS),
@@ -513,8 +529,9 @@ fn node(matches: &ArgMatches) -> Command
     ensures says { Says (taken_of matches.now) result }
     ensures word { word_of result ≡ node }
 {
+    let per_address = small(matches, &PER_ADDRESS);
     let words = NodeWords {
-        look: look_at(matches, Id([0; 20]), Family::Four, 0),
+        look: look_at(matches, Id([0; 20]), Family::Four, per_address),
         receives: number(matches, &NODE_RECEIVES),
         minutes: number(matches, &MINUTES),
         table: says_yes(matches, &WITH_TABLE),

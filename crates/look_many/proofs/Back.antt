@@ -8,8 +8,8 @@ use Rattle.std.proofs.Math.Seq.{take-append_seam}
 use Rattle.turn_book.specs.Turns.{TurnState, AreAll, fresh}
 use Rattle.turn_book.proofs.Ended.{all_in_row}
 use Rattle.contact_table.specs.TableState.{TableState}
-use Rattle.peer_store.specs.Peers.{Held}
-use Rattle.item_store.specs.Items.{Held as HeldItem}
+use Rattle.peer_store.specs.Peers.{PeersState}
+use Rattle.item_store.specs.Items.{ItemsState}
 use Rattle.claim_book.specs.State.{BookState}
 use Rattle.serve_crew.specs.Hands.{Hands, SameHands, TablePass, PeersPass, ItemsPass, hands}
 use Rattle.look_many.specs.declared.seeker.Seeker.{Seeker}
@@ -30,7 +30,7 @@ roles_still r (k ∷ ks) (l ∷ ls) h s = (s.0.role ∙ h.0, roles_still (suc r)
 pub written : (n : ℕ) (xs ys : List Seeker) → n ≡ length ys → length ys ≡ length xs → take n (ys ++ drop (length ys) xs) ≡ ys
 written n xs ys is len = ap (λ k. take k (ys ++ drop (length ys) xs)) is ∙ take-append_seam ys (drop (length ys) xs)
 
-module _ (T : TurnState TableState) (P : TurnState (List Held)) (I : TurnState (List HeldItem)) (n : ℕ) (ks ls : List Seeker) (host host' : Hands) (count : length ks ≡ n) (passes : map (λ (k : Seeker). k.pass) ks ≡ map (fresh T.id) (range_with_len 1 n)) (is_host : host ≡ hands (fresh T.id 0) (fresh P.id 0) (fresh I.id 0)) (same : SameHands host host') (seats : SameSeats ks ls) (len : length ls ≡ length ks)
+module _ (T : TurnState TableState) (P : TurnState PeersState) (I : TurnState ItemsState) (n : ℕ) (ks ls : List Seeker) (host host' : Hands) (count : length ks ≡ n) (passes : map (λ (k : Seeker). k.pass) ks ≡ map (fresh T.id) (range_with_len 1 n)) (is_host : host ≡ hands (fresh T.id 0) (fresh P.id 0) (fresh I.id 0)) (same : SameHands host host') (seats : SameSeats ks ls) (len : length ls ≡ length ks)
     (row : List TablePass) (peers_row : List PeersPass) (items_row : List ItemsPass) (row_is : row ≡ host'.table ∷ map (λ (k : Seeker). k.pass) (reverse ls)) (peers_is : peers_row ≡ host'.peers ∷ []) (items_is : items_row ≡ host'.items ∷ []) where
   fresh_passes : map (λ (k : Seeker). k.pass) ks ≡ map (fresh T.id) (range_with_len 1 (length ks))
   fresh_passes = passes ∙ ap (λ m. map (fresh T.id) (range_with_len 1 m)) (sym count)

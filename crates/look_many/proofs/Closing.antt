@@ -13,11 +13,11 @@ use Rattle.contact_table.specs.TableState.{TableState}
 use Rattle.contact_table.specs.TableStep.{TableMay, TableStep, table_after}
 use Rattle.contact_table.specs.declared.calls.TableCall.{TableCall}
 use Rattle.contact_table.specs.declared.calls.TableReply.{TableReply}
-use Rattle.peer_store.specs.Peers.{Held}
+use Rattle.peer_store.specs.Peers.{PeersState, no_peers as empty_peers}
 use Rattle.peer_store.specs.PeersStep.{PeersMay, PeersStep, peers_after}
 use Rattle.peer_store.specs.declared.calls.PeerCall.{PeerCall}
 use Rattle.peer_store.specs.declared.calls.PeerReply.{PeerReply}
-use Rattle.item_store.specs.Items.{Held as HeldItem}
+use Rattle.item_store.specs.Items.{ItemsState, no_items as empty_items}
 use Rattle.item_store.specs.ItemSteps.{ItemMay, ItemStep, item_after}
 use Rattle.item_store.specs.declared.calls.ItemCall.{ItemCall}
 use Rattle.item_store.specs.declared.calls.ItemReply.{ItemReply}
@@ -44,9 +44,9 @@ opened_alone turn row before after calls words told t start is =
     none_began before after words told
     (t.left ∙ ap (left_by table_after turn.start) (none_of t.run (none_made TableMay TableStep table_after turn row after calls t turn.roles refl is (λ (m : Made TableCall TableReply). ⊥))) ∙ start)
 
-module _ (k : Task) (r : Rows) (before after : TableState) (table_calls : ℕ) (held : List Held) (peers_calls : ℕ) (shelf : List HeldItem) (items_calls : ℕ)
+module _ (k : Task) (r : Rows) (before after : TableState) (table_calls : ℕ) (held : PeersState) (peers_calls : ℕ) (shelf : ItemsState) (items_calls : ℕ)
     (t : Closed TableMay TableStep table_after r.tables r.table_row after table_calls) (p : Closed PeersMay PeersStep peers_after r.stores r.peers_row held peers_calls) (i : Closed ItemMay ItemStep item_after r.shelves r.items_row shelf items_calls)
-    (start : r.tables.start ≡ before) (no_peers : r.stores.start ≡ []) (no_items : r.shelves.start ≡ []) (limits : IsWithinLimits k.setting) (small : k.server.k < 256)
+    (start : r.tables.start ≡ before) (no_peers : r.stores.start ≡ empty_peers before.per_address) (no_items : r.shelves.start ≡ empty_items before.per_address) (limits : IsWithinLimits k.setting) (small : k.server.k < 256)
     (words words' : WordsState) (told told' : Option (List Event)) where
   pub ok_looked : (x : Result Many ManyFault) → IfOk x (FoundBack k r words words' told told') → IfOk x (ManyLooked k.accepts k.tags k.server k.setting k.targets k.lasting before after words words' told told')
   ok_looked (Ok many) h = many_looked k r before after table_calls held peers_calls shelf items_calls t p i start no_peers no_items limits small words words' told told' many h

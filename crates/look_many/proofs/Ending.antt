@@ -16,12 +16,12 @@ use Rattle.contact_table.specs.declared.calls.TableCall.{TableCall}
 use Rattle.contact_table.specs.Told.{HasMemory}
 use Rattle.contact_table.specs.declared.calls.TableCall.TheVariants.{Closest, Failed, Seen as Seen_call}
 use Rattle.contact_table.specs.declared.calls.TableReply.{TableReply}
-use Rattle.contact_table.specs.declared.calls.TableReply.TheVariants.{List as Listed, Gone as Gone_reply, Seen as Seen_reply, NoMemory}
-use Rattle.peer_store.specs.Peers.{Held}
+use Rattle.contact_table.specs.declared.calls.TableReply.TheVariants.{List as Listed, Gone as Gone_reply, Seen as Seen_reply, Crowded as Host_crowded, NoMemory}
+use Rattle.peer_store.specs.Peers.{PeersState, no_peers as empty_peers}
 use Rattle.peer_store.specs.PeersStep.{PeersMay, PeersStep, peers_after}
 use Rattle.peer_store.specs.declared.calls.PeerCall.{PeerCall}
 use Rattle.peer_store.specs.declared.calls.PeerReply.{PeerReply}
-use Rattle.item_store.specs.Items.{Held as HeldItem}
+use Rattle.item_store.specs.Items.{ItemsState, no_items as empty_items}
 use Rattle.item_store.specs.ItemSteps.{ItemMay, ItemStep, item_after}
 use Rattle.item_store.specs.declared.calls.ItemCall.{ItemCall}
 use Rattle.item_store.specs.declared.calls.ItemReply.{ItemReply}
@@ -107,9 +107,9 @@ module _ {S C R : Type 0} (may : ℕ → C → Type 0) (step : S → ℕ → C �
   calls_of_one : calls_of pass.role closed.run ≡ mine pass
   calls_of_one = All-head (λ (x : PassState C R). calls_of x.role closed.run ≡ mine x) pass [] (subst (All (λ (x : PassState C R). calls_of x.role closed.run ≡ mine x)) is closed.in_order)
 
-module _ (server : ServeSetting) (targets : List Id) (r : Rows) (before after : TableState) (table_calls : ℕ) (held : List Held) (peers_calls : ℕ) (shelf : List HeldItem) (items_calls : ℕ)
+module _ (server : ServeSetting) (targets : List Id) (r : Rows) (before after : TableState) (table_calls : ℕ) (held : PeersState) (peers_calls : ℕ) (shelf : ItemsState) (items_calls : ℕ)
     (t : Closed TableMay TableStep table_after r.tables r.table_row after table_calls) (p : Closed PeersMay PeersStep peers_after r.stores r.peers_row held peers_calls) (i : Closed ItemMay ItemStep item_after r.shelves r.items_row shelf items_calls)
-    (start : r.tables.start ≡ before) (no_peers : r.stores.start ≡ []) (no_items : r.shelves.start ≡ []) (host : Hands) (seekers : List Seeker) (back : AreBack r host seekers) (count : length seekers ≡ length targets) where
+    (start : r.tables.start ≡ before) (no_peers : r.stores.start ≡ empty_peers before.per_address) (no_items : r.shelves.start ≡ empty_items before.per_address) (host : Hands) (seekers : List Seeker) (back : AreBack r host seekers) (count : length seekers ≡ length targets) where
   -- what holds of each pass's own calls holds of all calls on the table
   all_tables : (P : Made TableCall TableReply → Type 0) → All P (mine host.table) → All (λ (k : Seeker). All P (mine k.pass)) seekers → All P t.run
   all_tables P one each =
@@ -193,6 +193,7 @@ module _ (server : ServeSetting) (targets : List Id) (r : Rows) (before after : 
       one (Failed x) (Gone_reply gone) step is = tt
       one (Failed x) (Seen_reply seen) step is = absurd step
       one (Failed x) (Listed list) step is = absurd step
+      one (Failed x) Host_crowded step is = absurd step
       one (Failed x) NoMemory step is = absurd step
 
   pub ended_memory : All Remembers (mine host.table) → All (λ (k : Seeker). All (λ (m : Made TableCall TableReply). HasMemory m.reply) (mine k.pass)) seekers

@@ -76,7 +76,7 @@ fresh_lost server setting table [] [] h = refl
 fresh_lost server setting table [] (k ∷ ks) h = absurd h
 fresh_lost server setting table (t ∷ ts) [] h = absurd h
 fresh_lost server setting table (t ∷ ts) (k ∷ ks) h =
-    let one = ap (λ J. length (unsent J)) h.0.book.journal ∙ ap length (unsent_seeded 0 setting.paths (seeds_for server table t)) in
+    let one = ap (λ J. length (unsent J)) h.0.book.journal ∙ ap length (unsent_seeded setting.per_address setting.paths (seeds_for server table t)) in
     let rest = fresh_lost server setting table ts ks h.1 in
     omega (arith, one, rest)
 

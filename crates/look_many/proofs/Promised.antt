@@ -21,11 +21,11 @@ use Rattle.contact_table.specs.TableStep.{TableMay, TableStep, table_after}
 use Rattle.contact_table.specs.Told.{HasMemory, calls_in, seen_calls}
 use Rattle.contact_table.specs.declared.calls.TableCall.{TableCall}
 use Rattle.contact_table.specs.declared.calls.TableReply.{TableReply}
-use Rattle.peer_store.specs.Peers.{Held}
+use Rattle.peer_store.specs.Peers.{PeersState, no_peers as empty_peers}
 use Rattle.peer_store.specs.PeersStep.{PeersMay, PeersStep, peers_after}
 use Rattle.peer_store.specs.declared.calls.PeerCall.{PeerCall}
 use Rattle.peer_store.specs.declared.calls.PeerReply.{PeerReply}
-use Rattle.item_store.specs.Items.{Held as HeldItem}
+use Rattle.item_store.specs.Items.{ItemsState, no_items as empty_items}
 use Rattle.item_store.specs.ItemSteps.{ItemMay, ItemStep, item_after}
 use Rattle.item_store.specs.declared.calls.ItemCall.{ItemCall}
 use Rattle.item_store.specs.declared.calls.ItemReply.{ItemReply}
@@ -70,19 +70,19 @@ all_noted [] h = refl
 all_noted (Seed q c ∷ J) h = all_noted J h.1
 all_noted (x ∷ J) h = absurd h.0
 
-seeds_noted : (paths : ℕ) (cs : List Contact) → noted (seeded 0 paths cs) ≡ []
-seeds_noted paths cs = all_noted (seeded 0 paths cs) (seeded_seeds 0 paths cs)
+seeds_noted : (limit paths : ℕ) (cs : List Contact) → noted (seeded limit paths cs) ≡ []
+seeds_noted limit paths cs = all_noted (seeded limit paths cs) (seeded_seeds limit paths cs)
 
 module _ (server : ServeSetting) (setting : ManySetting) (table : TableState) (limits : IsWithinLimits setting) (small : server.k < 256) where
   -- a lookup that lived on since it began
   live_setting : (target : Id) (old new : Seeker) → IsSeekerFor server setting table target old → Lives old new → new.lookup.book.setting ≡ setting_for server setting target
   live_setting target old new s l = l.setting ∙ s.book.setting_is
 
-  live_seeds : (target : Id) (old new : Seeker) → IsSeekerFor server setting table target old → Lives old new → seeds new.lookup.book.journal ≡ seeded 0 setting.paths (seeds_for server table target)
+  live_seeds : (target : Id) (old new : Seeker) → IsSeekerFor server setting table target old → Lives old new → seeds new.lookup.book.journal ≡ seeded setting.per_address setting.paths (seeds_for server table target)
   live_seeds target old new s l = ap seeds l.journal ∙ seeds_append old.lookup.book.journal l.more ∙ ap (λ x. seeds old.lookup.book.journal ++ x) l.no_seeds ∙ append-nil (seeds old.lookup.book.journal) ∙ begin_seeds server setting table limits small target old s
 
   live_notes : (target : Id) (old new : Seeker) → IsSeekerFor server setting table target old → (l : Lives old new) → noted new.lookup.book.journal ≡ noted l.more
-  live_notes target old new s l = ap noted l.journal ∙ flat_map-append note_of old.lookup.book.journal l.more ∙ ap (λ x. x ++ noted l.more) (ap noted s.book.journal ∙ seeds_noted setting.paths (seeds_for server table target))
+  live_notes target old new s l = ap noted l.journal ∙ flat_map-append note_of old.lookup.book.journal l.more ∙ ap (λ x. x ++ noted l.more) (ap noted s.book.journal ∙ seeds_noted setting.per_address setting.paths (seeds_for server table target))
 
   journal_for : (target : Id) (old new : Seeker) → IsSeekerFor server setting table target old → Lives old new → IsLegal new → IsJournalFor server setting table target new.lookup.book.journal
   journal_for target old new s l legal = record {
@@ -205,9 +205,9 @@ fresh_made turn r (suc n) = (refl, fresh_made turn (r + 1) n)
 
 -- ---- the whole
 
-module _ (k : Task) (r : Rows) (before after : TableState) (table_calls : ℕ) (held : List Held) (peers_calls : ℕ) (shelf : List HeldItem) (items_calls : ℕ)
+module _ (k : Task) (r : Rows) (before after : TableState) (table_calls : ℕ) (held : PeersState) (peers_calls : ℕ) (shelf : ItemsState) (items_calls : ℕ)
     (t : Closed TableMay TableStep table_after r.tables r.table_row after table_calls) (p : Closed PeersMay PeersStep peers_after r.stores r.peers_row held peers_calls) (i : Closed ItemMay ItemStep item_after r.shelves r.items_row shelf items_calls)
-    (start : r.tables.start ≡ before) (no_peers : r.stores.start ≡ []) (no_items : r.shelves.start ≡ []) (limits : IsWithinLimits k.setting) (small : k.server.k < 256)
+    (start : r.tables.start ≡ before) (no_peers : r.stores.start ≡ empty_peers before.per_address) (no_items : r.shelves.start ≡ empty_items before.per_address) (limits : IsWithinLimits k.setting) (small : k.server.k < 256)
     (words words' : WordsState) (told told' : Option (List Event)) where
   seekers_for : (s : Stand) → Starts k r words told s → AllZip (IsSeekerFor k.server k.setting before) k.targets s.seekers
   seekers_for s b = subst (λ table. AllZip (IsSeekerFor k.server k.setting table) k.targets s.seekers) start b.seekers

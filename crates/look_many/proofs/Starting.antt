@@ -32,11 +32,11 @@ module _ (server : ServeSetting) (setting : ManySetting) (table : TableState) (l
   at_setting P p = subst P (sym s.book.setting_is) p
 
   begin_asks : length (asked k.lookup.book.journal) ≡ 0
-  begin_asks = ap (λ J. length (asked J)) s.book.journal ∙ ap length (seeds_ask 0 setting.paths (seeds_for server table target))
+  begin_asks = ap (λ J. length (asked J)) s.book.journal ∙ ap length (seeds_ask setting.per_address setting.paths (seeds_for server table target))
 
   begin_holds : Holding k
   begin_holds = record {
-    is_open = ap (map (λ (q : Query). q.contact)) s.none_open ∙ sym (ap open_any s.book.journal ∙ seeds_open 0 setting.paths (seeds_for server table target));
+    is_open = ap (map (λ (q : Query). q.contact)) s.none_open ∙ sym (ap open_any s.book.journal ∙ seeds_open setting.per_address setting.paths (seeds_for server table target));
     ids = subst (AllByRecursion (λ (q : Query). q.tx < 2 ^ 32)) (sym s.none_open) tt;
   }
 
@@ -55,16 +55,16 @@ module _ (server : ServeSetting) (setting : ManySetting) (table : TableState) (l
       most a p x y = grind arith
 
   begin_left : NothingLeft k
-  begin_left = λ p lt. ap (unsettled p) s.book.journal ∙ seeds_settled p 0 setting.paths (seeds_for server table target)
+  begin_left = λ p lt. ap (unsettled p) s.book.journal ∙ seeds_settled p setting.per_address setting.paths (seeds_for server table target)
 
   begin_fresh : IsFresh k
-  begin_fresh = record { none_open = s.none_open; none_driven = ap driven s.book.journal ∙ seeds_quiet 0 setting.paths (seeds_for server table target) }
+  begin_fresh = record { none_open = s.none_open; none_driven = ap driven s.book.journal ∙ seeds_quiet setting.per_address setting.paths (seeds_for server table target) }
 
   begin_some : 1 ≤ k.lookup.book.setting.alpha
   begin_some = at_setting (λ x. 1 ≤ x.alpha) limits.some_query
 
-  pub begin_seeds : seeds k.lookup.book.journal ≡ seeded 0 setting.paths (seeds_for server table target)
-  begin_seeds = ap seeds s.book.journal ∙ seeds_stand 0 setting.paths (seeds_for server table target)
+  pub begin_seeds : seeds k.lookup.book.journal ≡ seeded setting.per_address setting.paths (seeds_for server table target)
+  begin_seeds = ap seeds s.book.journal ∙ seeds_stand setting.per_address setting.paths (seeds_for server table target)
 
 -- ---- all of them
 

@@ -69,7 +69,7 @@ noted J = flat_map note_of J
 
 -- what its book is set to
 abbrev pub setting_for : ServeSetting → ManySetting → Id → Setting
-setting_for server setting target = record { own = server.own; target = target; k = server.k; paths = setting.paths; alpha = setting.alpha; policy = server.policy; per_address = 0 }
+setting_for server setting target = record { own = server.own; target = target; k = server.k; paths = setting.paths; alpha = setting.alpha; policy = server.policy; per_address = setting.per_address }
 
 -- what it asks, and what it believes: the node answers others, so it isn't read-only (BEP 43)
 abbrev pub quest_for : ServeSetting → ManySetting → Id → Quest
@@ -92,7 +92,7 @@ all_read server setting (t ∷ ts) (j ∷ js) = reads_for server setting t j ∷
 -- a legal journal that begins with these contacts
 pub record IsJournalFor (server : ServeSetting) (setting : ManySetting) (before : TableState) (target : Id) (journal : List Entry) : Type 0 where
   pub legal : Legal (setting_for server setting target) journal
-  pub seeds_are : seeds journal ≡ seeded 0 setting.paths (seeds_for server before target)
+  pub seeds_are : seeds journal ≡ seeded setting.per_address setting.paths (seeds_for server before target)
 
 -- what it found: all its paths have run out
 pub record IsFound (server : ServeSetting) (setting : ManySetting) (before : TableState) (target : Id) (one : One) : Type 0 where

@@ -326,11 +326,12 @@ pub fn look_many<R: Threads + Wait + Sync, L: Link, C: PacedCheck + Sync, G: Sea
         Err(NoMemory) => return (table, Err(ManyFault::NoMemory)),
     };
     let roles = targets.len() as u8 + 1;
+    let limit = usize::from(table.per_address());
     let (tables, mut table_row) = match Turn::new(alloc, table, roles) {
         Ok(opened) => opened,
         Err(TurnNoMemory { state }) => return (state, Err(ManyFault::NoMemory)),
     };
-    let peers = Peers::new(alloc);
+    let peers = Peers::limited(alloc, limit);
     let (stores, mut peers_row) = match Turn::new(alloc, peers, 1) {
         Ok(opened) => opened,
         Err(_) => {
@@ -338,7 +339,7 @@ pub fn look_many<R: Threads + Wait + Sync, L: Link, C: PacedCheck + Sync, G: Sea
             return (table, Err(ManyFault::NoMemory));
         }
     };
-    let items = Items::new(alloc);
+    let items = Items::limited(alloc, limit);
     let (shelves, mut items_row) = match Turn::new(alloc, items, 1) {
         Ok(opened) => opened,
         Err(_) => {

@@ -2,13 +2,14 @@
 use claim_book::{Counts, Journal};
 use kad_base::{Contacts, List, Numbers};
 
-/// How each of several lookups goes: on how many disjoint paths, with how many queries at once on each, and how long it waits
-/// for an answer, in milliseconds.
+/// How each of several lookups goes: on how many disjoint paths, with how many queries at once on each, how long it waits
+/// for an answer, in milliseconds, and how many contacts of one host a path has at most (0: as many as come).
 #[derive(Clone, Copy, Debug, PartialEq, Eq)]
 pub struct ManySetting {
     pub paths: u8,
     pub alpha: u8,
     pub timeout: u32,
+    pub per_address: u8,
 }
 
 /// What one of several lookups found, nearest first, its numbers and its journal.

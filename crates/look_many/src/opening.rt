@@ -32,7 +32,7 @@ fn setting_of(server: &ServeSetting, setting: &ManySetting, target: &Id) -> Sett
         paths: setting.paths,
         alpha: setting.alpha,
         policy: server.policy,
-        per_address: 0,
+        per_address: setting.per_address,
     }
 }
 
@@ -66,6 +66,7 @@ fn seeds_of(table: &mut Table, server: &ServeSetting, target: &Id) -> Result<Con
         TableReply::NoMemory => Err(NoMemory),
         TableReply::Seen { .. } => unreachable!(),
         TableReply::Gone { .. } => unreachable!(),
+        TableReply::Crowded => unreachable!(),
     }
 }
 

@@ -95,7 +95,7 @@ limits_of kind look random source setting words table h = subst IsWithinLimits (
 
 pub usable_in_table : (kind : AskKind) (look : LookWords) (random : List ℕ) (source : Shown ℕ) (setting : LookSetting) (words : WordsState) (table : TableState) → Has kind look random source setting words table → All (IsUsable setting.own) (contacts_of table)
 usable_in_table kind look random source setting words table h =
-    usable_told setting.own look.k look.bits h.contacts table (admits_usable setting.own setting.family setting.policy h.reads.reports h.contacts h.reads.admits) h.told
+    usable_told setting.own look.k look.bits 0 h.contacts table (admits_usable setting.own setting.family setting.policy h.reads.reports h.contacts h.reads.admits) h.told
 
 pub few_from : (kind : AskKind) (look : LookWords) (called : Called) (source : Shown ℕ) (link : Shown Event) (setting : LookSetting) (words : WordsState) (table : TableState) → Has kind look called.random source setting words table
     → MeetsFewStrays setting called.accepts table words link.before link.after → (setting.sealed ≡ false → Grows link.before link.after (NeverEnds (given_of setting called.accepts words) max_strays)) → MeetsFew kind look called source link

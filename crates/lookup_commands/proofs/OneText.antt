@@ -56,7 +56,7 @@ reads_same own family policy source again xs ys same s t =
 table_once : (look : LookWords) (random : List ℕ) (source again : Shown ℕ) → IsInRange look → SameInput source again → (a : Start look random source) (b : Start look random again) → a.table ≡ b.table
 table_once look random source again range same a b =
     let contacts = reads_same (own_of look.own random) look.family look.policy source again a.contacts b.contacts same a.reads b.reads in
-    new_once (own_of look.own random) look.k look.bits (map seen_call b.contacts) a.table b.table range.some_live range.few_live range.some_bits range.few_bits
+    new_once (own_of look.own random) look.k look.bits 0 (map seen_call b.contacts) a.table b.table range.some_live range.few_live range.some_bits range.few_bits
     (subst (λ (l : List Contact). StartsWith look random l a.table) contacts a.told) b.told
 
 seeds_once : (kind : AskKind) (look : LookWords) (random : List ℕ) (source again : Shown ℕ) (J K : List Entry) → IsInRange look → SameInput source again → HasRunOut kind look random source J → HasRunOut kind look random again K → seeds J ≡ seeds K

@@ -112,7 +112,14 @@ pub fn run_lookup<
         setting.policy,
         call.check,
     )?;
-    let table = table_of(alloc, setting.own, look.k, look.bits, contacts.as_slice())?;
+    let table = table_of(
+        alloc,
+        setting.own,
+        look.k,
+        look.bits,
+        0,
+        contacts.as_slice(),
+    )?;
     let mut words = Words::new(&call.random, FIRST_TX);
     let (_, ended) = look_up(
         rt,

@@ -13,7 +13,7 @@ use thiserror::Error;
 /// which reports may be believed, `timeout` how long to wait for an answer, in milliseconds, and `sealed` whether a reply
 /// has to carry a tag that the seal accepts. `family` is the network, of which there are two apart (BEP 32): in that of
 /// IPv6 queries ask for contacts of IPv6, and of answers the parts with these are read. A path has at most `per_address`
-/// contacts of one host (`claim_book::Host`), lost ones among them; 0 is no limit.
+/// contacts of one host (`kad_base::Host`), lost ones among them; 0 is no limit.
 #[derive(Clone, Copy, Debug, PartialEq, Eq)]
 pub struct LookSetting {
     pub own: Id,

@@ -11,8 +11,8 @@ use Rattle.kad_base.specs.declared.types.Report.{Report}
 use Rattle.kad_base.specs.Outside.{Grows}
 use Rattle.kad_base.proofs.Grown.{grows_weaker}
 use Rattle.contact_table.specs.TableState.{SoundTable, TableState}
-use Rattle.contact_table.specs.Told.{new_table}
-use Rattle.contact_table.proofs.StaysSound.{new-sound, run-sound}
+use Rattle.contact_table.specs.Told.{limited_table}
+use Rattle.contact_table.proofs.StaysSound.{limited-sound, run-sound}
 use Rattle.lookup_run.specs.Lookup.{TableTold}
 use Rattle.node_serve.specs.Receives.{ServesAll, got_in, sent_in}
 use Rattle.node_serve.proofs.OneService.{service_once}
@@ -73,9 +73,9 @@ module _ (service : ServeWords) (random : List ℕ) (source again : Shown ℕ) (
   table_same =
       let admits = subst (λ (l : List Report). Admits own Four service.policy l a.contacts) reports_same a.admits in
       let contacts = admits_once own Four service.policy b.reports a.contacts b.contacts admits b.admits in
-      let calls = subst (λ (l : List Contact). TableTold (map seen_call l) (new_table own service.k service.bits) s) contacts a.told in
+      let calls = subst (λ (l : List Contact). TableTold (map seen_call l) (limited_table own service.k service.bits service.per_address) s) contacts a.told in
       let limits = bounds.table in
-      new_once own service.k service.bits (map seen_call b.contacts) s t limits.some_live limits.few_live limits.some_bits limits.few_bits calls b.told
+      new_once own service.k service.bits service.per_address (map seen_call b.contacts) s t limits.some_live limits.few_live limits.some_bits limits.few_bits calls b.told
 
   proofs_same : proofs ≡ kept
   proofs_same = keeps_once own Four service.policy b.reports proofs kept (subst (λ (l : List Report). Keeps own Four service.policy l proofs) reports_same a.keeps) b.keeps
@@ -86,7 +86,7 @@ module _ (service : ServeWords) (random : List ℕ) (source again : Shown ℕ) (
       let some = limits.some_live in
       let more = limits.some_bits in
       subst SoundTable (sym a.told.leaves)
-      (run-sound (new_table own service.k service.bits) a.told.run (new-sound own service.k service.bits (omega (arith, some)) limits.few_live (omega (arith, more)) limits.few_bits) a.told.is_run)
+      (run-sound (limited_table own service.k service.bits service.per_address) a.told.run (limited-sound own service.k service.bits service.per_address (omega (arith, some)) limits.few_live (omega (arith, more)) limits.few_bits) a.told.is_run)
 
 -- ---- what one worker leaves
 

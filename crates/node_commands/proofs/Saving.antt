@@ -9,7 +9,7 @@ use Rattle.bucket_tree.specs.States.{state_of, states_of}
 use Rattle.bucket_tree.specs.declared.rows.Row.{Row}
 use Rattle.bucket_tree.specs.declared.types.Live.{Live}
 use Rattle.contact_table.specs.SavedState.{state_of as table_of}
-use Rattle.contact_table.specs.TableState.{SoundTable, TableState}
+use Rattle.contact_table.specs.TableState.{SoundTable, TableState, unlimited}
 use Rattle.contact_table.specs.declared.saved.Saved.{Saved}
 use Rattle.table_file.specs.SavedText.{FailedOnce, saved_text}
 use Rattle.node_commands.specs.Printed.{IsTableText, WithTable}
@@ -22,9 +22,9 @@ rows_failed_once own k b (row ∷ rows) h =
     All-cons (λ row. All (λ e. e.failures ≤ 1) row.live) row rows (All-head (IsRow own k b) (state_of row) (states_of rows) h).failed_once
     (rows_failed_once own k b rows (All-tail (IsRow own k b) (state_of row) (states_of rows) h))
 
-pub can_be_written : (saved : Saved) (s : TableState) → SoundTable s → table_of saved ≡ s → FailedOnce saved.rows
+pub can_be_written : (saved : Saved) (s : TableState) → SoundTable s → table_of saved ≡ unlimited s → FailedOnce saved.rows
 can_be_written saved s sound e =
-    let own : SoundTable (table_of saved) = subst SoundTable (sym e) sound in
+    let own : SoundTable (table_of saved) = subst SoundTable (sym e) (record { buckets = sound.buckets; siblings = sound.siblings }) in
     rows_failed_once saved.own saved.k saved.b saved.rows own.buckets.rows.each
 
 -- ---- its text
@@ -55,7 +55,7 @@ saved_once a b e =
     ∙ ap (λ (x : List Contact). saved b.own b.k b.b b.rows x) (ap (λ (t : TableState). t.siblings) e)
 
 table_text_once : (s t : TableState) (a b : List ℕ) → s ≡ t → IsTableText s a → IsTableText t b → a ≡ b
-table_text_once s t a b e h k = h.is_saved.text ∙ ap saved_text (saved_once h.saved k.saved (h.held ∙ e ∙ sym k.held)) ∙ sym k.is_saved.text
+table_text_once s t a b e h k = h.is_saved.text ∙ ap saved_text (saved_once h.saved k.saved (h.held ∙ ap unlimited e ∙ sym k.held)) ∙ sym k.is_saved.text
 
 -- one output has one text, if the table isn't wanted, or is the same
 pub with_once : (wanted : Bool) (x y : TableState) (p q t u : List ℕ) → p ≡ q → (wanted ≡ false) ⊎ (x ≡ y) → WithTable wanted x p t → WithTable wanted y q u → t ≡ u

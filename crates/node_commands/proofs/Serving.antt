@@ -16,7 +16,7 @@ use Rattle.kad_base.specs.Outside.{Grows}
 use Rattle.kad_base.specs.Puzzles.{Passes}
 use Rattle.kad_base.proofs.Grown.{grows_then}
 use Rattle.contact_table.specs.TableState.{TableState}
-use Rattle.contact_table.specs.Told.{new_table}
+use Rattle.contact_table.specs.Told.{limited_table}
 use Rattle.lookup_run.specs.Lookup.{TableTold}
 use Rattle.node_serve.specs.NodeState.{NodeState, new_node}
 use Rattle.node_serve.specs.Receives.{ServeState, ServesAll, ServesSome}
@@ -69,13 +69,13 @@ served_some service called table after proofs node lasting began a b c begins la
 
 -- what it begins with, as the code has it
 pub hosted : (service : ServeWords) (random : List ℕ) (source : Shown ℕ) (own : Id) (reports read : List Report) (contacts cs : List Contact) (proofs : List Report) (table : TableState) → own ≡ own_of service.own random → Lists source reports → read ≡ reports
-    → Admits own Four service.policy read contacts → Keeps own Four service.policy read proofs → cs ≡ contacts → TableTold (map seen_call cs) (new_table own service.k service.bits) table → Hosts service random source table proofs
+    → Admits own Four service.policy read contacts → Keeps own Four service.policy read proofs → cs ≡ contacts → TableTold (map seen_call cs) (limited_table own service.k service.bits service.per_address) table → Hosts service random source table proofs
 hosted service random source own reports read contacts cs proofs table mine lists is admits keeps same told = record {
   reports = reports;
   lists = lists;
   contacts = contacts;
   admits = subst (λ (id : Id). Admits id Four service.policy reports contacts) mine (subst (λ (l : List Report). Admits own Four service.policy l contacts) is admits);
-  told = subst (λ (id : Id). TableTold (map seen_call contacts) (new_table id service.k service.bits) table) mine (subst (λ (l : List Contact). TableTold (map seen_call l) (new_table own service.k service.bits) table) same told);
+  told = subst (λ (id : Id). TableTold (map seen_call contacts) (limited_table id service.k service.bits service.per_address) table) mine (subst (λ (l : List Contact). TableTold (map seen_call l) (limited_table own service.k service.bits service.per_address) table) same told);
   keeps = subst (λ (id : Id). Keeps id Four service.policy reports proofs) mine (subst (λ (l : List Report). Keeps own Four service.policy l proofs) is keeps);
 }
 

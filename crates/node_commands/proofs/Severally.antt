@@ -15,12 +15,13 @@ use Rattle.kad_base.proofs.Grown.{grows_none, grows_weaker}
 use Rattle.id_puzzles.specs.Drawn.{WordsState}
 use Rattle.contact_table.specs.TableState.{TableState}
 use Rattle.contact_table.specs.TableStep.{contacts_of}
-use Rattle.contact_table.specs.Told.{new_table}
+use Rattle.contact_table.specs.Told.{limited_table}
 use Rattle.claim_book.specs.declared.types.Setting.{Setting}
 use Rattle.claim_book.specs.Journal.{asked, failed, turned}
 use Rattle.claim_book.specs.Result.{result_of}
 use Rattle.claim_book.proofs.Claims.{took_distinct, asked_distinct}
 use Rattle.claim_book.proofs.Ends.{found_answered}
+use Rattle.claim_book.proofs.Hosted.{has_few}
 use Rattle.lookup_run.specs.Lookup.{TableTold}
 use Rattle.node_serve.specs.Calls.{IsSetting}
 use Rattle.node_serve.specs.declared.lasting.Lasting.{Lasting}
@@ -230,14 +231,14 @@ module _ (look : LookWords) (lasting : Lasting) (called : Called) (targets : Lis
 
 -- what it begins with, as the code has it
 pub starts_with : (look : LookWords) (random : List ℕ) (source : Shown ℕ) (own : Id) (reports read : List Report) (targets : List Id) (contacts cs ds : List Contact) (proofs : List Report) (table : TableState) → own ≡ own_of look.own random → Names source reports targets → read ≡ reports
-    → Admits own Four look.policy read contacts → Keeps own Four look.policy read proofs → cs ≡ contacts → ds ≡ contacts → TableTold (map seen_call cs) (new_table own look.k look.bits) table → (targets ≢ [] → ds ≢ []) → Starts look random source targets table proofs
+    → Admits own Four look.policy read contacts → Keeps own Four look.policy read proofs → cs ≡ contacts → ds ≡ contacts → TableTold (map seen_call cs) (limited_table own look.k look.bits look.per_address) table → (targets ≢ [] → ds ≢ []) → Starts look random source targets table proofs
 starts_with look random source own reports read targets contacts cs ds proofs table mine names is admits keeps same too told some_ = record {
   reports = reports;
   names = names;
   contacts = contacts;
   admits = subst (λ (id : Id). Admits id Four look.policy reports contacts) mine (subst (λ (l : List Report). Admits own Four look.policy l contacts) is admits);
   some_one = λ target none_. some_ target (too ∙ none_);
-  told = subst (λ (id : Id). TableTold (map seen_call contacts) (new_table id look.k look.bits) table) mine (subst (λ (l : List Contact). TableTold (map seen_call l) (new_table own look.k look.bits) table) same told);
+  told = subst (λ (id : Id). TableTold (map seen_call contacts) (limited_table id look.k look.bits look.per_address) table) mine (subst (λ (l : List Contact). TableTold (map seen_call l) (limited_table own look.k look.bits look.per_address) table) same told);
   keeps = subst (λ (id : Id). Keeps id Four look.policy reports proofs) mine (subst (λ (l : List Report). Keeps own Four look.policy l proofs) is keeps);
 }
 
@@ -258,7 +259,7 @@ module _ (look : LookWords) (random : List ℕ) (source : Shown ℕ) (targets : 
   pub starts_usable : (own : Id) → own ≡ own_of look.own random → All (IsUsable own) (contacts_of table)
   starts_usable own mine =
       subst (λ (id : Id). All (IsUsable id) (contacts_of table)) (sym mine)
-      (usable_told (own_of look.own random) look.k look.bits s.contacts table (admits_usable (own_of look.own random) Four look.policy s.reports s.contacts s.admits) s.told)
+      (usable_told (own_of look.own random) look.k look.bits look.per_address s.contacts table (admits_usable (own_of look.own random) Four look.policy s.reports s.contacts s.admits) s.told)
 
   pub starts_pass : All (Passes look.policy) proofs
   starts_pass = kept_pass (own_of look.own random) Four look.policy s.reports proofs s.keeps
@@ -304,6 +305,7 @@ module _ (server : ServeSetting) (setting : ManySetting) (table : TableState) wh
           taken_once = took_distinct set o.journal f.journal.legal;
           asked_once = asked_distinct set o.journal f.journal.legal;
           own_answers = f.own_answers;
+          few_of_a_host = has_few set o.journal f.journal.legal;
           have_answered = λ c has. found_answered set o.journal c some_path f.journal.legal f.run_out has;
         },
         all_run_out some_path ts os h.1,

@@ -3,7 +3,7 @@ use Rattle.std.specs.Prelude.{◌≡◌, ℕ, Bool, true, false, List, ◌++◌,
 use Rattle.hex.specs.Hex.{encode_lower}
 use Rattle.kad_base.specs.declared.types.Id.{Id}
 use Rattle.contact_table.specs.SavedState.{state_of}
-use Rattle.contact_table.specs.TableState.{TableState}
+use Rattle.contact_table.specs.TableState.{TableState, unlimited}
 use Rattle.contact_table.specs.declared.saved.Saved.{Saved}
 use Rattle.table_file.specs.SavedText.{IsSavedText}
 use Rattle.command_base.specs.Printed.{line_of}
@@ -19,10 +19,10 @@ served_text received replied = codes "received " ++ decimal received ++ codes " 
 abbrev pub printed_served : ℕ → ℕ → List ℕ
 printed_served received replied = line_of (served_text received replied)
 
--- the text is the saved text of what the table holds, as the command `table` prints it, so that it can be read back
+-- the text is the saved text of what the table holds (not of its limit), as the command `table` prints it, so that it can be read back
 pub record IsTableText (table : TableState) (text : List ℕ) : Type 0 where
   pub saved : Saved
-  pub held : state_of saved ≡ table
+  pub held : state_of saved ≡ unlimited table
   pub is_saved : IsSavedText text saved
 
 -- the output, and behind it the saved text of the table, if that is wanted

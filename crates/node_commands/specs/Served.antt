@@ -10,13 +10,14 @@ use Rattle.kad_base.specs.declared.types.Event.TheVariants.{Now}
 use Rattle.kad_base.specs.declared.types.Report.{Report}
 use Rattle.kad_base.specs.Outside.{Grows, Happens}
 use Rattle.contact_table.specs.TableState.{TableState}
-use Rattle.contact_table.specs.Told.{new_table}
+use Rattle.contact_table.specs.Told.{limited_table}
 use Rattle.lookup_run.specs.Lookup.{TableTold}
 use Rattle.node_serve.specs.NodeState.{new_node}
 use Rattle.node_serve.specs.Receives.{ServeState, ServesAll, ServesSome}
 use Rattle.node_serve.specs.declared.lasting.Lasting.{Lasting}
 use Rattle.node_serve.specs.declared.service.ServeFault.{ServeFault}
 use Rattle.node_serve.specs.declared.setting.ServeSetting.{ServeSetting}
+use Rattle.node_tokens.specs.Tokens.{tokens_by}
 use Rattle.kad_words.specs.declared.command.ServeWords.{ServeWords}
 use Rattle.command_base.specs.Input.{Lists, Admits, Keeps}
 use Rattle.node_commands.specs.Printed.{WithTable, printed_served}
@@ -28,14 +29,14 @@ use Rattle.serve_batches.specs.ManyServed.{ManyServed, ManyBegun}
 
 -- ---- the node that it begins with
 
--- the contacts of the input that are usable and pass, in order, were told to a new table; and of these the reports are kept
--- that have a proof
+-- the contacts of the input that are usable and pass, in order, were told to a new table, which takes no more of one host than
+-- the words say; and of these the reports are kept that have a proof
 pub record Hosts (service : ServeWords) (random : List ℕ) (source : Shown ℕ) (table : TableState) (proofs : List Report) : Type 0 where
   pub reports : List Report
   pub lists : Lists source reports
   pub contacts : List Contact
   pub admits : Admits (own_of service.own random) Four service.policy reports contacts
-  pub told : TableTold (map seen_call contacts) (new_table (own_of service.own random) service.k service.bits) table
+  pub told : TableTold (map seen_call contacts) (limited_table (own_of service.own random) service.k service.bits service.per_address) table
   pub keeps : Keeps (own_of service.own random) Four service.policy reports proofs
 
 -- the node as it begins at a moment
@@ -56,7 +57,7 @@ setting_of service random proofs = record {
   k = service.k;
   policy = service.policy;
   proofs = proofs;
-  tokens = record { seed = random; began = 0 };
+  tokens = tokens_by random 0 service.per_address;
   sealed = service.sealed;
 }
 

@@ -1,7 +1,7 @@
 -- What the command `node` promises: that its text is that of the journals of several lookups that have all run out, which the
 -- link's events tell together, while a node answered what was for none of them (S/Kademlia, 2007, section 4.4, over Kademlia,
 -- 2002, section 2.3; BEP 5); and what they are if they ended early. The lines that name targets are this project's own.
-use Rattle.std.specs.Prelude.{◌≡◌, ◌≢◌, ◌⊎◌, ◌<◌, ℕ, List, [], ◌∷◌, ◌++◌, Bool, true, false}
+use Rattle.std.specs.Prelude.{◌≡◌, ◌≢◌, ◌⊎◌, ◌<◌, ℕ, List, [], ◌∷◌, ◌++◌, Bool, true, false, map}
 use Rattle.std.specs.List.{AllZip, IsDistinct}
 use Rattle.kad_base.specs.declared.types.Contact.{Contact}
 use Rattle.kad_base.specs.declared.types.Event.{Event}
@@ -13,13 +13,17 @@ use Rattle.kad_base.specs.Limits.{max_strays}
 use Rattle.kad_base.specs.Outside.{Grows}
 use Rattle.id_puzzles.specs.Drawn.{WordsState}
 use Rattle.contact_table.specs.TableState.{TableState}
+use Rattle.contact_table.specs.Told.{limited_table}
+use Rattle.lookup_run.specs.Lookup.{TableTold}
 use Rattle.claim_book.specs.declared.types.Entry.{Entry}
+use Rattle.claim_book.specs.Crowded.{HasFewOfAHost}
 use Rattle.claim_book.specs.Journal.{took, asked, answered}
 use Rattle.claim_book.specs.Lineage.{GoesByOwnAnswers}
 use Rattle.claim_book.specs.Result.{result_of}
 use Rattle.claim_book.specs.RunOut.{RunOut}
 use Rattle.node_serve.specs.declared.lasting.Lasting.{Lasting}
 use Rattle.node_serve.specs.declared.setting.ServeSetting.{ServeSetting}
+use Rattle.node_tokens.specs.Tokens.{tokens_by}
 use Rattle.look_many.specs.Many.{Reading, ManyTellSoFar, EndsAtForeign, Shown as Seen}
 use Rattle.look_many.specs.ManyLooked.{setting_for, all_read, frame_for, journals_of, IsJournalFor, ManyLooked, ManyStopped, CountsUnsent}
 use Rattle.look_many.specs.declared.found.Many.{Many}
@@ -39,7 +43,7 @@ use Rattle.command_base.specs.Printed.{printed_of, line_of, printed}
 use Rattle.node_commands.specs.Printed.{find_text, printed_served, WithTable}
 use Rattle.command_base.specs.Promise.{Aim, Promise, ReadingCause, reading}
 use Rattle.command_base.specs.Shown.{Shown, IsTold, HasFailed}
-use Rattle.command_base.specs.Started.{own_of, drawn_of, IsInRange, StartsWith}
+use Rattle.command_base.specs.Started.{own_of, drawn_of, IsInRange, seen_call}
 
 -- ---- its setting
 
@@ -54,13 +58,13 @@ server_of look random proofs = record {
   k = look.k;
   policy = look.policy;
   proofs = proofs;
-  tokens = record { seed = random; began = 0 };
+  tokens = tokens_by random 0 look.per_address;
   sealed = look.sealed;
 }
 
 -- how each lookup goes
 abbrev pub each_of : LookWords → ManySetting
-each_of look = record { paths = look.paths; alpha = look.alpha; timeout = look.timeout }
+each_of look = record { paths = look.paths; alpha = look.alpha; timeout = look.timeout; per_address = look.per_address }
 
 -- ---- the input
 
@@ -87,15 +91,15 @@ pub record GivesNobody (look : LookWords) (random : List ℕ) (source : Shown �
   pub some_target : targets ≢ []
   pub no_one : Admits (own_of look.own random) Four look.policy reports []
 
--- What a node begins with: the targets of the input; the table, which was told of its contacts that are usable and pass, in
--- order; and of these the reports that have a proof.
+-- What a node begins with: the targets of the input; the table, which takes no more contacts of one host than the words say, and
+-- was told of the input's that are usable and pass, in order; and of these the reports that have a proof.
 pub record Starts (look : LookWords) (random : List ℕ) (source : Shown ℕ) (targets : List Id) (table : TableState) (proofs : List Report) : Type 0 where
   pub reports : List Report
   pub names : Names source reports targets
   pub contacts : List Contact
   pub admits : Admits (own_of look.own random) Four look.policy reports contacts
   pub some_one : targets ≢ [] → contacts ≢ []
-  pub told : StartsWith look random contacts table
+  pub told : TableTold (map seen_call contacts) (limited_table (own_of look.own random) look.k look.bits look.per_address) table
   pub keeps : Keeps (own_of look.own random) Four look.policy reports proofs
 
 -- why the lines of an input said nothing
@@ -137,14 +141,15 @@ journal_texts server setting (t ∷ ts) (j ∷ js) = journal_text server setting
 -- ---- the lookups
 
 -- A lookup for the target has run out: its journal is legal and begins with the k closest of the table, and every path has run
--- out in it. So no contact is taken or asked twice, what a path asks comes from its own seeds and answers, and each of the
--- result has answered.
+-- out in it. So no contact is taken or asked twice, what a path asks comes from its own seeds and answers, no path has or asks more
+-- contacts of one host than the words say, and each of the result has answered.
 pub record HasRunOutFor (server : ServeSetting) (setting : ManySetting) (table : TableState) (target : Id) (journal : List Entry) : Type 0 where
   pub is_journal : IsJournalFor server setting table target journal
   pub run_out : (p : ℕ) → p < setting.paths → RunOut (setting_for server setting target) p journal
   pub taken_once : IsDistinct same (took journal)
   pub asked_once : IsDistinct same (asked journal)
   pub own_answers : GoesByOwnAnswers (setting_for server setting target) journal
+  pub few_of_a_host : HasFewOfAHost (setting_for server setting target) journal
   pub have_answered : (c : Contact) → among (result_of (setting_for server setting target) journal) c ≡ true → among (answered journal) c ≡ true
 
 -- what several lookups did, from this table on to that one, while the node answered

@@ -75,7 +75,8 @@ fn is_nobody(targets: &[Id], contacts: &[Contact]) -> bool
     !targets.is_empty() && contacts.is_empty()
 }
 
-/// Reads the input, tells a new routing table of its contacts of IPv4, and keeps the reports that have a proof.
+/// Reads the input, tells a new routing table, with the limit of one host that the words say, of its contacts of IPv4, and keeps
+/// the reports that have a proof.
 fn read_start<S: Source, C: Check, G: Seal + SealCheck>(
     alloc: Global,
     look: &LookWords,
@@ -103,7 +104,14 @@ fn read_start<S: Source, C: Check, G: Seal + SealCheck>(
         return Err(Status::NoSeeds);
     }
     let proofs = kept(alloc, &own, Family::Four, look.policy, call.check, read)?;
-    let table = table_of(alloc, own, look.k, look.bits, contacts.as_slice())?;
+    let table = table_of(
+        alloc,
+        own,
+        look.k,
+        look.bits,
+        look.per_address,
+        contacts.as_slice(),
+    )?;
     Ok(Start {
         table,
         proofs,
@@ -152,13 +160,14 @@ fn look_all<R: Threads + Wait + Sync, L: Link, C: PacedCheck + Sync, G: Seal + S
         k: look.k,
         policy: look.policy,
         proofs,
-        tokens: Tokens::new(&call.random, 0),
+        tokens: Tokens::limited(&call.random, 0, look.per_address as usize),
         sealed: look.sealed,
     };
     let setting = ManySetting {
         paths: look.paths,
         alpha: look.alpha,
         timeout: look.timeout,
+        per_address: look.per_address,
     };
     let mut words = Words::new(&call.random, FIRST_TX);
     let (after, ended) = look_many(

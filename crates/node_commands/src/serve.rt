@@ -38,7 +38,8 @@ struct Host {
     proofs: Reports,
 }
 
-/// Reads the contacts of the input, tells a new routing table of those of IPv4, and keeps the reports that have a proof.
+/// Reads the contacts of the input, tells a new routing table, with the limit of one host that the words say, of those of IPv4,
+/// and keeps the reports that have a proof.
 fn read_host<S: Source, C: Check, G: Seal + SealCheck>(
     alloc: Global,
     service: &ServeWords,
@@ -61,7 +62,14 @@ fn read_host<S: Source, C: Check, G: Seal + SealCheck>(
     let read = reports.as_slice();
     let contacts = admitted(alloc, &own, Family::Four, service.policy, call.check, read)?;
     let proofs = kept(alloc, &own, Family::Four, service.policy, call.check, read)?;
-    let table = table_of(alloc, own, service.k, service.bits, contacts.as_slice())?;
+    let table = table_of(
+        alloc,
+        own,
+        service.k,
+        service.bits,
+        service.per_address,
+        contacts.as_slice(),
+    )?;
     Ok(Host { table, proofs })
 }
 
@@ -179,7 +187,7 @@ fn serve_at_once<R: Threads + Wait + Sync, L: Link, C: PacedCheck, G: Seal + Sea
         k: service.k,
         policy: service.policy,
         proofs,
-        tokens: Tokens::new(&call.random, 0),
+        tokens: Tokens::limited(&call.random, 0, service.per_address as usize),
         sealed: service.sealed,
     };
     serve_many(

@@ -53,7 +53,7 @@ IsPlace other = ⊥
 
 -- an item is to be kept
 abbrev IsKeep : Wants → Type 0
-IsKeep (Keep v) = Unit {0}
+IsKeep (Keep v from) = Unit {0}
 IsKeep other = ⊥
 
 module _ (s : NodeState) (from : Addr) (at : ℕ) where
@@ -61,20 +61,20 @@ module _ (s : NodeState) (from : Addr) (at : ℕ) where
   takes_place key peer token true on h = (accepted s.tokens (ip_bytes from.ip) at token).0 on
   takes_place key peer token false off h = absurd h
 
-  fits_place : (v : List ℕ) (b : Bool) → IsPlace (cond b (Keep v) RefuseBig) → ⊥
+  fits_place : (v : List ℕ) (b : Bool) → IsPlace (cond b (Keep v from) RefuseBig) → ⊥
   fits_place v true h = h
   fits_place v false h = h
 
-  puts_place : (v : List ℕ) (b m : Bool) → IsPlace (put_wants b m v) → ⊥
+  puts_place : (v : List ℕ) (b m : Bool) → IsPlace (put_wants b m v from) → ⊥
   puts_place v false m h = h
   puts_place v true true h = h
   puts_place v true false h = fits_place v (nat_le (length v) max_length) h
 
-  fits_keep : (token v : List ℕ) (mutable b : Bool) → IsAccepted s.tokens (ip_bytes from.ip) at token → mutable ≡ false → nat_le (length v) max_length ≡ b → IsKeep (cond b (Keep v) RefuseBig) → IsTaken s from at token v mutable
+  fits_keep : (token v : List ℕ) (mutable b : Bool) → IsAccepted s.tokens (ip_bytes from.ip) at token → mutable ≡ false → nat_le (length v) max_length ≡ b → IsKeep (cond b (Keep v from) RefuseBig) → IsTaken s from at token v mutable
   fits_keep token v mutable true a m fits h = record { own_token = a; immutable = m; short = leb-true (length v) max_length fits }
   fits_keep token v mutable false a m fits h = absurd h
 
-  takes_keep : (token v : List ℕ) (mutable b m : Bool) → is_accepted s.tokens (ip_bytes from.ip) at token ≡ b → mutable ≡ m → IsKeep (put_wants b m v) → IsTaken s from at token v mutable
+  takes_keep : (token v : List ℕ) (mutable b m : Bool) → is_accepted s.tokens (ip_bytes from.ip) at token ≡ b → mutable ≡ m → IsKeep (put_wants b m v from) → IsTaken s from at token v mutable
   takes_keep token v mutable false m off is h = absurd h
   takes_keep token v mutable true true on is h = absurd h
   takes_keep token v mutable true false on is h = fits_keep token v mutable (nat_le (length v) max_length) ((accepted s.tokens (ip_bytes from.ip) at token).0 on) is refl h
@@ -118,11 +118,11 @@ module _ (s : NodeState) (from : Addr) (at : ℕ) where
     fails_leaves (Nodes target) may keeps did h st =
         let e = came did (on_table (Closest target s.k) NoMemory ∷ []) h st in
         record { table = e.1.0; stores = all e.1.1 }
-    fails_leaves (Peers key) may keeps did (inl h) st =
-        let e = came did (on_peers (List_call key at) No_peer_memory ∷ []) h st in
+    fails_leaves (Peers key first) may keeps did (inl h) st =
+        let e = came did (on_peers (List_call key at first) No_peer_memory ∷ []) h st in
         record { table = e.1.0; stores = all e.1.1 }
-    fails_leaves (Peers key) may keeps did (inr h) st =
-        let e = came did (on_peers (List_call key at) (Listed h.0) ∷ on_table (Closest key s.k) NoMemory ∷ []) h.1 st in
+    fails_leaves (Peers key first) may keeps did (inr h) st =
+        let e = came did (on_peers (List_call key at first) (Listed h.0) ∷ on_table (Closest key s.k) NoMemory ∷ []) h.1 st in
         record { table = e.1.1.0; stores = all e.1.1.1 }
     fails_leaves (Place key peer) may keeps did h st =
         let e = came did (on_peers (Put key peer at) No_peer_memory ∷ []) h st in
@@ -133,20 +133,22 @@ module _ (s : NodeState) (from : Addr) (at : ℕ) where
     fails_leaves (Item key) may keeps did (inr h) st =
         let e = came did (on_items (Get_call key at) (item_reply h.0) ∷ on_table (Closest key s.k) NoMemory ∷ []) h.1 st in
         record { table = e.1.1.0; stores = all e.1.1.1 }
-    fails_leaves (Keep v) may keeps did h st =
-        let e = came did (on_items (Keep_call v at) No_item_memory ∷ []) h st in
+    fails_leaves (Keep v source) may keeps did h st =
+        let e = came did (on_items (Keep_call v source at) No_item_memory ∷ []) h st in
         record { table = e.1.0; stores = items_purged (keeps tt) e.1.1 }
     fails_leaves w may keeps did h st = absurd h
 
     gained_leaves : (w : Wants) (g : Gained) → IsFor w g → (IsPlace w → IsTokenAccepted s from at ask) → (IsKeep w → IsPutTaken s from at ask) → MayFail g → Came (did_for s.k at w g) → Leaves
     gained_leaves Name gained.Name is may keeps fails st = record { table = st.0; stores = all st.1 }
     gained_leaves (Nodes target) (gained.Nodes nodes) is may keeps fails st = record { table = st.1.0; stores = all st.1.1 }
-    gained_leaves (Peers key) (gained.Peers list nodes) is may keeps fails st = record { table = st.1.1.0; stores = all st.1.1.1 }
+    gained_leaves (Peers key first) (gained.Peers list nodes) is may keeps fails st = record { table = st.1.1.0; stores = all st.1.1.1 }
     gained_leaves (Place key peer) (gained.Placed stored) is may keeps fails st = absurd fails
+    gained_leaves (Place key peer) gained.HostFull is may keeps fails st = record { table = st.1.0; stores = peers_purged (may tt) st.1.1 }
     gained_leaves (Place key peer) gained.Full is may keeps fails st = record { table = st.1.0; stores = peers_purged (may tt) st.1.1 }
     gained_leaves (Item key) (gained.Item v nodes) is may keeps fails st = record { table = st.1.1.0; stores = all st.1.1.1 }
-    gained_leaves (Keep v) (gained.Kept stored) is may keeps fails st = absurd fails
-    gained_leaves (Keep v) gained.Crowded is may keeps fails st = record { table = st.1.0; stores = items_purged (keeps tt) st.1.1 }
+    gained_leaves (Keep v source) (gained.Kept stored) is may keeps fails st = absurd fails
+    gained_leaves (Keep v source) gained.HostCrowded is may keeps fails st = record { table = st.1.0; stores = items_purged (keeps tt) st.1.1 }
+    gained_leaves (Keep v source) gained.Crowded is may keeps fails st = record { table = st.1.0; stores = items_purged (keeps tt) st.1.1 }
     gained_leaves RefuseToken gained.RefuseToken is may keeps fails st = record { table = st.0; stores = all st.1 }
     gained_leaves RefuseMutable gained.RefuseMutable is may keeps fails st = record { table = st.0; stores = all st.1 }
     gained_leaves RefuseBig gained.RefuseBig is may keeps fails st = record { table = st.0; stores = all st.1 }

@@ -87,9 +87,11 @@ module _ (s : ServeSetting) (from : Addr) (at : ℕ) (tx : List ℕ) (t : length
   gained_small (gained.Nodes nodes) f = found_small nodes f
   gained_small (gained.Peers list nodes) f = peers_small list nodes f.0 f.1
   gained_small (gained.Placed stored) f = named_small
+  gained_small gained.HostFull f = (t, (code_short 202 (omega arith), omega arith))
   gained_small gained.Full f = (t, (code_short 202 (omega arith), omega arith))
   gained_small (gained.Item v nodes) f = item_small v nodes f.0 f.1
   gained_small (gained.Kept stored) f = named_small
+  gained_small gained.HostCrowded f = (t, (code_short 202 (omega arith), omega arith))
   gained_small gained.Crowded f = (t, (code_short 202 (omega arith), omega arith))
   gained_small gained.RefuseToken f = (t, (code_short 203 (omega arith), omega arith))
   gained_small gained.RefuseMutable f = (t, (code_short 203 (omega arith), omega arith))

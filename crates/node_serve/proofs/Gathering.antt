@@ -1,6 +1,6 @@
 -- How much a call gives at most, and what a call gives whatever number its clause is for.
-use Rattle.std.proofs.Common.{◌≡◌, ◌≤◌, ℕ, List, length, Result, Ok, Err, IfOk, ap, arith}
-use Rattle.std.specs.Prelude.{OnErr}
+use Rattle.std.proofs.Common.{◌≡◌, ◌≤◌, ℕ, List, length, take, Bool, true, false, cond, Result, Ok, Err, IfOk, ap, arith}
+use Rattle.std.specs.Prelude.{OnErr, nat_lt}
 use Rattle.std.proofs.lemmas.List.{length-take}
 use Rattle.kad_base.specs.declared.types.Id.{Id}
 use Rattle.kad_base.specs.declared.types.Addr.{Addr}
@@ -11,13 +11,21 @@ use Rattle.kad_distance.specs.KClosest.{k_closest}
 use Rattle.kad_distance.proofs.Chosen.{closest_few}
 use Rattle.contact_table.specs.TableState.{TableState}
 use Rattle.contact_table.specs.TableStep.{contacts_of}
-use Rattle.peer_store.specs.Peers.{Held, listed, peers_of, fresh_of}
+use Rattle.peer_store.specs.Peers.{PeersState, listed_from, peers_of, held_of, fresh_of, around, point}
 
 pub closest_short : (t : TableState) (target : Id) (n : ℕ) (list : List Contact) → list ≡ k_closest target n (contacts_of t) → length list ≤ n
 closest_short t target n list e = (let few = closest_few target n (contacts_of t) in let len = ap length e in omega (arith, few, len))
 
-pub listed_short : (p : List Held) (key : Id) (at : ℕ) (list : List Addr) → list ≡ listed p key at → length list ≤ 50
-listed_short p key at list e = (let few = length-take 50 (peers_of (fresh_of p key at)) in let len = ap length e in omega (arith, few, len))
+few_of : (b : Bool) (xs ys : List Addr) → length (cond b (take 50 xs) (take 50 ys)) ≤ 50
+few_of true xs ys = (let few = length-take 50 xs in omega (arith, few))
+few_of false xs ys = (let few = length-take 50 ys in omega (arith, few))
+
+pub listed_short : (p : PeersState) (key : Id) (at : ℕ) (first : List ℕ) (list : List Addr) → list ≡ listed_from p key at first → length list ≤ 50
+listed_short p key at first list e =
+    let fresh = fresh_of p.held key at in
+    let few = few_of (nat_lt 0 p.per_host) (peers_of (around (point (held_of p.held key) first) fresh)) (peers_of fresh) in
+    let len = ap length e in
+    omega (arith, few, len)
 
 pub ok_at : (r : Result Gained NoMemory) (P : ℕ → Gained → Type 0) (k : ℕ) → IfOk r (λ x. (n : ℕ) → P n x) → IfOk r (P k)
 ok_at (Ok x) P k h = h k

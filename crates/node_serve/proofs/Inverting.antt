@@ -8,18 +8,18 @@ use Rattle.contact_table.specs.Told.{HasMemory}
 use Rattle.contact_table.specs.declared.calls.TableCall.{TableCall}
 use Rattle.contact_table.specs.declared.calls.TableCall.TheVariants.{Closest}
 use Rattle.contact_table.specs.declared.calls.TableReply.{TableReply}
-use Rattle.contact_table.specs.declared.calls.TableReply.TheVariants.{Seen, Gone, List as List_reply, NoMemory}
-use Rattle.peer_store.specs.Peers.{Held, listed}
+use Rattle.contact_table.specs.declared.calls.TableReply.TheVariants.{Seen, Gone, List as List_reply, Crowded as Host_crowded, NoMemory}
+use Rattle.peer_store.specs.Peers.{PeersState, listed_from}
 use Rattle.peer_store.specs.declared.calls.PeerCall.{PeerCall}
 use Rattle.peer_store.specs.declared.calls.PeerCall.TheVariants.{List as List_call}
 use Rattle.peer_store.specs.declared.calls.PeerReply.{PeerReply}
-use Rattle.peer_store.specs.declared.calls.PeerReply.TheVariants.{Listed, Stored, Full, NoMemory as No_room}
-use Rattle.item_store.specs.Items.{Held as HeldItem, handed_out}
+use Rattle.peer_store.specs.declared.calls.PeerReply.TheVariants.{Listed, Stored, Crowded as Host_full, Full, NoMemory as No_room}
+use Rattle.item_store.specs.Items.{ItemsState, handed_out}
 use Rattle.item_store.specs.ItemSteps.{ItemStep}
 use Rattle.item_store.specs.declared.calls.ItemCall.{ItemCall}
 use Rattle.item_store.specs.declared.calls.ItemCall.TheVariants.{Get as Get_call}
 use Rattle.item_store.specs.declared.calls.ItemReply.{ItemReply}
-use Rattle.item_store.specs.declared.calls.ItemReply.TheVariants.{Held as Held_reply, Absent, Stored as Kept_reply, Full as Crowded, NoMemory as No_item_memory}
+use Rattle.item_store.specs.declared.calls.ItemReply.TheVariants.{Held as Held_reply, Absent, Stored as Kept_reply, Crowded as Host_crowded, Full as Crowded, NoMemory as No_item_memory}
 use Rattle.node_serve.specs.Calls.{Call, of_table, of_peers, of_items, Did, on_table, on_peers, on_items, call_of, HasRoom, HasItemRoom, item_by}
 use Rattle.peer_store.specs.PeersStep.{PeersStep}
 
@@ -153,24 +153,28 @@ closest_is t target n (List_reply list) step memory = ap List_reply step
 closest_is t target n NoMemory step memory = absurd memory
 closest_is t target n (Seen seen) step memory = absurd step
 closest_is t target n (Gone gone) step memory = absurd step
+closest_is t target n Host_crowded step memory = absurd step
 
-pub listed_is : (held : List Held) (key : Id) (at : ℕ) (reply : PeerReply) → PeersStep held 0 (List_call key at) reply → HasRoom reply → reply ≡ Listed (listed held key at)
-listed_is held key at (Listed list) step memory = ap Listed step
-listed_is held key at No_room step memory = absurd memory
-listed_is held key at (Stored stored) step memory = absurd step
-listed_is held key at Full step memory = absurd step
+pub listed_is : (held : PeersState) (key : Id) (at : ℕ) (first : List ℕ) (reply : PeerReply) → PeersStep held 0 (List_call key at first) reply → HasRoom reply → reply ≡ Listed (listed_from held key at first)
+listed_is held key at first (Listed list) step memory = ap Listed step
+listed_is held key at first No_room step memory = absurd memory
+listed_is held key at first (Stored stored) step memory = absurd step
+listed_is held key at first Host_full step memory = absurd step
+listed_is held key at first Full step memory = absurd step
 
-pub item_is : (held : List HeldItem) (key : Id) (at : ℕ) (reply : ItemReply) → ItemStep held 0 (Get_call key at) reply → HasItemRoom reply → item_by reply ≡ handed_out held key at
+pub item_is : (held : ItemsState) (key : Id) (at : ℕ) (reply : ItemReply) → ItemStep held 0 (Get_call key at) reply → HasItemRoom reply → item_by reply ≡ handed_out held key at
 item_is held key at (Held_reply v) step memory = sym step.0
 item_is held key at Absent step memory = sym step
 item_is held key at No_item_memory step memory = absurd memory
 item_is held key at (Kept_reply stored) step memory = absurd step
+item_is held key at Host_crowded step memory = absurd step
 item_is held key at Crowded step memory = absurd step
 
 pub had_memory : (x : TableReply) → x ≢ NoMemory → HasMemory x
 had_memory (Seen seen) h = tt
 had_memory (Gone gone) h = tt
 had_memory (List_reply list) h = tt
+had_memory Host_crowded h = tt
 had_memory NoMemory h = absurd (h refl)
 
 pub not_wanting : (x : TableReply) → HasMemory x → x ≢ NoMemory

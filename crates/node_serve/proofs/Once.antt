@@ -90,6 +90,7 @@ has_memory : (x : TableReply) → x ≢ reply.NoMemory → HasMemory x
 has_memory (reply.Seen seen) h = tt
 has_memory (reply.Gone gone) h = tt
 has_memory (reply.List list) h = tt
+has_memory reply.Crowded h = tt
 has_memory reply.NoMemory h = absurd (h refl)
 
 told_once : (o : Option Contact) (t x y : TableState) → SoundTable t → IsTold o t x → IsTold o t y → x ≡ y

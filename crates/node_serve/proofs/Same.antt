@@ -1,5 +1,5 @@
 -- Both ways to say what a node answers are one.
-use Rattle.std.proofs.Common.{◌≡◌, ◌↔◌, ℕ, List, [], ◌∷◌, ◌++◌, map, length, Bool, true, false, cond, nat_le, refl, sym, ap, subst, ◌∙◌, All}
+use Rattle.std.proofs.Common.{◌≡◌, ◌↔◌, ℕ, List, [], ◌∷◌, ◌++◌, map, length, Bool, true, false, cond, nat_le, inl, inr, ◌⊎◌, refl, sym, ap, subst, ◌∙◌, All}
 use Rattle.std.specs.Prelude.{Option, Some, None}
 use Rattle.std.specs.List.{list_any}
 use Rattle.std.specs.Map.{keys_of}
@@ -24,19 +24,19 @@ use Rattle.contact_table.specs.declared.calls.TableReply.{TableReply}
 use Rattle.contact_table.specs.declared.calls.TableReply.TheVariants.{List as List_reply}
 use Rattle.aged_map.specs.declared.aged.Stored.{Stored}
 use Rattle.aged_map.specs.declared.aged.Stored.TheVariants.{New, Renewed}
-use Rattle.peer_store.specs.Peers.{Held, Pair, pair_cmp, purged, with_add, listed}
+use Rattle.peer_store.specs.Peers.{PeersState, Pair, pair_cmp, purged, with_add, listed_from}
 use Rattle.node_serve.specs.AnswerOf.{AnswerOf, IsTold, notify_by}
-use Rattle.item_store.specs.Items.{Held as HeldItem, IsItems, Holds, HasNoPlace as HasNoRoom, max_length, key_cmp, key_of, handed_out, purged as purged_items, with_item}
+use Rattle.item_store.specs.Items.{ItemsState, IsItems, Holds, max_length, key_cmp, key_of, handed_out, purged as purged_items, with_item}
 use Rattle.item_store.specs.ItemSteps.{ItemStep, StoredStep, item_after}
 use Rattle.item_store.specs.declared.calls.ItemCall.TheVariants.{Get as Get_call, Put as Keep_call}
 use Rattle.item_store.specs.declared.calls.ItemReply.{ItemReply}
-use Rattle.item_store.specs.declared.calls.ItemReply.TheVariants.{Held as Held_reply, Absent, Stored as Kept_reply, Full as Crowded, NoMemory as No_item_memory}
+use Rattle.item_store.specs.declared.calls.ItemReply.TheVariants.{Held as Held_reply, Absent, Stored as Kept_reply, Crowded as Host_crowded, Full as Crowded, NoMemory as No_item_memory}
 use Rattle.item_store.proofs.Looking.{handed_item}
 use Rattle.node_serve.specs.NodeState.{NodeState, Stores, stores_of}
-use Rattle.node_serve.specs.Replies.{Announces, Puts, IsTaken, Outcome, RepliesWith, refused, full, added, strange, changing, long, crowded, kept, named, bad_token, too_big, server_error, peer_for, with_peers, with_items}
+use Rattle.node_serve.specs.Replies.{Announces, Puts, IsTaken, Outcome, RepliesWith, refused, full, added, strange, changing, long, crowded, kept, named, bad_token, too_big, server_error, point_for, peer_for, with_peers, with_items, RefusesItem}
 use Rattle.peer_store.specs.declared.calls.PeerCall.TheVariants.{List as List_call, Put}
 use Rattle.peer_store.specs.declared.calls.PeerReply.{PeerReply}
-use Rattle.peer_store.specs.declared.calls.PeerReply.TheVariants.{Listed, Stored as Stored_reply, Full, NoMemory}
+use Rattle.peer_store.specs.declared.calls.PeerReply.TheVariants.{Listed, Stored as Stored_reply, Crowded as Host_full, Full, NoMemory}
 use Rattle.node_serve.specs.declared.setting.ServeSetting.{ServeSetting}
 use Rattle.node_serve.specs.Calls.{of_peers, of_items, Reply, by_peers, by_items, Did, on_table, on_peers, on_items, call_of, reply_of, HadMemory, HasItemRoom, is_accepted, put_calls, calls_for, calls_told, listed_by, peers_by, item_by, found_from, peers_from, item_from, put_in, kept_in, put_reply, answer_with}
 use Rattle.node_serve.specs.Gains.{item_reply}
@@ -64,32 +64,38 @@ pub record Part (s : NodeState) (from : Addr) (at : ℕ) (tx : List ℕ) (ask : 
   reply : (more : List Reply) → o.message ≡ answer_with (setting_of s) from at tx ask (map reply_of did ++ more)
 
 -- whether a pair is held
-abbrev stored_as : List Held → Pair → Stored
-stored_as held pair = cond (list_any (λ p. is_eq (pair_cmp pair p)) (keys_of held)) Renewed New
+abbrev stored_as : PeersState → Pair → Stored
+stored_as s pair = cond (list_any (λ p. is_eq (pair_cmp pair p)) (keys_of s.held)) Renewed New
 
 stored_is : (b : Bool) → (cond b Renewed New ≡ Renewed) ↔ (b ≡ true)
 stored_is true = (λ e. refl, λ e. refl)
 stored_is false = (λ e. absurd cc, λ e. absurd cc)
 
+neither : {A B : Type 0} → ¬ A → ¬ B → ¬ (A ⊎ B)
+neither a b (inl x) = a x
+neither a b (inr y) = b y
+
 outcome_is : (m n : Message) (p q : Stores) → m ≡ n → p ≡ q → ◌≡◌ {A = Outcome} (record { message = m; stores = p }) (record { message = n; stores = q })
 outcome_is m n p q e f = ap (λ x. record { message = x; stores = p }) e ∙ ap (λ y. record { message = n; stores = y }) f
 
 -- whether an item of the key is held
-abbrev kept_as : List HeldItem → Id → Stored
-kept_as held key = cond (list_any (λ k. is_eq (key_cmp key k)) (keys_of held)) Renewed New
+abbrev kept_as : ItemsState → Id → Stored
+kept_as s key = cond (list_any (λ k. is_eq (key_cmp key k)) (keys_of s.held)) Renewed New
 
-kept_step : (held : List HeldItem) (key : Id) (b : Bool) → list_any (λ k. is_eq (key_cmp key k)) (keys_of held) ≡ b → ¬ HasNoRoom held key → StoredStep held key (cond b Renewed New)
-kept_step held key true e n = e
-kept_step held key false e n = (let absent : ¬ Holds held key = λ h. not_true (sym e ∙ h) in record { absent = absent; room = λ f. n (absent, f) })
+kept_step : (s : ItemsState) (key : Id) (from : Addr) (b : Bool) → list_any (λ k. is_eq (key_cmp key k)) (keys_of s.held) ≡ b → ¬ RefusesItem s key from → StoredStep s key from (cond b Renewed New)
+kept_step s key from true e n = e
+kept_step s key from false e n = (let absent : ¬ Holds s key = λ h. not_true (sym e ∙ h) in record { absent = absent; free = λ f. n (inl f); room = λ f. n (inr f) })
   where
     not_true : false ≡ true → ⊥
     not_true e = cc
 
-has_room : (held : List HeldItem) (key : Id) (stored : Stored) → StoredStep held key stored → ¬ HasNoRoom held key
-has_room held key New h = λ n. h.room n.1
-has_room held key Renewed h = λ n. n.0 h
+has_room : (s : ItemsState) (key : Id) (from : Addr) (stored : Stored) → StoredStep s key from stored → ¬ RefusesItem s key from
+has_room s key from New h (inl c) = h.free c
+has_room s key from New h (inr n) = h.room n
+has_room s key from Renewed h (inl c) = c.0 h
+has_room s key from Renewed h (inr n) = n.absent h
 
-get_step : (held : List HeldItem) (key : Id) (at : ℕ) → IsItems held → (o : Option (List ℕ)) → handed_out held key at ≡ o → ItemStep held 0 (Get_call key at) (item_reply o)
+get_step : (held : ItemsState) (key : Id) (at : ℕ) → IsItems held → (o : Option (List ℕ)) → handed_out held key at ≡ o → ItemStep held 0 (Get_call key at) (item_reply o)
 get_step held key at sound None e = e
 get_step held key at sound (Some v) e = (e, handed_item held key at v sound.sound e)
 
@@ -118,7 +124,16 @@ module _ (s : NodeState) (from : Addr) (at : ℕ) (tx : List ℕ) where
         steps = (refl, ap (λ (x : Outcome). x.stores) e);
         reply = λ more. ap (λ (x : Outcome). x.message) e ∙ sym (ap (λ b. cond b (put_in tx s.own more) (bad_token tx)) off);
       }
-  announced_part id key port token o (full h n e) =
+  announced_part id key port token o (full h (inl n) e) =
+      let on : takes token ≡ true = (accepted s.tokens (ip_bytes from.ip) at token).1 h in
+      record {
+        did = on_peers (Put key (peer_for from port) at) Host_full ∷ [];
+        calls = sym (ap (λ b. cond b (of_peers (Put key (peer_for from port) at) ∷ []) []) on);
+        memory = All-cons HadMemory (on_peers (Put key (peer_for from port) at) Host_full) [] tt (All-nil HadMemory);
+        steps = (n, (refl, ap (λ (x : Outcome). x.stores) e));
+        reply = λ more. ap (λ (x : Outcome). x.message) e ∙ sym (ap (λ b. cond b (put_in tx s.own (by_peers Host_full ∷ more)) (bad_token tx)) on);
+      }
+  announced_part id key port token o (full h (inr n) e) =
       let on : takes token ≡ true = (accepted s.tokens (ip_bytes from.ip) at token).1 h in
       record {
         did = on_peers (Put key (peer_for from port) at) Full ∷ [];
@@ -136,7 +151,7 @@ module _ (s : NodeState) (from : Addr) (at : ℕ) (tx : List ℕ) where
         did = on_peers (Put key peer at) (Stored_reply stored) ∷ [];
         calls = sym (ap (λ b. cond b (of_peers (Put key peer at) ∷ []) []) on);
         memory = All-cons HadMemory (on_peers (Put key peer at) (Stored_reply stored)) [] tt (All-nil HadMemory);
-        steps = ((stored_is (list_any (λ p. is_eq (pair_cmp pair p)) (keys_of (purged s.peers at))), n), (refl, ap (λ (x : Outcome). x.stores) e));
+        steps = ((stored_is (list_any (λ p. is_eq (pair_cmp pair p)) (keys_of (purged s.peers at).held)), (λ f. n (inl f)), (λ f. n (inr f))), (refl, ap (λ (x : Outcome). x.stores) e));
         reply = λ more. ap (λ (x : Outcome). x.message) e ∙ sym (ap (λ b. cond b (put_in tx s.own (by_peers (Stored_reply stored) ∷ more)) (bad_token tx)) on);
       }
 
@@ -158,7 +173,7 @@ module _ (s : NodeState) (from : Addr) (at : ℕ) (tx : List ℕ) where
       let off : takes token ≡ false = fails (takes token) (accepted s.tokens (ip_bytes from.ip) at token) h in
       record {
         did = [];
-        calls = sym (λ i. put_calls (off i) mutable at v);
+        calls = sym (λ i. put_calls (off i) mutable from at v);
         memory = All-nil HadMemory;
         steps = (refl, ap (λ (x : Outcome). x.stores) e);
         reply = λ more. ap (λ (x : Outcome). x.message) e ∙ sym (λ i. put_reply (off i) mutable tx s.own v more);
@@ -167,7 +182,7 @@ module _ (s : NodeState) (from : Addr) (at : ℕ) (tx : List ℕ) where
       let on : takes token ≡ true = (accepted s.tokens (ip_bytes from.ip) at token).1 h in
       record {
         did = [];
-        calls = sym (λ i. put_calls (on i) (m i) at v);
+        calls = sym (λ i. put_calls (on i) (m i) from at v);
         memory = All-nil HadMemory;
         steps = (refl, ap (λ (x : Outcome). x.stores) e);
         reply = λ more. ap (λ (x : Outcome). x.message) e ∙ sym (λ i. put_reply (on i) (m i) tx s.own v more);
@@ -177,19 +192,30 @@ module _ (s : NodeState) (from : Addr) (at : ℕ) (tx : List ℕ) where
       let big : nat_le (length v) max_length ≡ false = lt-leb (length v) max_length l in
       record {
         did = [];
-        calls = sym ((λ i. put_calls (on i) (m i) at v) ∙ ap (λ b. cond b (of_items (Keep_call v at) ∷ []) []) big);
+        calls = sym ((λ i. put_calls (on i) (m i) from at v) ∙ ap (λ b. cond b (of_items (Keep_call v from at) ∷ []) []) big);
         memory = All-nil HadMemory;
         steps = (refl, ap (λ (x : Outcome). x.stores) e);
         reply = λ more. ap (λ (x : Outcome). x.message) e ∙ sym ((λ i. put_reply (on i) (m i) tx s.own v more) ∙ ap (λ b. cond b (kept_in tx s.own more) (too_big tx)) big);
       }
-  put_part id token v mutable o (crowded t n e) =
+  put_part id token v mutable o (crowded t (inl n) e) =
       let on : takes token ≡ true = (accepted s.tokens (ip_bytes from.ip) at token).1 t.own_token in
       let m = t.immutable in
       let fits : nat_le (length v) max_length ≡ true = le-leb (length v) max_length t.short in
       record {
-        did = on_items (Keep_call v at) Crowded ∷ [];
-        calls = sym ((λ i. put_calls (on i) (m i) at v) ∙ ap (λ b. cond b (of_items (Keep_call v at) ∷ []) []) fits);
-        memory = All-cons HadMemory (on_items (Keep_call v at) Crowded) [] tt (All-nil HadMemory);
+        did = on_items (Keep_call v from at) Host_crowded ∷ [];
+        calls = sym ((λ i. put_calls (on i) (m i) from at v) ∙ ap (λ b. cond b (of_items (Keep_call v from at) ∷ []) []) fits);
+        memory = All-cons HadMemory (on_items (Keep_call v from at) Host_crowded) [] tt (All-nil HadMemory);
+        steps = (n, (refl, ap (λ (x : Outcome). x.stores) e));
+        reply = λ more. ap (λ (x : Outcome). x.message) e ∙ sym ((λ i. put_reply (on i) (m i) tx s.own v (by_items Host_crowded ∷ more)) ∙ ap (λ b. cond b (kept_in tx s.own (by_items Host_crowded ∷ more)) (too_big tx)) fits);
+      }
+  put_part id token v mutable o (crowded t (inr n) e) =
+      let on : takes token ≡ true = (accepted s.tokens (ip_bytes from.ip) at token).1 t.own_token in
+      let m = t.immutable in
+      let fits : nat_le (length v) max_length ≡ true = le-leb (length v) max_length t.short in
+      record {
+        did = on_items (Keep_call v from at) Crowded ∷ [];
+        calls = sym ((λ i. put_calls (on i) (m i) from at v) ∙ ap (λ b. cond b (of_items (Keep_call v from at) ∷ []) []) fits);
+        memory = All-cons HadMemory (on_items (Keep_call v from at) Crowded) [] tt (All-nil HadMemory);
         steps = (n, (refl, ap (λ (x : Outcome). x.stores) e));
         reply = λ more. ap (λ (x : Outcome). x.message) e ∙ sym ((λ i. put_reply (on i) (m i) tx s.own v (by_items Crowded ∷ more)) ∙ ap (λ b. cond b (kept_in tx s.own (by_items Crowded ∷ more)) (too_big tx)) fits);
       }
@@ -200,10 +226,10 @@ module _ (s : NodeState) (from : Addr) (at : ℕ) (tx : List ℕ) where
       let held = purged_items s.items at in
       let stored : Stored = kept_as held (key_of v) in
       record {
-        did = on_items (Keep_call v at) (Kept_reply stored) ∷ [];
-        calls = sym ((λ i. put_calls (on i) (m i) at v) ∙ ap (λ b. cond b (of_items (Keep_call v at) ∷ []) []) fits);
-        memory = All-cons HadMemory (on_items (Keep_call v at) (Kept_reply stored)) [] tt (All-nil HadMemory);
-        steps = (kept_step held (key_of v) (list_any (λ k. is_eq (key_cmp (key_of v) k)) (keys_of held)) refl n, (refl, ap (λ (x : Outcome). x.stores) e));
+        did = on_items (Keep_call v from at) (Kept_reply stored) ∷ [];
+        calls = sym ((λ i. put_calls (on i) (m i) from at v) ∙ ap (λ b. cond b (of_items (Keep_call v from at) ∷ []) []) fits);
+        memory = All-cons HadMemory (on_items (Keep_call v from at) (Kept_reply stored)) [] tt (All-nil HadMemory);
+        steps = (kept_step held (key_of v) from (list_any (λ k. is_eq (key_cmp (key_of v) k)) (keys_of held.held)) refl n, (refl, ap (λ (x : Outcome). x.stores) e));
         reply = λ more. ap (λ (x : Outcome). x.message) e ∙ sym ((λ i. put_reply (on i) (m i) tx s.own v (by_items (Kept_reply stored) ∷ more)) ∙ ap (λ b. cond b (kept_in tx s.own (by_items (Kept_reply stored) ∷ more)) (too_big tx)) fits);
       }
 
@@ -213,7 +239,8 @@ module _ (s : NodeState) (from : Addr) (at : ℕ) (tx : List ℕ) where
       let d : Did = on_table (Closest target s.k) (List_reply (k_closest target s.k (contacts_of s.table))) in
       record { did = d ∷ []; calls = refl; memory = All-cons HadMemory d [] tt (All-nil HadMemory); steps = (refl, (refl, ap (λ (x : Outcome). x.stores) e)); reply = λ more. ap (λ (x : Outcome). x.message) e }
   part (GetPeers id key want) o sound e =
-      let d : Did = on_peers (List_call key at) (Listed (listed s.peers key at)) in
+      let first : List ℕ = point_for s.tokens from at key in
+      let d : Did = on_peers (List_call key at first) (Listed (listed_from s.peers key at first)) in
       let f : Did = on_table (Closest key s.k) (List_reply (k_closest key s.k (contacts_of s.table))) in
       record {
         did = d ∷ f ∷ [];
@@ -307,16 +334,17 @@ module _ (s : NodeState) (from : Addr) (at : ℕ) (tx : List ℕ) (u : TableStat
         replies = λ more. outcome_is _ _ q (stores_of s) (ap (λ x. found_from tx (setting_of s) (listed_by x)) is) st.1.1;
       }
 
-  peers_shows : (id key : Id) (want : Want) (peers : PeerReply) (nodes : TableReply) → Shows (GetPeers id key want) (on_peers (List_call key at) peers ∷ on_table (Closest key s.k) nodes ∷ [])
+  peers_shows : (id key : Id) (want : Want) (peers : PeerReply) (nodes : TableReply) → Shows (GetPeers id key want) (on_peers (List_call key at (point_for s.tokens from at key)) peers ∷ on_table (Closest key s.k) nodes ∷ [])
   peers_shows id key want peers nodes memory st =
-      let d : Did = on_peers (List_call key at) peers in
+      let point : List ℕ = point_for s.tokens from at key in
+      let d : Did = on_peers (List_call key at point) peers in
       let f : Did = on_table (Closest key s.k) nodes in
-      let first = listed_is s.peers key at peers st.0 (All-head HadMemory d (f ∷ []) memory) in
+      let first = listed_is s.peers key at point peers st.0 (All-head HadMemory d (f ∷ []) memory) in
       let second = closest_is s.table key s.k nodes st.1.0 (All-head HadMemory f [] (All-tail HadMemory d (f ∷ []) memory)) in
       record {
         table = st.1.1.0 ∙ closest_after s.table key s.k nodes;
         replies = λ more. outcome_is _ _ q (stores_of s)
-            (ap (λ x. peers_from tx (setting_of s) from at (peers_by x) (listed_by nodes)) first ∙ ap (λ x. peers_from tx (setting_of s) from at (listed s.peers key at) (listed_by x)) second)
+            (ap (λ x. peers_from tx (setting_of s) from at (peers_by x) (listed_by nodes)) first ∙ ap (λ x. peers_from tx (setting_of s) from at (listed_from s.peers key at point) (listed_by x)) second)
             st.1.1.1;
       }
 
@@ -334,31 +362,39 @@ module _ (s : NodeState) (from : Addr) (at : ℕ) (tx : List ℕ) (u : TableStat
       }
 
   keep_shows : (id : Id) (token v : List ℕ) (mutable : Bool) (reply : ItemReply) → is_accepted s.tokens (ip_bytes from.ip) at token ≡ true → mutable ≡ false → nat_le (length v) max_length ≡ true
-      → Shows (PutItem id token v mutable) (on_items (Keep_call v at) reply ∷ [])
+      → Shows (PutItem id token v mutable) (on_items (Keep_call v from at) reply ∷ [])
   keep_shows id token v mutable (Kept_reply stored) on m fits memory st =
       let taken : IsTaken s from at token v mutable = record { own_token = (accepted s.tokens (ip_bytes from.ip) at token).0 on; immutable = m; short = leb-true (length v) max_length fits } in
       record {
         table = st.1.0;
-        replies = λ more. kept taken (has_room (purged_items s.items at) (key_of v) stored st.0)
-            (outcome_is _ _ q (with_items s (with_item (purged_items s.items at) v at))
+        replies = λ more. kept taken (has_room (purged_items s.items at) (key_of v) from stored st.0)
+            (outcome_is _ _ q (with_items s (with_item (purged_items s.items at) v from at))
             ((λ i. put_reply (on i) (m i) tx s.own v (by_items (Kept_reply stored) ∷ more)) ∙ ap (λ b. cond b (named tx s.own) (too_big tx)) fits) st.1.1);
+      }
+  keep_shows id token v mutable Host_crowded on m fits memory st =
+      let taken : IsTaken s from at token v mutable = record { own_token = (accepted s.tokens (ip_bytes from.ip) at token).0 on; immutable = m; short = leb-true (length v) max_length fits } in
+      record {
+        table = st.1.0;
+        replies = λ more. crowded taken (inl st.0)
+            (outcome_is _ _ q (with_items s (purged_items s.items at))
+            ((λ i. put_reply (on i) (m i) tx s.own v (by_items Host_crowded ∷ more)) ∙ ap (λ b. cond b (server_error tx) (too_big tx)) fits) st.1.1);
       }
   keep_shows id token v mutable Crowded on m fits memory st =
       let taken : IsTaken s from at token v mutable = record { own_token = (accepted s.tokens (ip_bytes from.ip) at token).0 on; immutable = m; short = leb-true (length v) max_length fits } in
       record {
         table = st.1.0;
-        replies = λ more. crowded taken st.0
+        replies = λ more. crowded taken (inr st.0)
             (outcome_is _ _ q (with_items s (purged_items s.items at))
             ((λ i. put_reply (on i) (m i) tx s.own v (by_items Crowded ∷ more)) ∙ ap (λ b. cond b (server_error tx) (too_big tx)) fits) st.1.1);
       }
-  keep_shows id token v mutable No_item_memory on m fits memory st = absurd (All-head HadMemory (on_items (Keep_call v at) No_item_memory) [] memory)
+  keep_shows id token v mutable No_item_memory on m fits memory st = absurd (All-head HadMemory (on_items (Keep_call v from at) No_item_memory) [] memory)
   keep_shows id token v mutable (Held_reply w) on m fits memory st = absurd st.0
   keep_shows id token v mutable Absent on m fits memory st = absurd st.0
 
   fits_shows : (id : Id) (token v : List ℕ) (mutable : Bool) (did : List Did) (b : Bool) → is_accepted s.tokens (ip_bytes from.ip) at token ≡ true → mutable ≡ false → nat_le (length v) max_length ≡ b
-      → map call_of did ≡ cond b (of_items (Keep_call v at) ∷ []) [] → Shows (PutItem id token v mutable) did
+      → map call_of did ≡ cond b (of_items (Keep_call v from at) ∷ []) [] → Shows (PutItem id token v mutable) did
   fits_shows id token v mutable did true on m fits calls =
-      let one = one_item (Keep_call v at) did calls in
+      let one = one_item (Keep_call v from at) did calls in
       subst (Shows (PutItem id token v mutable)) (sym one.is) (keep_shows id token v mutable one.reply on m fits)
   fits_shows id token v mutable did false on m big calls =
       subst (Shows (PutItem id token v mutable)) (sym (made_none did calls)) (λ memory st. record {
@@ -368,7 +404,7 @@ module _ (s : NodeState) (from : Addr) (at : ℕ) (tx : List ℕ) (u : TableStat
       })
 
   puts_shows : (id : Id) (token v : List ℕ) (mutable : Bool) (did : List Did) (b m : Bool) → is_accepted s.tokens (ip_bytes from.ip) at token ≡ b → mutable ≡ m
-      → map call_of did ≡ put_calls b m at v → Shows (PutItem id token v mutable) did
+      → map call_of did ≡ put_calls b m from at v → Shows (PutItem id token v mutable) did
   puts_shows id token v mutable did false m off is calls =
       subst (Shows (PutItem id token v mutable)) (sym (made_none did calls)) (λ memory st. record {
         table = st.0;
@@ -386,12 +422,17 @@ module _ (s : NodeState) (from : Addr) (at : ℕ) (tx : List ℕ) (u : TableStat
   put_shows : (id key : Id) (port : Port) (token : List ℕ) (reply : PeerReply) → is_accepted s.tokens (ip_bytes from.ip) at token ≡ true → Shows (AnnouncePeer id key port token) (on_peers (Put key (peer_for from port) at) reply ∷ [])
   put_shows id key port token (Stored_reply stored) on memory st = record {
     table = st.1.0;
-    replies = λ more. added ((accepted s.tokens (ip_bytes from.ip) at token).0 on) st.0.1
+    replies = λ more. added ((accepted s.tokens (ip_bytes from.ip) at token).0 on) (neither st.0.1 st.0.2)
         (outcome_is _ _ q (with_peers s (with_add (purged s.peers at) (key, peer_for from port) at)) (ap (λ b. cond b (named tx s.own) (bad_token tx)) on) st.1.1);
+  }
+  put_shows id key port token Host_full on memory st = record {
+    table = st.1.0;
+    replies = λ more. full ((accepted s.tokens (ip_bytes from.ip) at token).0 on) (inl st.0)
+        (outcome_is _ _ q (with_peers s (purged s.peers at)) (ap (λ b. cond b (server_error tx) (bad_token tx)) on) st.1.1);
   }
   put_shows id key port token Full on memory st = record {
     table = st.1.0;
-    replies = λ more. full ((accepted s.tokens (ip_bytes from.ip) at token).0 on) st.0
+    replies = λ more. full ((accepted s.tokens (ip_bytes from.ip) at token).0 on) (inr st.0)
         (outcome_is _ _ q (with_peers s (purged s.peers at)) (ap (λ b. cond b (server_error tx) (bad_token tx)) on) st.1.1);
   }
   put_shows id key port token NoMemory on memory st = absurd (All-head HadMemory (on_peers (Put key (peer_for from port) at) NoMemory) [] memory)
@@ -415,7 +456,7 @@ module _ (s : NodeState) (from : Addr) (at : ℕ) (tx : List ℕ) (u : TableStat
       let one = one_table (Closest target s.k) did calls in
       subst (Shows (FindNode id target want)) (sym one.is) (found_shows id target want one.reply)
   shows (GetPeers id key want) did calls =
-      let two = peer_and_table (List_call key at) (Closest key s.k) did calls in
+      let two = peer_and_table (List_call key at (point_for s.tokens from at key)) (Closest key s.k) did calls in
       subst (Shows (GetPeers id key want)) (sym two.is) (peers_shows id key want two.peers two.nodes)
   shows (AnnouncePeer id key port token) did calls = announced_shows id key port token did (is_accepted s.tokens (ip_bytes from.ip) at token) refl calls
   shows (GetItem id key want) did calls =

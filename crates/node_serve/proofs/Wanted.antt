@@ -8,12 +8,12 @@ use Rattle.kad_krpc.specs.declared.message.Ask.TheVariants.{Ping, FindNode, GetP
 use Rattle.kad_krpc.specs.Records.{ip_bytes}
 use Rattle.item_store.specs.Items.{max_length}
 use Rattle.item_store.specs.declared.calls.ItemCall.TheVariants.{Get as Get_call, Put as Keep_call}
-use Rattle.item_store.specs.declared.calls.ItemReply.TheVariants.{Stored as Kept_reply, Full as No_room}
+use Rattle.item_store.specs.declared.calls.ItemReply.TheVariants.{Stored as Kept_reply, Crowded as Host_crowded, Full as No_room}
 use Rattle.contact_table.specs.declared.calls.TableCall.TheVariants.{Closest}
 use Rattle.contact_table.specs.declared.calls.TableReply.TheVariants.{List as List_reply}
 use Rattle.node_serve.specs.Replies.{peer_for, bad_token, too_big}
 use Rattle.peer_store.specs.declared.calls.PeerCall.TheVariants.{List as List_call, Put}
-use Rattle.peer_store.specs.declared.calls.PeerReply.TheVariants.{Listed, Stored as Stored_reply, Full as Full_reply}
+use Rattle.peer_store.specs.declared.calls.PeerReply.TheVariants.{Listed, Stored as Stored_reply, Crowded as Crowded_reply, Full as Full_reply}
 use Rattle.node_serve.specs.declared.setting.ServeSetting.{ServeSetting}
 use Rattle.node_serve.specs.declared.planning.Wants.{Wants}
 use Rattle.node_serve.specs.declared.planning.Wants.TheVariants.{Name, Nodes, Peers, Place, Item, Keep, RefuseToken, RefuseMutable, RefuseBig, RefuseMethod}
@@ -26,14 +26,14 @@ place_calls : (s : ServeSetting) (at : ℕ) (key : Id) (peer : Addr) (b : Bool) 
 place_calls s at key peer true = refl
 place_calls s at key peer false = refl
 
-keep_calls : (s : ServeSetting) (at : ℕ) (v : List ℕ) (b : Bool) → calls_wanted s.k at (cond b (Keep v) RefuseBig) ≡ cond b (of_items (Keep_call v at) ∷ []) []
-keep_calls s at v true = refl
-keep_calls s at v false = refl
+keep_calls : (s : ServeSetting) (from : Addr) (at : ℕ) (v : List ℕ) (b : Bool) → calls_wanted s.k at (cond b (Keep v from) RefuseBig) ≡ cond b (of_items (Keep_call v from at) ∷ []) []
+keep_calls s from at v true = refl
+keep_calls s from at v false = refl
 
-item_calls : (s : ServeSetting) (at : ℕ) (v : List ℕ) (accepted mutable : Bool) → calls_wanted s.k at (put_wants accepted mutable v) ≡ put_calls accepted mutable at v
-item_calls s at v true true = refl
-item_calls s at v true false = keep_calls s at v (nat_le (length v) max_length)
-item_calls s at v false mutable = refl
+item_calls : (s : ServeSetting) (from : Addr) (at : ℕ) (v : List ℕ) (accepted mutable : Bool) → calls_wanted s.k at (put_wants accepted mutable v from) ≡ put_calls accepted mutable from at v
+item_calls s from at v true true = refl
+item_calls s from at v true false = keep_calls s from at v (nat_le (length v) max_length)
+item_calls s from at v false mutable = refl
 
 pub wanted_calls : (s : ServeSetting) (from : Addr) (at : ℕ) (ask : Ask) → calls_wanted s.k at (wants_of s from at ask) ≡ calls_for s from at ask
 wanted_calls s from at (Ping id) = refl
@@ -41,18 +41,18 @@ wanted_calls s from at (FindNode id target want) = refl
 wanted_calls s from at (GetPeers id key want) = refl
 wanted_calls s from at (AnnouncePeer id key port token) = place_calls s at key (peer_for from port) (is_accepted s.tokens (ip_bytes from.ip) at token)
 wanted_calls s from at (GetItem id target want) = refl
-wanted_calls s from at (PutItem id token v mutable) = item_calls s at v (is_accepted s.tokens (ip_bytes from.ip) at token) mutable
+wanted_calls s from at (PutItem id token v mutable) = item_calls s from at v (is_accepted s.tokens (ip_bytes from.ip) at token) mutable
 wanted_calls s from at (Other method) = refl
 
 place_reply : (s : ServeSetting) (from : Addr) (at : ℕ) (tx : List ℕ) (key : Id) (peer : Addr) (rs : List Reply) (b : Bool) → reply_wanted s from at tx (cond b (Place key peer) RefuseToken) rs ≡ cond b (put_in tx s.own rs) (bad_token tx)
 place_reply s from at tx key peer rs true = refl
 place_reply s from at tx key peer rs false = refl
 
-keep_reply : (s : ServeSetting) (from : Addr) (at : ℕ) (tx v : List ℕ) (rs : List Reply) (b : Bool) → reply_wanted s from at tx (cond b (Keep v) RefuseBig) rs ≡ cond b (kept_in tx s.own rs) (too_big tx)
+keep_reply : (s : ServeSetting) (from : Addr) (at : ℕ) (tx v : List ℕ) (rs : List Reply) (b : Bool) → reply_wanted s from at tx (cond b (Keep v from) RefuseBig) rs ≡ cond b (kept_in tx s.own rs) (too_big tx)
 keep_reply s from at tx v rs true = refl
 keep_reply s from at tx v rs false = refl
 
-item_reply : (s : ServeSetting) (from : Addr) (at : ℕ) (tx v : List ℕ) (rs : List Reply) (accepted mutable : Bool) → reply_wanted s from at tx (put_wants accepted mutable v) rs ≡ put_reply accepted mutable tx s.own v rs
+item_reply : (s : ServeSetting) (from : Addr) (at : ℕ) (tx v : List ℕ) (rs : List Reply) (accepted mutable : Bool) → reply_wanted s from at tx (put_wants accepted mutable v from) rs ≡ put_reply accepted mutable tx s.own v rs
 item_reply s from at tx v rs true true = refl
 item_reply s from at tx v rs true false = keep_reply s from at tx v rs (nat_le (length v) max_length)
 item_reply s from at tx v rs false mutable = refl
@@ -78,12 +78,14 @@ one_had d h = All-cons HadMemory d [] h (All-nil HadMemory)
 pub did_calls : (k at : ℕ) (w : Wants) (g : Gained) → IsFor w g → map call_of (did_for k at w g) ≡ calls_wanted k at w
 did_calls k at Name gained.Name h = refl
 did_calls k at (Nodes target) (gained.Nodes nodes) h = refl
-did_calls k at (Peers key) (gained.Peers list nodes) h = refl
+did_calls k at (Peers key first) (gained.Peers list nodes) h = refl
 did_calls k at (Place key peer) (gained.Placed stored) h = refl
+did_calls k at (Place key peer) gained.HostFull h = refl
 did_calls k at (Place key peer) gained.Full h = refl
 did_calls k at (Item key) (gained.Item v nodes) h = refl
-did_calls k at (Keep v) (gained.Kept stored) h = refl
-did_calls k at (Keep v) gained.Crowded h = refl
+did_calls k at (Keep v from) (gained.Kept stored) h = refl
+did_calls k at (Keep v from) gained.HostCrowded h = refl
+did_calls k at (Keep v from) gained.Crowded h = refl
 did_calls k at RefuseToken gained.RefuseToken h = refl
 did_calls k at RefuseMutable gained.RefuseMutable h = refl
 did_calls k at RefuseBig gained.RefuseBig h = refl
@@ -93,12 +95,14 @@ did_calls k at w g h = absurd h
 pub did_memory : (k at : ℕ) (w : Wants) (g : Gained) → IsFor w g → All HadMemory (did_for k at w g)
 did_memory k at Name gained.Name h = All-nil HadMemory
 did_memory k at (Nodes target) (gained.Nodes nodes) h = one_had (on_table (Closest target k) (List_reply nodes)) tt
-did_memory k at (Peers key) (gained.Peers list nodes) h = All-cons HadMemory (on_peers (List_call key at) (Listed list)) (on_table (Closest key k) (List_reply nodes) ∷ []) tt (one_had (on_table (Closest key k) (List_reply nodes)) tt)
+did_memory k at (Peers key first) (gained.Peers list nodes) h = All-cons HadMemory (on_peers (List_call key at first) (Listed list)) (on_table (Closest key k) (List_reply nodes) ∷ []) tt (one_had (on_table (Closest key k) (List_reply nodes)) tt)
 did_memory k at (Place key peer) (gained.Placed stored) h = one_had (on_peers (Put key peer at) (Stored_reply stored)) tt
+did_memory k at (Place key peer) gained.HostFull h = one_had (on_peers (Put key peer at) Crowded_reply) tt
 did_memory k at (Place key peer) gained.Full h = one_had (on_peers (Put key peer at) Full_reply) tt
 did_memory k at (Item key) (gained.Item v nodes) h = All-cons HadMemory (on_items (Get_call key at) (item_of v)) (on_table (Closest key k) (List_reply nodes) ∷ []) (got_memory v) (one_had (on_table (Closest key k) (List_reply nodes)) tt)
-did_memory k at (Keep v) (gained.Kept stored) h = one_had (on_items (Keep_call v at) (Kept_reply stored)) tt
-did_memory k at (Keep v) gained.Crowded h = one_had (on_items (Keep_call v at) No_room) tt
+did_memory k at (Keep v from) (gained.Kept stored) h = one_had (on_items (Keep_call v from at) (Kept_reply stored)) tt
+did_memory k at (Keep v from) gained.HostCrowded h = one_had (on_items (Keep_call v from at) Host_crowded) tt
+did_memory k at (Keep v from) gained.Crowded h = one_had (on_items (Keep_call v from at) No_room) tt
 did_memory k at RefuseToken gained.RefuseToken h = All-nil HadMemory
 did_memory k at RefuseMutable gained.RefuseMutable h = All-nil HadMemory
 did_memory k at RefuseBig gained.RefuseBig h = All-nil HadMemory
@@ -109,13 +113,15 @@ did_memory k at w g h = absurd h
 pub gained_reply : (s : ServeSetting) (from : Addr) (at : ℕ) (tx : List ℕ) (w : Wants) (g : Gained) → IsFor w g → (more : List Reply) → reply_gained s from at tx g ≡ reply_wanted s from at tx w (map reply_of (did_for s.k at w g) ++ more)
 gained_reply s from at tx Name gained.Name h more = refl
 gained_reply s from at tx (Nodes target) (gained.Nodes nodes) h more = refl
-gained_reply s from at tx (Peers key) (gained.Peers list nodes) h more = refl
+gained_reply s from at tx (Peers key first) (gained.Peers list nodes) h more = refl
 gained_reply s from at tx (Place key peer) (gained.Placed stored) h more = refl
+gained_reply s from at tx (Place key peer) gained.HostFull h more = refl
 gained_reply s from at tx (Place key peer) gained.Full h more = refl
 gained_reply s from at tx (Item key) (gained.Item None nodes) h more = refl
 gained_reply s from at tx (Item key) (gained.Item (Some v) nodes) h more = refl
-gained_reply s from at tx (Keep v) (gained.Kept stored) h more = refl
-gained_reply s from at tx (Keep v) gained.Crowded h more = refl
+gained_reply s from at tx (Keep v source) (gained.Kept stored) h more = refl
+gained_reply s from at tx (Keep v source) gained.HostCrowded h more = refl
+gained_reply s from at tx (Keep v source) gained.Crowded h more = refl
 gained_reply s from at tx RefuseToken gained.RefuseToken h more = refl
 gained_reply s from at tx RefuseMutable gained.RefuseMutable h more = refl
 gained_reply s from at tx RefuseBig gained.RefuseBig h more = refl
@@ -126,10 +132,10 @@ gained_reply s from at tx w g h more = absurd h
 
 pub fails_first : (k at : ℕ) (w : Wants) (did : List Did) → FailsBy k at w did → (left : List Call) × (map call_of did ++ left ≡ calls_wanted k at w)
 fails_first k at (Nodes target) did h = ([], ap (λ d. map call_of d ++ []) h)
-fails_first k at (Peers key) did (inl h) = (of_table (Closest key k) ∷ [], ap (λ d. map call_of d ++ of_table (Closest key k) ∷ []) h)
-fails_first k at (Peers key) did (inr h) = ([], ap (λ d. map call_of d ++ []) h.1)
+fails_first k at (Peers key first) did (inl h) = (of_table (Closest key k) ∷ [], ap (λ d. map call_of d ++ of_table (Closest key k) ∷ []) h)
+fails_first k at (Peers key first) did (inr h) = ([], ap (λ d. map call_of d ++ []) h.1)
 fails_first k at (Place key peer) did h = ([], ap (λ d. map call_of d ++ []) h)
 fails_first k at (Item key) did (inl h) = (of_table (Closest key k) ∷ [], ap (λ d. map call_of d ++ of_table (Closest key k) ∷ []) h)
 fails_first k at (Item key) did (inr h) = ([], ap (λ d. map call_of d ++ []) h.1)
-fails_first k at (Keep v) did h = ([], ap (λ d. map call_of d ++ []) h)
+fails_first k at (Keep v from) did h = ([], ap (λ d. map call_of d ++ []) h)
 fails_first k at w did h = absurd h

@@ -22,16 +22,16 @@ use Rattle.contact_table.specs.declared.calls.TableReply.TheVariants.{List as Li
 use Rattle.contact_table.specs.Told.{HasMemory}
 use Rattle.node_tokens.specs.Tokens.{TokensState, epoch_at, token_of}
 use Rattle.node_serve.specs.AnswerOf.{notify_by}
-use Rattle.node_serve.specs.Replies.{of_ipv4, snodes_by, where_some, peer_for, named, server_error, bad_token, no_mutable, too_big, method_unknown}
+use Rattle.node_serve.specs.Replies.{of_ipv4, snodes_by, where_some, point_for, peer_for, named, server_error, bad_token, no_mutable, too_big, method_unknown}
 use Rattle.peer_store.specs.declared.calls.PeerCall.{PeerCall}
 use Rattle.peer_store.specs.declared.calls.PeerCall.TheVariants.{List as List_call, Put}
 use Rattle.peer_store.specs.declared.calls.PeerReply.{PeerReply}
-use Rattle.peer_store.specs.declared.calls.PeerReply.TheVariants.{Listed, Full, NoMemory}
+use Rattle.peer_store.specs.declared.calls.PeerReply.TheVariants.{Listed, Crowded, Full, NoMemory}
 use Rattle.item_store.specs.Items.{max_length}
 use Rattle.item_store.specs.declared.calls.ItemCall.{ItemCall}
 use Rattle.item_store.specs.declared.calls.ItemCall.TheVariants.{Get as Get_call, Put as Keep_call}
 use Rattle.item_store.specs.declared.calls.ItemReply.{ItemReply}
-use Rattle.item_store.specs.declared.calls.ItemReply.TheVariants.{Held as Held_reply, Full as No_room, NoMemory as No_item_memory}
+use Rattle.item_store.specs.declared.calls.ItemReply.TheVariants.{Held as Held_reply, Crowded as Host_full, Full as No_room, NoMemory as No_item_memory}
 use Rattle.node_serve.specs.declared.setting.ServeSetting.{ServeSetting}
 
 -- k is within its limits, and each proof passes
@@ -91,19 +91,19 @@ is_accepted t ip at token =
     || (nat_lt 0 (epoch_at t at) && bytes_eq token (token_of t.seed (epoch_at t at - 1) ip))
 
 -- what a put asks, by whether its token is accepted and whether it is mutable
-abbrev pub put_calls : Bool → Bool → ℕ → List ℕ → List Call
-put_calls true false at v = cond (nat_le (length v) max_length) (of_items (Keep_call v at) ∷ []) []
-put_calls accepted mutable at v = []
+abbrev pub put_calls : Bool → Bool → Addr → ℕ → List ℕ → List Call
+put_calls true false from at v = cond (nat_le (length v) max_length) (of_items (Keep_call v from at) ∷ []) []
+put_calls accepted mutable from at v = []
 
 -- what a query asks
 abbrev pub calls_for : ServeSetting → Addr → ℕ → Ask → List Call
 calls_for s from at (Ping id) = []
 calls_for s from at (FindNode id target want) = of_table (Closest target s.k) ∷ []
-calls_for s from at (GetPeers id key want) = of_peers (List_call key at) ∷ of_table (Closest key s.k) ∷ []
+calls_for s from at (GetPeers id key want) = of_peers (List_call key at (point_for s.tokens from at key)) ∷ of_table (Closest key s.k) ∷ []
 calls_for s from at (AnnouncePeer id key port token) =
     cond (is_accepted s.tokens (ip_bytes from.ip) at token) (of_peers (Put key (peer_for from port) at) ∷ []) []
 calls_for s from at (GetItem id key want) = of_items (Get_call key at) ∷ of_table (Closest key s.k) ∷ []
-calls_for s from at (PutItem id token v mutable) = put_calls (is_accepted s.tokens (ip_bytes from.ip) at token) mutable at v
+calls_for s from at (PutItem id token v mutable) = put_calls (is_accepted s.tokens (ip_bytes from.ip) at token) mutable from at v
 calls_for s from at (Other method) = []
 
 -- whom the table is told of
@@ -152,6 +152,7 @@ item_in (by_items reply ∷ rest) = item_by reply
 
 -- what the first reply says of a peer that was to be added
 abbrev pub put_by : List ℕ → Id → PeerReply → Message
+put_by tx own Crowded = server_error tx
 put_by tx own Full = server_error tx
 put_by tx own other = named tx own
 
@@ -163,6 +164,7 @@ put_in tx own (by_items reply ∷ rest) = named tx own
 
 -- what the first reply says of an item that was to be kept
 abbrev pub kept_by : List ℕ → Id → ItemReply → Message
+kept_by tx own Host_full = server_error tx
 kept_by tx own No_room = server_error tx
 kept_by tx own other = named tx own
 

@@ -1,5 +1,5 @@
 -- What callers see of a node that answers.
-use Rattle.std.specs.Prelude.{◌≡◌, ℕ, ◌<◌, ◌≤◌, Bool, List, []}
+use Rattle.std.specs.Prelude.{◌≡◌, ℕ, ◌<◌, ◌≤◌, Bool, List}
 use Rattle.std.specs.List.{All}
 use Rattle.kad_base.specs.declared.types.Id.{Id}
 use Rattle.kad_base.specs.declared.types.Report.{Report}
@@ -7,14 +7,14 @@ use Rattle.kad_base.specs.declared.types.Policy.{Policy}
 use Rattle.kad_base.specs.Limits.{max_k}
 use Rattle.kad_base.specs.Puzzles.{Passes}
 use Rattle.contact_table.specs.TableState.{TableState}
-use Rattle.peer_store.specs.Peers.{Held}
-use Rattle.node_tokens.specs.Tokens.{TokensState}
-use Rattle.item_store.specs.Items.{Held as HeldItem}
+use Rattle.peer_store.specs.Peers.{PeersState, no_peers}
+use Rattle.node_tokens.specs.Tokens.{TokensState, tokens_by}
+use Rattle.item_store.specs.Items.{ItemsState, no_items}
 
 -- what a node keeps for others: the peers that were announced to it, and the items that were put to it
 pub record Stores : Type 0 where
-  pub peers : List Held
-  pub items : List HeldItem
+  pub peers : PeersState
+  pub items : ItemsState
 
 -- its identifier, how many contacts a reply names, under which policy it answers, its routing table, the peers and the
 -- items that it keeps for others, the proofs that it keeps, its tokens, and whether it tags what it says
@@ -23,8 +23,8 @@ pub record NodeState : Type 0 where
   pub k : ℕ
   pub policy : Policy
   pub table : TableState
-  pub peers : List Held
-  pub items : List HeldItem
+  pub peers : PeersState
+  pub items : ItemsState
   pub proofs : List Report
   pub tokens : TokensState
   pub sealed : Bool
@@ -40,18 +40,18 @@ pub record IsNode (s : NodeState) : Type 0 where
 abbrev pub stores_of : NodeState → Stores
 stores_of s = record { peers = s.peers; items = s.items }
 
--- a node that begins at the moment: nobody has announced a peer or put an item to it, and its tokens are drawn from the
--- random bytes
+-- a node that begins at the moment: nobody has announced a peer or put an item to it, of which it keeps no more of one host
+-- than its table does, and its tokens are drawn from the random bytes
 abbrev pub new_node : Id → ℕ → Policy → TableState → List Report → List ℕ → ℕ → Bool → NodeState
 new_node own k policy table proofs random began sealed = record {
   own = own;
   k = k;
   policy = policy;
   table = table;
-  peers = [];
-  items = [];
+  peers = no_peers table.per_address;
+  items = no_items table.per_address;
   proofs = proofs;
-  tokens = record { seed = random; began = began };
+  tokens = tokens_by random began table.per_address;
   sealed = sealed;
 }
 

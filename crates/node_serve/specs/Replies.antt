@@ -2,7 +2,7 @@
 -- that it names are Kademlia's (2002, section 2.3). `snodes`, the limits of peers and items, that no mutable item is kept,
 -- and the text of a refusal are this project's own, and so is that a node serves in the network of IPv4 alone: it answers
 -- `nodes` whatever `want` says (BEP 32), and never `nodes6`.
-use Rattle.std.specs.Prelude.{◌≡◌, ℕ, ◌<◌, ◌≤◌, length, Bool, true, false, List, [], ◌∷◌, filter, find, flat_map, codes, pos, Option, Some, None, option_to_list}
+use Rattle.std.specs.Prelude.{◌≡◌, ◌⊎◌, ℕ, ◌<◌, ◌≤◌, length, Bool, true, false, List, [], ◌∷◌, filter, find, flat_map, codes, pos, Option, Some, None, option_to_list}
 use Rattle.kad_base.specs.declared.types.Id.{Id}
 use Rattle.kad_base.specs.declared.types.Ip.{Ip}
 use Rattle.kad_base.specs.declared.types.Ip.TheVariants.{V4, V6}
@@ -22,9 +22,9 @@ use Rattle.kad_krpc.specs.declared.message.Message.{Message}
 use Rattle.kad_krpc.specs.declared.message.Message.TheVariants as message
 use Rattle.kad_krpc.specs.Records.{ip_bytes}
 use Rattle.contact_table.specs.TableStep.{contacts_of}
-use Rattle.peer_store.specs.Peers.{Held, HasNoPlace, with_add, purged, listed}
-use Rattle.node_tokens.specs.Tokens.{IsAccepted, epoch_at, token_of}
-use Rattle.item_store.specs.Items.{Held as HeldItem, max_length, key_of, handed_out, with_item, HasNoPlace as HasNoRoom, purged as purged_items}
+use Rattle.peer_store.specs.Peers.{PeersState, Pair, IsCrowded, HasNoPlace, with_add, purged, listed_from}
+use Rattle.node_tokens.specs.Tokens.{TokensState, IsAccepted, epoch_at, token_of, point_at}
+use Rattle.item_store.specs.Items.{ItemsState, max_length, key_of, handed_out, with_item, IsCrowded as IsHostCrowded, HasNoPlace as HasNoRoom, purged as purged_items}
 use Rattle.node_serve.specs.NodeState.{NodeState, Stores, stores_of}
 
 -- ---- the parts of a reply
@@ -65,8 +65,14 @@ abbrev pub where_some : List Addr → Option (List Addr)
 where_some [] = None
 where_some (peer ∷ peers) = Some (peer ∷ peers)
 
-abbrev pub values_for : NodeState → Id → ℕ → Option (List Addr)
-values_for s key at = where_some (listed s.peers key at)
+-- the point by which the list of a key's peers is drawn in a store with a limit of one host: it is of SHA-1 (FIPS 180-4) of the
+-- address that asks, the key and the secret of the epoch, so that nobody chooses addresses that every list names. This is the
+-- project's own rule: BEP 5 doesn't say which of many peers a node names
+abbrev pub point_for : TokensState → Addr → ℕ → Id → List ℕ
+point_for t from at key = point_at t (ip_bytes from.ip) at key.0
+
+abbrev pub values_for : NodeState → Addr → Id → ℕ → Option (List Addr)
+values_for s from key at = where_some (listed_from s.peers key at (point_for s.tokens from at key))
 
 -- ---- replies
 
@@ -101,7 +107,7 @@ tokened s from at key v values = record {
 
 -- with the peers of the key
 abbrev pub peers_found : List ℕ → NodeState → Addr → ℕ → Id → Message
-peers_found tx s from at key = message.Answer tx (tokened s from at key None (values_for s key at))
+peers_found tx s from at key = message.Answer tx (tokened s from at key None (values_for s from key at))
 
 -- with the item of the key, where one is handed out
 abbrev pub item_found : List ℕ → NodeState → Addr → ℕ → Id → Message
@@ -144,21 +150,28 @@ abbrev pub leaving : NodeState → Message → Outcome
 leaving s message = record { message = message; stores = stores_of s }
 
 -- other peers, and the same items
-abbrev pub with_peers : NodeState → List Held → Stores
+abbrev pub with_peers : NodeState → PeersState → Stores
 with_peers s peers = record { peers = peers; items = s.items }
 
 -- other items, and the same peers
-abbrev pub with_items : NodeState → List HeldItem → Stores
+abbrev pub with_items : NodeState → ItemsState → Stores
 with_items s items = record { peers = s.peers; items = items }
+
+-- a peer, or an item, has no place: as many of its host are held as may be, or as many in all
+abbrev pub RefusesPeer : PeersState → Pair → Type 0
+RefusesPeer s pair = IsCrowded s pair ⊎ HasNoPlace s pair
+
+abbrev pub RefusesItem : ItemsState → Id → Addr → Type 0
+RefusesItem s key from = IsHostCrowded s key from ⊎ HasNoRoom s key from
 
 -- An announced peer is held where its token is accepted and, after what is old was purged, it has a place. Where it has
 -- none the purge stands.
 pub data Announces (s : NodeState) (from : Addr) (at : ℕ) (tx : List ℕ) (key : Id) (peer : Addr) (token : List ℕ) (o : Outcome) : Type 0 where
   refused : ¬ IsAccepted s.tokens (ip_bytes from.ip) at token
       → o ≡ leaving s (bad_token tx) → Announces s from at tx key peer token o
-  full : IsAccepted s.tokens (ip_bytes from.ip) at token → HasNoPlace (purged s.peers at) (key, peer)
+  full : IsAccepted s.tokens (ip_bytes from.ip) at token → RefusesPeer (purged s.peers at) (key, peer)
       → o ≡ record { message = server_error tx; stores = with_peers s (purged s.peers at) } → Announces s from at tx key peer token o
-  added : IsAccepted s.tokens (ip_bytes from.ip) at token → ¬ HasNoPlace (purged s.peers at) (key, peer)
+  added : IsAccepted s.tokens (ip_bytes from.ip) at token → ¬ RefusesPeer (purged s.peers at) (key, peer)
       → o ≡ record { message = named tx s.own; stores = with_peers s (with_add (purged s.peers at) (key, peer) at) } → Announces s from at tx key peer token o
 
 -- what is put isn't refused: its token is accepted, it is immutable, and its written form isn't too long
@@ -176,10 +189,10 @@ pub data Puts (s : NodeState) (from : Addr) (at : ℕ) (tx token v : List ℕ) (
       → o ≡ leaving s (no_mutable tx) → Puts s from at tx token v mutable o
   long : IsAccepted s.tokens (ip_bytes from.ip) at token → mutable ≡ false → max_length < length v
       → o ≡ leaving s (too_big tx) → Puts s from at tx token v mutable o
-  crowded : IsTaken s from at token v mutable → HasNoRoom (purged_items s.items at) (key_of v)
+  crowded : IsTaken s from at token v mutable → RefusesItem (purged_items s.items at) (key_of v) from
       → o ≡ record { message = server_error tx; stores = with_items s (purged_items s.items at) } → Puts s from at tx token v mutable o
-  kept : IsTaken s from at token v mutable → ¬ HasNoRoom (purged_items s.items at) (key_of v)
-      → o ≡ record { message = named tx s.own; stores = with_items s (with_item (purged_items s.items at) v at) } → Puts s from at tx token v mutable o
+  kept : IsTaken s from at token v mutable → ¬ RefusesItem (purged_items s.items at) (key_of v) from
+      → o ≡ record { message = named tx s.own; stores = with_items s (with_item (purged_items s.items at) v from at) } → Puts s from at tx token v mutable o
 
 abbrev pub RepliesWith : NodeState → Addr → ℕ → List ℕ → Ask → Outcome → Type 0
 RepliesWith s from at tx (Ping id) o = o ≡ leaving s (named tx s.own)

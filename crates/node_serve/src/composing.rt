@@ -26,12 +26,16 @@ pub enum Gained {
     Peers { list: Addrs, nodes: Contacts },
     /// The peer is held.
     Placed { stored: Stored },
+    /// The peer has no place: as many of its host are held as may be.
+    HostFull,
     /// The peer has no place.
     Full,
     /// The item of the key, where one is handed out, and the closest contacts.
     Item { v: Option<Bytes>, nodes: Contacts },
     /// The item is held.
     Kept { stored: Stored },
+    /// The item has no place: as many that its host put are held as may be.
+    HostCrowded,
     /// The item has no place.
     Crowded,
     /// The token isn't one of its source.
@@ -153,9 +157,11 @@ pub(crate) fn compose(
         Gained::Nodes { nodes } => found(alloc, setting, tx, nodes),
         Gained::Peers { list, nodes } => peers_found(alloc, setting, asked, at, tx, list, nodes),
         Gained::Placed { .. } => Ok(name(tx, setting.own)),
+        Gained::HostFull => refuse_full(alloc, tx),
         Gained::Full => refuse_full(alloc, tx),
         Gained::Item { v, nodes } => item_found(alloc, setting, asked, at, tx, v, nodes),
         Gained::Kept { .. } => Ok(name(tx, setting.own)),
+        Gained::HostCrowded => refuse_full(alloc, tx),
         Gained::Crowded => refuse_full(alloc, tx),
         Gained::RefuseToken => refuse_token(alloc, tx),
         Gained::RefuseMutable => refuse_mutable(alloc, tx),

@@ -35,23 +35,25 @@ fn closest<H: Hold>(hold: &mut H, target: Id, n: u8) -> Result<Contacts, NoMemor
         TableReply::NoMemory => Err(NoMemory),
         TableReply::Seen { .. } => unreachable!(),
         TableReply::Gone { .. } => unreachable!(),
+        TableReply::Crowded => unreachable!(),
     }
 }
 
-/// The peers of the key.
-fn list<H: Hold>(hold: &mut H, key: Id, at: u64) -> Result<Addrs, NoMemory>
+/// The peers of the key, from this point on.
+fn list<H: Hold>(hold: &mut H, key: Id, at: u64, first: [u8; 4]) -> Result<Addrs, NoMemory>
     requires { H.ready hold.old }
     ensures ready { H.ready hold.new }
     ensures few { IfOk result (λ list. length list ≤ 50) }
     ensures ok { IfOk result (λ list. H.does hold.old
-        (on_peers (PeerCall.List key at) (PeerReply.Listed list)) hold.new) }
+        (on_peers (PeerCall.List key at first) (PeerReply.Listed list)) hold.new) }
     ensures err { OnErr result (H.does hold.old
-        (on_peers (PeerCall.List key at) PeerReply.NoMemory) hold.new) }
+        (on_peers (PeerCall.List key at first) PeerReply.NoMemory) hold.new) }
 {
-    match hold.call_peers(PeerCall::List { key, at }) {
+    match hold.call_peers(PeerCall::List { key, at, first }) {
         PeerReply::Listed { list } => Ok(list),
         PeerReply::NoMemory => Err(NoMemory),
         PeerReply::Stored { .. } => unreachable!(),
+        PeerReply::Crowded => unreachable!(),
         PeerReply::Full => unreachable!(),
     }
 }
@@ -71,6 +73,7 @@ fn get<H: Hold>(hold: &mut H, key: Id, at: u64) -> Result<Option<Bytes>, NoMemor
         ItemReply::Absent => Ok(None),
         ItemReply::NoMemory => Err(NoMemory),
         ItemReply::Stored { .. } => unreachable!(),
+        ItemReply::Crowded => unreachable!(),
         ItemReply::Full => unreachable!(),
     }
 }
@@ -87,25 +90,27 @@ fn place<H: Hold>(hold: &mut H, key: Id, peer: Addr, at: u64) -> Result<Gained, 
 {
     match hold.call_peers(PeerCall::Put { key, peer, at }) {
         PeerReply::Stored { stored } => Ok(Gained::Placed { stored }),
+        PeerReply::Crowded => Ok(Gained::HostFull),
         PeerReply::Full => Ok(Gained::Full),
         PeerReply::NoMemory => Err(NoMemory),
         PeerReply::Listed { .. } => unreachable!(),
     }
 }
 
-/// Puts the item.
-fn keep<H: Hold>(hold: &mut H, v: Bytes, at: u64) -> Result<Gained, NoMemory>
+/// Puts the item that came from the address.
+fn keep<H: Hold>(hold: &mut H, v: Bytes, from: Addr, at: u64) -> Result<Gained, NoMemory>
     requires ready { H.ready hold.old }
     requires item { IsItem v }
     ensures ready { H.ready hold.new }
     ensures few { IfOk result IsFew }
     ensures ok { IfOk result (λ g. (k : ℕ) →
-        Gathers H.does k at (Wants.Keep v) g hold.old hold.new) }
+        Gathers H.does k at (Wants.Keep v from) g hold.old hold.new) }
     ensures err { OnErr result ((k : ℕ) →
-        Fails H.does k at (Wants.Keep v) hold.old hold.new) }
+        Fails H.does k at (Wants.Keep v from) hold.old hold.new) }
 {
-    match hold.call_items(ItemCall::Put { v, at }) {
+    match hold.call_items(ItemCall::Put { v, from, at }) {
         ItemReply::Stored { stored } => Ok(Gained::Kept { stored }),
+        ItemReply::Crowded => Ok(Gained::HostCrowded),
         ItemReply::Full => Ok(Gained::Crowded),
         ItemReply::NoMemory => Err(NoMemory),
         ItemReply::Held { .. } => unreachable!(),
@@ -133,7 +138,7 @@ pub(crate) fn gather<H: Hold>(
             Ok(nodes) => Ok(Gained::Nodes { nodes }),
             Err(NoMemory) => Err(NoMemory),
         },
-        Wants::Peers { key } => match list(hold, key, at) {
+        Wants::Peers { key, first } => match list(hold, key, at, first) {
             Ok(list) => match closest(hold, key, k) {
                 Ok(nodes) => Ok(Gained::Peers { list, nodes }),
                 Err(NoMemory) => Err(NoMemory),
@@ -148,7 +153,7 @@ pub(crate) fn gather<H: Hold>(
             },
             Err(NoMemory) => Err(NoMemory),
         },
-        Wants::Keep { v } => keep(hold, v, at),
+        Wants::Keep { v, from } => keep(hold, v, from, at),
         Wants::Name => Ok(Gained::Name),
         Wants::RefuseToken => Ok(Gained::RefuseToken),
         Wants::RefuseMutable => Ok(Gained::RefuseMutable),

@@ -1,10 +1,10 @@
 //! Whoever holds the table, the peers and the items of a node, as a query sees it.
-ghost use Rattle.std.specs.Prelude.{◌≡◌, ℕ, List};
+ghost use Rattle.std.specs.Prelude.{◌≡◌, ℕ};
 ghost use Rattle.contact_table.specs.TableState.{TableState};
 ghost use Rattle.contact_table.specs.TableStep.{TableMay, TableStep};
-ghost use Rattle.peer_store.specs.Peers.{Held};
+ghost use Rattle.peer_store.specs.Peers.{PeersState};
 ghost use Rattle.peer_store.specs.PeersStep.{PeersStep};
-ghost use Rattle.item_store.specs.Items.{Held as HeldItem};
+ghost use Rattle.item_store.specs.Items.{ItemsState};
 ghost use Rattle.item_store.specs.ItemSteps.{ItemMay, ItemStep};
 ghost use Rattle.node_serve.specs.Calls.{Did, on_table, on_peers, on_items};
 
@@ -35,7 +35,7 @@ pub trait Hold {
         requires ready { ready self.old }
         ensures ready { ready self.new }
         ensures does { does self.old (on_peers call result) self.new }
-        ensures step { (s : List Held) × (role : ℕ) × PeersStep s role call result };
+        ensures step { (s : PeersState) × (role : ℕ) × PeersStep s role call result };
 
     /// Makes a call on the items.
     fn call_items(&mut self, call: ItemCall) -> ItemReply
@@ -43,7 +43,7 @@ pub trait Hold {
         requires may { (role : ℕ) → ItemMay role call }
         ensures ready { ready self.new }
         ensures does { does self.old (on_items call result) self.new }
-        ensures step { (s : List HeldItem) × (role : ℕ) × ItemStep s role call result };
+        ensures step { (s : ItemsState) × (role : ℕ) × ItemStep s role call result };
 }
 
 /// The role under which a node calls what it holds.

@@ -40,7 +40,8 @@ pub enum Answered {
 }
 
 /// A node that answers queries (BEP 5, BEP 44). It holds its routing table, at most 65,536 peers and 4,096 items, and the
-/// proofs that it was given; of its tokens it keeps none.
+/// proofs that it was given; of its tokens it keeps none. If the table has a limit of contacts of one host, peers and items
+/// have the same of pairs and of items, and a list of peers begins at a point that is drawn for whoever asks.
 #[derive(Drop)]
 pub struct Node {
     alloc: Global,
@@ -60,8 +61,8 @@ impl Model for Node {
 }
 
 impl Node {
-    /// A node with this routing table, whose replies name `k` contacts, 1 to 20. Under a policy that asks for puzzles they
-    /// name those of `proofs` too. The secrets of its tokens are drawn from `random`, and their epochs count from the
+    /// A node with this routing table and its limit, whose replies name `k` contacts, 1 to 20. Under a policy that asks for
+    /// puzzles they name those of `proofs` too. The secrets of its tokens are drawn from `random`, and their epochs count from the
     /// moment `began`, in milliseconds. A node that is `sealed` tags each of its replies. Takes no memory.
     pub fn new(
         alloc: Global,
@@ -80,12 +81,13 @@ impl Node {
         requires proofs { All (Passes policy) proofs }
         ensures { result ≡ new_node own k policy table proofs random.now began sealed }
     {
+        let limit = usize::from(table.per_address());
         let setting = ServeSetting {
             own,
             k,
             policy,
             proofs,
-            tokens: Tokens::new(random, began),
+            tokens: Tokens::limited(random, began, limit),
             sealed,
         };
         Node {
@@ -93,8 +95,8 @@ impl Node {
             setting,
             held: Own {
                 table,
-                peers: Peers::new(alloc),
-                items: Items::new(alloc),
+                peers: Peers::limited(alloc, limit),
+                items: Items::limited(alloc, limit),
             },
         }
     }

@@ -5,7 +5,7 @@ ghost use Rattle.kad_bencode.specs.Spelling.{text_of};
 ghost use Rattle.kad_krpc.specs.Form.{IsCarried};
 ghost use Rattle.kad_krpc.specs.Records.{ip_bytes};
 ghost use Rattle.kad_krpc.specs.Views.{ask_seen};
-ghost use Rattle.node_serve.specs.Replies.{peer_for};
+ghost use Rattle.node_serve.specs.Replies.{point_for, peer_for};
 ghost use Rattle.node_serve.specs.Calls.{is_accepted};
 ghost use Rattle.node_serve.specs.Asked.{IsSaid};
 ghost use Rattle.node_serve.specs.Gains.{KeepsItem, put_wants, wants_of};
@@ -27,14 +27,15 @@ pub enum Wants {
     Name,
     /// The nodes that are closest to the target.
     Nodes { target: Id },
-    /// The peers of the key, and the nodes that are closest to it.
-    Peers { key: Id },
+    /// The peers of the key, and the nodes that are closest to it. Where the peers have a limit of one host, the list begins
+    /// at this point.
+    Peers { key: Id, first: [u8; 4] },
     /// That the peer is held under the key.
     Place { key: Id, peer: Addr },
     /// The item of the key, and the nodes that are closest to it.
     Item { key: Id },
-    /// That the item with this written form is held.
-    Keep { v: Bytes },
+    /// That the item with this written form, which came from the address, is held.
+    Keep { v: Bytes, from: Addr },
     /// Nothing: its token isn't one of its source.
     RefuseToken,
     /// Nothing: its item is mutable.
@@ -50,6 +51,15 @@ fn is_token_of(tokens: &Tokens, ip: [u8; 4], at: u64, token: &[u8]) -> bool
     ensures { result ≡ is_accepted tokens.now ip at token.now }
 {
     tokens.accepts(ip, at, token)
+}
+
+/// What a query for peers wants. The point is drawn for whoever asks.
+fn plan_peers(tokens: &Tokens, asked: &Asked, at: u64, key: Id) -> Wants
+    requires { ip_bytes asked.now.from.ip ≡ asked.now.ip }
+    ensures { result ≡ Wants.Peers key (point_for tokens.now asked.now.from at key) }
+{
+    let first = tokens.point(asked.ip, at, &key);
+    Wants::Peers { key, first }
 }
 
 /// The peer that is announced.
@@ -83,13 +93,13 @@ fn plan_announced(
 }
 
 /// What an item of this written form wants, if it is immutable and its token is accepted.
-fn plan_item(v: Bytes) -> Wants
+fn plan_item(v: Bytes, from: Addr) -> Wants
     requires carried { IsCarried v }
     requires short { length v ≤ max_length }
-    ensures wants { result ≡ put_wants true false v }
+    ensures wants { result ≡ put_wants true false v from }
     ensures item { KeepsItem result }
 {
-    Wants::Keep { v }
+    Wants::Keep { v, from }
 }
 
 /// What a put wants. Its token is looked at first, then how long its value is, and only then the value is written.
@@ -106,7 +116,7 @@ fn plan_put(
     requires form { mutable ≡ false → IsCarried (text_of v.now) }
     ensures wants { IfOk result (λ w. w ≡ put_wants
         (is_accepted tokens.now (ip_bytes asked.now.from.ip) at token.now) mutable
-        (text_of v.now)) }
+        (text_of v.now) asked.now.from) }
     ensures item { IfOk result KeepsItem }
 {
     let accepted = is_token_of(tokens, asked.ip, at, token);
@@ -120,7 +130,7 @@ fn plan_put(
         return Ok(Wants::RefuseBig);
     }
     let form = v.written(alloc)?;
-    Ok(plan_item(form))
+    Ok(plan_item(form, asked.from))
 }
 
 /// What a query that came at this moment, in milliseconds, wants. It makes no call. Only an item that is put, and isn't
@@ -140,7 +150,12 @@ pub(crate) fn plan(
     match &asked.ask {
         AskView::Ping { .. } => Ok(Wants::Name),
         AskView::FindNode { target, .. } => Ok(Wants::Nodes { target: *target }),
-        AskView::GetPeers { info_hash, .. } => Ok(Wants::Peers { key: *info_hash }),
+        AskView::GetPeers { info_hash, .. } => Ok(plan_peers(
+            &setting.tokens,
+            asked,
+            at,
+            *info_hash,
+        )),
         AskView::AnnouncePeer {
             info_hash,
             port,

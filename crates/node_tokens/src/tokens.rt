@@ -1,9 +1,10 @@
 //! The tokens of get_peers and announce_peer (BEP 5), and of get and put (BEP 44).
 ghost use Rattle.std.specs.Prelude.{◌≡◌, ◌↔◌, ◌-◌, ◌/◌, ◌^◌, ◌<◌, ◌++◌, IsTrue, take};
 ghost use Rattle.kad_base.specs.Puzzles.{hash};
-ghost use Rattle.node_tokens.specs.Tokens.{TokensState, IsAccepted, epoch_at, secret_of, token_of};
+ghost use Rattle.node_tokens.specs.Tokens.{TokensState, IsAccepted, epoch_at, secret_of, token_of, tokens_by, point_of, point_at};
 
 use id_puzzles::Words;
+use kad_base::Id;
 use sha1::Sha1;
 use std::marker::Model;
 
@@ -26,6 +27,8 @@ pub struct Tokens {
     secret: [u8; 20],
     /// The secret of the epoch before, if there is one.
     before: [u8; 20],
+    /// Whether lists are drawn.
+    draws: bool,
 }
 
 impl Model for Tokens {
@@ -34,15 +37,23 @@ impl Model for Tokens {
 
     ghost Value = { TokensState };
 
-    ghost view = { λ t. record { seed = t.random; began = t.began } };
+    ghost view = { λ t. record { seed = t.random; began = t.began; draws = t.draws } };
 
     ghost invariant = { λ t. AreSecrets t.random t.epoch t.secret t.before };
 }
 
 impl Tokens {
-    /// Tokens with the secrets of these random bytes, whose epochs count from the moment `began`, in milliseconds.
+    /// Tokens with the secrets of these random bytes, whose epochs count from the moment `began`, in milliseconds. They draw no
+    /// list.
     pub fn new(random: &[u8; 32], began: u64) -> Tokens
-        ensures { result ≡ record { seed = random.now; began = began } }
+        ensures { result ≡ tokens_by random.now began 0 }
+    {
+        Tokens::limited(random, began, 0)
+    }
+
+    /// The same of a node that holds at most so many of one host (`kad_base::Host`), which draws lists; 0 is no limit.
+    pub fn limited(random: &[u8; 32], began: u64, per_address: usize) -> Tokens
+        ensures { result ≡ tokens_by random.now began per_address }
     {
         let first = secret(random, 0);
         Tokens {
@@ -51,6 +62,7 @@ impl Tokens {
             epoch: 0,
             secret: first,
             before: first,
+            draws: per_address > 0,
         }
     }
 
@@ -64,6 +76,7 @@ impl Tokens {
             epoch: self.epoch,
             secret: self.secret,
             before: self.before,
+            draws: self.draws,
         }
     }
 
@@ -109,6 +122,27 @@ impl Tokens {
         ensures { result ≡ token_of self.now.seed epoch ip.now }
     {
         front(&digest(ip, &self.secret_in(epoch)))
+    }
+
+    /// The number by which the list of a key is drawn for whoever asks from the address at the moment, its highest byte first.
+    /// Another asker, another key and the next epoch have another, and who doesn't know the secret can't tell it. Costs a hash;
+    /// where no list is drawn it is zero, and costs nothing.
+    pub fn point(&self, ip: [u8; 4], at: u64, key: &Id) -> [u8; 4]
+        ensures { result ≡ point_at self.now ip at key.now.0 }
+    {
+        if !self.draws {
+            return [0; 4];
+        }
+        self.point_in(epoch(self.began, at), &ip, key)
+    }
+
+    /// The same, under the secret of an epoch.
+    #[tactic(auto, unfolding(crate::specs::Tokens::point_of))]
+    fn point_in(&self, epoch: u64, ip: &[u8; 4], key: &Id) -> [u8; 4]
+        requires { epoch < 2 ^ 46 }
+        ensures { result ≡ point_of self.now.seed epoch ip.now key.now.0 }
+    {
+        first_four(&digest_with(ip, &key.0, &self.secret_in(epoch)))
     }
 
     /// Whether this is the token of the address under the secret of an epoch.
@@ -163,6 +197,27 @@ fn digest(ip: &[u8; 4], secret: &[u8; 20]) -> [u8; 20]
     hasher.update(ip);
     hasher.update(secret);
     hasher.finalize()
+}
+
+/// The hash of an asker's address followed by a key and the secret of an epoch: SHA-1 (FIPS 180-4).
+#[tactic(auto, unfolding(kad_base::specs::Puzzles::hash))]
+fn digest_with(asker: &[u8; 4], key: &[u8; 20], of_epoch: &[u8; 20]) -> [u8; 20]
+    ensures { result ≡ hash ((asker.now ++ key.now) ++ of_epoch.now) }
+{
+    let mut hasher = Sha1::new();
+    hasher.update(asker);
+    hasher.update(key);
+    hasher.update(of_epoch);
+    hasher.finalize()
+}
+
+/// The first four bytes.
+fn first_four(digest: &[u8; 20]) -> [u8; 4]
+    ensures { result ≡ take 4 digest.now }
+{
+    let mut bytes = [0; 4];
+    bytes.copy_from_slice(&digest[..4]);
+    bytes
 }
 
 /// The first eight bytes.

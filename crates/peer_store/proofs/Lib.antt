@@ -1,4 +1,5 @@
 pub mod Ascending
+pub mod Around
 pub mod Extremes
 pub mod Kept
 pub mod Listing

@@ -4,7 +4,7 @@ use Rattle.std.specs.List.{All}
 use Rattle.std.specs.Ordering.{is_gt, is_lt}
 use Rattle.kad_base.specs.declared.types.Addr.{Addr}
 use Rattle.peer_store.specs.declared.ends.TheConstants.{FIRST, LAST}
-use Rattle.peer_store.specs.Peers.{Held, IsPeers, address_cmp}
+use Rattle.peer_store.specs.Peers.{Held, PeersState, IsPeers, address_cmp}
 
 pub record IsBetween (peer : Addr) : Type 0 where
   pub from_first : is_gt (address_cmp FIRST peer) ≡ false
@@ -15,6 +15,6 @@ abbrev pub AreBetween : List Held → Type 0
 AreBetween held = All (λ h. IsBetween h.0.1) held
 
 -- what is kept
-pub record IsKept (held : List Held) : Type 0 where
-  pub peers : IsPeers held
-  pub between : AreBetween held
+pub record IsKept (s : PeersState) : Type 0 where
+  pub peers : IsPeers s
+  pub between : AreBetween s.held

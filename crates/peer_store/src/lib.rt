@@ -4,6 +4,7 @@
 
 mod adds;
 mod calls;
+mod drawing;
 mod ends;
 mod peers;
 mod steps;

@@ -8,10 +8,10 @@ use crate::peers::{PeerFault, Peers};
 use kad_base::{Addr, Id, NoMemory, Serial};
 
 /// The peers of the key.
-fn list(peers: &Peers, key: Id, at: u64) -> PeerReply
-    ensures { PeersStep peers.now 0 (PeerCall.List key at) result }
+fn list(peers: &Peers, key: Id, at: u64, first: [u8; 4]) -> PeerReply
+    ensures { PeersStep peers.now 0 (PeerCall.List key at first) result }
 {
-    match peers.list(key, at) {
+    match peers.list_from(key, at, first) {
         Ok(list) => PeerReply::Listed { list },
         Err(NoMemory) => PeerReply::NoMemory,
     }
@@ -25,6 +25,7 @@ fn put(peers: &mut Peers, key: Id, peer: Addr, at: u64) -> PeerReply
     peers.purge(at);
     match peers.add(key, peer, at) {
         Ok(stored) => PeerReply::Stored { stored },
+        Err(PeerFault::Crowded) => PeerReply::Crowded,
         Err(PeerFault::Full) => PeerReply::Full,
         Err(PeerFault::NoMemory) => PeerReply::NoMemory,
     }
@@ -43,7 +44,7 @@ impl Serial for Peers {
 
     fn apply(&mut self, role: u8, call: PeerCall) -> PeerReply {
         match call {
-            PeerCall::List { key, at } => list(self, key, at),
+            PeerCall::List { key, at, first } => list(self, key, at, first),
             PeerCall::Put { key, peer, at } => put(self, key, peer, at),
         }
     }

@@ -71,7 +71,7 @@ seeds_once : (s : Simulation) (t u : List ℕ) → IsSimulable s → (a : SimTex
 seeds_once s t u h a b =
     let contacts = admits_once (own_of None s.seed) Four Plain (first_nodes s) a.contacts b.contacts a.admits b.admits in
     let told = subst (λ (l : List Contact). StartsWith (sim_look s) s.seed l a.table) contacts a.told in
-    let table = new_once (own_of None s.seed) s.k 1 (map seen_call b.contacts) a.table b.table h.some_live h.few_live (omega arith) (omega arith) told b.told in
+    let table = new_once (own_of None s.seed) s.k 1 0 (map seen_call b.contacts) a.table b.table h.some_live h.few_live (omega arith) (omega arith) told b.told in
     a.seeds_are ∙ ap (λ (x : TableState). seeds_dealt (look_of FindNode (sim_look s) s.seed) x) table ∙ sym b.seeds_are
 
 -- so many events of both are the same

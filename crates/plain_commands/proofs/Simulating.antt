@@ -94,7 +94,7 @@ pub sim_usable : (s : Simulation) (start : Start) → Begins s start → All (Is
 sim_usable s start b =
     let own = own_of None s.seed in
     subst (λ (st : LookSetting). All (IsUsable st.own) (contacts_of start.table)) (sym b.setting_is)
-    (usable_told own s.k 1 b.contacts start.table (admits_usable own Four Plain (first_nodes s) b.contacts b.admits) b.told)
+    (usable_told own s.k 1 0 b.contacts start.table (admits_usable own Four Plain (first_nodes s) b.contacts b.admits) b.told)
 
 simulates_at : (s : Simulation) (left : WordsState) (contacts : List Contact) (table : TableState) (near : List Contact) (o : Outcome) (events : List Event) (text : List ℕ)
     → Admits (own_of None s.seed) Four Plain (first_nodes s) contacts → StartsWith (sim_look s) s.seed contacts table → near ≡ sought_in s → Plays (network_of s) true events

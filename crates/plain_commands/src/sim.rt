@@ -149,7 +149,14 @@ fn begin<C: Check>(
         check,
         reports.as_slice(),
     )?;
-    let table = table_of(alloc, setting.own, look.k, look.bits, contacts.as_slice())?;
+    let table = table_of(
+        alloc,
+        setting.own,
+        look.k,
+        look.bits,
+        0,
+        contacts.as_slice(),
+    )?;
     Ok(Start {
         setting,
         table,

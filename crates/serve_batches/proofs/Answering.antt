@@ -12,8 +12,8 @@ use Rattle.serve_batches.specs.Ring.{ring, share, in_order}
 use Rattle.serve_batches.proofs.Rings.{dealt_map, in_order_map, ring_within, within_share}
 use Rattle.turn_book.specs.Turns.{TurnState}
 use Rattle.contact_table.specs.TableState.{TableState}
-use Rattle.peer_store.specs.Peers.{Held}
-use Rattle.item_store.specs.Items.{Held as HeldItem}
+use Rattle.peer_store.specs.Peers.{PeersState}
+use Rattle.item_store.specs.Items.{ItemsState}
 use Rattle.kad_base.specs.declared.types.Event.{Event}
 use Rattle.node_serve.specs.Calls.{Did}
 use Rattle.node_serve.specs.Sealing.{Tags}
@@ -45,7 +45,7 @@ pub shares_here : (crew : List Shift) (m : ℕ) (p : Place) → p ≡ ring (leng
 shares_here crew m p is few roomy w d lt =
     subst (λ q. share q w ≤ length (get_or crew w d).slots.items) (sym is) (share_room (length crew) m w (length (get_or crew w d).slots.items) few (roomy w d lt))
 
-module _ (tables : TurnState TableState) (stores : TurnState (List Held)) (shelves : TurnState (List HeldItem)) where
+module _ (tables : TurnState TableState) (stores : TurnState PeersState) (shelves : TurnState ItemsState) where
   abbrev Can : Shift → Type 0
   Can s = CanWork tables stores shelves s.worker
 

@@ -9,8 +9,8 @@ use Rattle.kad_base.specs.declared.types.Event.TheVariants.{Quiet}
 use Rattle.kad_base.specs.Outside.{Rose, Happens}
 use Rattle.turn_book.specs.Turns.{TurnState}
 use Rattle.contact_table.specs.TableState.{TableState}
-use Rattle.peer_store.specs.Peers.{Held}
-use Rattle.item_store.specs.Items.{Held as HeldItem}
+use Rattle.peer_store.specs.Peers.{PeersState}
+use Rattle.item_store.specs.Items.{ItemsState}
 use Rattle.serve_batches.specs.Deal.{dealt}
 use Rattle.serve_batches.specs.Ring.{ring}
 use Rattle.serve_batches.proofs.Rings.{length_in_order}
@@ -210,7 +210,7 @@ roles_none crew w d lt = same_none (get_or crew w d).worker
 pub roles_more : (old mid new : List Shift) → length mid ≡ length old → SameRoles old mid → SameRoles mid new → SameRoles old new
 roles_more old mid new len a b w d lt = same_more (get_or old w d).worker (get_or mid w d).worker (get_or new w d).worker (a w d lt) (b w d (omega (arith, len, lt)))
 
-pub can_by_roles : (tables : TurnState TableState) (stores : TurnState (List Held)) (shelves : TurnState (List HeldItem)) (old new : List Shift) → length new ≡ length old → SameRoles old new → All (λ (x : Shift). CanWork tables stores shelves x.worker) old → All (λ (x : Shift). CanWork tables stores shelves x.worker) new
+pub can_by_roles : (tables : TurnState TableState) (stores : TurnState PeersState) (shelves : TurnState ItemsState) (old new : List Shift) → length new ≡ length old → SameRoles old new → All (λ (x : Shift). CanWork tables stores shelves x.worker) old → All (λ (x : Shift). CanWork tables stores shelves x.worker) new
 can_by_roles tables stores shelves old new len roles can w d lt =
     let there : w < length old = omega (arith, len, lt) in
     let same = roles w d there in

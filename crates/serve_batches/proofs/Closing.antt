@@ -16,11 +16,11 @@ use Rattle.contact_table.specs.TableStep.{TableMay, TableStep, table_after}
 use Rattle.contact_table.specs.Told.{HasMemory}
 use Rattle.contact_table.specs.declared.calls.TableCall.{TableCall}
 use Rattle.contact_table.specs.declared.calls.TableReply.{TableReply}
-use Rattle.peer_store.specs.Peers.{Held}
+use Rattle.peer_store.specs.Peers.{PeersState, no_peers as empty_peers}
 use Rattle.peer_store.specs.PeersStep.{PeersMay, PeersStep, peers_after}
 use Rattle.peer_store.specs.declared.calls.PeerCall.{PeerCall}
 use Rattle.peer_store.specs.declared.calls.PeerReply.{PeerReply}
-use Rattle.item_store.specs.Items.{Held as HeldItem}
+use Rattle.item_store.specs.Items.{ItemsState, no_items as empty_items}
 use Rattle.item_store.specs.ItemSteps.{ItemMay, ItemStep, item_after}
 use Rattle.item_store.specs.declared.calls.ItemCall.{ItemCall}
 use Rattle.item_store.specs.declared.calls.ItemReply.{ItemReply}
@@ -88,9 +88,9 @@ module _ (tag_of : Tags) (s : ServeSetting) where
 
 -- ---- three turns
 
-module _ (n : ℕ) (r : Rows) (before after : TableState) (table_calls : ℕ) (held : List Held) (peers_calls : ℕ) (shelf : List HeldItem) (items_calls : ℕ)
+module _ (n : ℕ) (r : Rows) (before after : TableState) (table_calls : ℕ) (held : PeersState) (peers_calls : ℕ) (shelf : ItemsState) (items_calls : ℕ)
     (t : Closed TableMay TableStep table_after r.tables r.table_row after table_calls) (p : Closed PeersMay PeersStep peers_after r.stores r.peers_row held peers_calls) (i : Closed ItemMay ItemStep item_after r.shelves r.items_row shelf items_calls)
-    (start : r.tables.start ≡ before) (no_peers : r.stores.start ≡ []) (no_items : r.shelves.start ≡ []) (crew : List Shift) (back : AreBack n r crew) where
+    (start : r.tables.start ≡ before) (no_peers : r.stores.start ≡ empty_peers before.per_address) (no_items : r.shelves.start ≡ empty_items before.per_address) (crew : List Shift) (back : AreBack n r crew) where
   abbrev table_of : Shift → TablePass
   table_of x = x.worker.table
 
@@ -168,9 +168,9 @@ module _ (n : ℕ) (r : Rows) (before after : TableState) (table_calls : ℕ) (h
         );
       }
 
-module _ (tag_of : Tags) (s : ServeSetting) (n began : ℕ) (lasting : Lasting) (r : Rows) (before after : TableState) (table_calls : ℕ) (held : List Held) (peers_calls : ℕ) (shelf : List HeldItem) (items_calls : ℕ)
+module _ (tag_of : Tags) (s : ServeSetting) (n began : ℕ) (lasting : Lasting) (r : Rows) (before after : TableState) (table_calls : ℕ) (held : PeersState) (peers_calls : ℕ) (shelf : ItemsState) (items_calls : ℕ)
     (t : Closed TableMay TableStep table_after r.tables r.table_row after table_calls) (p : Closed PeersMay PeersStep peers_after r.stores r.peers_row held peers_calls) (i : Closed ItemMay ItemStep item_after r.shelves r.items_row shelf items_calls)
-    (start : r.tables.start ≡ before) (no_peers : r.stores.start ≡ []) (no_items : r.shelves.start ≡ []) where
+    (start : r.tables.start ≡ before) (no_peers : r.stores.start ≡ empty_peers before.per_address) (no_items : r.shelves.start ≡ empty_items before.per_address) where
   pub many_served : (received replied : ℕ) (es : List Event) → ServedBack tag_of s n began lasting received replied r es → ManyServed tag_of s n began lasting before after received replied es
   many_served received replied es h = record {
     ran = ran n r before after table_calls held peers_calls shelf items_calls t p i start no_peers no_items h.crew h.back;
@@ -261,9 +261,9 @@ opened_alone tag_of s n began lasting turn row table after calls t start is = re
 
 -- ---- what comes back
 
-module _ (tag_of : Tags) (s : ServeSetting) (n began : ℕ) (lasting : Lasting) (r : Rows) (before after : TableState) (table_calls : ℕ) (held : List Held) (peers_calls : ℕ) (shelf : List HeldItem) (items_calls : ℕ)
+module _ (tag_of : Tags) (s : ServeSetting) (n began : ℕ) (lasting : Lasting) (r : Rows) (before after : TableState) (table_calls : ℕ) (held : PeersState) (peers_calls : ℕ) (shelf : ItemsState) (items_calls : ℕ)
     (t : Closed TableMay TableStep table_after r.tables r.table_row after table_calls) (p : Closed PeersMay PeersStep peers_after r.stores r.peers_row held peers_calls) (i : Closed ItemMay ItemStep item_after r.shelves r.items_row shelf items_calls)
-    (start : r.tables.start ≡ before) (no_peers : r.stores.start ≡ []) (no_items : r.shelves.start ≡ []) (a b : Option (List Event)) where
+    (start : r.tables.start ≡ before) (no_peers : r.stores.start ≡ empty_peers before.per_address) (no_items : r.shelves.start ≡ empty_items before.per_address) (a b : Option (List Event)) where
   pub ok_served : (x : Result ServeCounts ServeFault) → IfOk x (λ (c : ServeCounts). Happens a b (ServedBack tag_of s n began lasting c.received c.replied r)) → IfOk x (λ (c : ServeCounts). Happens a b (ManyServed tag_of s n began lasting before after c.received c.replied))
   ok_served (Ok c) h = happens_weaker a b _ _ h (λ es x. many_served tag_of s n began lasting r before after table_calls held peers_calls shelf items_calls t p i start no_peers no_items c.received c.replied es x)
   ok_served (Err e) h = tt

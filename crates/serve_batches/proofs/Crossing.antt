@@ -4,9 +4,11 @@ use denote.Param.Send.{IsSend, sendable}
 use denote.Param.SendFields.{declared_send}
 use denote.Struct.Declared.{row}
 use Rattle.std.proofs.Crossing.{crosses}
+use Rattle.std.proofs.MapsCrossing.{BTreeMap-send}
 use Rattle.std.specs.contracts.option.Option.{the_row as option_row}
 use Rattle.kad_base.proofs.list.List.TheSendSync.{the_send as list_send}
 use Rattle.node_serve.below.node_tokens.proofs.tokens.Tokens.TheSendSync.{the_send as tokens_send}
+use Rattle.kad_base.proofs.types.Contact.TheSendSync.{the_send as contact_send}
 use Rattle.kad_base.proofs.types.Id.TheSendSync.{the_send as id_send}
 use Rattle.kad_base.proofs.types.Policy.TheSendSync.{the_send as policy_send}
 use Rattle.kad_base.proofs.types.Report.TheSendSync.{the_send as report_send}
@@ -16,6 +18,7 @@ use Rattle.bucket_tree.proofs.bucket.Bucket.TheSendSync.{the_send as row_send}
 use Rattle.bucket_tree.proofs.node.Node.TheLaws.TheKnot.{send-Node as node_send}
 use Rattle.bucket_tree.specs.contracts.buckets.Buckets.{the_row as buckets_row}
 use Rattle.sibling_list.proofs.Siblings.TheSendSync.{the_send as siblings_send}
+use Rattle.contact_table.proofs.seats.Seat.TheSendSync.{the_send as seat_send}
 use Rattle.contact_table.specs.contracts.table.Table.{the_row as table_row}
 use Rattle.peer_store.proofs.peers.Peers.TheSendSync.{the_send as peers_send}
 use Rattle.item_store.proofs.items.Items.TheSendSync.{the_send as items_send}
@@ -31,7 +34,7 @@ pub buckets_send : IsSend buckets_row
 buckets_send = search (sendable, crosses, row_send, node_send) depth 14
 
 pub table_send : IsSend table_row
-table_send = search (sendable, siblings_send, buckets_send) depth 14
+table_send = search (sendable, BTreeMap-send, siblings_send, buckets_send, seat_send, contact_send) depth 14
 
 pub worker_send : IsSend worker_row
 worker_send = search (sendable, peers_send, items_send, pass_send, table_send) depth 20

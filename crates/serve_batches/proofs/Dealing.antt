@@ -8,8 +8,8 @@ use Rattle.std.proofs.lemmas.List.Elements.{All-same, All-map}
 use Rattle.turn_book.proofs.Ended.{all_reverse}
 use Rattle.turn_book.specs.Turns.{TurnState, PassState, AreAll, fresh}
 use Rattle.contact_table.specs.TableState.{TableState}
-use Rattle.peer_store.specs.Peers.{Held}
-use Rattle.item_store.specs.Items.{Held as HeldItem}
+use Rattle.peer_store.specs.Peers.{PeersState}
+use Rattle.item_store.specs.Items.{ItemsState}
 use Rattle.serve_batches.specs.Crew.{CanWork}
 use Rattle.serve_batches.specs.Passes.{new_hands, workers_of}
 use Rattle.serve_batches.specs.declared.shift.Shift.{Shift}
@@ -51,7 +51,7 @@ map_reverse f [] = refl
 map_reverse f (x ∷ xs) =
     ap (map f) (reverse-append (x ∷ []) xs) ∙ map-append f (reverse xs) (x ∷ []) ∙ ap (λ l. l ++ f x ∷ []) (map_reverse f xs) ∙ sym (reverse-append (f x ∷ []) (map f xs))
 
-module _ (tables : TurnState TableState) (stores : TurnState (List Held)) (shelves : TurnState (List HeldItem)) (n : ℕ) (crew : List Shift) (is : workers_of crew ≡ map (new_hands tables stores shelves) (range_with_len 0 n)) where
+module _ (tables : TurnState TableState) (stores : TurnState PeersState) (shelves : TurnState ItemsState) (n : ℕ) (crew : List Shift) (is : workers_of crew ≡ map (new_hands tables stores shelves) (range_with_len 0 n)) where
   pub crew_count : length crew ≡ n
   crew_count =
       let e = ap length is in

@@ -6,8 +6,8 @@ use Rattle.kad_base.specs.declared.types.Event.{Event}
 use Rattle.kad_base.specs.Outside.{Happens}
 use Rattle.turn_book.specs.Turns.{TurnState}
 use Rattle.contact_table.specs.TableState.{TableState}
-use Rattle.peer_store.specs.Peers.{Held}
-use Rattle.item_store.specs.Items.{Held as HeldItem}
+use Rattle.peer_store.specs.Peers.{PeersState}
+use Rattle.item_store.specs.Items.{ItemsState}
 use Rattle.node_serve.specs.Lasting.{end_of, is_over}
 use Rattle.node_serve.specs.Sealing.{Tags}
 use Rattle.node_serve.specs.declared.lasting.Lasting.{Lasting}
@@ -23,10 +23,10 @@ use Rattle.serve_batches.specs.declared.shift.Shift.{Shift}
 use Rattle.serve_batches.proofs.Dealing.{crew_count, start_at}
 use Rattle.kad_base.proofs.Happening.{happens_weaker}
 
-pub crew_roomy : (tables : TurnState TableState) (stores : TurnState (List Held)) (shelves : TurnState (List HeldItem)) (n : ℕ) (crew : List Shift) → workers_of crew ≡ map (new_hands tables stores shelves) (range_with_len 0 n) → All (HasSlots n) crew → AreRoomy crew
+pub crew_roomy : (tables : TurnState TableState) (stores : TurnState PeersState) (shelves : TurnState ItemsState) (n : ℕ) (crew : List Shift) → workers_of crew ≡ map (new_hands tables stores shelves) (range_with_len 0 n) → All (HasSlots n) crew → AreRoomy crew
 crew_roomy tables stores shelves n crew is h = subst (λ k. All (HasSlots k) crew) (sym (crew_count tables stores shelves n crew is)) h
 
-module _ (tables : TurnState TableState) (stores : TurnState (List Held)) (shelves : TurnState (List HeldItem)) (n : ℕ) (crew new : List Shift) (is : workers_of crew ≡ map (new_hands tables stores shelves) (range_with_len 0 n)) (len : length new ≡ length crew) (roles : SameRoles crew new) where
+module _ (tables : TurnState TableState) (stores : TurnState PeersState) (shelves : TurnState ItemsState) (n : ℕ) (crew new : List Shift) (is : workers_of crew ≡ map (new_hands tables stores shelves) (range_with_len 0 n)) (len : length new ≡ length crew) (roles : SameRoles crew new) where
   -- the turns of the passes
   pub still_can : (w : ℕ) (d : Shift) → w < length new → CanWork tables stores shelves (slice_index_or new w d).worker
   still_can w d lt =

@@ -8,8 +8,8 @@ use Rattle.serve_batches.specs.Ring.{share, in_order, item_at}
 use Rattle.serve_batches.specs.declared.place.Place.{Place}
 use Rattle.turn_book.specs.Turns.{TurnState}
 use Rattle.contact_table.specs.TableState.{TableState}
-use Rattle.peer_store.specs.Peers.{Held}
-use Rattle.item_store.specs.Items.{Held as HeldItem}
+use Rattle.peer_store.specs.Peers.{PeersState}
+use Rattle.item_store.specs.Items.{ItemsState}
 use Rattle.node_serve.specs.Receives.{sent_in, got_in}
 use Rattle.node_serve.specs.Sealing.{Tags}
 use Rattle.node_serve.specs.declared.node.Answered.TheVariants.{Silent}
@@ -73,7 +73,7 @@ pub record PutAt (p : Place) (old new : List Shift) : Type 0 where
 -- ---- answers
 
 -- the worker is of these three turns
-pub record CanWork (tables : TurnState TableState) (stores : TurnState (List Held)) (shelves : TurnState (List HeldItem)) (hands : Hands) : Type 0 where
+pub record CanWork (tables : TurnState TableState) (stores : TurnState PeersState) (shelves : TurnState ItemsState) (hands : Hands) : Type 0 where
   pub table : hands.table.turn ≡ tables.id
   pub peers : hands.peers.turn ≡ stores.id
   pub items : hands.items.turn ≡ shelves.id

@@ -2,8 +2,8 @@
 use Rattle.std.specs.Prelude.{◌≡◌, ℕ, ◌≤◌, ◌<◌, List, length, slice_index_or, Option, Some}
 use Rattle.turn_book.specs.Turns.{TurnState}
 use Rattle.contact_table.specs.TableState.{TableState}
-use Rattle.peer_store.specs.Peers.{Held}
-use Rattle.item_store.specs.Items.{Held as HeldItem}
+use Rattle.peer_store.specs.Peers.{PeersState}
+use Rattle.item_store.specs.Items.{ItemsState}
 use Rattle.node_serve.specs.Calls.{IsSetting}
 use Rattle.node_serve.specs.Sealing.{Tags}
 use Rattle.node_serve.specs.declared.setting.ServeSetting.{ServeSetting}
@@ -17,14 +17,14 @@ pub record Known : Type 0 where
   pub tag_of : Tags
   pub setting : ServeSetting
   pub tables : TurnState TableState
-  pub stores : TurnState (List Held)
-  pub shelves : TurnState (List HeldItem)
+  pub stores : TurnState PeersState
+  pub shelves : TurnState ItemsState
 
-abbrev pub known : Tags → ServeSetting → TurnState TableState → TurnState (List Held) → TurnState (List HeldItem) → Known
+abbrev pub known : Tags → ServeSetting → TurnState TableState → TurnState PeersState → TurnState ItemsState → Known
 known tag_of s tables stores shelves = record { tag_of = tag_of; setting = s; tables = tables; stores = stores; shelves = shelves }
 
 -- these are fixed, whatever the setting is
-abbrev pub Serves : Option Known → Tags → TurnState TableState → TurnState (List Held) → TurnState (List HeldItem) → Type 0
+abbrev pub Serves : Option Known → Tags → TurnState TableState → TurnState PeersState → TurnState ItemsState → Type 0
 Serves o tag_of tables stores shelves = (k : Known) → o ≡ Some k → (tag_of ≡ k.tag_of) × (tables ≡ k.tables) × (stores ≡ k.stores) × (shelves ≡ k.shelves)
 
 -- this is the setting

@@ -2,13 +2,13 @@
 use Rattle.std.specs.Prelude.{ℕ, List, map, reverse}
 use Rattle.turn_book.specs.Turns.{TurnState, fresh}
 use Rattle.contact_table.specs.TableState.{TableState}
-use Rattle.peer_store.specs.Peers.{Held}
-use Rattle.item_store.specs.Items.{Held as HeldItem}
+use Rattle.peer_store.specs.Peers.{PeersState}
+use Rattle.item_store.specs.Items.{ItemsState}
 use Rattle.serve_crew.specs.Hands.{Hands, TablePass, PeersPass, ItemsPass, hands}
 use Rattle.serve_batches.specs.declared.shift.Shift.{Shift}
 
 -- worker w before its first call
-abbrev pub new_hands : TurnState TableState → TurnState (List Held) → TurnState (List HeldItem) → ℕ → Hands
+abbrev pub new_hands : TurnState TableState → TurnState PeersState → TurnState ItemsState → ℕ → Hands
 new_hands tables stores shelves w = hands (fresh tables.id w) (fresh stores.id w) (fresh shelves.id w)
 
 abbrev pub workers_of : List Shift → List Hands

@@ -5,8 +5,8 @@ use Rattle.kad_base.specs.declared.types.Event.{Event}
 use Rattle.serve_batches.specs.Deal.{dealt}
 use Rattle.turn_book.specs.Turns.{TurnState}
 use Rattle.contact_table.specs.TableState.{TableState}
-use Rattle.peer_store.specs.Peers.{Held}
-use Rattle.item_store.specs.Items.{Held as HeldItem}
+use Rattle.peer_store.specs.Peers.{PeersState}
+use Rattle.item_store.specs.Items.{ItemsState}
 use Rattle.node_serve.specs.Calls.{Did}
 use Rattle.node_serve.specs.Lasting.{end_of, is_over}
 use Rattle.node_serve.specs.Receives.{got_in, sent_in}
@@ -73,13 +73,13 @@ pub record StopsServing (tag_of : Tags) (limit : Option ℕ) (s : ServeSetting) 
 -- the three turns, and the passes that are back in their rows
 pub record Rows : Type 0 where
   pub tables : TurnState TableState
-  pub stores : TurnState (List Held)
-  pub shelves : TurnState (List HeldItem)
+  pub stores : TurnState PeersState
+  pub shelves : TurnState ItemsState
   pub table_row : List TablePass
   pub peers_row : List PeersPass
   pub items_row : List ItemsPass
 
-abbrev pub rows : TurnState TableState → TurnState (List Held) → TurnState (List HeldItem) → List TablePass → List PeersPass → List ItemsPass → Rows
+abbrev pub rows : TurnState TableState → TurnState PeersState → TurnState ItemsState → List TablePass → List PeersPass → List ItemsPass → Rows
 rows tables stores shelves table_row peers_row items_row =
     record { tables = tables; stores = stores; shelves = shelves; table_row = table_row; peers_row = peers_row; items_row = items_row }
 

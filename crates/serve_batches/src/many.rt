@@ -118,13 +118,13 @@ fn work<B: Serving + Send + Sync, R: Threads + Wait + Sync, L: Link, G: Seal + S
 }
 
 /// Serves from the moment `began` on, in milliseconds, by 2 to 8 workers over one routing table, and over peers and items
-/// that it begins to keep: makes receive calls on the link, in batches, until as many were made as it lasts, or until a moment
-/// is told that is at its end by time or behind it, and answers the queries that come, tagged by the seal where the setting is
-/// sealed. A batch begins with a receive call that waits for a minute, but to that end at most, and as long as something came
-/// before the end it goes on without waiting, up to 32 calls. The datagram of place j of a batch is answered by worker j
-/// mod n, all workers answer at once, those whose datagrams are worth it each on a thread of its own that stays as long as
-/// it serves, and then the replies are sent in the order of the batch. Where the link refuses a reply it goes on. The table
-/// comes back after all calls that were made on it.
+/// that it begins to keep, no more of one host than the table takes contacts: makes receive calls on the link, in batches,
+/// until as many were made as it lasts, or until a moment is told that is at its end by time or behind it, and answers the
+/// queries that come, tagged by the seal where the setting is sealed. A batch begins with a receive call that waits for a
+/// minute, but to that end at most, and as long as something came before the end it goes on without waiting, up to 32 calls.
+/// The datagram of place j of a batch is answered by worker j mod n, all workers answer at once, those whose datagrams are
+/// worth it each on a thread of its own that stays as long as it serves, and then the replies are sent in the order of the
+/// batch. Where the link refuses a reply it goes on. The table comes back after all calls that were made on it.
 pub fn serve_many<R: Threads + Wait + Sync, L: Link, G: Seal + Sync>(
     rt: &R,
     alloc: Global,
@@ -160,11 +160,12 @@ pub fn serve_many<R: Threads + Wait + Sync, L: Link, G: Seal + Sync>(
         Ok(slots) => slots,
         Err(NoMemory) => return (table, Err(ServeFault::NoMemory)),
     };
+    let limit = usize::from(table.per_address());
     let (tables, mut table_row) = match Turn::new(alloc, table, workers) {
         Ok(opened) => opened,
         Err(TurnNoMemory { state }) => return (state, Err(ServeFault::NoMemory)),
     };
-    let peers = Peers::new(alloc);
+    let peers = Peers::limited(alloc, limit);
     let (stores, mut peers_row) = match Turn::new(alloc, peers, workers) {
         Ok(opened) => opened,
         Err(_) => {
@@ -172,7 +173,7 @@ pub fn serve_many<R: Threads + Wait + Sync, L: Link, G: Seal + Sync>(
             return (table, Err(ServeFault::NoMemory));
         }
     };
-    let items = Items::new(alloc);
+    let items = Items::limited(alloc, limit);
     let (shelves, mut items_row) = match Turn::new(alloc, items, workers) {
         Ok(opened) => opened,
         Err(_) => {

@@ -10,10 +10,10 @@ use Rattle.contact_table.specs.Told.{HasMemory}
 use Rattle.contact_table.specs.declared.calls.TableCall.{TableCall}
 use Rattle.contact_table.specs.declared.calls.TableCall.TheVariants.{Seen}
 use Rattle.contact_table.specs.declared.calls.TableReply.{TableReply}
-use Rattle.peer_store.specs.Peers.{Held}
+use Rattle.peer_store.specs.Peers.{PeersState}
 use Rattle.peer_store.specs.declared.calls.PeerCall.{PeerCall}
 use Rattle.peer_store.specs.declared.calls.PeerReply.{PeerReply}
-use Rattle.item_store.specs.Items.{Held as HeldItem}
+use Rattle.item_store.specs.Items.{ItemsState}
 use Rattle.item_store.specs.declared.calls.ItemCall.{ItemCall}
 use Rattle.item_store.specs.declared.calls.ItemReply.{ItemReply}
 use Rattle.node_serve.specs.Calls.{Did, on_table, on_peers, on_items}
@@ -92,7 +92,7 @@ abbrev pub does : Hands → Did → Hands → Type 0
 does old d new = SameHands old new × Grew old new (d ∷ [])
 
 -- the passes are of these turns
-pub record CanWork (tables : TurnState TableState) (stores : TurnState (List Held)) (shelves : TurnState (List HeldItem)) (h : Hands) : Type 0 where
+pub record CanWork (tables : TurnState TableState) (stores : TurnState PeersState) (shelves : TurnState ItemsState) (h : Hands) : Type 0 where
   pub table : h.table.turn ≡ tables.id
   pub peers : h.peers.turn ≡ stores.id
   pub items : h.items.turn ≡ shelves.id

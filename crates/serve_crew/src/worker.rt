@@ -5,9 +5,9 @@ ghost use Rattle.kad_krpc.specs.Records.{ip_bytes};
 ghost use Rattle.kad_krpc.specs.Views.{ask_seen};
 ghost use Rattle.contact_table.specs.TableState.{TableState};
 ghost use Rattle.contact_table.specs.TableStep.{TableMay, TableStep};
-ghost use Rattle.peer_store.specs.Peers.{Held};
+ghost use Rattle.peer_store.specs.Peers.{PeersState};
 ghost use Rattle.peer_store.specs.PeersStep.{PeersStep};
-ghost use Rattle.item_store.specs.Items.{Held as HeldItem};
+ghost use Rattle.item_store.specs.Items.{ItemsState};
 ghost use Rattle.item_store.specs.ItemSteps.{ItemMay, ItemStep};
 ghost use Rattle.node_serve.specs.Asked.{IsSaid};
 ghost use Rattle.node_serve.specs.Calls.{IsSetting, on_table, on_peers, on_items};
@@ -121,7 +121,7 @@ impl ServeWorker {
     ) -> PeerReply
         requires own { self.old.peers.turn ≡ turn.now.id }
         ensures does { does self.old (on_peers call result) self.new }
-        ensures step { (s : List Held) × (role : ℕ) × PeersStep s role call result }
+        ensures step { (s : PeersState) × (role : ℕ) × PeersStep s role call result }
     {
         reply_to(rt, turn, &mut self.peers, call)
     }
@@ -136,7 +136,7 @@ impl ServeWorker {
         requires own { self.old.items.turn ≡ turn.now.id }
         requires may { ItemMay self.old.items.role call }
         ensures does { does self.old (on_items call result) self.new }
-        ensures step { (s : List HeldItem) × (role : ℕ) × ItemStep s role call result }
+        ensures step { (s : ItemsState) × (role : ℕ) × ItemStep s role call result }
     {
         reply_to(rt, turn, &mut self.items, call)
     }

@@ -8,6 +8,8 @@ mod faults;
 #[cfg(test)]
 mod input;
 #[cfg(test)]
+mod limited;
+#[cfg(test)]
 mod outside;
 #[cfg(test)]
 mod plain;

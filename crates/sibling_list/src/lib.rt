@@ -74,6 +74,13 @@ impl Siblings {
         self.contacts.as_slice()
     }
 
+    /// Whether the contact is one of them.
+    pub fn has(&self, contact: &Contact) -> bool
+        ensures { result ≡ among self.now.list contact.now }
+    {
+        is_there(self.contacts.as_slice(), contact)
+    }
+
     /// Puts a contact in its place. Where there is one too many then, the last is dropped. A contact that is there, or
     /// that has the own identifier, changes nothing. Takes no memory.
     pub fn insert(&mut self, contact: Contact)

@@ -8,7 +8,7 @@ use Rattle.bucket_tree.specs.Rows.{RowState}
 use Rattle.bucket_tree.specs.States.{state_of as row_state, states_of}
 use Rattle.contact_table.specs.declared.saved.Saved.{Saved}
 use Rattle.contact_table.specs.SavedState.{state_of}
-use Rattle.contact_table.specs.TableState.{TableState}
+use Rattle.contact_table.specs.TableState.{TableState, unlimited}
 use Rattle.table_file.specs.SavedText.{saved_text}
 use Rattle.table_commands.specs.Tabled.{IsTextOf}
 
@@ -40,4 +40,4 @@ saved_once a b e =
     ∙ ap (λ (x : List Contact). saved b.own b.k b.b b.rows x) (ap (λ (t : TableState). t.siblings) e)
 
 pub text_once : (s t : TableState) (a b : List ℕ) → s ≡ t → IsTextOf s a → IsTextOf t b → a ≡ b
-text_once s t a b e h k = h.is_saved.text ∙ ap saved_text (saved_once h.saved k.saved (h.held ∙ e ∙ sym k.held)) ∙ sym k.is_saved.text
+text_once s t a b e h k = h.is_saved.text ∙ ap saved_text (saved_once h.saved k.saved (h.held ∙ ap unlimited e ∙ sym k.held)) ∙ sym k.is_saved.text

@@ -32,7 +32,7 @@ table_text_once words random source again t u bounds same a b =
     let admits = subst (λ (l : List Report). Admits (own_of words.own random) Four words.policy l a.contacts) reports a.admits in
     let contacts = admits_once (own_of words.own random) Four words.policy b.reports a.contacts b.contacts admits b.admits in
     let calls = subst (λ (l : List Contact). TableTold (map seen_call l) (new_table (own_of words.own random) words.k words.bits) a.table) contacts a.told in
-    let table = new_once (own_of words.own random) words.k words.bits (map seen_call b.contacts) a.table b.table bounds.some_live bounds.few_live bounds.some_bits bounds.few_bits calls b.told in
+    let table = new_once (own_of words.own random) words.k words.bits 0 (map seen_call b.contacts) a.table b.table bounds.some_live bounds.few_live bounds.some_bits bounds.few_bits calls b.told in
     text_once a.table b.table t u table a.printed b.printed
 
 restored_once : (source again : Shown ℕ) (s t : TableState) → SameInput source again → Restores source s → Restores again t → s ≡ t

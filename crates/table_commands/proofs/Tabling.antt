@@ -10,7 +10,7 @@ use Rattle.bucket_tree.specs.Rows.{IsRow}
 use Rattle.bucket_tree.specs.States.{state_of, states_of}
 use Rattle.bucket_tree.specs.declared.rows.Row.{Row}
 use Rattle.contact_table.specs.SavedState.{state_of as table_of}
-use Rattle.contact_table.specs.TableState.{SoundTable, TableState}
+use Rattle.contact_table.specs.TableState.{SoundTable, TableState, unlimited}
 use Rattle.contact_table.specs.Told.{new_table}
 use Rattle.contact_table.specs.declared.saved.Saved.{Saved}
 use Rattle.kad_words.specs.declared.command.TableWords.{TableWords}
@@ -29,9 +29,9 @@ rows_failed_once own k b (row ∷ rows) h =
     All-cons (λ row. All (λ e. e.failures ≤ 1) row.live) row rows (All-head (IsRow own k b) (state_of row) (states_of rows) h).failed_once
     (rows_failed_once own k b rows (All-tail (IsRow own k b) (state_of row) (states_of rows) h))
 
-pub can_be_written : (saved : Saved) (s : TableState) → SoundTable s → table_of saved ≡ s → FailedOnce saved.rows
+pub can_be_written : (saved : Saved) (s : TableState) → SoundTable s → table_of saved ≡ unlimited s → FailedOnce saved.rows
 can_be_written saved s sound e =
-    let own : SoundTable (table_of saved) = subst SoundTable (sym e) sound in
+    let own : SoundTable (table_of saved) = subst SoundTable (sym e) (record { buckets = sound.buckets; siblings = sound.siblings }) in
     rows_failed_once saved.own saved.k saved.b saved.rows own.buckets.rows.each
 
 -- what it prints, as the code has it

@@ -5,7 +5,7 @@ use Rattle.kad_base.specs.declared.types.Family.TheVariants.{Four}
 use Rattle.kad_base.specs.declared.types.Contact.{Contact}
 use Rattle.kad_base.specs.declared.types.Report.{Report}
 use Rattle.contact_table.specs.SavedState.{state_of}
-use Rattle.contact_table.specs.TableState.{TableState}
+use Rattle.contact_table.specs.TableState.{TableState, unlimited}
 use Rattle.contact_table.specs.Told.{new_table}
 use Rattle.contact_table.specs.declared.saved.Saved.{Saved}
 use Rattle.kad_words.specs.declared.command.TableWords.{TableWords}
@@ -16,10 +16,10 @@ use Rattle.command_base.specs.Promise.{Promise, judge_aim, reading}
 use Rattle.command_base.specs.Shown.{Shown}
 use Rattle.command_base.specs.Started.{AreTableBounds, own_of, seen_call}
 
--- the text is the saved text of what the table holds, so that it can be read back
+-- the text is the saved text of what the table holds (not of its limit), so that it can be read back
 pub record IsTextOf (table : TableState) (text : List ℕ) : Type 0 where
   pub saved : Saved
-  pub held : state_of saved ≡ table
+  pub held : state_of saved ≡ unlimited table
   pub is_saved : IsSavedText text saved
 
 -- the contacts of the input that are usable and pass, in order, were told to a new table, and the text is that table's

@@ -57,6 +57,6 @@ pub fn table<S: Source, C: Check, G: Seal + SealCheck>(
         call.check,
         reports.as_slice(),
     )?;
-    let table = table_of(alloc, id, words.k, words.bits, contacts.as_slice())?;
+    let table = table_of(alloc, id, words.k, words.bits, 0, contacts.as_slice())?;
     Ok(text_of(alloc, &table)?)
 }

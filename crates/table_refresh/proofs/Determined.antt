@@ -1,19 +1,19 @@
 -- The events of a refresh determine what they show.
-use Rattle.std.proofs.Common.{◌≡◌, ℕ, ◌+◌, List, [], ◌∷◌, Option, Some, false, inl, inr, sym, ap, subst, ◌∙◌, arith}
+use Rattle.std.proofs.Common.{◌≡◌, ◌≢◌, ℕ, ◌+◌, List, [], ◌∷◌, Option, Some, false, inl, inr, refl, sym, ap, subst, ◌∙◌, arith}
 use Rattle.kad_base.specs.declared.types.Addr.{Addr}
 use Rattle.kad_base.specs.declared.types.Contact.{Contact}
 use Rattle.kad_base.specs.declared.types.Event.{Event}
 use Rattle.kad_base.specs.declared.types.Event.TheVariants.{Now, Sent, Unsent, Got, Quiet}
 use Rattle.kad_base.specs.Words.{word}
 use Rattle.query_book.specs.declared.Query.{Query}
-use Rattle.bucket_tree.specs.declared.types.Seen.{Seen}
 use Rattle.bucket_tree.specs.declared.types.Gone.{Gone}
 use Rattle.contact_table.specs.declared.calls.TableCall.TheVariants.{Seen as Seen_call, Failed}
 use Rattle.contact_table.specs.declared.calls.TableReply.{TableReply}
-use Rattle.contact_table.specs.declared.calls.TableReply.TheVariants.{Seen as Seen_reply, Gone as Gone_reply}
+use Rattle.contact_table.specs.declared.calls.TableReply.TheVariants.{Gone as Gone_reply, NoMemory}
 use Rattle.contact_table.specs.TableState.{TableState, SoundTable}
 use Rattle.contact_table.specs.TableStep.{table_after}
-use Rattle.contact_table.proofs.Outcome.{one-reply}
+use Rattle.contact_table.specs.Told.{HasMemory}
+use Rattle.contact_table.proofs.Outcome.{one-reply, one-state}
 use Rattle.contact_table.proofs.StaysSound.{step-sound}
 use Rattle.lookup_core.specs.Reply.{Reply}
 use Rattle.lookup_core.specs.Timeouts.{deadline_of}
@@ -22,16 +22,16 @@ use Rattle.table_refresh.specs.Refreshed.{Given, Standing, is_kept, over, IsSeen
 
 -- ---- the step of a try
 
-same_seen : (x y : Seen) → ◌≡◌ {A = TableReply} (Seen_reply x) (Seen_reply y) → x ≡ y
-same_seen x y e = cc
-
 same_gone : (x y : Gone) → ◌≡◌ {A = TableReply} (Gone_reply x) (Gone_reply y) → x ≡ y
 same_gone x y e = cc
 
+had_memory : (x : TableReply) → x ≢ NoMemory → HasMemory x
+had_memory NoMemory h = absurd (h refl)
+had_memory other h = tt
+
 one_seen : (c : Contact) (s t u : TableState) → SoundTable s → IsSeen c s t → IsSeen c s u → t ≡ u
 one_seen c s t u sound h k =
-    let same = same_seen h.seen k.seen (one-reply s 0 0 (Seen_call c) (Seen_reply h.seen) (Seen_reply k.seen) sound h.step k.step tt tt) in
-    h.after ∙ ap (λ x. table_after s 0 (Seen_call c) (Seen_reply x)) same ∙ sym k.after
+    h.after ∙ one-state s 0 0 (Seen_call c) h.reply k.reply sound h.step k.step (had_memory h.reply h.kept) (had_memory k.reply k.kept) ∙ sym k.after
 
 same_failure : (c : Contact) (x y : Gone) (s t u : TableState) → SoundTable s → HasFailed c x s t → HasFailed c y s u → x ≡ y
 same_failure c x y s t u sound h k = same_gone x y (one-reply s 0 0 (Failed c) (Gone_reply x) (Gone_reply y) sound h.step k.step tt tt)
@@ -46,7 +46,7 @@ one_failure s c t u sound h k =
     h.after ∙ ap (λ x. over s (is_kept x) h.table) same ∙ ap (over s (is_kept k.gone)) tables ∙ sym k.after
 
 seen_sound : (s : Standing) (c : Contact) (t : Standing) → SoundTable s.table → Succeeds s c t → SoundTable t.table
-seen_sound s c t sound h = subst (λ (x : Standing). SoundTable x.table) (sym h.after) (subst SoundTable (sym h.seen.after) (step-sound s.table 0 (Seen_call c) (Seen_reply h.seen.seen) sound h.seen.step))
+seen_sound s c t sound h = subst (λ (x : Standing). SoundTable x.table) (sym h.after) (subst SoundTable (sym h.seen.after) (step-sound s.table 0 (Seen_call c) h.seen.reply sound h.seen.step))
 
 failed_sound : (s : Standing) (c : Contact) (t : Standing) → SoundTable s.table → Fails s c t → SoundTable t.table
 failed_sound s c t sound h = subst (λ (x : Standing). SoundTable x.table) (sym h.after) (subst SoundTable (sym h.failed.after) (step-sound s.table 0 (Failed c) (Gone_reply h.gone) sound h.failed.step))

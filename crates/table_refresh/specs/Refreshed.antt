@@ -2,7 +2,7 @@
 -- and who doesn't answer makes room): what the transcript of a link tells of the pings, and the table that results. That a
 -- contact is pinged twice before it goes, that all buckets are gone through in one call, and that all live contacts of a bucket
 -- may be, is this project's own.
-use Rattle.std.specs.Prelude.{◌≡◌, ◌⊎◌, ℕ, ◌+◌, ◌<◌, ◌≤◌, List, [], ◌∷◌, ◌++◌, take, drop, flat_map, Option, Some, None, Bool, true, false, not, ◌&&◌}
+use Rattle.std.specs.Prelude.{◌≡◌, ◌≢◌, ◌⊎◌, ℕ, ◌+◌, ◌<◌, ◌≤◌, List, [], ◌∷◌, ◌++◌, take, drop, flat_map, Option, Some, None, Bool, true, false, not, ◌&&◌}
 use Rattle.kad_base.specs.declared.types.Id.{Id}
 use Rattle.kad_base.specs.declared.types.Addr.{Addr}
 use Rattle.kad_base.specs.declared.types.Contact.{Contact}
@@ -15,12 +15,12 @@ use Rattle.kad_krpc.specs.declared.message.Message.TheVariants as message
 use Rattle.kad_krpc.specs.declared.message.Ask.TheVariants.{Ping}
 use Rattle.kad_krpc.specs.Form.{form}
 use Rattle.query_book.specs.declared.Query.{Query}
-use Rattle.bucket_tree.specs.declared.types.Seen.{Seen}
 use Rattle.bucket_tree.specs.declared.types.Gone.{Gone}
 use Rattle.bucket_tree.specs.declared.types.Gone.TheVariants.{Kept}
 use Rattle.bucket_tree.specs.Rows.{RowState, live_in}
 use Rattle.contact_table.specs.declared.calls.TableCall.TheVariants.{Seen as Seen_call, Failed}
-use Rattle.contact_table.specs.declared.calls.TableReply.TheVariants.{Seen as Seen_reply, Gone as Gone_reply}
+use Rattle.contact_table.specs.declared.calls.TableReply.{TableReply}
+use Rattle.contact_table.specs.declared.calls.TableReply.TheVariants.{Gone as Gone_reply, NoMemory}
 use Rattle.contact_table.specs.TableState.{TableState}
 use Rattle.contact_table.specs.TableStep.{TableStep, table_after}
 use Rattle.lookup_core.specs.Matching.{IsReplyTo}
@@ -111,11 +111,12 @@ left_after false due = drop 1 due
 abbrev pub over : Standing → Bool → TableState → Standing
 over s kept table = record s { due = left_after (kept && not s.again) s.due; again = kept && not s.again; waits = None; table = table }
 
--- the table has seen the contact (Kademlia, section 2.2), and had memory
+-- the table was told that the contact was seen (Kademlia, section 2.2), and had memory
 pub record IsSeen (c : Contact) (table table' : TableState) : Type 0 where
-  pub seen : Seen
-  pub step : TableStep table 0 (Seen_call c) (Seen_reply seen)
-  pub after : table' ≡ table_after table 0 (Seen_call c) (Seen_reply seen)
+  pub reply : TableReply
+  pub step : TableStep table 0 (Seen_call c) reply
+  pub kept : reply ≢ NoMemory
+  pub after : table' ≡ table_after table 0 (Seen_call c) reply
 
 -- the contact has failed, and this became of it
 pub record HasFailed (c : Contact) (gone : Gone) (table table' : TableState) : Type 0 where

@@ -16,9 +16,8 @@ pub(crate) fn notify_seen(table: &mut Table, contact: Contact) -> Result<(), NoM
     ensures err { OnErr result (table.new ≡ table.old) }
 {
     match table.apply(REFRESHER, TableCall::Seen { contact }) {
-        TableReply::Seen { .. } => Ok(()),
         TableReply::NoMemory => Err(NoMemory),
-        TableReply::Gone { .. } | TableReply::List { .. } => unreachable!(),
+        _ => Ok(()),
     }
 }
 
@@ -29,6 +28,9 @@ pub(crate) fn notify_failed(table: &mut Table, contact: Contact) -> bool
     match table.apply(REFRESHER, TableCall::Failed { contact }) {
         TableReply::Gone { gone: Gone::Kept } => true,
         TableReply::Gone { .. } => false,
-        TableReply::Seen { .. } | TableReply::List { .. } | TableReply::NoMemory => unreachable!(),
+        TableReply::Seen { .. }
+        | TableReply::List { .. }
+        | TableReply::Crowded
+        | TableReply::NoMemory => unreachable!(),
     }
 }

@@ -22,6 +22,8 @@ pub(crate) fn told(alloc: Global, contacts: &[Whom]) -> Result<Table, Fail> {
 #[derive(Clone, Copy, Debug)]
 enum Step {
     Seen(Whom, Seen),
+    /// Is turned away.
+    Crowded(Whom),
     Failed(Whom, Gone),
     /// The n closest to the number.
     Closest(u8, u8, &'static [Whom]),
@@ -43,6 +45,10 @@ fn answers(table: &mut Table, step: Step) -> bool {
         Step::Seen(whom, seen) => {
             let contact = who(whom);
             table.apply(0, TableCall::Seen { contact }) == TableReply::Seen { seen }
+        }
+        Step::Crowded(whom) => {
+            let contact = who(whom);
+            table.apply(0, TableCall::Seen { contact }) == TableReply::Crowded
         }
         Step::Failed(whom, gone) => {
             let contact = who(whom);
@@ -103,6 +109,68 @@ const AMONG_THE_SIBLINGS: &[Step] = &[
 #[test]
 fn finds_spares_among_the_siblings(rt: HostRuntime) -> Result<(), Fail> {
     take(&rt, rt.alloc(), TWO_ONE_THREE, AMONG_THE_SIBLINGS)
+}
+
+/// Takes the steps in order, over a new table that takes two contacts of one host.
+fn take_two(rt: &impl Abort, alloc: Global, steps: &[Step]) -> Result<(), Fail> {
+    let mut table = Table::limited(alloc, number(0), 1, 1, 2)?;
+    for step in steps {
+        assert!(rt; answers(&mut table, *step), "{step:?}");
+    }
+    Ok(())
+}
+
+const TWO_OF_A_HOST: &[Step] = &[
+    Step::Seen(Whom::Number(2), Seen::Added),
+    Step::Seen(Whom::Number(1), Seen::Added),
+    Step::Crowded(Whom::Number(3)),
+    Step::Crowded(Whom::At(3, 7000)),
+    Step::Seen(Whom::Number(2), Seen::Moved),
+    Step::Seen(Whom::At(2, 7000), Seen::Conflict),
+    Step::Seen(Whom::At(0, 6000), Seen::Own),
+    Step::Failed(Whom::Number(2), Gone::Kept),
+    Step::Crowded(Whom::Number(3)),
+    Step::Failed(Whom::Number(2), Gone::Removed),
+    Step::Seen(Whom::Number(3), Seen::Added),
+    Step::Crowded(Whom::Number(2)),
+    Step::Closest(3, 9, &[Whom::Number(3), Whom::Number(1)]),
+];
+
+#[test]
+fn turns_away_a_third_contact_of_a_host(rt: HostRuntime) -> Result<(), Fail> {
+    take_two(&rt, rt.alloc(), TWO_OF_A_HOST)
+}
+
+/// Whether a table that takes so many contacts of a subnet of IPv6 takes that many of ten, each with an address of its own.
+fn takes_of_a_subnet(alloc: Global, limit: u8) -> Option<usize> {
+    let mut table = Table::limited(alloc, number(0), 20, 5, limit).ok()?;
+    for i in 1..=10u8 {
+        let mut ip = [7; 16];
+        ip[15] = i;
+        let contact = Contact {
+            id: Id([i; 20]),
+            addr: Addr {
+                ip: Ip::V6(ip),
+                port: 6881,
+            },
+        };
+        if table.apply(1, TableCall::Seen { contact }) == TableReply::NoMemory {
+            return None;
+        }
+    }
+    Some(closest(&mut table, 1, 255)?.len())
+}
+
+#[test]
+fn a_subnet_of_ipv6_is_one_host(rt: HostRuntime) -> Result<(), Fail> {
+    for (limit, count) in [(0, 10), (1, 1), (9, 9), (10, 10), (255, 10)] {
+        assert_eq!(rt;
+            takes_of_a_subnet(rt.alloc(), limit),
+            Some(count),
+            "limit {limit}"
+        );
+    }
+    Ok(())
 }
 
 /// A contact of either family, with the identifier of 20 bytes n.

@@ -302,6 +302,7 @@ fn words_of_serve(rt: HostRuntime) {
         k: 8,
         bits: 1,
         policy: Policy::Plain,
+        per_address: 0,
         receives: 1_000_000_000,
         minutes: 0,
         workers: 1,
@@ -332,6 +333,13 @@ fn words_of_serve(rt: HostRuntime) {
             },
         ),
         (
+            "serve --per-address 255",
+            ServeWords {
+                per_address: 255,
+                ..words
+            },
+        ),
+        (
             "serve --minutes 10080 --receives 1000000000 --workers 8",
             ServeWords {
                 minutes: 10_080,
@@ -356,7 +364,6 @@ fn words_of_node(rt: HostRuntime) {
     let greatest = LookWords {
         target,
         family: Family::Four,
-        per_address: 0,
         ..greatest()
     };
     for (line, look, receives, minutes, table) in [
@@ -381,7 +388,7 @@ fn words_of_node(rt: HostRuntime) {
             false,
         ),
         (
-            "node --table yes --own ID --k 20 --paths 8 --alpha 4 --timeout 60000 --bits 5 --c1 32 --c2 32 --bind 1.2.3.4:5 --group SEED --receives 1 --minutes 10080",
+            "node --table yes --own ID --k 20 --paths 8 --alpha 4 --timeout 60000 --bits 5 --c1 32 --c2 32 --per-address 255 --bind 1.2.3.4:5 --group SEED --receives 1 --minutes 10080",
             greatest,
             1,
             10_080,
@@ -564,8 +571,8 @@ fn words_that_are_refused(rt: HostRuntime) {
         "lookup --target ID --per-address -1",
         "lookup --target ID --per-address",
         "lookup --target ID --per-address 1 --per-address 1",
-        "node --per-address 1",
-        "serve --per-address 1",
+        "node --per-address 256",
+        "serve --per-address 256",
         "sim --per-address 1",
         "table --per-address 1",
         "lookup --target ID --family",

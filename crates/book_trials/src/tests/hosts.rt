@@ -5,11 +5,11 @@ ghost use Rattle.std.specs.Prelude.{◌<◌};
 
 use super::compare::{all_usable, seeds};
 use super::{Told, first_false, told_of, worker};
-use claim_book::{
-    Book, BookCall, BookReply, Cause, Checked, Entry, Host, Journal, Setting, host_of,
-};
+use claim_book::{Book, BookCall, BookReply, Cause, Checked, Entry, Journal, Setting};
 use id_puzzles::Sha1Check;
-use kad_base::{Addr, Contact, Contacts, Id, Ip, List, NoMemory, Policy, Report, Serial};
+use kad_base::{
+    Addr, Contact, Contacts, Host, Id, Ip, List, NoMemory, Policy, Report, Serial, host_of,
+};
 use std::alloc::Global;
 use std::hash::RandomState;
 use std::process::Abort;

@@ -1,8 +1,8 @@
 //! The book as filters over its journal, with no index: what the index is tried against. Each call costs more as the
 //! journal grows.
-use claim_book::{BookCall, BookReply, Cause, Checked, Counts, Entry, Setting, Thing, host_of};
+use claim_book::{BookCall, BookReply, Cause, Checked, Counts, Entry, Setting, Thing};
 use kad_base::limits::MAX_PATH_CONTACTS;
-use kad_base::{Contact, Contacts, NoMemory, Reports, is_usable};
+use kad_base::{Contact, Contacts, NoMemory, Reports, host_of, is_usable};
 use kad_distance::k_least;
 use std::alloc::Global;
 

@@ -8,8 +8,8 @@ use Rattle.claim_book.specs.RunOut.{RunOut}
 use Rattle.claim_book.specs.State.{BookState}
 use Rattle.contact_table.specs.TableState.{TableState}
 use Rattle.turn_book.specs.Turns.{TurnState}
-use Rattle.peer_store.specs.Peers.{Held}
-use Rattle.item_store.specs.Items.{Held as HeldItem}
+use Rattle.peer_store.specs.Peers.{PeersState}
+use Rattle.item_store.specs.Items.{ItemsState}
 use Rattle.serve_crew.specs.Hands.{Hands, TablePass, PeersPass, ItemsPass}
 use Rattle.node_serve.specs.declared.setting.ServeSetting.{ServeSetting}
 use Rattle.look_many.specs.declared.found.ManySetting.{ManySetting}
@@ -20,7 +20,7 @@ use Rattle.look_many.specs.ManyLooked.{setting_for, quest_for, seeds_for}
 -- a book that begins with the closest contacts of the table
 pub record IsBookFor (server : ServeSetting) (setting : ManySetting) (table : TableState) (target : Id) (book : BookState) : Type 0 where
   pub setting_is : book.setting ≡ setting_for server setting target
-  pub journal : book.journal ≡ seeded 0 setting.paths (seeds_for server table target)
+  pub journal : book.journal ≡ seeded setting.per_address setting.paths (seeds_for server table target)
   pub legal : Legal book.setting book.journal
 
 -- a lookup that has such a book, and asked nobody
@@ -51,13 +51,13 @@ RolesFrom r (k ∷ ks) = (k.pass.role ≡ r) × RolesFrom (suc r) ks
 -- the three turns, and the passes that are back in their rows
 pub record Rows : Type 0 where
   pub tables : TurnState TableState
-  pub stores : TurnState (List Held)
-  pub shelves : TurnState (List HeldItem)
+  pub stores : TurnState PeersState
+  pub shelves : TurnState ItemsState
   pub table_row : List TablePass
   pub peers_row : List PeersPass
   pub items_row : List ItemsPass
 
-abbrev pub rows : TurnState TableState → TurnState (List Held) → TurnState (List HeldItem) → List TablePass → List PeersPass → List ItemsPass → Rows
+abbrev pub rows : TurnState TableState → TurnState PeersState → TurnState ItemsState → List TablePass → List PeersPass → List ItemsPass → Rows
 rows tables stores shelves table_row peers_row items_row =
     record { tables = tables; stores = stores; shelves = shelves; table_row = table_row; peers_row = peers_row; items_row = items_row }
 

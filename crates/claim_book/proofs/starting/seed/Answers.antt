@@ -5,7 +5,7 @@ use Rattle.kad_base.specs.declared.types.Contact.{Contact}
 use Rattle.claim_book.specs.declared.types.Setting.{Setting}
 use Rattle.claim_book.specs.declared.claim_map.Claims.{Claims}
 use Rattle.claim_book.specs.declared.types.Entry.{Entry}
-use Rattle.claim_book.specs.Hosts.{host}
+use Rattle.kad_base.specs.Hosts.{host}
 use Rattle.claim_book.specs.Crowded.{crowd}
 use Rattle.claim_book.specs.Index.{IsPaths}
 use Rattle.claim_book.specs.Claims.{shown_crowd, IsMap}

@@ -33,12 +33,12 @@ returns-in-Ok-closest-clause-ok g c =
 pub returns-in-Err-closest-clause-err : goal.returns-in-Err-closest-clause-err
 returns-in-Err-closest-clause-err g c =
     subst (λ (w : Wants). Fails g.H.Hold.does c.args.k c.args.at w c.args.hold.now c.closest-in-Ok-list.new.hold) (sym c.in-Peers.is)
-    (record { did = on_peers (List_call c.in-Peers.key c.args.at) (Listed c.in-Ok-list.list) ∷ on_table (Closest c.in-Peers.key c.args.k) NoMemory ∷ []; fails = inr (c.in-Ok-list.list, refl); run = (c.list.new.hold, c.in-Ok-list.ensures.ok, (c.closest-in-Ok-list.new.hold, c.in-Err-closest.ensures.err, refl)) })
+    (record { did = on_peers (List_call c.in-Peers.key c.args.at c.in-Peers.first) (Listed c.in-Ok-list.list) ∷ on_table (Closest c.in-Peers.key c.args.k) NoMemory ∷ []; fails = inr (c.in-Ok-list.list, refl); run = (c.list.new.hold, c.in-Ok-list.ensures.ok, (c.closest-in-Ok-list.new.hold, c.in-Err-closest.ensures.err, refl)) })
 
 pub returns-in-Err-list-clause-err : goal.returns-in-Err-list-clause-err
 returns-in-Err-list-clause-err g c =
     subst (λ (w : Wants). Fails g.H.Hold.does c.args.k c.args.at w c.args.hold.now c.list.new.hold) (sym c.in-Peers.is)
-    (record { did = on_peers (List_call c.in-Peers.key c.args.at) No_peer_memory ∷ []; fails = inl refl; run = (c.list.new.hold, c.in-Err-list.ensures.err, refl) })
+    (record { did = on_peers (List_call c.in-Peers.key c.args.at c.in-Peers.first) No_peer_memory ∷ []; fails = inl refl; run = (c.list.new.hold, c.in-Err-list.ensures.err, refl) })
 
 pub returns-in-Place-clause-ok : goal.returns-in-Place-clause-ok
 returns-in-Place-clause-ok g c =
@@ -53,12 +53,12 @@ returns-in-Place-clause-err g c =
 pub returns-in-Keep-clause-ok : goal.returns-in-Keep-clause-ok
 returns-in-Keep-clause-ok g c =
     subst (λ (w : Wants). IfOk c.keep.result (λ x. Gathers g.H.Hold.does c.args.k c.args.at w x c.args.hold.now c.keep.new.hold)) (sym c.in-Keep.is)
-    (ok_at c.keep.result (λ k x. Gathers g.H.Hold.does k c.args.at (Keep c.in-Keep.v) x c.args.hold.now c.keep.new.hold) c.args.k c.keep.ensures.ok)
+    (ok_at c.keep.result (λ k x. Gathers g.H.Hold.does k c.args.at (Keep c.in-Keep.v c.in-Keep.from) x c.args.hold.now c.keep.new.hold) c.args.k c.keep.ensures.ok)
 
 pub returns-in-Keep-clause-err : goal.returns-in-Keep-clause-err
 returns-in-Keep-clause-err g c =
     subst (λ (w : Wants). OnErr c.keep.result (Fails g.H.Hold.does c.args.k c.args.at w c.args.hold.now c.keep.new.hold)) (sym c.in-Keep.is)
-    (err_at c.keep.result (λ k. Fails g.H.Hold.does k c.args.at (Keep c.in-Keep.v) c.args.hold.now c.keep.new.hold) c.args.k c.keep.ensures.err)
+    (err_at c.keep.result (λ k. Fails g.H.Hold.does k c.args.at (Keep c.in-Keep.v c.in-Keep.from) c.args.hold.now c.keep.new.hold) c.args.k c.keep.ensures.err)
 
 pub returns-in-Ok-closest-2-clause-ok : goal.returns-in-Ok-closest-2-clause-ok
 returns-in-Ok-closest-2-clause-ok g c =

@@ -7,6 +7,9 @@ use Rattle.node_serve.proofs.gather.place.Goals as goal
 pub returns-in-Stored-clause-ok : goal.returns-in-Stored-clause-ok
 returns-in-Stored-clause-ok g c = λ k. record { fits = tt; run = (c.call_peers.new.self, c.in-Stored.ensures.does, refl) }
 
+pub returns-in-Crowded-clause-ok : goal.returns-in-Crowded-clause-ok
+returns-in-Crowded-clause-ok g c = λ k. record { fits = tt; run = (c.call_peers.new.self, c.in-Crowded.ensures.does, refl) }
+
 pub returns-in-Full-clause-ok : goal.returns-in-Full-clause-ok
 returns-in-Full-clause-ok g c = λ k. record { fits = tt; run = (c.call_peers.new.self, c.in-Full.ensures.does, refl) }
 

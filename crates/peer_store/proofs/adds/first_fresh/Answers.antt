@@ -5,4 +5,4 @@ use Rattle.peer_store.proofs.adds.first_fresh.Goals as goal
 
 pub returns-then-is_all_old : goal.returns-then-is_all_old
 returns-then-is_all_old c =
-    c.new.ensures ∙ sym (ap (λ (h : List Held). take max_listed (peers_of h)) (none_fresh c.args.adds.now c.args.key c.args.at (c.is_all_old.ensures c.if-is_all_old.true)))
+    c.new.ensures ∙ sym (ap (λ (h : List Held). take max_listed (peers_of h)) (none_fresh c.args.adds.now.held c.args.key c.args.at (c.is_all_old.ensures c.if-is_all_old.true)))

@@ -1,6 +1,6 @@
 use Rattle.std.proofs.Common.{subst, sym, arith}
 use Rattle.claim_book.specs.State.{BookState}
-use Rattle.claim_book.specs.Hosts.{host}
+use Rattle.kad_base.specs.Hosts.{host}
 use Rattle.claim_book.specs.Crowded.{IsCrowded}
 use Rattle.claim_book.proofs.state.Book.is_crowded.Goals as goal
 

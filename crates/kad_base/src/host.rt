@@ -1,8 +1,8 @@
 //! Whose an address is, where contacts are limited by it.
 ghost use Rattle.std.specs.Prelude.{◌≡◌, take};
-ghost use Rattle.claim_book.specs.Hosts.{host};
+ghost use Rattle.kad_base.specs.Hosts.{host};
 
-use kad_base::{Addr, Ip};
+use crate::types::{Addr, Ip};
 
 /// Whom an address stands for where a limit counts contacts: its IPv4 address, or the first 64 bits of its IPv6 address,
 /// since who has one address of a /64 has all of them (RFC 4291, section 2.5.1). Ports make no difference. An IPv6 address

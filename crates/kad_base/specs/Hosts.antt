@@ -6,9 +6,9 @@ use Rattle.kad_base.specs.declared.types.Ip.{Ip}
 use Rattle.kad_base.specs.declared.types.Ip.TheVariants.{V4, V6}
 use Rattle.kad_base.specs.declared.types.Addr.{Addr}
 use Rattle.kad_base.specs.declared.types.Contact.{Contact}
-use Rattle.claim_book.specs.declared.host.Host.{Host}
-use Rattle.claim_book.specs.declared.host.Host.TheVariants.{V4 as Host_four, V6 as Host_six}
-use Rattle.claim_book.specs.contracts.host.HostPartialEq.TheImpl as host_eq
+use Rattle.kad_base.specs.declared.host.Host.{Host}
+use Rattle.kad_base.specs.declared.host.Host.TheVariants.{V4 as Host_four, V6 as Host_six}
+use Rattle.kad_base.specs.contracts.host.HostPartialEq.TheImpl as host_eq
 
 -- an IPv4 address, or the first 64 bits of one of IPv6
 abbrev pub host_in : Ip → Host
