@@ -8,7 +8,7 @@ use Rattle.kad_base.specs.declared.types.Report.{Report}
 use Rattle.kad_base.specs.Outside.{Grows, Happens}
 use Rattle.kad_base.proofs.Grown.{grows_then, grows_weaker}
 use Rattle.contact_table.specs.TableState.{TableState}
-use Rattle.node_tokens.specs.Tokens.{TokensState}
+use Rattle.node_tokens.specs.Tokens.{TokensState, tokens_by}
 use Rattle.node_serve.specs.declared.lasting.Lasting.{Lasting}
 use Rattle.node_serve.specs.declared.service.ServeFault.{ServeFault}
 use Rattle.node_serve.specs.declared.service.ServeFault.TheVariants.{NoMemory}
@@ -32,7 +32,7 @@ abbrev setting_by : ServeWords → List Report → Id → TokensState → ServeS
 setting_by service proofs own tokens = record { own = own; k = service.k; policy = service.policy; proofs = proofs; tokens = tokens; sealed = service.sealed }
 
 -- what the workers answer by, as the code has it
-pub setting_is : (service : ServeWords) (random : List ℕ) (proofs : List Report) (own : Id) (tokens : TokensState) → own ≡ own_of service.own random → tokens ≡ record { seed = random; began = 0 }
+pub setting_is : (service : ServeWords) (random : List ℕ) (proofs : List Report) (own : Id) (tokens : TokensState) → own ≡ own_of service.own random → tokens ≡ tokens_by random 0 service.per_address
     → record { own = own; k = service.k; policy = service.policy; proofs = proofs; tokens = tokens; sealed = service.sealed } ≡ setting_of service random proofs
 setting_is service random proofs own tokens mine drawn =
     ap (λ (id : Id). setting_by service proofs id tokens) mine ∙ ap (λ (t : TokensState). setting_by service proofs (own_of service.own random) t) drawn

@@ -26,7 +26,7 @@ use Rattle.lookup_run.specs.Lookup.{TableTold}
 use Rattle.node_serve.specs.Calls.{IsSetting}
 use Rattle.node_serve.specs.declared.lasting.Lasting.{Lasting}
 use Rattle.node_serve.specs.declared.setting.ServeSetting.{ServeSetting}
-use Rattle.node_tokens.specs.Tokens.{TokensState}
+use Rattle.node_tokens.specs.Tokens.{TokensState, tokens_by}
 use Rattle.look_many.specs.ManyLooked.{CountsUnsent, IsFound, IsWithinLimits, ManyLooked, ManyStopped, journals_of, setting_for}
 use Rattle.look_many.specs.declared.found.Many.{Many}
 use Rattle.look_many.specs.declared.found.ManySetting.{ManySetting}
@@ -201,7 +201,7 @@ unnamed look random source other h = h
 abbrev server_by : LookWords → List Report → Id → TokensState → ServeSetting
 server_by look proofs own tokens = record { own = own; k = look.k; policy = look.policy; proofs = proofs; tokens = tokens; sealed = look.sealed }
 
-pub server_is : (look : LookWords) (random : List ℕ) (proofs : List Report) (own : Id) (tokens : TokensState) → own ≡ own_of look.own random → tokens ≡ record { seed = random; began = 0 }
+pub server_is : (look : LookWords) (random : List ℕ) (proofs : List Report) (own : Id) (tokens : TokensState) → own ≡ own_of look.own random → tokens ≡ tokens_by random 0 look.per_address
     → record { own = own; k = look.k; policy = look.policy; proofs = proofs; tokens = tokens; sealed = look.sealed } ≡ server_of look random proofs
 server_is look random proofs own tokens mine drawn =
     ap (λ (id : Id). server_by look proofs id tokens) mine ∙ ap (λ (t : TokensState). server_by look proofs (own_of look.own random) t) drawn
@@ -209,7 +209,7 @@ server_is look random proofs own tokens mine drawn =
 pub is_setting : (look : LookWords) (proofs : List Report) (own : Id) (tokens : TokensState) → IsInRange look → All (Passes look.policy) proofs → IsSetting (record { own = own; k = look.k; policy = look.policy; proofs = proofs; tokens = tokens; sealed = look.sealed })
 is_setting look proofs own tokens range pass = record { some_nodes = range.some_live; few_nodes = range.few_live; proofs = pass }
 
-pub within_each : (look : LookWords) → IsInRange look → IsWithinLimits (record { paths = look.paths; alpha = look.alpha; timeout = look.timeout })
+pub within_each : (look : LookWords) → IsInRange look → IsWithinLimits (record { paths = look.paths; alpha = look.alpha; timeout = look.timeout; per_address = look.per_address })
 within_each look range = record { some_path = range.some_path; few_paths = range.few_paths; some_query = range.some_query; few_queries = range.few_queries }
 
 module _ (look : LookWords) (lasting : Lasting) (called : Called) (targets : List Id) (table : TableState) (proofs : List Report) (link : Shown Event) (server : ServeSetting) (words : WordsState)
