@@ -16,19 +16,20 @@ use Rattle.lookup_core.specs.declared.quest.AskKind.{AskKind}
 use Rattle.claim_book.specs.declared.types.Entry.{Entry}
 use Rattle.claim_book.specs.Result.{result_of}
 use Rattle.lookup_run.specs.declared.types.Outcome.{Outcome}
-use Rattle.lookup_run.specs.declared.types.Token.{Token}
+use Rattle.lookup_core.specs.declared.gather.Token.{Token}
 use Rattle.kad_krpc.specs.declared.message.Ask.{Ask}
 use Rattle.lookup_run.specs.Tells.{Given, EndsAtStray, NeverEnds}
 use Rattle.kad_words.specs.declared.command.LookWords.{LookWords}
 use Rattle.lookup_commands.specs.declared.run_lookup.Reached.{Reached}
-use Rattle.lookup_commands.specs.Announced.{Announcement, announcements, tried, asking, Announces, AnnouncesSome}
+use Rattle.follow_ups.specs.declared.announce.Announcement.{Announcement}
+use Rattle.follow_ups.specs.Announced.{announcements, tried, asking, Announces, AnnouncesSome}
 use Rattle.lookup_commands.specs.Followed.{Owing, chosen, owed_by, next_place, TellsThen, TellsSomeThen, AnnouncedSome}
 use Rattle.lookup_commands.specs.Looked.{NeverInStrays}
 use Rattle.command_base.specs.Shown.{Shown}
 use Rattle.command_base.specs.Started.{own_of, book_of, lookup_of}
 use Rattle.lookup_commands.specs.Reached.{HasRunOut, Reaches}
 use Rattle.lookup_commands.specs.Spread.{followed, spread_over, IsSpread}
-use Rattle.lookup_commands.proofs.Announcing.{Sends}
+use Rattle.follow_ups.proofs.Announcing.{Sends}
 use Rattle.lookup_commands.proofs.Spreading.{spread_is}
 use Rattle.command_base.specs.Called.{Called}
 
@@ -54,16 +55,16 @@ record LastTried (events : List Event) : Type 0 where
   pub bytes : List ℕ
   pub is : events ≡ front ++ tried was_sent to bytes ∷ []
 
-last_tried : (seed : List ℕ) (place : ℕ) (a : Announcement) (rest : List Announcement) (events : List Event) → Announces seed place (a ∷ rest) events → LastTried events
+last_tried : (seed : List ℕ) (place : ℕ) (a : Announcement) (rest : List Announcement) (events : List Event) → Announces true seed place (a ∷ rest) events → LastTried events
 last_tried seed place a [] events h =
-    let e : Event = tried h.0 a.to (asking (word seed place) a.ask) in
-    record { front = []; was_sent = h.0; to = a.to; bytes = asking (word seed place) a.ask; is = h.2 ∙ ap (λ (l : List Event). e ∷ l) h.3 }
+    let e : Event = tried h.0 a.to (asking true (word seed place) a.ask) in
+    record { front = []; was_sent = h.0; to = a.to; bytes = asking true (word seed place) a.ask; is = h.2 ∙ ap (λ (l : List Event). e ∷ l) h.3 }
 last_tried seed place a (b ∷ rest) events h =
-    let e : Event = tried h.0 a.to (asking (word seed place) a.ask) in
+    let e : Event = tried h.0 a.to (asking true (word seed place) a.ask) in
     let later = last_tried seed (place + 1) b rest h.1 h.3 in
     record { front = e ∷ later.front; was_sent = later.was_sent; to = later.to; bytes = later.bytes; is = h.2 ∙ ap (λ (l : List Event). e ∷ l) later.is }
 
-no_stray_after : (g : Given) (seed : List ℕ) (place : ℕ) (all : List Announcement) (es fs : List Event) (n : ℕ) → Announces seed place all fs → NeverEnds g n es → NeverEnds g n (es ++ fs)
+no_stray_after : (g : Given) (seed : List ℕ) (place : ℕ) (all : List Announcement) (es fs : List Event) (n : ℕ) → Announces true seed place all fs → NeverEnds g n es → NeverEnds g n (es ++ fs)
 no_stray_after g seed place [] es fs n h never J ends =
     let same : es ++ fs ≡ es = ap (λ (l : List Event). es ++ l) h ∙ append-nil es in
     never J (subst (λ (l : List Event). EndsAtStray g J l n) same ends)
@@ -111,10 +112,10 @@ module _ (kind : AskKind) (look : LookWords) (spread : Bool) (owing : Owing) (ca
   -- all of it was said
   pub then_at : (before middle after : Option (List Event)) (f f' s s' : ℕ) (r : Reached) (n : ℕ)
       → Reaches kind look called source (record { before = before; after = middle; faults = f; faults' = f'; sends = s; sends' = s' }) r
-      → Grows middle after (Sends r.words.seed r.words.place (owes r) n) → Grows before after (TellsThen kind look spread owing called r.outcome.journal r.outcome.peers n)
+      → Grows middle after (Sends true r.words.seed r.words.place (owes r) n) → Grows before after (TellsThen kind look spread owing called r.outcome.journal r.outcome.peers n)
   then_at before middle after f f' s s' r n h sends =
       let o = r.outcome in
-      let all = in_terms (record { before = before; after = middle; faults = f; faults' = f'; sends = s; sends' = s' }) r (λ seed place owed_. Grows middle after (Sends seed place owed_ n)) h sends in
+      let all = in_terms (record { before = before; after = middle; faults = f; faults' = f'; sends = s; sends' = s' }) r (λ seed place owed_. Grows middle after (Sends true seed place owed_ n)) h sends in
       grows_then before middle after _ _ (TellsThen kind look spread owing called o.journal o.peers n) h.tells all
       (λ es fs t a. record { lookup = es; then = fs; whole = refl; tokens = o.tokens; items = o.items; tells = t; announces = a.0; counts = a.1 })
 
@@ -129,11 +130,11 @@ module _ (kind : AskKind) (look : LookWords) (spread : Bool) (owing : Owing) (ca
   -- a front of it was said
   pub announced_some : (before middle after : Option (List Event)) (f f' f'' s s' s'' : ℕ) (r : Reached)
       → Reaches kind look called source (record { before = before; after = middle; faults = f; faults' = f'; sends = s; sends' = s' }) r
-      → s' ≤ s'' → Grows middle after (AnnouncesSome r.words.seed r.words.place (owes r))
+      → s' ≤ s'' → Grows middle after (AnnouncesSome true r.words.seed r.words.place (owes r))
       → AnnouncedSome kind look spread owing called source (record { before = before; after = after; faults = f; faults' = f''; sends = s; sends' = s'' })
   announced_some before middle after f f' f'' s s' s'' r h later some_ =
       let o = r.outcome in
-      let all = in_terms (record { before = before; after = middle; faults = f; faults' = f'; sends = s; sends' = s' }) r (λ seed place owed_. Grows middle after (AnnouncesSome seed place owed_)) h some_ in
+      let all = in_terms (record { before = before; after = middle; faults = f; faults' = f'; sends = s; sends' = s' }) r (λ seed place owed_. Grows middle after (AnnouncesSome true seed place owed_)) h some_ in
       record {
         journal = o.journal;
         ran = h.ran;
@@ -143,8 +144,8 @@ module _ (kind : AskKind) (look : LookWords) (spread : Bool) (owing : Owing) (ca
       }
 
 -- all of it is a front of it
-pub all_some : (seed : List ℕ) (place : ℕ) (all : List Announcement) (n : ℕ) (a b : Option (List Event)) → Grows a b (Sends seed place all n) → Grows a b (AnnouncesSome seed place all)
-all_some seed place all n a b g = grows_weaker a b _ _ g (λ es h. (length all, subst (λ (l : List Announcement). Announces seed place l es) (sym (take-length all)) h.0))
+pub all_some : (seed : List ℕ) (place : ℕ) (all : List Announcement) (n : ℕ) (a b : Option (List Event)) → Grows a b (Sends true seed place all n) → Grows a b (AnnouncesSome true seed place all)
+all_some seed place all n a b g = grows_weaker a b _ _ g (λ es h. (length all, subst (λ (l : List Announcement). Announces true seed place l es) (sym (take-length all)) h.0))
 
 -- a lookup that has run out may be spread over its paths
 pub spreads_out : (kind : AskKind) (look : LookWords) (random : List ℕ) (source : Shown ℕ) (J : List Entry) → HasRunOut kind look random source J → IsSpread (book_of kind look random) J

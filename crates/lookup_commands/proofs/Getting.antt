@@ -10,7 +10,7 @@ use Rattle.kad_base.proofs.Grown.{grows_weaker}
 use Rattle.claim_book.specs.Journal.{failed, asked}
 use Rattle.claim_book.specs.Result.{result_of}
 use Rattle.lookup_core.specs.declared.quest.AskKind.TheVariants.{GetItem}
-use Rattle.lookup_run.specs.declared.types.Item.{Item}
+use Rattle.lookup_core.specs.declared.gather.Item.{Item}
 use Rattle.lookup_run.specs.declared.types.Outcome.{Outcome}
 use Rattle.kad_words.specs.declared.command.LookWords.{LookWords}
 use Rattle.lookup_commands.specs.declared.run_lookup.Reached.{Reached}

@@ -1,4 +1,3 @@
-pub mod Announcing
 pub mod Begun
 pub mod LastStray
 pub mod Following

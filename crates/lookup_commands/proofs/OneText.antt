@@ -19,9 +19,9 @@ use Rattle.claim_book.specs.Legal.{Legal}
 use Rattle.claim_book.specs.Result.{result_of}
 use Rattle.lookup_core.specs.declared.quest.AskKind.{AskKind}
 use Rattle.lookup_core.specs.declared.quest.AskKind.TheVariants.{GetPeers, GetItem}
-use Rattle.lookup_run.specs.declared.types.Item.{Item}
+use Rattle.lookup_core.specs.declared.gather.Item.{Item}
 use Rattle.lookup_run.specs.Tells.{Given, Tells}
-use Rattle.lookup_run.specs.Rounds.{Scheduling, Rounds, sequential, scheduling_by}
+use Rattle.lookup_run.specs.Rounds.{Rounds, sequential, scheduling_by}
 use Rattle.lookup_run.specs.Gathered.{Gathers}
 use Rattle.lookup_run.specs.Lookup.{seeds_dealt}
 use Rattle.lookup_run.proofs.Once.{rounds_once}
@@ -36,13 +36,13 @@ use Rattle.command_base.specs.Started.{own_of, look_of, book_of, lookup_of, seen
 use Rattle.command_base.proofs.Exactly.{admits_once}
 use Rattle.command_base.proofs.OneTable.{new_once}
 use Rattle.command_base.proofs.Repeated.{input_once, added_once}
-use Rattle.lookup_commands.specs.Announced.{sent_in}
+use Rattle.follow_ups.specs.Announced.{sent_in}
 use Rattle.lookup_commands.specs.Followed.{Owing, TellsThen}
-use Rattle.lookup_commands.specs.Got.{GetText, IsFirst, IsGot, IsItemOf}
+use Rattle.lookup_commands.specs.Got.{GetText, IsGot, IsItemOf}
 use Rattle.lookup_commands.specs.Looked.{LookupText}
 use Rattle.lookup_commands.specs.Peered.{PeersText, announcing_to}
 use Rattle.lookup_commands.specs.Printed.{printed_item, printed_peers, printed_stored}
-use Rattle.lookup_commands.specs.Reached.{HasRunOut, TellsAll}
+use Rattle.lookup_commands.specs.Reached.{HasRunOut}
 use Rattle.lookup_commands.specs.Stored.{PutText, putting_to}
 
 -- ---- where it begins

@@ -5,7 +5,7 @@ use Rattle.std.proofs.lemmas.List.{append_assoc, append-nil, take_all, take_more
 use Rattle.std.proofs.lemmas.Grind.{flat_map-append}
 use Rattle.kad_base.specs.declared.types.Addr.{Addr}
 use Rattle.kad_text.specs.Text.{addr_text}
-use Rattle.command_base.specs.Printed.{counts_text, line_of, printed}
+use Rattle.command_base.specs.Printed.{counts_text, line_of}
 use Rattle.lookup_commands.specs.Printed.{peers_text, printed_peers}
 
 pub peers_pieces : (peers found asked failed turned announced : ℕ) (counts : List ℕ) → counts ≡ counts_text found asked failed turned

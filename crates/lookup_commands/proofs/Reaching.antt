@@ -18,7 +18,8 @@ use Rattle.lookup_core.specs.Sealed.{Accepts}
 use Rattle.lookup_run.specs.Tells.{Given, Tells, HasFewStrays, NeverEnds}
 use Rattle.lookup_run.specs.Rounds.{Scheduling, Rounds, scheduling_by}
 use Rattle.std.specs.List.Sorted.{IsStrictlySortedBy}
-use Rattle.lookup_run.specs.Gathered.{Gathers, addr_cmp}
+use Rattle.lookup_core.specs.Gathered.{addr_cmp}
+use Rattle.lookup_run.specs.Gathered.{Gathers}
 use Rattle.lookup_run.specs.Lookup.{given_of, Finished, TellsEarly}
 use Rattle.lookup_core.specs.SendFaults.{RefusedIn}
 use Rattle.kad_words.specs.declared.command.LookWords.{LookWords}

@@ -1,5 +1,5 @@
 -- From a lookup of an item's key, and the puts after it, to what `put` promises.
-use Rattle.std.proofs.Common.{◌≡◌, ℕ, ◌≤◌, List, length, Option, Bool, Result, Ok, Err, IfOk, IfErr, ap, subst, ◌∙◌}
+use Rattle.std.proofs.Common.{◌≡◌, ℕ, ◌≤◌, List, length, Option, Bool, true, Result, Ok, Err, IfOk, IfErr, ap, ◌∙◌}
 use Rattle.kad_base.specs.declared.types.Contact.{Contact}
 use Rattle.kad_base.specs.declared.types.Event.{Event}
 use Rattle.kad_base.specs.declared.types.Id.{Id}
@@ -9,10 +9,7 @@ use Rattle.claim_book.specs.Journal.{failed, asked}
 use Rattle.claim_book.specs.Result.{result_of}
 use Rattle.item_store.specs.Items.{IsItem}
 use Rattle.lookup_core.specs.declared.quest.AskKind.TheVariants.{GetItem}
-use Rattle.kad_krpc.specs.declared.message.Ask.{Ask}
-use Rattle.lookup_run.specs.declared.types.Token.{Token}
 use Rattle.kad_words.specs.declared.command.LookWords.{LookWords}
-use Rattle.lookup_commands.specs.Announced.{Announcement, announcements}
 use Rattle.lookup_commands.specs.declared.run_lookup.Reached.{Reached}
 use Rattle.command_base.specs.declared.status.Status.{Status}
 use Rattle.command_base.specs.declared.status.Status.TheVariants.{BadValue, NoMemory}
@@ -24,7 +21,7 @@ use Rattle.lookup_commands.specs.Printed.{printed_stored}
 use Rattle.lookup_commands.specs.Reached.{Reaches}
 use Rattle.command_base.specs.Shown.{Shown}
 use Rattle.command_base.specs.Started.{book_of}
-use Rattle.lookup_commands.proofs.Announcing.{Sends}
+use Rattle.follow_ups.proofs.Announcing.{Sends}
 use Rattle.lookup_commands.proofs.Following.{owes, never_then, spreads_out, then_at}
 
 pub printed_same : (key : Id) (found many asked_ failed_ turned_ stored : ℕ) (text : List ℕ) → text ≡ printed_stored key many asked_ failed_ turned_ stored → many ≡ found → text ≡ printed_stored key found asked_ failed_ turned_ stored
@@ -32,7 +29,7 @@ printed_same key found many asked_ failed_ turned_ stored text is e = is ∙ ap 
 
 pub puts_at : (look : LookWords) (item : List ℕ) (spread : Bool) (called : Called) (source : Shown ℕ) (before middle after : Option (List Event)) (f f' f'' s s' s'' : ℕ) (r : Reached) (n : ℕ) (text : List ℕ)
     → Reaches GetItem look called source (record { before = before; after = middle; faults = f; faults' = f'; sends = s; sends' = s' }) r
-    → s' ≤ s'' → Grows middle after (Sends r.words.seed r.words.place (owes GetItem look spread (putting_to item) called source r) n)
+    → s' ≤ s'' → Grows middle after (Sends true r.words.seed r.words.place (owes GetItem look spread (putting_to item) called source r) n)
     → text ≡ printed_stored look.target (length r.outcome.found) r.outcome.counts.asked r.outcome.counts.failed r.outcome.counts.turned n
     → PutText look item spread called source (record { before = before; after = after; faults = f; faults' = f''; sends = s; sends' = s'' }) text
 puts_at look item spread called source before middle after f f' f'' s s' s'' r n text h later sends is =

@@ -9,13 +9,14 @@ use Rattle.kad_base.specs.Outside.{Grows}
 use Rattle.claim_book.specs.declared.types.Entry.{Entry}
 use Rattle.claim_book.specs.Journal.{asked}
 use Rattle.lookup_core.specs.declared.quest.AskKind.{AskKind}
-use Rattle.lookup_run.specs.declared.types.Item.{Item}
+use Rattle.lookup_core.specs.declared.gather.Item.{Item}
 use Rattle.lookup_run.specs.declared.types.Outcome.{Outcome}
-use Rattle.lookup_run.specs.declared.types.Token.{Token}
+use Rattle.lookup_core.specs.declared.gather.Token.{Token}
 use Rattle.lookup_run.specs.Rounds.{scheduling_by}
 use Rattle.lookup_core.specs.SendFaults.{RefusedIn}
 use Rattle.kad_words.specs.declared.command.LookWords.{LookWords}
-use Rattle.lookup_commands.specs.Announced.{Announcement, Announces, AnnouncesSome, sent_in}
+use Rattle.follow_ups.specs.declared.announce.Announcement.{Announcement}
+use Rattle.follow_ups.specs.Announced.{Announces, AnnouncesSome, sent_in}
 use Rattle.command_base.specs.Called.{Called}
 use Rattle.lookup_commands.specs.Reached.{HasRunOut, TellsAll}
 use Rattle.lookup_commands.specs.Spread.{followed, spread_over}
@@ -53,7 +54,7 @@ pub record TellsThen (kind : AskKind) (look : LookWords) (spread : Bool) (owing 
   pub tokens : List Token
   pub items : List Item
   pub tells : TellsAll (scheduling_by called.slow) (lookup_of kind look called) J peers tokens items lookup
-  pub announces : Announces called.random (next_place called.random J) (owed_by kind look spread owing called.random J tokens) then
+  pub announces : Announces true called.random (next_place called.random J) (owed_by kind look spread owing called.random J tokens) then
   pub counts : sent ≡ sent_in then
 
 -- first a whole lookup, and then a front of what is owed
@@ -65,7 +66,7 @@ pub record TellsSomeThen (kind : AskKind) (look : LookWords) (spread : Bool) (ow
   pub tokens : List Token
   pub items : List Item
   pub tells : TellsAll (scheduling_by called.slow) (lookup_of kind look called) J peers tokens items lookup
-  pub announces : AnnouncesSome called.random (next_place called.random J) (owed_by kind look spread owing called.random J tokens) then
+  pub announces : AnnouncesSome true called.random (next_place called.random J) (owed_by kind look spread owing called.random J tokens) then
 
 -- a lookup that has run out, after which not all that is owed was said
 pub record AnnouncedSome (kind : AskKind) (look : LookWords) (spread : Bool) (owing : Owing) (called : Called) (source : Shown ℕ) (link : Shown Event) : Type 0 where

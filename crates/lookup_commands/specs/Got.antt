@@ -12,9 +12,9 @@ use Rattle.claim_book.specs.Journal.{asked, failed, turned}
 use Rattle.claim_book.specs.Result.{result_of}
 use Rattle.item_store.specs.Items.{key_of, max_length}
 use Rattle.lookup_core.specs.declared.quest.AskKind.TheVariants.{GetItem}
-use Rattle.lookup_run.specs.declared.types.Item.{Item}
+use Rattle.lookup_core.specs.declared.gather.Item.{Item}
 use Rattle.lookup_run.specs.declared.types.Outcome.{Outcome}
-use Rattle.lookup_run.specs.declared.types.Token.{Token}
+use Rattle.lookup_core.specs.declared.gather.Token.{Token}
 use Rattle.lookup_run.specs.Rounds.{Scheduling, scheduling_by}
 use Rattle.lookup_core.specs.SendFaults.{RefusedIn}
 use Rattle.lookup_run.specs.Tells.{Given}

@@ -1,4 +1,3 @@
-pub mod Announced
 pub mod Got
 pub mod Peered
 pub mod Stored

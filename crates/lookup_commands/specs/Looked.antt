@@ -23,7 +23,7 @@ use Rattle.lookup_core.specs.SendFaults.{RefusedIn}
 use Rattle.kad_words.specs.declared.command.LookWords.{LookWords}
 use Rattle.command_base.specs.declared.status.Status.{Status}
 use Rattle.command_base.specs.declared.status.Status.TheVariants.{LinkFault, Strays, NoSeeds}
-use Rattle.command_base.specs.Printed.{printed, printed_of}
+use Rattle.command_base.specs.Printed.{printed_of}
 use Rattle.command_base.specs.Shown.{Shown, IsTold, HasFailed}
 use Rattle.command_base.specs.Called.{Called}
 use Rattle.command_base.specs.Input.{Reads, ReadsSome, AreGoodLines, IsBadContactLine}

@@ -10,9 +10,9 @@ use Rattle.claim_book.specs.declared.types.Entry.{Entry}
 use Rattle.claim_book.specs.Journal.{asked, failed, turned}
 use Rattle.claim_book.specs.Result.{result_of}
 use Rattle.lookup_core.specs.declared.quest.AskKind.TheVariants.{GetPeers}
-use Rattle.lookup_run.specs.Gathered.{addr_cmp}
+use Rattle.lookup_core.specs.Gathered.{addr_cmp}
 use Rattle.kad_words.specs.declared.command.LookWords.{LookWords}
-use Rattle.lookup_commands.specs.Announced.{owed}
+use Rattle.follow_ups.specs.Announced.{owed}
 use Rattle.lookup_commands.specs.Followed.{AnnouncedSome, Owing, RefusedFirst, TellsThen}
 use Rattle.lookup_commands.specs.Looked.{LookupBegun, NeverInStrays, seek_aim}
 use Rattle.lookup_commands.specs.Printed.{printed_peers}

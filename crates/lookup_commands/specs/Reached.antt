@@ -18,11 +18,12 @@ use Rattle.claim_book.specs.Result.{result_of}
 use Rattle.claim_book.specs.Lineage.{GoesByOwnAnswers}
 use Rattle.claim_book.specs.Calls.{Counted}
 use Rattle.lookup_core.specs.declared.quest.AskKind.{AskKind}
-use Rattle.lookup_run.specs.declared.types.Item.{Item}
-use Rattle.lookup_run.specs.declared.types.Token.{Token}
+use Rattle.lookup_core.specs.declared.gather.Item.{Item}
+use Rattle.lookup_core.specs.declared.gather.Token.{Token}
 use Rattle.lookup_run.specs.Tells.{Given, Tells, HasFewStrays, NeverEnds}
 use Rattle.lookup_run.specs.Rounds.{Scheduling, Rounds, scheduling_by}
-use Rattle.lookup_run.specs.Gathered.{Gathers, addr_cmp}
+use Rattle.lookup_core.specs.Gathered.{addr_cmp}
+use Rattle.lookup_run.specs.Gathered.{Gathers}
 use Rattle.lookup_run.specs.Lookup.{seeds_dealt, drawn_for}
 use Rattle.lookup_core.specs.SendFaults.{RefusedIn}
 use Rattle.kad_words.specs.declared.command.LookWords.{LookWords}

@@ -10,7 +10,7 @@ use Rattle.claim_book.specs.Result.{result_of}
 use Rattle.item_store.specs.Items.{IsItem}
 use Rattle.lookup_core.specs.declared.quest.AskKind.TheVariants.{GetItem}
 use Rattle.kad_words.specs.declared.command.LookWords.{LookWords}
-use Rattle.lookup_commands.specs.Announced.{announcements, putting}
+use Rattle.follow_ups.specs.Announced.{announcements, putting}
 use Rattle.command_base.specs.Called.{Called}
 use Rattle.lookup_commands.specs.Followed.{AnnouncedSome, Owing, RefusedFirst, TellsThen}
 use Rattle.lookup_commands.specs.Looked.{LookupBegun, NeverInStrays, seek_aim}

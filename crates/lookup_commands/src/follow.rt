@@ -1,12 +1,12 @@
 //! Follow-ups: what is said after a lookup, and to whom: the contacts of its result, or spread over its paths the k closest of
 //! each.
-ghost use Rattle.std.specs.Prelude.{◌≡◌, ◌≤◌, ◌<◌, ◌^◌, IfOk, OnErr};
+ghost use Rattle.std.specs.Prelude.{◌≡◌, ◌≤◌, ◌<◌, ◌^◌, true, IfOk, OnErr};
 ghost use Rattle.kad_base.specs.Outside.{Grows};
-ghost use Rattle.lookup_commands.specs.Announced.{asks_of, MaySay, announcements, Announces, AnnouncesSome, sent_in};
+ghost use Rattle.follow_ups.specs.Announced.{asks_of, MaySay, announcements, Announces, AnnouncesSome, sent_in};
 ghost use Rattle.lookup_commands.specs.Followed.{chosen};
 
-use crate::announce::{Said, announce};
 use crate::spread::spread_over;
+use follow_ups::announce::{Said, announce};
 use id_puzzles::Words;
 use kad_base::{Link, NoMemory};
 use kad_words::LookWords;
@@ -29,20 +29,28 @@ pub fn follow_up<L: Link>(
     ensures ok { let all = announcements (asks_of said.now)
         (chosen spread look.now outcome.now) outcome.now.tokens in
         IfOk result (λ sent. Grows (L.told link.old) (L.told link.new)
-        (λ es. Announces words.old.seed words.old.place all es × (sent ≡ sent_in es))) }
+        (λ es. Announces true words.old.seed words.old.place all es × (sent ≡ sent_in es))) }
     ensures err { let all = announcements (asks_of said.now)
         (chosen spread look.now outcome.now) outcome.now.tokens in
         OnErr result (Grows (L.told link.old) (L.told link.new)
-        (AnnouncesSome words.old.seed words.old.place all)) }
+        (AnnouncesSome true words.old.seed words.old.place all)) }
     ensures recv_faults { L.recv_faults link.new ≡ L.recv_faults link.old }
     ensures send_faults { L.send_faults link.old ≤ L.send_faults link.new }
     ensures kept { L.kept link.new ≡ L.kept link.old }
 {
     let tokens = outcome.tokens.as_slice();
     if !spread {
-        return announce(alloc, link, words, said, outcome.found.as_slice(), tokens);
+        return announce(
+            alloc,
+            link,
+            words,
+            said,
+            true,
+            outcome.found.as_slice(),
+            tokens,
+        );
     }
     let journal = outcome.journal.as_slice();
     let contacts = spread_over(alloc, &look.target, look.k, look.paths, journal)?;
-    announce(alloc, link, words, said, contacts.as_slice(), tokens)
+    announce(alloc, link, words, said, true, contacts.as_slice(), tokens)
 }

@@ -40,8 +40,8 @@ fn is_same(a: &Id, b: &Id) -> bool
     a == b
 }
 
-/// The first of what the contacts gave that is an item of the key.
-fn first_item<'a>(key: &Id, items: &'a [Item]) -> Option<&'a [u8]>
+/// The first of what the contacts gave that is an item of the key (BEP 44): `None` if none is. Takes no memory.
+pub fn first_item<'a>(key: &Id, items: &'a [Item]) -> Option<&'a [u8]>
     ensures { IsGot key.now items.now (option_copied result) }
 {
     for item in items {

@@ -2,7 +2,6 @@
 //! writes nothing yet.
 #![tactic(auto)]
 
-pub mod announce;
 pub mod follow;
 pub mod get;
 pub mod item;
@@ -13,5 +12,5 @@ pub mod put;
 pub mod run_lookup;
 pub mod spread;
 
-pub use announce::Said;
+pub use follow_ups::Said;
 pub use run_lookup::Reached;

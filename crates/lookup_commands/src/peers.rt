@@ -1,23 +1,23 @@
 //! The command `peers`: looks for peers of a key, makes the text of those that the answers named, and if it is told a
 //! port announces it to the contacts of the result, or spread over the paths to the k closest of each.
-ghost use Rattle.std.specs.Prelude.{◌≡◌, ◌≤◌, ◌<◌, ◌⊎◌, ◌^◌, IfOk, IfErr, OnErr, IsErrOf};
+ghost use Rattle.std.specs.Prelude.{◌≡◌, ◌≤◌, ◌<◌, ◌⊎◌, ◌^◌, true, IfOk, IfErr, OnErr, IsErrOf};
 ghost use Rattle.kad_base.specs.Failing.{FailsLast};
 ghost use Rattle.kad_base.specs.Outside.{Grows};
 ghost use Rattle.lookup_core.specs.declared.quest.AskKind.TheVariants.{GetPeers};
 ghost use Rattle.command_base.specs.Called.{called_with};
 ghost use Rattle.command_base.specs.Input.{ReadsAtMost};
-ghost use Rattle.lookup_commands.specs.Announced.{owed, Announces, AnnouncesSome, sent_in};
+ghost use Rattle.follow_ups.specs.Announced.{owed, Announces, AnnouncesSome, sent_in};
 ghost use Rattle.command_base.specs.Endings.{EndsUnasked, number_of};
 ghost use Rattle.lookup_commands.specs.Followed.{chosen};
 ghost use Rattle.lookup_commands.specs.Peered.{PeersText, PeersBegun, peers_promise};
 ghost use Rattle.command_base.specs.Started.{IsInRange};
 ghost use Rattle.command_base.specs.Shown.{shown, shown_link};
 
-use crate::announce::Said;
 use crate::follow::follow_up;
 use crate::printed::print_peers;
 use crate::run_lookup::{Reached, run_lookup};
 use command_base::{Call, Status};
+use follow_ups::announce::Said;
 use id_puzzles::Words;
 use kad_base::{Bytes, Id, Link, NoMemory, Source};
 use kad_words::LookWords;
@@ -43,11 +43,11 @@ fn announce_told<L: Link>(
     ensures ok { let all = owed port own look.now.target
         (chosen spread look.now outcome.now) outcome.now.tokens in
         IfOk result (λ sent. Grows (L.told link.old) (L.told link.new)
-        (λ es. Announces words.old.seed words.old.place all es × (sent ≡ sent_in es))) }
+        (λ es. Announces true words.old.seed words.old.place all es × (sent ≡ sent_in es))) }
     ensures err { let all = owed port own look.now.target
         (chosen spread look.now outcome.now) outcome.now.tokens in
         OnErr result (Grows (L.told link.old) (L.told link.new)
-        (AnnouncesSome words.old.seed words.old.place all)) }
+        (AnnouncesSome true words.old.seed words.old.place all)) }
     ensures send_faults { L.send_faults link.old ≤ L.send_faults link.new }
     ensures recv_faults { L.recv_faults link.new ≡ L.recv_faults link.old }
     ensures kept { L.kept link.new ≡ L.kept link.old }

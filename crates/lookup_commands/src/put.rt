@@ -12,12 +12,12 @@ ghost use Rattle.lookup_commands.specs.Looked.{LookupCause};
 ghost use Rattle.command_base.specs.Shown.{shown, shown_link};
 ghost use Rattle.command_base.specs.Started.{IsInRange};
 
-use crate::announce::Said;
 use crate::follow::follow_up;
 use crate::item::is_item;
 use crate::printed::print_stored;
 use crate::run_lookup::{Reached, run_lookup};
 use command_base::{Call, Status};
+use follow_ups::announce::Said;
 use kad_base::{Bytes, Link, NoMemory, Source};
 use kad_words::LookWords;
 use lookup_run::AskKind;

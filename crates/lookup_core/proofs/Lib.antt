@@ -15,3 +15,5 @@ pub mod Tags
 pub mod Waiting
 pub mod Seeds
 pub mod Refusing
+pub mod InOrder
+pub mod Gathering

@@ -8,3 +8,4 @@ pub mod Driven
 pub mod SendFaults
 pub mod Receiving
 pub mod LookupSteps
+pub mod Gathered

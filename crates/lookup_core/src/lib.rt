@@ -4,6 +4,7 @@
 
 mod ask;
 mod expire;
+mod gather;
 mod on_reply;
 mod quest;
 mod receiving;
@@ -13,6 +14,7 @@ mod state;
 mod unsettled;
 
 pub use ask::Asked;
+pub use gather::{Gathered, Item, ItemList, Token, Tokened, in_order, keep, nothing};
 pub use on_reply::{Answered, Taken};
 pub use quest::{AskKind, Quest};
 pub use receiving::{round_after, stray_more, wait_until};

@@ -36,14 +36,16 @@ use Rattle.lookup_run.specs.Tells.{Seen, driven, gives}
 use Rattle.lookup_run.specs.Rounds.{path_number, AllSettled, NoneAsks}
 use Rattle.lookup_run.specs.Lookup.{setting_of, given_of, drawn_for, IsWithinLimits, quest_of}
 use Rattle.lookup_core.specs.LookupSteps.{as_open, AsksNext, CanAsk, Holds}
-use Rattle.lookup_run.specs.inner.DriverInvariant.{IsBare, Keeps, HasWords, max_asks, weight_of, KeepsSeen}
+use Rattle.lookup_run.specs.inner.DriverInvariant.{Keeps, HasWords, max_asks, weight_of, KeepsSeen}
 use Rattle.lookup_run.specs.inner.RoundSteps.{Asks, AsksNone}
 use Rattle.lookup_run.proofs.Walking.{OneEvent, NextStep, along_next, along_later, table_same}
 use Rattle.lookup_core.proofs.Opening.{ask_counts, lost_counts}
 use Rattle.lookup_core.proofs.Opens.{opens_kept, each_asked, asker_new}
 use Rattle.lookup_core.proofs.Others.{none_after_ask, none_after_lost, settled_after_ask, settled_after_lost}
 use Rattle.lookup_core.proofs.Received.{query_back}
-use Rattle.lookup_run.proofs.Driven.{driven_more, keeps_none, map_push, all_push}
+use Rattle.lookup_core.specs.Gathered.{IsBare}
+use Rattle.lookup_core.proofs.Gathering.{keeps_none}
+use Rattle.lookup_run.proofs.Driven.{driven_more, map_push, all_push}
 use Rattle.lookup_core.specs.declared.state.Lookup.{Lookup}
 use Rattle.lookup_core.specs.declared.ask.Asked.{Asked}
 use Rattle.lookup_core.specs.Sealed.{Accepts}

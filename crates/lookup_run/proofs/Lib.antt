@@ -15,7 +15,6 @@ pub mod OnceCalls
 pub mod Expiring
 pub mod Matching
 pub mod Receiving
-pub mod InOrder
 pub mod Fewer
 pub mod Looking
 pub mod WholeRound

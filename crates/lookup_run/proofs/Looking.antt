@@ -1,6 +1,6 @@
 -- A lookup begins with the seeds of a table, and ends where every path has run out, or early.
 use Rattle.std.proofs.Common.{◌≡◌, ◌≢◌, ℕ, zero, suc, ◌+◌, ◌<◌, ◌≤◌, ◌^◌, List, [], ◌∷◌, ◌++◌, length, get_or, Option, true, false, Result, Ok, Err, IfOk, inl, inr, refl, sym, ap, subst, ◌∙◌, arith}
-use Rattle.std.specs.Prelude.{map, Contains, IsSome, IfErr}
+use Rattle.std.specs.Prelude.{map, IsSome, IfErr}
 use Rattle.std.specs.List.{All, AllByRecursion, flat_map}
 use Rattle.std.specs.List.Sorted.{IsStrictlySortedBy}
 use Rattle.std.proofs.lemmas.List.{append-nil}
@@ -38,26 +38,26 @@ use Rattle.claim_book.proofs.Ends.{over_or_ask}
 use Rattle.claim_book.proofs.Seeding.{AreSeeds, seeded_seeds, legal_seeded}
 use Rattle.lookup_core.specs.declared.quest.AskKind.TheVariants.{FindNode}
 use Rattle.lookup_run.specs.declared.types.LookSetting.{LookSetting}
-use Rattle.lookup_run.specs.declared.types.Gathered.{Gathered}
 use Rattle.lookup_run.specs.declared.types.Outcome.{Outcome}
 use Rattle.lookup_run.specs.declared.types.Progress.{Progress}
-use Rattle.lookup_run.specs.declared.types.Token.{Token}
-use Rattle.lookup_run.specs.declared.types.Item.{Item}
+use Rattle.lookup_core.specs.declared.gather.Token.{Token}
+use Rattle.lookup_core.specs.declared.gather.Item.{Item}
 use Rattle.lookup_run.specs.declared.types.LookupState.{LookupState}
 use Rattle.lookup_core.specs.Timeouts.{deadline_of}
 use Rattle.lookup_run.specs.Tells.{Given, Seen, driven, begun, Tells, HasFewStrays, NeverEnds}
 use Rattle.lookup_run.specs.Rounds.{Scheduling, SettlesIn, AllSettled, NoneAsks, RoundsFrom, Rounds}
 use Rattle.lookup_core.specs.Reply.{Answered}
-use Rattle.lookup_run.specs.Gathered.{HearsFrom, IsEachOnce, GathersOf, Gathers}
+use Rattle.lookup_core.specs.Gathered.{IsEachOnce}
+use Rattle.lookup_core.proofs.Gathering.{begun_keeping, each_of_none, gathers_of}
+use Rattle.lookup_run.specs.Gathered.{HearsFrom, Gathers}
 use Rattle.lookup_run.specs.Lookup.{setting_of, given_of, seeds_in, seeds_dealt, drawn_for, IsWithinLimits, told_of, table_calls, Finished, Unfinished, TableTold, TableToldBy}
 use Rattle.lookup_core.specs.LookupSteps.{as_open}
-use Rattle.lookup_run.specs.inner.DriverInvariant.{Keeps, Walk, Keeping, TraceInvariant}
+use Rattle.lookup_run.specs.inner.DriverInvariant.{Keeps, Walk, TraceInvariant}
 use Rattle.lookup_run.specs.inner.RoundSteps.{Begins, IsOver, IsDone, IsBookOf, asks_seeds, IsBegun, Ended}
 use Rattle.lookup_run.proofs.Early.{so_far_of, early_now, ran_of}
 use Rattle.lookup_run.proofs.Fewer.{few_told, never_told}
 use Rattle.lookup_run.proofs.Walking.{told_in_any}
-use Rattle.lookup_core.specs.declared.quest.AskKind.{AskKind}
-use Rattle.lookup_core.specs.declared.quest.AskKind.TheVariants.{FindNode, GetPeers, GetItem}
+use Rattle.lookup_core.specs.declared.quest.AskKind.TheVariants.{FindNode}
 use Rattle.lookup_core.proofs.Refusing.{refused_seeded}
 use Rattle.lookup_core.specs.Sealed.{Accepts}
 use Rattle.lookup_core.proofs.Others.{none_on}
@@ -105,11 +105,6 @@ begins_of look words table table' book moment work told told' o =
       round_over = ap (λ (x : Progress). x.receives) progress;
       settled = λ p lt. ap (unsettled p) journal ∙ seeds_settled p look.per_address look.paths (seeds_in look table);
     }
-
-begun_keeping : (kind : AskKind) (g : Gathered) → g.peers ≡ [] → g.tokens ≡ [] → g.items ≡ [] → Keeping kind [] g
-begun_keeping FindNode g p t i = (p, t, i)
-begun_keeping GetPeers g p t i = (p, t, i)
-begun_keeping GetItem g p t i = (p, t, i)
 
 pub along_of : (scheduling : Scheduling) (look : LookSetting) (accepts : Accepts) (words : WordsState) (table table' : TableState) (book : BookState) (moment : ℕ) (work : LookupState) (told told' : Option (List Event)) → Opening look words table table' book moment work told told' → TraceInvariant scheduling look accepts words table told words work look.paths 0 told'
 along_of scheduling look accepts words table table' book moment work told told' o =
@@ -216,15 +211,6 @@ all_over scheduling look accepts words words' old new told told' limits over leg
       | inl o ↦ o
       | inr some ↦ (let no_one : false ≡ true = subst IsSome (over.none_asks p less) some in absurd cc)
     ])
-
-each_of_none : (xs ys : List Addr) → xs ≡ [] → IsEachOnce xs ys → ys ≡ []
-each_of_none xs [] none h = refl
-each_of_none xs (y ∷ ys) none h = (let has = subst (λ l. Contains l y) none ((h.same y).0 (0, omega arith, refl)) in let lt = has.1 in absurd (omega (arith, lt)))
-
-gathers_of : (kind : AskKind) (heard : List Answered) (g : Gathered) (peers : List Addr) (tokens : List Token) (items : List Item) → Keeping kind heard g → IsEachOnce g.peers peers → tokens ≡ g.tokens → items ≡ g.items → GathersOf kind heard peers tokens items
-gathers_of FindNode heard g peers tokens items h once is are = (each_of_none g.peers peers h.0 once, is ∙ h.1, are ∙ h.2)
-gathers_of GetPeers heard g peers tokens items h once is are = (subst (λ l. IsEachOnce l peers) h.0 once, is ∙ h.1, are ∙ h.2)
-gathers_of GetItem heard g peers tokens items h once is are = (each_of_none g.peers peers h.0 once, is ∙ h.1, are ∙ h.2)
 
 -- where contacts alone are asked for, there is nothing else
 pub none_gathered : (look : LookSetting) (work : LookupState) (peers : List Addr) (tokens : List Token) (items : List Item) → Keeps look work → IsEachOnce work.gathered.peers peers → tokens ≡ work.gathered.tokens → items ≡ work.gathered.items → look.kind ≡ FindNode

@@ -20,10 +20,11 @@ use Rattle.lookup_core.specs.Reply as reply
 use Rattle.lookup_core.specs.Reply.{Answered, Reply}
 use Rattle.lookup_core.specs.Sealed.{Accepts}
 use Rattle.lookup_core.proofs.Lists.{all_in}
-use Rattle.lookup_run.specs.declared.types.Item.{Item}
-use Rattle.lookup_run.specs.declared.types.Token.{Token}
+use Rattle.lookup_core.specs.declared.gather.Item.{Item}
+use Rattle.lookup_core.specs.declared.gather.Token.{Token}
 use Rattle.lookup_run.specs.Tells.{Given, Seen, TellsFrom, begun}
-use Rattle.lookup_run.specs.Gathered.{HeardIn, Hears, HearsFrom, addr_cmp, IsEachOnce, values_of, GathersOf, Gathers}
+use Rattle.lookup_core.specs.Gathered.{HeardIn, addr_cmp, IsEachOnce, values_of, GathersOf}
+use Rattle.lookup_run.specs.Gathered.{Hears, HearsFrom, Gathers}
 use Rattle.lookup_run.proofs.OnceEvents.{Apart, apart_gives, reply_once}
 use Rattle.lookup_run.proofs.OnceGiven.{past_once}
 
@@ -45,7 +46,7 @@ same_query (x ∷ qs) p q h (suc k, lt, is) (suc j, less, e) same = same_query q
 same_answered : (c d : Contact) (x y : Answer) → c ≡ d → ◌≡◌ {A = Reply} (reply.Answer x) (reply.Answer y) → ◌≡◌ {A = Answered} (record { contact = c; answer = x }) (record { contact = d; answer = y })
 same_answered c d x y e f = (let is : x ≡ y = cc in cc)
 
-heard_once : (quest : Quest) (accepts : Accepts) (s : Seen) (from : Addr) (bytes : List ℕ) (a b : Answered) → Apart s.queries → HeardIn quest accepts s from bytes a → HeardIn quest accepts s from bytes b → a ≡ b
+heard_once : (quest : Quest) (accepts : Accepts) (s : Seen) (from : Addr) (bytes : List ℕ) (a b : Answered) → Apart s.queries → HeardIn quest accepts s.queries from bytes a → HeardIn quest accepts s.queries from bytes b → a ≡ b
 heard_once quest accepts s from bytes a b apart h k =
     let says = reply_once quest accepts bytes from h.query k.query (reply.Answer a.answer) (reply.Answer b.answer) (small_in s.queries h.query apart h.is_open) (small_in s.queries k.query apart k.is_open) h.replies k.replies in
     let query = same_query s.queries h.query k.query apart h.is_open k.is_open says.0 in

@@ -1,6 +1,6 @@
 -- One receive: what its event gives, and that the lookup comes nearer to its end.
 use Rattle.std.proofs.Common.{◌≡◌, ◌≢◌, ◌⊎◌, ℕ, zero, suc, ◌+◌, ◌-◌, ◌*◌, ◌^◌, ◌<◌, ◌≤◌, List, [], ◌∷◌, ◌++◌, length, Option, true, false, cond, inl, inr, refl, sym, ap, subst, ◌∙◌, arith}
-use Rattle.std.specs.Prelude.{Contains, map, filter, nat_lt}
+use Rattle.std.specs.Prelude.{map, filter, nat_lt}
 use Rattle.std.specs.List.{AllByRecursion, flat_map}
 use Rattle.std.proofs.lemmas.Bool.Decides.{nat_tests}
 use Rattle.std.proofs.lemmas.List.{append-nil, append_assoc, length-append}
@@ -12,7 +12,6 @@ use Rattle.kad_base.specs.declared.types.Event.TheVariants.{Got, Quiet}
 use Rattle.kad_base.specs.Contacts.{same, among}
 use Rattle.kad_base.specs.Limits.{max_strays, max_round_receives}
 use Rattle.kad_base.specs.Outside.{Grows}
-use Rattle.kad_krpc.specs.declared.message.Answer.{Answer}
 use Rattle.id_puzzles.specs.Drawn.{WordsState}
 use Rattle.query_book.specs.declared.Query.{Query}
 use Rattle.claim_book.specs.declared.types.Entry.{Entry}
@@ -22,36 +21,32 @@ use Rattle.claim_book.specs.Journal.{seeds, asked, open_any}
 use Rattle.claim_book.specs.Legal.{Legal}
 use Rattle.claim_book.specs.State.{BookState}
 use Rattle.lookup_run.specs.declared.types.LookSetting.{LookSetting}
-use Rattle.lookup_run.specs.declared.types.Gathered.{Gathered}
 use Rattle.lookup_run.specs.declared.types.Progress.{Progress}
 use Rattle.lookup_run.specs.declared.types.LookupState.{LookupState}
 use Rattle.lookup_core.specs.Reply.{Reply}
 use Rattle.lookup_core.specs.Reply as reply
-use Rattle.lookup_core.specs.Matching.{OpenQuery, Replies, ReplyGives, IsStray}
+use Rattle.lookup_core.specs.Matching.{OpenQuery, ReplyGives, IsStray}
 use Rattle.lookup_core.specs.Timeouts.{deadline_of, is_overdue, timed_out, closed_at, open_at}
 use Rattle.lookup_run.specs.Tells.{Given, Seen, driven, IsEarliest, WaitsUntil, goes_on, Waits, HaveAsked, Receives, Gives, received, receives_seen, after_match}
 use Rattle.lookup_run.specs.Rounds.{WaitsInTurn, InTurn}
 use Rattle.lookup_core.specs.Reply.{Answered}
-use Rattle.lookup_run.specs.Gathered.{HeardIn, Hears}
+use Rattle.lookup_run.specs.Gathered.{Hears}
 use Rattle.lookup_run.specs.Lookup.{setting_of, given_of, told_of, TableTold, quest_of}
 use Rattle.lookup_core.specs.SendFaults.{unsent}
-use Rattle.lookup_core.specs.Says.{IsReply}
 use Rattle.lookup_core.specs.LookupSteps.{as_open}
-use Rattle.lookup_run.specs.inner.DriverInvariant.{IsBare, Keeps, max_asks, KeepsSeen}
-use Rattle.lookup_core.specs.LookupSteps.{query_to, RepliesToNone, HearsIn}
-use Rattle.lookup_run.specs.inner.RoundSteps.{WaitsFor, KeepsFor, Expires, IsStrayFor, IsMatchFor, TakesDatagram, MayReceive, ReceivesOne}
-use Rattle.lookup_run.proofs.Driven.{keeps_none}
+use Rattle.lookup_run.specs.inner.DriverInvariant.{Keeps, max_asks, KeepsSeen}
+use Rattle.lookup_core.specs.LookupSteps.{query_to, RepliesToNone}
+use Rattle.lookup_run.specs.inner.RoundSteps.{WaitsFor, Expires, IsStrayFor, IsMatchFor, TakesDatagram, MayReceive, ReceivesOne}
+use Rattle.lookup_core.specs.Gathered.{HearsOne, IsBare, KeepsFor}
+use Rattle.lookup_core.proofs.Gathering.{none_replies, none_heard, match_heard, keeps_none, kept_find}
 use Rattle.lookup_core.proofs.Received.{same_deadlines, open_still, all_still, fewer_still, one_less, among_still, driven_closed, driven_append, seeds_append, seeds_closed, asks_closed, asked_append, gives_of, among_dropped}
 use Rattle.lookup_core.proofs.Refusing.{unsent_left}
 use Rattle.lookup_run.proofs.Walking.{OneEvent, NextStep, along_next}
 use Rattle.lookup_core.proofs.Opens.{opens_kept, each_asked}
-use Rattle.lookup_core.proofs.Lists.{in_map, map_in, in_middle, all_in}
-use Rattle.lookup_core.proofs.Matching.{to_reply}
 use Rattle.lookup_core.proofs.Lists.{map_append}
 use Rattle.lookup_core.specs.declared.quest.Quest.{Quest}
 use Rattle.lookup_core.specs.declared.state.Lookup.{Lookup}
 use Rattle.lookup_core.proofs.Holding.{all_dropped}
-use Rattle.lookup_core.specs.declared.quest.AskKind.{AskKind}
 use Rattle.lookup_core.specs.declared.quest.AskKind.TheVariants.{FindNode}
 use Rattle.lookup_core.specs.Sealed.{Accepts}
 
@@ -283,16 +278,10 @@ receives_one look accepts at old new first left e told told' l keeps strays roun
     no_heavier : (n m x y : ℕ) → n ≡ m → x ≤ y → 2 * (max_asks - n) + x ≤ 2 * (max_asks - m) + y
     no_heavier n m x y e le = omega (arith, e, le)
 
--- nothing is kept where contacts alone are asked for
-kept_find : (kind : AskKind) (heard : List Answered) (g h : Gathered) → kind ≡ FindNode → KeepsFor kind heard g h → h ≡ g
-kept_find kind heard g h is k = subst (λ x. KeepsFor x heard g h) is k
-
 -- ---- a datagram that replies to none
 
 pub stray_of : (quest : Quest) (accepts : Accepts) (work : LookupState) (s : Seen) (from : Addr) (bytes : List ℕ) → s.queries ≡ map (as_open work.lookup.book.journal) work.lookup.queries → RepliesToNone quest accepts from bytes work.lookup → IsStray quest accepts s.queries from bytes
-stray_of quest accepts work s from bytes queries none q has r h =
-    let found = in_map (as_open work.lookup.book.journal) work.lookup.queries q (subst (λ l. Contains l q) queries has) in
-    none found.0 found.1 r (subst (λ y. Replies quest accepts bytes from y r) found.2 h)
+stray_of quest accepts work s from bytes queries none = subst (λ l. IsStray quest accepts l from bytes) (sym queries) (none_replies quest accepts from bytes work.lookup none)
 
 light_stray : (a b c d most : ℕ) → a ≤ b → d ≡ c + 1 → d < most → a + (most - d) < b + (most - c)
 light_stray a b c d most le is lt = omega (arith, le, is, lt)
@@ -324,8 +313,9 @@ pub record Receiving (look : LookSetting) (old : LookupState) (until at : ℕ) :
   pub waits : WaitsFor old.progress.receives old.progress.moment old.lookup.queries until
   pub later : old.progress.moment ≤ at
 
-no_heard : (quest : Quest) (accepts : Accepts) (work : LookupState) (s : Seen) (from : Addr) (bytes : List ℕ) → s.queries ≡ map (as_open work.lookup.book.journal) work.lookup.queries → RepliesToNone quest accepts from bytes work.lookup → (a : Answered) → ¬ HeardIn quest accepts s from bytes a
-no_heard quest accepts work s from bytes queries none a h = stray_of quest accepts work s from bytes queries none h.query h.is_open (reply.Answer a.answer) h.replies
+-- nobody is heard
+none_of : (quest : Quest) (accepts : Accepts) (work : LookupState) (s : Seen) (from : Addr) (bytes : List ℕ) → s.queries ≡ map (as_open work.lookup.book.journal) work.lookup.queries → RepliesToNone quest accepts from bytes work.lookup → HearsOne quest accepts s.queries from bytes []
+none_of quest accepts work s from bytes queries none = subst (λ l. HearsOne quest accepts l from bytes []) (sym queries) (inr (none_heard quest accepts from bytes work.lookup none, refl))
 
 stray_receives : (look : LookSetting) (accepts : Accepts) (from : Addr) (bytes : List ℕ) (until at n : ℕ) (old mid late : LookupState) (told told' : Option (List Event)) → Receiving look old until at → IsStrayFor look accepts from bytes old mid → Expires at mid late → n ≡ goes_on late.progress.receives (length late.lookup.queries)
     → Grows told told' (λ es. es ≡ Got from bytes until at ∷ []) → ReceivesOne look accepts old (record late { progress = record { moment = at; receives = n; strays = late.progress.strays } }) told told'
@@ -346,7 +336,7 @@ stray_receives look accepts from bytes until at n old mid late told told' r t e 
     (ap (λ m. m + 1) st.strays ∙ sym strays)
     (ap (λ qs. receives_seen s.receives (open_at at qs)) st.queries ∙ round_left s.receives late.progress.receives at old.lookup.book.journal old.lookup.queries late.lookup.queries (st.receives ∙ receives) l.queries ∙ sym is)
     (subst (λ J. Receives (given_of look accepts start) J s until) (sym l.journal) (receives_of look accepts start old ([] ++ closed_at at (map (as_open old.lookup.book.journal) old.lookup.queries)) words.place s until r.may r.waits st), inr (stray_of (quest_of look) accepts old s from bytes st.queries t.none, refl))
-    (turn_of look accepts start old words.place s r.may st) (inr (no_heard (quest_of look) accepts old s from bytes st.queries t.none, refl)))
+    (turn_of look accepts start old words.place s r.may st) (none_of (quest_of look) accepts old s from bytes st.queries t.none))
     grows
 
 -- ---- no datagram
@@ -377,38 +367,6 @@ quiet_receives look accepts until at old late told told' r le e grows =
     grows
 
 -- ---- a datagram that replies to one
-
-the_one : (quest : Quest) (accepts : Accepts) (J : List Entry) (qs : List Query) (q : Query) (from : Addr) (bytes : List ℕ) (what : Reply) (s : Seen) (a : Answered) → s.queries ≡ map (as_open J) qs → AllByRecursion (λ (x : Query). x.tx < 2 ^ 32) qs → IsReply bytes (record { tx = q.tx; reply = what }) → ((x : Query) → Contains qs x → x.tx ≡ q.tx → x ≡ q)
-    → (h : HeardIn quest accepts s from bytes a) → (h.query ≡ as_open J q) × (reply.Answer a.answer ≡ what)
-the_one quest accepts J qs q from bytes what s a queries ids reads alone h =
-    let found = in_map (as_open J) qs h.query (subst (λ l. Contains l h.query) queries h.is_open) in
-    let x = found.0 in
-    let small = all_in (λ (y : Query). y.tx < 2 ^ 32) qs x ids found.1 in
-    let replies = to_reply quest accepts J bytes from x (reply.Answer a.answer) (subst (λ y. Replies quest accepts bytes from y (reply.Answer a.answer)) found.2 h.replies) in
-    let same : x ≡ q = alone x found.1 (reads.same_id x.tx (reply.Answer a.answer) small replies) in
-    (found.2 ∙ ap (as_open J) same, reads.same_reply x.tx (reply.Answer a.answer) small replies)
-
-hears_one : (quest : Quest) (accepts : Accepts) (J : List Entry) (qs : List Query) (q : Query) (from : Addr) (bytes : List ℕ) (until at : ℕ) (what : Reply) (heard : List Answered) (s : Seen) → s.queries ≡ map (as_open J) qs → Contains qs q → AllByRecursion (λ (x : Query). x.tx < 2 ^ 32) qs → Replies quest accepts bytes from (as_open J q) what
-    → IsReply bytes (record { tx = q.tx; reply = what }) → ((x : Query) → Contains qs x → x.tx ≡ q.tx → x ≡ q) → HearsIn q.contact what heard → Hears quest accepts s (Got from bytes until at) heard
-hears_one quest accepts J qs q from bytes until at (reply.Answer answer) heard s queries has ids replies reads alone (inl own) = inl (
-  record { contact = q.contact; answer = answer },
-  record { query = as_open J q; is_open = subst (λ l. Contains l (as_open J q)) (sym queries) (map_in (as_open J) qs q has); replies = replies; own_name = own.0; contact_is = refl },
-  own.1,
-)
-hears_one quest accepts J qs q from bytes until at (reply.Answer answer) heard s queries has ids replies reads alone (inr other) = inr (
-  (λ a h.
-      let one = the_one quest accepts J qs q from bytes (reply.Answer answer) s a queries ids reads alone h in
-      let said = one.1 in
-      let same : a.answer ≡ answer = cc in
-      other.0 (ap (λ (x : Answer). x.id) (sym same) ∙ h.own_name ∙ ap (λ (y : OpenQuery). y.contact.id) one.0)),
-  other.1,
-)
-hears_one quest accepts J qs q from bytes until at (reply.Error code) heard s queries has ids replies reads alone none = inr (
-  (λ a h.
-      let one = the_one quest accepts J qs q from bytes (reply.Error code) s a queries ids reads alone h in
-      let said = one.1 in absurd cc),
-  none,
-)
 
 match_receives : (look : LookSetting) (accepts : Accepts) (from : Addr) (bytes : List ℕ) (until at n : ℕ) (old mid late : LookupState) (told told' : Option (List Event)) → Receiving look old until at → IsMatchFor look accepts from bytes old mid → Expires at mid late → n ≡ goes_on late.progress.receives (length late.lookup.queries)
     → Grows told told' (λ es. es ≡ Got from bytes until at ∷ []) → ReceivesOne look accepts old (record late { progress = record { moment = at; receives = n; strays = late.progress.strays } }) told told'
@@ -463,7 +421,7 @@ match_receives look accepts from bytes until at n old mid late told told' r m e 
           (round_left s.receives late.progress.receives at J left late.lookup.queries (st.receives ∙ receives) l.queries ∙ sym is);
       ascends = tt;
       found = m.heard;
-      hears = hears_one (quest_of look) accepts J old.lookup.queries k.query from bytes until at k.what m.heard s st.queries (subst (λ qs. Contains qs k.query) (sym k.was_open) (in_middle k.before k.query k.behind)) keeps.ids k.replies k.reads k.alone k.hears_in;
+      hears = subst (λ l. HearsOne (quest_of look) accepts l from bytes m.heard) (sym st.queries) (match_heard (quest_of look) accepts from bytes old.lookup mid.lookup m.heard (record { is_open = keeps.is_open; ids = keeps.ids }) k);
       keeps = subst (λ g. KeepsFor look.kind m.heard old.gathered g) (sym e.gathered) m.keeps_for;
     })
     grows

@@ -31,7 +31,8 @@ use Rattle.lookup_run.specs.Tells.{Given, driven, begun}
 use Rattle.lookup_run.specs.Rounds.{Scheduling, path_number, SettlesFrom, SettlesIn, AllSettled}
 use Rattle.lookup_run.specs.Lookup.{setting_of, given_of, drawn_for, Told, told_of, told_in, table_calls, TableTold, TableToldBy, TableRan}
 use Rattle.lookup_core.specs.LookupSteps.{as_open}
-use Rattle.lookup_run.specs.inner.DriverInvariant.{IsBare, Keeps, Keeping, Walk, Shows}
+use Rattle.lookup_core.specs.Gathered.{IsBare, Keeping}
+use Rattle.lookup_run.specs.inner.DriverInvariant.{Keeps, Walk, Shows}
 use Rattle.lookup_run.specs.inner.RoundSteps.{SettlesPaths, Stops}
 use Rattle.lookup_core.proofs.Received.{driven_append}
 use Rattle.lookup_run.proofs.Early.{early_now}

@@ -23,17 +23,15 @@ use Rattle.claim_book.specs.declared.types.Entry.{Entry}
 use Rattle.claim_book.specs.Journal.{seeds}
 use Rattle.lookup_core.proofs.Lists.{all_weaker}
 use Rattle.lookup_run.specs.declared.types.LookSetting.{LookSetting}
-use Rattle.lookup_run.specs.declared.types.Gathered.{Gathered}
 use Rattle.lookup_run.specs.declared.types.LookupState.{LookupState}
 use Rattle.lookup_run.specs.Tells.{Given, Seen, HasAsked, HaveAsked, Receives, Gives, begun}
 use Rattle.lookup_run.specs.Rounds.{Scheduling, sequential, concurrent, path_number, SettlesIn, InTurn}
 use Rattle.lookup_core.specs.Reply.{Answered}
-use Rattle.lookup_run.specs.Gathered.{Hears, values_of, token_of, item_of}
+use Rattle.lookup_core.specs.Gathered.{KeepsFor}
+use Rattle.lookup_core.proofs.Gathering.{keeping_more}
+use Rattle.lookup_run.specs.Gathered.{Hears}
 use Rattle.lookup_run.specs.Lookup.{given_of, drawn_for, told_of, table_calls, told_in, told_by, Told, AreCalls, TableTold, TableToldBy}
-use Rattle.lookup_run.specs.inner.DriverInvariant.{Step, Walk, KeepsSeen, Keeping, Shows, TraceInvariant, Preserves}
-use Rattle.lookup_run.specs.inner.RoundSteps.{KeepsFor}
-use Rattle.lookup_core.specs.declared.quest.AskKind.{AskKind}
-use Rattle.lookup_core.specs.declared.quest.AskKind.TheVariants.{FindNode, GetPeers, GetItem}
+use Rattle.lookup_run.specs.inner.DriverInvariant.{Step, Walk, KeepsSeen, Shows, TraceInvariant, Preserves}
 use Rattle.lookup_core.specs.Sealed.{Accepts}
 
 -- ---- a longer journal
@@ -118,26 +116,6 @@ seeds_same J more J' is none = ap seeds is ∙ seeds_append J more ∙ ap (λ l.
 settles_none : (scheduling : Scheduling) (n : ℕ) → SettlesIn scheduling n []
 settles_none scheduling zero = tt
 settles_none scheduling (suc n) = refl
-
--- a list that was kept of what was heard goes on to be
-kept_more : {B : Type 0} (f : Answered → List B) (heard found : List Answered) (old new : List B) → old ≡ flat_map f heard → new ≡ old ++ flat_map f found → new ≡ flat_map f (heard ++ found)
-kept_more f heard found old new was is = is ∙ ap (λ l. l ++ flat_map f found) was ∙ sym (flat_map-append f heard found)
-
-still_none : {B : Type 0} (old new : List B) → old ≡ [] → new ≡ old ++ [] → new ≡ []
-still_none old new was is = is ∙ append-nil old ∙ was
-
-keeping_more : (kind : AskKind) (heard found : List Answered) (old new : Gathered) → Keeping kind heard old → KeepsFor kind found old new → Keeping kind (heard ++ found) new
-keeping_more FindNode heard found old new h k = (ap (λ (x : Gathered). x.peers) k ∙ h.0, ap (λ (x : Gathered). x.tokens) k ∙ h.1, ap (λ (x : Gathered). x.items) k ∙ h.2)
-keeping_more GetPeers heard found old new h k = (
-  kept_more values_of heard found old.peers new.peers h.0 k.peers,
-  kept_more token_of heard found old.tokens new.tokens h.1 k.tokens,
-  still_none old.items new.items h.2 k.items,
-)
-keeping_more GetItem heard found old new h k = (
-  still_none old.peers new.peers h.0 k.peers,
-  kept_more token_of heard found old.tokens new.tokens h.1 k.tokens,
-  kept_more item_of heard found old.items new.items h.2 k.items,
-)
 
 pub shows_next : (scheduling : Scheduling) (g : Given) (old new : LookupState) (more : List Entry) (place place' b b' a a' : ℕ) (e : Event) (es fs : List Event) → new.lookup.book.journal ≡ old.lookup.book.journal ++ more → seeds more ≡ []
     → ((s : Seen) → KeepsSeen g old place s → AllByRecursion (λ (x : Entry). path_number x ≤ a) s.since → OneEvent g old new more place' a' s e)

@@ -37,7 +37,8 @@ use Rattle.lookup_run.specs.declared.types.LookFault.TheVariants.{LinkFault, Str
 use Rattle.lookup_run.specs.declared.types.Outcome.{Outcome}
 use Rattle.lookup_run.specs.Tells.{Given, Seen, TellsSoFar, Tells, EndsAtStray, HasFewStrays, NeverEnds}
 use Rattle.lookup_run.specs.Rounds.{Scheduling, Rounds, sequential, concurrent}
-use Rattle.lookup_run.specs.Gathered.{Gathers, addr_cmp}
+use Rattle.lookup_core.specs.Gathered.{addr_cmp}
+use Rattle.lookup_run.specs.Gathered.{Gathers}
 use Rattle.lookup_core.specs.SendFaults.{RefusedIn}
 use Rattle.lookup_core.specs.Sealed.{Accepts}
 

@@ -5,7 +5,6 @@
 
 mod ask;
 mod driver;
-mod gather;
 mod laws;
 mod on_reply;
 mod receive;
@@ -17,5 +16,5 @@ mod types;
 
 pub use driver::{look_up, look_up_alone};
 pub use laws::{one_journal, one_next_call};
-pub use lookup_core::AskKind;
-pub use types::{Item, ItemList, LookFault, LookSetting, Outcome, Token, Tokened};
+pub use lookup_core::{AskKind, Item, ItemList, Token, Tokened};
+pub use types::{LookFault, LookSetting, Outcome};

@@ -9,11 +9,10 @@ ghost use Rattle.lookup_run.specs.Lookup.{IsWithinLimits};
 ghost use Rattle.lookup_run.specs.inner.DriverInvariant.{Keeps};
 ghost use Rattle.lookup_run.specs.inner.RoundSteps.{WaitsFor, TakesStray, TakesDatagram, IsLastStray, MayReceive, ReceivesOne, ReceivesAll, Stops, EndsByStray, FewStrays};
 
-use crate::gather::keep;
 use crate::on_reply::expire;
 use crate::types::{LookFault, LookSetting, LookupState, Progress};
 use kad_base::{Addr, Came, Link};
-use lookup_core::{Lookup, Taken, round_after, stray_more, wait_until};
+use lookup_core::{Lookup, Taken, keep, round_after, stray_more, wait_until};
 use seal_tags::SealCheck;
 use std::alloc::Global;
 

@@ -4,8 +4,8 @@ ghost use Rattle.lookup_run.specs.Lookup.{setting_of, quest_of};
 
 use claim_book::{Counts, Journal, Setting};
 use contact_table::Table;
-use kad_base::{Addrs, Bytes, Contact, Contacts, Family, Id, List, NoMemory, Policy};
-use lookup_core::{AskKind, Lookup, Quest};
+use kad_base::{Addrs, Contacts, Family, Id, NoMemory, Policy};
+use lookup_core::{AskKind, Gathered, ItemList, Lookup, Quest, Tokened};
 use thiserror::Error;
 
 /// What a lookup is given. `own` is the node that asks; each of `paths` disjoint paths (S/Kademlia, section 4.4) has at
@@ -62,25 +62,6 @@ impl LookSetting {
     }
 }
 
-/// The token that a contact gave: what a later `announce_peer` (BEP 5) or `put` (BEP 44) to it has to bring along.
-#[derive(Debug, Drop, PartialEq, Eq)]
-pub struct Token {
-    pub contact: Contact,
-    pub token: Bytes,
-}
-
-pub type Tokened = List<Token>;
-
-/// What a contact gave as the item that was asked for: `v` is its written form (BEP 44), of whatever length, and its
-/// hash need not be the key.
-#[derive(Debug, Drop, PartialEq, Eq)]
-pub struct Item {
-    pub contact: Contact,
-    pub v: Bytes,
-}
-
-pub type ItemList = List<Item>;
-
 /// What a lookup found: the closest contacts, its numbers, the journal that they are of, the peers that the answers
 /// named, each once and in order, the tokens, and the items that they gave, both in the order of the answers. There are
 /// peers only where those were asked for, items only where one was, and tokens in both cases.
@@ -125,14 +106,6 @@ pub(crate) struct Progress {
     pub moment: u64,
     pub receives: u32,
     pub strays: u32,
-}
-
-/// What the heard answers gave beside contacts: peers, tokens and items as they came.
-#[derive(Debug, Drop)]
-pub(crate) struct Gathered {
-    pub peers: Addrs,
-    pub tokens: Tokened,
-    pub items: ItemList,
 }
 
 /// What a driver keeps: the lookup, the table, where the link stands, and what was gathered.

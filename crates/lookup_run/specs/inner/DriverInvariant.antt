@@ -1,6 +1,6 @@
 -- Where a lookup stands between two calls on its link: what its events showed, its journal, its open queries and its table.
 use Rattle.std.specs.Prelude.{◌≡◌, ℕ, ◌+◌, ◌-◌, ◌*◌, ◌^◌, ◌<◌, ◌≤◌, List, [], ◌∷◌, ◌++◌, length, map, Option}
-use Rattle.std.specs.List.{AllByRecursion, flat_map}
+use Rattle.std.specs.List.{AllByRecursion}
 use Rattle.kad_base.specs.declared.types.Event.{Event}
 use Rattle.kad_base.specs.declared.types.Event.TheVariants.{Now}
 use Rattle.kad_base.specs.Limits.{max_paths, max_path_contacts, max_strays, max_round_receives}
@@ -11,26 +11,19 @@ use Rattle.contact_table.specs.TableState.{TableState}
 use Rattle.claim_book.specs.declared.types.Entry.{Entry}
 use Rattle.claim_book.specs.Journal.{seeds, asked, open_any}
 use Rattle.lookup_run.specs.declared.types.LookSetting.{LookSetting}
-use Rattle.lookup_run.specs.declared.types.Gathered.{Gathered}
 use Rattle.lookup_run.specs.declared.types.LookupState.{LookupState}
 use Rattle.lookup_core.specs.Timeouts.{deadline_of}
 use Rattle.lookup_run.specs.Tells.{Given, Seen, driven, Gives, begun}
 use Rattle.lookup_run.specs.Rounds.{Scheduling, path_number, SettlesIn, InTurn}
 use Rattle.lookup_core.specs.Reply.{Answered}
-use Rattle.lookup_run.specs.Gathered.{Hears, values_of, token_of, item_of}
+use Rattle.lookup_core.specs.Gathered.{IsBare, Keeping}
+use Rattle.lookup_run.specs.Gathered.{Hears}
 use Rattle.lookup_run.specs.Lookup.{setting_of, given_of, seeds_dealt, drawn_for, table_calls, TableToldBy}
 use Rattle.lookup_core.specs.LookupSteps.{as_open}
-use Rattle.lookup_core.specs.declared.quest.AskKind.{AskKind}
-use Rattle.lookup_core.specs.declared.quest.AskKind.TheVariants.{FindNode, GetPeers, GetItem}
+use Rattle.lookup_core.specs.declared.quest.AskKind.TheVariants.{FindNode}
 use Rattle.lookup_core.specs.Sealed.{Accepts}
 
 -- ---- the driver's own state
-
--- nothing was gathered
-pub record IsBare (gathered : Gathered) : Type 0 where
-  pub no_peers : gathered.peers ≡ []
-  pub no_tokens : gathered.tokens ≡ []
-  pub no_items : gathered.items ≡ []
 
 -- the book is that of the lookup, and its open contacts are those of the open queries, in order
 pub record Keeps (look : LookSetting) (work : LookupState) : Type 0 where
@@ -83,12 +76,6 @@ pub record KeepsSeen (g : Given) (work : LookupState) (place : ℕ) (s : Seen) :
   pub strays : s.strays ≡ work.progress.strays
   pub receives : s.receives ≡ work.progress.receives
   pub given : s.given ≡ driven work.lookup.book.journal
-
--- and of the answers this, by what is asked for
-abbrev pub Keeping : AskKind → List Answered → Gathered → Type 0
-Keeping FindNode heard gathered = (gathered.peers ≡ []) × (gathered.tokens ≡ []) × (gathered.items ≡ [])
-Keeping GetPeers heard gathered = (gathered.peers ≡ flat_map values_of heard) × (gathered.tokens ≡ flat_map token_of heard) × (gathered.items ≡ [])
-Keeping GetItem heard gathered = (gathered.peers ≡ []) × (gathered.tokens ≡ flat_map token_of heard) × (gathered.items ≡ flat_map item_of heard)
 
 -- The events show where the lookup stands. What was settled since the last one is on the first b paths, and what was
 -- asked since the last receive on paths up to a.

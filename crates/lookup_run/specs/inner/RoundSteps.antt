@@ -1,5 +1,5 @@
 -- What each step of a lookup owes.
-use Rattle.std.specs.Prelude.{◌≡◌, ◌≢◌, ◌⊎◌, ℕ, ◌+◌, ◌<◌, ◌≤◌, List, [], ◌∷◌, ◌++◌, length, map, Option, None, Result, IsOk, IfErr, OnOk, OnErr, false}
+use Rattle.std.specs.Prelude.{◌≡◌, ◌≢◌, ◌⊎◌, ℕ, ◌+◌, ◌<◌, ◌≤◌, List, [], ◌∷◌, length, map, Option, None, Result, IsOk, IfErr, OnOk, OnErr, false}
 use Rattle.std.specs.List.{flat_map}
 use Rattle.kad_base.specs.declared.types.Addr.{Addr}
 use Rattle.kad_base.specs.declared.types.Event.{Event}
@@ -19,8 +19,6 @@ use Rattle.claim_book.specs.State.{BookState}
 use Rattle.lookup_run.specs.declared.types.LookFault.{LookFault}
 use Rattle.lookup_run.specs.declared.types.LookFault.TheVariants.{NoMemory}
 use Rattle.lookup_run.specs.declared.types.LookSetting.{LookSetting}
-use Rattle.lookup_run.specs.declared.types.Gathered.{Gathered}
-use Rattle.lookup_run.specs.declared.types.Item.{Item}
 use Rattle.lookup_run.specs.declared.types.Outcome.{Outcome}
 use Rattle.lookup_run.specs.declared.types.Progress.{Progress}
 use Rattle.lookup_run.specs.declared.types.LookupState.{LookupState}
@@ -29,13 +27,11 @@ use Rattle.lookup_core.specs.Receiving.{WaitsUntil}
 use Rattle.lookup_run.specs.Tells.{NeverEnds}
 use Rattle.lookup_run.specs.Rounds.{Scheduling, AllSettled, NoneAsks, WaitsInTurn}
 use Rattle.lookup_core.specs.Reply.{Answered}
-use Rattle.lookup_run.specs.Gathered.{values_of, token_of, item_of, IsEachOnce}
+use Rattle.lookup_core.specs.Gathered.{IsEachOnce, KeepsFor}
 use Rattle.lookup_core.specs.SendFaults.{unsent, RefusedIn}
 use Rattle.lookup_run.specs.Lookup.{IsWithinLimits, setting_of, given_of, seeds_dealt, told_of, Unfinished, EndsByStrays, MeetsFewStrays, TableRan, TableTold, Told, quest_of}
 use Rattle.lookup_core.specs.LookupSteps.{as_open, LosesOverdue, IsMatch, RepliesToNone}
 use Rattle.lookup_run.specs.inner.DriverInvariant.{Keeps, HasWords, weight_of, TraceInvariant, PreservesBy, Preserves}
-use Rattle.lookup_core.specs.declared.quest.AskKind.{AskKind}
-use Rattle.lookup_core.specs.declared.quest.AskKind.TheVariants.{FindNode, GetPeers, GetItem}
 use Rattle.lookup_core.specs.Sealed.{Accepts}
 
 -- ---- asking
@@ -57,19 +53,7 @@ pub record AsksNone (look : LookSetting) (path : ℕ) (words words' : WordsState
   pub same_work : new ≡ old
   pub same_told : told' ≡ told
 
--- ---- hearing
-
--- what was heard gave these peers and these items beside contacts, and its tokens
-pub record KeepsAlso (heard : List Answered) (named : List Addr) (given : List Item) (old new : Gathered) : Type 0 where
-  pub peers : new.peers ≡ old.peers ++ named
-  pub tokens : new.tokens ≡ old.tokens ++ flat_map token_of heard
-  pub items : new.items ≡ old.items ++ given
-
--- what is asked for is kept
-abbrev pub KeepsFor : AskKind → List Answered → Gathered → Gathered → Type 0
-KeepsFor FindNode heard old new = new ≡ old
-KeepsFor GetPeers heard old new = KeepsAlso heard (flat_map values_of heard) [] old new
-KeepsFor GetItem heard old new = KeepsAlso heard [] (flat_map item_of heard) old new
+-- ---- expiring
 
 -- those overdue at the moment are lost, oldest first, and the table was told so
 pub record Expires (at : ℕ) (old new : LookupState) : Type 0 where

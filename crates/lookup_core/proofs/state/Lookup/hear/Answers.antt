@@ -1,5 +1,3 @@
-use Rattle.std.proofs.Common.{Ok, ap, sym, subst, ◌∙◌}
-use Rattle.query_book.specs.declared.Query.{Query}
 use Rattle.lookup_core.specs.declared.state.Lookup.{Lookup}
 use Rattle.lookup_core.specs.Reply.{reply_seen}
 use Rattle.lookup_core.proofs.Matching.{stands_open}

@@ -1,7 +1,7 @@
 use Rattle.std.proofs.Common.{subst, sym}
-use Rattle.lookup_run.specs.Gathered.{IsEachOnce}
-use Rattle.lookup_run.proofs.InOrder.{each_once}
-use Rattle.lookup_run.proofs.gather.in_order.Goals as goal
+use Rattle.lookup_core.specs.Gathered.{IsEachOnce}
+use Rattle.lookup_core.proofs.InOrder.{each_once}
+use Rattle.lookup_core.proofs.gather.in_order.Goals as goal
 
 pub returns : goal.returns
 returns c =

@@ -3,7 +3,7 @@ use Rattle.std.proofs.Common.{◌≡◌, ℕ, zero, suc, ◌+◌, ◌<◌, ◌�
 use Rattle.std.specs.Prelude.{map, filter, Option, Some, Result, Ok, Err, IfOk, OnErr}
 use Rattle.std.specs.List.{flat_map}
 use Rattle.std.specs.Int.{to_le_bytes}
-use Rattle.std.proofs.lemmas.List.{append-nil, map-append, length-append, take_more, take_all, drop_more, length-map, length-take, take-append-drop}
+use Rattle.std.proofs.lemmas.List.{append-nil, map-append, length-append, get_or_default, take_more, take_all, drop_more, length-map, length-take, take-append-drop}
 use Rattle.std.proofs.lemmas.List.Elements.{filter-append}
 use Rattle.std.proofs.lemmas.Grind.{flat_map-append}
 use Rattle.std.proofs.Math.Seq.{take-append_seam}
@@ -19,34 +19,35 @@ use Rattle.kad_base.specs.Words.{word, word_bytes}
 use Rattle.kad_krpc.specs.declared.message.Ask.{Ask}
 use Rattle.kad_krpc.specs.declared.message.Message.TheVariants as message
 use Rattle.kad_krpc.specs.Form.{form, IsGivenPort, IsWritableAsk}
-use Rattle.lookup_run.specs.declared.types.Token.{Token}
-use Rattle.lookup_commands.specs.declared.announce.Said.{Said}
-use Rattle.lookup_commands.specs.declared.announce.Said.TheVariants.{Item, Peer}
-use Rattle.lookup_commands.specs.Announced.{Announcement, MaySay, announcing, asks_of, port_of, announcement, first_from, tokens_for, announcements, owed, tried, asking, Announces, AnnouncesSome, is_sent, sent_in}
+use Rattle.lookup_core.specs.declared.gather.Token.{Token}
+use Rattle.follow_ups.specs.declared.announce.Said.{Said}
+use Rattle.follow_ups.specs.declared.announce.Said.TheVariants.{Item, Peer}
+use Rattle.follow_ups.specs.declared.announce.Announcement.{Announcement}
+use Rattle.follow_ups.specs.Announced.{MaySay, announcing, asks_of, port_of, announcement, first_from, IsFirstFrom, tokens_for, announcements, owed, tried, asking, Announces, AnnouncesSome, is_sent, sent_in}
 
 -- ---- one list of them after another
 
-pub announces_then : (seed : List ℕ) (place : ℕ) (xs ys : List Announcement) (es fs : List Event) → Announces seed place xs es → Announces seed (place + length xs) ys fs → Announces seed place (xs ++ ys) (es ++ fs)
-announces_then seed place [] ys es fs h k =
+pub announces_then : (read_only : Bool) (seed : List ℕ) (place : ℕ) (xs ys : List Announcement) (es fs : List Event) → Announces read_only seed place xs es → Announces read_only seed (place + length xs) ys fs → Announces read_only seed place (xs ++ ys) (es ++ fs)
+announces_then read_only seed place [] ys es fs h k =
     let here : place + 0 ≡ place = omega arith in
-    subst (λ (l : List Event). Announces seed place ys (l ++ fs)) (sym h) (subst (λ n. Announces seed n ys fs) here k)
-announces_then seed place (x ∷ xs) ys es fs h k =
+    subst (λ (l : List Event). Announces read_only seed place ys (l ++ fs)) (sym h) (subst (λ n. Announces read_only seed n ys fs) here k)
+announces_then read_only seed place (x ∷ xs) ys es fs h k =
     let there : place + length (x ∷ xs) ≡ place + 1 + length xs = omega arith in
-    (h.0, h.1 ++ fs, ap (λ (l : List Event). l ++ fs) h.2, announces_then seed (place + 1) xs ys h.1 fs h.3 (subst (λ n. Announces seed n ys fs) there k))
+    (h.0, h.1 ++ fs, ap (λ (l : List Event). l ++ fs) h.2, announces_then read_only seed (place + 1) xs ys h.1 fs h.3 (subst (λ n. Announces read_only seed n ys fs) there k))
 
 pub sent_then : (es fs : List Event) → sent_in (es ++ fs) ≡ sent_in es + sent_in fs
 sent_then es fs = ap (λ (l : List Event). length l) (filter-append is_sent es fs) ∙ length-append (filter is_sent es) (filter is_sent fs)
 
 -- what was announced, and how many of it was sent
-abbrev pub Sends : List ℕ → ℕ → List Announcement → ℕ → List Event → Type 0
-Sends seed place all sent es = Announces seed place all es × (sent ≡ sent_in es)
+abbrev pub Sends : Bool → List ℕ → ℕ → List Announcement → ℕ → List Event → Type 0
+Sends read_only seed place all sent es = Announces read_only seed place all es × (sent ≡ sent_in es)
 
-pub sends_then : (seed : List ℕ) (place : ℕ) (xs ys : List Announcement) (m n : ℕ) (es fs : List Event) → Sends seed place xs m es → Sends seed (place + length xs) ys n fs → Sends seed place (xs ++ ys) (m + n) (es ++ fs)
-sends_then seed place xs ys m n es fs h k =
+pub sends_then : (read_only : Bool) (seed : List ℕ) (place : ℕ) (xs ys : List Announcement) (m n : ℕ) (es fs : List Event) → Sends read_only seed place xs m es → Sends read_only seed (place + length xs) ys n fs → Sends read_only seed place (xs ++ ys) (m + n) (es ++ fs)
+sends_then read_only seed place xs ys m n es fs h k =
     let all = sent_then es fs in
     let a = h.1 in
     let b = k.1 in
-    (announces_then seed place xs ys es fs h.0 k.0, omega (arith, all, a, b))
+    (announces_then read_only seed place xs ys es fs h.0 k.0, omega (arith, all, a, b))
 
 -- ---- the tokens of those that were found
 
@@ -87,19 +88,19 @@ abbrev pub words_at : WordsState → List Token → List Contact → ℕ → Wor
 words_at w tokens found i = record { seed = w.seed; place = w.place + length (tokens_for (take i found) tokens) }
 
 -- one contact more
-pub sends_more : (start w : WordsState) (asks : List ℕ → Ask) (tokens : List Token) (found : List Contact) (i : ℕ) (d : Contact) (m n : ℕ) (a b c : Option (List Event)) → i < length found
+pub sends_more : (read_only : Bool) (start w : WordsState) (asks : List ℕ → Ask) (tokens : List Token) (found : List Contact) (i : ℕ) (d : Contact) (m n : ℕ) (a b c : Option (List Event)) → i < length found
     → w ≡ words_at start tokens found i
-    → Grows a b (Sends start.seed start.place (announcements asks (take i found) tokens) m)
-    → Grows b c (Sends w.seed w.place (map (announcement asks) (first_from tokens (get_or found i d))) n)
-    → Grows a c (Sends start.seed start.place (announcements asks (take (i + 1) found) tokens) (m + n))
-sends_more start w asks tokens found i d m n a b c lt is g h =
+    → Grows a b (Sends read_only start.seed start.place (announcements asks (take i found) tokens) m)
+    → Grows b c (Sends read_only w.seed w.place (map (announcement asks) (first_from tokens (get_or found i d))) n)
+    → Grows a c (Sends read_only start.seed start.place (announcements asks (take (i + 1) found) tokens) (m + n))
+sends_more read_only start w asks tokens found i d m n a b c lt is g h =
     let xs : List Announcement = announcements asks (take i found) tokens in
     let ys : List Announcement = map (announcement asks) (first_from tokens (get_or found i d)) in
     let many : length xs ≡ length (tokens_for (take i found) tokens) = length-map (tokens_for (take i found) tokens) (announcement asks) in
     grows_then a b c _ _ _ g h (λ es fs p q.
-    let moved = subst (λ (v : WordsState). Sends v.seed v.place ys n fs) is q in
-    let placed = subst (λ k. Sends start.seed (start.place + k) ys n fs) (sym many) moved in
-    subst (λ (l : List Announcement). Sends start.seed start.place l (m + n) (es ++ fs)) (sym (announcements_more asks tokens found i d lt)) (sends_then start.seed start.place xs ys m n es fs p placed))
+    let moved = subst (λ (v : WordsState). Sends read_only v.seed v.place ys n fs) is q in
+    let placed = subst (λ k. Sends read_only start.seed (start.place + k) ys n fs) (sym many) moved in
+    subst (λ (l : List Announcement). Sends read_only start.seed start.place l (m + n) (es ++ fs)) (sym (announcements_more asks tokens found i d lt)) (sends_then read_only start.seed start.place xs ys m n es fs p placed))
 
 pub words_more : (start w v : WordsState) (tokens : List Token) (found : List Contact) (i : ℕ) (d : Contact) → i < length found → w ≡ words_at start tokens found i
     → v ≡ record { seed = w.seed; place = w.place + length (first_from tokens (get_or found i d)) } → v ≡ words_at start tokens found (i + 1)
@@ -128,13 +129,13 @@ any_err (Ok x) X h = tt
 any_err (Err f) X h = h
 
 -- those that were made are a front of all
-pub some_made : (seed : List ℕ) (place : ℕ) (asks : List ℕ → Ask) (tokens : List Token) (found : List Contact) (i m : ℕ) (a b : Option (List Event))
-    → Grows a b (Sends seed place (announcements asks (take i found) tokens) m) → Grows a b (AnnouncesSome seed place (announcements asks found tokens))
-some_made seed place asks tokens found i m a b g =
+pub some_made : (read_only : Bool) (seed : List ℕ) (place : ℕ) (asks : List ℕ → Ask) (tokens : List Token) (found : List Contact) (i m : ℕ) (a b : Option (List Event))
+    → Grows a b (Sends read_only seed place (announcements asks (take i found) tokens) m) → Grows a b (AnnouncesSome read_only seed place (announcements asks found tokens))
+some_made read_only seed place asks tokens found i m a b g =
     let xs : List Announcement = announcements asks (take i found) tokens in
     let ys : List Announcement = announcements asks (drop i found) tokens in
     let made : take (length xs) (announcements asks found tokens) ≡ xs = ap (take (length xs)) (announcements_apart asks tokens found i) ∙ take-append_seam xs ys in
-    grows_weaker a b _ _ g (λ es h. (length xs, subst (λ (l : List Announcement). Announces seed place l es) (sym made) h.0))
+    grows_weaker a b _ _ g (λ es h. (length xs, subst (λ (l : List Announcement). Announces read_only seed place l es) (sym made) h.0))
 
 -- ---- the token of one contact
 
@@ -158,15 +159,21 @@ first_is tokens c i x lt here none_ yes_ =
     ap (take 1) kept
 
 -- nor is the next one
-pub none_more : (tokens : List Token) (c : Contact) (i : ℕ) (d : Token) → i < length tokens → filter (of_contact c) (take i tokens) ≡ [] → same (get_or tokens i d).contact c ≡ false → filter (of_contact c) (take (i + 1) tokens) ≡ []
-none_more tokens c i d lt none_ no_ =
+pub none_more : (tokens : List Token) (c : Contact) (i : ℕ) (x : Token) → i < length tokens → x ≡ get_or tokens i x → filter (of_contact c) (take i tokens) ≡ [] → same x.contact c ≡ false → filter (of_contact c) (take (i + 1) tokens) ≡ []
+none_more tokens c i x lt here none_ no_ =
     let p : Token → Bool = of_contact c in
-    let x = get_or tokens i d in
-    ap (filter p) (take_more tokens i d lt) ∙ filter-append p (take i tokens) (x ∷ []) ∙ ap (λ (l : List Token). l ++ filter p (x ∷ [])) none_ ∙ kept_no p x [] no_
+    ap (filter p) (take_more tokens i x lt ∙ ap (λ (y : Token). take i tokens ++ y ∷ []) (sym here)) ∙ filter-append p (take i tokens) (x ∷ []) ∙ ap (λ (l : List Token). l ++ filter p (x ∷ [])) none_ ∙ kept_no p x [] no_
 
 -- none is
 pub none_first : (tokens : List Token) (c : Contact) (i : ℕ) → length tokens ≤ i → filter (of_contact c) (take i tokens) ≡ [] → first_from tokens c ≡ []
 none_first tokens c i le none_ = ap (take 1) (ap (filter (of_contact c)) (sym (take_all i tokens le)) ∙ none_)
+
+-- the place that was found
+pub place_is : (tokens : List Token) (c : Contact) (i : ℕ) (x : Token) → i < length tokens → x ≡ get_or tokens i x → filter (of_contact c) (take i tokens) ≡ [] → same x.contact c ≡ true → IsFirstFrom tokens c i
+place_is tokens c i x lt here none_ yes_ = record {
+  within = lt;
+  first = λ d. first_is tokens c i x lt here none_ yes_ ∙ ap (λ (y : Token). y ∷ []) (here ∙ get_or_default tokens i x d lt);
+}
 
 -- ---- one announcement
 
@@ -175,10 +182,10 @@ unfolding word_bytes
 bytes_of_word w = refl
 
 -- the datagram's parts are those that the definition names
-pub datagram_is : {F : Type 0} (r : Result (List ℕ) F) (id : List ℕ) (tx : ℕ) (mine ask : Ask) → id ≡ to_le_bytes w32 tx → mine ≡ ask → IfOk r (λ bytes. bytes ≡ form (message.Query id true mine)) → IfOk r (λ bytes. bytes ≡ asking tx ask)
-datagram_is r id tx mine ask e f h =
-    let a = subst (λ (x : List ℕ). IfOk r (λ bytes. bytes ≡ form (message.Query x true mine))) (e ∙ bytes_of_word tx) h in
-    subst (λ (x : Ask). IfOk r (λ bytes. bytes ≡ form (message.Query (word_bytes tx) true x))) f a
+pub datagram_is : {F : Type 0} (read_only : Bool) (r : Result (List ℕ) F) (id : List ℕ) (tx : ℕ) (mine ask : Ask) → id ≡ to_le_bytes w32 tx → mine ≡ ask → IfOk r (λ bytes. bytes ≡ form (message.Query id read_only mine)) → IfOk r (λ bytes. bytes ≡ asking read_only tx ask)
+datagram_is read_only r id tx mine ask e f h =
+    let a = subst (λ (x : List ℕ). IfOk r (λ bytes. bytes ≡ form (message.Query x read_only mine))) (e ∙ bytes_of_word tx) h in
+    subst (λ (x : Ask). IfOk r (λ bytes. bytes ≡ form (message.Query (word_bytes tx) read_only x))) f a
 
 given_port : (port : ℕ) → IsGivenPort (port_of port)
 given_port zero = tt
@@ -193,31 +200,29 @@ abbrev pub number_sent : Bool → ℕ
 number_sent true = 1
 number_sent false = 0
 
+-- the token at the place that was found
+pub first_at : (tokens : List Token) (c : Contact) (i : ℕ) (x : Token) → IsFirstFrom tokens c i → x ≡ get_or tokens i x → first_from tokens c ≡ x ∷ []
+first_at tokens c i x h here = h.first x ∙ ap (λ (y : Token). y ∷ []) (sym here)
+
 -- one was tried
-pub one_tried : (w v : WordsState) (asks : List ℕ → Ask) (tokens : List Token) (c : Contact) (t : Token) (tx : ℕ) (sent : Bool) (n : ℕ) (a a' b : Option (List Event)) → v ≡ w → a' ≡ a → tx ≡ word v.seed v.place → first_from tokens c ≡ t ∷ [] → n ≡ number_sent sent
-    → Grows a' b (λ es. es ≡ tried sent t.contact.addr (asking tx (announcement asks t).ask) ∷ [])
-    → Grows a b (Sends w.seed w.place (map (announcement asks) (first_from tokens c)) n)
-one_tried w v asks tokens c t tx sent n a a' b same_ from id first count g =
-    let moved = subst (λ (o : Option (List Event)). Grows o b (λ es. es ≡ tried sent t.contact.addr (asking tx (announcement asks t).ask) ∷ [])) from g in
-    let under = subst (λ m. Grows a b (λ es. es ≡ tried sent t.contact.addr (asking m (announcement asks t).ask) ∷ [])) (id ∙ ap (λ (x : WordsState). word x.seed x.place) same_) moved in
-    grows_weaker a b _ _ under (λ es e. subst (λ (l : List Token). Sends w.seed w.place (map (announcement asks) l) n es) (sym first)
-    ((sent, [], e, refl), count ∙ sym (counted_one sent t.contact.addr (asking (word w.seed w.place) (announcement asks t).ask) es e)))
+pub one_tried : (read_only : Bool) (w : WordsState) (asks : List ℕ → Ask) (tokens : List Token) (c : Contact) (t : Token) (tx : ℕ) (sent : Bool) (n : ℕ) (a b : Option (List Event)) → tx ≡ word w.seed w.place → first_from tokens c ≡ t ∷ [] → n ≡ number_sent sent
+    → Grows a b (λ es. es ≡ tried sent t.contact.addr (asking read_only tx (announcement asks t).ask) ∷ [])
+    → Grows a b (Sends read_only w.seed w.place (map (announcement asks) (first_from tokens c)) n)
+one_tried read_only w asks tokens c t tx sent n a b id first count g =
+    let under = subst (λ m. Grows a b (λ es. es ≡ tried sent t.contact.addr (asking read_only m (announcement asks t).ask) ∷ [])) id g in
+    grows_weaker a b _ _ under (λ es e. subst (λ (l : List Token). Sends read_only w.seed w.place (map (announcement asks) l) n es) (sym first)
+    ((sent, [], e, refl), count ∙ sym (counted_one sent t.contact.addr (asking read_only (word w.seed w.place) (announcement asks t).ask) es e)))
   where
     counted_one : (b : Bool) (to : Addr) (bytes : List ℕ) (es : List Event) → es ≡ tried b to bytes ∷ [] → sent_in es ≡ number_sent b
     counted_one true to bytes es e = ap sent_in e
     counted_one false to bytes es e = ap sent_in e
 
-pub drawn_one : (w v u : WordsState) (tokens : List Token) (c : Contact) (t : Token) → v ≡ w → first_from tokens c ≡ t ∷ [] → u ≡ record { seed = v.seed; place = v.place + 1 }
-    → u ≡ record { seed = w.seed; place = w.place + length (first_from tokens c) }
-drawn_one w v u tokens c t same_ first drawn =
-    drawn ∙ ap (λ (x : WordsState). record { seed = x.seed; place = x.place + 1 }) same_ ∙ ap (λ (l : List Token). record { seed = w.seed; place = w.place + length l }) (sym first)
+pub drawn_one : (w u : WordsState) (tokens : List Token) (c : Contact) (t : Token) → first_from tokens c ≡ t ∷ [] → u ≡ record { seed = w.seed; place = w.place + 1 } → u ≡ record { seed = w.seed; place = w.place + length (first_from tokens c) }
+drawn_one w u tokens c t first drawn = drawn ∙ ap (λ (l : List Token). record { seed = w.seed; place = w.place + length l }) (sym first)
 
 -- none was
-pub none_tried : (w : WordsState) (asks : List ℕ → Ask) (tokens : List Token) (c : Contact) (a b : Option (List Event)) → b ≡ a → first_from tokens c ≡ []
-    → Grows a b (Sends w.seed w.place (map (announcement asks) (first_from tokens c)) 0)
-none_tried w asks tokens c a b same_ first =
-    subst (λ (o : Option (List Event)). Grows a o (Sends w.seed w.place (map (announcement asks) (first_from tokens c)) 0)) (sym same_)
-    (grows_none a _ (subst (λ (l : List Token). Sends w.seed w.place (map (announcement asks) l) 0 []) (sym first) (refl, refl)))
+pub none_tried : (read_only : Bool) (w : WordsState) (asks : List ℕ → Ask) (tokens : List Token) (c : Contact) (a : Option (List Event)) → first_from tokens c ≡ [] → Grows a a (Sends read_only w.seed w.place (map (announcement asks) (first_from tokens c)) 0)
+none_tried read_only w asks tokens c a first = grows_none a _ (subst (λ (l : List Token). Sends read_only w.seed w.place (map (announcement asks) l) 0 []) (sym first) (refl, refl))
 
 -- ---- what is owed where a port was told
 

@@ -1,14 +1,14 @@
 //! Announcing: whoever gave a token is told that this node is a peer of the key (BEP 5), or is given an item to keep (BEP 44).
 //! Nobody waits for answers.
-ghost use Rattle.std.specs.Prelude.{◌≡◌, ◌≤◌, ◌<◌, ◌+◌, ◌^◌, [], ◌∷◌, length, map, IfOk, OnOk, OnErr};
+ghost use Rattle.std.specs.Prelude.{◌≡◌, ◌≤◌, ◌<◌, ◌+◌, ◌^◌, [], ◌∷◌, length, map, MatchOption, IfOk, OnOk, OnErr};
 ghost use Rattle.kad_base.specs.Contacts.{same};
 ghost use Rattle.kad_base.specs.Outside.{Grows};
-ghost use Rattle.lookup_commands.specs.Announced.{port_of, asks_of, MaySay, announcement, first_from, announcements, tried, asking, Announces, AnnouncesSome, sent_in};
+ghost use Rattle.follow_ups.specs.Announced.{port_of, asks_of, MaySay, announcement, first_from, IsFirstFrom, announcements, tried, asking, Announces, AnnouncesSome, sent_in};
 
 use id_puzzles::Words;
-use kad_base::{Bytes, Contact, Id, Link, List, NoMemory, is_same};
+use kad_base::{Addr, Bytes, Contact, Id, Link, List, NoMemory, is_same};
 use kad_krpc::{Ask, Message, Port, encode};
-use lookup_run::Token;
+use lookup_core::Token;
 use std::alloc::Global;
 
 /// What is said to whoever gave a token.
@@ -18,6 +18,13 @@ pub enum Said<'a> {
     Peer { own: Id, key: Id, port: u16 },
     /// That the immutable item whose written form is `v` be kept. The node `own` says so.
     Item { own: Id, v: &'a [u8] },
+}
+
+/// What is asked of whoever gave a token, and at which address.
+#[derive(Debug, Drop, PartialEq, Eq)]
+pub struct Announcement {
+    pub to: Addr,
+    pub ask: Ask,
 }
 
 fn port_for(number: u16) -> Port
@@ -30,7 +37,7 @@ fn port_for(number: u16) -> Port
 }
 
 /// The query that says it, and brings the token along.
-fn ask_for(alloc: Global, said: &Said<'_>, token: &Token) -> Result<Ask, NoMemory>
+pub(crate) fn ask_for(alloc: Global, said: &Said<'_>, token: &Token) -> Result<Ask, NoMemory>
     ensures { IfOk result (λ ask. ask ≡ asks_of said.now token.now.token) }
 {
     let token = List::from_slice(alloc, token.token.as_slice())?;
@@ -50,38 +57,46 @@ fn ask_for(alloc: Global, said: &Said<'_>, token: &Token) -> Result<Ask, NoMemor
     }
 }
 
-/// What is said as a datagram: a read-only query (BEP 43).
-fn datagram(alloc: Global, said: &Said<'_>, tx: u32, token: &Token) -> Result<Bytes, NoMemory>
+/// What is said as a datagram: a query, which is read-only or not (BEP 43).
+fn datagram(
+    alloc: Global,
+    said: &Said<'_>,
+    read_only: bool,
+    tx: u32,
+    token: &Token,
+) -> Result<Bytes, NoMemory>
     requires { MaySay said.now }
     ensures { IfOk result (λ bytes. bytes
-        ≡ asking tx (announcement (asks_of said.now) token.now).ask) }
+        ≡ asking read_only tx (announcement (asks_of said.now) token.now).ask) }
 {
     let message = Message::Query {
         tx: List::from_slice(alloc, &tx.to_le_bytes())?,
-        read_only: true,
+        read_only,
         ask: ask_for(alloc, said, token)?,
     };
     encode(alloc, &message)
 }
 
-/// Sends the announcement to the contact that gave the token; false if the link refused it.
-fn send_one<L: Link>(
+/// Says it to the contact that gave the token, by one datagram under the transaction id `tx`; false if the link refused it.
+/// `read_only` says that the sender answers no queries (BEP 43).
+pub fn send_one<L: Link>(
     alloc: Global,
     link: &mut L,
     said: &Said<'_>,
+    read_only: bool,
     tx: u32,
     token: &Token,
 ) -> Result<bool, NoMemory>
     requires { MaySay said.now }
     ensures ok { let a = announcement (asks_of said.now) token.now in
         IfOk result (λ sent. Grows (L.told link.old) (L.told link.new)
-        (λ es. es ≡ tried sent a.to (asking tx a.ask) ∷ [])) }
+        (λ es. es ≡ tried sent a.to (asking read_only tx a.ask) ∷ [])) }
     ensures err { OnErr result (link.new ≡ link.old) }
     ensures recv_faults { L.recv_faults link.new ≡ L.recv_faults link.old }
     ensures send_faults { L.send_faults link.old ≤ L.send_faults link.new }
     ensures kept { L.kept link.new ≡ L.kept link.old }
 {
-    let bytes = datagram(alloc, said, tx, token)?;
+    let bytes = datagram(alloc, said, read_only, tx, token)?;
     match link.send(token.contact.addr, bytes.as_slice()) {
         Ok(()) => Ok(true),
         Err(_) => Ok(false),
@@ -95,13 +110,27 @@ fn is_from(token: &Token, contact: &Contact) -> bool
     is_same(&token.contact, contact)
 }
 
+/// The place of the first token that the contact gave.
+pub fn place_from(tokens: &[Token], contact: &Contact) -> Option<usize>
+    ensures { MatchOption result (first_from tokens.now contact.now ≡ [])
+        (IsFirstFrom tokens.now contact.now) }
+{
+    for (place, token) in tokens.iter().enumerate() {
+        if is_from(token, contact) {
+            return Some(place);
+        }
+    }
+    None
+}
+
 /// Announces to the contact by the first token that it gave, under the next drawn word, and answers how many datagrams
-/// were sent: at most one. Nothing is drawn or sent if it gave none.
-fn announce_to<L: Link>(
+/// were sent: at most one. Nothing is drawn or sent if it gave none. Out of memory, a word may have been drawn.
+pub fn announce_to<L: Link>(
     alloc: Global,
     link: &mut L,
     words: &mut Words,
     said: &Said<'_>,
+    read_only: bool,
     contact: &Contact,
     tokens: &[Token],
 ) -> Result<usize, NoMemory>
@@ -111,7 +140,7 @@ fn announce_to<L: Link>(
     ensures ok { let all = map (announcement (asks_of said.now))
         (first_from tokens.now contact.now) in
         IfOk result (λ sent. Grows (L.told link.old) (L.told link.new)
-        (λ es. Announces words.old.seed words.old.place all es × (sent ≡ sent_in es))) }
+        (λ es. Announces read_only words.old.seed words.old.place all es × (sent ≡ sent_in es))) }
     ensures drawn { OnOk result (words.new ≡ record words.old
         { place = words.old.place + length (first_from tokens.now contact.now) }) }
     ensures err { OnErr result (link.new ≡ link.old) }
@@ -119,13 +148,13 @@ fn announce_to<L: Link>(
     ensures send_faults { L.send_faults link.old ≤ L.send_faults link.new }
     ensures kept { L.kept link.new ≡ L.kept link.old }
 {
-    for token in tokens {
-        if is_from(token, contact) {
-            let sent = send_one(alloc, link, said, words.next(), token)?;
-            return Ok(usize::from(sent));
+    match place_from(tokens, contact) {
+        Some(place) => {
+            let sent = send_one(alloc, link, said, read_only, words.next(), &tokens[place])?;
+            Ok(usize::from(sent))
         }
+        None => Ok(0),
     }
-    Ok(0)
 }
 
 /// Announces to each contact of the result that gave a token, in order, each under the next drawn word, and answers how
@@ -135,6 +164,7 @@ pub fn announce<L: Link>(
     link: &mut L,
     words: &mut Words,
     said: &Said<'_>,
+    read_only: bool,
     found: &[Contact],
     tokens: &[Token],
 ) -> Result<usize, NoMemory>
@@ -142,17 +172,17 @@ pub fn announce<L: Link>(
     requires say { MaySay said.now }
     ensures ok { let all = announcements (asks_of said.now) found.now tokens.now in
         IfOk result (λ sent. Grows (L.told link.old) (L.told link.new)
-        (λ es. Announces words.old.seed words.old.place all es × (sent ≡ sent_in es))) }
+        (λ es. Announces read_only words.old.seed words.old.place all es × (sent ≡ sent_in es))) }
     ensures err { let all = announcements (asks_of said.now) found.now tokens.now in
         OnErr result (Grows (L.told link.old) (L.told link.new)
-        (AnnouncesSome words.old.seed words.old.place all)) }
+        (AnnouncesSome read_only words.old.seed words.old.place all)) }
     ensures recv_faults { L.recv_faults link.new ≡ L.recv_faults link.old }
     ensures send_faults { L.send_faults link.old ≤ L.send_faults link.new }
     ensures kept { L.kept link.new ≡ L.kept link.old }
 {
     let mut sent = 0;
     for contact in found {
-        sent += announce_to(alloc, link, words, said, contact, tokens)?;
+        sent += announce_to(alloc, link, words, said, read_only, contact, tokens)?;
     }
     Ok(sent)
 }

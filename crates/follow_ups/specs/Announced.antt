@@ -1,9 +1,8 @@
 -- Announcements: whoever gave a token is told that this node is a peer of the key (BEP 5, `announce_peer`), or is given an
--- item to keep (BEP 44, `put`), by messages that say that their sender answers no queries (BEP 43).
-use Rattle.std.specs.Prelude.{◌≡◌, ℕ, zero, suc, ◌+◌, List, [], ◌∷◌, take, map, filter, Option, Some, None, Bool, true, false}
+-- item to keep (BEP 44, `put`), by messages that say that their sender answers no queries, or don't (BEP 43).
+use Rattle.std.specs.Prelude.{◌≡◌, ℕ, zero, suc, ◌+◌, ◌<◌, List, [], ◌∷◌, length, get_or, take, map, filter, Option, Some, None, Bool, false}
 use Rattle.std.specs.List.{flat_map}
 use Rattle.kad_base.specs.declared.types.Id.{Id}
-use Rattle.kad_base.specs.declared.types.Addr.{Addr}
 use Rattle.kad_base.specs.declared.types.Contact.{Contact}
 use Rattle.kad_base.specs.declared.types.Event.{Event}
 use Rattle.kad_base.specs.Contacts.{same}
@@ -15,9 +14,10 @@ use Rattle.kad_krpc.specs.declared.message.Port.{Port}
 use Rattle.kad_krpc.specs.declared.message.Port.TheVariants.{Given, Implied}
 use Rattle.kad_krpc.specs.Fields.{IsCarried}
 use Rattle.kad_krpc.specs.Form.{form}
-use Rattle.lookup_run.specs.declared.types.Token.{Token}
-use Rattle.lookup_commands.specs.declared.announce.Said.{Said}
-use Rattle.lookup_commands.specs.declared.announce.Said.TheVariants.{Item, Peer}
+use Rattle.lookup_core.specs.declared.gather.Token.{Token}
+use Rattle.follow_ups.specs.declared.announce.Announcement.{Announcement}
+use Rattle.follow_ups.specs.declared.announce.Said.{Said}
+use Rattle.follow_ups.specs.declared.announce.Said.TheVariants.{Item, Peer}
 -- the event of a send, and how many of the events are sends that the link took
 pub use Rattle.node_serve.specs.Receives.{is_sent, sent_in, tried}
 
@@ -25,11 +25,6 @@ pub use Rattle.node_serve.specs.Receives.{is_sent, sent_in, tried}
 abbrev pub port_of : ℕ → Port
 port_of zero = Implied
 port_of (suc n) = Given (suc n)
-
--- what is asked, and of which address
-pub record Announcement : Type 0 where
-  pub to : Addr
-  pub ask : Ask
 
 -- what is asked with a token: that the sender be known as a peer of the key, at the port
 abbrev pub announcing : Id → Id → ℕ → List ℕ → Ask
@@ -57,6 +52,11 @@ announcement asks t = record { to = t.contact.addr; ask = asks t.token }
 abbrev pub first_from : List Token → Contact → List Token
 first_from tokens c = take 1 (filter (λ t. same t.contact c) tokens)
 
+-- the place of that one
+pub record IsFirstFrom (tokens : List Token) (c : Contact) (place : ℕ) : Type 0 where
+  pub within : place < length tokens
+  pub first : (d : Token) → first_from tokens c ≡ get_or tokens place d ∷ []
+
 -- one token of each contact that was found and gave some, in order
 abbrev pub tokens_for : List Contact → List Token → List Token
 tokens_for found tokens = flat_map (first_from tokens) found
@@ -69,19 +69,19 @@ abbrev pub owed : Option ℕ → Id → Id → List Contact → List Token → L
 owed None own key found tokens = []
 owed (Some port) own key found tokens = announcements (announcing own key port) found tokens
 
--- the read-only query under this transaction id
-abbrev pub asking : ℕ → Ask → List ℕ
-asking tx ask = form (message.Query (word_bytes tx) true ask)
+-- the query under this transaction id, which is read-only or not (BEP 43)
+abbrev pub asking : Bool → ℕ → Ask → List ℕ
+asking read_only tx ask = form (message.Query (word_bytes tx) read_only ask)
 
 -- each was sent or refused, in order, and nothing else happened; their transaction ids are the words of the seed from this
 -- place on
-abbrev pub Announces : List ℕ → ℕ → List Announcement → List Event → Type 0
-Announces seed place [] events = events ≡ []
-Announces seed place (a ∷ rest) events =
+abbrev pub Announces : Bool → List ℕ → ℕ → List Announcement → List Event → Type 0
+Announces read_only seed place [] events = events ≡ []
+Announces read_only seed place (a ∷ rest) events =
     (was_sent : Bool) × (later : List Event)
-    × (events ≡ tried was_sent a.to (asking (word seed place) a.ask) ∷ later)
-    × Announces seed (place + 1) rest later
+    × (events ≡ tried was_sent a.to (asking read_only (word seed place) a.ask) ∷ later)
+    × Announces read_only seed (place + 1) rest later
 
 -- a front of them was, and then no more
-abbrev pub AnnouncesSome : List ℕ → ℕ → List Announcement → List Event → Type 0
-AnnouncesSome seed place all events = (n : ℕ) × Announces seed place (take n all) events
+abbrev pub AnnouncesSome : Bool → List ℕ → ℕ → List Announcement → List Event → Type 0
+AnnouncesSome read_only seed place all events = (n : ℕ) × Announces read_only seed place (take n all) events

@@ -7,15 +7,42 @@ ghost use Rattle.kad_bencode.specs.Spelling.{text_of};
 ghost use Rattle.kad_krpc.specs.Fields.{peers_in};
 ghost use Rattle.lookup_core.specs.Quest.{part_of};
 ghost use Rattle.lookup_core.specs.Reply.{answered_seen};
-ghost use Rattle.lookup_run.specs.Gathered.{tokens_in, items_in, values_of, item_of, IsEachOnce};
-ghost use Rattle.lookup_run.specs.inner.RoundSteps.{KeepsAlso, KeepsFor};
+ghost use Rattle.lookup_core.specs.Gathered.{tokens_in, items_in, values_of, item_of, IsEachOnce, KeepsAlso, KeepsFor};
 
-use crate::types::{Gathered, Item, Token};
-use kad_base::{Addrs, Contact, List, NoMemory};
+use crate::on_reply::Answered;
+use crate::quest::AskKind;
+use kad_base::{Addrs, Bytes, Contact, List, NoMemory};
 use kad_bencode::{Items, Piece};
 use kad_krpc::push_peers;
-use lookup_core::{Answered, AskKind};
 use std::alloc::Global;
+
+/// The token that a contact gave: what a later `announce_peer` (BEP 5) or `put` (BEP 44) to it has to bring along.
+#[derive(Debug, Drop, PartialEq, Eq)]
+pub struct Token {
+    pub contact: Contact,
+    pub token: Bytes,
+}
+
+pub type Tokened = List<Token>;
+
+/// What a contact gave as the item that was asked for: `v` is its written form (BEP 44), of whatever length, and its
+/// hash need not be the key.
+#[derive(Debug, Drop, PartialEq, Eq)]
+pub struct Item {
+    pub contact: Contact,
+    pub v: Bytes,
+}
+
+pub type ItemList = List<Item>;
+
+/// What the heard answers of a lookup gave beside contacts, in the order of the answers: the peers that they named, which
+/// may stand there more than once, the tokens, and the items.
+#[derive(Debug, Drop)]
+pub struct Gathered {
+    pub peers: Addrs,
+    pub tokens: Tokened,
+    pub items: ItemList,
+}
 
 /// Keeps the peers that the answer names.
 fn keep_values(peers: &mut Addrs, values: Option<Items>) -> Result<(), NoMemory>
@@ -89,8 +116,9 @@ fn gather_items(alloc: Global, gathered: &mut Gathered, answered: Answered) -> R
     keep_token(alloc, gathered, contact, answer.token)
 }
 
-/// Copies of an answer that was heard what the lookup asks for beside contacts, and nothing else.
-pub(crate) fn keep(
+/// Copies of an answer that was heard what a lookup of this kind asks for beside contacts, and nothing else. Without memory
+/// some of it may have been kept.
+pub fn keep(
     alloc: Global,
     gathered: &mut Gathered,
     kind: AskKind,
@@ -119,8 +147,8 @@ fn each_once<T: Ord + Drop>(items: Vec<T>) -> Vec<T>
     items
 }
 
-/// The different addresses, in order. Takes no memory.
-pub(crate) fn in_order(peers: Addrs) -> Addrs
+/// The different addresses, in order: IPv4 first, by the bytes of the address and then the port. Takes no memory.
+pub fn in_order(peers: Addrs) -> Addrs
     ensures { IsEachOnce peers result }
 {
     let items = each_once(peers.into_vec());
@@ -128,7 +156,7 @@ pub(crate) fn in_order(peers: Addrs) -> Addrs
 }
 
 /// Nothing yet. Takes no memory.
-pub(crate) fn nothing(alloc: Global) -> Gathered
+pub fn nothing(alloc: Global) -> Gathered
     ensures peers { result.peers ≡ [] }
     ensures tokens { result.tokens ≡ [] }
     ensures items { result.items ≡ [] }

@@ -1,5 +1,5 @@
-use Rattle.lookup_run.proofs.InOrder.{kept_in_order, kept_of, kept_all}
-use Rattle.lookup_run.proofs.gather.each_once.Goals as goal
+use Rattle.lookup_core.proofs.InOrder.{kept_in_order, kept_of, kept_all}
+use Rattle.lookup_core.proofs.gather.each_once.Goals as goal
 
 pub returns-clause-in_order : goal.returns-clause-in_order
 returns-clause-in_order g c = kept_in_order g.T.Ord.cmp g.T.PartialEq.eq g.met.T.Ord.total g.met.T.Ord.matches_eq c.sort_unstable.new.self.items c.dedup.new.self.items c.sort_unstable.ensures.sorted c.dedup.ensures.filtered

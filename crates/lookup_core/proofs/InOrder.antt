@@ -20,7 +20,7 @@ use Rattle.kad_base.specs.declared.types.Addr.{Addr}
 use Rattle.kad_base.specs.Contacts.{address_bytes}
 use Rattle.kad_base.proofs.Contacts.{address_exact}
 use Rattle.kad_base.specs.contracts.types.AddrOrd.TheImpl as order
-use Rattle.lookup_run.specs.Gathered.{addr_cmp, IsEachOnce}
+use Rattle.lookup_core.specs.Gathered.{addr_cmp, IsEachOnce}
 
 -- ---- the order of addresses
 
